@@ -1,0 +1,8 @@
+//! Timestamps: the order of all that happens in a graph.
+//! Answers to the definitions of `specs/Time.antt`.
+#![tactic(auto)]
+
+pub mod laws;
+mod timestamp;
+
+pub use timestamp::Timestamp;

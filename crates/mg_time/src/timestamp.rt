@@ -1,0 +1,147 @@
+ghost use Rattle.std.specs.Prelude.{◌≡◌, ◌<◌, ◌^◌, ◌≤ℤ◌, ◌↔◌, map, IsTrue, IsSome, IfSome};
+ghost use Rattle.mg_time.specs.Time.{raw_of, constant_places, constant_numbers, place_of, least, greatest, IsRange, IsAllowed, next, shift};
+
+use std::marker::Model;
+
+/// A point on the one clock that orders all packets of a graph: a signed 64-bit number in a unit that the
+/// graph's author picks (microseconds by custom). Eight values are set apart (MediaPipe, Packets); `MIN` to
+/// `MAX` are the range, in which ordinary packets stand.
+#[derive(Clone, Copy, Debug, PartialEq, Eq, PartialOrd, Ord, Hash)]
+pub struct Timestamp {
+    place: u64,
+}
+
+impl Model for Timestamp {
+    ghost use Rattle.std.specs.Prelude.{ℕ};
+
+    ghost Value = { ℕ };
+
+    ghost view = { λ t. t.place };
+
+    ghost inverse = { λ n. record { place = n } };
+}
+
+impl Timestamp {
+    /// No timestamp yet: -2^63.
+    pub const UNSET: Timestamp = Timestamp { place: 0 };
+
+    /// Before a graph is started.
+    pub const UNSTARTED: Timestamp = Timestamp { place: 1 };
+
+    /// A packet before all others of its stream, as a header.
+    pub const PRE_STREAM: Timestamp = Timestamp { place: 2 };
+
+    /// The least of the range: -9223372036854775805.
+    pub const MIN: Timestamp = Timestamp { place: 3 };
+
+    /// The greatest of the range: 9223372036854775804.
+    pub const MAX: Timestamp = Timestamp {
+        place: u64::MAX - 3,
+    };
+
+    /// A packet that stands for a whole stream, and is its only one.
+    pub const POST_STREAM: Timestamp = Timestamp {
+        place: u64::MAX - 2,
+    };
+
+    /// The bound of a stream that takes no further packet, and isn't closed.
+    pub const ONE_OVER_POST_STREAM: Timestamp = Timestamp {
+        place: u64::MAX - 1,
+    };
+
+    /// The bound of a closed stream: 2^63 - 1.
+    pub const DONE: Timestamp = Timestamp { place: u64::MAX };
+
+    /// The eight constants, ascending.
+    pub fn constants() -> [Timestamp; 8]
+        ensures places { result ≡ constant_places }
+        ensures numbers { map raw_of result ≡ constant_numbers }
+    {
+        [
+            Timestamp::UNSET,
+            Timestamp::UNSTARTED,
+            Timestamp::PRE_STREAM,
+            Timestamp::MIN,
+            Timestamp::MAX,
+            Timestamp::POST_STREAM,
+            Timestamp::ONE_OVER_POST_STREAM,
+            Timestamp::DONE,
+        ]
+    }
+
+    /// The timestamp of the range with this number, or `None` where the range hasn't it.
+    pub fn of_range(value: i64) -> Option<Timestamp>
+        ensures some { IsSome result ↔ ((raw_of least ≤ℤ value) × (value ≤ℤ raw_of greatest)) }
+        ensures place { IfSome result (λ t. t ≡ place_of value) }
+        ensures number { IfSome result (λ t. raw_of t ≡ value) }
+    {
+        let place = if value < 0 {
+            (value - i64::MIN) as u64
+        } else {
+            value as u64 + (1 << 63)
+        };
+        let time = Timestamp { place };
+        if time.is_range() { Some(time) } else { None }
+    }
+
+    /// The signed number.
+    pub fn raw(self) -> i64
+        ensures number { result ≡ raw_of self }
+        // Each timestamp is one of 2^64.
+        ensures within { self < 2 ^ 64 }
+    {
+        if self.place < 1 << 63 {
+            self.place as i64 + i64::MIN
+        } else {
+            (self.place - (1 << 63)) as i64
+        }
+    }
+
+    /// Whether it stands in the range, `MIN` to `MAX`.
+    pub fn is_range(self) -> bool
+        ensures { IsTrue result ↔ IsRange self }
+    {
+        Timestamp::MIN <= self && self <= Timestamp::MAX
+    }
+
+    /// Whether a packet may stand at it (MediaPipe, Packets): `PRE_STREAM`, the range, or `POST_STREAM`.
+    pub fn is_allowed(self) -> bool
+        ensures { IsTrue result ↔ IsAllowed self }
+    {
+        Timestamp::PRE_STREAM <= self && self <= Timestamp::POST_STREAM
+    }
+
+    /// The lowest timestamp that may follow a packet here (MediaPipe, Synchronization): one more in the
+    /// range, and `ONE_OVER_POST_STREAM` after `PRE_STREAM`, `MAX` and all above.
+    pub fn next_allowed(self) -> Timestamp
+        ensures { result ≡ next self }
+    {
+        if Timestamp::MAX <= self || self == Timestamp::PRE_STREAM {
+            Timestamp::ONE_OVER_POST_STREAM
+        } else {
+            Timestamp {
+                place: self.place + 1,
+            }
+        }
+    }
+
+    /// A bound moved by a node's offset: a timestamp of the range moves and stays in the range, and every
+    /// other stays as it is.
+    pub fn shift(self, offset: i64) -> Timestamp
+        ensures { result ≡ shift self offset }
+    {
+        if !self.is_range() {
+            return self;
+        }
+        let by = offset.unsigned_abs();
+        if offset < 0 {
+            Timestamp {
+                place: self.place.saturating_sub(by).max(Timestamp::MIN.place),
+            }
+        } else {
+            Timestamp {
+                place: self.place.saturating_add(by).min(Timestamp::MAX.place),
+            }
+        }
+    }
+}

@@ -1,0 +1,1 @@
+pub use Rattle.mg_time.specs.Time

@@ -1,0 +1,73 @@
+ghost use Rattle.std.specs.Prelude.{◌≡◌, ◌<◌, ◌^◌, ◌==◌, ◌↔◌, length, slice_get, IsOk, IfOk, IfErr, option_copied};
+
+use std::alloc::AllocFailed;
+use std::marker::Model;
+
+/// A list that is made once and then read: its entries lie in one block. It is made from a `Vec` and gives it
+/// back without taking memory.
+#[derive(Debug, Drop)]
+pub struct List<T> {
+    entries: Vec<T>,
+}
+
+impl<T> Model for List<T> {
+    ghost use Rattle.std.specs.Prelude.{List, ◌<◌, ◌^◌, vec_len};
+
+    ghost Value = { List T };
+
+    ghost view = { λ l. l.entries.items };
+
+    ghost invariant = { λ l. vec_len l.entries < 2 ^ 32 };
+}
+
+impl<T> List<T> {
+    /// The list of a vector's entries. There is no memory for a block of 2^32 entries or more: the vector then
+    /// comes back.
+    pub fn from_vec(entries: Vec<T>) -> Result<List<T>, AllocFailed<Vec<T>>>
+        ensures ok { IsOk result ↔ (length entries.items < 2 ^ 32) }
+        ensures entries { IfOk result (λ l. l ≡ entries.items) }
+        ensures value_returned { IfErr result (λ e. e.value ≡ entries) }
+    {
+        if entries.len() < 1 << 32 {
+            Ok(List { entries })
+        } else {
+            Err(AllocFailed { value: entries })
+        }
+    }
+
+    /// The vector back.
+    pub fn into_vec(self) -> Vec<T>
+        ensures { result.items ≡ self }
+    {
+        let List { entries } = self;
+        entries
+    }
+
+    /// How many entries there are.
+    pub fn len(&self) -> u32
+        ensures { result ≡ length self.now }
+    {
+        self.entries.len() as u32
+    }
+
+    /// Whether there is none.
+    pub fn is_empty(&self) -> bool
+        ensures { result ≡ (length self.now == 0) }
+    {
+        self.entries.is_empty()
+    }
+
+    /// The entry at a place, from 0 on.
+    pub fn get(&self, i: u32) -> Option<&T>
+        ensures { option_copied result ≡ slice_get self.now i }
+    {
+        self.entries.get(i as usize)
+    }
+
+    /// All entries in order.
+    pub fn as_slice(&self) -> &[T]
+        ensures { result.now ≡ self.now }
+    {
+        self.entries.as_slice()
+    }
+}
