@@ -1,0 +1,112 @@
+-- What a call of a source, a sink or a store does to the bytes that it tells of and to its counts.
+--
+-- What an object tells is optional: `None` claims nothing. A count that is said to rise by one stands still at
+-- 2 ^ 64 - 1, the end of its type.
+use Rattle.std.specs.Prelude.{◌≡◌, ℕ, ◌+◌, ◌-◌, ◌^◌, ◌≤◌, min, List, [], ◌++◌, length, take, drop, Option, None, Some, ⊤}
+use Rattle.mg_edge.specs.declared.source.Got.{Got}
+use Rattle.mg_edge.specs.declared.source.Got.TheVariants.{Bytes, End, Failed}
+use Rattle.mg_edge.specs.declared.sink.Put.{Put}
+use Rattle.mg_edge.specs.declared.sink.Put.TheVariants.{Took, Failed as PutFailed}
+use Rattle.mg_edge.specs.declared.store.Loaded.{Loaded}
+use Rattle.mg_edge.specs.declared.store.Loaded.TheVariants.{Bytes as LoadedBytes, Failed as LoadFailed, OutOfMemory}
+
+-- The count has risen, or it stands at its type's end.
+abbrev pub Rose : ℕ → ℕ → Type 0
+Rose before now = min (before + 1) (2 ^ 64 - 1) ≤ now
+
+-- One more, up to the type's end.
+abbrev pub one_more : ℕ → ℕ
+one_more count = min (count + 1) (2 ^ 64 - 1)
+
+-- What was told stays the same, and stays told.
+abbrev pub Stays : {T : Type 0} → Option T → Option T → Type 0
+Stays None now = ⊤
+Stays (Some x) now = now ≡ Some x
+
+-- A count that is told rises by one, and stays told.
+abbrev pub CountsOne : Option ℕ → Option ℕ → Type 0
+CountsOne None now = ⊤
+CountsOne (Some count) now = now ≡ Some (one_more count)
+
+-- A source --
+
+-- A read that gives bytes gives at least one, and no more than there is room for.
+abbrev pub GivesWithin : Got → ℕ → Type 0
+GivesWithin (Bytes n) room = (1 ≤ n) × (n ≤ room)
+GivesWithin End room = ⊤
+GivesWithin Failed room = ⊤
+
+-- What a read does to the bytes that are left, `buf` being what the buffer has after it: it gives the first of
+-- them, or finds that none is left, or fails and takes nothing.
+abbrev pub ReadTakes : Option (List ℕ) → Option (List ℕ) → Got → List ℕ → Type 0
+ReadTakes None now got buf = ⊤
+ReadTakes (Some left) now (Bytes n) buf = (n ≤ length left) × (take n buf ≡ take n left) × (now ≡ Some (drop n left))
+ReadTakes (Some left) now End buf = (left ≡ []) × (now ≡ Some [])
+ReadTakes (Some left) now Failed buf = now ≡ Some left
+
+-- The end is told only where the count of ends rose, and no other read changes that count.
+abbrev pub EndCounts : ℕ → ℕ → Got → Type 0
+EndCounts before now (Bytes n) = now ≡ before
+EndCounts before now End = (before ≤ now) × Rose before now
+EndCounts before now Failed = now ≡ before
+
+-- The count of faults never falls, and a read fails only where it rose.
+abbrev pub ReadFaultCounts : ℕ → ℕ → Got → Type 0
+ReadFaultCounts before now (Bytes n) = before ≤ now
+ReadFaultCounts before now End = before ≤ now
+ReadFaultCounts before now Failed = (before ≤ now) × Rose before now
+
+-- A sink --
+
+-- A write that takes bytes takes at least one, and no more than the piece has.
+abbrev pub TakesWithin : Put → ℕ → Type 0
+TakesWithin (Took n) len = (1 ≤ n) × (n ≤ len)
+TakesWithin PutFailed len = ⊤
+
+-- What a write does to the bytes that were taken: the first bytes of the piece come after them, and a write that
+-- fails takes nothing.
+abbrev pub WriteAppends : Option (List ℕ) → Option (List ℕ) → Put → List ℕ → Type 0
+WriteAppends None now put piece = ⊤
+WriteAppends (Some taken) now (Took n) piece = now ≡ Some (taken ++ take n piece)
+WriteAppends (Some taken) now PutFailed piece = now ≡ Some taken
+
+-- The count of faults never falls, and a write fails only where it rose.
+abbrev pub WriteFaultCounts : ℕ → ℕ → Put → Type 0
+WriteFaultCounts before now (Took n) = before ≤ now
+WriteFaultCounts before now PutFailed = (before ≤ now) × Rose before now
+
+-- A store --
+
+-- The most bytes of a content that a load gives: one more than 4 MiB, so that the caller sees that a content is
+-- longer than that.
+abbrev pub most_loaded : ℕ
+most_loaded = 4194305
+
+-- A load gives at most so many bytes.
+abbrev pub LoadsWithin : Loaded → Type 0
+LoadsWithin (LoadedBytes bytes) = length bytes.items ≤ most_loaded
+LoadsWithin LoadFailed = ⊤
+LoadsWithin OutOfMemory = ⊤
+
+-- What a load gives of a content, where the store tells it: its first bytes. Nothing is given of a name that isn't
+-- there.
+abbrev pub LoadGives : Option (Option (List ℕ)) → Loaded → Type 0
+LoadGives None loaded = ⊤
+LoadGives (Some None) (LoadedBytes bytes) = ⊥
+LoadGives (Some None) LoadFailed = ⊤
+LoadGives (Some None) OutOfMemory = ⊤
+LoadGives (Some (Some content)) (LoadedBytes bytes) = bytes.items ≡ take most_loaded content
+LoadGives (Some (Some content)) LoadFailed = ⊤
+LoadGives (Some (Some content)) OutOfMemory = ⊤
+
+-- The count of faults never falls, and a load fails only where it rose.
+abbrev pub LoadFaultCounts : ℕ → ℕ → Loaded → Type 0
+LoadFaultCounts before now (LoadedBytes bytes) = before ≤ now
+LoadFaultCounts before now LoadFailed = (before ≤ now) × Rose before now
+LoadFaultCounts before now OutOfMemory = before ≤ now
+
+-- The name of the load that failed last: a load that fails leaves its own, and any other keeps the one before.
+abbrev pub KeepsFailedName : Option (List ℕ) → Option (List ℕ) → Loaded → List ℕ → Type 0
+KeepsFailedName before now (LoadedBytes bytes) name = now ≡ before
+KeepsFailedName before now LoadFailed name = now ≡ Some name
+KeepsFailedName before now OutOfMemory name = now ≡ before
