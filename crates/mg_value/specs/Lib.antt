@@ -1,1 +1,2 @@
-pub use Rattle.mg_time.specs.Time
+pub mod Payload
+pub mod Prefix

@@ -1,0 +1,40 @@
+ghost use Rattle.std.specs.Prelude.{◌≡◌, IfOk};
+
+use crate::{List, Payload};
+use mg_time::Timestamp;
+use std::alloc::AllocError;
+use std::marker::Model;
+use std::sync::Arc;
+
+/// A packet of a stream: a shared value at a timestamp. Contracts see the timestamp and the plain payload.
+#[derive(Debug, Drop)]
+pub struct Packet {
+    pub at: Timestamp,
+    pub payload: Arc<Payload>,
+}
+
+impl Model for Packet {
+    ghost use Rattle.std.specs.Arc.{arc_value};
+    ghost use Rattle.mg_value.specs.Payload.{Plain, plain};
+    ghost use Rattle.mg_value.specs.Prefix.{Stamped};
+
+    ghost Value = { Stamped Plain };
+
+    ghost view = { λ p. record { at = p.at; value = plain (arc_value p.payload) } };
+}
+
+/// Packets in order.
+pub type PacketList = List<Packet>;
+
+impl Packet {
+    /// A second packet that shares the payload. The refusal to share counts as want of memory.
+    pub fn try_clone(&self) -> Result<Packet, AllocError>
+        ensures { IfOk result (λ p. p ≡ self.now) }
+    {
+        let payload = Arc::try_clone(&self.payload)?;
+        Ok(Packet {
+            at: self.at,
+            payload,
+        })
+    }
+}
