@@ -1,0 +1,5 @@
+pub mod Json
+pub mod Text
+pub mod Taking
+pub mod Parts
+pub mod Standing

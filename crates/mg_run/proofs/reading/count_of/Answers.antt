@@ -1,0 +1,9 @@
+use Rattle.std.proofs.Common.{◌≡◌, ap, sym, ◌∙◌}
+use Rattle.serde_json.specs.View.{members_view}
+use Rattle.mg_run.specs.Reading.{count}
+use Rattle.mg_run.proofs.Json.{count-members_view, member_count-as_object}
+use Rattle.mg_run.proofs.reading.count_of.Goals as goal
+
+pub returns-in-Some : goal.returns-in-Some
+returns-in-Some c =
+    c.len.ensures.len ∙ sym (count-members_view c.in-Some.members.now.entries) ∙ member_count-as_object _ _ c.in-Some.ensures

@@ -1,0 +1,26 @@
+-- The output text: one line for each packet, the compact JSON that `serde_json` writes.
+use Rattle.std.specs.Prelude.{ℕ, List, [], ◌∷◌, ◌++◌, codes}
+use Rattle.std.specs.List.{flat_map}
+use Rattle.serde_json.specs.Data.{Data, number, string, object, no_members, member}
+use Rattle.serde_json.specs.Find.{of_integer}
+use Rattle.serde_json.specs.Written.{compact_text}
+use Rattle.mg_time.specs.Time.{raw_of}
+use Rattle.mg_value.specs.Payload.{Plain, int}
+use Rattle.mg_value.specs.Prefix.{Stamped}
+
+-- a payload as JSON
+abbrev pub data_of : Plain → Data
+data_of (int value) = number (of_integer value)
+
+-- a packet of a stream as JSON: its stream, its timestamp and its value
+abbrev pub packet_data : List ℕ → Stamped Plain → Data
+packet_data stream p =
+    object (member (codes "stream") (string stream) (member (codes "ts") (number (of_integer (raw_of p.at))) (member (codes "value") (data_of p.value) no_members)))
+
+-- the line of a packet of the stream `out`
+unfoldable pub line_text : Stamped Plain → List ℕ
+line_text p = compact_text (packet_data (codes "out") p) ++ 10 ∷ []
+
+-- the lines of a stream's packets
+abbrev pub text_of : List (Stamped Plain) → List ℕ
+text_of packets = flat_map line_text packets

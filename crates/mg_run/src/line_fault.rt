@@ -1,0 +1,23 @@
+ghost use Rattle.std.specs.Prelude.{◌≡◌};
+ghost use Rattle.mg_run.specs.Answer.{fault_name};
+
+/// Why a line isn't good.
+#[derive(Clone, Copy, Debug, PartialEq, Eq)]
+pub enum LineFault {
+    /// It isn't a form of line that is read so far.
+    NotYet,
+    /// Its packet stands below the bound of its stream.
+    NotAscending,
+}
+
+impl LineFault {
+    /// The word that the notes have for it.
+    pub fn name(self) -> &'static str
+        ensures { result.now ≡ fault_name self }
+    {
+        match self {
+            LineFault::NotYet => "NotYet",
+            LineFault::NotAscending => "NotAscending",
+        }
+    }
+}
