@@ -3,10 +3,16 @@
 //! call does is defined in `specs/Edge.antt`.
 #![tactic(auto)]
 
+mod folder_store;
+mod reader_source;
 mod sink;
 mod source;
 mod store;
+mod writer_sink;
 
+pub use folder_store::FolderStore;
+pub use reader_source::ReaderSource;
 pub use sink::{Put, Sink};
 pub use source::{Got, Source};
 pub use store::{Loaded, Store};
+pub use writer_sink::WriterSink;
