@@ -1,5 +1,5 @@
 -- The objects in memory, as their contracts see them, and what each call answers and leaves.
-use Rattle.std.specs.Prelude.{ℕ, ◌-◌, min, Bool, false, List, ◌++◌, length, take, drop, ◌||◌, ◌==◌, nat_le, if◌then◌else◌, Option, None, Some}
+use Rattle.std.specs.Prelude.{◌≡◌, ◌<◌, ◌≤◌, ℕ, ◌-◌, min, Bool, false, List, ◌++◌, length, take, drop, ◌||◌, ◌==◌, nat_le, if◌then◌else◌, Option, None, Some}
 use Rattle.mg_edge.specs.declared.source.Got.{Got}
 use Rattle.mg_edge.specs.declared.source.Got.TheVariants.{Bytes, End, Failed}
 use Rattle.mg_edge.specs.declared.sink.Put.{Put}
@@ -75,3 +75,8 @@ after_put sink piece (Took n) =
     let taken = sink.taken ++ take n piece in
     record sink { taken = taken; writes = one_more sink.writes; full_from = full_after sink taken }
 after_put sink piece PutFailed = record sink { writes = one_more sink.writes }
+
+-- A sink knows whether its room ended: where it did, it was at a write before, and else there is room left.
+abbrev pub KnowsItsRoom : List ℕ → ℕ → ℕ → Option ℕ → Type 0
+KnowsItsRoom taken room writes None = length taken < room
+KnowsItsRoom taken room writes (Some from) = (length taken ≡ room) × (from ≤ writes)

@@ -4,6 +4,7 @@
 #![tactic(auto)]
 
 mod folder_store;
+mod memory_sink;
 mod memory_source;
 mod reader_source;
 mod sink;
@@ -12,6 +13,7 @@ mod store;
 mod writer_sink;
 
 pub use folder_store::FolderStore;
+pub use memory_sink::MemorySink;
 pub use memory_source::MemorySource;
 pub use reader_source::ReaderSource;
 pub use sink::{Put, Sink};
