@@ -1,3 +1,4 @@
 pub mod Edge
 pub mod Failures
 pub mod InMemory
+pub mod MemoryStore

@@ -6,6 +6,7 @@
 mod folder_store;
 mod memory_sink;
 mod memory_source;
+mod memory_store;
 mod reader_source;
 mod sink;
 mod source;
@@ -15,6 +16,7 @@ mod writer_sink;
 pub use folder_store::FolderStore;
 pub use memory_sink::MemorySink;
 pub use memory_source::MemorySource;
+pub use memory_store::MemoryStore;
 pub use reader_source::ReaderSource;
 pub use sink::{Put, Sink};
 pub use source::{Got, Source};
