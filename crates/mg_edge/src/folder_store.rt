@@ -1,16 +1,13 @@
-ghost use Rattle.std.specs.Prelude.{◌≡◌, ℕ, List, Option, None};
+ghost use Rattle.std.specs.Prelude.{◌≡◌, ℕ, List, Option, None, Some};
 ghost use Rattle.std.specs.Option.{option_map};
 ghost use Rattle.std.specs.String.{string_bytes};
-ghost use Rattle.mg_edge.specs.Edge.{LoadsWithin};
+ghost use Rattle.mg_edge.specs.Edge.{LoadsWithin, LoadGives};
 
-use crate::{Loaded, Store};
+use crate::{Loaded, MOST_LOADED, Store};
 use std::alloc::Global;
 use std::fs;
 use std::io::{ErrorKind, Read};
 use std::rt::Files;
-
-/// The most bytes that a load gives.
-const MOST_LOADED: usize = 4_194_305;
 
 /// Files by their names, read through a runtime that opens them. What is in a file is trusted to the system: the
 /// store tells no content.
@@ -55,15 +52,24 @@ impl<R: Files + Drop> Store for FolderStore<R> {
     }
 }
 
-// The first bytes of a file.
+// The first bytes of a file, by its name.
 fn read_file<R: Files>(rt: &R, alloc: Global, name: &str) -> Loaded
     ensures { LoadsWithin result }
 {
-    let Ok(file) = fs::open(rt, name) else {
-        return Loaded::Failed;
-    };
+    match fs::open(rt, name) {
+        Ok(file) => read_front(alloc, file),
+        Err(_) => Loaded::Failed,
+    }
+}
+
+// The first bytes of what a reader has left.
+fn read_front<F: Read + Drop>(alloc: Global, file: F) -> Loaded
+    ensures bound { LoadsWithin result }
+    ensures bytes { LoadGives (option_map Some (F.remaining file)) result }
+{
     let mut bytes = Vec::new(alloc);
-    match file.take(MOST_LOADED as u64).read_to_end(&mut bytes) {
+    let mut front = file.take(MOST_LOADED as u64);
+    match front.read_to_end(&mut bytes) {
         Ok(_) => {
             bytes.truncate(MOST_LOADED);
             Loaded::Bytes(bytes)

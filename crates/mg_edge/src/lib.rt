@@ -20,5 +20,5 @@ pub use memory_store::MemoryStore;
 pub use reader_source::ReaderSource;
 pub use sink::{Put, Sink};
 pub use source::{Got, Source};
-pub use store::{Loaded, Store};
+pub use store::{Loaded, MOST_LOADED, Store};
 pub use writer_sink::WriterSink;

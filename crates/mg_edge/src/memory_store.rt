@@ -3,12 +3,9 @@ ghost use Rattle.std.specs.Option.{option_map};
 ghost use Rattle.mg_edge.specs.Edge.{LoadsWithin, LoadGives, LoadFaultCounts, KeepsFailedName, IsFrontOf, one_more};
 ghost use Rattle.mg_edge.specs.MemoryStore.{stored, failing_load, loads_made, last_failed, store_faults, KeepsCalls, AnswersLoad, CountsFault, LooksUp, content_at};
 
-use crate::{Loaded, Store};
+use crate::{Loaded, MOST_LOADED, Store};
 use std::alloc::{AllocError, Global};
 use std::collections::BTreeMap;
-
-/// The most bytes that a load gives.
-const MOST_LOADED: usize = 4_194_305;
 
 /// A store in memory, which fails at the load that it is told to.
 #[derive(Drop)]
