@@ -22,3 +22,6 @@ pub use sink::{Put, Sink};
 pub use source::{Got, Source};
 pub use store::{Loaded, MOST_LOADED, Store};
 pub use writer_sink::WriterSink;
+
+#[cfg(test)]
+mod tests;

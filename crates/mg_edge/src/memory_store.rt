@@ -61,6 +61,13 @@ impl MemoryStore {
         self.failing = Some(call);
     }
 
+    /// How many loads failed. It stays at 2^64 - 1 once it is there.
+    pub fn faults(&self) -> u64
+        ensures { result ≡ store_faults self.now }
+    {
+        self.faults
+    }
+
     /// The name of the load that failed last, and none before the first.
     pub fn failed_name(&self) -> Option<&str>
         ensures { option_map (λ name. name.now) result ≡ last_failed self.now }
