@@ -3,10 +3,25 @@
 //! call does is defined in `specs/Edge.antt`.
 #![tactic(auto)]
 
+mod folder_store;
+mod memory_sink;
+mod memory_source;
+mod memory_store;
+mod reader_source;
 mod sink;
 mod source;
 mod store;
+mod writer_sink;
 
+pub use folder_store::FolderStore;
+pub use memory_sink::MemorySink;
+pub use memory_source::MemorySource;
+pub use memory_store::MemoryStore;
+pub use reader_source::ReaderSource;
 pub use sink::{Put, Sink};
 pub use source::{Got, Source};
-pub use store::{Loaded, Store};
+pub use store::{Loaded, MOST_LOADED, Store};
+pub use writer_sink::WriterSink;
+
+#[cfg(test)]
+mod tests;

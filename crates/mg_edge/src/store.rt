@@ -3,10 +3,13 @@ ghost use Rattle.mg_edge.specs.Edge.{LoadsWithin, LoadGives, LoadFaultCounts, Ke
 
 use std::alloc::Global;
 
+/// The most bytes that a load gives: one more than 4 MiB, so that a caller sees that a content is longer than that.
+pub const MOST_LOADED: usize = 4_194_305;
+
 /// What a load answers.
 #[derive(Debug, Drop)]
 pub enum Loaded {
-    /// The whole content, or the first 4,194,305 bytes of a longer one.
+    /// The whole content, or the first `MOST_LOADED` bytes of a longer one.
     Bytes(Vec<u8>),
     /// There is no such name, or it can't be read.
     Failed,

@@ -1,0 +1,61 @@
+-- What contracts see of a store in memory, and what a load of it answers.
+use Rattle.std.specs.Prelude.{◌≡◌, ◌≢◌, ◌⊎◌, ℕ, Bool, true, false, List, Vec, String, take, Option, None, Some, ⊤}
+use Rattle.std.specs.Option.{option_map}
+use Rattle.std.specs.String.{string_bytes}
+use Rattle.std.specs.BTreeMap.{get_by_text, BTreeMap}
+use Rattle.std.specs.declared.alloc.Global.{Global}
+use Rattle.mg_edge.specs.declared.memory_store.MemoryStore.{MemoryStore}
+use Rattle.mg_edge.specs.declared.store.Loaded.{Loaded}
+use Rattle.mg_edge.specs.declared.store.Loaded.TheVariants.{Bytes, Failed, OutOfMemory}
+use Rattle.mg_edge.specs.Edge.{most_loaded, one_more}
+
+-- The content of a name, if it is there.
+abbrev pub content_at : BTreeMap (String Global) (Vec ℕ Global) → List ℕ → Option (List ℕ)
+content_at contents name = option_map (λ content. content.items) (get_by_text contents name)
+
+abbrev pub stored : MemoryStore → List ℕ → Option (List ℕ)
+stored store name = content_at store.contents name
+
+-- The number of the load that is to fail.
+abbrev pub failing_load : MemoryStore → Option ℕ
+failing_load store = store.failing
+
+-- How many loads there were.
+abbrev pub loads_made : MemoryStore → ℕ
+loads_made store = store.loads
+
+-- The name of the load that failed last.
+abbrev pub last_failed : MemoryStore → Option (List ℕ)
+last_failed store = option_map string_bytes store.failed_name
+
+-- How many loads failed.
+abbrev pub store_faults : MemoryStore → ℕ
+store_faults store = store.faults
+
+-- What is known of the loads so far stays.
+pub record KeepsCalls (old new : MemoryStore) : Type 0 where
+  pub loads : loads_made new ≡ loads_made old
+  pub failed_name : last_failed new ≡ last_failed old
+  pub faults : store_faults new ≡ store_faults old
+
+-- The next load of a name fails: its number is the one that is to fail, or the name isn't there.
+abbrev pub NextFails : MemoryStore → List ℕ → Type 0
+NextFails store name = (failing_load store ≡ Some (loads_made store)) ⊎ (stored store name ≡ None)
+
+-- What a load answers beside want of memory: it fails where it is to, and else gives the content's first bytes.
+abbrev pub AnswersLoad : MemoryStore → List ℕ → Loaded → Type 0
+AnswersLoad store name (Bytes bytes) = (failing_load store ≢ Some (loads_made store)) × (option_map (λ all. take most_loaded all) (stored store name) ≡ Some bytes.items)
+AnswersLoad store name Failed = NextFails store name
+AnswersLoad store name OutOfMemory = ⊤
+
+-- The same by whether the load is to fail and by the content.
+abbrev pub LooksUp : Bool → Option (List ℕ) → Loaded → Type 0
+LooksUp fails content (Bytes bytes) = (fails ≡ false) × (option_map (λ all. take most_loaded all) content ≡ Some bytes.items)
+LooksUp fails content Failed = (fails ≡ true) ⊎ (content ≡ None)
+LooksUp fails content OutOfMemory = ⊤
+
+-- The count of faults rises by one at a load that fails, and at no other.
+abbrev pub CountsFault : MemoryStore → MemoryStore → Loaded → Type 0
+CountsFault old new (Bytes bytes) = store_faults new ≡ store_faults old
+CountsFault old new Failed = store_faults new ≡ one_more (store_faults old)
+CountsFault old new OutOfMemory = store_faults new ≡ store_faults old

@@ -1,0 +1,80 @@
+ghost use Rattle.std.specs.Prelude.{◌≡◌, ℕ, List, Option, None, Some};
+ghost use Rattle.std.specs.Option.{option_map};
+ghost use Rattle.std.specs.String.{string_bytes};
+ghost use Rattle.mg_edge.specs.Edge.{LoadsWithin, LoadGives};
+
+use crate::{Loaded, MOST_LOADED, Store};
+use std::alloc::Global;
+use std::fs;
+use std::io::{ErrorKind, Read};
+use std::rt::Files;
+
+/// Files by their names, read through a runtime that opens them. What is in a file is trusted to the system: the
+/// store tells no content.
+#[derive(Drop)]
+pub struct FolderStore<R> {
+    rt: R,
+    failed_name: Option<String>,
+    faults: u64,
+}
+
+impl<R: Files + Drop> FolderStore<R> {
+    /// A store over the files of a runtime, by the names that `std::fs` takes.
+    pub fn new(rt: R) -> FolderStore<R>
+        ensures failed_name { ⟦<FolderStore<R> as Store>⟧.failed_name result ≡ None }
+        ensures faults { ⟦<FolderStore<R> as Store>⟧.faults result ≡ 0 }
+    {
+        FolderStore {
+            rt,
+            failed_name: None,
+            faults: 0,
+        }
+    }
+}
+
+impl<R: Files + Drop> Store for FolderStore<R> {
+    ghost content = { λ _ _. None };
+
+    ghost failed_name = { λ s. option_map string_bytes s.failed_name };
+
+    ghost faults = { λ s. s.faults };
+
+    fn load(&mut self, alloc: Global, name: &str) -> Loaded {
+        let Ok(copy) = String::from_str(alloc, name) else {
+            return Loaded::OutOfMemory;
+        };
+        let loaded = read_file(&self.rt, alloc, name);
+        if let Loaded::Failed = loaded {
+            self.failed_name = Some(copy);
+            self.faults = self.faults.saturating_add(1);
+        }
+        loaded
+    }
+}
+
+// The first bytes of a file, by its name.
+fn read_file<R: Files>(rt: &R, alloc: Global, name: &str) -> Loaded
+    ensures { LoadsWithin result }
+{
+    match fs::open(rt, name) {
+        Ok(file) => read_front(alloc, file),
+        Err(_) => Loaded::Failed,
+    }
+}
+
+// The first bytes of what a reader has left.
+fn read_front<F: Read + Drop>(alloc: Global, file: F) -> Loaded
+    ensures bound { LoadsWithin result }
+    ensures bytes { LoadGives (option_map Some (F.remaining file)) result }
+{
+    let mut bytes = Vec::new(alloc);
+    let mut front = file.take(MOST_LOADED as u64);
+    match front.read_to_end(&mut bytes) {
+        Ok(_) => {
+            bytes.truncate(MOST_LOADED);
+            Loaded::Bytes(bytes)
+        }
+        Err(error) if error.kind() == ErrorKind::OutOfMemory => Loaded::OutOfMemory,
+        Err(_) => Loaded::Failed,
+    }
+}

@@ -1,0 +1,112 @@
+ghost use Rattle.std.specs.Prelude.{◌≡◌, ◌<◌, ◌≤◌, length, take, IfOk, Some};
+ghost use Rattle.mg_edge.specs.Edge.{GivesWithin, ReadTakes, CountsOne, EndCounts, ReadFaultCounts};
+ghost use Rattle.mg_edge.specs.InMemory.{SourceState, source_faults, next_got, after_got};
+
+use crate::{Got, Source};
+use std::alloc::{AllocError, Global};
+use std::marker::Model;
+
+/// A source over bytes in memory, which fails at the reads that it is told to. Contracts see it as the bytes that are
+/// left, the most that one read gives, the numbers of the reads that fail, and how many reads and ends there were.
+#[derive(Drop)]
+pub struct MemorySource {
+    bytes: Vec<u8>,
+    at: usize,
+    piece: usize,
+    failing: Vec<u64>,
+    reads: u64,
+    ends: u64,
+}
+
+impl Model for MemorySource {
+    ghost use Rattle.std.specs.Prelude.{◌≡◌, ◌≤◌, drop, vec_len};
+    ghost use Rattle.mg_edge.specs.InMemory.{SourceState};
+
+    ghost Value = { SourceState };
+
+    ghost view = { λ s. record { left = drop s.at s.bytes.items; piece = s.piece; failing = s.failing.items; reads = s.reads; ends = s.ends } };
+
+    ghost invariant = { λ s. (s.at ≤ vec_len s.bytes) × (1 ≤ s.piece) };
+}
+
+impl MemorySource {
+    /// A source of a copy of `bytes`. A read gives at most `piece` of them, which is at least 1, and the reads whose
+    /// numbers are in `failing` fail, counted from 0.
+    pub fn new(
+        alloc: Global,
+        bytes: &[u8],
+        piece: usize,
+        failing: &[u64],
+    ) -> Result<MemorySource, AllocError>
+        requires { 1 ≤ piece }
+        ensures { IfOk result (λ source. source ≡ record { left = bytes.now; piece = piece; failing = failing.now; reads = 0; ends = 0 }) }
+    {
+        Ok(MemorySource {
+            bytes: bytes.to_vec(alloc)?,
+            at: 0,
+            piece,
+            failing: failing.to_vec(alloc)?,
+            reads: 0,
+            ends: 0,
+        })
+    }
+
+    /// How many reads there were. It stays at 2^64 - 1 once it is there.
+    pub fn reads(&self) -> u64
+        ensures { result ≡ self.now.reads }
+    {
+        self.reads
+    }
+
+    /// How many reads answered `End`. It stays at 2^64 - 1 once it is there.
+    pub fn ends(&self) -> u64
+        ensures { result ≡ self.now.ends }
+    {
+        self.ends
+    }
+}
+
+impl Source for MemorySource {
+    ghost left = { λ s. Some s.left };
+
+    ghost reads = { λ s. Some s.reads };
+
+    ghost ends = { λ s. s.ends };
+
+    ghost faults = { source_faults };
+
+    #[tactic(auto, using(crate::proofs::Counted::failures_later, crate::proofs::Counted::failures_rose))]
+    fn read(&mut self, buf: &mut [u8]) -> Got
+        requires { 0 < length buf.old }
+        ensures bound { GivesWithin result (length buf.new) }
+        ensures bytes { ReadTakes (Some self.old.left) (Some self.new.left) result buf.new }
+        ensures counted { CountsOne (Some self.old.reads) (Some self.new.reads) }
+        ensures end { EndCounts self.old.ends self.new.ends result }
+        ensures fault { ReadFaultCounts (source_faults self.old) (source_faults self.new) result }
+        ensures answer { result ≡ next_got self.old (length buf.new) }
+        ensures after { self.new ≡ after_got self.old result }
+    {
+        let number = self.reads;
+        self.reads = number.saturating_add(1);
+        if self.failing.contains(&number) {
+            return Got::Failed;
+        }
+        let left = &self.bytes[self.at..];
+        let count = self.piece.min(buf.len()).min(left.len());
+        if count == 0 {
+            self.ends = self.ends.saturating_add(1);
+            return Got::End;
+        }
+        copy_to_front(buf, &left[..count]);
+        self.at += count;
+        Got::Bytes(count)
+    }
+}
+
+// Writes bytes over the front of a buffer.
+fn copy_to_front(buf: &mut [u8], bytes: &[u8])
+    requires { length bytes.now ≤ length buf.old }
+    ensures { take (length bytes.now) buf.new ≡ bytes.now }
+{
+    buf[..bytes.len()].copy_from_slice(bytes);
+}

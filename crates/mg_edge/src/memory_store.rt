@@ -1,0 +1,139 @@
+ghost use Rattle.std.specs.Prelude.{◌≡◌, ◌≢◌, ℕ, List, None, Some, OnOk, OnErr};
+ghost use Rattle.std.specs.Option.{option_map};
+ghost use Rattle.mg_edge.specs.Edge.{LoadsWithin, LoadGives, LoadFaultCounts, KeepsFailedName, IsFrontOf, one_more};
+ghost use Rattle.mg_edge.specs.MemoryStore.{stored, failing_load, loads_made, last_failed, store_faults, KeepsCalls, AnswersLoad, CountsFault, LooksUp, content_at};
+
+use crate::{Loaded, MOST_LOADED, Store};
+use std::alloc::{AllocError, Global};
+use std::collections::BTreeMap;
+
+/// A store in memory, which fails at the load that it is told to.
+#[derive(Drop)]
+pub struct MemoryStore {
+    alloc: Global,
+    contents: BTreeMap<String, Vec<u8>>,
+    failing: Option<u64>,
+    loads: u64,
+    failed_name: Option<String>,
+    faults: u64,
+}
+
+impl MemoryStore {
+    /// A store with no content.
+    pub fn new(alloc: Global) -> MemoryStore
+        ensures contents { (name : List ℕ) → stored result name ≡ None }
+        ensures failing { failing_load result ≡ None }
+        ensures loads { loads_made result ≡ 0 }
+        ensures failed_name { last_failed result ≡ None }
+        ensures faults { store_faults result ≡ 0 }
+    {
+        MemoryStore {
+            alloc,
+            contents: BTreeMap::new(alloc),
+            failing: None,
+            loads: 0,
+            failed_name: None,
+            faults: 0,
+        }
+    }
+
+    /// Keeps a copy of `bytes` as the content of a name, in place of an earlier one. Where there is no memory for it,
+    /// every content stays.
+    pub fn put(&mut self, name: &str, bytes: &[u8]) -> Result<(), AllocError>
+        ensures ok { OnOk result (stored self.new name.now ≡ Some bytes.now) }
+        ensures others { OnOk result ((other : List ℕ) → other ≢ name.now → stored self.new other ≡ stored self.old other) }
+        ensures err { OnErr result ((other : List ℕ) → stored self.new other ≡ stored self.old other) }
+        ensures calls { KeepsCalls self.old self.new }
+        ensures failing { failing_load self.new ≡ failing_load self.old }
+    {
+        let key = String::from_str(self.alloc, name)?;
+        let content = bytes.to_vec(self.alloc)?;
+        self.contents.insert(key, content)?;
+        Ok(())
+    }
+
+    /// Lets the load with this number fail, counted from 0, and no other one for this reason.
+    pub fn fail_at(&mut self, call: u64)
+        ensures failing { failing_load self.new ≡ Some call }
+        ensures contents { (name : List ℕ) → stored self.new name ≡ stored self.old name }
+        ensures calls { KeepsCalls self.old self.new }
+    {
+        self.failing = Some(call);
+    }
+
+    /// How many loads failed. It stays at 2^64 - 1 once it is there.
+    pub fn faults(&self) -> u64
+        ensures { result ≡ store_faults self.now }
+    {
+        self.faults
+    }
+
+    /// The name of the load that failed last, and none before the first.
+    pub fn failed_name(&self) -> Option<&str>
+        ensures { option_map (λ name. name.now) result ≡ last_failed self.now }
+    {
+        match &self.failed_name {
+            Some(name) => Some(name.as_str()),
+            None => None,
+        }
+    }
+}
+
+impl Store for MemoryStore {
+    ghost content = { λ s name. Some (stored s name) };
+
+    ghost failed_name = { last_failed };
+
+    ghost faults = { store_faults };
+
+    fn load(&mut self, alloc: Global, name: &str) -> Loaded
+        ensures kept { (other : List ℕ) → Some (stored self.new other) ≡ Some (stored self.old other) }
+        ensures bound { LoadsWithin result }
+        ensures bytes { LoadGives (Some (stored self.old name.now)) result }
+        ensures failed_name { KeepsFailedName (last_failed self.old) (last_failed self.new) result name.now }
+        ensures fault { LoadFaultCounts (store_faults self.old) (store_faults self.new) result }
+        ensures answer { AnswersLoad self.old name.now result }
+        ensures loads { loads_made self.new ≡ one_more (loads_made self.old) }
+        ensures faults { CountsFault self.old self.new result }
+        ensures failing { failing_load self.new ≡ failing_load self.old }
+    {
+        let number = self.loads;
+        self.loads = number.saturating_add(1);
+        let Ok(copy) = String::from_str(alloc, name) else {
+            return Loaded::OutOfMemory;
+        };
+        let fails = self.failing == Some(number);
+        match look_up(alloc, &self.contents, name, fails) {
+            Loaded::Failed => {
+                self.failed_name = Some(copy);
+                self.faults = self.faults.saturating_add(1);
+                Loaded::Failed
+            }
+            Loaded::Bytes(bytes) => Loaded::Bytes(bytes),
+            Loaded::OutOfMemory => Loaded::OutOfMemory,
+        }
+    }
+}
+
+// What a load answers that is to fail or not.
+fn look_up(alloc: Global, contents: &BTreeMap<String, Vec<u8>>, name: &str, fails: bool) -> Loaded
+    ensures bound { LoadsWithin result }
+    ensures answer { LooksUp fails (content_at contents.now name.now) result }
+{
+    match contents.get(name) {
+        Some(content) if !fails => first_bytes(alloc, content),
+        _ => Loaded::Failed,
+    }
+}
+
+// A copy of the first bytes of a content.
+fn first_bytes(alloc: Global, content: &[u8]) -> Loaded
+    ensures bound { LoadsWithin result }
+    ensures bytes { IsFrontOf content.now result }
+{
+    let most = MOST_LOADED.min(content.len());
+    match Vec::from_slice(alloc, &content[..most]) {
+        Ok(bytes) => Loaded::Bytes(bytes),
+        Err(_) => Loaded::OutOfMemory,
+    }
+}

@@ -1,0 +1,72 @@
+ghost use Rattle.std.specs.Prelude.{◌≡◌, ℕ, List, Option, None};
+ghost use Rattle.std.specs.Io.{ReadsAtMost};
+ghost use Rattle.std.specs.Io.KnownBytes.{ReadConsumes};
+
+use crate::{Got, Source};
+use std::io;
+use std::io::{ErrorKind, Read};
+
+/// How often a read that a signal interrupted is tried again before it counts as failed.
+const MOST_INTERRUPTIONS: u32 = 1000;
+
+/// A reader of the standard library as a source. Whether a file or a terminal gives what is in it is trusted: the
+/// source tells what the reader tells, and over those that is nothing.
+#[derive(Drop)]
+pub struct ReaderSource<R> {
+    reader: R,
+    ends: u64,
+    faults: u64,
+}
+
+impl<R: Read + Drop> ReaderSource<R> {
+    /// A source over a reader that was not read by it yet.
+    pub fn new(reader: R) -> ReaderSource<R>
+        ensures left { ⟦<ReaderSource<R> as Source>⟧.left result ≡ R.remaining reader }
+        ensures ends { ⟦<ReaderSource<R> as Source>⟧.ends result ≡ 0 }
+        ensures faults { ⟦<ReaderSource<R> as Source>⟧.faults result ≡ 0 }
+    {
+        ReaderSource {
+            reader,
+            ends: 0,
+            faults: 0,
+        }
+    }
+}
+
+impl<R: Read + Drop> Source for ReaderSource<R> {
+    ghost left = { λ s. R.remaining s.reader };
+
+    ghost reads = { λ _. None };
+
+    ghost ends = { λ s. s.ends };
+
+    ghost faults = { λ s. s.faults };
+
+    fn read(&mut self, buf: &mut [u8]) -> Got {
+        match read_uninterrupted(&mut self.reader, buf) {
+            Ok(0) => {
+                self.ends = self.ends.saturating_add(1);
+                Got::End
+            }
+            Ok(count) => Got::Bytes(count),
+            Err(_) => {
+                self.faults = self.faults.saturating_add(1);
+                Got::Failed
+            }
+        }
+    }
+}
+
+// One read. One that a signal interrupted is tried again.
+fn read_uninterrupted<R: Read>(reader: &mut R, buf: &mut [u8]) -> io::Result<usize>
+    ensures bound { ReadsAtMost result buf.new }
+    ensures bytes { ReadConsumes (R.remaining reader.old) (R.remaining reader.new) result buf.new }
+{
+    for _ in 0..MOST_INTERRUPTIONS {
+        match reader.read(buf) {
+            Err(error) if error.kind() == ErrorKind::Interrupted => {}
+            answer => return answer,
+        }
+    }
+    reader.read(buf)
+}

@@ -1,0 +1,60 @@
+ghost use Rattle.std.specs.Prelude.{◌≡◌, ℕ, List, Option};
+ghost use Rattle.std.specs.Io.{WritesAtMost};
+ghost use Rattle.std.specs.Io.KnownBytes.{WriteAppends};
+
+use crate::{Put, Sink};
+use std::io;
+use std::io::{ErrorKind, Write};
+
+/// How often a write that a signal interrupted is tried again before it counts as failed.
+const MOST_INTERRUPTIONS: u32 = 1000;
+
+/// A writer of the standard library as a sink. It keeps nothing back: each piece is handed to the writer in the call
+/// that it came with, so hand in large pieces, and a writer that has no buffer of its own, as files and standard
+/// streams have none. Whether a file or a terminal keeps what it took is trusted: the sink tells what the writer
+/// tells, and over those that is nothing.
+#[derive(Drop)]
+pub struct WriterSink<W> {
+    writer: W,
+    faults: u64,
+}
+
+impl<W: Write + Drop> WriterSink<W> {
+    /// A sink over a writer.
+    pub fn new(writer: W) -> WriterSink<W>
+        ensures taken { ⟦<WriterSink<W> as Sink>⟧.taken result ≡ W.contents writer }
+        ensures faults { ⟦<WriterSink<W> as Sink>⟧.faults result ≡ 0 }
+    {
+        WriterSink { writer, faults: 0 }
+    }
+}
+
+impl<W: Write + Drop> Sink for WriterSink<W> {
+    ghost taken = { λ s. W.contents s.writer };
+
+    ghost faults = { λ s. s.faults };
+
+    fn write(&mut self, piece: &[u8]) -> Put {
+        match write_uninterrupted(&mut self.writer, piece) {
+            Ok(0) | Err(_) => {
+                self.faults = self.faults.saturating_add(1);
+                Put::Failed
+            }
+            Ok(count) => Put::Took(count),
+        }
+    }
+}
+
+// One write. One that a signal interrupted is tried again.
+fn write_uninterrupted<W: Write>(writer: &mut W, piece: &[u8]) -> io::Result<usize>
+    ensures bound { WritesAtMost result piece.now }
+    ensures bytes { WriteAppends (W.contents writer.old) (W.contents writer.new) result piece.now }
+{
+    for _ in 0..MOST_INTERRUPTIONS {
+        match writer.write(piece) {
+            Err(error) if error.kind() == ErrorKind::Interrupted => {}
+            answer => return answer,
+        }
+    }
+    writer.write(piece)
+}
