@@ -1,2 +1,5 @@
+pub mod Extension
+pub mod Loopback
 pub mod Payload
 pub mod Prefix
+pub mod Settled

@@ -1,0 +1,184 @@
+ghost use Rattle.std.specs.Prelude.{◌≡◌, ◌≢◌, Some, IfNone, ◌<◌, ◌≤◌, ◌+◌, ◌^◌, ◌↔◌, [], length, slice_get, option_map, OnOk, OnErr, IfErr, IsErrAnd};
+ghost use Rattle.mg_time.specs.Time.{pre_stream, post_stream, done, IsAllowed};
+ghost use Rattle.mg_value.specs.Payload.{Plain};
+ghost use Rattle.mg_value.specs.Prefix.{StreamPrefix, IsPrefix, empty_prefix, appended, raised, closed};
+ghost use Rattle.mg_stream.specs.Queue.{StandsFor, IsLike, MayCome, count_of, rest_of, with_packet, raised_to, first_at, popped_at};
+
+use crate::{Refused, StreamFault};
+use mg_time::Timestamp;
+use mg_value::Packet;
+use std::alloc::{AllocError, Global};
+use std::collections::VecDeque;
+use std::marker::Model;
+
+/// The packets of a stream that wait at one input, in order (MediaPipe, Synchronization). Contracts see how many
+/// packets are gone, those that wait, the bound, and for how many more there is room.
+#[derive(Debug, Drop)]
+pub struct Queue {
+    packets: VecDeque<Packet>,
+    gone: u64,
+    bound: Timestamp,
+}
+
+impl Model for Queue {
+    ghost use Rattle.mg_value.specs.Payload.{Plain};
+    ghost use Rattle.mg_stream.specs.Queue.{Waiting, IsQueue};
+
+    ghost Value = { Waiting Plain };
+
+    ghost use Rattle.mg_stream.specs.QueueView.{queue_view};
+
+    ghost view = { queue_view };
+
+    ghost invariant = { λ q. IsQueue (queue_view q) };
+}
+
+impl Queue {
+    /// A queue to which nothing came yet. It takes no memory.
+    pub fn new(alloc: Global) -> Queue
+        ensures nothing { result ≡ record { gone = 0; packets = []; bound = pre_stream; spare = result.spare } }
+        ensures stands { StandsFor result empty_prefix }
+    {
+        Queue {
+            packets: VecDeque::new(alloc),
+            gone: 0,
+            bound: Timestamp::PRE_STREAM,
+        }
+    }
+
+    /// Makes room for more packets: so many appends take no memory.
+    pub fn reserve(&mut self, more: u32) -> Result<(), AllocError>
+        ensures room { OnOk result (more ≤ self.new.spare) }
+        ensures kept { self.old.spare ≤ self.new.spare }
+        ensures unchanged { IsLike self.new self.old }
+        ensures stands { (s : StreamPrefix Plain) → StandsFor self.old s → StandsFor self.new s }
+    {
+        self.packets.reserve(more as usize)
+    }
+
+    /// Puts a packet behind those that wait, and moves the bound to what may follow it. Where it is refused, the
+    /// packet comes back, and the queue is as before.
+    pub fn append(&mut self, packet: Packet) -> Result<(), Refused>
+        ensures ok { OnOk result (IsLike self.new (with_packet self.old packet)) }
+        ensures may_come { OnOk result (MayCome self.old packet.at) }
+
+        // The first cause that holds is answered.
+        ensures not_allowed { IsErrAnd result (λ r. r.cause ≡ StreamFault.NotAllowed) ↔ ¬ IsAllowed packet.at }
+        ensures not_ascending { IsErrAnd result (λ r. r.cause ≡ StreamFault.NotAscending)
+            ↔ (IsAllowed packet.at × (packet.at < self.old.bound)) }
+        ensures not_alone { IsErrAnd result (λ r. r.cause ≡ StreamFault.NotAlone)
+            ↔ ((self.old.bound ≤ packet.at) × (packet.at ≡ post_stream) × (0 < count_of self.old)) }
+        ensures no_memory { IsErrAnd result (λ r. r.cause ≡ StreamFault.OutOfMemory) → self.old.spare ≡ 0 }
+
+        // What a refusal leaves, and what room is left.
+        ensures unchanged { OnErr result (IsLike self.new self.old) }
+        ensures returned { IfErr result (λ r. r.packet ≡ packet) }
+        ensures room { self.old.spare ≤ self.new.spare + 1 }
+
+        ensures stands { (s : StreamPrefix Plain) → StandsFor self.old s → OnOk result (StandsFor self.new (appended s packet)) }
+    {
+        let cause = match self.cause_of(packet.at) {
+            Some(cause) => cause,
+            None => {
+                let bound = packet.at.next_allowed();
+                match self.packets.push_back(packet) {
+                    Ok(()) => {
+                        self.bound = bound;
+                        return Ok(());
+                    }
+                    Err(refused) => {
+                        return Err(Refused {
+                            packet: refused.value,
+                            cause: StreamFault::OutOfMemory,
+                        });
+                    }
+                }
+            }
+        };
+        Err(Refused { packet, cause })
+    }
+
+    /// Raises the bound: no packet below it comes any more. A bound that isn't higher changes nothing.
+    pub fn raise(&mut self, bound: Timestamp)
+        ensures raised { self.new ≡ raised_to self.old bound }
+        ensures stands { (s : StreamPrefix Plain) → StandsFor self.old s → StandsFor self.new (raised s bound) }
+    {
+        // Each timestamp is at most `DONE`.
+        let _number = bound.raw();
+        if self.bound < bound {
+            self.bound = bound;
+        }
+    }
+
+    /// Closes the queue: no packet comes any more.
+    pub fn close(&mut self)
+        ensures closed { self.new ≡ record self.old { bound = done } }
+        ensures stands { (s : StreamPrefix Plain) → StandsFor self.old s → StandsFor self.new (closed s) }
+    {
+        self.bound = Timestamp::DONE;
+    }
+
+    /// The timestamp of the first packet that waits.
+    pub fn first(&self) -> Option<Timestamp>
+        ensures first { result ≡ option_map (λ p. p.at) (slice_get self.now.packets 0) }
+        // Of every queue: what waits, with the bound, is a prefix.
+        ensures rest { IsPrefix (rest_of self.now) }
+    {
+        Some(self.packets.front()?.at)
+    }
+
+    /// The lowest timestamp that a further packet may have.
+    pub fn bound(&self) -> Timestamp
+        ensures { result ≡ self.now.bound }
+    {
+        self.bound
+    }
+
+    /// How many packets wait.
+    pub fn waiting(&self) -> u64
+        ensures { result ≡ length self.now.packets }
+    {
+        self.packets.len() as u64
+    }
+
+    /// How many packets came, those that are gone included.
+    pub fn count(&self) -> u64
+        ensures { result ≡ count_of self.now }
+    {
+        self.gone + self.packets.len() as u64
+    }
+
+    /// Takes the first packet, where it stands at this timestamp.
+    pub fn pop_at(&mut self, at: Timestamp) -> Option<Packet>
+        ensures packet { result ≡ first_at at self.old.packets }
+        ensures popped { self.new ≡ popped_at at self.old }
+        ensures stands { (s : StreamPrefix Plain) → StandsFor self.old s → StandsFor self.new s }
+    {
+        if self.first() != Some(at) {
+            return None;
+        }
+        let packet = self.packets.pop_front();
+        self.gone += 1;
+        packet
+    }
+
+    /// Why a packet at this timestamp may not come, if it may not.
+    fn cause_of(&self, at: Timestamp) -> Option<StreamFault>
+        ensures none { IfNone result (MayCome self.now at) }
+        ensures not_allowed { (result ≡ Some StreamFault.NotAllowed) ↔ ¬ IsAllowed at }
+        ensures not_ascending { (result ≡ Some StreamFault.NotAscending) ↔ (IsAllowed at × (at < self.now.bound)) }
+        ensures not_alone { (result ≡ Some StreamFault.NotAlone)
+            ↔ ((self.now.bound ≤ at) × (at ≡ post_stream) × (0 < count_of self.now)) }
+        ensures no_memory { result ≢ Some StreamFault.OutOfMemory }
+    {
+        if !at.is_allowed() {
+            Some(StreamFault::NotAllowed)
+        } else if at < self.bound {
+            Some(StreamFault::NotAscending)
+        } else if at == Timestamp::POST_STREAM && self.count() > 0 {
+            Some(StreamFault::NotAlone)
+        } else {
+            None
+        }
+    }
+}

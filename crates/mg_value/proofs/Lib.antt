@@ -1,0 +1,5 @@
+pub mod AfterSets
+pub mod Extending
+pub mod PrefixSteps
+pub mod SettledSets
+pub mod Times
