@@ -1,7 +1,8 @@
 -- The computed count of failed calls never falls, and rises at a call that fails.
-use Rattle.std.proofs.Common.{◌-◌, ◌^◌, ◌≡◌, ℕ, ◌+◌, ◌<◌, ◌≤◌, zero, suc, min, Bool, true, false, refl, arith, add-one, if◌then◌else◌}
+use Rattle.std.proofs.Common.{◌-◌, ◌^◌, ◌≡◌, ℕ, ◌+◌, ◌<◌, ◌≤◌, zero, suc, min, Bool, true, false, refl, arith, add-one, add-zero, sym, ◌∙◌, ◌⊎◌, inl, inr, if◌then◌else◌}
+use Rattle.std.proofs.lemmas.Bool.{false≢true}
 use Rattle.std.proofs.lemmas.Bool.Decides.{nat_tests}
-use Rattle.mg_edge.specs.Edge.{Rose}
+use Rattle.mg_edge.specs.Edge.{Rose, Steady}
 use Rattle.mg_edge.specs.Failures.{failures, failures_below, failures_to}
 
 -- one more call, of either kind
@@ -35,6 +36,10 @@ failures_below-same f g (suc n) same =
     rw (before, same n (omega arith)) refl
 
 -- The count never falls at a call, also where the call settles which later ones fail.
+split : (b : Bool) → (b ≡ true) ⊎ (b ≡ false)
+split true = inl refl
+split false = inr refl
+
 pub failures_later : (last : ℕ) (f g : ℕ → Bool) (n : ℕ) → n ≤ last → ((k : ℕ) → k < n → f k ≡ g k) → (f n ≡ true → g n ≡ true) → failures_to last f n ≤ failures_to last g (min (n + 1) last)
 unfolding failures_to
 failures_later last f g n within same stays =
@@ -49,6 +54,30 @@ unfolding failures_to
 failures_rose last f n within fails =
     let one = failures_below-fails f n fails in
     grind (arith, nat_tests)
+
+failures_below-passes : (f : ℕ → Bool) (n : ℕ) → f n ≡ false → failures_below f (n + 1) ≡ failures_below f n
+unfolding failures_below
+failures_below-passes f n passes = rw (add-one, passes) (add-zero (failures_below f n))
+
+-- It doesn't change at a call that passes, unless it comes to its end. The call may settle which later ones fail.
+failures_passed : (last : ℕ) (f g : ℕ → Bool) (n : ℕ) → n ≤ last → ((k : ℕ) → k < n → f k ≡ g k) → f n ≡ false → (n < last → g n ≡ false)
+    → failures_to last g (min (n + 1) last) < last → failures_to last g (min (n + 1) last) ≡ failures_to last f n
+unfolding failures_to
+failures_passed last f g n within same passes passes_too below =
+    let same_below = failures_below-same f g n same in
+    let one = failures_below-passes g n in
+    elim (split (g n)) [
+      | inl fails ↦ grind (arith, nat_tests)
+      | inr goes ↦ (let step = one goes in grind (arith, nat_tests))
+    ]
+
+pub passed_call : (f g : ℕ → Bool) (n m : ℕ) → n < 2 ^ 64 → m ≡ min (n + 1) (2 ^ 64 - 1) → ((k : ℕ) → k < n → f k ≡ g k) → f n ≡ false → (n < 2 ^ 64 - 1 → g n ≡ false)
+    → Steady (failures f n) (failures g m)
+passed_call f g n m within next same passes passes_too =
+    rw next (
+      failures_later (2 ^ 64 - 1) f g n (omega arith) same (λ h. absurd (false≢true (sym passes ∙ h))),
+      failures_passed (2 ^ 64 - 1) f g n (omega arith) same passes passes_too,
+    )
 
 -- The same for a u64 that numbers the calls, where the next number is given by an equation.
 pub failed_call : (f : ℕ → Bool) (n m : ℕ) → n < 2 ^ 64 → m ≡ min (n + 1) (2 ^ 64 - 1) → f n ≡ true → (failures f n ≤ failures f m) × Rose (failures f n) (failures f m)

@@ -2,7 +2,7 @@
 --
 -- What an object tells is optional: `None` claims nothing. A count that is said to rise by one stands still at
 -- 2 ^ 64 - 1, the end of its type.
-use Rattle.std.specs.Prelude.{◌≡◌, ℕ, ◌+◌, ◌-◌, ◌^◌, ◌≤◌, min, List, [], ◌++◌, length, take, drop, Option, None, Some, ⊤}
+use Rattle.std.specs.Prelude.{◌≡◌, ℕ, ◌+◌, ◌-◌, ◌^◌, ◌<◌, ◌≤◌, min, List, [], ◌++◌, length, take, drop, Option, None, Some, ⊤}
 use Rattle.mg_edge.specs.declared.source.Got.{Got}
 use Rattle.mg_edge.specs.declared.source.Got.TheVariants.{Bytes, End, Failed}
 use Rattle.mg_edge.specs.declared.sink.Put.{Put}
@@ -13,6 +13,10 @@ use Rattle.mg_edge.specs.declared.store.Loaded.TheVariants.{Bytes as LoadedBytes
 -- The count has risen, or it stands at its type's end.
 abbrev pub Rose : ℕ → ℕ → Type 0
 Rose before now = min (before + 1) (2 ^ 64 - 1) ≤ now
+
+-- The count hasn't changed, unless it has come to its type's end.
+abbrev pub Steady : ℕ → ℕ → Type 0
+Steady before now = (before ≤ now) × (now < 2 ^ 64 - 1 → now ≡ before)
 
 -- One more, up to the type's end.
 abbrev pub one_more : ℕ → ℕ
@@ -44,16 +48,18 @@ ReadTakes (Some left) now (Bytes n) buf = (n ≤ length left) × (take n buf ≡
 ReadTakes (Some left) now End buf = (left ≡ []) × (now ≡ Some [])
 ReadTakes (Some left) now Failed buf = now ≡ Some left
 
--- The end is told only where the count of ends rose, and no other read changes that count.
+-- The end is told only where the count of ends rose, and at no other read, but that it may come to its
+-- type's end.
 abbrev pub EndCounts : ℕ → ℕ → Got → Type 0
 EndCounts before now (Bytes n) = now ≡ before
 EndCounts before now End = (before ≤ now) × Rose before now
 EndCounts before now Failed = now ≡ before
 
--- The count of faults never falls, and a read fails only where it rose.
+-- A read fails only where the count of faults rose, and at no other read, but that it may come to its
+-- type's end.
 abbrev pub ReadFaultCounts : ℕ → ℕ → Got → Type 0
-ReadFaultCounts before now (Bytes n) = before ≤ now
-ReadFaultCounts before now End = before ≤ now
+ReadFaultCounts before now (Bytes n) = Steady before now
+ReadFaultCounts before now End = Steady before now
 ReadFaultCounts before now Failed = (before ≤ now) × Rose before now
 
 -- A sink --
@@ -70,9 +76,10 @@ WriteAppends None now put piece = ⊤
 WriteAppends (Some taken) now (Took n) piece = now ≡ Some (taken ++ take n piece)
 WriteAppends (Some taken) now PutFailed piece = now ≡ Some taken
 
--- The count of faults never falls, and a write fails only where it rose.
+-- A write fails only where the count of faults rose, and at no other write, but that it may come to
+-- its type's end.
 abbrev pub WriteFaultCounts : ℕ → ℕ → Put → Type 0
-WriteFaultCounts before now (Took n) = before ≤ now
+WriteFaultCounts before now (Took n) = Steady before now
 WriteFaultCounts before now PutFailed = (before ≤ now) × Rose before now
 
 -- A store --
@@ -99,11 +106,12 @@ LoadGives (Some (Some content)) (LoadedBytes bytes) = bytes.items ≡ take most_
 LoadGives (Some (Some content)) LoadFailed = ⊤
 LoadGives (Some (Some content)) OutOfMemory = ⊤
 
--- The count of faults never falls, and a load fails only where it rose.
+-- A load fails only where the count of faults rose, and at no other load, but that it may come to its
+-- type's end.
 abbrev pub LoadFaultCounts : ℕ → ℕ → Loaded → Type 0
-LoadFaultCounts before now (LoadedBytes bytes) = before ≤ now
+LoadFaultCounts before now (LoadedBytes bytes) = Steady before now
 LoadFaultCounts before now LoadFailed = (before ≤ now) × Rose before now
-LoadFaultCounts before now OutOfMemory = before ≤ now
+LoadFaultCounts before now OutOfMemory = Steady before now
 
 -- The name of the load that failed last: a load that fails leaves its own, and any other keeps the one before.
 abbrev pub KeepsFailedName : Option (List ℕ) → Option (List ℕ) → Loaded → List ℕ → Type 0
