@@ -8,7 +8,7 @@ use Rattle.mg_edge.specs.Failures.{failures, failures_below, failures_to}
 -- one more call, of either kind
 failures_below-fails : (f : ℕ → Bool) (n : ℕ) → f n ≡ true → failures_below f (n + 1) ≡ failures_below f n + 1
 unfolding failures_below
-failures_below-fails f n fails = rw (add-one, fails) refl
+failures_below-fails f n fails = rw (add-one n, fails) refl
 
 failures_below-grows : (f : ℕ → Bool) (n : ℕ) → failures_below f n ≤ failures_below f (n + 1)
 unfolding failures_below

@@ -1,8 +1,8 @@
 -- A run of calls, extended by one.
-use Rattle.std.proofs.Common.{◌≡◌, ℕ, List, [], ◌++◌, length, take, drop, Option, None, Some, IfSome, refl, sym, ◌∙◌, ap, append_assoc}
+use Rattle.std.proofs.Common.{◌≡◌, ℕ, List, [], ◌++◌, take, drop, Option, None, Some, IfSome, refl, sym, ◌∙◌, ap, append_assoc}
 use Rattle.std.proofs.lemmas.List.{take-append-drop, append-nil}
 use Rattle.mg_edge.specs.declared.source.Got.TheVariants.{Bytes, End, Failed}
-use Rattle.mg_edge.specs.declared.sink.Put.TheVariants.{Took, Failed as PutFailed}
+use Rattle.mg_edge.specs.declared.sink.Put.TheVariants.{Took}
 use Rattle.mg_edge.specs.Edge.{ReadTakes, WriteAppends}
 use Rattle.mg_edge.specs.Runs.{Gave, TookAll}
 

@@ -118,9 +118,3 @@ abbrev pub KeepsFailedName : Option (List ℕ) → Option (List ℕ) → Loaded 
 KeepsFailedName before now (LoadedBytes bytes) name = now ≡ before
 KeepsFailedName before now LoadFailed name = now ≡ Some name
 KeepsFailedName before now OutOfMemory name = now ≡ before
-
--- The first bytes of a content, as many as a load gives, or want of memory.
-abbrev pub IsFrontOf : List ℕ → Loaded → Type 0
-IsFrontOf content (LoadedBytes bytes) = bytes.items ≡ take most_loaded content
-IsFrontOf content LoadFailed = ⊥
-IsFrontOf content OutOfMemory = ⊤

@@ -54,6 +54,12 @@ LooksUp fails content (Bytes bytes) = (fails ≡ false) × (option_map (λ all. 
 LooksUp fails content Failed = (fails ≡ true) ⊎ (content ≡ None)
 LooksUp fails content OutOfMemory = ⊤
 
+-- The first bytes of a content, as many as a load gives, or want of memory.
+abbrev pub IsFrontOf : List ℕ → Loaded → Type 0
+IsFrontOf content (Bytes bytes) = bytes.items ≡ take most_loaded content
+IsFrontOf content Failed = ⊥
+IsFrontOf content OutOfMemory = ⊤
+
 -- The count of faults rises by one at a load that fails, and at no other.
 abbrev pub CountsFault : MemoryStore → MemoryStore → Loaded → Type 0
 CountsFault old new (Bytes bytes) = store_faults new ≡ store_faults old
