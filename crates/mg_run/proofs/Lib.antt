@@ -3,3 +3,5 @@ pub mod Text
 pub mod Taking
 pub mod Parts
 pub mod Standing
+pub mod Flowing
+pub mod Pouring

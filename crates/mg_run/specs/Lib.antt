@@ -4,3 +4,6 @@ pub mod Accepted
 pub mod Output
 pub mod Answer
 pub mod Feed
+pub mod Devices
+pub mod Pouring
+pub mod Poured

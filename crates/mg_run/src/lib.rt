@@ -4,6 +4,8 @@
 
 mod feed;
 mod line_fault;
+mod pour;
+mod put;
 mod reading;
 mod status;
 mod write_line;
