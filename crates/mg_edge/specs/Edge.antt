@@ -22,11 +22,6 @@ Steady before now = (before ≤ now) × (now < 2 ^ 64 - 1 → now ≡ before)
 abbrev pub one_more : ℕ → ℕ
 one_more count = min (count + 1) (2 ^ 64 - 1)
 
--- What was told stays the same, and stays told.
-abbrev pub Stays : {T : Type 0} → Option T → Option T → Type 0
-Stays None now = ⊤
-Stays (Some x) now = now ≡ Some x
-
 -- A count that is told rises by one, and stays told.
 abbrev pub CountsOne : Option ℕ → Option ℕ → Type 0
 CountsOne None now = ⊤
@@ -44,7 +39,8 @@ GivesWithin Failed room = ⊤
 -- them, or finds that none is left, or fails and takes nothing.
 abbrev pub ReadTakes : Option (List ℕ) → Option (List ℕ) → Got → List ℕ → Type 0
 ReadTakes None now got buf = ⊤
-ReadTakes (Some left) now (Bytes n) buf = (n ≤ length left) × (take n buf ≡ take n left) × (now ≡ Some (drop n left))
+ReadTakes (Some left) now (Bytes n) buf =
+    (n ≤ length left) × (take n buf ≡ take n left) × (now ≡ Some (drop n left))
 ReadTakes (Some left) now End buf = (left ≡ []) × (now ≡ Some [])
 ReadTakes (Some left) now Failed buf = now ≡ Some left
 

@@ -1,5 +1,5 @@
 -- The objects in memory, as their contracts see them, and what each call answers and leaves.
-use Rattle.std.specs.Prelude.{◌≡◌, ◌<◌, ◌≤◌, ℕ, ◌-◌, min, Bool, false, List, ◌++◌, length, take, drop, ◌||◌, ◌==◌, nat_le, if◌then◌else◌, Option, None, Some}
+use Rattle.std.specs.Prelude.{◌≡◌, ◌<◌, ◌≤◌, ℕ, ◌-◌, min, Bool, false, List, [], ◌++◌, length, take, drop, ◌||◌, ◌==◌, nat_le, if◌then◌else◌, Option, None, Some}
 use Rattle.mg_edge.specs.declared.source.Got.{Got}
 use Rattle.mg_edge.specs.declared.source.Got.TheVariants.{Bytes, End, Failed}
 use Rattle.mg_edge.specs.declared.sink.Put.{Put}
@@ -17,6 +17,11 @@ pub record SourceState : Type 0 where
   pub failing : List ℕ
   pub reads : ℕ
   pub ends : ℕ
+
+-- A source of which nothing was read yet.
+abbrev pub whole_source : List ℕ → ℕ → List ℕ → SourceState
+whole_source bytes piece failing =
+    record { left = bytes; piece = piece; failing = failing; reads = 0; ends = 0 }
 
 -- How many reads failed.
 abbrev pub source_faults : SourceState → ℕ
@@ -45,6 +50,12 @@ pub record SinkState : Type 0 where
   pub failing : List ℕ
   pub writes : ℕ
   pub full_from : Option ℕ
+
+-- A sink that has taken nothing yet. Where it has no room at all, none is left from the first write on.
+abbrev pub empty_sink : ℕ → List ℕ → SinkState
+empty_sink room failing =
+    let full_from = if room == 0 then Some 0 else None in
+    record { taken = []; room = room; failing = failing; writes = 0; full_from = full_from }
 
 -- Whether a number is at the place where the room ended, or past it.
 abbrev pub is_full_at : Option ℕ → ℕ → Bool

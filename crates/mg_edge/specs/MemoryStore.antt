@@ -9,10 +9,11 @@ use Rattle.mg_edge.specs.declared.store.Loaded.{Loaded}
 use Rattle.mg_edge.specs.declared.store.Loaded.TheVariants.{Bytes, Failed, OutOfMemory}
 use Rattle.mg_edge.specs.Edge.{most_loaded, one_more}
 
--- The content of a name, if it is there.
+-- The content of a name in a map, if it is there.
 abbrev pub content_at : BTreeMap (String Global) (Vec ℕ Global) → List ℕ → Option (List ℕ)
 content_at contents name = option_map (λ content. content.items) (get_by_text contents name)
 
+-- The content of a name in a store, if it is there.
 abbrev pub stored : MemoryStore → List ℕ → Option (List ℕ)
 stored store name = content_at store.contents name
 
@@ -44,13 +45,16 @@ NextFails store name = (failing_load store ≡ Some (loads_made store)) ⊎ (sto
 
 -- What a load answers beside want of memory: it fails where it is to, and else gives the content's first bytes.
 abbrev pub AnswersLoad : MemoryStore → List ℕ → Loaded → Type 0
-AnswersLoad store name (Bytes bytes) = (failing_load store ≢ Some (loads_made store)) × (option_map (λ all. take most_loaded all) (stored store name) ≡ Some bytes.items)
+AnswersLoad store name (Bytes bytes) =
+    (failing_load store ≢ Some (loads_made store))
+    × (option_map (λ all. take most_loaded all) (stored store name) ≡ Some bytes.items)
 AnswersLoad store name Failed = NextFails store name
 AnswersLoad store name OutOfMemory = ⊤
 
 -- The same by whether the load is to fail and by the content.
 abbrev pub LooksUp : Bool → Option (List ℕ) → Loaded → Type 0
-LooksUp fails content (Bytes bytes) = (fails ≡ false) × (option_map (λ all. take most_loaded all) content ≡ Some bytes.items)
+LooksUp fails content (Bytes bytes) =
+    (fails ≡ false) × (option_map (λ all. take most_loaded all) content ≡ Some bytes.items)
 LooksUp fails content Failed = (fails ≡ true) ⊎ (content ≡ None)
 LooksUp fails content OutOfMemory = ⊤
 

@@ -4,6 +4,7 @@
 #![tactic(auto)]
 
 mod folder_store;
+pub mod laws;
 mod memory_sink;
 mod memory_source;
 mod memory_store;
@@ -22,6 +23,9 @@ pub use sink::{Put, Sink};
 pub use source::{Got, Source};
 pub use store::{Loaded, MOST_LOADED, Store};
 pub use writer_sink::WriterSink;
+
+/// How often a call that a signal interrupted is tried again before it counts as failed.
+const MOST_INTERRUPTIONS: u32 = 1000;
 
 #[cfg(test)]
 mod tests;

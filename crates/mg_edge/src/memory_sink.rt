@@ -1,6 +1,6 @@
-ghost use Rattle.std.specs.Prelude.{◌≡◌, ◌<◌, [], length, IfOk, Some, None, ◌==◌, if◌then◌else◌};
+ghost use Rattle.std.specs.Prelude.{◌≡◌, ◌<◌, length, IfOk, Some};
 ghost use Rattle.mg_edge.specs.Edge.{TakesWithin, WriteAppends, WriteFaultCounts};
-ghost use Rattle.mg_edge.specs.InMemory.{SinkState, sink_faults, next_put, after_put};
+ghost use Rattle.mg_edge.specs.InMemory.{SinkState, empty_sink, sink_faults, next_put, after_put};
 
 use crate::{Put, Sink};
 use std::alloc::{AllocError, Global};
@@ -24,7 +24,13 @@ impl Model for MemorySink {
 
     ghost Value = { SinkState };
 
-    ghost view = { λ s. record { taken = s.taken.items; room = s.room; failing = s.failing.items; writes = s.writes; full_from = s.full_from } };
+    ghost view = { λ s. record {
+      taken = s.taken.items;
+      room = s.room;
+      failing = s.failing.items;
+      writes = s.writes;
+      full_from = s.full_from;
+    } };
 
     ghost invariant = { λ s. KnowsItsRoom s.taken.items s.room s.writes s.full_from × (s.room ≤ vec_capacity s.taken) };
 }
@@ -33,7 +39,7 @@ impl MemorySink {
     /// An empty sink that has taken memory for `room` bytes. The writes whose numbers are in `failing` fail, counted
     /// from 0.
     pub fn new(alloc: Global, room: usize, failing: &[u64]) -> Result<MemorySink, AllocError>
-        ensures { IfOk result (λ sink. sink ≡ record { taken = []; room = room; failing = failing.now; writes = 0; full_from = (if room == 0 then Some 0 else None) }) }
+        ensures { IfOk result (λ sink. sink ≡ empty_sink room failing.now) }
     {
         Ok(MemorySink {
             taken: Vec::with_capacity(alloc, room)?,

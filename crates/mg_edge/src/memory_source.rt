@@ -1,6 +1,6 @@
 ghost use Rattle.std.specs.Prelude.{◌≡◌, ◌<◌, ◌≤◌, length, take, IfOk, Some};
 ghost use Rattle.mg_edge.specs.Edge.{GivesWithin, ReadTakes, CountsOne, EndCounts, ReadFaultCounts};
-ghost use Rattle.mg_edge.specs.InMemory.{SourceState, source_faults, next_got, after_got};
+ghost use Rattle.mg_edge.specs.InMemory.{SourceState, whole_source, source_faults, next_got, after_got};
 
 use crate::{Got, Source};
 use std::alloc::{AllocError, Global};
@@ -24,7 +24,13 @@ impl Model for MemorySource {
 
     ghost Value = { SourceState };
 
-    ghost view = { λ s. record { left = drop s.at s.bytes.items; piece = s.piece; failing = s.failing.items; reads = s.reads; ends = s.ends } };
+    ghost view = { λ s. record {
+      left = drop s.at s.bytes.items;
+      piece = s.piece;
+      failing = s.failing.items;
+      reads = s.reads;
+      ends = s.ends;
+    } };
 
     ghost invariant = { λ s. (s.at ≤ vec_len s.bytes) × (1 ≤ s.piece) };
 }
@@ -39,7 +45,7 @@ impl MemorySource {
         failing: &[u64],
     ) -> Result<MemorySource, AllocError>
         requires { 1 ≤ piece }
-        ensures { IfOk result (λ source. source ≡ record { left = bytes.now; piece = piece; failing = failing.now; reads = 0; ends = 0 }) }
+        ensures { IfOk result (λ source. source ≡ whole_source bytes.now piece failing.now) }
     {
         Ok(MemorySource {
             bytes: bytes.to_vec(alloc)?,

@@ -1,7 +1,8 @@
 ghost use Rattle.std.specs.Prelude.{◌≡◌, ◌≢◌, ℕ, List, None, Some, OnOk, OnErr};
 ghost use Rattle.std.specs.Option.{option_map};
 ghost use Rattle.mg_edge.specs.Edge.{LoadsWithin, LoadGives, LoadFaultCounts, KeepsFailedName, one_more};
-ghost use Rattle.mg_edge.specs.MemoryStore.{stored, failing_load, loads_made, last_failed, store_faults, KeepsCalls, AnswersLoad, CountsFault, LooksUp, IsFrontOf, content_at};
+ghost use Rattle.mg_edge.specs.MemoryStore.{stored, failing_load, loads_made, last_failed, store_faults, content_at};
+ghost use Rattle.mg_edge.specs.MemoryStore.{KeepsCalls, AnswersLoad, CountsFault, LooksUp, IsFrontOf};
 
 use crate::{Loaded, MOST_LOADED, Store};
 use std::alloc::{AllocError, Global};

@@ -2,12 +2,9 @@ ghost use Rattle.std.specs.Prelude.{◌≡◌, ℕ, List, Option, None};
 ghost use Rattle.std.specs.Io.{ReadsAtMost};
 ghost use Rattle.std.specs.Io.KnownBytes.{ReadConsumes};
 
-use crate::{Got, Source};
+use crate::{Got, MOST_INTERRUPTIONS, Source};
 use std::io;
 use std::io::{ErrorKind, Read};
-
-/// How often a read that a signal interrupted is tried again before it counts as failed.
-const MOST_INTERRUPTIONS: u32 = 1000;
 
 /// A reader of the standard library as a source. Whether a file or a terminal gives what is in it is trusted: the
 /// source tells what the reader tells, and over those that is nothing.

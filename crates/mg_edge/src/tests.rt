@@ -146,6 +146,7 @@ fn a_load_gives_the_front_of_a_long_content(rt: HostRuntime) -> Result<(), Fail>
         given_len(&folder.load(rt.alloc(), "long")),
         Some(4_194_305)
     );
+    fs::remove_file(&rt, "long")?;
     Ok(())
 }
 
@@ -156,6 +157,7 @@ fn a_folder_gives_its_files(rt: HostRuntime) -> Result<(), Fail> {
     assert!(rt; gives(&folder.load(rt.alloc(), "graph"), b"bytes"));
     assert!(rt; is_failed(&folder.load(rt.alloc(), "missing")));
     assert!(rt; is_failed(&folder.load(rt.alloc(), ".")));
+    fs::remove_file(&rt, "graph")?;
     Ok(())
 }
 

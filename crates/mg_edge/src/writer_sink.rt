@@ -2,12 +2,9 @@ ghost use Rattle.std.specs.Prelude.{◌≡◌, ℕ, List, Option};
 ghost use Rattle.std.specs.Io.{WritesAtMost};
 ghost use Rattle.std.specs.Io.KnownBytes.{WriteAppends};
 
-use crate::{Put, Sink};
+use crate::{MOST_INTERRUPTIONS, Put, Sink};
 use std::io;
 use std::io::{ErrorKind, Write};
-
-/// How often a write that a signal interrupted is tried again before it counts as failed.
-const MOST_INTERRUPTIONS: u32 = 1000;
 
 /// A writer of the standard library as a sink. It keeps nothing back: each piece is handed to the writer in the call
 /// that it came with, so hand in large pieces, and a writer that has no buffer of its own, as files and standard

@@ -1,0 +1,30 @@
+//! Laws of several calls in a row, over the definitions alone.
+ghost use Rattle.std.specs.Prelude.{◌≡◌, ℕ, List, Option, ◌++◌, take, IfSome};
+ghost use Rattle.mg_edge.specs.declared.source.Got.TheVariants.{Bytes, End, Failed};
+ghost use Rattle.mg_edge.specs.declared.sink.Put.TheVariants.{Took};
+ghost use Rattle.mg_edge.specs.Edge.{ReadTakes, WriteAppends};
+ghost use Rattle.mg_edge.specs.Runs.{Gave, TookAll};
+
+/// A read after others gives the bytes behind theirs.
+pub fn reads_give_in_order()
+    ensures { (first before now : Option (List ℕ)) (bytes buf : List ℕ) (n : ℕ)
+        → Gave first before bytes → ReadTakes before now (Bytes n) buf → Gave first now (bytes ++ take n buf) }
+{}
+
+/// A read that fails after others loses none of the bytes.
+pub fn a_failed_read_loses_nothing()
+    ensures { (first before now : Option (List ℕ)) (bytes buf : List ℕ)
+        → Gave first before bytes → ReadTakes before now Failed buf → Gave first now bytes }
+{}
+
+/// Where the end is reached, the reads gave all the bytes.
+pub fn reads_to_the_end_give_all()
+    ensures { (first before now : Option (List ℕ)) (bytes buf : List ℕ)
+        → Gave first before bytes → ReadTakes before now End buf → IfSome first (λ all. bytes ≡ all) }
+{}
+
+/// A write after others appends to what they took.
+pub fn writes_append_in_order()
+    ensures { (first before now : Option (List ℕ)) (bytes piece : List ℕ) (n : ℕ)
+        → TookAll first before bytes → WriteAppends before now (Took n) piece → TookAll first now (bytes ++ take n piece) }
+{}
