@@ -26,6 +26,10 @@ pub record IsLike {X : Type 0} (q r : Waiting X) : Type 0 where
   pub packets : q.packets ≡ r.packets
   pub bound : q.bound ≡ r.bound
 
+-- a queue to which nothing came yet
+abbrev pub empty_queue : {X : Type 0} → Waiting X
+empty_queue = record { gone = 0; packets = []; bound = pre_stream; spare = 0 }
+
 -- a queue stands for a prefix of its stream: as many first packets of the prefix as are gone, then the packets that
 -- wait, and the bound
 pub record StandsFor {X : Type 0} (q : Waiting X) (s : StreamPrefix X) : Type 0 where

@@ -2,7 +2,7 @@ ghost use Rattle.std.specs.Prelude.{◌≡◌, ◌≢◌, Some, IfNone, ◌<◌,
 ghost use Rattle.mg_time.specs.Time.{pre_stream, post_stream, done, IsAllowed};
 ghost use Rattle.mg_value.specs.Payload.{Plain};
 ghost use Rattle.mg_value.specs.Prefix.{StreamPrefix, IsPrefix, empty_prefix, appended, raised, closed};
-ghost use Rattle.mg_stream.specs.Queue.{StandsFor, IsLike, MayCome, count_of, rest_of, with_packet, raised_to, first_at, popped_at};
+ghost use Rattle.mg_stream.specs.Queue.{StandsFor, IsLike, empty_queue, MayCome, count_of, rest_of, with_packet, raised_to, first_at, popped_at};
 
 use crate::{Refused, StreamFault};
 use mg_time::Timestamp;
@@ -36,7 +36,7 @@ impl Model for Queue {
 impl Queue {
     /// A queue to which nothing came yet. It takes no memory.
     pub fn new(alloc: Global) -> Queue
-        ensures nothing { result ≡ record { gone = 0; packets = []; bound = pre_stream; spare = result.spare } }
+        ensures empty { IsLike result empty_queue }
         ensures stands { StandsFor result empty_prefix }
     {
         Queue {

@@ -1,5 +1,7 @@
 -- What is left when the first settled sets are gone: the other settled sets.
-use Rattle.std.proofs.Common.{◌≡◌, ℕ, zero, suc, ◌<◌, true, false, not, inl, inr, List, [], ◌∷◌, map, take, drop, filter, Option, ap, ap₂, sym, refl, ◌∙◌, eqb, eqb-true}
+use Rattle.std.proofs.Common.{◌≡◌, ℕ, zero, suc, ◌<◌, true, false, not, inl, inr, List, [], ◌∷◌, map, take, drop, filter, Option, ap, ap₂, sym, refl, ◌∙◌, eqb, eqb-true, ◌++◌, ◌+◌, ◌||◌}
+use Rattle.std.proofs.Math.Seq.{take-add}
+use Rattle.std.proofs.lemmas.List.Folds.{list_any-append}
 use Rattle.std.proofs.lemmas.Bool.{cases_Bool, false≢true}
 use Rattle.mg_value.specs.Prefix.{Stamped, StreamPrefix}
 use Rattle.mg_value.specs.Settled.{low, times_of, all_times, settled_times, settled_sets, packet_at, set_at, TimedSet, is_among, without, after_sets}
@@ -97,3 +99,46 @@ settled_sets-after_sets {X} k ss =
     let out : is_among gone t ≡ false = is_among-false t gone (not-In-take 0 t k times (settled_rises ss) i) in
     ap (λ (set : List (Option (Stamped X))). (let it : TimedSet X = record { at = t; set = set } in it)) (set_at-without gone t ss out))) in
     ap (λ (ts : List ℕ). map (set_of (after_sets k ss)) ts) (settled_times-after_sets k ss) ∙ same ∙ map-drop (set_of ss) k times
+
+-- leaving out some times and then others is leaving out both
+is_among-append : (t : ℕ) (ts us : List ℕ) → is_among (ts ++ us) t ≡ (is_among ts t || is_among us t)
+is_among-append t ts us = list_any-append (λ u. eqb u t) ts us
+
+left_of-left_of : {X : Type 0} (ts us : List ℕ) (ps : List (Stamped X)) → left_of us (left_of ts ps) ≡ left_of (ts ++ us) ps
+left_of-left_of ts us [] = refl
+left_of-left_of {X} ts us (p ∷ ps) = elim (cases_Bool (is_among ts p.at)) [
+  | inl gone ↦ rw (is_among-append p.at ts us, gone) (left_of-left_of ts us ps)
+  | inr stays ↦ rw (is_among-append p.at ts us, stays) (elim (cases_Bool (is_among us p.at)) [
+    | inl gone ↦ rw gone (left_of-left_of ts us ps)
+    | inr too ↦ rw too (ap (λ (rest : List (Stamped X)). p ∷ rest) (left_of-left_of ts us ps))
+  ])
+]
+
+without-without : {X : Type 0} (ts us : List ℕ) (ss : List (StreamPrefix X)) → map (without us) (map (without ts) ss) ≡ map (without (ts ++ us)) ss
+without-without ts us [] = refl
+without-without {X} ts us (s ∷ ss) = ap₂ (λ (first : StreamPrefix X) (rest : List (StreamPrefix X)). first ∷ rest)
+    (ap (λ (ps : List (Stamped X)). (let it : StreamPrefix X = record { packets = ps; bound = s.bound } in it)) (left_of-left_of ts us s.packets))
+    (without-without ts us ss)
+
+-- one more set gone
+pub after_sets-more : {X : Type 0} (k : ℕ) (ss : List (StreamPrefix X)) → after_sets 1 (after_sets k ss) ≡ after_sets (k + 1) ss
+after_sets-more k ss =
+    ap (λ (ts : List ℕ). map (without (take 1 ts)) (after_sets k ss)) (settled_times-after_sets k ss)
+    ∙ without-without (take k (settled_times ss)) (take 1 (drop k (settled_times ss))) ss
+    ∙ ap (λ (ts : List ℕ). map (without ts) ss) (sym (take-add k 1 (settled_times ss)))
+
+-- nothing is gone after no set
+pub after_sets-none : {X : Type 0} (ss : List (StreamPrefix X)) → after_sets 0 ss ≡ ss
+after_sets-none [] = refl
+after_sets-none {X} (s ∷ ss) = ap₂ (λ (first : StreamPrefix X) (rest : List (StreamPrefix X)). first ∷ rest)
+    (ap (λ (ps : List (Stamped X)). (let it : StreamPrefix X = record { packets = ps; bound = s.bound } in it)) (all s.packets))
+    (others ss)
+  where
+    all : (ps : List (Stamped X)) → left_of [] ps ≡ ps
+    all [] = refl
+    all (p ∷ ps) = ap (λ (rest : List (Stamped X)). p ∷ rest) (all ps)
+
+    others : (rs : List (StreamPrefix X)) → map (without []) rs ≡ rs
+    others [] = refl
+    others (r ∷ rs) = ap₂ (λ (first : StreamPrefix X) (rest : List (StreamPrefix X)). first ∷ rest)
+        (ap (λ (ps : List (Stamped X)). (let it : StreamPrefix X = record { packets = ps; bound = r.bound } in it)) (all r.packets)) (others rs)

@@ -1,0 +1,11 @@
+//! The default input policy: which input set a node is shown next, or why there is none.
+//! Answers to the definitions of `specs/Inbox.antt`.
+#![tactic(auto)]
+
+mod inbox;
+mod looks;
+mod next_set;
+mod readiness;
+
+pub use inbox::Inbox;
+pub use readiness::Readiness;
