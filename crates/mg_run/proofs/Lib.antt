@@ -5,3 +5,4 @@ pub mod Parts
 pub mod Standing
 pub mod Flowing
 pub mod Pouring
+pub mod Finishing

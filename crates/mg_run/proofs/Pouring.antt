@@ -41,15 +41,21 @@ output-grows xs ys =
     let more = lines-grow (stream_of xs) ys in
     (more.0, ap (λ (s : StreamPrefix Plain). text_of s.packets) (fold-append (λ s line. with_said s (reading line)) empty_prefix xs ys) ∙ more.1)
 
--- While no line is refused, what was handed on is a front of the text of the whole input.
-pub front-of-holds : (came sent more : List ℕ) (feed : Feed) → Holds came sent feed → IsFront sent (output_of (accepted (all_lines (came ++ more))))
-front-of-holds came sent more feed holds =
+-- While no line is refused, the text of the whole lines is a front of that of the whole input.
+pub text-of-holds : (came sent more : List ℕ) (feed : Feed) → Holds came sent feed → IsFront (output_of (whole_lines came)) (output_of (accepted (all_lines (came ++ more))))
+text-of-holds came sent more feed holds =
     let later = but_empty_last (glued (rest_of came) (parts more)) in
     let lines : accepted (all_lines (came ++ more)) ≡ whole_lines came ++ accepted_after (whole_lines came) later =
     ap accepted (all_lines-append came more) ∙ accepted-good [] (whole_lines came) later holds.took.good in
-    let grown = output-grows (whole_lines came) (accepted_after (whole_lines came) later) in (
+    let grown = output-grows (whole_lines came) (accepted_after (whole_lines came) later) in
+    (grown.0, ap output_of lines ∙ grown.1)
+
+-- So is what was handed on.
+pub front-of-holds : (came sent more : List ℕ) (feed : Feed) → Holds came sent feed → IsFront sent (output_of (accepted (all_lines (came ++ more))))
+front-of-holds came sent more feed holds =
+    let grown = text-of-holds came sent more feed holds in (
       feed.text.items ++ grown.0,
-      ap output_of lines ∙ grown.1 ∙ ap (λ t. t ++ grown.0) (sym holds.took.text) ∙ append_assoc sent feed.text.items grown.0,
+      grown.1 ∙ ap (λ t. t ++ grown.0) (sym holds.took.text) ∙ append_assoc sent feed.text.items grown.0,
     )
 
 -- the feed with its text handed on

@@ -7,3 +7,5 @@ pub mod Feed
 pub mod Devices
 pub mod Pouring
 pub mod Poured
+pub mod Outcome
+pub mod Ended

@@ -4,10 +4,13 @@
 
 mod feed;
 mod line_fault;
+mod note;
 mod pour;
 mod put;
 mod reading;
+mod run;
 mod status;
+mod words;
 mod write_line;
 
 pub use line_fault::LineFault;

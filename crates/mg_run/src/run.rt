@@ -1,0 +1,60 @@
+ghost use Rattle.std.specs.Prelude.{◌≡◌, IfOk};
+ghost use Rattle.mg_run.specs.Ended.{said_of, ended_as};
+ghost use Rattle.mg_run.specs.Outcome.{told, Ran};
+
+use crate::Status;
+use crate::feed::Feed;
+use crate::note::{line_note, read_note};
+use crate::pour::{Poured, pour};
+use crate::put::{flush, put_all};
+use mg_edge::{Sink, Source};
+use std::alloc::{AllocError, Global};
+
+/// Runs the graph of one pass-through over the input.
+pub fn run_pass_through<S: Source, K: Sink, E: Sink>(
+    alloc: Global,
+    input: &mut S,
+    output: &mut K,
+    notes: &mut E,
+) -> Status
+    ensures { Ran result
+        (told (S.left input.old) (S.left input.new) (S.faults input.old) (S.faults input.new))
+        (told (K.taken output.old) (K.taken output.new) (K.faults output.old) (K.faults output.new))
+        (told (E.taken notes.old) (E.taken notes.new) (E.faults notes.old) (E.faults notes.new)) }
+{
+    let mut feed = Feed::new(alloc);
+    let mut failed = false;
+    let Ok(poured) = pour(alloc, input, output, &mut feed, &mut failed) else {
+        return Status::OutOfMemory;
+    };
+    flush(output, &mut feed.text, &mut failed);
+    let Ok(note) = note_of(alloc, poured, &feed) else {
+        return Status::OutOfMemory;
+    };
+    if !put_all(notes, &note) || failed {
+        return Status::WriteFault;
+    }
+    status_of(poured, &feed)
+}
+
+// What the notes say of a run.
+fn note_of(alloc: Global, poured: Poured, feed: &Feed) -> Result<Vec<u8>, AllocError>
+    ensures { IfOk result (λ v. v.items ≡ said_of poured feed.now) }
+{
+    match (poured, feed.refused) {
+        (Poured::Part, _) => read_note(alloc, feed.lines),
+        (_, Some(fault)) => line_note(alloc, feed.lines + 1, fault),
+        (_, None) => Ok(Vec::new(alloc)),
+    }
+}
+
+// How a run ended whose texts were written.
+fn status_of(poured: Poured, feed: &Feed) -> Status
+    ensures { result ≡ ended_as poured feed.now }
+{
+    match (poured, feed.refused) {
+        (Poured::Part, _) => Status::ReadFault,
+        (_, Some(_)) => Status::LineRefused,
+        (_, None) => Status::Good,
+    }
+}
