@@ -6,3 +6,4 @@ pub mod Standing
 pub mod Flowing
 pub mod Pouring
 pub mod Finishing
+pub mod Calling

@@ -9,3 +9,4 @@ pub mod Pouring
 pub mod Poured
 pub mod Outcome
 pub mod Ended
+pub mod Call

@@ -2,6 +2,7 @@
 //! Answers to the definitions of `specs/Answer.antt`.
 #![tactic(auto)]
 
+mod call;
 mod feed;
 mod line_fault;
 mod note;
@@ -13,5 +14,6 @@ mod status;
 mod words;
 mod write_line;
 
+pub use call::run_words;
 pub use line_fault::LineFault;
 pub use status::Status;

@@ -1,0 +1,101 @@
+ghost use Rattle.std.specs.Prelude.{◌≡◌, ◌≢◌, ◌↔◌, ◌⊎◌, ◌∷◌, [], None, Some, IfSome};
+ghost use Rattle.mg_run.specs.Answer.{command, answer, usage_note};
+ghost use Rattle.mg_run.specs.Devices.{HasRisen};
+ghost use Rattle.mg_run.specs.Outcome.{told, Untouched, Noted, Answers};
+ghost use Rattle.mg_run.specs.Call.{Called, IfThere, Unrisen, IsOneOf};
+
+use crate::Status;
+use crate::note::store_note;
+use crate::put::put_all;
+use crate::run::run_pass_through;
+use crate::words::{USAGE, command, is_pass_through};
+use mg_edge::{Loaded, Sink, Source, Store};
+use mg_value::MgText;
+use std::alloc::Global;
+
+/// The note for a graph that isn't run so far.
+const NOT_YET: &[u8] = b"refused: NotYet\n";
+
+/// Does what the words of a command line say, and answers the status to exit with.
+pub fn run_words<S: Source, K: Sink, E: Sink, T: Store>(
+    alloc: Global,
+    words: &[MgText],
+    store: &mut T,
+    input: &mut S,
+    output: &mut K,
+    notes: &mut E,
+) -> Status
+    // The words are judged first, and no device matters to it.
+    ensures usage { (result ≡ Status.Usage) ↔ (command words.now ≡ None) }
+    ensures usage_note { command words.now ≡ None
+        → Noted (told (E.taken notes.old) (E.taken notes.new) (E.faults notes.old) (E.faults notes.new)) usage_note
+        × Untouched (told (S.left input.old) (S.left input.new) (S.faults input.old) (S.faults input.new))
+        × Untouched (told (K.taken output.old) (K.taken output.new) (K.faults output.old) (K.faults output.new)) }
+
+    // What each other status means.
+    ensures called { IfSome (command words.now) (λ file. Called result
+        file (T.content store.old file) (T.failed_name store.new) (T.faults store.old) (T.faults store.new)
+        (told (S.left input.old) (S.left input.new) (S.faults input.old) (S.faults input.new))
+        (told (K.taken output.old) (K.taken output.new) (K.faults output.old) (K.faults output.new))
+        (told (E.taken notes.old) (E.taken notes.new) (E.faults notes.old) (E.faults notes.new))) }
+
+    // No device failed and memory was had: the output's text, the notes and the status are those of the answer to
+    // the file's bytes and the input's.
+    ensures answered { IfSome (command words.now) (λ file.
+        Unrisen (T.faults store.old) (T.faults store.new) → Unrisen (S.faults input.old) (S.faults input.new)
+        → Unrisen (K.faults output.old) (K.faults output.new) → Unrisen (E.faults notes.old) (E.faults notes.new)
+        → result ≢ Status.OutOfMemory
+        → IfThere (T.content store.old file) (λ bytes. IfSome (S.left input.old) (λ read. Answers (answer bytes read) result
+        (told (K.taken output.old) (K.taken output.new) (K.faults output.old) (K.faults output.new))
+        (told (E.taken notes.old) (E.taken notes.new) (E.faults notes.old) (E.faults notes.new))))) }
+
+    // No fault of a device hides behind another status.
+    ensures store_rose { HasRisen (T.faults store.old) (T.faults store.new)
+        → IsOneOf result (Status.StoreFault ∷ Status.OutOfMemory ∷ []) }
+    ensures read_rose { HasRisen (S.faults input.old) (S.faults input.new)
+        → IsOneOf result (Status.ReadFault ∷ Status.WriteFault ∷ Status.OutOfMemory ∷ []) }
+    ensures write_rose { HasRisen (K.faults output.old) (K.faults output.new) ⊎ HasRisen (E.faults notes.old) (E.faults notes.new)
+        → IsOneOf result (Status.Usage ∷ Status.StoreFault ∷ Status.GraphRefused ∷ Status.WriteFault ∷ Status.OutOfMemory ∷ []) }
+{
+    match command(words) {
+        Some(file) => run_file(alloc, file, store, input, output, notes),
+        None => {
+            let _ = put_all(notes, USAGE);
+            Status::Usage
+        }
+    }
+}
+
+// Loads the file, and runs its graph.
+fn run_file<S: Source, K: Sink, E: Sink, T: Store>(
+    alloc: Global,
+    file: &str,
+    store: &mut T,
+    input: &mut S,
+    output: &mut K,
+    notes: &mut E,
+) -> Status
+    ensures { Called result
+        file.now (T.content store.old file.now) (T.failed_name store.new) (T.faults store.old) (T.faults store.new)
+        (told (S.left input.old) (S.left input.new) (S.faults input.old) (S.faults input.new))
+        (told (K.taken output.old) (K.taken output.new) (K.faults output.old) (K.faults output.new))
+        (told (E.taken notes.old) (E.taken notes.new) (E.faults notes.old) (E.faults notes.new)) }
+{
+    match store.load(alloc, file) {
+        Loaded::Bytes(content) => {
+            if is_pass_through(&content) {
+                return run_pass_through(alloc, input, output, notes);
+            }
+            let _ = put_all(notes, NOT_YET);
+            Status::GraphRefused
+        }
+        Loaded::Failed => {
+            let Ok(note) = store_note(alloc, file) else {
+                return Status::OutOfMemory;
+            };
+            let _ = put_all(notes, &note);
+            Status::StoreFault
+        }
+        Loaded::OutOfMemory => Status::OutOfMemory,
+    }
+}
