@@ -4,9 +4,18 @@
 
 mod fault;
 mod grammar;
+mod indexing;
+mod numbering;
+mod places;
+mod port;
+mod port_map;
+mod printing;
 mod reading;
 mod spelling;
 
 pub use fault::NameFault;
+pub use port::Port;
+pub use port_map::PortMap;
+pub use printing::print_port;
 pub use reading::read_port;
 pub use spelling::Spelling;
