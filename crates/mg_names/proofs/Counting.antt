@@ -1,13 +1,12 @@
 -- The ports of texts, one text after another.
-use Rattle.std.proofs.Common.{ℕ, zero, suc, ◌+◌, ◌<◌, ◌≤◌, ◌≡◌, ◌⊎◌, inl, inr, ⊎_elim, if◌then◌else◌, unwrap_or, add-one, drop-cons, List, [], ◌∷◌, ◌++◌, Bool, true, false, Option, None, Some, Result, Ok, Err, length, get_or, take, drop, arith, refl, sym, append_assoc, append-nil, ◌∙◌, ap, rules, nat_lt, map, count_by, eqb}
+use Rattle.std.proofs.Common.{ℕ, ◌+◌, ◌<◌, ◌≤◌, ◌≡◌, ◌⊎◌, inl, inr, ⊎_elim, if◌then◌else◌, unwrap_or, add-one, drop-cons, List, [], ◌∷◌, ◌++◌, Bool, true, false, Option, None, Some, Result, Ok, Err, length, get_or, take, drop, arith, refl, sym, append_assoc, append-nil, ◌∙◌, ap, nat_lt, count_by}
 use Rattle.std.specs.Str.{bytes_eq}
 use Rattle.std.proofs.lemmas.Bool.Decides.{nat_tests}
 use Rattle.std.proofs.lemmas.Bool.{false≢true}
 use Rattle.std.proofs.lemmas.List.{take_more}
 use Rattle.std.proofs.lemmas.List.Sums.{count_by_more_yes, count_by_more_no}
 use Rattle.std.proofs.Math.ListN.{drop_of_length-le}
-use Rattle.std.proofs.lemmas.Grind.{common_steps}
-use Rattle.mg_names.specs.Grammar.{is_name, is_tag, index_of}
+use Rattle.mg_names.specs.Grammar.{is_tag, index_of}
 use Rattle.mg_names.specs.Spelling.{parts_of, spelling_of, spelling_of_parts, named, tagged, named_at, indexed, is_untagged, is_one}
 use Rattle.mg_names.specs.Ports.{after, port_numbered, port_of, port_at, port_after, ports_after}
 use Rattle.mg_names.specs.declared.spelling.Spelling.{Spelling}
@@ -110,9 +109,9 @@ ports_cons before text rest port made read =
     ap (λ r. after (after r (λ p. after (ports_after (before ++ text ∷ []) rest) (λ ports. Ok (p ∷ ports)))) (λ more. Ok (made ++ more))) read
     ∙ joined (ports_after (before ++ text ∷ []) rest) port made
   where
-  joined : (others : Result (List Port) NameFault) (p : Port) (m : List Port) → after (after others (λ ports. Ok (p ∷ ports))) (λ more. Ok (m ++ more)) ≡ after others (λ more. Ok ((m ++ p ∷ []) ++ more))
-  joined (Ok ports) p m = ap Ok (sym (append_assoc m (p ∷ []) ports))
-  joined (Err fault) p m = refl
+    joined : (others : Result (List Port) NameFault) (p : Port) (m : List Port) → after (after others (λ ports. Ok (p ∷ ports))) (λ more. Ok (m ++ more)) ≡ after others (λ more. Ok ((m ++ p ∷ []) ++ more))
+    joined (Ok ports) p m = ap Ok (sym (append_assoc m (p ∷ []) ports))
+    joined (Err fault) p m = refl
 
 ports_cons_refused : (before : List (List ℕ)) (text : List ℕ) (rest : List (List ℕ)) (fault : NameFault) (made : List Port) → port_after before text ≡ Err fault
     → after (ports_after before (text ∷ rest)) (λ more. Ok (made ++ more)) ≡ Err fault

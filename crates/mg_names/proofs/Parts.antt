@@ -1,15 +1,14 @@
 -- Texts cut at their colons, and bytes below 128.
-use Rattle.std.proofs.Common.{ℕ, zero, suc, ◌+◌, ◌-◌, ◌<◌, ◌≤◌, ◌≡◌, List, [], ◌∷◌, Bool, true, false, ◌&&◌, ◌||◌, None, Some, Err, length, get_or, take, drop, arith, refl, sym, ◌∙◌, ap, rules, nat_lt}
+use Rattle.std.proofs.Common.{ℕ, zero, suc, ◌+◌, ◌-◌, ◌<◌, ◌≤◌, ◌≡◌, List, [], ◌∷◌, Bool, true, None, Some, Err, length, take, drop, arith, refl, ◌∙◌, ap}
 use Rattle.std.specs.Prelude.{position, IsUtf8}
-use Rattle.std.specs.List.{list_all, All, position_or_len, before_first, after_first, slice_split}
+use Rattle.std.specs.List.{list_all, position_or_len, slice_split}
 use Rattle.std.specs.Str.{IsAscii}
 use Rattle.std.proofs.lemmas.Bool.Decides.{nat_tests}
 use Rattle.std.proofs.lemmas.Str.{IsUtf8-from_ascii}
 use Rattle.std.proofs.lemmas.List.Splits.{slice_split_none, slice_split_first, length-slice_split}
 use Rattle.std.proofs.lemmas.List.Sums.{fails_before_first}
 use Rattle.std.proofs.lemmas.List.{take_rest, length-drop, drop-drop}
-use Rattle.std.proofs.lemmas.Grind.{common_steps}
-use Rattle.mg_names.specs.Grammar.{is_name, is_tag, begins_name, begins_tag, continues_name, continues_tag}
+use Rattle.mg_names.specs.Grammar.{is_name, is_tag, continues_name, continues_tag}
 use Rattle.mg_names.specs.Spelling.{is_colon, parts_of, spelling_of_parts}
 use Rattle.mg_names.specs.declared.fault.NameFault.TheVariants.{BadName}
 

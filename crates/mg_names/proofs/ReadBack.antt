@@ -1,17 +1,16 @@
 -- The text of a port is read back as the same port.
-use Rattle.std.proofs.Common.{ℕ, zero, suc, ◌+◌, ◌-◌, ◌*◌, ◌/◌, ◌%◌, ◌^◌, ◌<◌, ◌≤◌, ◌≡◌, ◌⊎◌, inl, inr, ⊎_elim, List, [], ◌∷◌, ◌++◌, Bool, true, false, ◌&&◌, ◌||◌, Option, None, Some, Ok, Err, length, get_or, take, drop, arith, refl, sym, append_assoc, ◌∙◌, ap, rules, nat_lt, map, count_by, eqb}
+use Rattle.std.proofs.Common.{ℕ, zero, suc, ◌+◌, ◌*◌, ◌/◌, ◌%◌, ◌<◌, ◌≤◌, ◌≡◌, ◌⊎◌, inl, inr, ⊎_elim, List, [], ◌∷◌, ◌++◌, Bool, true, false, Option, None, Some, Ok, arith, refl, append_assoc, ◌∙◌, ap, nat_lt, count_by, eqb}
 use Rattle.std.specs.Prelude.{IsTrue, unwrap_or}
-use Rattle.std.specs.List.{list_all, All, slice_split}
+use Rattle.std.specs.List.{list_all, All}
 use Rattle.std.specs.Str.{bytes_eq}
 use Rattle.std.specs.Fmt.{decimal}
 use Rattle.std.proofs.lemmas.Bool.{cases_lt}
 use Rattle.std.proofs.lemmas.Bool.Decides.{nat_tests}
 use Rattle.std.proofs.lemmas.Fmt.{decimal_digit, decimal_step}
 use Rattle.std.proofs.lemmas.List.Splits.{slice_split_none, slice_split_at}
-use Rattle.std.proofs.lemmas.Grind.{common_steps}
-use Rattle.mg_names.specs.Grammar.{is_name, is_tag, is_digit, continues_name, continues_tag, index_of, index_count}
-use Rattle.mg_names.specs.Spelling.{is_colon, parts_of, spelling_of, spelling_of_parts, named, tagged, named_at, indexed, is_untagged, is_one}
-use Rattle.mg_names.specs.Ports.{after, port_numbered, port_of, port_after, ports_after, text_of, tagged_text, IsSpelled}
+use Rattle.mg_names.specs.Grammar.{is_name, is_tag, is_digit, continues_name, continues_tag, index_of}
+use Rattle.mg_names.specs.Spelling.{is_colon, parts_of, spelling_of, spelling_of_parts, named, tagged, named_at, indexed, is_untagged}
+use Rattle.mg_names.specs.Ports.{after, port_numbered, port_of, port_after, text_of, tagged_text, IsSpelled}
 use Rattle.mg_names.specs.declared.spelling.Spelling.{Spelling}
 use Rattle.mg_names.specs.declared.port.Port.{Port}
 use Rattle.mg_names.proofs.Parts.{name_continues, tag_continues}
@@ -76,10 +75,10 @@ pub parts_of_indexed : (tag : List ℕ) (index : ℕ) (name : List ℕ) → is_t
     → parts_of ((tag ++ (58 ∷ decimal index)) ++ (58 ∷ name)) ≡ tag ∷ decimal index ∷ name ∷ []
 parts_of_indexed tag index name good_tag small good =
     let tail : parts_of (decimal index ++ (58 ∷ name)) ≡ decimal index ∷ name ∷ [] =
-        slice_split_at is_colon (decimal index) 58 name (no_colon_in_digits (decimal index) (digits_of_index index small)) refl
-        ∙ ap (λ parts. decimal index ∷ parts) (parts_of_name name good) in
+    slice_split_at is_colon (decimal index) 58 name (no_colon_in_digits (decimal index) (digits_of_index index small)) refl
+    ∙ ap (λ parts. decimal index ∷ parts) (parts_of_name name good) in
     let head : parts_of (tag ++ (58 ∷ (decimal index ++ (58 ∷ name)))) ≡ tag ∷ parts_of (decimal index ++ (58 ∷ name)) =
-        slice_split_at is_colon tag 58 (decimal index ++ (58 ∷ name)) (no_colon_in_tag tag good_tag) refl in
+    slice_split_at is_colon tag 58 (decimal index ++ (58 ∷ name)) (no_colon_in_tag tag good_tag) refl in
     ap parts_of (append_assoc tag (58 ∷ decimal index) (58 ∷ name)) ∙ (head ∙ ap (λ parts. tag ∷ parts) tail)
 
 -- their spellings
@@ -98,7 +97,7 @@ spelling_of_indexed : (tag : List ℕ) (index : ℕ) (name : List ℕ) → is_ta
     → spelling_of ((tag ++ (58 ∷ decimal index)) ++ (58 ∷ name)) ≡ Ok (record { tag = tag; index = Some index; name = name })
 spelling_of_indexed tag index name good_tag small good =
     let inner : indexed tag (decimal index) name ≡ Ok (record { tag = tag; index = Some index; name = name }) =
-        rw good_tag (ap (λ spelled. named_at tag spelled name) (index_of-decimal index small) ∙ named_good tag (Some index) name good) in
+    rw good_tag (ap (λ spelled. named_at tag spelled name) (index_of-decimal index small) ∙ named_good tag (Some index) name good) in
     ap spelling_of_parts (parts_of_indexed tag index name good_tag small good) ∙ inner
 
 -- their ports

@@ -1,7 +1,8 @@
-ghost use Rattle.std.specs.Prelude.{◌≡◌, ◌≢◌, ◌<◌, ◌^◌, ◌-◌, ◌==◌, ◌&&◌, not, is_none, ℕ, List, true, false, IfOk, OnOk, OnErr, IfErr, length};
+ghost use Rattle.std.specs.Prelude.{◌≡◌, ◌≢◌, ◌<◌, ◌^◌, ℕ, List, true, false, IfOk, OnOk, OnErr, IfErr, length};
+ghost use Rattle.std.specs.List.{list_any};
 ghost use Rattle.mg_names.specs.Places.{kept_place};
 ghost use Rattle.mg_names.specs.Ports.{stands_twice, place_of};
-ghost use Rattle.mg_names.specs.Ports as specs;
+ghost use Rattle.mg_names.specs.Places as table;
 
 use crate::fault::NameFault;
 use crate::places::Places;
@@ -27,15 +28,14 @@ pub(crate) fn places_of(alloc: Global, ports: &[Port]) -> Result<Places, NameFau
 }
 
 fn lacks_lower(places: &Places, port: &Port) -> bool
-    ensures { result ≡ (not (port.now.index == 0) && is_none (kept_place places.now port.now.tag (port.now.index - 1))) }
+    ensures { result ≡ table.lacks_lower places.now port.now }
 {
     port.index != 0 && places.get(port.tag.as_bytes(), port.index - 1).is_none()
 }
 
-/// Whether a port has an index above 0 while none has its tag and the index below.
-pub(crate) fn has_gap(places: &Places, ports: &[Port]) -> bool
-    requires { (tag : List ℕ) (index : ℕ) → kept_place places.now tag index ≡ place_of tag index ports.now }
-    ensures { result ≡ specs.has_gap ports.now }
+/// Whether a port has an index above 0 while no place is kept of its tag and the index below.
+pub(crate) fn any_lacks_lower(places: &Places, ports: &[Port]) -> bool
+    ensures { result ≡ list_any (table.lacks_lower places.now) ports.now }
 {
     ports.iter().any(|port| lacks_lower(places, port))
 }

@@ -47,7 +47,13 @@ impl Places {
     }
 
     /// Keeps the place of a tag and index.
-    pub fn put(&mut self, alloc: Global, tag: &[u8], index: u8, place: u32) -> Result<(), AllocError>
+    pub fn put(
+        &mut self,
+        alloc: Global,
+        tag: &[u8],
+        index: u8,
+        place: u32,
+    ) -> Result<(), AllocError>
         ensures { OnOk result ((other : List ℕ) (at : ℕ) → kept_place self.new other at ≡ (if bytes_eq other tag.now && (at == index) then Some place else kept_place self.old other at)) }
     {
         match self.tags.get_mut(tag) {

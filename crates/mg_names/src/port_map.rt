@@ -1,7 +1,7 @@
 ghost use Rattle.std.specs.Prelude.{◌≡◌, ◌≢◌, [], IfOk, IfErr, length, slice_get, option_copied, Ok, Err, ◌==◌};
 
 use crate::fault::NameFault;
-use crate::indexing::{has_gap, places_of};
+use crate::indexing::{any_lacks_lower, places_of};
 use crate::numbering::read_ports;
 use crate::places::Places;
 use crate::port::Port;
@@ -52,8 +52,9 @@ impl PortMap {
         ensures err { IfErr result (λ fault. fault ≢ NameFault.OutOfMemory → ports_of texts.now ≡ Err fault) }
     {
         let ports = List::from_vec(read_ports(alloc, texts)?)?;
-        let places = places_of(alloc, ports.as_slice())?;
-        if has_gap(&places, ports.as_slice()) {
+        let slice = ports.as_slice();
+        let places = places_of(alloc, slice)?;
+        if any_lacks_lower(&places, slice) {
             return Err(NameFault::Gap);
         }
         Ok(PortMap { ports, places })
