@@ -24,7 +24,7 @@ named_at_tag tag None name spelling made = cc
 named_at_tag tag (Some index) name spelling made = named_tag tag (Some index) name spelling made
 
 -- where a test refuses, what is answered passed it
-if_ok : {A : Type 0} (test : Bool) (result : Result A NameFault) (fault : NameFault) (value : A) → (if test then result else Err fault) ≡ Ok value → (test ≡ true) × (result ≡ Ok value)
+pub if_ok : {A : Type 0} (test : Bool) (result : Result A NameFault) (fault : NameFault) (value : A) → (if test then result else Err fault) ≡ Ok value → (test ≡ true) × (result ≡ Ok value)
 if_ok true result fault value made = (refl, made)
 if_ok false result fault value made = cc
 
@@ -50,10 +50,10 @@ tag_of_parts (tag ∷ index ∷ name ∷ []) spelling made =
     ap (λ t. bytes_eq t []) known.1 ∙ tag_is_some tag known.0
 tag_of_parts (tag ∷ index ∷ name ∷ other ∷ more) spelling made = cc
 
-abbrev okay : Port → Result Port NameFault
+abbrev pub okay : Port → Result Port NameFault
 okay port = Ok port
 
-numbered_ok : (number : ℕ) (name : List ℕ) (port : Port) → port_numbered number name ≡ Ok port → (number < 64) × (okay (record { tag = []; index = number; name = name }) ≡ okay port)
+pub numbered_ok : (number : ℕ) (name : List ℕ) (port : Port) → port_numbered number name ≡ Ok port → (number < 64) × (okay (record { tag = []; index = number; name = name }) ≡ okay port)
 numbered_ok number name port made =
     let passed = if_ok (nat_lt number 64) (Ok (record { tag = []; index = number; name = name })) BadIndex port made in
     (grind (arith, nat_tests), passed.1)
