@@ -31,7 +31,7 @@ no_colon_in_digits : (bs : List ℕ) → list_all is_digit bs ≡ true → All (
 no_colon_in_digits bs digits = no_colons is_digit (λ byte h. grind (arith, nat_tests)) bs digits
 
 -- an index of one digit or two
-decimal_two : (index : ℕ) → 10 ≤ index → index < 64 → decimal index ≡ (48 + index / 10) ∷ (48 + index % 10) ∷ []
+pub decimal_two : (index : ℕ) → 10 ≤ index → index < 64 → decimal index ≡ (48 + index / 10) ∷ (48 + index % 10) ∷ []
 decimal_two index low high =
     let step : decimal index ≡ decimal (index / 10) ++ ((48 + index % 10) ∷ []) = decimal_step index low (omega arith) in
     let first : decimal (index / 10) ≡ (48 + index / 10) ∷ [] = decimal_digit (index / 10) (omega arith) in

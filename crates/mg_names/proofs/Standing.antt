@@ -39,7 +39,7 @@ eqb_symmetric : (m n : ℕ) → eqb m n ≡ eqb n m
 eqb_symmetric m n = grind (arith, nat_tests)
 
 -- two ports stand at one place in either order
-is_at_symmetric : (first second : Port) → is_at first.tag first.index second ≡ is_at second.tag second.index first
+pub is_at_symmetric : (first second : Port) → is_at first.tag first.index second ≡ is_at second.tag second.index first
 is_at_symmetric first second =
     ap (λ same. same && (first.index == second.index)) (nat_list_eq_equiv.symm first.tag second.tag)
     ∙ ap (λ same. bytes_eq second.tag first.tag && same) (eqb_symmetric first.index second.index)
@@ -79,7 +79,7 @@ both_true : (a b : Bool) → (a && b) ≡ true → (a ≡ true) × (b ≡ true)
 both_true true b both = (refl, both)
 both_true false b both = cc
 
-same_place : (tag : List ℕ) (index : ℕ) (port : Port) → is_at tag index port ≡ true → (tag ≡ port.tag) × (index ≡ port.index)
+pub same_place : (tag : List ℕ) (index : ℕ) (port : Port) → is_at tag index port ≡ true → (tag ≡ port.tag) × (index ≡ port.index)
 same_place tag index port here =
     let parts = both_true (bytes_eq tag port.tag) (index == port.index) here in
     ((bytes_eq-Decides tag port.tag).0 parts.0, eqb-true index port.index parts.1)
