@@ -1,5 +1,5 @@
 -- The ports of texts, and those of their own texts.
-use Rattle.std.proofs.Common.{ℕ, zero, suc, ◌+◌, ◌<◌, ◌≤◌, ◌≡◌, ◌⊎◌, inl, inr, ⊎_elim, List, [], ◌∷◌, ◌++◌, Bool, true, false, ◌==◌, if◌then◌else◌, Option, None, Some, Result, Ok, Err, unwrap_or, length, arith, refl, sym, ◌∙◌, ap, subst, zero-add, map, count_by, nat_lt}
+use Rattle.std.proofs.Common.{Bool, Err, List, None, Ok, Option, Result, Some, [], ap, arith, count_by, false, if◌then◌else◌, inl, inr, map, refl, subst, suc, sym, true, unwrap_or, zero, zero-add, ℕ, ◌++◌, ◌+◌, ◌<◌, ◌∙◌, ◌∷◌, ◌≡◌, ◌⊎◌}
 use Rattle.std.specs.Prelude.{IsTrue}
 use Rattle.std.specs.List.{All}
 use Rattle.std.specs.Str.{bytes_eq}
@@ -7,13 +7,13 @@ use Rattle.std.proofs.lemmas.Bool.{false≢true}
 use Rattle.std.proofs.lemmas.Bool.Decides.{nat_tests}
 use Rattle.std.proofs.lemmas.List.Sums.{sum_by-append}
 use Rattle.mg_names.specs.Grammar.{is_name, is_tag, index_of}
-use Rattle.mg_names.specs.Spelling.{parts_of, spelling_of, spelling_of_parts, named, named_at, is_untagged}
-use Rattle.mg_names.specs.Ports.{after, port_numbered, port_of, port_at, port_after, ports_after, stands_twice, has_gap, checked, ports_of, text_of, IsSpelled}
+use Rattle.mg_names.specs.Spelling.{parts_of, spelling_of_parts, named, named_at, is_untagged}
+use Rattle.mg_names.specs.Ports.{after, port_at, port_after, ports_after, stands_twice, has_gap, checked, ports_of, text_of, IsSpelled}
 use Rattle.mg_names.specs.declared.spelling.Spelling.{Spelling}
 use Rattle.mg_names.specs.declared.fault.NameFault.{NameFault}
-use Rattle.mg_names.specs.declared.fault.NameFault.TheVariants.{BadName, BadTag, BadIndex, Gap, Twice}
+use Rattle.mg_names.specs.declared.fault.NameFault.TheVariants.{BadName, BadTag, Gap, Twice}
 use Rattle.mg_names.specs.declared.port.Port.{Port}
-use Rattle.mg_names.proofs.Counting.{if_ok, numbered_ok, okay, untagged_is_empty}
+use Rattle.mg_names.proofs.Counting.{if_ok, after_ok, comes_from, untagged_is_empty, untagged_has_room}
 use Rattle.mg_names.proofs.ReadBack.{port_read_back}
 
 -- an index is below 64
@@ -34,9 +34,6 @@ spelled_as spelling = Ok spelling
 
 same_spelling : (first second : Spelling) → spelled_as first ≡ spelled_as second → first ≡ second
 same_spelling first second same = cc
-
-same_port : (first second : Port) → okay first ≡ okay second → first ≡ second
-same_port first second same = cc
 
 named_passes : (tag : List ℕ) (index : Option ℕ) (name : List ℕ) (spelling : Spelling) → named tag index name ≡ Ok spelling → (tag ≡ []) ⊎ IsTrue (is_tag tag) → unwrap_or index 0 < 64 → IsGood spelling
 named_passes tag index name spelling made good_tag good_index =
@@ -63,29 +60,26 @@ pub record IsMade (number : ℕ) (port : Port) : Type 0 where
   pub spelled : IsSpelled port
   pub numbered : port.tag ≡ [] → number ≡ port.index
 
-port_passes_by : (test : Bool) (number : ℕ) (spelling : Spelling) (port : Port) → bytes_eq spelling.tag [] ≡ test
-    → (if test then port_numbered number spelling.name else Ok (record { tag = spelling.tag; index = unwrap_or spelling.index 0; name = spelling.name })) ≡ Ok port
-    → IsGood spelling → IsMade number port
-port_passes_by true number spelling port kind made good =
-    let known = numbered_ok number spelling.name port made in
-    subst (IsMade number) (same_port (record { tag = []; index = number; name = spelling.name }) port known.1)
-    (record { spelled = record { tag = inl refl; index = known.0; name = good.name }; numbered = λ _. refl })
-port_passes_by false number spelling port kind made good =
-    subst (IsMade number) (same_port (record { tag = spelling.tag; index = unwrap_or spelling.index 0; name = spelling.name }) port made)
-    (record {
-      spelled = record { tag = good.tag; index = good.index; name = good.name };
-      numbered = λ empty. absurd (false≢true (sym kind ∙ ap (λ tag. bytes_eq tag []) empty))
-    })
+numbered_by : (test : Bool) (number other : ℕ) → test ≡ true → number ≡ (if test then number else other)
+numbered_by true number other empty = refl
+numbered_by false number other empty = absurd (false≢true empty)
 
--- what follows a result that is no refusal
-pub after_ok : {A B : Type 0} (result : Result A NameFault) (next : A → Result B NameFault) (value : B) → after result next ≡ Ok value → (first : A) × (result ≡ Ok first) × (next first ≡ Ok value)
-after_ok (Ok first) next value made = (first, refl, made)
-after_ok (Err fault) next value made = cc
+index_small : (test : Bool) (number other : ℕ) → (test ≡ true → number < 64) → other < 64 → (if test then number else other) < 64
+index_small true number other room small = room refl
+index_small false number other room small = small
 
 pub port_is_made : (number : ℕ) (text : List ℕ) (port : Port) → port_at number text ≡ Ok port → IsMade number port
 port_is_made number text port made =
-    let from = after_ok (spelling_of text) (port_of number) port made in
-    port_passes_by (bytes_eq from.0.tag []) number from.0 port refl from.2 (parts_pass (parts_of text) from.0 from.1)
+    let from = comes_from number text port made in
+    let spelling : Spelling = from.0 in
+    let good : IsGood spelling = parts_pass (parts_of text) spelling from.1.spelled in
+    let same : bytes_eq spelling.tag [] ≡ bytes_eq port.tag [] = ap (λ (p : Port). bytes_eq p.tag []) from.1.made in
+    let room : bytes_eq spelling.tag [] ≡ true → number < 64 = λ empty. untagged_has_room number text port made (sym same ∙ empty) in
+    subst (IsMade number) from.1.made
+    (record {
+      spelled = record { tag = good.tag; index = index_small (bytes_eq spelling.tag []) number (unwrap_or spelling.index 0) room good.index; name = good.name };
+      numbered = λ empty. numbered_by (bytes_eq spelling.tag []) number (unwrap_or spelling.index 0) (ap (λ tag. bytes_eq tag []) empty);
+    })
 
 -- the count of untagged ports, one text more
 counted_push : (before : List (List ℕ)) (text : List ℕ) → count_by is_untagged (before ++ text ∷ []) ≡ count_by is_untagged before + (if is_untagged text then 1 else 0)
@@ -130,7 +124,7 @@ made_again (text ∷ texts) before again ports same made =
     let first = first_port before text texts ports made in
     let P : List Port → Type 0 = λ all. ports_after again (map text_of all) ≡ Ok all in
     let others : ports_after (again ++ text_of first.0 ∷ []) (map text_of first.1) ≡ Ok first.1 =
-        made_again texts (before ++ text ∷ []) (again ++ text_of first.0 ∷ []) first.1 (again_count before again text first.0 same first.2) first.3 in
+    made_again texts (before ++ text ∷ []) (again ++ text_of first.0 ∷ []) first.1 (again_count before again text first.0 same first.2) first.3 in
     subst P first.4
     (ap (λ r. after r (λ port. after (ports_after (again ++ text_of first.0 ∷ []) (map text_of first.1)) (λ more. Ok (port ∷ more)))) (again_one before again text first.0 same first.2)
     ∙ ap (λ r. after r (λ more. Ok (first.0 ∷ more))) others)
@@ -142,9 +136,9 @@ made_spelled (text ∷ texts) before ports made =
     let first = first_port before text texts ports made in
     subst (All IsSpelled) first.4 (all_cons first.0 first.1 (port_is_made (count_by is_untagged before) text first.0 first.2).spelled (made_spelled texts (before ++ text ∷ []) first.1 first.3))
   where
-  all_cons : (port : Port) (others : List Port) → IsSpelled port → All IsSpelled others → All IsSpelled (port ∷ others)
-  all_cons port others here more zero d inside = here
-  all_cons port others here more (suc k) d inside = more k d (omega arith)
+    all_cons : (port : Port) (others : List Port) → IsSpelled port → All IsSpelled others → All IsSpelled (port ∷ others)
+    all_cons port others here more zero d inside = here
+    all_cons port others here more (suc k) d inside = more k d (omega arith)
 
 checked_by : (twice gap : Bool) (made ports : List Port) → (if twice then Err Twice else (if gap then Err Gap else Ok made)) ≡ Ok ports → (twice ≡ false) × (gap ≡ false) × (made ≡ ports)
 checked_by true gap made ports passed = cc

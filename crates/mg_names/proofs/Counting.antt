@@ -1,5 +1,5 @@
 -- The ports of texts, one text after another.
-use Rattle.std.proofs.Common.{ℕ, ◌+◌, ◌<◌, ◌≤◌, ◌≡◌, ◌⊎◌, inl, inr, ⊎_elim, if◌then◌else◌, unwrap_or, add-one, drop-cons, List, [], ◌∷◌, ◌++◌, Bool, true, false, Option, None, Some, Result, Ok, Err, length, get_or, take, drop, arith, refl, sym, append_assoc, append-nil, ◌∙◌, ap, nat_lt, count_by}
+use Rattle.std.proofs.Common.{Bool, Err, List, None, Ok, Option, Result, Some, [], add-one, ap, append-nil, append_assoc, arith, count_by, drop, drop-cons, false, get_or, if◌then◌else◌, length, nat_le, refl, sym, take, true, ℕ, ◌&&◌, ◌++◌, ◌+◌, ◌<◌, ◌∙◌, ◌∷◌, ◌≡◌, ◌≤◌}
 use Rattle.std.specs.Str.{bytes_eq}
 use Rattle.std.proofs.lemmas.Bool.Decides.{nat_tests}
 use Rattle.std.proofs.lemmas.Bool.{false≢true}
@@ -8,7 +8,7 @@ use Rattle.std.proofs.lemmas.List.Sums.{count_by_more_yes, count_by_more_no}
 use Rattle.std.proofs.Math.ListN.{drop_of_length-le}
 use Rattle.mg_names.specs.Grammar.{is_tag, index_of}
 use Rattle.mg_names.specs.Spelling.{parts_of, spelling_of, spelling_of_parts, named, tagged, named_at, indexed, is_untagged, is_one}
-use Rattle.mg_names.specs.Ports.{after, port_numbered, port_of, port_at, port_after, ports_after}
+use Rattle.mg_names.specs.Ports.{after, port_of, lacks_index, port_at, port_after, ports_after}
 use Rattle.mg_names.specs.declared.spelling.Spelling.{Spelling}
 use Rattle.mg_names.specs.declared.fault.NameFault.{NameFault}
 use Rattle.mg_names.specs.declared.fault.NameFault.TheVariants.{BadTag, BadIndex}
@@ -53,54 +53,44 @@ tag_of_parts (tag ∷ index ∷ name ∷ other ∷ more) spelling made = cc
 abbrev pub okay : Port → Result Port NameFault
 okay port = Ok port
 
-pub numbered_ok : (number : ℕ) (name : List ℕ) (port : Port) → port_numbered number name ≡ Ok port → (number < 64) × (okay (record { tag = []; index = number; name = name }) ≡ okay port)
-numbered_ok number name port made =
-    let passed = if_ok (nat_lt number 64) (Ok (record { tag = []; index = number; name = name })) BadIndex port made in
-    (grind (arith, nat_tests), passed.1)
+pub same_port : (first second : Port) → okay first ≡ okay second → first ≡ second
+same_port first second same = cc
 
-tag_of_ok : (first second : Port) → okay first ≡ okay second → first.tag ≡ second.tag
-tag_of_ok first second same = cc
+-- what follows a result that is no refusal
+pub after_ok : {A B : Type 0} (result : Result A NameFault) (next : A → Result B NameFault) (value : B) → after result next ≡ Ok value → (first : A) × (result ≡ Ok first) × (next first ≡ Ok value)
+after_ok (Ok first) next value made = (first, refl, made)
+after_ok (Err fault) next value made = cc
 
-port_cases : (test : Bool) (number : ℕ) (name : List ℕ) (other port : Port) → (if test then port_numbered number name else Ok other) ≡ Ok port
-    → ((test ≡ true) × (number < 64) × ([] ≡ port.tag)) ⊎ ((test ≡ false) × (other.tag ≡ port.tag))
-port_cases true number name other port made =
-    let known = numbered_ok number name port made in
-    inl (refl, known.0, tag_of_ok (record { tag = []; index = number; name = name }) port known.1)
-port_cases false number name other port made = inr (refl, tag_of_ok other port made)
+-- a test that refuses, and what is answered where it does not
+unless_ok : {A : Type 0} (test : Bool) (fault : NameFault) (result : Result A NameFault) (value : A) → (if test then Err fault else result) ≡ Ok value → (test ≡ false) × (result ≡ Ok value)
+unless_ok true fault result value made = cc
+unless_ok false fault result value made = (refl, made)
 
-cases_of_port : (number : ℕ) (spelling : Spelling) (port : Port) → port_of number spelling ≡ Ok port
-    → ((bytes_eq spelling.tag [] ≡ true) × (number < 64) × ([] ≡ port.tag)) ⊎ ((bytes_eq spelling.tag [] ≡ false) × (spelling.tag ≡ port.tag))
-cases_of_port number spelling port made =
-    port_cases (bytes_eq spelling.tag []) number spelling.name (record { tag = spelling.tag; index = unwrap_or spelling.index 0; name = spelling.name }) port made
+-- where a port comes from
+pub record ComesFrom (number : ℕ) (text : List ℕ) (port : Port) (spelling : Spelling) : Type 0 where
+  pub room : lacks_index number text ≡ false
+  pub spelled : spelling_of text ≡ Ok spelling
+  pub made : port_of number spelling ≡ port
 
--- a port keeps its spelling's tag, and an untagged one has a number below 64
-port_of_tag : (number : ℕ) (spelling : Spelling) (port : Port) → port_of number spelling ≡ Ok port → bytes_eq port.tag [] ≡ bytes_eq spelling.tag []
-port_of_tag number spelling port made =
-    ⊎_elim
-    (λ untagged. sym (ap (λ tag. bytes_eq tag []) untagged.2) ∙ sym untagged.0)
-    (λ tagged. sym (ap (λ tag. bytes_eq tag []) tagged.1))
-    (cases_of_port number spelling port made)
-
-port_of_room : (number : ℕ) (spelling : Spelling) (port : Port) → port_of number spelling ≡ Ok port → bytes_eq port.tag [] ≡ true → number < 64
-port_of_room number spelling port made empty =
-    ⊎_elim
-    (λ untagged. untagged.1)
-    (λ tagged. absurd (false≢true (sym tagged.0 ∙ (ap (λ tag. bytes_eq tag []) tagged.1 ∙ empty))))
-    (cases_of_port number spelling port made)
-
-after_spelling : (spelled : Result Spelling NameFault) (number : ℕ) (port : Port) → after spelled (port_of number) ≡ Ok port → (spelling : Spelling) × (spelled ≡ Ok spelling) × (port_of number spelling ≡ Ok port)
-after_spelling (Ok spelling) number port made = (spelling, refl, made)
-after_spelling (Err fault) number port made = cc
+pub comes_from : (number : ℕ) (text : List ℕ) (port : Port) → port_at number text ≡ Ok port → (spelling : Spelling) × ComesFrom number text port spelling
+comes_from number text port made =
+    let passed = unless_ok (lacks_index number text) BadIndex (after (spelling_of text) (λ spelling. Ok (port_of number spelling))) port made in
+    let from = after_ok (spelling_of text) (λ spelling. Ok (port_of number spelling)) port passed.1 in
+    (from.0, record { room = passed.0; spelled = from.1; made = same_port (port_of number from.0) port from.2 })
 
 pub untagged_is_empty : (number : ℕ) (text : List ℕ) (port : Port) → port_at number text ≡ Ok port → bytes_eq port.tag [] ≡ is_untagged text
 untagged_is_empty number text port made =
-    let from = after_spelling (spelling_of text) number port made in
-    port_of_tag number from.0 port from.2 ∙ tag_of_parts (parts_of text) from.0 from.1
+    let from = comes_from number text port made in
+    sym (ap (λ (p : Port). bytes_eq p.tag []) from.1.made) ∙ tag_of_parts (parts_of text) from.0 from.1.spelled
+
+room_of : (test : Bool) (number : ℕ) → (test && nat_le 64 number) ≡ false → test ≡ true → number < 64
+room_of true number room here = grind (arith, nat_tests)
+room_of false number room here = absurd (false≢true here)
 
 pub untagged_has_room : (number : ℕ) (text : List ℕ) (port : Port) → port_at number text ≡ Ok port → bytes_eq port.tag [] ≡ true → number < 64
 untagged_has_room number text port made empty =
-    let from = after_spelling (spelling_of text) number port made in
-    port_of_room number from.0 port from.2 empty
+    let from = comes_from number text port made in
+    room_of (is_untagged text) number from.1.room (sym (untagged_is_empty number text port made) ∙ empty)
 
 -- one text more
 ports_cons : (before : List (List ℕ)) (text : List ℕ) (rest : List (List ℕ)) (port : Port) (made : List Port) → port_after before text ≡ Ok port

@@ -1,11 +1,12 @@
 -- What the tests of ports say of each pair of ports, of each port and of each index.
-use Rattle.std.proofs.Common.{ℕ, zero, suc, ◌+◌, ◌-◌, ◌*◌, ◌/◌, ◌%◌, ◌<◌, ◌≤◌, ◌≡◌, ◌≢◌, ◌↔◌, ◌⊎◌, inl, inr, ⊎_elim, List, [], ◌∷◌, ◌++◌, Bool, true, false, not, ◌&&◌, ◌||◌, ◌==◌, nat_lt, Option, None, Some, length, get_or, arith, refl, sym, ◌∙◌, ap, subst, eqb}
+use Rattle.std.proofs.Common.{ℕ, zero, suc, ◌+◌, ◌-◌, ◌*◌, ◌/◌, ◌%◌, ◌<◌, ◌≤◌, ◌≡◌, ⊎_elim, List, [], ◌∷◌, Bool, true, false, not, ◌&&◌, ◌||◌, ◌==◌, Some, length, get_or, arith, refl, sym, ◌∙◌, ap}
 use Rattle.std.specs.Prelude.{position, slice_get}
 use Rattle.std.specs.List.{list_any, position_or_len, All, AllPairs}
 use Rattle.std.specs.Str.{bytes_eq}
 use Rattle.std.specs.Fmt.{decimal}
-use Rattle.std.proofs.lemmas.Bool.{false≢true, cases_Bool, cond-true, cases_eq, eqb-true, eq-eqb}
+use Rattle.std.proofs.lemmas.Bool.{false≢true, cases_Bool, cases_eq, eq-eqb}
 use Rattle.std.proofs.lemmas.Bool.Decides.{nat_tests}
+use Rattle.std.proofs.lemmas.Option.{slice_get_within, get_or_from_slice_get}
 use Rattle.std.proofs.lemmas.Fmt.{decimal_digit}
 use Rattle.std.proofs.lemmas.Slice.Eq.{bytes_eq-Decides}
 use Rattle.std.proofs.lemmas.List.Sums.{position_or_len_is}
@@ -14,7 +15,6 @@ use Rattle.mg_names.specs.Ports.{is_at, has_port, stands_twice, has_gap, place_o
 use Rattle.mg_names.specs.declared.port.Port.{Port}
 use Rattle.mg_names.proofs.Standing.{is_at_symmetric, same_place}
 use Rattle.mg_names.proofs.ReadBack.{decimal_two}
-use Rattle.mg_names.proofs.Again.{index_below}
 
 -- a test that no element passes
 none_pass : {X : Type 0} (p : X → Bool) (xs : List X) → list_any p xs ≡ false → (k : ℕ) (d : X) → k < length xs → p (get_or xs k d) ≡ false
@@ -41,8 +41,8 @@ some_passes p (x ∷ xs) some =
     ⊎_elim
     (λ here. (0, x, omega arith, refl, here))
     (λ other.
-        let later = some_passes p xs (grind (arith, nat_tests)) in
-        (suc later.0, later.1, omega arith, later.3, later.4))
+    let later = some_passes p xs (grind (arith, nat_tests)) in
+    (suc later.0, later.1, omega arith, later.3, later.4))
     (cases_Bool (p x))
 
 -- two ports have another tag or another index
@@ -66,9 +66,9 @@ pairs_once (port ∷ ports) pairs =
 at_itself : (port : Port) → is_at port.tag port.index port ≡ true
 at_itself port = both_true (bytes_eq port.tag port.tag) (port.index == port.index) ((bytes_eq-Decides port.tag port.tag).1 refl) (eq-eqb port.index port.index refl)
   where
-  both_true : (a b : Bool) → a ≡ true → b ≡ true → (a && b) ≡ true
-  both_true true b is_a is_b = is_b
-  both_true false b is_a is_b = is_a
+    both_true : (a b : Bool) → a ≡ true → b ≡ true → (a && b) ≡ true
+    both_true true b is_a is_b = is_b
+    both_true false b is_a is_b = is_a
 
 position_is : {X : Type 0} (p : X → Bool) (xs : List X) (i : ℕ) → position_or_len p xs ≡ i → i < length xs → position p xs ≡ Some i
 position_is p xs i first inside = grind (arith, nat_tests)
@@ -77,9 +77,9 @@ position_is p xs i first inside = grind (arith, nat_tests)
 pub found_here : (ports : List Port) (i : ℕ) (port : Port) → stands_twice ports ≡ false → i < length ports → get_or ports i port ≡ port → place_of port.tag port.index ports ≡ Some i
 found_here ports i port once inside here =
     let earlier : (k : ℕ) → k < i → is_at port.tag port.index (get_or ports k port) ≡ false =
-        λ k before.
-            is_at_symmetric port (get_or ports k port)
-            ∙ (ap (λ p. is_at (get_or ports k port).tag (get_or ports k port).index p) (sym here) ∙ once_pairs ports once k i port before inside) in
+    λ k before.
+    is_at_symmetric port (get_or ports k port)
+    ∙ (ap (λ p. is_at (get_or ports k port).tag (get_or ports k port).index p) (sym here) ∙ once_pairs ports once k i port before inside) in
     let at : is_at port.tag port.index (get_or ports i port) ≡ true = ap (is_at port.tag port.index) here ∙ at_itself port in
     let first : position_or_len (is_at port.tag port.index) ports ≡ i = position_or_len_is (is_at port.tag port.index) ports i port (omega arith) earlier (λ _. at) in
     position_is (is_at port.tag port.index) ports i first inside
@@ -103,8 +103,8 @@ one_lower ports tag n filled has =
     let port : Port = found.1 in
     let same : (tag ≡ port.tag) × (suc n ≡ port.index) = same_place tag (suc n) port found.4 in
     let none : (not (port.index == 0) && not (has_port port.tag (port.index - 1) ports)) ≡ false =
-        sym (ap (λ (p : Port). not (p.index == 0) && not (has_port p.tag (p.index - 1) ports)) found.3)
-        ∙ none_pass (λ p. not (p.index == 0) && not (has_port p.tag (p.index - 1) ports)) ports filled found.0 port found.2 in
+    sym (ap (λ (p : Port). not (p.index == 0) && not (has_port p.tag (p.index - 1) ports)) found.3)
+    ∙ none_pass (λ p. not (p.index == 0) && not (has_port p.tag (p.index - 1) ports)) ports filled found.0 port found.2 in
     let lower : has_port port.tag (port.index - 1) ports ≡ true = below_from port.index (has_port port.tag (port.index - 1) ports) none (omega arith) in
     let count : n ≡ port.index - 1 = omega arith in
     ap (λ t. has_port t n ports) same.0 ∙ (ap (λ i. has_port port.tag i ports) count ∙ lower)
@@ -132,8 +132,8 @@ pub lower_filled : (ports : List Port) → All (HasLower ports) ports → has_ga
 lower_filled ports lower =
     none_from_each (λ port. not (port.index == 0) && not (has_port port.tag (port.index - 1) ports)) ports
     (λ k d inside.
-        let port = get_or ports k d in
-        not_lacking port.index (has_port port.tag (port.index - 1) ports) (λ above. lower k d inside (port.index - 1) (omega arith)))
+    let port = get_or ports k d in
+    not_lacking port.index (has_port port.tag (port.index - 1) ports) (λ above. lower k d inside (port.index - 1) (omega arith)))
 
 one_digit_read : (ones index : ℕ) → index_of (ones ∷ []) ≡ Some index → (index < 10) × (48 + index ≡ ones)
 one_digit_read ones index spelled = grind (arith, nat_tests)
@@ -156,3 +156,7 @@ index_is_decimal (tens ∷ ones ∷ []) index spelled =
     let known = two_digits_read tens ones index spelled in
     sym (decimal_two index known.0 known.1 ∙ (ap (λ n. n ∷ (48 + index % 10) ∷ []) known.2 ∙ ap (λ n. tens ∷ n ∷ []) known.3))
 index_is_decimal (a ∷ b ∷ c ∷ more) index spelled = cc
+
+pub found_at : (ports : List Port) (i : ℕ) (port : Port) → stands_twice ports ≡ false → slice_get ports i ≡ Some port → place_of port.tag port.index ports ≡ Some i
+found_at ports i port once here =
+    found_here ports i port once (slice_get_within ports i port here) (get_or_from_slice_get ports i port port here)

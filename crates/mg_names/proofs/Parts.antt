@@ -1,5 +1,5 @@
 -- Texts cut at their colons, and bytes below 128.
-use Rattle.std.proofs.Common.{ℕ, zero, suc, ◌+◌, ◌-◌, ◌<◌, ◌≤◌, ◌≡◌, List, [], ◌∷◌, Bool, true, None, Some, Err, length, take, drop, arith, refl, ◌∙◌, ap}
+use Rattle.std.proofs.Common.{ℕ, zero, suc, ◌+◌, ◌-◌, ◌<◌, ◌≤◌, ◌≡◌, List, [], ◌∷◌, Bool, true, false, None, Some, Err, length, take, drop, arith, refl, ◌∙◌, ap}
 use Rattle.std.specs.Prelude.{position, IsUtf8}
 use Rattle.std.specs.List.{list_all, position_or_len, slice_split}
 use Rattle.std.specs.Str.{IsAscii}
@@ -9,7 +9,7 @@ use Rattle.std.proofs.lemmas.List.Splits.{slice_split_none, slice_split_first, l
 use Rattle.std.proofs.lemmas.List.Sums.{fails_before_first}
 use Rattle.std.proofs.lemmas.List.{take_rest, length-drop, drop-drop}
 use Rattle.mg_names.specs.Grammar.{is_name, is_tag, continues_name, continues_tag}
-use Rattle.mg_names.specs.Spelling.{is_colon, parts_of, spelling_of_parts}
+use Rattle.mg_names.specs.Spelling.{is_colon, parts_of, spelling_of_parts, is_one}
 use Rattle.mg_names.specs.declared.fault.NameFault.TheVariants.{BadName}
 
 pub no_colon : (text : List ℕ) → position is_colon text ≡ None → length text ≤ position_or_len is_colon text
@@ -76,3 +76,11 @@ refused_past_three tag index name (part ∷ parts) some = refl
 -- a third colon
 pub third_colon_refused : (tag index name rest : List ℕ) → spelling_of_parts (tag ∷ index ∷ name ∷ parts_of rest) ≡ Err BadName
 third_colon_refused tag index name rest = refused_past_three tag index name (parts_of rest) (omega (arith, length-slice_split is_colon rest))
+
+more_than_one : (part : List ℕ) (parts : List (List ℕ)) → 1 ≤ length parts → is_one (part ∷ parts) ≡ false
+more_than_one part [] some = absurd (omega arith)
+more_than_one part (other ∷ more) some = refl
+
+-- a text with a colon has more than one part
+pub parts_past_one : (part rest : List ℕ) → is_one (part ∷ parts_of rest) ≡ false
+parts_past_one part rest = more_than_one part (parts_of rest) (omega (arith, length-slice_split is_colon rest))

@@ -1,5 +1,5 @@
 -- The text of a port is read back as the same port.
-use Rattle.std.proofs.Common.{ℕ, zero, suc, ◌+◌, ◌*◌, ◌/◌, ◌%◌, ◌<◌, ◌≤◌, ◌≡◌, ◌⊎◌, inl, inr, ⊎_elim, List, [], ◌∷◌, ◌++◌, Bool, true, false, Option, None, Some, Ok, arith, refl, append_assoc, ◌∙◌, ap, nat_lt, count_by, eqb}
+use Rattle.std.proofs.Common.{Bool, Err, List, None, Ok, Option, Some, [], ap, append_assoc, arith, count_by, eqb, false, if◌then◌else◌, inl, inr, nat_le, refl, suc, true, unwrap_or, zero, ℕ, ⊎_elim, ◌%◌, ◌&&◌, ◌*◌, ◌++◌, ◌+◌, ◌/◌, ◌<◌, ◌∙◌, ◌∷◌, ◌≡◌, ◌≤◌, ◌⊎◌}
 use Rattle.std.specs.Prelude.{IsTrue, unwrap_or}
 use Rattle.std.specs.List.{list_all, All}
 use Rattle.std.specs.Str.{bytes_eq}
@@ -9,8 +9,9 @@ use Rattle.std.proofs.lemmas.Bool.Decides.{nat_tests}
 use Rattle.std.proofs.lemmas.Fmt.{decimal_digit, decimal_step}
 use Rattle.std.proofs.lemmas.List.Splits.{slice_split_none, slice_split_at}
 use Rattle.mg_names.specs.Grammar.{is_name, is_tag, is_digit, continues_name, continues_tag, index_of}
-use Rattle.mg_names.specs.Spelling.{is_colon, parts_of, spelling_of, spelling_of_parts, named, tagged, named_at, indexed, is_untagged}
-use Rattle.mg_names.specs.Ports.{after, port_numbered, port_of, port_after, text_of, tagged_text, IsSpelled}
+use Rattle.mg_names.specs.Spelling.{is_colon, parts_of, spelling_of, spelling_of_parts, named, tagged, named_at, indexed, is_untagged, is_one}
+use Rattle.mg_names.specs.Ports.{after, index_in, port_of, lacks_index, port_after, text_of, tagged_text, IsSpelled}
+use Rattle.mg_names.specs.declared.fault.NameFault.TheVariants.{BadIndex}
 use Rattle.mg_names.specs.declared.spelling.Spelling.{Spelling}
 use Rattle.mg_names.specs.declared.port.Port.{Port}
 use Rattle.mg_names.proofs.Parts.{name_continues, tag_continues}
@@ -105,33 +106,42 @@ pub tag_is_some : (tag : List ℕ) → is_tag tag ≡ true → bytes_eq tag [] �
 tag_is_some [] good = cc
 tag_is_some (first ∷ rest) good = refl
 
-port_of_untagged : (number index : ℕ) (name : List ℕ) → number ≡ index → index < 64 → port_of number (record { tag = []; index = None; name = name }) ≡ Ok (record { tag = []; index = index; name = name })
-port_of_untagged number index name same small =
-    let test : nat_lt number 64 ≡ true = grind (arith, nat_tests) in
-    let here : port_numbered number name ≡ Ok (record { tag = []; index = number; name = name }) = rw test refl in
-    here ∙ ap (λ n. Ok (record { tag = []; index = n; name = name })) same
+tagged_index : (number : ℕ) (tag : List ℕ) (index : Option ℕ) (name : List ℕ) → is_tag tag ≡ true → index_in number (record { tag = tag; index = index; name = name }) ≡ unwrap_or index 0
+tagged_index number tag index name good = rw (tag_is_some tag good) refl
 
-port_of_tagged : (number : ℕ) (tag : List ℕ) (index : Option ℕ) (name : List ℕ) → is_tag tag ≡ true → port_of number (record { tag = tag; index = index; name = name }) ≡ Ok (record { tag = tag; index = unwrap_or index 0; name = name })
-port_of_tagged number tag index name good = rw (tag_is_some tag good) refl
+spelled_then : (before : List (List ℕ)) (text : List ℕ) (spelling : Spelling) (index : ℕ) → spelling_of text ≡ Ok spelling → lacks_index (count_by is_untagged before) text ≡ false
+    → index_in (count_by is_untagged before) spelling ≡ index → port_after before text ≡ Ok (record { tag = spelling.tag; index = index; name = spelling.name })
+spelled_then before text spelling index spelled room counted =
+    let number = count_by is_untagged before in
+    let read : (if lacks_index number text then Err BadIndex else after (spelling_of text) (λ s. Ok (port_of number s))) ≡ after (spelling_of text) (λ s. Ok (port_of number s)) = rw room refl in
+    read ∙ (ap (λ r. after r (λ s. Ok (port_of number s))) spelled ∙ ap (λ i. Ok (record { tag = spelling.tag; index = i; name = spelling.name })) counted)
 
-spelled_then : (before : List (List ℕ)) (text : List ℕ) (spelling : Spelling) (port : Port) → spelling_of text ≡ Ok spelling → port_of (count_by is_untagged before) spelling ≡ Ok port → port_after before text ≡ Ok port
-spelled_then before text spelling port spelled made = ap (λ r. after r (port_of (count_by is_untagged before))) spelled ∙ made
+room_below : (test : Bool) (number : ℕ) → number < 64 → (test && nat_le 64 number) ≡ false
+room_below true number small = grind (arith, nat_tests)
+room_below false number small = refl
+
+room_tagged : (text : List ℕ) (number : ℕ) → is_untagged text ≡ false → lacks_index number text ≡ false
+room_tagged text number tagged = ap (λ b. b && nat_le 64 number) tagged
 
 -- a port whose tag is empty, and one whose tag is a tag
 read_untagged : (index : ℕ) (name : List ℕ) (before : List (List ℕ)) → index < 64 → is_name name ≡ true → count_by is_untagged before ≡ index
     → port_after before name ≡ Ok (record { tag = []; index = index; name = name })
 read_untagged index name before small good number =
-    spelled_then before name _ _ (spelling_of_name name good) (port_of_untagged (count_by is_untagged before) index name number small)
+    spelled_then before name (record { tag = []; index = None; name = name }) index (spelling_of_name name good) (room_below (is_untagged name) (count_by is_untagged before) (omega arith)) number
 
 read_at_zero : (tag name : List ℕ) (before : List (List ℕ)) → is_tag tag ≡ true → is_name name ≡ true
     → port_after before (tag ++ (58 ∷ name)) ≡ Ok (record { tag = tag; index = 0; name = name })
 read_at_zero tag name before good_tag good =
-    spelled_then before (tag ++ (58 ∷ name)) _ _ (spelling_of_tagged tag name good_tag good) (port_of_tagged (count_by is_untagged before) tag None name good_tag)
+    spelled_then before (tag ++ (58 ∷ name)) (record { tag = tag; index = None; name = name }) 0 (spelling_of_tagged tag name good_tag good)
+    (room_tagged (tag ++ (58 ∷ name)) (count_by is_untagged before) (ap is_one (parts_of_tagged tag name good_tag good)))
+    (tagged_index (count_by is_untagged before) tag None name good_tag)
 
 read_at_index : (tag : List ℕ) (index : ℕ) (name : List ℕ) (before : List (List ℕ)) → is_tag tag ≡ true → index < 64 → is_name name ≡ true
     → port_after before ((tag ++ (58 ∷ decimal index)) ++ (58 ∷ name)) ≡ Ok (record { tag = tag; index = index; name = name })
 read_at_index tag index name before good_tag small good =
-    spelled_then before ((tag ++ (58 ∷ decimal index)) ++ (58 ∷ name)) _ _ (spelling_of_indexed tag index name good_tag small good) (port_of_tagged (count_by is_untagged before) tag (Some index) name good_tag)
+    spelled_then before ((tag ++ (58 ∷ decimal index)) ++ (58 ∷ name)) (record { tag = tag; index = Some index; name = name }) index (spelling_of_indexed tag index name good_tag small good)
+    (room_tagged ((tag ++ (58 ∷ decimal index)) ++ (58 ∷ name)) (count_by is_untagged before) (ap is_one (parts_of_indexed tag index name good_tag small good)))
+    (tagged_index (count_by is_untagged before) tag (Some index) name good_tag)
 
 read_tagged : (tag : List ℕ) (index : ℕ) (name : List ℕ) (before : List (List ℕ)) → is_tag tag ≡ true → index < 64 → is_name name ≡ true
     → port_after before (tagged_text tag index name) ≡ Ok (record { tag = tag; index = index; name = name })

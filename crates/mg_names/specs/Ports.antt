@@ -1,5 +1,5 @@
 -- The ports of a list of texts, and the text of a port.
-use Rattle.std.specs.Prelude.{ℕ, ◌-◌, ◌≡◌, ◌<◌, ◌⊎◌, List, [], ◌∷◌, ◌++◌, Bool, false, ◌&&◌, ◌||◌, not, ◌==◌, nat_lt, Option, unwrap_or, Result, Ok, Err, if◌then◌else◌, count_by, position, IsTrue}
+use Rattle.std.specs.Prelude.{ℕ, ◌-◌, ◌≡◌, ◌<◌, ◌⊎◌, List, [], ◌∷◌, ◌++◌, Bool, false, ◌&&◌, ◌||◌, not, ◌==◌, nat_le, Option, unwrap_or, Result, Ok, Err, if◌then◌else◌, count_by, position, IsTrue}
 use Rattle.std.specs.List.{list_any}
 use Rattle.std.specs.Str.{bytes_eq}
 use Rattle.std.specs.Fmt.{decimal}
@@ -15,21 +15,21 @@ abbrev pub after : {A B : Type 0} → Result A NameFault → (A → Result B Nam
 after (Ok value) next = next value
 after (Err fault) next = Err fault
 
--- an untagged port's index is its running number, of which there are 64
-abbrev pub port_numbered : ℕ → List ℕ → Result Port NameFault
-port_numbered number name =
-    if nat_lt number index_count then Ok (record { tag = []; index = number; name = name }) else Err BadIndex
+-- an untagged port's index is its running number, and a tagged one's is 0 if none is spelled
+abbrev pub index_in : ℕ → Spelling → ℕ
+index_in number spelling = if bytes_eq spelling.tag [] then number else unwrap_or spelling.index 0
 
--- the port that a spelling makes where so many untagged ports stand before it: a tagged port's index is 0 if none is
--- spelled
-abbrev pub port_of : ℕ → Spelling → Result Port NameFault
-port_of number spelling =
-    if bytes_eq spelling.tag [] then port_numbered number spelling.name
-    else Ok (record { tag = spelling.tag; index = unwrap_or spelling.index 0; name = spelling.name })
+-- the port that a spelling makes where so many untagged ports stand before it
+abbrev pub port_of : ℕ → Spelling → Port
+port_of number spelling = record { tag = spelling.tag; index = index_in number spelling; name = spelling.name }
 
--- the port of a text where so many untagged ports stand before it
+-- an untagged port after 64 others has no index
+abbrev pub lacks_index : ℕ → List ℕ → Bool
+lacks_index number text = is_untagged text && nat_le index_count number
+
+-- the port of a text where so many untagged ports stand before it. The index is tested before the name here too.
 abbrev pub port_at : ℕ → List ℕ → Result Port NameFault
-port_at number text = after (spelling_of text) (port_of number)
+port_at number text = if lacks_index number text then Err BadIndex else after (spelling_of text) (λ spelling. Ok (port_of number spelling))
 
 -- the port of a text that stands after others
 abbrev pub port_after : List (List ℕ) → List ℕ → Result Port NameFault

@@ -4,6 +4,7 @@ ghost use Rattle.std.specs.List.{list_all};
 ghost use Rattle.std.specs.Str.{IsAscii};
 ghost use Rattle.mg_names.specs.Grammar as grammar;
 ghost use Rattle.mg_names.specs.Spelling.{is_colon, parts_of};
+ghost use Rattle.mg_names.specs.Spelling as spelled;
 
 use mg_value::MgText;
 use std::alloc::{AllocError, Global};
@@ -101,6 +102,17 @@ pub(crate) fn cut(text: &[u8]) -> Option<(&[u8], &[u8])>
             let (tag, rest) = text.split_at(colon);
             Some((tag, &rest[1..]))
         }
+    }
+}
+
+/// Whether a text has no colon.
+#[tactic(auto, using(crate::proofs::Parts::parts_past_one))]
+pub(crate) fn is_untagged(text: &[u8]) -> bool
+    ensures { result ≡ spelled.is_untagged text.now }
+{
+    match cut(text) {
+        None => true,
+        Some(_) => false,
     }
 }
 

@@ -5,6 +5,7 @@
 mod fault;
 mod grammar;
 mod indexing;
+pub mod laws;
 mod numbering;
 mod places;
 mod port;

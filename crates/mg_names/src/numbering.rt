@@ -4,6 +4,7 @@ ghost use Rattle.mg_names.specs.Spelling.{is_untagged};
 ghost use Rattle.mg_names.specs.Ports as ports;
 
 use crate::fault::NameFault;
+use crate::grammar::is_untagged;
 use crate::port::Port;
 use crate::reading::read_port;
 use crate::spelling::Spelling;
@@ -11,27 +12,16 @@ use mg_value::MgText;
 use std::alloc::Global;
 
 /// The port of a spelling where so many untagged ports stand before it.
-fn port_of(number: u8, spelling: Spelling) -> Result<Port, NameFault>
-    ensures ok { IfOk result (λ port. ports.port_of number spelling ≡ Ok port) }
-    ensures err { IfErr result (λ fault. ports.port_of number spelling ≡ Err fault) }
+fn port_of(number: u8, spelling: Spelling) -> Port
+    ensures { result ≡ ports.port_of number spelling }
 {
     let Spelling { tag, index, name } = spelling;
-    if !tag.as_bytes().is_empty() {
-        return Ok(Port {
-            tag,
-            index: index.unwrap_or(0),
-            name,
-        });
-    }
-    if number < 64 {
-        Ok(Port {
-            tag,
-            index: number,
-            name,
-        })
+    let index = if tag.as_bytes().is_empty() {
+        number
     } else {
-        Err(NameFault::BadIndex)
-    }
+        index.unwrap_or(0)
+    };
+    Port { tag, index, name }
 }
 
 /// The port of a text where so many untagged ports stand before it.
@@ -42,7 +32,11 @@ fn port_at(alloc: Global, number: u8, text: &[u8]) -> Result<Port, NameFault>
     ensures untagged { IfOk result (λ port. bytes_eq port.tag [] ≡ is_untagged text.now) }
     ensures room { IfOk result (λ port. bytes_eq port.tag [] ≡ true → number < 64) }
 {
-    port_of(number, read_port(alloc, text)?)
+    if is_untagged(text) && number >= 64 {
+        return Err(NameFault::BadIndex);
+    }
+    let spelling = read_port(alloc, text)?;
+    Ok(port_of(number, spelling))
 }
 
 /// How many untagged ports stand before the next text.

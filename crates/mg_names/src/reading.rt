@@ -1,4 +1,5 @@
-ghost use Rattle.std.specs.Prelude.{◌≡◌, ◌≢◌, IfOk, IfErr};
+ghost use Rattle.std.specs.Prelude.{◌≡◌, ◌≢◌, IfOk, IfErr, Ok, Err};
+ghost use Rattle.mg_names.specs.declared.fault.NameFault.{NameFault};
 ghost use Rattle.std.specs.Str.{IsAscii};
 ghost use Rattle.mg_names.specs.Grammar as grammar;
 ghost use Rattle.mg_names.specs.Spelling as spelled;
@@ -14,6 +15,7 @@ fn named(alloc: Global, tag: &[u8], index: Option<u8>, name: &[u8]) -> Result<Sp
     requires { IsAscii tag.now }
     ensures ok { IfOk result (λ spelling. spelled.named tag.now index name.now ≡ Ok spelling) }
     ensures err { IfErr result (λ fault. fault ≢ NameFault.OutOfMemory → spelled.named tag.now index name.now ≡ Err fault) }
+    ensures refused { (fault : NameFault) → spelled.named tag.now index name.now ≡ Err fault → result ≡ Err fault }
 {
     if !is_name(name) {
         return Err(NameFault::BadName);
@@ -30,6 +32,7 @@ fn named(alloc: Global, tag: &[u8], index: Option<u8>, name: &[u8]) -> Result<Sp
 fn tagged(alloc: Global, tag: &[u8], name: &[u8]) -> Result<Spelling, NameFault>
     ensures ok { IfOk result (λ spelling. spelled.tagged tag.now name.now ≡ Ok spelling) }
     ensures err { IfErr result (λ fault. fault ≢ NameFault.OutOfMemory → spelled.tagged tag.now name.now ≡ Err fault) }
+    ensures refused { (fault : NameFault) → spelled.tagged tag.now name.now ≡ Err fault → result ≡ Err fault }
 {
     if !is_tag(tag) {
         return Err(NameFault::BadTag);
@@ -42,6 +45,7 @@ fn tagged(alloc: Global, tag: &[u8], name: &[u8]) -> Result<Spelling, NameFault>
 fn indexed(alloc: Global, tag: &[u8], index: &[u8], name: &[u8]) -> Result<Spelling, NameFault>
     ensures ok { IfOk result (λ spelling. spelled.indexed tag.now index.now name.now ≡ Ok spelling) }
     ensures err { IfErr result (λ fault. fault ≢ NameFault.OutOfMemory → spelled.indexed tag.now index.now name.now ≡ Err fault) }
+    ensures refused { (fault : NameFault) → spelled.indexed tag.now index.now name.now ≡ Err fault → result ≡ Err fault }
 {
     if !is_tag(tag) {
         return Err(NameFault::BadTag);
@@ -58,6 +62,9 @@ fn indexed(alloc: Global, tag: &[u8], index: &[u8], name: &[u8]) -> Result<Spell
 pub fn read_port(alloc: Global, text: &[u8]) -> Result<Spelling, NameFault>
     ensures ok { IfOk result (λ spelling. spelled.spelling_of text.now ≡ Ok spelling) }
     ensures err { IfErr result (λ fault. fault ≢ NameFault.OutOfMemory → spelled.spelling_of text.now ≡ Err fault) }
+
+    // A text that spells no port is refused however little memory there is.
+    ensures refused { (fault : NameFault) → spelled.spelling_of text.now ≡ Err fault → result ≡ Err fault }
 {
     let Some((tag, rest)) = cut(text) else {
         return named(alloc, b"", None, text);
