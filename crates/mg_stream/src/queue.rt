@@ -49,6 +49,7 @@ impl Queue {
     /// Makes room for more packets: so many appends take no memory.
     pub fn reserve(&mut self, more: u32) -> Result<(), AllocError>
         ensures room { OnOk result (more ≤ self.new.spare) }
+        ensures no_memory { OnErr result (self.old.spare < more) }
         ensures kept { self.old.spare ≤ self.new.spare }
         ensures unchanged { IsLike self.new self.old }
         ensures stands { (s : StreamPrefix Plain) → StandsFor self.old s → StandsFor self.new s }
