@@ -1,4 +1,4 @@
-ghost use Rattle.std.specs.Prelude.{◌≡◌, ◌≢◌, Some, IfNone, ◌<◌, ◌≤◌, ◌+◌, ◌^◌, ◌↔◌, [], length, slice_get, option_map, OnOk, OnErr, IfErr, IsErrAnd, IsOk};
+ghost use Rattle.std.specs.Prelude.{◌≡◌, ◌≢◌, Some, IfNone, ◌<◌, ◌≤◌, ◌+◌, ◌^◌, ◌↔◌, [], length, slice_get, option_map, OnOk, OnErr, IfErr, IsErrAnd, IsOk, MatchResult};
 ghost use Rattle.mg_time.specs.Time.{pre_stream, post_stream, done, IsAllowed};
 ghost use Rattle.mg_value.specs.Payload.{Plain};
 ghost use Rattle.mg_value.specs.Prefix.{StreamPrefix, IsPrefix, empty_prefix, appended, raised, closed};
@@ -77,7 +77,8 @@ impl Queue {
         ensures returned { IfErr result (λ r. r.packet ≡ packet) }
         ensures room { self.old.spare ≤ self.new.spare + 1 }
 
-        ensures stands { (s : StreamPrefix Plain) → StandsFor self.old s → OnOk result (StandsFor self.new (appended s packet)) }
+        ensures stands { (s : StreamPrefix Plain) → StandsFor self.old s
+            → MatchResult result (λ _. StandsFor self.new (appended s packet)) (λ _. StandsFor self.new s) }
     {
         let cause = match self.cause_of(packet.at) {
             Some(cause) => cause,
