@@ -1,10 +1,10 @@
 -- Packets and bounds that arrive keep the number of sets that are gone.
-use Rattle.std.proofs.Common.{◌≡◌, ℕ, zero, suc, ◌+◌, ◌<◌, ◌≤◌, true, false, List, [], ◌∷◌, ◌++◌, map, take, drop, length, filter, All, ap, ap₂, sym, refl, ◌∙◌, arith}
+use Rattle.std.proofs.Common.{◌≡◌, ℕ, zero, suc, ◌<◌, ◌≤◌, List, [], ◌∷◌, ◌++◌, map, take, drop, length, All, ap, ap₂, sym, refl, ◌∙◌, arith}
 use Rattle.std.specs.List.{AllZip}
 use Rattle.std.proofs.lemmas.List.Elements.{All-head, All-tail, filter-append}
 use Rattle.mg_value.specs.Prefix.{Stamped, StreamPrefix}
 use Rattle.mg_value.specs.Extension.{IsExtendedBy, AreExtendedBy}
-use Rattle.mg_value.specs.Settled.{low, settled_times, settled_sets, TimedSet, set_at, is_among, without, after_sets}
+use Rattle.mg_value.specs.Settled.{low, settled_times, without}
 use Rattle.mg_value.proofs.Times.{In, In-take, is_among-false}
 use Rattle.mg_value.proofs.SettledSets.{settled_from, length-settled_sets, settled_times_grow, take_settled_times}
 use Rattle.mg_value.proofs.AfterSets.{left_of}

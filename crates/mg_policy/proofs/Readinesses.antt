@@ -1,8 +1,8 @@
 -- One readiness at most fits some queues.
-use Rattle.std.proofs.Common.{◌≡◌, ℕ, ◌<◌, true, false, List, [], ◌∷◌, ◌++◌, map, All, Option, Some, None, IsSomeAnd, slice_get, filter, nat_lt, ap, sym, refl, ◌∙◌, arith}
+use Rattle.std.proofs.Common.{◌≡◌, ℕ, List, [], ◌∷◌, map, Option, Some, None, IsSomeAnd, slice_get, filter, nat_lt, ap, sym, refl, ◌∙◌}
 use Rattle.std.specs.List.{AllByRecursion}
 use Rattle.std.proofs.lemmas.List.Elements.{recursion_from_All}
-use Rattle.mg_value.specs.Settled.{low, all_times, settled_sets, settled_times, set_at, TimedSet}
+use Rattle.mg_value.specs.Settled.{low, all_times, set_at, TimedSet}
 use Rattle.mg_stream.specs.Queue.{Waiting}
 use Rattle.mg_policy.specs.Inbox.{rests, next_set, IsOver, Tells}
 use Rattle.mg_policy.specs.declared.readiness.Readiness.{Readiness}
