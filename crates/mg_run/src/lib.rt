@@ -11,6 +11,8 @@ mod put;
 mod reading;
 mod run;
 mod status;
+#[cfg(test)]
+mod tests;
 mod words;
 mod write_line;
 
