@@ -1,0 +1,9 @@
+//! The text form of protocol buffers, as graph files are written in it: `parse` reads a file, byte by byte, and
+//! `print` writes the canonical text. What a text means is the grammar of `specs/Grammar.antt`.
+#![tactic(auto)]
+
+mod class;
+mod parts;
+mod tree;
+
+pub use tree::{Field, Scalar, Tree, TreeValue};
