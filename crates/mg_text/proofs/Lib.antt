@@ -1,2 +1,4 @@
+pub mod Complete
 pub mod Pieces
 pub mod Sound
+pub mod Spelled

@@ -260,7 +260,7 @@ kind_if : (b : Bool) (a q : ScalarPart) → cond b (Some a) None ≡ Some q → 
 kind_if b a q e = sym (ap kind_of (from_if b e).1)
 
 -- the parts of a number follow one another, and so do those of a word
-same_kind : (part next : ScalarPart) (c : Class) → scalar_next part c ≡ Some next → kind_of next ≡ kind_of part
+pub same_kind : (part next : ScalarPart) (c : Class) → scalar_next part c ≡ Some next → kind_of next ≡ kind_of part
 same_kind sp.Word next c e = kind_if (is_word_byte c) sp.Word next e
 same_kind sp.Minus next Zero e = kind_some sp.Zero next e
 same_kind sp.Minus next Dot e = kind_some sp.Point next e
@@ -288,12 +288,12 @@ same_kind sp.HexStart next c e = kind_if (is_hex c) sp.Hex next e
 same_kind sp.Hex next c e = kind_if (is_hex c) sp.Hex next e
 same_kind sp.Suffix next c e = cc
 
-and_true : (a b : Bool) → (a && b) ≡ true → (a ≡ true) × (b ≡ true)
+pub and_true : (a b : Bool) → (a && b) ≡ true → (a ≡ true) × (b ≡ true)
 and_true true true e = (refl, refl)
 and_true true false e = cc
 and_true false b e = cc
 
-not_true : (a : Bool) → not a ≡ true → a ≡ false
+pub not_true : (a : Bool) → not a ≡ true → a ≡ false
 not_true true e = cc
 not_true false e = refl
 
