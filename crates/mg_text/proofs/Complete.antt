@@ -34,7 +34,7 @@ abbrev pub st : Fields → List Frame → Spot → State
 st d fs spot = record { done = d; frames = fs; spot = spot }
 
 -- one step, by the class of the byte
-go : (d : Fields) (fs : List Frame) (spot : Spot) (d' : Fields) (fs' : List Frame) (spot' : Spot) (b : ℕ) (c : Class) (w : List ℕ) → class_of b ≡ c
+pub go : (d : Fields) (fs : List Frame) (spot : Spot) (d' : Fields) (fs' : List Frame) (spot' : Spot) (b : ℕ) (c : Class) (w : List ℕ) → class_of b ≡ c
     → step_spot (st d fs spot) spot c b ≡ Some (st d' fs' spot') → outcome (st d fs spot) (b ∷ w) ≡ outcome (st d' fs' spot') w
 go d fs spot d' fs' spot' b c w k e =
     ap (option_and_then (λ next. outcome next w)) (ap (λ c. step_spot (st d fs spot) spot c b) k ∙ e)
@@ -48,7 +48,7 @@ marks_same : (m : Mark) → same_mark m m ≡ true
 marks_same Brace = refl
 marks_same Angle = refl
 
-closing_step : (d : Fields) (f : Frame) (fs : List Frame) (sep : Bool) (m : Mark) (b : ℕ) → f.mark ≡ m → step_at (st d (f ∷ fs) (at (start sep))) (start sep) (closing m) b ≡ Some (resumed d f fs)
+pub closing_step : (d : Fields) (f : Frame) (fs : List Frame) (sep : Bool) (m : Mark) (b : ℕ) → f.mark ≡ m → step_at (st d (f ∷ fs) (at (start sep))) (start sep) (closing m) b ≡ Some (resumed d f fs)
 closing_step d f fs sep Brace b e = ap (λ x. cond (same_mark x Brace) (Some (resumed d f fs)) None) e
 closing_step d f fs sep Angle b e = ap (λ x. cond (same_mark x Angle) (Some (resumed d f fs)) None) e
 
@@ -57,22 +57,22 @@ ends_run d [] f v r (e, same) = ap (outcome (st d [] (at (start f)))) e ∙ ap S
 ends_run d (f0 ∷ fs) f v r (c, u, e, k, o) =
     ap (outcome (st d (f0 ∷ fs) (at (start f)))) e ∙ go d (f0 ∷ fs) (at (start f)) _ _ _ c (closing f0.mark) u k (closing_step d f0 fs f f0.mark c refl) ∙ o
 
-blank_step : (s : State) (p : Place) (c : Class) (b : ℕ) → is_blank c ≡ true → step_at s p c b ≡ moves s (Some (at p))
+pub blank_step : (s : State) (p : Place) (c : Class) (b : ℕ) → is_blank c ≡ true → step_at s p c b ≡ moves s (Some (at p))
 blank_step s p Blank b e = refl
 blank_step s p LineFeed b e = refl
 blank_step s p c b e = cc
 
 -- comments
 
-chosen : {A : Type 0} (b : Bool) {x y z : A} → cond b x y ≡ z → ((b ≡ true) × (x ≡ z)) ⊎ (y ≡ z)
+pub chosen : {A : Type 0} (b : Bool) {x y z : A} → cond b x y ≡ z → ((b ≡ true) × (x ≡ z)) ⊎ (y ≡ z)
 chosen true e = inl (refl, e)
 chosen false e = inr e
 
-beyond_class : (b : ℕ) → 128 ≤ b → class_of b ≡ Beyond
+pub beyond_class : (b : ℕ) → 128 ≤ b → class_of b ≡ Beyond
 unfolding class_of
 beyond_class b h = grind (arith, nat_tests)
 
-lead_least : (b : ℕ) (t : Tail) → lead b ≡ Some t → 128 ≤ b
+pub lead_least : (b : ℕ) (t : Tail) → lead b ≡ Some t → 128 ≤ b
 lead_least b t e = grind (arith, nat_tests)
 
 lead_beyond : (b : ℕ) (t : Tail) → lead b ≡ Some t → class_of b ≡ Beyond
@@ -82,7 +82,7 @@ tail_step : (p : Place) (t u : Tail) (c : Class) (b : ℕ) → follow t b ≡ So
 tail_step p Whole u c b e = cc
 tail_step p t u c b e = ap (awaits p) e
 
-tail_run : (d : Fields) (fs : List Frame) (p : Place) (t : Tail) (u : List ℕ) (w : List ℕ) → IsTail t u → outcome (st d fs (comment p t)) (u ++ w) ≡ outcome (st d fs (comment p Whole)) w
+pub tail_run : (d : Fields) (fs : List Frame) (p : Place) (t : Tail) (u : List ℕ) (w : List ℕ) → IsTail t u → outcome (st d fs (comment p t)) (u ++ w) ≡ outcome (st d fs (comment p Whole)) w
 tail_run d fs p t u w no_tail = refl
 tail_run d fs p t u w (byte {u = next} {b = b} {s = s} e h) =
     go d fs (comment p t) d fs (comment p next) b (class_of b) (s ++ w) refl (ap (moves (st d fs (comment p t))) (tail_step p t next (class_of b) b e)) ∙ tail_run d fs p next s w h
@@ -92,7 +92,7 @@ in_line_step p LineFeed b e = cc
 in_line_step p Beyond b e = cc
 in_line_step p c b e = refl
 
-line_run : (d : Fields) (fs : List Frame) (p : Place) (l w : List ℕ) → g.IsLine l → outcome (st d fs (comment p Whole)) (l ++ w) ≡ outcome (st d fs (at p)) w
+pub line_run : (d : Fields) (fs : List Frame) (p : Place) (l w : List ℕ) → g.IsLine l → outcome (st d fs (comment p Whole)) (l ++ w) ≡ outcome (st d fs (at p)) w
 line_run d fs p l w (g.line_feed {b = b} k) = go d fs (comment p Whole) d fs (at p) b LineFeed w k refl
 line_run d fs p l w (g.ascii {b = b} {l = m} k h) =
     go d fs (comment p Whole) d fs (comment p Whole) b (class_of b) (m ++ w) refl (ap (moves (st d fs (comment p Whole))) (in_line_step p (class_of b) b k)) ∙ line_run d fs p m w h
@@ -100,7 +100,7 @@ line_run d fs p l w (g.beyond {b = b} {t = t} {s = s} {l = m} k i h) =
     go d fs (comment p Whole) d fs (comment p t) b Beyond (s ++ m ++ w) (lead_beyond b t k) (ap (λ o. moves (st d fs (comment p Whole)) (awaits p o)) k)
     ∙ ap (outcome (st d fs (comment p t))) (append_assoc s m w) ∙ tail_run d fs p t s (m ++ w) i ∙ line_run d fs p m w h
 
-gap_run : (d : Fields) (fs : List Frame) (p : Place) (u w : List ℕ) → g.IsGap u → outcome (st d fs (at p)) (u ++ w) ≡ outcome (st d fs (at p)) w
+pub gap_run : (d : Fields) (fs : List Frame) (p : Place) (u w : List ℕ) → g.IsGap u → outcome (st d fs (at p)) (u ++ w) ≡ outcome (st d fs (at p)) w
 gap_run d fs p u w (g.blank {b = b} k) = go d fs (at p) d fs (at p) b (class_of b) w refl (blank_step (st d fs (at p)) p (class_of b) b k)
 gap_run d fs p u w (g.comment {b = b} {l = l} k h) = go d fs (at p) d fs (comment p Whole) b Hash (l ++ w) k refl ∙ line_run d fs p l w h
 
@@ -112,12 +112,12 @@ name_stops np.Word c w j = ap (λ x. cond x (Some np.Word) None) j
 name_stops np.Closed c w j = refl
 name_stops _ c w j = cc
 
-both : (a b : Bool) → a ≡ true → b ≡ false → (a && not b) ≡ true
+pub both : (a b : Bool) → a ≡ true → b ≡ false → (a && not b) ≡ true
 both true false e f = refl
 both true true e f = cc
 both false b e f = cc
 
-if_so : {A : Type 0} (b : Bool) {x : A} (y : A) → b ≡ true → cond b x y ≡ x
+pub if_so : {A : Type 0} (b : Bool) {x : A} (y : A) → b ≡ true → cond b x y ≡ x
 if_so true y e = refl
 if_so false y e = cc
 
@@ -125,7 +125,7 @@ final_named : (d : Fields) (fs : List Frame) (n : List ℕ) → final d fs (name
 final_named d [] n = refl
 final_named d (f ∷ fs) n = refl
 
-naming_run : (d : Fields) (fs : List Frame) (part : NamePart) (bytes y v : List ℕ) → NameEnds part y → Apart v
+pub naming_run : (d : Fields) (fs : List Frame) (part : NamePart) (bytes y v : List ℕ) → NameEnds part y → Apart v
     → outcome (st d fs (naming part bytes)) (y ++ v) ≡ outcome (st d fs (at (named (bytes ++ y)))) v
 naming_run d fs part bytes [] [] ends apart = sym (final_named d fs (bytes ++ []))
 naming_run d fs part bytes [] (b ∷ v) ends apart =
@@ -204,7 +204,7 @@ accepts_after d fs n slots.One = refl
 accepts_after d fs n slots.Scalars = refl
 accepts_after d fs n slots.Messages = refl
 
-token_run : (d : Fields) (fs : List Frame) (n : List ℕ) (slot : Slot) (part : ScalarPart) (bytes y v : List ℕ) → ScalarEnds part y → Apart v
+pub token_run : (d : Fields) (fs : List Frame) (n : List ℕ) (slot : Slot) (part : ScalarPart) (bytes y v : List ℕ) → ScalarEnds part y → Apart v
     → outcome (st d fs (token n slot part bytes)) (y ++ v) ≡ outcome (st (append d (scalar n (kind_of part) (bytes ++ y) none)) fs (at (after n slot))) v
 token_run d fs n slot part bytes [] [] ends apart =
     if_so (is_whole_scalar part) None ends ∙ ap (λ z. final (append d (scalar n (kind_of part) z none)) fs (after n slot)) (sym (append-nil bytes))
@@ -300,12 +300,12 @@ piece_step n slot bytes q i c b x e =
     ap (λ z. cond z (Some (at (joined n slot bytes))) (goes_on n slot bytes q (inside_next q i c b))) (not_closing q i c x b e)
     ∙ ap (goes_on n slot bytes q) e
 
-inside_run : (d : Fields) (fs : List Frame) (n : List ℕ) (slot : Slot) (bytes : List ℕ) (q : Quote) (i : Inside) (b : ℕ) (x : Inside × List ℕ) (w : List ℕ) → inside_next q i (class_of b) b ≡ Some x
+pub inside_run : (d : Fields) (fs : List Frame) (n : List ℕ) (slot : Slot) (bytes : List ℕ) (q : Quote) (i : Inside) (b : ℕ) (x : Inside × List ℕ) (w : List ℕ) → inside_next q i (class_of b) b ≡ Some x
     → outcome (st d fs (piece n slot bytes q i)) (b ∷ w) ≡ outcome (st d fs (piece n slot (bytes ++ x.1) q x.0)) w
 inside_run d fs n slot bytes q i b x w e =
     go d fs (piece n slot bytes q i) d fs (piece n slot (bytes ++ x.1) q x.0) b (class_of b) w refl (ap (moves (st d fs (piece n slot bytes q i))) (piece_step n slot bytes q i (class_of b) b x e))
 
-plain_byte : (q : Quote) (c : Class) (b : ℕ) → g.in_piece q c ≡ true → inside_next q (Plain Whole) c b ≡ Some (Plain Whole, b ∷ [])
+pub plain_byte : (q : Quote) (c : Class) (b : ℕ) → g.in_piece q c ≡ true → inside_next q (Plain Whole) c b ≡ Some (Plain Whole, b ∷ [])
 plain_byte Single Backslash b e = cc
 plain_byte Single Beyond b e = cc
 plain_byte Single LineFeed b e = cc
@@ -317,11 +317,11 @@ plain_byte Double LineFeed b e = cc
 plain_byte Double DoubleQuote b e = cc
 plain_byte Double c b e = refl
 
-tail_byte : (q : Quote) (t u : Tail) (c : Class) (b : ℕ) → follow t b ≡ Some u → inside_next q (Plain t) c b ≡ Some (Plain u, b ∷ [])
+pub tail_byte : (q : Quote) (t u : Tail) (c : Class) (b : ℕ) → follow t b ≡ Some u → inside_next q (Plain t) c b ≡ Some (Plain u, b ∷ [])
 tail_byte q Whole u c b e = cc
 tail_byte q t u c b e = ap (option_map (λ u. (Plain u, b ∷ []))) e
 
-escape_byte : (q : Quote) (c : Class) (b v : ℕ) → g.escaped c ≡ Some v → inside_next q Escape c b ≡ Some (Plain Whole, v ∷ [])
+pub escape_byte : (q : Quote) (c : Class) (b v : ℕ) → g.escaped c ≡ Some v → inside_next q Escape c b ≡ Some (Plain Whole, v ∷ [])
 escape_byte q c b v e = ap (λ o. escape_next o c b) e
 
 first_byte : (q : Quote) (c : Class) (b : ℕ) → g.is_first_octal c ≡ true → inside_next q Escape c b ≡ Some (Second (b - 48), [])
@@ -329,21 +329,21 @@ first_byte q Zero b e = refl
 first_byte q One b e = refl
 first_byte q _ b e = cc
 
-closing_byte : (q : Quote) (n : List ℕ) (slot : Slot) (bytes : List ℕ) (b : ℕ) → piece_spot n slot bytes q (Plain Whole) (quote_class q) b ≡ Some (at (joined n slot bytes))
+pub closing_byte : (q : Quote) (n : List ℕ) (slot : Slot) (bytes : List ℕ) (b : ℕ) → piece_spot n slot bytes q (Plain Whole) (quote_class q) b ≡ Some (at (joined n slot bytes))
 closing_byte Single n slot bytes b = refl
 closing_byte Double n slot bytes b = refl
 
 bytes_then : (d : Fields) (fs : List Frame) (n : List ℕ) (slot : Slot) (bytes more e w : List ℕ) → outcome (st d fs (at (joined n slot ((bytes ++ more) ++ e)))) w ≡ outcome (st d fs (at (joined n slot (bytes ++ (more ++ e))))) w
 bytes_then d fs n slot bytes more e w = ap (λ z. outcome (st d fs (at (joined n slot z))) w) (append_assoc bytes more e)
 
-tail_bytes : (d : Fields) (fs : List Frame) (n : List ℕ) (slot : Slot) (bytes : List ℕ) (q : Quote) (t : Tail) (u w : List ℕ) → IsTail t u
+pub tail_bytes : (d : Fields) (fs : List Frame) (n : List ℕ) (slot : Slot) (bytes : List ℕ) (q : Quote) (t : Tail) (u w : List ℕ) → IsTail t u
     → outcome (st d fs (piece n slot bytes q (Plain t))) (u ++ w) ≡ outcome (st d fs (piece n slot (bytes ++ u) q (Plain Whole))) w
 tail_bytes d fs n slot bytes q t u w no_tail = ap (λ z. outcome (st d fs (piece n slot z q (Plain Whole))) w) (sym (append-nil bytes))
 tail_bytes d fs n slot bytes q t u w (byte {u = next} {b = b} {s = s} e h) =
     inside_run d fs n slot bytes q (Plain t) b (Plain next, b ∷ []) (s ++ w) (tail_byte q t next (class_of b) b e)
     ∙ tail_bytes d fs n slot (bytes ++ b ∷ []) q next s w h ∙ ap (λ z. outcome (st d fs (piece n slot z q (Plain Whole))) w) (append_assoc bytes (b ∷ []) s)
 
-content_run : (q : Quote) (d : Fields) (fs : List Frame) (n : List ℕ) (slot : Slot) (bytes u e w : List ℕ) → g.IsContent q u e
+pub content_run : (q : Quote) (d : Fields) (fs : List Frame) (n : List ℕ) (slot : Slot) (bytes u e w : List ℕ) → g.IsContent q u e
     → outcome (st d fs (piece n slot bytes q (Plain Whole))) (u ++ w) ≡ outcome (st d fs (at (joined n slot (bytes ++ e)))) w
 content_run q d fs n slot bytes u e w (g.closes {b = b} k) =
     go d fs (piece n slot bytes q (Plain Whole)) d fs (at (joined n slot bytes)) b (quote_class q) w k (ap (moves (st d fs (piece n slot bytes q (Plain Whole)))) (closing_byte q n slot bytes b))
