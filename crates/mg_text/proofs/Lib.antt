@@ -1,4 +1,5 @@
 pub mod Complete
+pub mod Depth
 pub mod Finish
 pub mod Pieces
 pub mod Sound
