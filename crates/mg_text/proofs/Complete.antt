@@ -25,8 +25,8 @@ use Rattle.mg_text.specs.Tree.{Kind, word, number, quoted, Fields, none, scalar,
 use Rattle.mg_text.specs.Grammar as g
 use Rattle.mg_text.specs.Grammar.{Stands, Gives, Apart, Place, start, named, valued, opened, element, behind, joined, after, scalar_slot, message_slot, piece_slot, list_slot, list_ends, opening, closing, quote_class, in_line, is_separator}
 use Rattle.mg_text.specs.Machine as m
-use Rattle.mg_text.specs.Machine.{Spot, at, comment, naming, token, piece, Frame, State, moves, settled, settled_place, with_scalar, opens_at, closes_at, closes_with, resumed, same_mark, colon_spot, comma_spot, semicolon_spot, bracket_spot, list_spot, list_end_spot, token_spot, letter_spot, quote_spot, step_settled, step_at, comment_spot, awaits, step_naming, step_token, inside_next, is_closing_quote, goes_on, piece_spot, plain_next, escape_next, step_spot, step, final, accepts_spot, accepts, run, outcome, begin, name_next, scalar_next, is_whole_name, is_whole_scalar, kind_of}
-use Rattle.mg_text.proofs.Pieces.{NameEnds, ScalarEnds, LineEnds, InsideEnds, from_if, some_same, word_name, bracket_name, word_token, zero_number, digit_number, point_number, minus_number, line_whole, line_beyond, line_ascii, line_tail, content_whole, inside_content, inside_grow, in_line_tail}
+use Rattle.mg_text.specs.Machine.{Spot, at, comment, naming, token, piece, Frame, State, moves, settled, settled_place, with_scalar, opens_at, closes_at, closes_with, resumed, same_mark, colon_spot, comma_spot, semicolon_spot, bracket_spot, list_spot, list_end_spot, token_spot, letter_spot, quote_spot, step_settled, step_at, comment_spot, awaits, step_naming, step_token, inside_next, is_closing_quote, goes_on, piece_spot, digit_onto, plain_next, escape_next, step_spot, step, final, accepts_spot, accepts, run, outcome, begin, name_next, scalar_next, is_whole_name, is_whole_scalar, kind_of}
+use Rattle.mg_text.proofs.Pieces.{NameEnds, ScalarEnds, LineEnds, InsideEnds, from_if, some_same, word_name, bracket_name, word_token, zero_number, digit_number, point_number, minus_number, line_whole, line_beyond, line_ascii, line_tail, content_whole, inside_content, inside_grow, in_line_tail, octal_value, octal_digit, first_octal_digit}
 use Rattle.mg_text.proofs.Sound.{append_none, append_fields_assoc, same_kind, and_true, not_true}
 
 
@@ -363,13 +363,14 @@ content_run q d fs n slot bytes u e w (g.escape {b = b} {c = c} {v = v} {s = s} 
     ∙ content_run q d fs n slot ((bytes ++ []) ++ v ∷ []) s more w h
     ∙ ap (λ z. outcome (st d fs (at (joined n slot ((z ++ v ∷ []) ++ more)))) w) (append-nil bytes) ∙ bytes_then d fs n slot bytes (v ∷ []) more w
 content_run q d fs n slot bytes u e w (g.octal_escape {b = b} {i = i} {j = j} {k = k} {s = s} {d = more} back f x y h) =
-    let v = g.octal i j k in
+    let v = digit_onto (digit_onto (i - 48) j) k in
     inside_run d fs n slot bytes q (Plain Whole) b (Escape, []) (i ∷ j ∷ k ∷ s ++ w) (ap (λ c. inside_next q (Plain Whole) c b) back)
     ∙ inside_run d fs n slot (bytes ++ []) q Escape i (Second (i - 48), []) (j ∷ k ∷ s ++ w) (first_byte q (class_of i) i f)
-    ∙ inside_run d fs n slot ((bytes ++ []) ++ []) q (Second (i - 48)) j (Third (8 * (i - 48) + (j - 48)), []) (k ∷ s ++ w) (if_so (is_octal (class_of j)) None x)
-    ∙ inside_run d fs n slot (((bytes ++ []) ++ []) ++ []) q (Third (8 * (i - 48) + (j - 48))) k (Plain Whole, v ∷ []) (s ++ w) (if_so (is_octal (class_of k)) None y)
+    ∙ inside_run d fs n slot ((bytes ++ []) ++ []) q (Second (i - 48)) j (Third (digit_onto (i - 48) j), []) (k ∷ s ++ w) (if_so (is_octal (class_of j)) None x)
+    ∙ inside_run d fs n slot (((bytes ++ []) ++ []) ++ []) q (Third (digit_onto (i - 48) j)) k (Plain Whole, v ∷ []) (s ++ w) (if_so (is_octal (class_of k)) None y)
     ∙ content_run q d fs n slot ((((bytes ++ []) ++ []) ++ []) ++ v ∷ []) s more w h
     ∙ ap (λ z. outcome (st d fs (at (joined n slot ((z ++ v ∷ []) ++ more)))) w) (append-nil ((bytes ++ []) ++ []) ∙ append-nil (bytes ++ []) ∙ append-nil bytes) ∙ bytes_then d fs n slot bytes (v ∷ []) more w
+    ∙ ap (λ z. outcome (st d fs (at (joined n slot (bytes ++ z ∷ more)))) w) (sym (octal_value i j k (first_octal_digit i f) (octal_digit j x) (octal_digit k y)))
 
 quote_byte : (d : Fields) (fs : List Frame) (p : Place) (q : Quote) (b : ℕ) (l : List ℕ × Slot × List ℕ) → piece_slot p ≡ Some l
     → step_at (st d fs (at p)) p (quote_class q) b ≡ Some (st d fs (piece l.0 l.1 l.2 q (Plain Whole)))

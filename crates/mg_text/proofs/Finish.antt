@@ -25,7 +25,7 @@ use Rattle.mg_text.specs.Tree.{Kind, word, number, quoted, Fields, none, scalar,
 use Rattle.mg_text.specs.Grammar as g
 use Rattle.mg_text.specs.Grammar.{Stands, Gives, Apart, Place, start, named, valued, opened, element, behind, joined, after, scalar_slot, message_slot, piece_slot, list_slot, list_ends, opening, closing, quote_class, in_line, is_separator}
 use Rattle.mg_text.specs.Machine as m
-use Rattle.mg_text.specs.Machine.{Spot, at, comment, naming, token, piece, Frame, State, moves, settled, settled_place, with_scalar, opens_at, closes_at, closes_with, resumed, same_mark, colon_spot, comma_spot, semicolon_spot, bracket_spot, list_spot, list_end_spot, token_spot, letter_spot, quote_spot, step_settled, step_at, comment_spot, awaits, step_naming, step_token, inside_next, is_closing_quote, goes_on, piece_spot, plain_next, escape_next, step_spot, step, final, accepts_spot, accepts, run, outcome, begin, name_next, scalar_next, is_whole_name, is_whole_scalar, kind_of}
+use Rattle.mg_text.specs.Machine.{Spot, at, comment, naming, token, piece, Frame, State, moves, settled, settled_place, with_scalar, opens_at, closes_at, closes_with, resumed, same_mark, colon_spot, comma_spot, semicolon_spot, bracket_spot, list_spot, list_end_spot, token_spot, letter_spot, quote_spot, step_settled, step_at, comment_spot, awaits, step_naming, step_token, inside_next, is_closing_quote, goes_on, piece_spot, digit_onto, plain_next, escape_next, step_spot, step, final, accepts_spot, accepts, run, outcome, begin, name_next, scalar_next, is_whole_name, is_whole_scalar, kind_of}
 use Rattle.mg_text.proofs.Pieces.{NameEnds, ScalarEnds, LineEnds, InsideEnds, from_if, some_same, word_name, bracket_name, word_token, zero_number, digit_number, point_number, minus_number, line_whole, line_beyond, line_ascii, line_tail, content_whole, inside_content, inside_grow, in_line_tail}
 use Rattle.mg_text.proofs.Sound.{append_none, append_fields_assoc, same_kind, and_true, not_true}
 
@@ -256,12 +256,12 @@ plain_completion d fs n slot bytes q =
 third_completion : (d : Fields) (fs : List Frame) (n : List ℕ) (slot : Slot) (bytes : List ℕ) (q : Quote) (v : ℕ) → Completion (st d fs (piece n slot bytes q (Third v))) (max (level (depth d) fs) (length fs))
 unfolding class_of below_digits digit_class upper_class lower_class
 third_completion d fs n slot bytes q v =
-    before _ _ _ (48 ∷ []) (λ w. inside_run d fs n slot bytes q (Third v) 48 (Plain Whole, (8 * v + (48 - 48)) ∷ []) w refl) (plain_completion d fs n slot (bytes ++ (8 * v + (48 - 48)) ∷ []) q)
+    before _ _ _ (48 ∷ []) (λ w. inside_run d fs n slot bytes q (Third v) 48 (Plain Whole, digit_onto v 48 ∷ []) w refl) (plain_completion d fs n slot (bytes ++ digit_onto v 48 ∷ []) q)
 
 second_completion : (d : Fields) (fs : List Frame) (n : List ℕ) (slot : Slot) (bytes : List ℕ) (q : Quote) (v : ℕ) → Completion (st d fs (piece n slot bytes q (Second v))) (max (level (depth d) fs) (length fs))
 unfolding class_of below_digits digit_class upper_class lower_class
 second_completion d fs n slot bytes q v =
-    before _ _ _ (48 ∷ []) (λ w. inside_run d fs n slot bytes q (Second v) 48 (Third (8 * v + (48 - 48)), []) w refl) (third_completion d fs n slot (bytes ++ []) q (8 * v + (48 - 48)))
+    before _ _ _ (48 ∷ []) (λ w. inside_run d fs n slot bytes q (Second v) 48 (Third (digit_onto v 48), []) w refl) (third_completion d fs n slot (bytes ++ []) q (digit_onto v 48))
 
 escape_completion : (d : Fields) (fs : List Frame) (n : List ℕ) (slot : Slot) (bytes : List ℕ) (q : Quote) → Completion (st d fs (piece n slot bytes q Escape)) (max (level (depth d) fs) (length fs))
 unfolding class_of below_digits digit_class upper_class lower_class

@@ -1,7 +1,8 @@
 -- What completes a token of which a part is read, and how such a rest makes the token of the grammar.
-use Rattle.std.proofs.Common.{◌≡◌, ℕ, ◌+◌, ◌-◌, ◌*◌, List, [], ◌∷◌, ◌++◌, Bool, true, false, not, ◌&&◌, cond, Option, Some, None, refl, sym, ap, ◌∙◌, subst, ◌⊎◌, inl, inr, append_assoc}
+use Rattle.std.proofs.Common.{arith, ◌≤◌, ◌%◌, ◌≡◌, ℕ, ◌+◌, ◌-◌, ◌*◌, List, [], ◌∷◌, ◌++◌, Bool, true, false, not, ◌&&◌, cond, Option, Some, None, refl, sym, ap, ◌∙◌, subst, ◌⊎◌, inl, inr, append_assoc}
 use Rattle.std.proofs.lemmas.List.{append-nil}
 use Rattle.std.specs.Option.{option_map}
+use Rattle.std.proofs.lemmas.Bool.Decides.{nat_tests}
 use Rattle.mg_text.specs.declared.class.Class.{Class}
 use Rattle.mg_text.specs.declared.class.Class.TheVariants.{Blank, LineFeed, Hash, DoubleQuote, SingleQuote, Backslash, Colon, Comma, Semicolon, BraceOpen, BraceClose, AngleOpen, AngleClose, BracketOpen, BracketClose, Minus, Plus, Dot, Slash, Zero, One, OctalDigit, Digit, LetterE, LetterF, HexLetter, LetterX, LetterN, LetterR, LetterT, Letter, Other, Beyond}
 use Rattle.mg_text.specs.declared.parts.Quote.{Quote}
@@ -14,10 +15,10 @@ use Rattle.mg_text.specs.declared.parts.ScalarPart.{ScalarPart}
 use Rattle.mg_text.specs.declared.parts.ScalarPart.TheVariants as sp
 use Rattle.mg_text.specs.declared.parts.Inside.{Inside}
 use Rattle.mg_text.specs.declared.parts.Inside.TheVariants.{Plain, Escape, Second, Third}
-use Rattle.mg_text.specs.Byte.{class_of, is_letter, is_octal, is_digit, is_hex, is_word_byte, joins, lead, follow, IsTail, whole as no_tail, byte}
+use Rattle.mg_text.specs.Byte.{below_digits, digit_class, upper_class, lower_class, class_of, is_letter, is_octal, is_digit, is_hex, is_word_byte, joins, lead, follow, IsTail, whole as no_tail, byte}
 use Rattle.mg_text.specs.Grammar as g
 use Rattle.mg_text.specs.Grammar.{AllOf, Begins, Some1, IsWord, IsPath, IsName, IsNumber, IsUnsigned, IsEnd, IsSign, IsSuffix, IsLine, IsContent, in_line, in_piece, quote_class, escaped, is_first_octal, octal}
-use Rattle.mg_text.specs.Machine.{name_next, is_whole_name, scalar_next, is_whole_scalar, plain_next, escape_next, inside_next, is_closing_quote}
+use Rattle.mg_text.specs.Machine.{name_next, is_whole_name, scalar_next, is_whole_scalar, plain_next, escape_next, inside_next, is_closing_quote, digit_onto}
 
 -- these bytes end a name of which a part is read
 abbrev pub NameEnds : NamePart → List ℕ → Type 0
@@ -40,8 +41,8 @@ pub data InsideEnds (q : Quote) : Inside → List ℕ → List ℕ → Type 0 wh
   in_octal : {i j k : ℕ} {s d : List ℕ} → is_first_octal (class_of i) ≡ true → is_octal (class_of j) ≡ true → is_octal (class_of k) ≡ true
       → IsContent q s d → InsideEnds q Escape (i ∷ j ∷ k ∷ s) (octal i j k ∷ d)
   in_second : {v j k : ℕ} {s d : List ℕ} → is_octal (class_of j) ≡ true → is_octal (class_of k) ≡ true
-      → IsContent q s d → InsideEnds q (Second v) (j ∷ k ∷ s) ((8 * (8 * v + (j - 48)) + (k - 48)) ∷ d)
-  in_third : {v k : ℕ} {s d : List ℕ} → is_octal (class_of k) ≡ true → IsContent q s d → InsideEnds q (Third v) (k ∷ s) ((8 * v + (k - 48)) ∷ d)
+      → IsContent q s d → InsideEnds q (Second v) (j ∷ k ∷ s) (digit_onto (digit_onto v j) k ∷ d)
+  in_third : {v k : ℕ} {s d : List ℕ} → is_octal (class_of k) ≡ true → IsContent q s d → InsideEnds q (Third v) (k ∷ s) (digit_onto v k ∷ d)
 
 pub some_same : {A : Type 0} {x y : A} → Some x ≡ Some y → x ≡ y
 some_same e = cc
@@ -409,13 +410,25 @@ plain_grow q c b n y e k i =
     let m = from_if (in_piece q c) i in
     subst (λ n. Grows q (Plain Whole) b y e n) m.1 (λ h. plain_ascii q b y e (ap (in_piece q) k ∙ m.0) h)
 
+pub octal_digit : (b : ℕ) → is_octal (class_of b) ≡ true → b - 48 ≤ 7
+unfolding class_of below_digits digit_class upper_class lower_class
+octal_digit b e = grind (arith, nat_tests)
+
+pub first_octal_digit : (b : ℕ) → is_first_octal (class_of b) ≡ true → b - 48 ≤ 1
+unfolding class_of below_digits digit_class upper_class lower_class
+first_octal_digit b e = grind (arith, nat_tests)
+
+pub octal_value : (i j k : ℕ) → i - 48 ≤ 1 → j - 48 ≤ 7 → k - 48 ≤ 7 → octal i j k ≡ digit_onto (digit_onto (i - 48) j) k
+octal_value i j k f g h = omega arith
+
 octal_start : (q : Quote) (b v : ℕ) (y e : List ℕ) → v ≡ b - 48 → is_first_octal (class_of b) ≡ true → (i : Inside) → i ≡ Second v → InsideEnds q i y e → InsideEnds q Escape (b ∷ y) e
 octal_start q b v y e ve f i ie (in_char h c) = cc
 octal_start q b v y e ve f i ie (in_escape h c) = cc
 octal_start q b v y e ve f i ie (in_octal h j k c) = cc
 octal_start q b v y e ve f i ie (in_second {v = w} {j = j} {k = k} {s = s} {d = d} h l c) =
     let same : b - 48 ≡ w = cc in
-    subst (λ z. InsideEnds q Escape (b ∷ j ∷ k ∷ s) ((8 * (8 * z + (j - 48)) + (k - 48)) ∷ d)) same (in_octal f h l c)
+    let value : octal b j k ≡ digit_onto (digit_onto w j) k = octal_value b j k (first_octal_digit b f) (octal_digit j h) (octal_digit k l) ∙ ap (λ z. digit_onto (digit_onto z j) k) same in
+    subst (λ z. InsideEnds q Escape (b ∷ j ∷ k ∷ s) (z ∷ d)) value (in_octal f h l c)
 octal_start q b v y e ve f i ie (in_third h c) = cc
 
 escape_grow : (q : Quote) (o : Option ℕ) (c : Class) (b : ℕ) (n : Inside × List ℕ) (y e : List ℕ) → class_of b ≡ c → escaped (class_of b) ≡ o → escape_next o c b ≡ Some n → Grows q Escape b y e n
@@ -425,14 +438,14 @@ escape_grow q None c b n y e k o i =
     let m = from_if (is_first_octal c) i in
     subst (λ n. Grows q Escape b y e n) m.1 (λ h. octal_start q b (b - 48) y e refl (ap is_first_octal k ∙ m.0) (Second (b - 48)) refl h)
 
-second_grow : (q : Quote) (v : ℕ) (b : ℕ) (y e : List ℕ) → is_octal (class_of b) ≡ true → (i : Inside) → i ≡ Third (8 * v + (b - 48)) → InsideEnds q i y e → InsideEnds q (Second v) (b ∷ y) e
+second_grow : (q : Quote) (v : ℕ) (b : ℕ) (y e : List ℕ) → is_octal (class_of b) ≡ true → (i : Inside) → i ≡ Third (digit_onto v b) → InsideEnds q i y e → InsideEnds q (Second v) (b ∷ y) e
 second_grow q v b y e f i ie (in_char h c) = cc
 second_grow q v b y e f i ie (in_escape h c) = cc
 second_grow q v b y e f i ie (in_octal h j k c) = cc
 second_grow q v b y e f i ie (in_second h j c) = cc
 second_grow q v b y e f i ie (in_third {v = w} {k = k} {s = s} {d = d} h c) =
-    let same : 8 * v + (b - 48) ≡ w = cc in
-    subst (λ z. InsideEnds q (Second v) (b ∷ k ∷ s) ((8 * z + (k - 48)) ∷ d)) same (in_second f h c)
+    let same : digit_onto v b ≡ w = cc in
+    subst (λ z. InsideEnds q (Second v) (b ∷ k ∷ s) (digit_onto z k ∷ d)) same (in_second f h c)
 
 tail_grow : (q : Quote) (t : Tail) (b : ℕ) (n : Inside × List ℕ) (y e : List ℕ) → option_map (λ u. (Plain u, b ∷ [])) (follow t b) ≡ Some n → Grows q (Plain t) b y e n
 tail_grow q t b n y e i =

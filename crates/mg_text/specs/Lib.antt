@@ -1,5 +1,6 @@
 pub mod Byte
 pub mod Grammar
 pub mod Machine
+pub mod Running
 pub mod Tree
 pub mod View

@@ -1,6 +1,6 @@
 -- How a text is read byte by byte, with a stack of the open messages. The grammar doesn't need this page: the parser's
 -- own functions cite it, and proofs/ ties it to the grammar.
-use Rattle.std.specs.Prelude.{◌≡◌, ℕ, ◌+◌, ◌-◌, ◌*◌, List, [], ◌∷◌, ◌++◌, Bool, true, false, not, ◌&&◌, if◌then◌else◌, Option, Some, None, option_and_then}
+use Rattle.std.specs.Prelude.{◌≡◌, ℕ, ◌+◌, ◌-◌, ◌*◌, ◌%◌, List, [], ◌∷◌, ◌++◌, Bool, true, false, not, ◌&&◌, if◌then◌else◌, Option, Some, None, option_and_then}
 use Rattle.std.specs.Option.{option_map}
 use Rattle.mg_text.specs.declared.class.Class.{Class}
 use Rattle.mg_text.specs.declared.class.Class.TheVariants.{Blank, LineFeed, Hash, DoubleQuote, SingleQuote, Backslash, Colon, Comma, Semicolon, BraceOpen, BraceClose, AngleOpen, AngleClose, BracketOpen, BracketClose, Minus, Plus, Dot, Slash, Zero, One, OctalDigit, Digit, LetterE, LetterF, HexLetter, LetterX, LetterN, LetterR, LetterT, Letter, Other, Beyond}
@@ -241,12 +241,16 @@ abbrev pub escape_next : Option ℕ → Class → ℕ → Option (Inside × List
 escape_next (Some v) c b = Some (Plain Whole, v ∷ [])
 escape_next None c b = if is_first_octal c then Some (Second (b - 48), []) else None
 
+-- an octal digit after others, in a byte
+abbrev pub digit_onto : ℕ → ℕ → ℕ
+digit_onto v b = (8 * v + (b - 48)) % 256
+
 abbrev pub inside_next : Quote → Inside → Class → ℕ → Option (Inside × List ℕ)
 inside_next q (Plain Whole) c b = plain_next q c b
 inside_next q (Plain t) c b = option_map (λ u. (Plain u, b ∷ [])) (follow t b)
 inside_next q Escape c b = escape_next (escaped c) c b
-inside_next q (Second v) c b = if is_octal c then Some (Third (8 * v + (b - 48)), []) else None
-inside_next q (Third v) c b = if is_octal c then Some (Plain Whole, (8 * v + (b - 48)) ∷ []) else None
+inside_next q (Second v) c b = if is_octal c then Some (Third (digit_onto v b), []) else None
+inside_next q (Third v) c b = if is_octal c then Some (Plain Whole, digit_onto v b ∷ []) else None
 
 abbrev pub is_closing_quote : Quote → Inside → Class → Bool
 is_closing_quote Single (Plain Whole) SingleQuote = true

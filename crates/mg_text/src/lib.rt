@@ -3,6 +3,7 @@
 #![tactic(auto)]
 
 mod class;
+mod next;
 mod parts;
 mod tree;
 

@@ -1,0 +1,40 @@
+-- What the parser's own types stand for in the machine.
+use Rattle.std.specs.Prelude.{ℕ, List, [], ◌∷◌, Bool, Option, Some, None}
+use Rattle.mg_text.specs.declared.parts.Slot.{Slot}
+use Rattle.mg_text.specs.declared.parts.Between.{Between}
+use Rattle.mg_text.specs.declared.parts.Between.TheVariants as between
+use Rattle.mg_text.specs.declared.parts.Reading.{Reading}
+use Rattle.mg_text.specs.declared.parts.Reading.TheVariants as reading
+use Rattle.mg_text.specs.declared.parts.Inside.{Inside}
+use Rattle.mg_text.specs.Grammar.{Place, start, named, valued, opened, element, behind, joined}
+use Rattle.mg_text.specs.Machine.{Spot, at, comment, naming, token, piece}
+
+abbrev pub place_of : Between → List ℕ → List ℕ → Place
+place_of (between.Start f) name bytes = start f
+place_of between.Named name bytes = named name
+place_of between.Valued name bytes = valued name
+place_of (between.Opened c) name bytes = opened name c
+place_of (between.Element m) name bytes = element name m
+place_of (between.Behind m) name bytes = behind name m
+place_of (between.Joined slot) name bytes = joined name slot bytes
+
+abbrev pub spot_of : Reading → List ℕ → List ℕ → Spot
+spot_of (reading.At p) name bytes = at (place_of p name bytes)
+spot_of (reading.Comment p t) name bytes = comment (place_of p name bytes) t
+spot_of (reading.Name part) name bytes = naming part bytes
+spot_of (reading.Scalar slot part) name bytes = token name slot part bytes
+spot_of (reading.Piece slot q i) name bytes = piece name slot bytes q i
+
+-- a slot with the name of the field
+abbrev pub named_slot : List ℕ → Option Slot → Option (List ℕ × Slot)
+named_slot name None = None
+named_slot name (Some slot) = Some (name, slot)
+
+abbrev pub named_list : List ℕ → Option Bool → Option (List ℕ × Bool)
+named_list name None = None
+named_list name (Some colon) = Some (name, colon)
+
+-- what is read next within a piece, and the byte that is spelled, if any
+abbrev pub spelled : Option ℕ → List ℕ
+spelled None = []
+spelled (Some b) = b ∷ []
