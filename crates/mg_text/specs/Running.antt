@@ -38,3 +38,7 @@ named_list name (Some colon) = Some (name, colon)
 abbrev pub spelled : Option ℕ → List ℕ
 spelled None = []
 spelled (Some b) = b ∷ []
+
+-- what is read next within a piece, and what is spelled
+abbrev pub spelling_of : Inside × Option ℕ → Inside × List ℕ
+spelling_of next = (next.0, spelled next.1)

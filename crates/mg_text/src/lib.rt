@@ -3,6 +3,8 @@
 #![tactic(auto)]
 
 mod class;
+mod between;
+mod inside;
 mod next;
 mod parts;
 mod tree;
