@@ -4,3 +4,4 @@ pub mod Finish
 pub mod Pieces
 pub mod Sound
 pub mod Spelled
+pub mod Views

@@ -1,5 +1,9 @@
 -- What the parser's own types stand for in the machine.
-use Rattle.std.specs.Prelude.{ℕ, List, [], ◌∷◌, Bool, Option, Some, None}
+use Rattle.std.specs.Prelude.{ℕ, List, [], ◌∷◌, Bool, true, false, Option, Some, None, ◌≡◌, map, reverse}
+use Rattle.mg_text.specs.declared.machine.Frame.{Frame}
+use Rattle.mg_text.specs.declared.machine.Machine.{Machine}
+use Rattle.mg_text.specs.declared.parts.Kind.{Kind}
+use Rattle.mg_text.specs.declared.parts.Kind.TheVariants as kinds
 use Rattle.mg_text.specs.declared.parts.Slot.{Slot}
 use Rattle.mg_text.specs.declared.parts.Between.{Between}
 use Rattle.mg_text.specs.declared.parts.Between.TheVariants as between
@@ -7,7 +11,10 @@ use Rattle.mg_text.specs.declared.parts.Reading.{Reading}
 use Rattle.mg_text.specs.declared.parts.Reading.TheVariants as reading
 use Rattle.mg_text.specs.declared.parts.Inside.{Inside}
 use Rattle.mg_text.specs.Grammar.{Place, start, named, valued, opened, element, behind, joined}
-use Rattle.mg_text.specs.Machine.{Spot, at, comment, naming, token, piece}
+use Rattle.mg_text.specs.Machine as model
+use Rattle.mg_text.specs.Machine.{Spot, at, comment, naming, token, piece, State}
+use Rattle.mg_text.specs.Tree as tree
+use Rattle.mg_text.specs.View.{fields_view}
 
 abbrev pub place_of : Between → List ℕ → List ℕ → Place
 place_of (between.Start f) name bytes = start f
@@ -42,3 +49,23 @@ spelled (Some b) = b ∷ []
 -- what is read next within a piece, and what is spelled
 abbrev pub spelling_of : Inside × Option ℕ → Inside × List ℕ
 spelling_of next = (next.0, spelled next.1)
+
+abbrev pub kind_view : Kind → tree.Kind
+kind_view kinds.Word = tree.word
+kind_view kinds.Number = tree.number
+kind_view kinds.Quoted = tree.quoted
+
+abbrev pub frame_of : Frame → model.Frame
+frame_of f = record { before = fields_view f.before.items; name = f.name; slot = f.slot; mark = f.mark }
+
+-- the open messages, the innermost first
+abbrev pub frames_of : List Frame → List model.Frame
+frames_of fs = map frame_of (reverse fs)
+
+abbrev pub state_of : Machine → State
+state_of m = record { done = fields_view m.done.items; frames = frames_of m.frames.items; spot = spot_of m.reading m.name m.token.items }
+
+-- whether a step was taken, and to which state
+abbrev pub Took : Option State → Bool → State → Type 0
+Took o true s = o ≡ Some s
+Took o false s = o ≡ None

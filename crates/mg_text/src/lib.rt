@@ -5,6 +5,7 @@
 mod class;
 mod between;
 mod inside;
+mod machine;
 mod next;
 mod parts;
 mod tree;

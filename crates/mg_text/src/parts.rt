@@ -94,3 +94,11 @@ pub enum Reading {
     Scalar(Slot, ScalarPart),
     Piece(Slot, Quote, Inside),
 }
+
+/// The kind of a scalar.
+#[derive(Clone, Copy, Debug)]
+pub enum Kind {
+    Word,
+    Number,
+    Quoted,
+}
