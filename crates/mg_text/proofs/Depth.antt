@@ -25,7 +25,7 @@ use Rattle.mg_text.specs.Tree.{Kind, word, number, quoted, Fields, none, scalar,
 use Rattle.mg_text.specs.Grammar as g
 use Rattle.mg_text.specs.Grammar.{Stands, Gives, Apart, Place, start, named, valued, opened, element, behind, joined, after, scalar_slot, message_slot, piece_slot, list_slot, list_ends, opening, closing, quote_class, in_line, is_separator}
 use Rattle.mg_text.specs.Machine as m
-use Rattle.mg_text.specs.Machine.{Spot, at, comment, naming, token, piece, Frame, State, moves, settled, settled_place, with_scalar, opens_at, closes_at, closes_with, resumed, same_mark, colon_spot, comma_spot, semicolon_spot, bracket_spot, list_spot, list_end_spot, token_spot, letter_spot, quote_spot, step_settled, step_at, comment_spot, awaits, step_naming, step_token, inside_next, is_closing_quote, goes_on, piece_spot, plain_next, escape_next, step_spot, step, final, accepts_spot, accepts, run, outcome, begin, name_next, scalar_next, is_whole_name, is_whole_scalar, kind_of}
+use Rattle.mg_text.specs.Machine.{Spot, at, comment, naming, token, piece, Frame, State, moves, moved, settled, settled_place, with_scalar, opens_at, closes_at, closes_with, resumed, same_mark, colon_spot, comma_spot, semicolon_spot, bracket_spot, list_spot, list_end_spot, token_spot, letter_spot, quote_spot, step_settled, step_at, comment_spot, awaits, step_naming, step_token, inside_next, is_closing_quote, goes_on, piece_spot, plain_next, escape_next, step_spot, step, final, accepts_spot, accepts, run, outcome, begin, name_next, scalar_next, is_whole_name, is_whole_scalar, kind_of}
 use Rattle.mg_text.proofs.Pieces.{NameEnds, ScalarEnds, LineEnds, InsideEnds, from_if, some_same, word_name, bracket_name, word_token, zero_number, digit_number, point_number, minus_number, line_whole, line_beyond, line_ascii, line_tail, content_whole, inside_content, inside_grow, in_line_tail}
 use Rattle.mg_text.proofs.Sound.{append_none, append_fields_assoc, same_kind, and_true, not_true}
 
@@ -217,9 +217,9 @@ comment_deep p d t c b spot k e = awaits_deep p d (follow t b) spot k e
 
 naming_shallow : (most : ℕ) (s : State) (part : NamePart) (bytes : List ℕ) (c : Class) (b : ℕ) (o : Option NamePart) → level (depth s.done) s.frames ≤ most → ShallowAt most (step_naming s part bytes c b o)
 naming_shallow most s part bytes c b (Some next) h = λ _. record { within = h; deep_enough = tt }
-naming_shallow most s part bytes c b None h = either (is_whole_name part && not (joins c)) (at_shallow most s (named bytes) c b h tt)
+naming_shallow most s part bytes c b None h = either (is_whole_name part && not (joins c)) (at_shallow most (moved s (named bytes)) (named bytes) c b h tt)
   where
-    either : (x : Bool) → ShallowAt most (step_at s (named bytes) c b) → ShallowAt most (cond x (step_at s (named bytes) c b) None)
+    either : (x : Bool) → ShallowAt most (step_at (moved s (named bytes)) (named bytes) c b) → ShallowAt most (cond x (step_at (moved s (named bytes)) (named bytes) c b) None)
     either true k = k
     either false k = tt
 

@@ -23,7 +23,7 @@ use Rattle.mg_text.specs.Tree.{Kind, word, number, quoted, Fields, none, scalar,
 use Rattle.mg_text.specs.Grammar as g
 use Rattle.mg_text.specs.Grammar.{Stands, Gives, Apart, Place, start, named, valued, opened, element, behind, joined, after, scalar_slot, message_slot, piece_slot, list_slot, list_ends, opening, closing, quote_class, in_line, is_separator}
 use Rattle.mg_text.specs.Machine as m
-use Rattle.mg_text.specs.Machine.{Spot, at, comment, naming, token, piece, Frame, State, moves, settled, settled_place, with_scalar, opens_at, closes_at, closes_with, resumed, same_mark, colon_spot, comma_spot, semicolon_spot, bracket_spot, list_spot, list_end_spot, token_spot, letter_spot, quote_spot, step_settled, step_at, comment_spot, awaits, step_naming, step_token, inside_next, is_closing_quote, goes_on, piece_spot, step_spot, step, final, accepts_spot, accepts, run, outcome, begin, name_next, scalar_next, is_whole_name, is_whole_scalar, kind_of}
+use Rattle.mg_text.specs.Machine.{Spot, at, comment, naming, token, piece, Frame, State, moves, moved, settled, settled_place, with_scalar, opens_at, closes_at, closes_with, resumed, same_mark, colon_spot, comma_spot, semicolon_spot, bracket_spot, list_spot, list_end_spot, token_spot, letter_spot, quote_spot, step_settled, step_at, comment_spot, awaits, step_naming, step_token, inside_next, is_closing_quote, goes_on, piece_spot, step_spot, step, final, accepts_spot, accepts, run, outcome, begin, name_next, scalar_next, is_whole_name, is_whole_scalar, kind_of}
 use Rattle.mg_text.proofs.Pieces.{NameEnds, ScalarEnds, LineEnds, InsideEnds, from_if, some_same, word_name, bracket_name, word_token, zero_number, digit_number, point_number, minus_number, line_whole, line_beyond, line_ascii, line_tail, content_whole, inside_content, inside_grow, in_line_tail}
 
 pub append_none : (d : Fields) → append d none ≡ d
@@ -312,11 +312,11 @@ naming_grow s part bytes c b w t (Some next) k e h =
     one s (naming part bytes) (naming next (bytes ++ b ∷ [])) b w t
     (λ u z x i (y, v, ue, ends, apart, st). (b ∷ y, v, ap (λ z. b ∷ z) ue, (next, e, ends), apart, subst (λ z. Stands (named z) v x) (append_assoc bytes (b ∷ []) y) st)) h
 naming_grow s part bytes c b w t None k e h =
-    let r = if_taken (is_whole_name part && not (joins c)) (step_at s (named bytes) c b) w t h in
+    let r = if_taken (is_whole_name part && not (joins c)) (step_at (moved s (named bytes)) (named bytes) c b) w t h in
     let a = and_true (is_whole_name part) (not (joins c)) r.0 in
     same_bytes s.done s.frames (naming part bytes) (at (named bytes)) (b ∷ w) t
     (λ u z x i st. ([], u, refl, a.0, apart_front b w u z (ap joins k ∙ not_true (joins c) a.1) i, subst (λ z. Stands (named z) u x) (sym (append-nil bytes)) st))
-    (at_grow s (named bytes) c b w t k r.1)
+    (at_grow (moved s (named bytes)) (named bytes) c b w t k r.1)
 
 token_ends_grow : (s : State) (n : List ℕ) (slot : Slot) (part : ScalarPart) (bytes : List ℕ) (c : Class) (b : ℕ) (w : List ℕ) (t : Fields) (o : Option ScalarPart) → class_of b ≡ c
     → scalar_next part (class_of b) ≡ o → CompletesAt (step_token s n slot part bytes c b o) w t → Completes s.done s.frames (token n slot part bytes) (b ∷ w) t

@@ -9,6 +9,7 @@ use Rattle.mg_text.specs.declared.tree.TreeValue.{TreeValue, the_lemmas}
 use Rattle.mg_text.specs.Tree.{Kind, Fields, none, scalar, message, append}
 use Rattle.mg_text.specs.View.{Value, simple, inner, Entry, put, fields_of, fields_view, field_view, value_view, view, scalar_view}
 use Rattle.mg_text.specs.declared.machine.Frame.{Frame}
+use Rattle.mg_text.specs.Machine as model
 use Rattle.mg_text.specs.Running.{frames_of, frame_of}
 
 put-append : (n : List ℕ) (v : Value) (a b : Fields) → append (put n v a) b ≡ put n v (append a b)
@@ -37,14 +38,16 @@ view-record t = search (rules, the_lemmas)
 pub frames_of-push : (fs : List Frame) (f : Frame) → frames_of (fs ++ f ∷ []) ≡ frame_of f ∷ frames_of fs
 frames_of-push fs f = ap (map frame_of) (reverse-append fs (f ∷ []))
 
-pub pushed_scalar : (fs gs : List Field) (name : List ℕ) (s : Scalar) (k : Kind) (bytes : List ℕ)
-    → gs ≡ fs ++ (record { name = name; value = values.Scalar s }) ∷ [] → scalar_view s ≡ simple k bytes → fields_view gs ≡ append (fields_view fs) (scalar name k bytes none)
-pushed_scalar fs gs name s k bytes e h =
+pub pushed : (fs gs : List Field) (name : List ℕ) (value : TreeValue) (v : Value)
+    → gs ≡ fs ++ (record { name = name; value = value }) ∷ [] → value_view value ≡ v → fields_view gs ≡ append (fields_view fs) (put name v none)
+pushed fs gs name value v e h =
     ap fields_view e ∙ fields_view-push fs _ ∙ ap (λ x. append (fields_view fs) (put x.name x.value none)) (field-record _)
-    ∙ ap (λ v. append (fields_view fs) (put name v none)) (value-scalar s ∙ h)
+    ∙ ap (λ v. append (fields_view fs) (put name v none)) h
 
-pub pushed_message : (fs gs inside : List Field) (name : List ℕ) (t : Tree)
-    → gs ≡ fs ++ (record { name = name; value = values.Message t }) ∷ [] → (out-Tree t).fields.items ≡ inside → fields_view gs ≡ append (fields_view fs) (message name (fields_view inside) none)
-pushed_message fs gs inside name t e h =
-    ap fields_view e ∙ fields_view-push fs _ ∙ ap (λ x. append (fields_view fs) (put x.name x.value none)) (field-record _)
-    ∙ ap (λ v. append (fields_view fs) (put name v none)) (value-message t ∙ ap inner (view-record t ∙ ap fields_view h))
+abbrev pub record_of : Fields → List model.Frame → model.Spot → model.State
+record_of d fs spot = record { done = d; frames = fs; spot = spot }
+
+-- a state by its parts
+pub same_state : (a b : Fields) (x y : List model.Frame) (p q : model.Spot) → a ≡ b → x ≡ y → p ≡ q
+    → record_of a x p ≡ record_of b y q
+same_state a b x y p q e f h = cc

@@ -108,6 +108,9 @@ abbrev pub moves : State → Option Spot → Option State
 moves s None = None
 moves s (Some spot) = Some (record { done = s.done; frames = s.frames; spot = spot })
 
+abbrev pub moved : State → Place → State
+moved s p = record { done = s.done; frames = s.frames; spot = at p }
+
 -- with one more scalar, at the place after it
 abbrev pub with_scalar : State → List ℕ → Slot → Kind → List ℕ → State
 with_scalar s n slot kind bytes = record { done = append s.done (scalar n kind bytes none); frames = s.frames; spot = at (after n slot) }
@@ -115,7 +118,7 @@ with_scalar s n slot kind bytes = record { done = append s.done (scalar n kind b
 -- A string is whole where no piece follows.
 abbrev pub settled : State → Place → State
 settled s (joined n slot bytes) = with_scalar s n slot quoted bytes
-settled s p = record { done = s.done; frames = s.frames; spot = at p }
+settled s p = moved s p
 
 abbrev pub settled_place : Place → Place
 settled_place (joined n slot bytes) = after n slot
@@ -224,7 +227,7 @@ comment_spot p t c b = awaits p (follow t b)
 
 abbrev pub step_naming : State → NamePart → List ℕ → Class → ℕ → Option NamePart → Option State
 step_naming s part bytes c b (Some next) = moves s (Some (naming next (bytes ++ b ∷ [])))
-step_naming s part bytes c b None = if is_whole_name part && not (joins c) then step_at s (named bytes) c b else None
+step_naming s part bytes c b None = if is_whole_name part && not (joins c) then step_at (moved s (named bytes)) (named bytes) c b else None
 
 abbrev pub step_token : State → List ℕ → Slot → ScalarPart → List ℕ → Class → ℕ → Option ScalarPart → Option State
 step_token s n slot part bytes c b (Some next) = moves s (Some (token n slot next (bytes ++ b ∷ [])))
