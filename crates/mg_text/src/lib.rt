@@ -8,6 +8,7 @@ mod inside;
 mod machine;
 mod next;
 mod parts;
+mod step;
 mod tree;
 
 pub use tree::{Field, Scalar, Tree, TreeValue};

@@ -39,7 +39,7 @@ pub struct Machine {
 }
 
 /// The text of bytes that are UTF-8.
-fn text_of(bytes: Vec<u8>) -> Result<MgText, AllocError>
+pub fn text_of(bytes: Vec<u8>) -> Result<MgText, AllocError>
     ensures { IfOk result (λ t. t ≡ bytes.items) }
 {
     match String::from_utf8(bytes) {
