@@ -1,3 +1,4 @@
+pub mod Answer
 pub mod Byte
 pub mod Grammar
 pub mod Machine

@@ -4,11 +4,18 @@
 
 mod class;
 mod between;
+mod fault;
 mod inside;
 mod machine;
 mod next;
+mod parse;
 mod parts;
 mod step;
 mod tree;
 
+pub use fault::TextFault;
+pub use parse::parse;
 pub use tree::{Field, Scalar, Tree, TreeValue};
+
+#[cfg(test)]
+mod tests;
