@@ -78,7 +78,7 @@ moves_shallow : (most : ℕ) (s : State) (o : Option Spot) → level (depth s.do
 moves_shallow most s None h f = tt
 moves_shallow most s (Some spot) h f = λ _. record { within = h; deep_enough = f spot refl }
 
-depth-scalar : (d : Fields) (n : List ℕ) (k : Kind) (bytes : List ℕ) → depth (append d (scalar n k bytes none)) ≡ depth d
+pub depth-scalar : (d : Fields) (n : List ℕ) (k : Kind) (bytes : List ℕ) → depth (append d (scalar n k bytes none)) ≡ depth d
 depth-scalar d n k bytes = omega (arith, depth-append d (scalar n k bytes none))
 
 settled_within : (most : ℕ) (s : State) (p : Place) → level (depth s.done) s.frames ≤ most → level (depth (settled s p).done) (settled s p).frames ≤ most

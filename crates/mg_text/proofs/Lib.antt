@@ -1,5 +1,6 @@
 pub mod Complete
 pub mod Depth
+pub mod Faults
 pub mod Finish
 pub mod Pieces
 pub mod Sound

@@ -1,5 +1,5 @@
 -- What the parser's own types stand for in the machine.
-use Rattle.std.specs.Prelude.{ℕ, List, [], ◌∷◌, Bool, true, false, Option, Some, None, ◌≡◌, map, reverse}
+use Rattle.std.specs.Prelude.{ℕ, List, [], ◌∷◌, Bool, true, false, Option, Some, None, ◌≡◌, ◌≤◌, map, reverse, Result, Ok, Err}
 use Rattle.mg_text.specs.declared.machine.Frame.{Frame}
 use Rattle.mg_text.specs.declared.machine.Machine.{Machine}
 use Rattle.mg_text.specs.declared.parts.Kind.{Kind}
@@ -10,11 +10,16 @@ use Rattle.mg_text.specs.declared.parts.Between.TheVariants as between
 use Rattle.mg_text.specs.declared.parts.Reading.{Reading}
 use Rattle.mg_text.specs.declared.parts.Reading.TheVariants as reading
 use Rattle.mg_text.specs.declared.parts.Inside.{Inside}
-use Rattle.mg_text.specs.Grammar.{Place, start, named, valued, opened, element, behind, joined}
+use Rattle.mg_text.specs.Grammar.{Gives, Place, start, named, valued, opened, element, behind, joined}
 use Rattle.mg_text.specs.Machine as model
 use Rattle.mg_text.specs.Machine.{Spot, at, comment, naming, token, piece, State}
 use Rattle.mg_text.specs.Tree as tree
-use Rattle.mg_text.specs.View.{fields_view}
+use Rattle.mg_text.specs.Tree.{depth}
+use Rattle.mg_text.specs.View.{view, fields_view}
+use Rattle.mg_text.specs.Answer.{max_depth, IsFault}
+use Rattle.mg_text.specs.declared.tree.Tree.{Tree}
+use Rattle.mg_text.specs.declared.fault.TextFault.{TextFault}
+use Rattle.mg_text.specs.declared.fault.TextFault.TheVariants.{Syntax, TooDeep, TooLong, OutOfMemory}
 
 abbrev pub place_of : Between → List ℕ → List ℕ → Place
 place_of (between.Start f) name bytes = start f
@@ -69,3 +74,16 @@ state_of m = record { done = fields_view m.done.items; frames = frames_of m.fram
 abbrev pub Took : Option State → Bool → State → Type 0
 Took o true s = o ≡ Some s
 Took o false s = o ≡ None
+
+-- what the end of a file at this place leads to
+abbrev pub Ended : State → ℕ → Result Tree TextFault → Type 0
+Ended s place (Ok tree) = model.outcome s (10 ∷ []) ≡ Some (view tree)
+Ended s place (Err (Syntax where_is)) = (where_is ≡ place) × (model.outcome s (10 ∷ []) ≡ None)
+Ended s place (Err OutOfMemory) = Unit {0}
+Ended s place (Err fault) = ⊥
+
+-- the answer for a file that isn't too long
+abbrev pub IsAnswered : List ℕ → Result Tree TextFault → Type 0
+IsAnswered file (Ok tree) = Gives file (view tree) × (depth (view tree) ≤ max_depth)
+IsAnswered file (Err TooLong) = ⊥
+IsAnswered file (Err fault) = IsFault file fault

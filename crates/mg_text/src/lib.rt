@@ -8,13 +8,14 @@ mod fault;
 mod inside;
 mod machine;
 mod next;
-mod parse;
+
 mod parts;
+mod reader;
 mod step;
 mod tree;
 
 pub use fault::TextFault;
-pub use parse::parse;
+pub use reader::parse;
 pub use tree::{Field, Scalar, Tree, TreeValue};
 
 #[cfg(test)]

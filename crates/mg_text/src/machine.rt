@@ -80,6 +80,13 @@ impl Machine {
 }
 
 impl Machine {
+    /// How many messages are open.
+    pub fn depth(&self) -> usize
+        ensures { result ≡ length (frames_of self.now.frames.items) }
+    {
+        self.frames.len()
+    }
+
     /// The name of the field, for a value: a list keeps it for its other elements.
     fn take_name(&mut self, alloc: Global, slot: Slot) -> Result<MgText, AllocError>
         ensures name { IfOk result (λ t. t ≡ self.old.name) }

@@ -3,6 +3,7 @@ ghost use Rattle.mg_text.specs.Tree.{Fields, depth};
 ghost use Rattle.mg_text.specs.Grammar.{Gives};
 ghost use Rattle.mg_text.specs.View.{view};
 ghost use Rattle.mg_text.specs.Answer.{max_len, max_depth, IsSyntaxFault, IsTooDeep, IsFault, IsTree, IsFailed};
+ghost use Rattle.mg_text.specs.Running.{state_of, Ended, IsAnswered};
 
 use std::alloc::Global;
 
@@ -17,7 +18,9 @@ const MAX_DEPTH: usize = 64;
 const LINE_FEED: u8 = 10;
 
 /// Ends the file.
-fn end(alloc: Global, mut machine: Machine, at: u32) -> Result<Tree, TextFault> {
+fn end(alloc: Global, mut machine: Machine, at: u32) -> Result<Tree, TextFault>
+    ensures { Ended (state_of machine) at result }
+{
     if !machine.step(alloc, LINE_FEED)? {
         return Err(TextFault::Syntax { at });
     }
@@ -29,6 +32,7 @@ fn end(alloc: Global, mut machine: Machine, at: u32) -> Result<Tree, TextFault> 
 
 fn read(alloc: Global, bytes: &[u8]) -> Result<Tree, TextFault>
     requires { length bytes.now ≤ max_len }
+    ensures { IsAnswered bytes.now result }
 {
     let mut machine = Machine::new(alloc);
     for (i, b) in bytes.iter().enumerate() {
@@ -36,7 +40,7 @@ fn read(alloc: Global, bytes: &[u8]) -> Result<Tree, TextFault>
         if !machine.step(alloc, *b)? {
             return Err(TextFault::Syntax { at });
         }
-        if machine.frames.len() > MAX_DEPTH {
+        if machine.depth() > MAX_DEPTH {
             return Err(TextFault::TooDeep { at });
         }
     }
