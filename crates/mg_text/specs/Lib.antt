@@ -1,5 +1,6 @@
 pub mod Answer
 pub mod Byte
+pub mod Canonical
 pub mod Grammar
 pub mod Machine
 pub mod Running
