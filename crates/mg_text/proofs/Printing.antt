@@ -17,9 +17,11 @@ use Rattle.mg_text.specs.Tree.{Kind, word, number, quoted, Fields, none, scalar,
 use Rattle.mg_text.specs.Grammar as g
 use Rattle.mg_text.specs.Grammar.{Stands, Gives, Apart, Place, start, named, valued, opened, element, behind, joined, after, IsContent, IsName, octal, is_first_octal}
 use Rattle.mg_text.specs.Canonical as c
-use Rattle.mg_text.specs.Canonical.{indent, escape, spelling, scalar_line, message_lines, lines_of, canonical, AreCharacters, IsSpelled, AreSpelled}
+use Rattle.mg_text.specs.Canonical.{indent, escape, escape_by, short_escape, spelling, scalar_line, message_lines, lines_of, canonical, AreCharacters, IsSpelled, AreSpelled}
 use Rattle.mg_text.proofs.Sound.{append_none, append_fields_assoc}
-use Rattle.mg_text.proofs.Pieces.{octal_digit, first_octal_digit}
+use Rattle.mg_text.proofs.Pieces.{octal_digit, first_octal_digit, some_same}
+use Rattle.mg_text.proofs.Complete.{beyond_class}
+use Rattle.std.proofs.lemmas.Bool.{cases_lt}
 
 plain_in_piece : (b : ℕ) → 32 ≤ b → b < 127 → (b ≡ 92 → ⊥) → (b ≡ 34 → ⊥) → g.in_piece Double (class_of b) ≡ true
 unfolding class_of below_digits digit_class upper_class lower_class
@@ -51,28 +53,32 @@ is_eq : (a b : ℕ) → eqb a b ≡ true → a ≡ b
 is_eq a b e = grind (arith, nat_tests)
 
 -- an escape of a letter or a mark
-short_escape : (b c v : ℕ) (s d : List ℕ) → eqb b v ≡ true → g.escaped (class_of c) ≡ Some v → IsContent Double s d → IsContent Double (92 ∷ c ∷ s) (b ∷ d)
-short_escape b c v s d e k h = subst (λ x. IsContent Double (92 ∷ c ∷ s) (x ∷ d)) (sym (is_eq b v e)) (g.escape back k h)
+short_content : (b c v : ℕ) (s d : List ℕ) → eqb b v ≡ true → g.escaped (class_of c) ≡ Some v → IsContent Double s d → IsContent Double (92 ∷ c ∷ s) (b ∷ d)
+short_content b c v s d e k h = subst (λ x. IsContent Double (92 ∷ c ∷ s) (x ∷ d)) (sym (is_eq b v e)) (g.escape back k h)
 
 octal_content : (b : ℕ) (s d : List ℕ) → b < 128 → IsContent Double s d → IsContent Double (92 ∷ (48 + b / 64) ∷ (48 + b / 8 % 8) ∷ (48 + b % 8) ∷ s) (b ∷ d)
 octal_content b s d l h =
     subst (λ x. IsContent Double (92 ∷ (48 + b / 64) ∷ (48 + b / 8 % 8) ∷ (48 + b % 8) ∷ s) (x ∷ d)) (octal_of b l)
     (g.octal_escape back (first_class (b / 64) (omega arith)) (octal_class (b / 8 % 8) (omega arith)) (octal_class (b % 8) (omega arith)) h)
 
+plain_byte : (b : ℕ) → b < 128 → eqb b 92 ≡ false → eqb b 34 ≡ false → (ltb b 32 || eqb b 127) ≡ false → g.in_piece Double (class_of b) ≡ true
+plain_byte b l n4 n5 n6 = plain_in_piece b (grind (arith, nat_tests)) (grind (arith, nat_tests)) (grind (arith, nat_tests)) (grind (arith, nat_tests))
+
+choose : (t : Bool) (x y : Option ℕ) (P : Option ℕ → Type 0) → (t ≡ true → P x) → (t ≡ false → P y) → P (cond t x y)
+choose true x y P f g = f refl
+choose false x y P f g = g refl
+
 escape_content : (b : ℕ) (s d : List ℕ) → b < 128 → IsContent Double s d → IsContent Double (escape b ++ s) (b ∷ d)
 unfolding class_of below_digits digit_class upper_class lower_class
 escape_content b s d l h =
-    let P : List ℕ → Type 0 = λ z. IsContent Double (z ++ s) (b ∷ d) in
-    pick (eqb b 10) _ _ P (λ e. short_escape b 110 10 s d e refl h) (λ n1.
-    pick (eqb b 13) _ _ P (λ e. short_escape b 114 13 s d e refl h) (λ n2.
-    pick (eqb b 9) _ _ P (λ e. short_escape b 116 9 s d e refl h) (λ n3.
-    pick (eqb b 92) _ _ P (λ e. short_escape b 92 92 s d e refl h) (λ n4.
-    pick (eqb b 34) _ _ P (λ e. short_escape b 34 34 s d e refl h) (λ n5.
-    pick (ltb b 32 || eqb b 127) _ _ P (λ e. octal_content b s d l h) (λ n6.
+    let P : Option ℕ → Type 0 = λ o. IsContent Double (escape_by o b ++ s) (b ∷ d) in
+    choose (eqb b 10) _ _ P (λ e. short_content b 110 10 s d e refl h) (λ n1.
+    choose (eqb b 13) _ _ P (λ e. short_content b 114 13 s d e refl h) (λ n2.
+    choose (eqb b 9) _ _ P (λ e. short_content b 116 9 s d e refl h) (λ n3.
+    choose (eqb b 92) _ _ P (λ e. short_content b 92 92 s d e refl h) (λ n4.
+    choose (eqb b 34) _ _ P (λ e. short_content b 34 34 s d e refl h) (λ n5.
+    pick (ltb b 32 || eqb b 127) _ _ (λ z. IsContent Double (z ++ s) (b ∷ d)) (λ e. octal_content b s d l h) (λ n6.
     g.ascii (plain_byte b l n4 n5 n6) h))))))
-  where
-    plain_byte : (b : ℕ) → b < 128 → eqb b 92 ≡ false → eqb b 34 ≡ false → (ltb b 32 || eqb b 127) ≡ false → g.in_piece Double (class_of b) ≡ true
-    plain_byte b l n4 n5 n6 = plain_in_piece b (grind (arith, nat_tests)) (grind (arith, nat_tests)) (grind (arith, nat_tests)) (grind (arith, nat_tests))
 
 -- bytes past ASCII are as they are
 tail_least : (t u : Tail) (b : ℕ) → follow t b ≡ Some u → 128 ≤ b
@@ -178,3 +184,95 @@ lines_stand (message n inner rest) k w u h r f =
 
 pub canonical_given : (t : Fields) → AreSpelled t → Gives (canonical t) t
 canonical_given t h = subst (λ z. Stands (start false) (canonical t ++ 10 ∷ []) z) (append_none t) (lines_stand t 0 (10 ∷ []) none h (λ f. line_gap g.ends) false)
+
+-- what the grammar gives is spelled by it
+
+chars-append : (a b : List ℕ) → AreCharacters a → AreCharacters b → AreCharacters (a ++ b)
+chars-append a b c.no_more k = k
+chars-append a b (c.ascii {s = s} l h) k = c.ascii l (chars-append s b h k)
+chars-append a b (c.beyond {b = x} {u = u} {s = s} e i h) k = subst (λ z. AreCharacters (x ∷ z)) (sym (append_assoc u s b)) (c.beyond e i (chars-append s b h k))
+
+escaped_ascii : (x : Class) (v : ℕ) → g.escaped x ≡ Some v → v < 128
+escaped_ascii LetterN v e = rw (sym (some_same e)) (omega arith)
+escaped_ascii LetterT v e = rw (sym (some_same e)) (omega arith)
+escaped_ascii LetterR v e = rw (sym (some_same e)) (omega arith)
+escaped_ascii Backslash v e = rw (sym (some_same e)) (omega arith)
+escaped_ascii SingleQuote v e = rw (sym (some_same e)) (omega arith)
+escaped_ascii DoubleQuote v e = rw (sym (some_same e)) (omega arith)
+escaped_ascii _ v e = cc
+
+not_beyond : (q : Quote) (x : Class) → g.in_piece q x ≡ true → x ≡ Beyond → ⊥
+not_beyond Single Beyond e h = cc
+not_beyond Double Beyond e h = cc
+not_beyond q x e h = cc
+
+piece_ascii : (q : Quote) (b : ℕ) → g.in_piece q (class_of b) ≡ true → b < 128
+piece_ascii q b e =
+    elim (cases_lt b 128) [ inl h ↦ h | inr h ↦ absurd (not_beyond q (class_of b) e (beyond_class b h)) ]
+
+content_chars : (q : Quote) (u e : List ℕ) → IsContent q u e → AreCharacters e
+content_chars q u e (g.closes k) = c.no_more
+content_chars q u e (g.ascii {b = b} {s = s} {d = d} k h) = c.ascii (piece_ascii q b k) (content_chars q s d h)
+content_chars q u e (g.beyond {s = s} {d = d} k i h) = c.beyond k i (content_chars q s d h)
+content_chars q u e (g.escape {c = x} {v = v} {s = s} {d = d} k i h) = c.ascii (escaped_ascii (class_of x) v i) (content_chars q s d h)
+content_chars q u e (g.octal_escape {i = i} {j = j} {k = k} {s = s} {d = d} back f x y h) =
+    c.ascii (let a = first_octal_digit i f in let b = octal_digit j x in let z = octal_digit k y in omega (arith, a, b, z)) (content_chars q s d h)
+
+-- the name at a place is a name, and the string so far is of characters
+abbrev PlaceSpelled : Place → Type 0
+PlaceSpelled (start f) = Unit {0}
+PlaceSpelled (named n) = IsName n
+PlaceSpelled (valued n) = IsName n
+PlaceSpelled (opened n x) = IsName n
+PlaceSpelled (element n x) = IsName n
+PlaceSpelled (behind n x) = IsName n
+PlaceSpelled (joined n s d) = IsName n × AreCharacters d
+
+after_spelled : (n : List ℕ) (s : Slot) → IsName n → PlaceSpelled (after n s)
+after_spelled n slots.One h = tt
+after_spelled n slots.Scalars h = h
+after_spelled n slots.Messages h = h
+
+scalar_spelled : (p : Place) (l : List ℕ × Slot) → g.scalar_slot p ≡ Some l → PlaceSpelled p → IsName l.0
+scalar_spelled (valued n) l e h = subst (λ (l : List ℕ × Slot). IsName l.0) (some_same e) h
+scalar_spelled (opened n true) l e h = subst (λ (l : List ℕ × Slot). IsName l.0) (some_same e) h
+scalar_spelled (element n false) l e h = subst (λ (l : List ℕ × Slot). IsName l.0) (some_same e) h
+scalar_spelled _ l e h = cc
+
+message_spelled : (p : Place) (l : List ℕ × Slot) → g.message_slot p ≡ Some l → PlaceSpelled p → IsName l.0
+message_spelled (named n) l e h = subst (λ (l : List ℕ × Slot). IsName l.0) (some_same e) h
+message_spelled (valued n) l e h = subst (λ (l : List ℕ × Slot). IsName l.0) (some_same e) h
+message_spelled (opened n x) l e h = subst (λ (l : List ℕ × Slot). IsName l.0) (some_same e) h
+message_spelled (element n true) l e h = subst (λ (l : List ℕ × Slot). IsName l.0) (some_same e) h
+message_spelled _ l e h = cc
+
+piece_spelled : (p : Place) (l : List ℕ × Slot × List ℕ) → g.piece_slot p ≡ Some l → PlaceSpelled p → IsName l.0 × AreCharacters l.2
+piece_spelled (valued n) l e h = subst (λ (l : List ℕ × Slot × List ℕ). IsName l.0 × AreCharacters l.2) (some_same e) (h, c.no_more)
+piece_spelled (opened n true) l e h = subst (λ (l : List ℕ × Slot × List ℕ). IsName l.0 × AreCharacters l.2) (some_same e) (h, c.no_more)
+piece_spelled (element n false) l e h = subst (λ (l : List ℕ × Slot × List ℕ). IsName l.0 × AreCharacters l.2) (some_same e) (h, c.no_more)
+piece_spelled (joined n s d) l e h = subst (λ (l : List ℕ × Slot × List ℕ). IsName l.0 × AreCharacters l.2) (some_same e) h
+piece_spelled _ l e h = cc
+
+list_spelled : (p : Place) (l : List ℕ × Bool) → g.list_slot p ≡ Some l → PlaceSpelled p → IsName l.0
+list_spelled (named n) l e h = subst (λ (l : List ℕ × Bool). IsName l.0) (some_same e) h
+list_spelled (valued n) l e h = subst (λ (l : List ℕ × Bool). IsName l.0) (some_same e) h
+list_spelled _ l e h = cc
+
+stands_spelled : {p : Place} {w : List ℕ} {t : Fields} → Stands p w t → PlaceSpelled p → AreSpelled t
+stands_spelled g.ends h = tt
+stands_spelled (g.gap k i) h = stands_spelled i h
+stands_spelled (g.separator k i) h = stands_spelled i tt
+stands_spelled (g.name k a i) h = stands_spelled i k
+stands_spelled (g.colon k i) h = stands_spelled i h
+stands_spelled (g.list {p = p} {n = n} {c = x} e k i) h = stands_spelled i (list_spelled p (n, x) e h)
+stands_spelled (g.list_end e k i) h = stands_spelled i tt
+stands_spelled (g.comma k i) h = stands_spelled i h
+stands_spelled (g.a_word {p = p} {n = n} u {s = s} e k a i) h = let m = scalar_spelled p (n, s) e h in (m, k, stands_spelled i (after_spelled n s m))
+stands_spelled (g.a_number {p = p} {n = n} {s = s} e k a i) h = let m = scalar_spelled p (n, s) e h in (m, k, stands_spelled i (after_spelled n s m))
+stands_spelled (g.piece {p = p} {n = n} {sofar = f} {u = u} {d = d} {s = s} {q = q} e k l i) h =
+    let m = piece_spelled p (n, s, f) e h in stands_spelled i (m.0, chars-append f d m.1 (content_chars q u d l))
+stands_spelled (g.a_string {n = n} {d = d} {s = s} i) h = (h.0, h.1, stands_spelled i (after_spelled n s h.0))
+stands_spelled (g.a_message {p = p} x {n = n} {s = s} m e k i l j) h = let y = message_spelled p (n, s) e h in (y, stands_spelled i tt, stands_spelled j (after_spelled n s y))
+
+pub text_spelled : (file : List ℕ) (t : Fields) → Gives file t → AreSpelled t
+text_spelled file t h = stands_spelled h tt

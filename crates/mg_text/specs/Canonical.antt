@@ -1,26 +1,34 @@
 -- The canonical text of fields: what `print` writes.
-use Rattle.std.specs.Prelude.{◌≡◌, ℕ, suc, ◌+◌, ◌*◌, ◌/◌, ◌%◌, ◌≤◌, ◌<◌, List, [], ◌∷◌, ◌++◌, ◌||◌, ◌==◌, nat_lt, if◌then◌else◌, replicate, Some}
+use Rattle.std.specs.Prelude.{◌≡◌, ℕ, suc, ◌+◌, ◌*◌, ◌/◌, ◌%◌, ◌≤◌, ◌<◌, List, [], ◌∷◌, ◌++◌, ◌||◌, ◌==◌, nat_lt, if◌then◌else◌, replicate, Option, Some, None}
 use Rattle.std.specs.List.{flat_map}
 use Rattle.mg_text.specs.Tree.{Kind, word, number, quoted, Fields, none, scalar, message, depth}
 use Rattle.mg_text.specs.Byte.{lead, IsTail}
 use Rattle.mg_text.specs.Grammar.{IsName, IsWord, IsNumber}
+use Rattle.mg_text.specs.View.{Value, simple, inner}
 use Rattle.mg_text.specs.declared.parts.Tail.{Tail}
 
 -- two spaces for each open message
 abbrev pub indent : ℕ → List ℕ
 indent k = replicate (2 * k) 32
 
--- A byte in a string: the escapes \n \r \t \\ \" and three octal digits for the other bytes below 32 and for 127. All
--- else is as it is.
+-- the letter or the mark after the backslash of a short escape: \n \r \t \\ \"
+abbrev pub short_escape : ℕ → Option ℕ
+short_escape b =
+    if b == 10 then Some 110
+    else (if b == 13 then Some 114
+    else (if b == 9 then Some 116
+    else (if b == 92 then Some 92
+    else (if b == 34 then Some 34
+    else None))))
+
+abbrev pub escape_by : Option ℕ → ℕ → List ℕ
+escape_by (Some c) b = 92 ∷ c ∷ []
+escape_by None b = if nat_lt b 32 || b == 127 then 92 ∷ (48 + b / 64) ∷ (48 + b / 8 % 8) ∷ (48 + b % 8) ∷ [] else b ∷ []
+
+-- A byte in a string: a short escape where there is one, three octal digits for the other bytes below 32 and for 127,
+-- and all else as it is.
 abbrev pub escape : ℕ → List ℕ
-escape b =
-    if b == 10 then 92 ∷ 110 ∷ []
-    else (if b == 13 then 92 ∷ 114 ∷ []
-    else (if b == 9 then 92 ∷ 116 ∷ []
-    else (if b == 92 then 92 ∷ 92 ∷ []
-    else (if b == 34 then 92 ∷ 34 ∷ []
-    else (if nat_lt b 32 || b == 127 then 92 ∷ (48 + b / 64) ∷ (48 + b / 8 % 8) ∷ (48 + b % 8) ∷ []
-    else b ∷ [])))))
+escape b = escape_by (short_escape b) b
 
 -- a string is one piece in double quotes
 abbrev pub spelling : Kind → List ℕ → List ℕ
@@ -38,7 +46,7 @@ message_lines k name lines = indent k ++ name ++ 32 ∷ 123 ∷ 10 ∷ lines ++ 
 abbrev pub lines_of : ℕ → Fields → List ℕ
 lines_of k none = []
 lines_of k (scalar name kind bytes rest) = scalar_line k name kind bytes ++ lines_of k rest
-lines_of k (message name inner rest) = message_lines k name (lines_of (suc k) inner) ++ lines_of k rest
+lines_of k (message name within rest) = message_lines k name (lines_of (suc k) within) ++ lines_of k rest
 
 abbrev pub canonical : Fields → List ℕ
 canonical t = lines_of 0 t
@@ -59,4 +67,17 @@ IsSpelled quoted bytes = AreCharacters bytes
 abbrev pub AreSpelled : Fields → Type 0
 AreSpelled none = Unit {0}
 AreSpelled (scalar name kind bytes rest) = IsName name × IsSpelled kind bytes × AreSpelled rest
-AreSpelled (message name inner rest) = IsName name × AreSpelled inner × AreSpelled rest
+AreSpelled (message name within rest) = IsName name × AreSpelled within × AreSpelled rest
+
+-- the lines of one field, and how deep it nests
+abbrev pub entry_lines : ℕ → List ℕ → Value → List ℕ
+entry_lines k name (simple kind bytes) = scalar_line k name kind bytes
+entry_lines k name (inner fields) = message_lines k name (lines_of (suc k) fields)
+
+abbrev pub entry_depth : Value → ℕ
+entry_depth (simple kind bytes) = 0
+entry_depth (inner fields) = suc (depth fields)
+
+abbrev pub value_text : Value → List ℕ
+value_text (simple kind bytes) = spelling kind bytes
+value_text (inner fields) = []

@@ -10,6 +10,7 @@ mod machine;
 mod next;
 
 mod parts;
+mod printer;
 mod reader;
 mod step;
 mod tree;
