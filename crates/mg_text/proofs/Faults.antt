@@ -38,6 +38,10 @@ use Rattle.mg_text.proofs.Finish.{level, level_max, level_least, depth-append, d
 
 use Rattle.mg_text.proofs.Sound.{sound_text}
 use Rattle.mg_text.proofs.Complete.{complete_text}
+use Rattle.mg_text.proofs.Printing.{text_spelled, canonical_given}
+use Rattle.std.proofs.Common.{Vec, Global}
+use Rattle.std.specs.declared.alloc.AllocError.{AllocError}
+use Rattle.mg_text.specs.Canonical.{AreSpelled, canonical}
 use Rattle.mg_text.proofs.Finish.{Completion, finish}
 use Rattle.mg_text.proofs.Depth.{Shallow, deep, step_shallow, spot_deep, place_deep, depth-scalar}
 use Rattle.mg_text.specs.Answer.{max_len, max_depth, BeginsText, BeginsShallowText, IsSyntaxFault, IsTooDeep, IsFault, IsTree, IsFailed}
@@ -352,3 +356,18 @@ took_some o false s h e = cc
 
 pub reached_end : (file : List ℕ) (i : ℕ) (s : State) → i ≡ length file → Reached (take i file) s → Reached file s
 reached_end file i s e r = subst (λ z. Reached z s) (ap (λ n. take n file) e ∙ take-length file) r
+
+pub answers_spelled : (file : List ℕ) (r : Result Tree TextFault) → IsAnswered file r → IfOk r (λ tree. AreSpelled (view tree))
+answers_spelled file (Ok tree) h = text_spelled file (view tree) h.0
+answers_spelled file (Err e) h = tt
+
+pub deep_text : (file : List ℕ) (p : ℕ) (t : Fields) → IsTooDeep file p → Gives file t → max_depth < depth t
+deep_text file p t g h = g.all (drop (p + 1) file) t (text_longer (take (p + 1) file) (drop (p + 1) file) file t (front_file file (p + 1)) h)
+
+pub given_text : (r : Result (Vec ℕ Global) AllocError) (t : Fields) → AreSpelled t → IfOk r (λ text. text.items ≡ canonical t) → IfOk r (λ text. Gives text.items t)
+given_text (Ok text) t s e = subst (λ z. Gives z t) (sym e) (canonical_given t s)
+given_text (Err e) t s h = tt
+
+pub only_text : (r : Result (Vec ℕ Global) AllocError) (t : Fields) → AreSpelled t → IfOk r (λ text. text.items ≡ canonical t) → IfOk r (λ text. (u : Fields) → Gives text.items u → u ≡ t)
+only_text (Ok text) t s e = λ u h. one_text text.items u t h (subst (λ z. Gives z t) (sym e) (canonical_given t s))
+only_text (Err e) t s h = tt

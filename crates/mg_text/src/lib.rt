@@ -6,6 +6,7 @@ mod class;
 mod between;
 mod fault;
 mod inside;
+pub mod laws;
 mod machine;
 mod next;
 
@@ -16,6 +17,7 @@ mod step;
 mod tree;
 
 pub use fault::TextFault;
+pub use printer::print;
 pub use reader::parse;
 pub use tree::{Field, Scalar, Tree, TreeValue};
 

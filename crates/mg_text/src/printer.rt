@@ -120,3 +120,26 @@ fn put_fields(out: &mut Vec<u8>, fields: &[Field], k: usize) -> Result<(), Alloc
     }
     Ok(())
 }
+
+fn written(alloc: Global, tree: &Tree) -> Result<Vec<u8>, AllocError>
+    requires { depth (view tree.now) ≤ max_depth }
+    ensures { IfOk result (λ text. text.items ≡ canonical (view tree.now)) }
+{
+    let mut out = Vec::new(alloc);
+    put_fields(&mut out, &tree.fields, 0)?;
+    Ok(out)
+}
+
+/// Writes the canonical text: a line for each field, indented by two spaces per open message. `parse` reads the tree
+/// back from it, where it is at most 4,194,304 bytes long.
+pub fn print(alloc: Global, tree: &Tree) -> Result<Vec<u8>, AllocError>
+    requires spelled { AreSpelled (view tree.now) }
+    requires shallow { depth (view tree.now) ≤ max_depth }
+
+    ensures text { IfOk result (λ text. text.items ≡ canonical (view tree.now)) }
+    // The grammar gives that text this tree, and no other.
+    ensures given { IfOk result (λ text. Gives text.items (view tree.now)) }
+    ensures only { IfOk result (λ text. (t : Fields) → Gives text.items t → t ≡ view tree.now) }
+{
+    written(alloc, tree)
+}

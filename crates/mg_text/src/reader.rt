@@ -2,6 +2,7 @@ ghost use Rattle.std.specs.Prelude.{◌≡◌, ℕ, ◌<◌, ◌≤◌, ◌↔�
 ghost use Rattle.mg_text.specs.Tree.{Fields, depth};
 ghost use Rattle.mg_text.specs.Grammar.{Gives};
 ghost use Rattle.mg_text.specs.View.{view};
+ghost use Rattle.mg_text.specs.Canonical.{AreSpelled};
 ghost use Rattle.mg_text.specs.Answer.{max_len, max_depth, IsSyntaxFault, IsTooDeep, IsFault, IsTree, IsFailed};
 ghost use Rattle.mg_text.specs.Running.{state_of, Ended, IsAnswered};
 
@@ -52,6 +53,7 @@ fn read(alloc: Global, bytes: &[u8]) -> Result<Tree, TextFault>
 pub fn parse(alloc: Global, bytes: &[u8]) -> Result<Tree, TextFault>
     // What is read is what the grammar gives.
     ensures ok { IfOk result (λ tree. Gives bytes.now (view tree) × (depth (view tree) ≤ max_depth)) }
+    ensures spelled { IfOk result (λ tree. AreSpelled (view tree)) }
     ensures fault { IfErr result (IsFault bytes.now) }
 
     // Each answer is given wherever it is due, unless memory runs out.

@@ -1,5 +1,5 @@
 use Rattle.std.proofs.Common.{arith}
-use Rattle.mg_text.proofs.Faults.{answers_ok, answers_fault, answers_short, answers_tree, answers_syntax, answers_too_deep}
+use Rattle.mg_text.proofs.Faults.{answers_ok, answers_fault, answers_short, answers_tree, answers_syntax, answers_too_deep, answers_spelled}
 use Rattle.mg_text.proofs.reader.parse.Goals as goal
 
 pub returns-clause-ok : goal.returns-clause-ok
@@ -19,3 +19,6 @@ returns-clause-syntax c = λ place h k. answers_syntax _ _ place c.read.ensures 
 
 pub returns-clause-too_deep : goal.returns-clause-too_deep
 returns-clause-too_deep c = λ place h k. answers_too_deep _ _ place c.read.ensures k
+
+pub returns-clause-spelled : goal.returns-clause-spelled
+returns-clause-spelled c = answers_spelled _ _ c.read.ensures
