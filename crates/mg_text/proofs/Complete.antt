@@ -29,7 +29,6 @@ use Rattle.mg_text.specs.Machine.{Spot, at, comment, naming, token, piece, Frame
 use Rattle.mg_text.proofs.Pieces.{NameEnds, ScalarEnds, LineEnds, InsideEnds, from_if, some_same, word_name, bracket_name, word_token, zero_number, digit_number, point_number, minus_number, line_whole, line_beyond, line_ascii, line_tail, content_whole, inside_content, inside_grow, in_line_tail, octal_value, octal_digit, first_octal_digit}
 use Rattle.mg_text.proofs.Sound.{append_none, append_fields_assoc, same_kind, and_true, not_true}
 
-
 abbrev pub st : Fields → List Frame → Spot → State
 st d fs spot = record { done = d; frames = fs; spot = spot }
 
@@ -130,8 +129,8 @@ pub naming_run : (d : Fields) (fs : List Frame) (part : NamePart) (bytes y v : L
 naming_run d fs part bytes [] [] ends apart = sym (final_named d fs (bytes ++ []))
 naming_run d fs part bytes [] (b ∷ v) ends apart =
     ap (option_and_then (λ next. outcome next v)) (
-      ap (step_naming (st d fs (naming part bytes)) part bytes (class_of b) b) (name_stops part (class_of b) ends apart)
-      ∙ if_so (is_whole_name part && not (joins (class_of b))) None (both (is_whole_name part) (joins (class_of b)) ends apart))
+    ap (step_naming (st d fs (naming part bytes)) part bytes (class_of b) b) (name_stops part (class_of b) ends apart)
+    ∙ if_so (is_whole_name part && not (joins (class_of b))) None (both (is_whole_name part) (joins (class_of b)) ends apart))
     ∙ ap (λ z. outcome (st d fs (at (named z))) (b ∷ v)) (sym (append-nil bytes))
 naming_run d fs part bytes (b ∷ y) v (q, e, ends) apart =
     go d fs (naming part bytes) d fs (naming q (bytes ++ b ∷ [])) b (class_of b) (y ++ v) refl (ap (step_naming (st d fs (naming part bytes)) part bytes (class_of b) b) e)
@@ -211,8 +210,8 @@ token_run d fs n slot part bytes [] [] ends apart =
     ∙ sym (accepts_after (append d (scalar n (kind_of part) (bytes ++ []) none)) fs n slot)
 token_run d fs n slot part bytes [] (b ∷ v) ends apart =
     ap (option_and_then (λ next. outcome next v)) (
-      ap (step_token (st d fs (token n slot part bytes)) n slot part bytes (class_of b) b) (scalar_stops part (class_of b) ends apart)
-      ∙ if_so (is_whole_scalar part && not (joins (class_of b))) None (both (is_whole_scalar part) (joins (class_of b)) ends apart))
+    ap (step_token (st d fs (token n slot part bytes)) n slot part bytes (class_of b) b) (scalar_stops part (class_of b) ends apart)
+    ∙ if_so (is_whole_scalar part && not (joins (class_of b))) None (both (is_whole_scalar part) (joins (class_of b)) ends apart))
     ∙ ap (λ z. outcome (st (append d (scalar n (kind_of part) z none)) fs (at (after n slot))) (b ∷ v)) (sym (append-nil bytes))
 token_run d fs n slot part bytes (b ∷ y) v (q, e, ends) apart =
     go d fs (token n slot part bytes) d fs (token n slot q (bytes ++ b ∷ [])) b (class_of b) (y ++ v) refl (ap (step_token (st d fs (token n slot part bytes)) n slot part bytes (class_of b) b) e)
@@ -536,7 +535,7 @@ complete (g.a_message {p = p} {o = o} b {n = n} {u = u} {w = w} {s = s} m {x = x
     ap (λ z. outcome (st d fs (at p)) (o ∷ z)) (append_assoc u (b ∷ w) v)
     ∙ go d fs (at p) none (record { before = d; name = n; slot = s; mark = m } ∷ fs) (at (start false)) o (opening m) (u ++ (b ∷ w ++ v)) k (open_byte d fs p m o (n, s) e)
     ∙ complete h none (record { before = d; name = n; slot = s; mark = m } ∷ fs) (b ∷ w ++ v) r
-      (b, w ++ v, refl, l, complete i (append d (message n x none)) fs v r (closes_as _ _ fs v r (sym (append_fields_assoc d (message n x none) t)) c))
+    (b, w ++ v, refl, l, complete i (append d (message n x none)) fs v r (closes_as _ _ fs v r (sym (append_fields_assoc d (message n x none) t)) c))
 
 -- a text is taken
 pub complete_text : (w : List ℕ) (t : Fields) → Stands (start false) w t → outcome begin w ≡ Some t

@@ -28,10 +28,7 @@ use Rattle.mg_text.specs.Machine as m
 use Rattle.mg_text.specs.Machine.{Spot, at, comment, naming, token, piece, Frame, State, moves, moved, settled, settled_place, with_scalar, opens_at, closes_at, closes_with, resumed, same_mark, colon_spot, comma_spot, semicolon_spot, bracket_spot, list_spot, list_end_spot, token_spot, letter_spot, quote_spot, step_settled, step_at, comment_spot, awaits, step_naming, step_token, inside_next, is_closing_quote, goes_on, piece_spot, plain_next, escape_next, step_spot, step, final, accepts_spot, accepts, run, outcome, begin, name_next, scalar_next, is_whole_name, is_whole_scalar, kind_of}
 use Rattle.mg_text.proofs.Pieces.{NameEnds, ScalarEnds, LineEnds, InsideEnds, from_if, some_same, word_name, bracket_name, word_token, zero_number, digit_number, point_number, minus_number, line_whole, line_beyond, line_ascii, line_tail, content_whole, inside_content, inside_grow, in_line_tail}
 use Rattle.mg_text.proofs.Sound.{append_none, append_fields_assoc, same_kind, and_true, not_true}
-
-
 use Rattle.mg_text.proofs.Complete.{st, go, Closes, complete, tail_run, line_run, gap_run, naming_run, token_run, content_run, inside_run, tail_bytes, tail_byte, closing_byte, if_so}
-
 use Rattle.mg_text.proofs.Sound.{Completes, Rest, sound}
 use Rattle.mg_text.proofs.Finish.{level, level_max, level_least, depth-append, depth-resumed, extra, spot_extra}
 
@@ -45,7 +42,7 @@ level-completes d [] spot w t (x, h, e) = rw e (omega (arith, depth-append d x))
 level-completes d (f ∷ fs) spot w t (u, c, v, x, e, h, k, more) =
     let inner = level-completes (append f.before (message f.name (append d x) none)) fs (at (after f.name f.slot)) v t more in
     let here = level_monotone fs (max (depth f.before) (suc (depth d))) (depth (append f.before (message f.name (append d x) none)))
-      (omega (arith, depth-resumed f.before (append d x) f.name, depth-append d x)) in
+    (omega (arith, depth-resumed f.before (append d x) f.name, depth-append d x)) in
     omega (arith, inner, here)
 
 pub deep : (s : State) (w : List ℕ) (t : Fields) → outcome s w ≡ Some t → level (depth s.done) s.frames ≤ depth t

@@ -29,13 +29,9 @@ use Rattle.mg_text.specs.Machine as m
 use Rattle.mg_text.specs.Machine.{Spot, at, comment, naming, token, piece, Frame, State, moves, moved, settled, settled_place, with_scalar, opens_at, closes_at, closes_with, resumed, same_mark, colon_spot, comma_spot, semicolon_spot, bracket_spot, list_spot, list_end_spot, token_spot, letter_spot, quote_spot, step_settled, step_at, comment_spot, awaits, step_naming, step_token, inside_next, is_closing_quote, goes_on, piece_spot, plain_next, escape_next, step_spot, step, final, accepts_spot, accepts, run, outcome, begin, name_next, scalar_next, is_whole_name, is_whole_scalar, kind_of}
 use Rattle.mg_text.proofs.Pieces.{NameEnds, ScalarEnds, LineEnds, InsideEnds, from_if, some_same, word_name, bracket_name, word_token, zero_number, digit_number, point_number, minus_number, line_whole, line_beyond, line_ascii, line_tail, content_whole, inside_content, inside_grow, in_line_tail}
 use Rattle.mg_text.proofs.Sound.{append_none, append_fields_assoc, same_kind, and_true, not_true}
-
-
 use Rattle.mg_text.proofs.Complete.{st, go, Closes, complete, tail_run, line_run, gap_run, naming_run, token_run, content_run, inside_run, tail_bytes, tail_byte, closing_byte, if_so}
-
 use Rattle.mg_text.proofs.Sound.{Completes, Rest, sound}
 use Rattle.mg_text.proofs.Finish.{level, level_max, level_least, depth-append, depth-resumed, extra, spot_extra}
-
 use Rattle.mg_text.proofs.Sound.{sound_text}
 use Rattle.mg_text.proofs.Complete.{complete_text}
 use Rattle.mg_text.proofs.Printing.{text_spelled, canonical_given}
@@ -183,9 +179,9 @@ too_deep_at file i b s next h be r e k =
       front = begins_shallow (take i file) s r;
       some = begins (take (i + 1) file) next ran;
       all = λ rest t given.
-        let whole = complete_text ((take (i + 1) file ++ rest) ++ 10 ∷ []) t given in
-        let left = sym (outcome_over (take (i + 1) file) (rest ++ 10 ∷ []) begin next ran) ∙ ap (outcome begin) (sym (append_assoc (take (i + 1) file) rest (10 ∷ []))) ∙ whole in
-        omega (arith, deep next (rest ++ 10 ∷ []) t left, level_least (depth next.done) next.frames, k);
+          let whole = complete_text ((take (i + 1) file ++ rest) ++ 10 ∷ []) t given in
+          let left = sym (outcome_over (take (i + 1) file) (rest ++ 10 ∷ []) begin next ran) ∙ ap (outcome begin) (sym (append_assoc (take (i + 1) file) rest (10 ∷ []))) ∙ whole in
+          omega (arith, deep next (rest ++ 10 ∷ []) t left, level_least (depth next.done) next.frames, k);
     }
 
 -- the end of the file
@@ -250,9 +246,9 @@ syntax_at_end file s r e =
       front = subst BeginsShallowText (sym (take-length file)) (begins_shallow file s r);
       longest = λ n more within. absurd (omega arith);
       no_text = λ t given.
-        let whole = complete_text (file ++ 10 ∷ []) t given in
-        let none_is = outcome_over file (10 ∷ []) begin s r.ran ∙ e in
-        let both : Some t ≡ None = sym whole ∙ none_is in cc;
+          let whole = complete_text (file ++ 10 ∷ []) t given in
+          let none_is = outcome_over file (10 ∷ []) begin s r.ran ∙ e in
+          let both : Some t ≡ None = sym whole ∙ none_is in cc;
     }
 
 pub reached_none : Reached [] begin
@@ -272,8 +268,8 @@ not_before file p q f g h = f.longest q h g.within (begins_of_shallow (take q fi
 pub one_syntax : (file : List ℕ) (p q : ℕ) → IsSyntaxFault file p → IsSyntaxFault file q → p ≡ q
 one_syntax file p q f g =
     elim (cases_lt p q) [
-      inl h ↦ absurd (not_before file p q f g h)
-    | inr h ↦ elim (cases_lt q p) [ inl k ↦ absurd (not_before file q p g f k) | inr k ↦ omega arith ]
+      | inl h ↦ absurd (not_before file p q f g h)
+      | inr h ↦ elim (cases_lt q p) [ inl k ↦ absurd (not_before file q p g f k) | inr k ↦ omega arith ]
     ]
 
 deep_after : (file : List ℕ) (p q : ℕ) → IsTooDeep file p → p < q → BeginsShallowText (take q file) → ⊥
@@ -283,15 +279,15 @@ deep_after file p q f h (rest, t, k, d) =
 pub one_too_deep : (file : List ℕ) (p q : ℕ) → IsTooDeep file p → IsTooDeep file q → p ≡ q
 one_too_deep file p q f g =
     elim (cases_lt p q) [
-      inl h ↦ absurd (deep_after file p q f h g.front)
-    | inr h ↦ elim (cases_lt q p) [ inl k ↦ absurd (deep_after file q p g k f.front) | inr k ↦ omega arith ]
+      | inl h ↦ absurd (deep_after file p q f h g.front)
+      | inr h ↦ elim (cases_lt q p) [ inl k ↦ absurd (deep_after file q p g k f.front) | inr k ↦ omega arith ]
     ]
 
 pub not_both : (file : List ℕ) (p q : ℕ) → IsSyntaxFault file p → IsTooDeep file q → ⊥
 not_both file p q f g =
     elim (cases_lt p (q + 1)) [
-      inl h ↦ f.longest (q + 1) h (let w = g.within in omega (arith, w)) g.some
-    | inr h ↦ deep_after file q p g (omega arith) f.front
+      | inl h ↦ f.longest (q + 1) h (let w = g.within in omega (arith, w)) g.some
+      | inr h ↦ deep_after file q p g (omega arith) f.front
     ]
 
 pub text_not_deep : (file : List ℕ) (q : ℕ) (t : Fields) → Gives file t → depth t ≤ max_depth → IsTooDeep file q → ⊥

@@ -28,8 +28,6 @@ use Rattle.mg_text.specs.Machine as m
 use Rattle.mg_text.specs.Machine.{Spot, at, comment, naming, token, piece, Frame, State, moves, settled, settled_place, with_scalar, opens_at, closes_at, closes_with, resumed, same_mark, colon_spot, comma_spot, semicolon_spot, bracket_spot, list_spot, list_end_spot, token_spot, letter_spot, quote_spot, step_settled, step_at, comment_spot, awaits, step_naming, step_token, inside_next, is_closing_quote, goes_on, piece_spot, digit_onto, plain_next, escape_next, step_spot, step, final, accepts_spot, accepts, run, outcome, begin, name_next, scalar_next, is_whole_name, is_whole_scalar, kind_of}
 use Rattle.mg_text.proofs.Pieces.{NameEnds, ScalarEnds, LineEnds, InsideEnds, from_if, some_same, word_name, bracket_name, word_token, zero_number, digit_number, point_number, minus_number, line_whole, line_beyond, line_ascii, line_tail, content_whole, inside_content, inside_grow, in_line_tail}
 use Rattle.mg_text.proofs.Sound.{append_none, append_fields_assoc, same_kind, and_true, not_true}
-
-
 use Rattle.mg_text.proofs.Complete.{st, go, Closes, complete, tail_run, line_run, gap_run, naming_run, token_run, content_run, inside_run, tail_bytes, tail_byte, closing_byte, if_so}
 
 -- The depth of the whole so far, where the innermost open message is k deep.
@@ -143,14 +141,14 @@ finish_at (frame ∷ fs) d p =
       bytes = f.bytes ++ c ∷ r.bytes;
       fields = r.fields;
       whole = ap (outcome (st d (frame ∷ fs) (at p))) (append_assoc f.bytes (c ∷ r.bytes) (10 ∷ []) ∙ ap (λ z. z ++ (c ∷ r.bytes ++ 10 ∷ [])) (sym (append-nil f.bytes)))
-        ∙ complete f.stands d (frame ∷ fs) (c ∷ r.bytes ++ 10 ∷ []) r.fields (c, r.bytes ++ 10 ∷ [], refl, closing_class frame.mark, r.whole);
+          ∙ complete f.stands d (frame ∷ fs) (c ∷ r.bytes ++ 10 ∷ []) r.fields (c, r.bytes ++ 10 ∷ [], refl, closing_class frame.mark, r.whole);
       shallow =
-        let step = level_inner fs (depth frame.before) (depth d) (depth f.fields) (depth inner) (depth (append frame.before (message frame.name inner none)))
+          let step = level_inner fs (depth frame.before) (depth d) (depth f.fields) (depth inner) (depth (append frame.before (message frame.name inner none)))
           (depth-resumed frame.before inner frame.name) (depth-append d f.fields) in
-        let none_extra = extra_after frame.name frame.slot in
-        let deeper = f.shallow in
-        let found = r.shallow in
-        omega (arith, step, none_extra, deeper, found);
+          let none_extra = extra_after frame.name frame.slot in
+          let deeper = f.shallow in
+          let found = r.shallow in
+          omega (arith, step, none_extra, deeper, found);
     }
 
 -- characters, names, numbers and pieces that are read in part
@@ -237,7 +235,7 @@ after_token d fs n slot kind bytes =
     let e = extra_after n slot in
     let same : depth (append d (scalar n kind bytes none)) ≡ depth d = omega (arith, depth-append d (scalar n kind bytes none)) in
     let found : depth c.fields ≤ max (level (depth d) fs) (length fs + extra (after n slot)) =
-      subst (λ x. depth c.fields ≤ max (level x fs) (length fs + extra (after n slot))) same c.shallow in
+    subst (λ x. depth c.fields ≤ max (level x fs) (length fs + extra (after n slot))) same c.shallow in
     record { bytes = c.bytes; fields = c.fields; whole = c.whole; shallow = omega (arith, found, e) }
 
 less_extra : (s : State) (a b e : ℕ) → e ≡ 0 → Completion s (max a (b + e)) → Completion s (max a b)

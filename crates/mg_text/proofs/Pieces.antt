@@ -110,10 +110,10 @@ mutual
   last_path_inner [] h = absurd (let e : false ≡ true = h in cc)
   last_path_inner (b ∷ y) (q, e, h) =
       elim (slash_inner_next (class_of b) q e) [
-        inl d ↦ (let r = last_path_begins y (subst (λ p. NameEnds p y) d.1 h) in (b ∷ r.0, r.1, ap (λ z. b ∷ z) r.2, r.3, ends-dot b r.0 d.0 r.4))
-      | inr k ↦ elim k [
-          inl d ↦ (let z = closed_name y (subst (λ p. NameEnds p y) d.1 h) in ([], b, ap (λ z. b ∷ z) z, d.0, ends-nothing))
-        | inr d ↦ (let r = last_path_inner y (subst (λ p. NameEnds p y) d.1 h) in (b ∷ r.0, r.1, ap (λ z. b ∷ z) r.2, r.3, ends-word_byte b r.0 d.0 r.4))
+        | inl d ↦ (let r = last_path_begins y (subst (λ p. NameEnds p y) d.1 h) in (b ∷ r.0, r.1, ap (λ z. b ∷ z) r.2, r.3, ends-dot b r.0 d.0 r.4))
+        | inr k ↦ elim k [
+          | inl d ↦ (let z = closed_name y (subst (λ p. NameEnds p y) d.1 h) in ([], b, ap (λ z. b ∷ z) z, d.0, ends-nothing))
+          | inr d ↦ (let r = last_path_inner y (subst (λ p. NameEnds p y) d.1 h) in (b ∷ r.0, r.1, ap (λ z. b ∷ z) r.2, r.3, ends-word_byte b r.0 d.0 r.4))
         ]
       ]
 
@@ -136,12 +136,12 @@ mutual
   first_path_inner [] h = absurd (let e : false ≡ true = h in cc)
   first_path_inner (b ∷ y) (q, e, h) =
       elim (inner_next (class_of b) q e) [
-        inl d ↦ prefix_path false true b y (λ m k. ends-dot b m d.0 k) (first_path_begins y (subst (λ p. NameEnds p y) d.1 h))
-      | inr k ↦ elim k [
-          inl d ↦ (let r = last_path_begins y (subst (λ p. NameEnds p y) d.1 h) in inr ([], b, r.0, r.1, ap (λ z. b ∷ z) r.2, d.0, r.4, r.3, ends-nothing))
+        | inl d ↦ prefix_path false true b y (λ m k. ends-dot b m d.0 k) (first_path_begins y (subst (λ p. NameEnds p y) d.1 h))
         | inr k ↦ elim k [
-            inl d ↦ (let z = closed_name y (subst (λ p. NameEnds p y) d.1 h) in inl ([], b, ap (λ z. b ∷ z) z, d.0, ends-nothing))
-          | inr d ↦ prefix_path true true b y (λ m k. ends-word_byte b m d.0 k) (first_path_inner y (subst (λ p. NameEnds p y) d.1 h))
+          | inl d ↦ (let r = last_path_begins y (subst (λ p. NameEnds p y) d.1 h) in inr ([], b, r.0, r.1, ap (λ z. b ∷ z) r.2, d.0, r.4, r.3, ends-nothing))
+          | inr k ↦ elim k [
+            | inl d ↦ (let z = closed_name y (subst (λ p. NameEnds p y) d.1 h) in inl ([], b, ap (λ z. b ∷ z) z, d.0, ends-nothing))
+            | inr d ↦ prefix_path true true b y (λ m k. ends-word_byte b m d.0 k) (first_path_inner y (subst (λ p. NameEnds p y) d.1 h))
           ]
         ]
       ]
@@ -157,7 +157,7 @@ word_name b y e h = g.plain (b ∷ y) (e, word_of_name y h)
 
 bracket_name_of : (b : ℕ) (y : List ℕ) → class_of b ≡ BracketOpen → FirstPath false y → IsName (b ∷ y)
 bracket_name_of b y e (inl r) = subst (λ z. IsName (b ∷ z)) (sym r.2) (g.extension r.1 e r.4 r.3)
-bracket_name_of b y e (inr r) = subst (λ z. IsName (b ∷ z)) (sym r.4 ) (g.any r.1 r.3 e r.8 r.5 r.6 r.7)
+bracket_name_of b y e (inr r) = subst (λ z. IsName (b ∷ z)) (sym r.4) (g.any r.1 r.3 e r.8 r.5 r.6 r.7)
 
 pub bracket_name : (b : ℕ) (y : List ℕ) → class_of b ≡ BracketOpen → NameEnds np.Begins y → IsName (b ∷ y)
 bracket_name b y e h = bracket_name_of b y e (first_path_begins y h)
@@ -204,8 +204,8 @@ power_ends : (y : List ℕ) → ScalarEnds sp.Power y → Digits IsSuffix y
 power_ends [] h = ([], [], refl, tt, g.no_suffix)
 power_ends (b ∷ y) (q, e, h) =
     elim (power_next (class_of b) q e) [
-      inl d ↦ ([], b ∷ [], ap (λ z. b ∷ z) (suffix_ends y (subst (λ p. ScalarEnds p y) d.1 h)), tt, g.float d.0)
-    | inr d ↦ one_digit IsSuffix b y d.0 (power_ends y (subst (λ p. ScalarEnds p y) d.1 h))
+      | inl d ↦ ([], b ∷ [], ap (λ z. b ∷ z) (suffix_ends y (subst (λ p. ScalarEnds p y) d.1 h)), tt, g.float d.0)
+      | inr d ↦ one_digit IsSuffix b y d.0 (power_ends y (subst (λ p. ScalarEnds p y) d.1 h))
     ]
 
 sign_ends : (y : List ℕ) → ScalarEnds sp.Sign y → Digits1 IsSuffix y
@@ -223,10 +223,10 @@ exponent_ends : (b : ℕ) (y : List ℕ) → class_of b ≡ LetterE → ScalarEn
 exponent_ends b [] i h = absurd (let e : false ≡ true = h in cc)
 exponent_ends b (c ∷ y) i (q, e, h) =
     elim (exponent_next (class_of c) q e) [
-      inl d ↦ (let r = sign_ends y (subst (λ p. ScalarEnds p y) d.1 h) in subst (λ z. IsEnd (b ∷ c ∷ z)) (sym r.2) (g.exponent r.0 i (g.minus d.0) r.3 r.4))
-    | inr k ↦ elim k [
-        inl d ↦ (let r = sign_ends y (subst (λ p. ScalarEnds p y) d.1 h) in subst (λ z. IsEnd (b ∷ c ∷ z)) (sym r.2) (g.exponent r.0 i (g.plus d.0) r.3 r.4))
-      | inr d ↦ (let r = first_digit IsSuffix c y d.0 (power_ends y (subst (λ p. ScalarEnds p y) d.1 h)) in subst (λ z. IsEnd (b ∷ z)) (sym r.2) (g.exponent r.0 i g.no_sign r.3 r.4))
+      | inl d ↦ (let r = sign_ends y (subst (λ p. ScalarEnds p y) d.1 h) in subst (λ z. IsEnd (b ∷ c ∷ z)) (sym r.2) (g.exponent r.0 i (g.minus d.0) r.3 r.4))
+      | inr k ↦ elim k [
+        | inl d ↦ (let r = sign_ends y (subst (λ p. ScalarEnds p y) d.1 h) in subst (λ z. IsEnd (b ∷ c ∷ z)) (sym r.2) (g.exponent r.0 i (g.plus d.0) r.3 r.4))
+        | inr d ↦ (let r = first_digit IsSuffix c y d.0 (power_ends y (subst (λ p. ScalarEnds p y) d.1 h)) in subst (λ z. IsEnd (b ∷ z)) (sym r.2) (g.exponent r.0 i g.no_sign r.3 r.4))
       ]
     ]
 
@@ -243,10 +243,10 @@ fraction_ends : (y : List ℕ) → ScalarEnds sp.Fraction y → Digits IsEnd y
 fraction_ends [] h = ([], [], refl, tt, g.no_exponent g.no_suffix)
 fraction_ends (b ∷ y) (q, e, h) =
     elim (fraction_next (class_of b) q e) [
-      inl d ↦ ([], b ∷ y, refl, tt, exponent_ends b y d.0 (subst (λ p. ScalarEnds p y) d.1 h))
-    | inr k ↦ elim k [
-        inl d ↦ ([], b ∷ y, refl, tt, suffix_is b y d.0 (subst (λ p. ScalarEnds p y) d.1 h))
-      | inr d ↦ one_digit IsEnd b y d.0 (fraction_ends y (subst (λ p. ScalarEnds p y) d.1 h))
+      | inl d ↦ ([], b ∷ y, refl, tt, exponent_ends b y d.0 (subst (λ p. ScalarEnds p y) d.1 h))
+      | inr k ↦ elim k [
+        | inl d ↦ ([], b ∷ y, refl, tt, suffix_is b y d.0 (subst (λ p. ScalarEnds p y) d.1 h))
+        | inr d ↦ one_digit IsEnd b y d.0 (fraction_ends y (subst (λ p. ScalarEnds p y) d.1 h))
       ]
     ]
 
@@ -276,12 +276,12 @@ whole_ends : (y : List ℕ) → ScalarEnds sp.Whole y → WholeEnds y
 whole_ends [] h = inl ([], [], refl, tt, g.no_exponent g.no_suffix)
 whole_ends (b ∷ y) (q, e, h) =
     elim (whole_next (class_of b) q e) [
-      inl d ↦ inl ([], b ∷ y, refl, tt, exponent_ends b y d.0 (subst (λ p. ScalarEnds p y) d.1 h))
-    | inr k ↦ elim k [
-        inl d ↦ inl ([], b ∷ y, refl, tt, suffix_is b y d.0 (subst (λ p. ScalarEnds p y) d.1 h))
+      | inl d ↦ inl ([], b ∷ y, refl, tt, exponent_ends b y d.0 (subst (λ p. ScalarEnds p y) d.1 h))
       | inr k ↦ elim k [
-          inl d ↦ point_whole b y d.0 (subst (λ p. ScalarEnds p y) d.1 h)
-        | inr d ↦ more_whole b y d.0 (whole_ends y (subst (λ p. ScalarEnds p y) d.1 h))
+        | inl d ↦ inl ([], b ∷ y, refl, tt, suffix_is b y d.0 (subst (λ p. ScalarEnds p y) d.1 h))
+        | inr k ↦ elim k [
+          | inl d ↦ point_whole b y d.0 (subst (λ p. ScalarEnds p y) d.1 h)
+          | inr d ↦ more_whole b y d.0 (whole_ends y (subst (λ p. ScalarEnds p y) d.1 h))
         ]
       ]
     ]
@@ -302,14 +302,14 @@ pub zero_number : (b : ℕ) (y : List ℕ) → class_of b ≡ Zero → ScalarEnd
 zero_number b [] i h = unsigned_whole b [] (ap is_digit i) (inl ([], [], refl, tt, g.no_exponent g.no_suffix))
 zero_number b (c ∷ y) i (q, e, h) =
     elim (zero_next (class_of c) q e) [
-      inl d ↦ g.hexadecimal y i d.0 (hex_start_ends y (subst (λ p. ScalarEnds p y) d.1 h))
-    | inr k ↦ elim k [
-        inl d ↦ unsigned_whole b (c ∷ y) (ap is_digit i) (inl ([], c ∷ y, refl, tt, exponent_ends c y d.0 (subst (λ p. ScalarEnds p y) d.1 h)))
+      | inl d ↦ g.hexadecimal y i d.0 (hex_start_ends y (subst (λ p. ScalarEnds p y) d.1 h))
       | inr k ↦ elim k [
-          inl d ↦ unsigned_whole b (c ∷ y) (ap is_digit i) (inl ([], c ∷ y, refl, tt, suffix_is c y d.0 (subst (λ p. ScalarEnds p y) d.1 h)))
+        | inl d ↦ unsigned_whole b (c ∷ y) (ap is_digit i) (inl ([], c ∷ y, refl, tt, exponent_ends c y d.0 (subst (λ p. ScalarEnds p y) d.1 h)))
         | inr k ↦ elim k [
-            inl d ↦ unsigned_whole b (c ∷ y) (ap is_digit i) (point_whole c y d.0 (subst (λ p. ScalarEnds p y) d.1 h))
-          | inr d ↦ unsigned_whole b (c ∷ y) (ap is_digit i) (more_whole c y d.0 (whole_ends y (subst (λ p. ScalarEnds p y) d.1 h)))
+          | inl d ↦ unsigned_whole b (c ∷ y) (ap is_digit i) (inl ([], c ∷ y, refl, tt, suffix_is c y d.0 (subst (λ p. ScalarEnds p y) d.1 h)))
+          | inr k ↦ elim k [
+            | inl d ↦ unsigned_whole b (c ∷ y) (ap is_digit i) (point_whole c y d.0 (subst (λ p. ScalarEnds p y) d.1 h))
+            | inr d ↦ unsigned_whole b (c ∷ y) (ap is_digit i) (more_whole c y d.0 (whole_ends y (subst (λ p. ScalarEnds p y) d.1 h)))
           ]
         ]
       ]
@@ -331,10 +331,10 @@ pub minus_number : (b : ℕ) (y : List ℕ) → class_of b ≡ Minus → ScalarE
 minus_number b [] i h = absurd (let e : false ≡ true = h in cc)
 minus_number b (c ∷ y) i (q, e, h) =
     elim (minus_next (class_of c) q e) [
-      inl d ↦ g.negative i (zero_number c y d.0 (subst (λ p. ScalarEnds p y) d.1 h))
-    | inr k ↦ elim k [
-        inl d ↦ g.negative i (point_number c y d.0 (subst (λ p. ScalarEnds p y) d.1 h))
-      | inr d ↦ g.negative i (digit_number c y d.0 (subst (λ p. ScalarEnds p y) d.1 h))
+      | inl d ↦ g.negative i (zero_number c y d.0 (subst (λ p. ScalarEnds p y) d.1 h))
+      | inr k ↦ elim k [
+        | inl d ↦ g.negative i (point_number c y d.0 (subst (λ p. ScalarEnds p y) d.1 h))
+        | inr d ↦ g.negative i (digit_number c y d.0 (subst (λ p. ScalarEnds p y) d.1 h))
       ]
     ]
 

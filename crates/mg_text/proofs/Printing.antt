@@ -108,9 +108,9 @@ string_content b w d (c.ascii {b = x} {s = s} l k) h =
     subst (λ z. IsContent Double z (x ∷ (s ++ d))) (sym (append_assoc (escape x) (flat_map escape s) w)) (escape_content x (flat_map escape s ++ w) (s ++ d) l (string_content s w d k h))
 string_content b w d (c.beyond {b = x} {t = t} {u = u} {s = s} e i k) h =
     let all : flat_map escape (x ∷ u ++ s) ++ w ≡ x ∷ u ++ (flat_map escape s ++ w) =
-      ap (λ z. z ++ w) (ap (λ z. z ++ flat_map escape (u ++ s)) (escape_beyond x (lead_least x t e)))
-      ∙ ap (λ z. x ∷ (z ++ w)) (flat_map-append u s) ∙ ap (λ z. x ∷ ((z ++ flat_map escape s) ++ w)) (escape_tail t u i)
-      ∙ ap (λ z. x ∷ z) (append_assoc u (flat_map escape s) w) in
+    ap (λ z. z ++ w) (ap (λ z. z ++ flat_map escape (u ++ s)) (escape_beyond x (lead_least x t e)))
+    ∙ ap (λ z. x ∷ (z ++ w)) (flat_map-append u s) ∙ ap (λ z. x ∷ ((z ++ flat_map escape s) ++ w)) (escape_tail t u i)
+    ∙ ap (λ z. x ∷ z) (append_assoc u (flat_map escape s) w) in
     subst (λ z. IsContent Double z ((x ∷ u ++ s) ++ d)) (sym all)
     (subst (λ z. IsContent Double (x ∷ u ++ (flat_map escape s ++ w)) (x ∷ z)) (sym (append_assoc u s d)) (g.beyond e i (string_content s w d k h)))
 

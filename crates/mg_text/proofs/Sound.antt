@@ -61,9 +61,16 @@ lift : (pre w : List ℕ) (done later e : Fields) (fs : List Frame) (spot next :
     → Completes later fs next w t → Completes done fs spot (pre ++ w) t
 lift pre w done later e [] spot next t same f (x, h, te) =
     (append e x, f w [] x (append-nil w) h, te ∙ ap (λ d. append d x) same ∙ append_fields_assoc done e x)
-lift pre w done later e (frame ∷ fs) spot next t same f (u, c, v, x, we, h, ce, more) =
-    (pre ++ u, c, v, append e x, ap (λ z. pre ++ z) we ∙ sym (append_assoc pre u (c ∷ v)), f u (c ∷ v) x (sym we) h, ce,
-     subst (λ d. Completes (append frame.before (message frame.name d none)) fs (at (after frame.name frame.slot)) v t) (ap (λ d. append d x) same ∙ append_fields_assoc done e x) more)
+lift pre w done later e (frame ∷ fs) spot next t same f (u, c, v, x, we, h, ce, more) = (
+  pre ++ u,
+  c,
+  v,
+  append e x,
+  ap (λ z. pre ++ z) we ∙ sym (append_assoc pre u (c ∷ v)),
+  f u (c ∷ v) x (sym we) h,
+  ce,
+  subst (λ d. Completes (append frame.before (message frame.name d none)) fs (at (after frame.name frame.slot)) v t) (ap (λ d. append d x) same ∙ append_fields_assoc done e x) more,
+)
 
 -- one byte more before, and the same fields
 one : (s : State) (spot next : Spot) (b : ℕ) (w : List ℕ) (t : Fields)
@@ -170,9 +177,16 @@ close_grow : (d : Fields) (fs : List Frame) (f : Bool) (m : Mark) (b : ℕ) (w :
     → CompletesAt (closes_with d m fs) w t → Completes d fs (at (start f)) (b ∷ w) t
 close_grow d [] f m b w t k h = absurd h
 close_grow d (frame ∷ fs) f m b w t k h =
-    let r = if_some (same_mark frame.mark m) (resumed d frame fs) w t h in
-    ([], b, w, none, refl, g.ends, k ∙ ap closing (sym (same_marks frame.mark m r.0)),
-     subst (λ d. Completes (append frame.before (message frame.name d none)) fs (at (after frame.name frame.slot)) w t) (sym (append_none d)) r.1)
+    let r = if_some (same_mark frame.mark m) (resumed d frame fs) w t h in (
+      [],
+      b,
+      w,
+      none,
+      refl,
+      g.ends,
+      k ∙ ap closing (sym (same_marks frame.mark m r.0)),
+      subst (λ d. Completes (append frame.before (message frame.name d none)) fs (at (after frame.name frame.slot)) w t) (sym (append_none d)) r.1,
+    )
 
 closes_grow : (s : State) (p : Place) (m : Mark) (b : ℕ) (w : List ℕ) (t : Fields) → class_of b ≡ closing m → CompletesAt (closes_at s m p) w t → Completes s.done s.frames (at p) (b ∷ w) t
 closes_grow s (start f) m b w t k h = close_grow s.done s.frames f m b w t k h
@@ -322,8 +336,16 @@ token_ends_grow : (s : State) (n : List ℕ) (slot : Slot) (part : ScalarPart) (
     → scalar_next part (class_of b) ≡ o → CompletesAt (step_token s n slot part bytes c b o) w t → Completes s.done s.frames (token n slot part bytes) (b ∷ w) t
 token_ends_grow s n slot part bytes c b w t (Some next) k e h =
     one s (token n slot part bytes) (token n slot next (bytes ++ b ∷ [])) b w t
-    (λ u z x i (y, v, x', ue, ends, apart, st, xe). (b ∷ y, v, x', ap (λ z. b ∷ z) ue, (next, e, ends), apart, st,
-        xe ∙ ap (λ z. scalar n (kind_of next) z x') (append_assoc bytes (b ∷ []) y) ∙ ap (λ kind. scalar n kind (bytes ++ b ∷ y) x') (same_kind part next (class_of b) e))) h
+    (λ u z x i (y, v, x', ue, ends, apart, st, xe). (
+      b ∷ y,
+      v,
+      x',
+      ap (λ z. b ∷ z) ue,
+      (next, e, ends),
+      apart,
+      st,
+      xe ∙ ap (λ z. scalar n (kind_of next) z x') (append_assoc bytes (b ∷ []) y) ∙ ap (λ kind. scalar n kind (bytes ++ b ∷ y) x') (same_kind part next (class_of b) e),
+    )) h
 token_ends_grow s n slot part bytes c b w t None k e h =
     let r = if_taken (is_whole_scalar part && not (joins c)) (step_at (with_scalar s n slot (kind_of part) bytes) (after n slot) c b) w t h in
     let a = and_true (is_whole_scalar part) (not (joins c)) r.0 in
@@ -354,11 +376,17 @@ piece_grow : (s : State) (n : List ℕ) (slot : Slot) (bytes : List ℕ) (q : Qu
     → CompletesAt (moves s (piece_spot n slot bytes q i c b)) w t → Completes s.done s.frames (piece n slot bytes q i) (b ∷ w) t
 piece_grow s n slot bytes q i c b w t k h =
     elim (if_moves s (is_closing_quote q i c) (at (joined n slot bytes)) _ w t h) [
-      inl r ↦ (let e = closing_quote q i c r.0 in
-        one s (piece n slot bytes q i) (at (joined n slot bytes)) b w t
-        (λ u z x j st. (b ∷ [], [], u, refl, subst (λ i. InsideEnds q i (b ∷ []) []) (sym e.0) (inside_content q (b ∷ []) [] (g.closes (k ∙ e.1))),
-          subst (λ z. Stands (joined n slot z) u x) (sym (append-nil bytes)) st)) r.1)
-    | inr r ↦ piece_on s n slot bytes q i c b w t (inside_next q i c b) k refl r
+      | inl r ↦ (let e = closing_quote q i c r.0 in
+          one s (piece n slot bytes q i) (at (joined n slot bytes)) b w t
+          (λ u z x j st. (
+            b ∷ [],
+            [],
+            u,
+            refl,
+            subst (λ i. InsideEnds q i (b ∷ []) []) (sym e.0) (inside_content q (b ∷ []) [] (g.closes (k ∙ e.1))),
+            subst (λ z. Stands (joined n slot z) u x) (sym (append-nil bytes)) st,
+          )) r.1)
+      | inr r ↦ piece_on s n slot bytes q i c b w t (inside_next q i c b) k refl r
     ]
 
 spot_grow : (s : State) (spot : Spot) (c : Class) (b : ℕ) (w : List ℕ) (t : Fields) → class_of b ≡ c → CompletesAt (step_spot s spot c b) w t → Completes s.done s.frames spot (b ∷ w) t

@@ -4,7 +4,7 @@ ghost use Rattle.mg_text.specs.Machine.{comment_spot, colon_spot, comma_spot, se
 ghost use Rattle.mg_text.specs.Grammar.{scalar_slot, message_slot, list_slot, after};
 ghost use Rattle.mg_text.specs.Running.{place_of, spot_of, named_slot, named_list};
 
-use crate::class::{follow, lead, Class};
+use crate::class::{Class, follow, lead};
 use crate::parts::{Between, Mark, Reading, Slot, Tail};
 
 impl Between {
@@ -130,5 +130,8 @@ pub fn comment_next(p: Between, t: Tail, c: Class, b: u8) -> Option<Reading>
 pub fn same_mark(x: Mark, y: Mark) -> bool
     ensures { result ≡ same_mark x y }
 {
-    matches!((x, y), (Mark::Brace, Mark::Brace) | (Mark::Angle, Mark::Angle))
+    matches!(
+        (x, y),
+        (Mark::Brace, Mark::Brace) | (Mark::Angle, Mark::Angle)
+    )
 }

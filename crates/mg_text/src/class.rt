@@ -185,7 +185,10 @@ impl Class {
     pub fn is_digit(self) -> bool
         ensures { result ≡ is_digit self }
     {
-        matches!(self, Class::Zero | Class::One | Class::OctalDigit | Class::Digit)
+        matches!(
+            self,
+            Class::Zero | Class::One | Class::OctalDigit | Class::Digit
+        )
     }
 
     pub fn is_octal(self) -> bool

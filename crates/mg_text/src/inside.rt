@@ -4,7 +4,7 @@ ghost use Rattle.mg_text.specs.Machine.{inside_next, is_closing_quote, plain_nex
 ghost use Rattle.mg_text.specs.Grammar.{escaped, is_first_octal, in_piece};
 ghost use Rattle.mg_text.specs.Running.{spelling_of};
 
-use crate::class::{follow, lead, Class};
+use crate::class::{Class, follow, lead};
 use crate::parts::{Inside, Quote, Tail};
 
 /// Whether a byte stands for itself in a piece.

@@ -2,14 +2,13 @@
 //! `print` writes the canonical text. What a text means is the grammar of `specs/Grammar.antt`.
 #![tactic(auto)]
 
-mod class;
 mod between;
+mod class;
 mod fault;
 mod inside;
 pub mod laws;
 mod machine;
 mod next;
-
 mod parts;
 mod printer;
 mod reader;

@@ -6,17 +6,15 @@ ghost use Rattle.mg_text.specs.Machine.{resumed, step, step_at, step_settled, st
 ghost use Rattle.mg_text.specs.Grammar.{scalar_slot, message_slot, piece_slot, list_slot, after};
 ghost use Rattle.mg_text.specs.Running.{state_of, frames_of, place_of, spot_of, kind_view, frame_of, Took};
 
-use std::alloc::{AllocError, Global};
-use std::mem;
-
-use mg_value::MgText;
-
 use crate::between::{comment_next, same_mark};
-use crate::class::{class_of, Class};
+use crate::class::{Class, class_of};
 use crate::inside::{inside_next, is_closing_quote};
 use crate::next::{is_whole_name, is_whole_scalar, name_next, scalar_next};
 use crate::parts::{Between, Inside, Kind, Mark, NamePart, Quote, Reading, ScalarPart, Slot, Tail};
 use crate::tree::{Field, Scalar, Tree, TreeValue};
+use mg_value::MgText;
+use std::alloc::{AllocError, Global};
+use std::mem;
 
 /// A message that is open: the fields before it, its name, where it stands and its mark.
 #[derive(Drop)]

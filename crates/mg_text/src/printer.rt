@@ -6,9 +6,8 @@ ghost use Rattle.mg_text.specs.View.{view, fields_view, field_view, value_view, 
 ghost use Rattle.mg_text.specs.Answer.{max_depth};
 ghost use Rattle.mg_text.specs.Canonical.{indent, escape, short_escape, canonical, lines_of, entry_lines, entry_depth, value_text, AreSpelled};
 
-use std::alloc::{AllocError, Global};
-
 use crate::tree::{Field, Scalar, Tree, TreeValue};
+use std::alloc::{AllocError, Global};
 
 fn put_indent(out: &mut Vec<u8>, k: usize) -> Result<(), AllocError>
     requires { k < 2 ^ 32 }

@@ -6,13 +6,13 @@ ghost use Rattle.mg_text.specs.Canonical.{AreSpelled};
 ghost use Rattle.mg_text.specs.Answer.{max_len, max_depth, IsSyntaxFault, IsTooDeep, IsFault, IsTree, IsFailed};
 ghost use Rattle.mg_text.specs.Running.{state_of, Ended, IsAnswered};
 
-use std::alloc::Global;
-
 use crate::fault::TextFault;
 use crate::machine::Machine;
 use crate::tree::Tree;
+use std::alloc::Global;
 
 const MAX_LEN: usize = 4_194_304;
+
 const MAX_DEPTH: usize = 64;
 
 /// The line feed that ends a comment at the end of a file.

@@ -6,16 +6,15 @@ ghost use Rattle.mg_text.specs.Grammar.{scalar_slot, piece_slot, named};
 ghost use Rattle.mg_text.specs.Running.{state_of, place_of, frames_of, kind_view, spelled, Took};
 ghost use Rattle.mg_text.specs.View.{view, fields_view};
 
+use crate::between::comment_next;
+use crate::class::{Class, class_of};
+use crate::inside::{inside_next, is_closing_quote};
+use crate::machine::{Machine, text_of};
+use crate::next::{is_whole_name, is_whole_scalar, name_next, scalar_next};
+use crate::parts::{Between, Inside, Kind, Mark, NamePart, Quote, Reading, ScalarPart, Slot, Tail};
+use crate::tree::Tree;
 use std::alloc::{AllocError, Global};
 use std::mem;
-
-use crate::between::comment_next;
-use crate::class::{class_of, Class};
-use crate::inside::{inside_next, is_closing_quote};
-use crate::machine::{text_of, Machine};
-use crate::next::{is_whole_name, is_whole_scalar, name_next, scalar_next};
-use crate::tree::Tree;
-use crate::parts::{Between, Inside, Kind, Mark, NamePart, Quote, Reading, ScalarPart, Slot, Tail};
 
 impl Machine {
     /// Begins a token with its first byte.
@@ -111,7 +110,13 @@ impl Machine {
         }
     }
 
-    fn step_settled(&mut self, alloc: Global, p: Between, c: Class, b: u8) -> Result<bool, AllocError>
+    fn step_settled(
+        &mut self,
+        alloc: Global,
+        p: Between,
+        c: Class,
+        b: u8,
+    ) -> Result<bool, AllocError>
         ensures { IfOk result (λ taken. Took (step_settled (state_of self.old)
             (place_of p self.old.name self.old.token.items) c b) taken (state_of self.new)) }
     {
@@ -163,7 +168,13 @@ impl Machine {
         }
     }
 
-    fn step_name(&mut self, alloc: Global, part: NamePart, c: Class, b: u8) -> Result<bool, AllocError>
+    fn step_name(
+        &mut self,
+        alloc: Global,
+        part: NamePart,
+        c: Class,
+        b: u8,
+    ) -> Result<bool, AllocError>
         ensures { IfOk result (λ taken. Took (step_naming (state_of self.old) part self.old.token.items c b
             (name_next part c)) taken (state_of self.new)) }
     {
