@@ -6,4 +6,5 @@ pub mod Pieces
 pub mod Printing
 pub mod Sound
 pub mod Spelled
+pub mod Unicode
 pub mod Views
