@@ -1,3 +1,4 @@
+pub mod Clean
 pub mod Complete
 pub mod Depth
 pub mod Faults

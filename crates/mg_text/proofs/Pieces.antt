@@ -388,7 +388,7 @@ inside_escape q b y e k (in_escape h c) = in_char no_tail (g.escape k h c)
 inside_escape q b y e k (in_octal i j l c) = in_char no_tail (g.octal_escape k i j l c)
 
 -- what inside_next says, by the byte's class
-mapped : {A B : Type 0} (f : A → B) (o : Option A) (y : B) → option_map f o ≡ Some y → (x : A) × (o ≡ Some x) × (f x ≡ y)
+pub mapped : {A B : Type 0} (f : A → B) (o : Option A) (y : B) → option_map f o ≡ Some y → (x : A) × (o ≡ Some x) × (f x ≡ y)
 mapped f (Some x) y e = (x, refl, cc)
 mapped f None y e = cc
 

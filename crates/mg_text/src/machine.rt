@@ -1,4 +1,5 @@
-ghost use Rattle.std.specs.Prelude.{◌≡◌, ℕ, List, [], ◌∷◌, ◌++◌, IfOk, OnOk, length, Some};
+ghost use Rattle.std.specs.Prelude.{◌≡◌, ℕ, List, [], ◌∷◌, ◌++◌, IfOk, OnOk, length, Some, IsUtf8};
+ghost use Rattle.mg_text.specs.Clean.{IsCleanPlace};
 ghost use Rattle.std.specs.Option.{option_map};
 ghost use Rattle.mg_text.specs.Tree.{append, none, scalar, message};
 ghost use Rattle.mg_text.specs.View.{fields_view, value_view, simple, inner};
@@ -37,13 +38,11 @@ pub struct Machine {
 }
 
 /// The text of bytes that are UTF-8.
-pub fn text_of(bytes: Vec<u8>) -> Result<MgText, AllocError>
-    ensures { IfOk result (λ t. t ≡ bytes.items) }
+pub fn text_of(bytes: Vec<u8>) -> MgText
+    requires { IsUtf8 bytes.items }
+    ensures { result ≡ bytes.items }
 {
-    match String::from_utf8(bytes) {
-        Ok(text) => Ok(MgText::from_string(text)),
-        Err(_) => Err(AllocError),
-    }
+    MgText::from_string(String::from_utf8(bytes).unwrap())
 }
 
 fn scalar_of(kind: Kind, text: MgText) -> TreeValue
@@ -102,13 +101,14 @@ impl Machine {
 
     /// Adds the scalar that has been read, and goes to the place after it.
     pub fn emit(&mut self, alloc: Global, slot: Slot, kind: Kind) -> Result<Between, AllocError>
+        requires { IsUtf8 self.old.token.items }
         ensures state { OnOk result (state_of self.new
             ≡ with_scalar (state_of self.old) self.old.name slot (kind_view kind) self.old.token.items) }
         ensures place { IfOk result (λ q. place_of q self.new.name self.new.token.items ≡ after self.old.name slot) }
     {
         let name = self.take_name(alloc, slot)?;
         let bytes = mem::replace(&mut self.token, Vec::new(alloc));
-        let value = scalar_of(kind, text_of(bytes)?);
+        let value = scalar_of(kind, text_of(bytes));
         self.done.push(Field { name, value })?;
         let place = Between::after(slot);
         self.reading = Reading::At(place);
@@ -131,6 +131,7 @@ impl Machine {
 
     /// Ends a string where no piece follows: the place after it.
     pub fn settle(&mut self, alloc: Global, p: Between) -> Result<Between, AllocError>
+        requires { IsCleanPlace (place_of p self.old.name self.old.token.items) }
         ensures state { OnOk result (state_of self.new
             ≡ settled (state_of self.old) (place_of p self.old.name self.old.token.items)) }
         ensures place { IfOk result (λ q. place_of q self.new.name self.new.token.items

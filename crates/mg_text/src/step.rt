@@ -1,9 +1,10 @@
-ghost use Rattle.std.specs.Prelude.{◌≡◌, ◌++◌, ◌∷◌, [], IfOk, OnOk, is_some};
+ghost use Rattle.std.specs.Prelude.{◌≡◌, ◌++◌, ◌∷◌, [], IfOk, OnOk, is_some, IsUtf8};
+ghost use Rattle.mg_text.specs.Clean.{CharsTo, IsClean, IsCleanPlace};
 ghost use Rattle.std.specs.Option.{option_map};
 ghost use Rattle.mg_text.specs.Byte.{class_of};
 ghost use Rattle.mg_text.specs.Machine.{step, step_at, step_settled, step_naming, step_token, moves, bracket_spot, token_spot, letter_spot, quote_spot, piece_spot, accepts, name_next, scalar_next, moved, kind_of, final};
 ghost use Rattle.mg_text.specs.Grammar.{scalar_slot, piece_slot, named};
-ghost use Rattle.mg_text.specs.Running.{state_of, place_of, frames_of, kind_view, spelled, Took};
+ghost use Rattle.mg_text.specs.Running.{state_of, place_of, spot_of, frames_of, kind_view, spelled, Took};
 ghost use Rattle.mg_text.specs.View.{view, fields_view};
 
 use std::alloc::{AllocError, Global};
@@ -148,6 +149,7 @@ impl Machine {
     }
 
     fn step_at(&mut self, alloc: Global, p: Between, c: Class, b: u8) -> Result<bool, AllocError>
+        requires { IsCleanPlace (place_of p self.old.name self.old.token.items) }
         ensures { IfOk result (λ taken. Took (step_at (state_of self.old)
             (place_of p self.old.name self.old.token.items) c b) taken (state_of self.new)) }
     {
@@ -176,6 +178,7 @@ impl Machine {
         c: Class,
         b: u8,
     ) -> Result<bool, AllocError>
+        requires { CharsTo Tail.Whole self.old.token.items }
         ensures { IfOk result (λ taken. Took (step_naming (state_of self.old) part self.old.token.items c b
             (name_next part c)) taken (state_of self.new)) }
     {
@@ -186,7 +189,7 @@ impl Machine {
             }
             None => {
                 if is_whole_name(part) && !c.joins() {
-                    self.end_name(alloc)?;
+                    self.end_name(alloc);
                     self.step_at(alloc, Between::Named, c, b)
                 } else {
                     Ok(false)
@@ -196,14 +199,14 @@ impl Machine {
     }
 
     /// Takes the name that has been read.
-    fn end_name(&mut self, alloc: Global) -> Result<(), AllocError>
-        ensures state { OnOk result (state_of self.new ≡ moved (state_of self.old) (named self.old.token.items)) }
-        ensures name { OnOk result (self.new.name ≡ self.old.token.items) }
+    fn end_name(&mut self, alloc: Global)
+        requires { IsUtf8 self.old.token.items }
+        ensures state { state_of self.new ≡ moved (state_of self.old) (named self.old.token.items) }
+        ensures name { self.new.name ≡ self.old.token.items }
     {
         let bytes = mem::replace(&mut self.token, Vec::new(alloc));
-        self.name = text_of(bytes)?;
+        self.name = text_of(bytes);
         self.reading = Reading::At(Between::Named);
-        Ok(())
     }
 
     fn step_scalar(
@@ -214,6 +217,7 @@ impl Machine {
         c: Class,
         b: u8,
     ) -> Result<bool, AllocError>
+        requires { CharsTo Tail.Whole self.old.token.items }
         ensures { IfOk result (λ taken. Took (step_token (state_of self.old) self.old.name slot part self.old.token.items c b
             (scalar_next part c)) taken (state_of self.new)) }
     {
@@ -270,6 +274,7 @@ impl Machine {
 
     /// Reads one byte more: whether a text may go on so.
     pub fn step(&mut self, alloc: Global, b: u8) -> Result<bool, AllocError>
+        requires { IsClean (spot_of self.old.reading self.old.name self.old.token.items) }
         ensures { IfOk result (λ taken. Took (step (state_of self.old) b) taken (state_of self.new)) }
     {
         let c = class_of(b);
@@ -295,6 +300,7 @@ impl Machine {
 
     /// The fields of a text that ends here, if one may.
     pub fn finish(mut self, alloc: Global) -> Result<Option<Tree>, AllocError>
+        requires { IsClean (spot_of self.reading self.name self.token.items) }
         ensures { IfOk result (λ tree. option_map view tree ≡ accepts (state_of self)) }
     {
         let p = match self.reading {

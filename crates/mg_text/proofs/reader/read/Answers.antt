@@ -2,6 +2,8 @@ use Rattle.std.proofs.Common.{arith, ◌≡◌, ◌<◌, length, true, false, su
 use Rattle.std.proofs.Math.Seq.{take-length}
 use Rattle.mg_text.specs.Running.{state_of, Ended, IsAnswered}
 use Rattle.mg_text.proofs.Faults.{Reached, syntax_at, too_deep_at, reached_more, answered_end, reached_end, took_none, took_some}
+use Rattle.mg_text.proofs.Clean.{run_clean}
+use Rattle.mg_text.specs.Machine.{begin}
 use Rattle.mg_text.proofs.reader.read.Goals as goal
 
 pub returns-then-not-branch : goal.returns-then-not-branch
@@ -20,3 +22,9 @@ loop-i-preserved c =
 
 pub returns : goal.returns
 returns c = answered_end c.args.bytes.now (state_of c.loop-i.machine) _ (reached_end _ c.loop-i.i _ (omega arith) c.loop-i.invariant) (subst (λ n. Ended (state_of c.loop-i.machine) n c.end.result) (omega arith) c.end.ensures)
+
+pub step-requires : goal.step-requires
+step-requires c = run_clean _ begin (state_of c.loop-i.machine) c.loop-i.invariant.ran tt
+
+pub end-requires : goal.end-requires
+end-requires c = run_clean _ begin (state_of c.loop-i.machine) c.loop-i.invariant.ran tt
