@@ -1,10 +1,10 @@
 -- What is in the grammar is taken by the machine, which makes the same fields.
-use Rattle.std.proofs.Common.{suc, arith, ◌<◌, ◌≤◌, leb, ltb, eqb, ◌≡◌, ℕ, ◌+◌, ◌-◌, ◌*◌, List, [], ◌∷◌, ◌++◌, Bool, true, false, not, ◌&&◌, cond, Option, Some, None, refl, sym, ap, ◌∙◌, subst, ◌⊎◌, inl, inr, append_assoc, option_and_then}
+use Rattle.std.proofs.Common.{arith, ◌≤◌, ◌≡◌, ℕ, ◌-◌, List, [], ◌∷◌, ◌++◌, Bool, true, false, not, ◌&&◌, cond, Option, Some, None, refl, sym, ap, ◌∙◌, subst, ◌⊎◌, inl, inr, append_assoc, option_and_then}
 use Rattle.std.proofs.lemmas.List.{append-nil}
 use Rattle.std.proofs.lemmas.Bool.Decides.{nat_tests}
 use Rattle.std.specs.Option.{option_map}
 use Rattle.mg_text.specs.declared.class.Class.{Class}
-use Rattle.mg_text.specs.declared.class.Class.TheVariants.{Blank, LineFeed, Hash, DoubleQuote, SingleQuote, Backslash, Colon, Comma, Semicolon, BraceOpen, BraceClose, AngleOpen, AngleClose, BracketOpen, BracketClose, Minus, Plus, Dot, Slash, Zero, One, OctalDigit, Digit, LetterE, LetterF, HexLetter, LetterX, LetterN, LetterR, LetterT, Letter, Other, Beyond}
+use Rattle.mg_text.specs.declared.class.Class.TheVariants.{Blank, LineFeed, Hash, DoubleQuote, SingleQuote, Backslash, Colon, Comma, Semicolon, BracketOpen, BracketClose, Minus, Dot, Zero, One, OctalDigit, Digit, LetterE, LetterF, HexLetter, LetterX, LetterN, LetterR, LetterT, Letter, Beyond}
 use Rattle.mg_text.specs.declared.parts.Mark.{Mark}
 use Rattle.mg_text.specs.declared.parts.Mark.TheVariants.{Brace, Angle}
 use Rattle.mg_text.specs.declared.parts.Quote.{Quote}
@@ -13,7 +13,7 @@ use Rattle.mg_text.specs.declared.parts.Slot.{Slot}
 use Rattle.mg_text.specs.declared.parts.Slot.TheVariants as slots
 use Rattle.mg_text.proofs.Spelled.{NameBegins, by_letter, by_bracket, name_begins, NumberBegins, by_minus, with_no_sign, UnsignedBegins, by_point, by_digit, number_begins, first_part, word_scalar}
 use Rattle.mg_text.specs.declared.parts.Tail.{Tail}
-use Rattle.mg_text.specs.declared.parts.Tail.TheVariants.{Whole, OneMore, TwoMore, ThreeMore, AfterE0, AfterED, AfterF0, AfterF4}
+use Rattle.mg_text.specs.declared.parts.Tail.TheVariants.{Whole}
 use Rattle.mg_text.specs.declared.parts.NamePart.{NamePart}
 use Rattle.mg_text.specs.declared.parts.NamePart.TheVariants as np
 use Rattle.mg_text.specs.declared.parts.ScalarPart.{ScalarPart}
@@ -21,13 +21,12 @@ use Rattle.mg_text.specs.declared.parts.ScalarPart.TheVariants as sp
 use Rattle.mg_text.specs.declared.parts.Inside.{Inside}
 use Rattle.mg_text.specs.declared.parts.Inside.TheVariants.{Plain, Escape, Second, Third}
 use Rattle.mg_text.specs.Byte.{IsTail, byte, class_of, is_letter, is_octal, is_digit, is_hex, is_word_byte, is_blank, joins, lead, follow, whole as no_tail}
-use Rattle.mg_text.specs.Tree.{Kind, word, number, quoted, Fields, none, scalar, message, append}
+use Rattle.mg_text.specs.Tree.{word, number, quoted, Fields, none, scalar, message, append}
 use Rattle.mg_text.specs.Grammar as g
 use Rattle.mg_text.specs.Grammar.{Stands, Gives, Apart, Place, start, named, valued, opened, element, behind, joined, after, scalar_slot, message_slot, piece_slot, list_slot, list_ends, opening, closing, quote_class, in_line, is_separator}
-use Rattle.mg_text.specs.Machine as m
-use Rattle.mg_text.specs.Machine.{Spot, at, comment, naming, token, piece, Frame, State, moves, settled, settled_place, with_scalar, opens_at, closes_at, closes_with, resumed, same_mark, colon_spot, comma_spot, semicolon_spot, bracket_spot, list_spot, list_end_spot, token_spot, letter_spot, quote_spot, step_settled, step_at, comment_spot, awaits, step_naming, step_token, inside_next, is_closing_quote, goes_on, piece_spot, digit_onto, plain_next, escape_next, step_spot, step, final, accepts_spot, accepts, run, outcome, begin, name_next, scalar_next, is_whole_name, is_whole_scalar, kind_of}
-use Rattle.mg_text.proofs.Pieces.{NameEnds, ScalarEnds, LineEnds, InsideEnds, from_if, some_same, word_name, bracket_name, word_token, zero_number, digit_number, point_number, minus_number, line_whole, line_beyond, line_ascii, line_tail, content_whole, inside_content, inside_grow, in_line_tail, octal_value, octal_digit, first_octal_digit}
-use Rattle.mg_text.proofs.Sound.{append_none, append_fields_assoc, same_kind, and_true, not_true}
+use Rattle.mg_text.specs.Machine.{Spot, at, comment, naming, token, piece, Frame, State, moves, settled, settled_place, opens_at, resumed, same_mark, list_spot, token_spot, letter_spot, quote_spot, step_settled, step_at, comment_spot, awaits, step_naming, step_token, inside_next, is_closing_quote, goes_on, piece_spot, digit_onto, escape_next, step_spot, final, accepts_spot, accepts, outcome, begin, name_next, scalar_next, is_whole_name, is_whole_scalar, kind_of}
+use Rattle.mg_text.proofs.Pieces.{NameEnds, ScalarEnds, some_same, octal_value, octal_digit, first_octal_digit}
+use Rattle.mg_text.proofs.Sound.{append_none, append_fields_assoc, same_kind}
 
 abbrev pub st : Fields → List Frame → Spot → State
 st d fs spot = record { done = d; frames = fs; spot = spot }

@@ -1,36 +1,26 @@
 -- How deep the messages nest that a state has read.
-use Rattle.std.proofs.Common.{max, length, suc, arith, ◌<◌, ◌≤◌, leb, ltb, eqb, ◌≡◌, ℕ, ◌+◌, ◌-◌, ◌*◌, List, [], ◌∷◌, ◌++◌, Bool, true, false, not, ◌&&◌, cond, Option, Some, None, refl, sym, ap, ◌∙◌, subst, ◌⊎◌, inl, inr, append_assoc, option_and_then}
-use Rattle.std.proofs.lemmas.List.{append-nil}
-use Rattle.std.proofs.lemmas.Bool.Decides.{nat_tests}
-use Rattle.std.specs.Option.{option_map}
+use Rattle.std.proofs.Common.{max, length, suc, arith, ◌≤◌, ◌≡◌, ℕ, List, [], ◌∷◌, Bool, true, false, not, ◌&&◌, cond, Option, Some, None, refl, subst}
 use Rattle.mg_text.specs.declared.class.Class.{Class}
-use Rattle.mg_text.specs.declared.class.Class.TheVariants.{Blank, LineFeed, Hash, DoubleQuote, SingleQuote, Backslash, Colon, Comma, Semicolon, BraceOpen, BraceClose, AngleOpen, AngleClose, BracketOpen, BracketClose, Minus, Plus, Dot, Slash, Zero, One, OctalDigit, Digit, LetterE, LetterF, HexLetter, LetterX, LetterN, LetterR, LetterT, Letter, Other, Beyond}
+use Rattle.mg_text.specs.declared.class.Class.TheVariants.{Blank, LineFeed, Hash, DoubleQuote, SingleQuote, Colon, Comma, Semicolon, BraceOpen, BraceClose, AngleOpen, AngleClose, BracketOpen, BracketClose, Minus, Dot, Zero, One, OctalDigit, Digit, LetterE, LetterF, HexLetter, LetterX, LetterN, LetterR, LetterT, Letter, Beyond}
 use Rattle.mg_text.specs.declared.parts.Mark.{Mark}
 use Rattle.mg_text.specs.declared.parts.Mark.TheVariants.{Brace, Angle}
 use Rattle.mg_text.specs.declared.parts.Quote.{Quote}
 use Rattle.mg_text.specs.declared.parts.Quote.TheVariants.{Single, Double}
 use Rattle.mg_text.specs.declared.parts.Slot.{Slot}
 use Rattle.mg_text.specs.declared.parts.Slot.TheVariants as slots
-use Rattle.mg_text.proofs.Spelled.{NameBegins, by_letter, by_bracket, name_begins, NumberBegins, by_minus, with_no_sign, UnsignedBegins, by_point, by_digit, number_begins, first_part, word_scalar}
 use Rattle.mg_text.specs.declared.parts.Tail.{Tail}
-use Rattle.mg_text.specs.declared.parts.Tail.TheVariants.{Whole, OneMore, TwoMore, ThreeMore, AfterE0, AfterED, AfterF0, AfterF4}
+use Rattle.mg_text.specs.declared.parts.Tail.TheVariants.{Whole}
 use Rattle.mg_text.specs.declared.parts.NamePart.{NamePart}
-use Rattle.mg_text.specs.declared.parts.NamePart.TheVariants as np
 use Rattle.mg_text.specs.declared.parts.ScalarPart.{ScalarPart}
 use Rattle.mg_text.specs.declared.parts.ScalarPart.TheVariants as sp
 use Rattle.mg_text.specs.declared.parts.Inside.{Inside}
-use Rattle.mg_text.specs.declared.parts.Inside.TheVariants.{Plain, Escape, Second, Third}
-use Rattle.mg_text.specs.Byte.{below_digits, digit_class, upper_class, lower_class, IsTail, byte, class_of, is_letter, is_octal, is_digit, is_hex, is_word_byte, is_blank, joins, lead, follow, whole as no_tail}
-use Rattle.mg_text.specs.Tree.{Kind, word, number, quoted, Fields, none, scalar, message, append, depth}
-use Rattle.mg_text.specs.Grammar as g
-use Rattle.mg_text.specs.Grammar.{Stands, Gives, Apart, Place, start, named, valued, opened, element, behind, joined, after, scalar_slot, message_slot, piece_slot, list_slot, list_ends, opening, closing, quote_class, in_line, is_separator}
-use Rattle.mg_text.specs.Machine as m
-use Rattle.mg_text.specs.Machine.{Spot, at, comment, naming, token, piece, Frame, State, moves, moved, settled, settled_place, with_scalar, opens_at, closes_at, closes_with, resumed, same_mark, colon_spot, comma_spot, semicolon_spot, bracket_spot, list_spot, list_end_spot, token_spot, letter_spot, quote_spot, step_settled, step_at, comment_spot, awaits, step_naming, step_token, inside_next, is_closing_quote, goes_on, piece_spot, plain_next, escape_next, step_spot, step, final, accepts_spot, accepts, run, outcome, begin, name_next, scalar_next, is_whole_name, is_whole_scalar, kind_of}
-use Rattle.mg_text.proofs.Pieces.{NameEnds, ScalarEnds, LineEnds, InsideEnds, from_if, some_same, word_name, bracket_name, word_token, zero_number, digit_number, point_number, minus_number, line_whole, line_beyond, line_ascii, line_tail, content_whole, inside_content, inside_grow, in_line_tail}
-use Rattle.mg_text.proofs.Sound.{append_none, append_fields_assoc, same_kind, and_true, not_true}
-use Rattle.mg_text.proofs.Complete.{st, go, Closes, complete, tail_run, line_run, gap_run, naming_run, token_run, content_run, inside_run, tail_bytes, tail_byte, closing_byte, if_so}
-use Rattle.mg_text.proofs.Sound.{Completes, Rest, sound}
-use Rattle.mg_text.proofs.Finish.{level, level_max, level_least, depth-append, depth-resumed, extra, spot_extra}
+use Rattle.mg_text.specs.Byte.{class_of, joins, lead, follow}
+use Rattle.mg_text.specs.Tree.{Kind, quoted, Fields, none, scalar, message, append, depth}
+use Rattle.mg_text.specs.Grammar.{Place, start, named, valued, opened, element, behind, joined, after, scalar_slot, message_slot, piece_slot}
+use Rattle.mg_text.specs.Machine.{Spot, at, comment, naming, token, piece, Frame, State, moves, moved, settled, settled_place, with_scalar, opens_at, closes_at, closes_with, resumed, same_mark, colon_spot, comma_spot, semicolon_spot, bracket_spot, list_end_spot, token_spot, letter_spot, quote_spot, step_settled, step_at, comment_spot, awaits, step_naming, step_token, inside_next, is_closing_quote, goes_on, piece_spot, step_spot, step, outcome, name_next, scalar_next, is_whole_name, kind_of}
+use Rattle.mg_text.proofs.Pieces.{some_same}
+use Rattle.mg_text.proofs.Sound.{Completes, sound}
+use Rattle.mg_text.proofs.Finish.{level, level_max, depth-append, depth-resumed}
 
 pub level_monotone : (fs : List Frame) (j k : ℕ) → j ≤ k → level j fs ≤ level k fs
 level_monotone [] j k h = h

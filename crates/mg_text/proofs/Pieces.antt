@@ -1,24 +1,23 @@
 -- What completes a token of which a part is read, and how such a rest makes the token of the grammar.
-use Rattle.std.proofs.Common.{arith, ◌≤◌, ◌%◌, ◌≡◌, ℕ, ◌+◌, ◌-◌, ◌*◌, List, [], ◌∷◌, ◌++◌, Bool, true, false, not, ◌&&◌, cond, Option, Some, None, refl, sym, ap, ◌∙◌, subst, ◌⊎◌, inl, inr, append_assoc}
+use Rattle.std.proofs.Common.{arith, ◌≤◌, ◌≡◌, ℕ, ◌-◌, List, [], ◌∷◌, ◌++◌, Bool, true, false, cond, Option, Some, None, refl, sym, ap, ◌∙◌, subst, ◌⊎◌, inl, inr, append_assoc}
 use Rattle.std.proofs.lemmas.List.{append-nil}
 use Rattle.std.specs.Option.{option_map}
 use Rattle.std.proofs.lemmas.Bool.Decides.{nat_tests}
 use Rattle.mg_text.specs.declared.class.Class.{Class}
-use Rattle.mg_text.specs.declared.class.Class.TheVariants.{Blank, LineFeed, Hash, DoubleQuote, SingleQuote, Backslash, Colon, Comma, Semicolon, BraceOpen, BraceClose, AngleOpen, AngleClose, BracketOpen, BracketClose, Minus, Plus, Dot, Slash, Zero, One, OctalDigit, Digit, LetterE, LetterF, HexLetter, LetterX, LetterN, LetterR, LetterT, Letter, Other, Beyond}
+use Rattle.mg_text.specs.declared.class.Class.TheVariants.{Backslash, BracketOpen, BracketClose, Minus, Plus, Dot, Slash, Zero, LetterE, LetterF, LetterX, Beyond}
 use Rattle.mg_text.specs.declared.parts.Quote.{Quote}
-use Rattle.mg_text.specs.declared.parts.Quote.TheVariants.{Single, Double}
 use Rattle.mg_text.specs.declared.parts.Tail.{Tail}
-use Rattle.mg_text.specs.declared.parts.Tail.TheVariants.{Whole, OneMore, TwoMore, ThreeMore, AfterE0, AfterED, AfterF0, AfterF4}
+use Rattle.mg_text.specs.declared.parts.Tail.TheVariants.{Whole}
 use Rattle.mg_text.specs.declared.parts.NamePart.{NamePart}
 use Rattle.mg_text.specs.declared.parts.NamePart.TheVariants as np
 use Rattle.mg_text.specs.declared.parts.ScalarPart.{ScalarPart}
 use Rattle.mg_text.specs.declared.parts.ScalarPart.TheVariants as sp
 use Rattle.mg_text.specs.declared.parts.Inside.{Inside}
 use Rattle.mg_text.specs.declared.parts.Inside.TheVariants.{Plain, Escape, Second, Third}
-use Rattle.mg_text.specs.Byte.{below_digits, digit_class, upper_class, lower_class, class_of, is_letter, is_octal, is_digit, is_hex, is_word_byte, joins, lead, follow, IsTail, whole as no_tail, byte}
+use Rattle.mg_text.specs.Byte.{below_digits, digit_class, upper_class, lower_class, class_of, is_letter, is_octal, is_digit, is_hex, is_word_byte, lead, follow, IsTail, whole as no_tail, byte}
 use Rattle.mg_text.specs.Grammar as g
 use Rattle.mg_text.specs.Grammar.{AllOf, Begins, Some1, IsWord, IsPath, IsName, IsNumber, IsUnsigned, IsEnd, IsSign, IsSuffix, IsLine, IsContent, in_line, in_piece, quote_class, escaped, is_first_octal, octal}
-use Rattle.mg_text.specs.Machine.{name_next, is_whole_name, scalar_next, is_whole_scalar, plain_next, escape_next, inside_next, is_closing_quote, digit_onto}
+use Rattle.mg_text.specs.Machine.{name_next, is_whole_name, scalar_next, is_whole_scalar, plain_next, escape_next, inside_next, digit_onto}
 
 -- these bytes end a name of which a part is read
 abbrev pub NameEnds : NamePart → List ℕ → Type 0

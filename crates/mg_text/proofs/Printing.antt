@@ -1,24 +1,24 @@
 -- The canonical text is in the grammar, and what the grammar gives can be printed.
-use Rattle.std.proofs.Common.{arith, zero, suc, ◌≡◌, ℕ, ◌+◌, ◌-◌, ◌*◌, ◌/◌, ◌%◌, ◌<◌, ◌≤◌, List, [], ◌∷◌, ◌++◌, Bool, true, false, ◌||◌, ◌&&◌, cond, eqb, ltb, leb, Option, Some, None, refl, sym, ap, ◌∙◌, subst, ◌⊎◌, inl, inr, append_assoc, replicate}
+use Rattle.std.proofs.Common.{arith, zero, suc, ◌≡◌, ℕ, ◌+◌, ◌*◌, ◌/◌, ◌%◌, ◌<◌, ◌≤◌, List, [], ◌∷◌, ◌++◌, Bool, true, false, ◌||◌, cond, eqb, ltb, Option, Some, refl, sym, ap, ◌∙◌, subst, inl, inr, append_assoc, replicate}
 use Rattle.std.proofs.lemmas.List.{append-nil}
 use Rattle.std.proofs.lemmas.Bool.Decides.{nat_tests}
 use Rattle.std.specs.List.{flat_map}
 use Rattle.mg_text.specs.declared.class.Class.{Class}
-use Rattle.mg_text.specs.declared.class.Class.TheVariants.{Blank, LineFeed, Hash, DoubleQuote, SingleQuote, Backslash, Beyond, Zero, One, OctalDigit, LetterN, LetterR, LetterT}
+use Rattle.mg_text.specs.declared.class.Class.TheVariants.{DoubleQuote, SingleQuote, Backslash, Beyond, LetterN, LetterR, LetterT}
 use Rattle.mg_text.specs.declared.parts.Quote.{Quote}
 use Rattle.mg_text.specs.declared.parts.Quote.TheVariants.{Single, Double}
-use Rattle.mg_text.specs.declared.parts.Mark.TheVariants.{Brace, Angle}
+use Rattle.mg_text.specs.declared.parts.Mark.TheVariants.{Brace}
 use Rattle.mg_text.specs.declared.parts.Slot.{Slot}
 use Rattle.mg_text.specs.declared.parts.Slot.TheVariants as slots
 use Rattle.mg_text.specs.declared.parts.Tail.{Tail}
 use Rattle.mg_text.specs.declared.parts.Tail.TheVariants.{Whole, OneMore, TwoMore, ThreeMore, AfterE0, AfterED, AfterF0, AfterF4}
-use Rattle.mg_text.specs.Byte.{below_digits, digit_class, upper_class, lower_class, class_of, is_octal, joins, lead, follow, IsTail, byte, whole as no_tail}
-use Rattle.mg_text.specs.Tree.{Kind, word, number, quoted, Fields, none, scalar, message, append, depth}
+use Rattle.mg_text.specs.Byte.{below_digits, digit_class, upper_class, lower_class, class_of, is_octal, lead, follow, IsTail, byte, whole as no_tail}
+use Rattle.mg_text.specs.Tree.{Kind, word, number, quoted, Fields, none, scalar, message, append}
 use Rattle.mg_text.specs.Grammar as g
 use Rattle.mg_text.specs.Grammar.{Stands, Gives, Apart, Place, start, named, valued, opened, element, behind, joined, after, IsContent, IsName, octal, is_first_octal}
 use Rattle.mg_text.specs.Canonical as c
 use Rattle.mg_text.specs.Canonical.{indent, escape, escape_by, short_escape, spelling, scalar_line, message_lines, lines_of, canonical, AreCharacters, IsSpelled, AreSpelled}
-use Rattle.mg_text.proofs.Sound.{append_none, append_fields_assoc}
+use Rattle.mg_text.proofs.Sound.{append_none}
 use Rattle.mg_text.proofs.Pieces.{octal_digit, first_octal_digit, some_same}
 use Rattle.mg_text.proofs.Complete.{beyond_class}
 use Rattle.std.proofs.lemmas.Bool.{cases_lt}

@@ -1,16 +1,14 @@
 -- Names, words and numbers of the grammar, part by part.
-use Rattle.std.proofs.Common.{◌≡◌, ℕ, List, [], ◌∷◌, ◌++◌, Bool, true, false, not, ◌||◌, cond, Option, Some, None, refl, sym, ap, ◌∙◌, subst, ◌⊎◌, inl, inr, append_assoc}
-use Rattle.std.proofs.lemmas.List.{append-nil}
+use Rattle.std.proofs.Common.{◌≡◌, ℕ, List, [], ◌∷◌, ◌++◌, Bool, true, false, cond, Some, None, refl, sym, ap, ◌∙◌, subst, append_assoc}
 use Rattle.mg_text.specs.declared.class.Class.{Class}
-use Rattle.mg_text.specs.declared.class.Class.TheVariants.{Blank, LineFeed, Hash, DoubleQuote, SingleQuote, Backslash, Colon, Comma, Semicolon, BraceOpen, BraceClose, AngleOpen, AngleClose, BracketOpen, BracketClose, Minus, Plus, Dot, Slash, Zero, One, OctalDigit, Digit, LetterE, LetterF, HexLetter, LetterX, LetterN, LetterR, LetterT, Letter, Other, Beyond}
-use Rattle.mg_text.specs.declared.parts.NamePart.{NamePart}
+use Rattle.mg_text.specs.declared.class.Class.TheVariants.{BracketOpen, BracketClose, Minus, Plus, Dot, Slash, Zero, LetterE, LetterF, LetterX}
 use Rattle.mg_text.specs.declared.parts.NamePart.TheVariants as np
 use Rattle.mg_text.specs.declared.parts.ScalarPart.{ScalarPart}
 use Rattle.mg_text.specs.declared.parts.ScalarPart.TheVariants as sp
-use Rattle.mg_text.specs.Byte.{class_of, is_letter, is_digit, is_hex, is_word_byte, joins}
+use Rattle.mg_text.specs.Byte.{class_of, is_letter, is_digit, is_hex, is_word_byte}
 use Rattle.mg_text.specs.Grammar as g
 use Rattle.mg_text.specs.Grammar.{AllOf, Begins, Some1, IsWord, IsPath, IsName, IsNumber, IsUnsigned, IsEnd, IsSign, IsSuffix}
-use Rattle.mg_text.specs.Machine.{name_next, is_whole_name, scalar_next, is_whole_scalar}
+use Rattle.mg_text.specs.Machine.{name_next, scalar_next, is_whole_scalar}
 use Rattle.mg_text.proofs.Pieces.{NameEnds, ScalarEnds}
 
 if_is : {A : Type 0} (b : Bool) {x : A} → b ≡ true → cond b (Some x) None ≡ Some x

@@ -1,6 +1,5 @@
 -- The grammar's characters are those of UTF-8, as std has it.
-use Rattle.std.proofs.Common.{arith, zero, suc, ◌≡◌, ℕ, ◌+◌, ◌-◌, ◌*◌, ◌/◌, ◌%◌, ◌<◌, ◌≤◌, List, [], ◌∷◌, ◌++◌, Bool, true, false, ◌||◌, ◌&&◌, cond, eqb, ltb, leb, Option, Some, None, refl, sym, ap, ◌∙◌, subst, ◌⊎◌, inl, inr, append_assoc}
-use Rattle.std.proofs.lemmas.List.{append-nil}
+use Rattle.std.proofs.Common.{arith, ◌≡◌, ℕ, ◌+◌, ◌-◌, ◌*◌, ◌/◌, ◌%◌, ◌<◌, ◌≤◌, List, [], ◌∷◌, ◌++◌, Bool, true, false, ◌&&◌, cond, leb, Some, None, refl, sym, ap, ◌∙◌, subst, ◌⊎◌, inl, inr}
 use Rattle.std.proofs.lemmas.Bool.{cases_lt}
 use Rattle.std.proofs.lemmas.Bool.Decides.{nat_tests}
 use Rattle.std.proofs.lemmas.Str.{IsUtf8-append, IsUtf8-encode, IsUtf8-nil, encode_ascii}
@@ -9,7 +8,7 @@ use Rattle.std.specs.Char.{IsScalar}
 use lib.Utf8.{encode, encodes, scalar, scalars, scalar_cases}
 use Rattle.mg_text.specs.declared.parts.Tail.{Tail}
 use Rattle.mg_text.specs.declared.parts.Tail.TheVariants.{Whole, OneMore, TwoMore, ThreeMore, AfterE0, AfterED, AfterF0, AfterF4}
-use Rattle.mg_text.specs.Byte.{lead, follow, IsTail, byte, whole}
+use Rattle.mg_text.specs.Byte.{lead, IsTail, byte, whole}
 use Rattle.mg_text.specs.Canonical as c
 use Rattle.mg_text.specs.Canonical.{AreCharacters}
 
@@ -97,7 +96,7 @@ two_more s (byte {u = u} {b = x} {s = v} e h) =
 
 lead_rows : (b : ℕ) (t : Tail) → lead b ≡ Some t
     → ((194 ≤ b) × (b ≤ 223) × (t ≡ OneMore)) ⊎ (((b ≡ 224) × (t ≡ AfterE0)) ⊎ (((b ≡ 237) × (t ≡ AfterED)) ⊎ (((225 ≤ b) × (b ≤ 239) × (b ≡ 237 → ⊥) × (t ≡ TwoMore))
-      ⊎ (((b ≡ 240) × (t ≡ AfterF0)) ⊎ (((241 ≤ b) × (b ≤ 243) × (t ≡ ThreeMore)) ⊎ ((b ≡ 244) × (t ≡ AfterF4)))))))
+    ⊎ (((b ≡ 240) × (t ≡ AfterF0)) ⊎ (((241 ≤ b) × (b ≤ 243) × (t ≡ ThreeMore)) ⊎ ((b ≡ 244) × (t ≡ AfterF4)))))))
 lead_rows b t e = grind (arith, nat_tests)
 
 along : (x y : List ℕ) → x ≡ y → IsUtf8 y → IsUtf8 x
@@ -127,10 +126,10 @@ three_bytes b u low high not_ed h =
     let xl = r.3.low in let xh = r.3.high in let yl = r.4.low in let yh = r.4.high in
     along _ _ (ap (λ z. b ∷ z) r.2) (
     elim (cases_lt b 237) [
-      inl k ↦ utf8_3_low b x y (omega arith) high xl xh yl yh (omega (arith, xl)) (omega (arith, k, xh, yh))
-    | inr k ↦ elim (cases_lt 237 b) [
-        inl l ↦ utf8_3_high b x y (omega arith) high xl xh yl yh (omega (arith, l))
-      | inr l ↦ absurd (not_ed (omega (arith, k, l)))
+      | inl k ↦ utf8_3_low b x y (omega arith) high xl xh yl yh (omega (arith, xl)) (omega (arith, k, xh, yh))
+      | inr k ↦ elim (cases_lt 237 b) [
+        | inl l ↦ utf8_3_high b x y (omega arith) high xl xh yl yh (omega (arith, l))
+        | inr l ↦ absurd (not_ed (omega (arith, k, l)))
       ]
     ])
 
@@ -168,18 +167,18 @@ first_byte b x u e h = subst (λ z. IsUtf8 (z ∷ u)) (sym e) h
 char_utf8 : (b : ℕ) (t : Tail) (u : List ℕ) → lead b ≡ Some t → IsTail t u → IsUtf8 (b ∷ u)
 char_utf8 b t u e h =
     elim (lead_rows b t e) [
-      inl r ↦ two_bytes b u r.0 r.1 (subst (λ t. IsTail t u) r.2 h)
-    | inr k ↦ elim k [
-        inl r ↦ first_byte b 224 u r.0 (after_e0 u (subst (λ t. IsTail t u) r.1 h))
+      | inl r ↦ two_bytes b u r.0 r.1 (subst (λ t. IsTail t u) r.2 h)
       | inr k ↦ elim k [
-          inl r ↦ first_byte b 237 u r.0 (after_ed u (subst (λ t. IsTail t u) r.1 h))
+        | inl r ↦ first_byte b 224 u r.0 (after_e0 u (subst (λ t. IsTail t u) r.1 h))
         | inr k ↦ elim k [
-            inl r ↦ three_bytes b u r.0 r.1 r.2 (subst (λ t. IsTail t u) r.3 h)
+          | inl r ↦ first_byte b 237 u r.0 (after_ed u (subst (λ t. IsTail t u) r.1 h))
           | inr k ↦ elim k [
-              inl r ↦ first_byte b 240 u r.0 (after_f0 u (subst (λ t. IsTail t u) r.1 h))
+            | inl r ↦ three_bytes b u r.0 r.1 r.2 (subst (λ t. IsTail t u) r.3 h)
             | inr k ↦ elim k [
-                inl r ↦ three_more b u r.0 r.1 (subst (λ t. IsTail t u) r.2 h)
-              | inr r ↦ first_byte b 244 u r.0 (after_f4 u (subst (λ t. IsTail t u) r.1 h))
+              | inl r ↦ first_byte b 240 u r.0 (after_f0 u (subst (λ t. IsTail t u) r.1 h))
+              | inr k ↦ elim k [
+                | inl r ↦ three_more b u r.0 r.1 (subst (λ t. IsTail t u) r.2 h)
+                | inr r ↦ first_byte b 244 u r.0 (after_f4 u (subst (λ t. IsTail t u) r.1 h))
               ]
             ]
           ]
@@ -245,13 +244,13 @@ encoded_3 n s l h sur k =
     let yh : y ≤ 191 = omega arith in
     subst (λ z. AreCharacters (z ++ s)) (sym (encode_3 n l h)) (
     elim (cases_lt n 4096) [
-      inl m ↦ chars_224 b x y s (omega (arith, m)) (omega (arith, m, l)) (omega arith) yl yh k
-    | inr m ↦ elim sur [
-        inl o ↦ elim (cases_lt n 53248) [
-          inl p ↦ chars_3 b x y s (omega (arith, m)) (omega (arith, o)) (λ z. let w : b ≡ 237 = z in omega (arith, p, w)) (omega arith) (omega arith) yl yh k
-        | inr p ↦ chars_237 b x y s (omega (arith, p, o)) (omega arith) (omega (arith, p, o)) yl yh k
+      | inl m ↦ chars_224 b x y s (omega (arith, m)) (omega (arith, m, l)) (omega arith) yl yh k
+      | inr m ↦ elim sur [
+        | inl o ↦ elim (cases_lt n 53248) [
+          | inl p ↦ chars_3 b x y s (omega (arith, m)) (omega (arith, o)) (λ z. let w : b ≡ 237 = z in omega (arith, p, w)) (omega arith) (omega arith) yl yh k
+          | inr p ↦ chars_237 b x y s (omega (arith, p, o)) (omega arith) (omega (arith, p, o)) yl yh k
         ]
-      | inr o ↦ chars_3 b x y s (omega (arith, m)) (omega (arith, h)) (λ z. let w : b ≡ 237 = z in omega (arith, o, w)) (omega arith) (omega arith) yl yh k
+        | inr o ↦ chars_3 b x y s (omega (arith, m)) (omega (arith, h)) (λ z. let w : b ≡ 237 = z in omega (arith, o, w)) (omega arith) (omega arith) yl yh k
       ]
     ])
 
@@ -267,10 +266,10 @@ encoded_4 n s l h k =
     let yh : y ≤ 191 = omega arith in
     subst (λ z. AreCharacters (z ++ s)) (sym (encode_4 n l)) (
     elim (cases_lt n 262144) [
-      inl m ↦ chars_240 b w x y s (omega (arith, m)) (omega (arith, m, l)) (omega arith) xl xh yl yh k
-    | inr m ↦ elim (cases_lt n 1048576) [
-        inl o ↦ chars_4 b w x y s (omega (arith, m)) (omega (arith, o)) (omega arith) (omega arith) xl xh yl yh k
-      | inr o ↦ chars_244 b w x y s (omega (arith, o, h)) (omega arith) (omega (arith, o, h)) xl xh yl yh k
+      | inl m ↦ chars_240 b w x y s (omega (arith, m)) (omega (arith, m, l)) (omega arith) xl xh yl yh k
+      | inr m ↦ elim (cases_lt n 1048576) [
+        | inl o ↦ chars_4 b w x y s (omega (arith, m)) (omega (arith, o)) (omega arith) (omega arith) xl xh yl yh k
+        | inr o ↦ chars_244 b w x y s (omega (arith, o, h)) (omega arith) (omega (arith, o, h)) xl xh yl yh k
       ]
     ])
 
@@ -280,12 +279,12 @@ encoded n s h k =
     let top : n < 1114112 = elim r [ inl o ↦ omega (arith, o) | inr o ↦ o.1 ] in
     let sur : (n < 55296) ⊎ (57344 ≤ n) = elim r [ inl o ↦ inl o | inr o ↦ inr o.0 ] in
     elim (cases_lt n 128) [
-      inl m ↦ subst (λ z. AreCharacters (z ++ s)) (sym (encode_ascii n m)) (c.ascii m k)
-    | inr m ↦ elim (cases_lt n 2048) [
-        inl o ↦ encoded_2 n s m o k
-      | inr o ↦ elim (cases_lt n 65536) [
-          inl p ↦ encoded_3 n s o p sur k
-        | inr p ↦ encoded_4 n s p top k
+      | inl m ↦ subst (λ z. AreCharacters (z ++ s)) (sym (encode_ascii n m)) (c.ascii m k)
+      | inr m ↦ elim (cases_lt n 2048) [
+        | inl o ↦ encoded_2 n s m o k
+        | inr o ↦ elim (cases_lt n 65536) [
+          | inl p ↦ encoded_3 n s o p sur k
+          | inr p ↦ encoded_4 n s p top k
         ]
       ]
     ]

@@ -1,12 +1,12 @@
 -- Trees, level by level, beside the fields that they stand for.
-use Rattle.std.proofs.Common.{arith, zero, suc, max, ◌+◌, ◌<◌, ◌≤◌, length, get_or, take, append_assoc, ◌≡◌, ℕ, List, [], ◌∷◌, ◌++◌, map, reverse, refl, sym, ap, ◌∙◌, Vec, Global, rules}
+use Rattle.std.proofs.Common.{arith, zero, suc, max, ◌+◌, ◌<◌, ◌≤◌, length, get_or, take, append_assoc, ◌≡◌, ℕ, List, [], ◌∷◌, ◌++◌, map, refl, sym, ap, ◌∙◌, rules}
 use Rattle.std.proofs.lemmas.List.{reverse-append, map-append, append-nil, take_more}
 use Rattle.mg_text.specs.declared.tree.Scalar.{Scalar}
 use Rattle.mg_text.specs.declared.tree.Field.{Field}
 use Rattle.mg_text.specs.declared.tree.Tree.{Tree, out-Tree}
 use Rattle.mg_text.specs.declared.tree.TreeValue as values
 use Rattle.mg_text.specs.declared.tree.TreeValue.{TreeValue, the_lemmas}
-use Rattle.mg_text.specs.Tree.{Kind, Fields, none, scalar, message, append, depth}
+use Rattle.mg_text.specs.Tree.{Fields, none, scalar, message, append, depth}
 use Rattle.mg_text.specs.Canonical.{lines_of, scalar_line, message_lines, entry_lines, entry_depth}
 use Rattle.mg_text.specs.View.{Value, simple, inner, Entry, put, fields_of, fields_view, field_view, value_view, view, scalar_view}
 use Rattle.mg_text.specs.declared.machine.Frame.{Frame}

@@ -1,5 +1,5 @@
 -- The canonical text of fields: what `print` writes.
-use Rattle.std.specs.Prelude.{◌≡◌, ℕ, suc, ◌+◌, ◌*◌, ◌/◌, ◌%◌, ◌≤◌, ◌<◌, List, [], ◌∷◌, ◌++◌, ◌||◌, ◌==◌, nat_lt, if◌then◌else◌, replicate, Option, Some, None}
+use Rattle.std.specs.Prelude.{◌≡◌, ℕ, suc, ◌+◌, ◌*◌, ◌/◌, ◌%◌, ◌<◌, List, [], ◌∷◌, ◌++◌, ◌||◌, ◌==◌, nat_lt, if◌then◌else◌, replicate, Option, Some, None}
 use Rattle.std.specs.List.{flat_map}
 use Rattle.mg_text.specs.Tree.{Kind, word, number, quoted, Fields, none, scalar, message, depth}
 use Rattle.mg_text.specs.Byte.{lead, IsTail}

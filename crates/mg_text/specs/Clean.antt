@@ -1,7 +1,7 @@
 -- That the bytes of a token so far are characters. The parser's own functions ask for it.
 use Rattle.std.specs.Prelude.{◌≡◌, ℕ, ◌<◌, ◌≤◌, List, [], ◌∷◌, ◌++◌, Some}
 use Rattle.mg_text.specs.Byte.{lead, follow}
-use Rattle.mg_text.specs.Grammar.{Place, start, named, valued, opened, element, behind, joined}
+use Rattle.mg_text.specs.Grammar.{Place, joined}
 use Rattle.mg_text.specs.Machine.{Spot, at, comment, naming, token, piece}
 use Rattle.mg_text.specs.declared.parts.Inside.{Inside}
 use Rattle.mg_text.specs.declared.parts.Inside.TheVariants.{Plain, Escape, Second, Third}

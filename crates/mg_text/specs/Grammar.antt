@@ -2,7 +2,7 @@
 -- docs/TEXT_FORMAT.md explains.
 use Rattle.std.specs.Prelude.{◌≡◌, ℕ, ◌+◌, ◌-◌, ◌*◌, List, [], ◌∷◌, ◌++◌, Bool, true, false, Option, Some, None}
 use Rattle.mg_text.specs.declared.class.Class.{Class}
-use Rattle.mg_text.specs.declared.class.Class.TheVariants.{Blank, LineFeed, Hash, DoubleQuote, SingleQuote, Backslash, Colon, Comma, Semicolon, BraceOpen, BraceClose, AngleOpen, AngleClose, BracketOpen, BracketClose, Minus, Plus, Dot, Slash, Zero, One, LetterE, LetterF, LetterX, LetterN, LetterR, LetterT, Beyond}
+use Rattle.mg_text.specs.declared.class.Class.TheVariants.{LineFeed, Hash, DoubleQuote, SingleQuote, Backslash, Colon, Comma, Semicolon, BraceOpen, BraceClose, AngleOpen, AngleClose, BracketOpen, BracketClose, Minus, Plus, Dot, Slash, Zero, One, LetterE, LetterF, LetterX, LetterN, LetterR, LetterT, Beyond}
 use Rattle.mg_text.specs.declared.parts.Mark.{Mark}
 use Rattle.mg_text.specs.declared.parts.Mark.TheVariants.{Brace, Angle}
 use Rattle.mg_text.specs.declared.parts.Quote.{Quote}
@@ -11,7 +11,7 @@ use Rattle.mg_text.specs.declared.parts.Slot.{Slot}
 use Rattle.mg_text.specs.declared.parts.Slot.TheVariants.{One as OneValue, Scalars, Messages}
 use Rattle.mg_text.specs.declared.parts.Tail.{Tail}
 use Rattle.mg_text.specs.Byte.{class_of, is_blank, is_letter, is_octal, is_digit, is_hex, is_word_byte, joins, lead, IsTail}
-use Rattle.mg_text.specs.Tree.{Kind, word, number, quoted, Fields, none, scalar, message}
+use Rattle.mg_text.specs.Tree.{word, number, quoted, Fields, none, scalar, message}
 
 -- the bytes are all of these classes
 abbrev pub AllOf : (Class → Bool) → List ℕ → Type 0

@@ -19,7 +19,7 @@ use Rattle.mg_text.specs.View.{view, fields_view}
 use Rattle.mg_text.specs.Answer.{max_depth, IsFault}
 use Rattle.mg_text.specs.declared.tree.Tree.{Tree}
 use Rattle.mg_text.specs.declared.fault.TextFault.{TextFault}
-use Rattle.mg_text.specs.declared.fault.TextFault.TheVariants.{Syntax, TooDeep, TooLong, OutOfMemory}
+use Rattle.mg_text.specs.declared.fault.TextFault.TheVariants.{Syntax, TooLong, OutOfMemory}
 
 abbrev pub place_of : Between → List ℕ → List ℕ → Place
 place_of (between.Start f) name bytes = start f

@@ -1,5 +1,5 @@
 -- The fields that a text stands for.
-use Rattle.std.specs.Prelude.{ℕ, suc, max, List, [], ◌∷◌}
+use Rattle.std.specs.Prelude.{ℕ, suc, max, List}
 
 -- a value that is no message is a word, a number or a quoted text
 pub data Kind : Type 0 where

@@ -32,3 +32,9 @@ pub fn one_too_deep()
     ensures no_syntax { (file : List ℕ) (p q : ℕ) → IsTooDeep file p → IsSyntaxFault file q → ⊥ }
     ensures no_text { (file : List ℕ) (p : ℕ) (t : Fields) → IsTooDeep file p → Gives file t → max_depth < depth t }
 {}
+
+/// The characters of the grammar are those of UTF-8 (RFC 3629), so every text can be a quoted scalar.
+pub fn characters_are_utf8()
+    ensures characters { (bytes : List ℕ) → IsUtf8 bytes → AreCharacters bytes }
+    ensures utf8 { (bytes : List ℕ) → AreCharacters bytes → IsUtf8 bytes }
+{}

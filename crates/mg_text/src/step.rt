@@ -7,9 +7,6 @@ ghost use Rattle.mg_text.specs.Grammar.{scalar_slot, piece_slot, named};
 ghost use Rattle.mg_text.specs.Running.{state_of, place_of, spot_of, frames_of, kind_view, spelled, Took};
 ghost use Rattle.mg_text.specs.View.{view, fields_view};
 
-use std::alloc::{AllocError, Global};
-use std::mem;
-
 use crate::between::comment_next;
 use crate::class::{Class, class_of};
 use crate::inside::{inside_next, is_closing_quote};
@@ -17,6 +14,8 @@ use crate::machine::{Machine, text_of};
 use crate::next::{is_whole_name, is_whole_scalar, name_next, scalar_next};
 use crate::parts::{Between, Inside, Kind, Mark, NamePart, Quote, Reading, ScalarPart, Slot, Tail};
 use crate::tree::Tree;
+use std::alloc::{AllocError, Global};
+use std::mem;
 
 impl Machine {
     /// Begins a token with its first byte.

@@ -1,4 +1,4 @@
-use Rattle.std.proofs.Common.{◌≡◌, ◌<◌, ◌≤◌, ◌++◌, arith, rules, ap, sym, ◌∙◌, length, append_assoc}
+use Rattle.std.proofs.Common.{◌++◌, arith, ap, sym, ◌∙◌, append_assoc}
 use Rattle.mg_text.specs.Canonical.{entry_depth, entry_lines}
 use Rattle.mg_text.specs.View.{value_view}
 use Rattle.mg_text.proofs.Views.{lines_more, entry_within}

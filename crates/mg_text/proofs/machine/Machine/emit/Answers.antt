@@ -1,4 +1,4 @@
-use Rattle.std.proofs.Common.{◌≡◌, ◌∙◌, ap, refl, arith}
+use Rattle.std.proofs.Common.{◌∙◌, ap, arith}
 use Rattle.mg_text.specs.Machine.{at}
 use Rattle.mg_text.proofs.Views.{pushed, same_state}
 use Rattle.mg_text.proofs.machine.Machine.emit.Goals as goal
