@@ -1,10 +1,10 @@
-ghost use Rattle.std.specs.Prelude.{◌≡◌, ℕ, List, [], ◌∷◌, ◌++◌, IfOk, OnOk, length, Some, IsUtf8};
+ghost use Rattle.std.specs.Prelude.{◌≡◌, IfOk, OnOk, length, Some, IsUtf8};
 ghost use Rattle.mg_text.specs.Clean.{IsCleanPlace};
 ghost use Rattle.std.specs.Option.{option_map};
-ghost use Rattle.mg_text.specs.Tree.{append, none, scalar, message};
+ghost use Rattle.mg_text.specs.Tree.{none, scalar, message};
 ghost use Rattle.mg_text.specs.View.{fields_view, value_view, simple, inner};
-ghost use Rattle.mg_text.specs.Machine.{resumed, step, step_at, step_settled, step_naming, step_token, moves, settled, settled_place, opens_at, closes_at, bracket_spot, token_spot, letter_spot, quote_spot, piece_spot, goes_on, accepts, name_next, scalar_next, begin, with_scalar, inside_next, is_closing_quote};
-ghost use Rattle.mg_text.specs.Grammar.{scalar_slot, message_slot, piece_slot, list_slot, after};
+ghost use Rattle.mg_text.specs.Machine.{resumed, moves, settled, settled_place, opens_at, closes_at, name_next, scalar_next, begin, with_scalar, inside_next, is_closing_quote};
+ghost use Rattle.mg_text.specs.Grammar.{message_slot, after};
 ghost use Rattle.mg_text.specs.Running.{state_of, frames_of, place_of, spot_of, kind_view, frame_of, Took};
 
 use crate::between::{comment_next, same_mark};

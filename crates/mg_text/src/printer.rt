@@ -1,8 +1,8 @@
-ghost use Rattle.std.specs.Prelude.{◌≡◌, ℕ, ◌++◌, ◌+◌, ◌<◌, ◌≤◌, ◌*◌, ◌^◌, IfOk, OnOk, replicate};
+ghost use Rattle.std.specs.Prelude.{◌≡◌, ◌++◌, ◌+◌, ◌<◌, ◌≤◌, ◌*◌, ◌^◌, IfOk, OnOk};
 ghost use Rattle.std.specs.List.{flat_map};
 ghost use Rattle.mg_text.specs.Tree.{Fields, depth};
 ghost use Rattle.mg_text.specs.Grammar.{Gives};
-ghost use Rattle.mg_text.specs.View.{view, fields_view, field_view, value_view, scalar_view};
+ghost use Rattle.mg_text.specs.View.{view, fields_view, value_view, scalar_view};
 ghost use Rattle.mg_text.specs.Answer.{max_depth};
 ghost use Rattle.mg_text.specs.Canonical.{indent, escape, short_escape, canonical, lines_of, entry_lines, entry_depth, value_text, AreSpelled};
 
