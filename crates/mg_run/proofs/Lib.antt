@@ -1,9 +1,5 @@
 pub mod Json
+pub mod Names
 pub mod Text
-pub mod Taking
 pub mod Parts
-pub mod Standing
 pub mod Flowing
-pub mod Pouring
-pub mod Finishing
-pub mod Calling
