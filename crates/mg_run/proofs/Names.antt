@@ -25,7 +25,7 @@ same-bytes : (n name : List ℕ) → n ≡ name → bytes_eq n name ≡ true
 same-bytes n name same = (bytes_eq-Decides n name).1 same
 
 by_bool : (b : Bool) → (b ≡ true → ⊥) → b ≡ false
-by_bool true no = absurd (no refl)
+by_bool true differs = absurd (differs refl)
 by_bool false _ = refl
 
 other-bytes : (n name : List ℕ) → (n ≡ name → ⊥) → bytes_eq n name ≡ false

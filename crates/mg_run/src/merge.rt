@@ -1,8 +1,12 @@
 ghost use Rattle.std.specs.Prelude.{◌≡◌, ◌++◌, length, OnOk};
+ghost use Rattle.mg_value.specs.Payload.{Plain, int, plain};
+ghost use Rattle.mg_value.specs.Prefix.{StreamPrefix, appended};
+ghost use Rattle.mg_stream.specs.Queue.{StandsFor, MayCome, IsLike, with_packet};
 ghost use Rattle.mg_run.specs.Output.{set_text};
 
 use crate::write_line::push_line;
 use mg_policy::Inbox;
+use mg_stream::Queue;
 use mg_time::Timestamp;
 use mg_value::{InputSet, Packet, Payload};
 use std::alloc::{AllocError, Global};
@@ -64,15 +68,9 @@ impl Merge {
             → Claimed (stepped port (λ s. appended s (record { at = at; value = int value })) ss) sent self.new.inbox text.new.items) }
     {
         let payload = Arc::new(alloc, Payload::Int(value))?;
-        if self
-            .inbox
-            .queue(port)
-            .append(Packet { at, payload })
-            .is_err()
-        {
-            return Err(AllocError);
-        }
-        self.claim(text)
+        append(self.inbox.queue(port), Packet { at, payload })?;
+        self.claim(text)?;
+        Ok(())
     }
 
     /// The bound of an input rises to a time, if it is lower.
@@ -83,7 +81,8 @@ impl Merge {
             → Claimed (stepped port (λ s. raised s at) ss) sent self.new.inbox text.new.items) }
     {
         self.inbox.queue(port).raise(at);
-        self.claim(text)
+        self.claim(text)?;
+        Ok(())
     }
 
     /// An input closes.
@@ -94,7 +93,8 @@ impl Merge {
             → Claimed (stepped port closed ss) sent self.new.inbox text.new.items) }
     {
         self.inbox.queue(port).close();
-        self.claim(text)
+        self.claim(text)?;
+        Ok(())
     }
 
     /// All inputs close.
@@ -124,15 +124,36 @@ impl Merge {
     }
 }
 
+// Puts a packet into a queue.
+fn append(queue: &mut Queue, packet: Packet) -> Result<(), AllocError>
+    ensures like { OnOk result (IsLike queue.new (with_packet queue.old packet)) }
+    ensures may_come { OnOk result (MayCome queue.old packet.at) }
+    ensures stand { OnOk result ((s : StreamPrefix Plain) → StandsFor queue.old s → StandsFor queue.new (appended s packet)) }
+{
+    match queue.append(packet) {
+        Ok(()) => Ok(()),
+        Err(_) => Err(AllocError),
+    }
+}
+
 // Puts the line of the first packet of a set at the end of a text.
 fn show(set: &InputSet, text: &mut Vec<u8>) -> Result<(), AllocError>
     ensures { OnOk result (text.new.items ≡ text.old.items ++ set_text set.now) }
 {
     for port in 0..set.len() {
         if let Some(packet) = set.get(port) {
-            let Payload::Int(value) = &*packet.payload;
-            return push_line(text, packet.at, *value);
+            push_line(text, packet.at, number_of(&packet.payload))?;
+            return Ok(());
         }
     }
     Ok(())
+}
+
+// The number of a payload.
+fn number_of(payload: &Payload) -> i64
+    ensures { int result ≡ plain payload.now }
+{
+    match payload {
+        Payload::Int(number) => *number,
+    }
 }

@@ -1,4 +1,4 @@
-use Rattle.std.proofs.Common.{◌≡◌, sym, ◌∙◌, ap, subst, List, ℕ, Option, Some}
+use Rattle.std.proofs.Common.{◌≡◌, arith, sym, ◌∙◌, ap, subst, List, ℕ, Option, Some}
 use Rattle.std.specs.List.{slice_get}
 use Rattle.std.proofs.lemmas.Bool.{false≢true}
 use Rattle.mg_run.proofs.Names.{place-found, place-later, none-there}
@@ -16,5 +16,5 @@ loop-port-preserved c = elim c.match-get.branch [
   | in-Some+else-is w ↦
       place-later c.args.names.now c.loop-port.port w.in-Some.name.now c.args.stream.now _ w.in-Some.ensures
       (λ same. false≢true (sym w.if-is.false ∙ w.is.ensures.1 (same ∙ sym w.as_bytes.ensures.value))) c.loop-port.invariant
-  | in_default w ↦ absurd (none-there c.args.names.now c.loop-port.port c.loop-port-test.true (w.in_default.ensures {u = tt}))
+  | in_default w ↦ absurd (none-there c.args.names.now c.loop-port.port (let l = c.loop-port-test.true in let e = c.len-port-end.ensures in omega (arith, l, e)) (w.in_default.ensures {u = tt}))
 ]
