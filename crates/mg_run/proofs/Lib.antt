@@ -1,5 +1,6 @@
 pub mod Json
 pub mod Names
+pub mod Saying
 pub mod Text
 pub mod Parts
 pub mod Claiming

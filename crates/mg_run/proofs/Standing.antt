@@ -56,7 +56,7 @@ pub refusal-long : (names : List (List ℕ)) (before : List (List ℕ)) (line : 
 refusal-long names before line long = refusal_by _ _ (ap (said_refusal (streams_of names before)) (reading-long names line long))
 
 -- what a feed stands for, by the reason that it keeps
-abbrev pub StandsBy : List ℕ → List ℕ → Feed → Option LineFault → Type 0
+abbrev pub StandsBy : List (List ℕ) → List ℕ → List ℕ → Feed → Option LineFault → Type 0
 StandsBy names came sent feed o = MatchOption o (Holds names came sent feed) (λ fault. Stopped names came sent fault feed)
 
 pub stands-from : (names : List (List ℕ)) (came sent : List ℕ) (feed : Feed) (o : Option LineFault) → feed.refused ≡ o → StandsBy names came sent feed o → StandsFor names came sent feed
@@ -68,7 +68,7 @@ stands-at names came sent feed o is stands = subst (StandsBy names came sent fee
 -- One line --
 
 -- what a feed that took these lines does with a line
-abbrev pub Judges : List ℕ → Feed → Feed → Type 0
+abbrev pub Judges : List (List ℕ) → List ℕ → Feed → Feed → Type 0
 Judges names line mid new = (lines : List (List ℕ)) (sent : List ℕ) → Took names lines sent mid
     → MatchOption (refusal names lines line) (Took names (lines ++ line ∷ []) sent new)
     (λ fault. (new.refused ≡ Some fault) × (new.lines ≡ mid.lines) × (new.text.items ≡ mid.text.items))

@@ -72,7 +72,10 @@ impl Feed {
                     self.line_feed(left.split_at(i).0)?;
                     left = left.split_at(i + 1).1;
                 }
-                None => return self.hold(left),
+                None => {
+                    self.hold(left)?;
+                    return Ok(());
+                }
             }
         }
         Ok(())
