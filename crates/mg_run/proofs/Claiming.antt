@@ -78,7 +78,7 @@ each-stepped port step (p ∷ qs) [] q after is one each = absurd each
 each-stepped zero step (p ∷ qs) (s ∷ ss) q after is one each = let e : p ≡ q = cc in (one.stand s (subst (λ (w : Waiting Plain). StandsFor w s) e each.0), each.1)
 each-stepped (suc port) step (p ∷ qs) (s ∷ ss) q after is one each = (each.0, each-stepped port step qs ss q after is one each.1)
 
-extended-same : (ss : List (StreamPrefix Plain)) → AreExtendedBy ss ss
+pub extended-same : (ss : List (StreamPrefix Plain)) → AreExtendedBy ss ss
 extended-same [] = tt
 extended-same (s ∷ ss) = (extended_by_itself s, extended-same ss)
 

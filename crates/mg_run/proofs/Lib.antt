@@ -5,5 +5,9 @@ pub mod Text
 pub mod Parts
 pub mod Claiming
 pub mod Taking
+pub mod Growing
 pub mod Standing
 pub mod Flowing
+pub mod Pouring
+pub mod Finishing
+pub mod Calling
