@@ -5,6 +5,7 @@ use Rattle.mg_edge.specs.Edge.{Rose, Steady, LoadGives, most_loaded}
 use Rattle.mg_edge.specs.declared.store.Loaded.TheVariants.{Bytes}
 use Rattle.mg_edge.specs.Runs.{TookAll}
 use Rattle.mg_edge.proofs.Runs.{TookAll-start}
+use Rattle.mg_run.proofs.Finishing.{front-nothing}
 use Rattle.mg_run.specs.Answer.{Answer, answer, run_answer, graph_of, graph_note}
 use Rattle.mg_run.specs.Devices.{IsFront, TookFront, Rises, HasRisen, Flows}
 use Rattle.mg_run.specs.Pouring.{Told}
@@ -25,15 +26,11 @@ loads-from None v graph gives is = (v.items, is)
 loads-from (Some None) v graph gives is = elim gives [ ]
 loads-from (Some (Some bytes)) v graph gives is = ap graph_of (sym gives) ∙ is
 
-short-told : (input : Option (List ℕ)) (taken : Option (List ℕ)) (given : List ℕ → List ℕ) → IfSome input (λ read. TookFront taken taken (given read))
-short-told None taken given = tt
-short-told (Some read) taken given = ([], (given read, refl), TookAll-start taken)
-
 -- Nothing was written.
 pub short-nothing : (content : Option (Option (List ℕ))) (input : Told) (taken : Option (List ℕ)) (a b : ℕ) → CallShort content input (told taken taken a b)
 short-nothing None input taken a b = tt
 short-nothing (Some None) input taken a b = tt
-short-nothing (Some (Some bytes)) input taken a b = short-told input.before taken (λ read. (answer bytes read).output)
+short-nothing (Some (Some bytes)) input taken a b = front-nothing input.before taken (λ read. (answer bytes read).output)
 
 short-run : (names : List (List ℕ)) (input first now : Option (List ℕ)) (bytes : List ℕ) → graph_of (take most_loaded bytes) ≡ Some names
     → IfSome input (λ read. TookFront first now (run_answer names read).output) → IfSome input (λ read. TookFront first now (answer bytes read).output)

@@ -3,6 +3,7 @@ use Rattle.std.proofs.Common.{◌≡◌, ℕ, ◌+◌, ◌<◌, ◌≤◌, List,
 use Rattle.std.proofs.lemmas.Bool.{false≢true}
 use Rattle.mg_edge.specs.Edge.{Steady}
 use Rattle.mg_edge.specs.Runs.{Gave, TookAll}
+use Rattle.mg_edge.proofs.Runs.{TookAll-start}
 use Rattle.mg_run.specs.Lines.{whole_lines, all_lines}
 use Rattle.mg_run.specs.Accepted.{Refused, accepted, first_refused, streams_of, ended_by}
 use Rattle.mg_run.specs.Output.{output_of}
@@ -130,6 +131,16 @@ cut-front : (names : List (List ℕ)) (before first now : Option (List ℕ)) (te
     → IfSome before (λ bytes. TookFront first now (run_answer names bytes).output)
 cut-front names None first now text took front = tt
 cut-front names (Some bytes) first now text took front = front-by first now text took.0 (run_answer names bytes).output took.1 took.2 front
+
+-- memory ran out while the input was poured
+pub front-poured : (names : List (List ℕ)) (input output : Told) (failed : Bool) → PouredFront names input output failed
+    → IfSome input.before (λ bytes. TookFront output.before output.now (run_answer names bytes).output)
+front-poured names input output failed poured = cut-front names input.before output.before output.now poured.sent poured.flows.front poured.front
+
+-- nothing was written
+pub front-nothing : (input : Option (List ℕ)) (taken : Option (List ℕ)) (given : List ℕ → List ℕ) → IfSome input (λ read. TookFront taken taken (given read))
+front-nothing None taken given = tt
+front-nothing (Some read) taken given = ([], (given read, refl), TookAll-start taken)
 
 -- whatever failed, the output took a front of the text of the whole input
 pub front-written : (names : List (List ℕ)) (poured : Poured) (input output : Told) (failed : Bool) (feed : Feed) → Written names poured input output failed feed

@@ -44,7 +44,8 @@ impl Feed {
 
     /// A feed for the inputs with these names, to which nothing came yet.
     pub fn new(alloc: Global, names: List<MgText>) -> Result<Feed, AllocError>
-        ensures { IfOk result (StandsFor names [] []) }
+        ensures named { IfOk result (λ feed. feed.names ≡ names) }
+        ensures stands { IfOk result (λ feed. StandsFor feed.names [] [] feed) }
     {
         let merge = Merge::new(alloc, names.len())?;
         Ok(Feed {
