@@ -1,15 +1,13 @@
 -- What a call came to.
-use Rattle.std.proofs.Common.{◌≡◌, ◌≢◌, ℕ, ◌-◌, ◌^◌, ◌<◌, ◌≤◌, List, [], ◌∷◌, ◌++◌, take, Bool, true, false, not, Option, None, Some, IfSome, ◌⊎◌, inl, inr, refl, sym, ap, ◌∙◌, subst, arith, append-nil, if◌then◌else◌}
-use Rattle.std.proofs.lemmas.Bool.{false≢true}
-use Rattle.mg_edge.specs.Edge.{Rose, Steady, LoadGives, most_loaded}
+use Rattle.std.proofs.Common.{◌≡◌, ◌≢◌, ℕ, List, [], ◌∷◌, take, Bool, true, false, Option, None, Some, IfSome, ◌⊎◌, inl, inr, refl, sym, ap, ◌∙◌, arith}
+use Rattle.mg_edge.specs.Edge.{Steady, LoadGives, most_loaded}
 use Rattle.mg_edge.specs.declared.store.Loaded.TheVariants.{Bytes}
-use Rattle.mg_edge.specs.Runs.{TookAll}
 use Rattle.mg_edge.proofs.Runs.{TookAll-start}
 use Rattle.mg_run.proofs.Finishing.{front-nothing}
-use Rattle.mg_run.specs.Answer.{Answer, answer, run_answer, graph_of, graph_note}
-use Rattle.mg_run.specs.Devices.{IsFront, TookFront, Rises, HasRisen, Flows}
+use Rattle.mg_run.specs.Answer.{answer, run_answer, graph_of, graph_note}
+use Rattle.mg_run.specs.Devices.{TookFront, Rises, HasRisen, Flows}
 use Rattle.mg_run.specs.Pouring.{Told}
-use Rattle.mg_run.specs.Outcome.{told, TookText, Untouched, Noted, Answers, RanAll, Ran}
+use Rattle.mg_run.specs.Outcome.{told, TookText, Untouched, Noted, Answers, Ran}
 use Rattle.mg_run.specs.Call.{IfThere, Loads, CallShort, Called, Unrisen, IsOneOf}
 use Rattle.mg_run.specs.declared.status.Status.{Status}
 use Rattle.mg_run.specs.declared.status.Status.TheVariants.{Good, StoreFault, Usage, GraphRefused, LineRefused, NodeFault, Stalled, ReadFault, WriteFault, OutOfMemory}

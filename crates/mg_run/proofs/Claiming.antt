@@ -1,16 +1,16 @@
 -- What a node has claimed, as its input streams go on.
-use Rattle.std.proofs.Common.{◌≡◌, ℕ, zero, suc, ◌+◌, ◌-◌, ◌<◌, ◌≤◌, max, List, [], ◌∷◌, ◌++◌, length, map, take, drop, filter, replicate, Bool, true, false, not, Option, None, Some, slice_get, slice_set, unwrap_or, IsSome, IfSome, IsTrue, if◌then◌else◌, inl, inr, refl, sym, ap, ap₂, ◌∙◌, subst, arith, append_assoc, append-nil, length-append, take-append-drop, add-one}
+use Rattle.std.proofs.Common.{◌≡◌, ℕ, zero, suc, ◌+◌, ◌<◌, ◌≤◌, List, [], ◌∷◌, ◌++◌, length, map, take, drop, replicate, Bool, true, false, Option, None, Some, slice_get, slice_set, unwrap_or, IsSome, IfSome, IsTrue, inl, inr, refl, sym, ap, ap₂, ◌∙◌, subst, arith, append_assoc, take-append-drop, add-one}
 use Rattle.std.proofs.Math.Seq.{take-length}
 use Rattle.std.proofs.lemmas.List.{length-map}
-use Rattle.std.specs.List.{AllZip, flat_map}
+use Rattle.std.specs.List.{AllZip}
 use Rattle.std.proofs.lemmas.Grind.{flat_map-append}
 use Rattle.std.proofs.lemmas.Bool.{cases_Bool, false≢true}
 use Rattle.std.specs.Bool.{OnFalse}
-use Rattle.mg_time.specs.Time.{done, IsAllowed}
+use Rattle.mg_time.specs.Time.{done}
 use Rattle.mg_value.specs.Payload.{Plain}
-use Rattle.mg_value.specs.Prefix.{Stamped, StreamPrefix, IsPrefix, empty_prefix, appended, raised, closed}
+use Rattle.mg_value.specs.Prefix.{Stamped, StreamPrefix, empty_prefix, appended, raised, closed}
 use Rattle.mg_value.specs.Extension.{IsExtendedBy, AreExtendedBy}
-use Rattle.mg_value.specs.Settled.{low, all_times, settled_times, settled_sets, set_at, packet_at, without, after_sets, is_among, TimedSet}
+use Rattle.mg_value.specs.Settled.{low, all_times, settled_times, settled_sets, set_at, packet_at, without, is_among, TimedSet}
 use Rattle.mg_value.proofs.Times.{In, is_among-false}
 use Rattle.mg_value.proofs.Extending.{extended_by_itself, appended_extends, raised_extends, closed_extends}
 use Rattle.mg_value.proofs.SettledSets.{settled_from, settled_times_first, settled_sets_first, take-length_append}
@@ -129,14 +129,16 @@ pub stand-stepped : (port : ℕ) (step : StreamPrefix Plain → StreamPrefix Pla
     → StandAfter (length (settled_sets ss)) (slice_set qs port after) (stepped port step ss) × AreExtendedBy ss (stepped port step ss)
 stand-stepped port step qs ss q after is one stand =
     let extended : AreExtendedBy ss (stepped port step ss) = extends-stepped port step qs ss q after is one stand.each in
-    let ts = settled_times ss in
-    (record {
-      each = each-stepped port step qs ss q after is one stand.each;
-      left = rests-stepped port step qs q after is one.rest
-          ∙ ap (stepped port step) (stand.left ∙ ap (λ (us : List ℕ). map (without us) ss) (all-gone ss))
-          ∙ sym (kept-stepped port step ts qs ss q after is one stand.each (λ t i. (settled_from ss t i).0))
-          ∙ ap (λ (us : List ℕ). map (without us) (stepped port step ss)) (sym (still-gone ss (stepped port step ss) extended));
-    }, extended)
+    let ts = settled_times ss in (
+      record {
+        each = each-stepped port step qs ss q after is one stand.each;
+        left = rests-stepped port step qs q after is one.rest
+            ∙ ap (stepped port step) (stand.left ∙ ap (λ (us : List ℕ). map (without us) ss) (all-gone ss))
+            ∙ sym (kept-stepped port step ts qs ss q after is one stand.each (λ t i. (settled_from ss t i).0))
+            ∙ ap (λ (us : List ℕ). map (without us) (stepped port step ss)) (sym (still-gone ss (stepped port step ss) extended));
+      },
+      extended,
+    )
 
 -- The text of streams grows as they go on.
 text-append : (xs ys : List (TimedSet Plain)) → text_of (xs ++ ys) ≡ text_of xs ++ text_of ys

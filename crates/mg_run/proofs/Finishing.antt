@@ -1,5 +1,5 @@
 -- How a run ends, from what it came to.
-use Rattle.std.proofs.Common.{◌≡◌, ℕ, ◌+◌, ◌<◌, ◌≤◌, List, [], ◌∷◌, ◌++◌, length, Bool, true, false, not, MatchBool, Option, None, Some, IfSome, IsSome, MatchOption, option_map, ◌⊎◌, inl, inr, refl, sym, ap, ◌∙◌, subst, arith, append_assoc, append-nil}
+use Rattle.std.proofs.Common.{◌≡◌, ℕ, ◌+◌, List, [], ◌++◌, length, Bool, true, false, Option, None, Some, IfSome, IsSome, option_map, ◌⊎◌, inl, inr, refl, sym, ap, ◌∙◌, subst, append_assoc}
 use Rattle.std.proofs.lemmas.Bool.{false≢true}
 use Rattle.mg_edge.specs.Edge.{Steady}
 use Rattle.mg_edge.specs.Runs.{Gave, TookAll}
@@ -7,20 +7,18 @@ use Rattle.mg_edge.proofs.Runs.{TookAll-start}
 use Rattle.mg_run.specs.Lines.{whole_lines, all_lines}
 use Rattle.mg_run.specs.Accepted.{Refused, accepted, first_refused, streams_of, ended_by}
 use Rattle.mg_run.specs.Output.{output_of}
-use Rattle.mg_run.specs.Answer.{Answer, line_note, read_note, line_status, run_answer, failed_answer}
+use Rattle.mg_run.specs.Answer.{line_note, read_note, line_status, run_answer, failed_answer}
 use Rattle.mg_run.specs.Devices.{IsFront, TookFront, Rises, Flows}
-use Rattle.mg_run.specs.Feed.{Holds, Stopped, StandsFor, Ended}
-use Rattle.mg_run.specs.Pouring.{Told, Pours, PouredAll, PouredPart, PouredGood, PouredFront}
+use Rattle.mg_run.specs.Feed.{Holds, Stopped}
+use Rattle.mg_run.specs.Pouring.{Told, Pours, PouredFront}
 use Rattle.mg_run.specs.Poured.{HasPoured}
-use Rattle.mg_run.specs.Outcome.{told, TookText, Answers, RanAll, RanPart, RanShort, Ran}
+use Rattle.mg_run.specs.Outcome.{told, TookText, Answers, RanAll, RanShort, Ran}
 use Rattle.mg_run.specs.Ended.{refused_line, said_of, ended_as}
 use Rattle.mg_run.specs.declared.line_fault.LineFault.{LineFault}
 use Rattle.mg_run.specs.declared.feed.Feed.{Feed}
 use Rattle.mg_run.specs.declared.pour.Poured.{Poured}
 use Rattle.mg_run.specs.declared.pour.Poured.TheVariants.{All, Part, Good}
-use Rattle.mg_run.specs.declared.status.Status.{Status}
-use Rattle.mg_run.specs.declared.status.Status.TheVariants as status
-use Rattle.mg_run.proofs.Standing.{StandsBy, stands-at, accepted-all}
+use Rattle.mg_run.proofs.Standing.{stands-at, accepted-all}
 use Rattle.mg_run.proofs.Pouring.{text-of-holds}
 
 -- A text is that of the whole input, whose first line that isn't good the feed tells.

@@ -1,6 +1,6 @@
 -- The input streams only go on with further good lines.
-use Rattle.std.proofs.Common.{◌≡◌, ℕ, zero, suc, ◌+◌, ◌<◌, ◌≤◌, List, [], ◌∷◌, ◌++◌, length, map, replicate, drop, Bool, true, false, ◌==◌, nat_le, nat_lt, Option, None, Some, if◌then◌else◌, refl, sym, ap, ◌∙◌, subst, arith, append_assoc, append-nil, ltb-false}
-use Rattle.mg_time.specs.Time.{done, post_stream, IsRange}
+use Rattle.std.proofs.Common.{◌≡◌, ℕ, zero, suc, ◌≤◌, List, [], ◌∷◌, ◌++◌, length, map, replicate, drop, Bool, true, false, ◌==◌, nat_lt, Option, None, Some, if◌then◌else◌, refl, subst, arith, append_assoc, append-nil, ltb-false}
+use Rattle.mg_time.specs.Time.{done}
 use Rattle.mg_value.specs.Payload.{Plain, int}
 use Rattle.mg_value.specs.Prefix.{Stamped, StreamPrefix, IsPrefix, empty_prefix, appended, raised, closed}
 use Rattle.mg_value.specs.Extension.{IsExtendedBy, AreExtendedBy}
@@ -8,11 +8,10 @@ use Rattle.mg_value.specs.Settled.{settled_sets}
 use Rattle.mg_value.proofs.Extending.{extended_by_itself, extended_further, appended_extends, raised_extends, closed_extends}
 use Rattle.mg_value.proofs.PrefixSteps.{empty_is_prefix, appended_is_prefix, raised_is_prefix, closed_is_prefix}
 use Rattle.mg_run.specs.Reading.{reading}
-use Rattle.mg_run.specs.Accepted.{stepped, bound_at, with_said, streams_of, packet_refusal, said_refusal, refusal, if_good, accepted_after, Refused, ended_by, most_lines}
+use Rattle.mg_run.specs.Accepted.{stepped, bound_at, with_said, streams_of, said_refusal, refusal, if_good, accepted_after, Refused, ended_by}
 use Rattle.mg_run.specs.Output.{text_of, output_of}
 use Rattle.mg_run.specs.Said.{IsSaidOf}
 use Rattle.mg_run.specs.Feed.{AllGood}
-use Rattle.mg_run.specs.Devices.{IsFront}
 use Rattle.mg_run.specs.declared.line_fault.LineFault.{LineFault}
 use Rattle.mg_run.specs.declared.line_fault.LineFault.TheVariants.{NotYet, Closed, NotAscending}
 use Rattle.mg_run.specs.declared.reading.Said.{Said}
@@ -55,9 +54,10 @@ said-extends n ss (Packet port time value) are of good =
     let at_least : bound_at port ss ≤ time = ltb-false time (bound_at port ss) (above-by (bound_at port ss == done) (nat_lt time (bound_at port ss)) good) in
     let p : Stamped Plain = record { at = time; value = int value } in
     step-at port (λ s. appended s p) ss are (λ s prefix is.
-        let above : s.bound ≤ time = omega (arith, at_least, is) in
-        (appended_is_prefix s p prefix (omega (arith, of.1.0), omega (arith, of.1.1)) above (λ alone. absurd (omega (arith, of.1.1, alone))),
-        appended_extends s p (omega (arith, of.1.0), omega (arith, of.1.1)) above))
+    let above : s.bound ≤ time = omega (arith, at_least, is) in (
+      appended_is_prefix s p prefix (omega (arith, of.1.0), omega (arith, of.1.1)) above (λ alone. absurd (omega (arith, of.1.1, alone))),
+      appended_extends s p (omega (arith, of.1.0), omega (arith, of.1.1)) above,
+    ))
 said-extends n ss (Bound port time) are of good =
     step-at port (λ s. raised s time) ss are (λ s prefix is. (raised_is_prefix s time prefix (omega (arith, of.1.1)), raised_extends s time))
 said-extends n ss (Close port) are of good =
@@ -81,10 +81,11 @@ lines-extend names before [] are good = rw (append-nil before) (are, extended-sa
 lines-extend names before (line ∷ lines) are good =
     let one = line-extends names before line are good.0 in
     let more = lines-extend names (before ++ line ∷ []) lines one.0 good.1 in
-    let same : (before ++ line ∷ []) ++ lines ≡ before ++ line ∷ lines = append_assoc before (line ∷ []) lines in
-    (subst (λ (l : List (List ℕ)). ArePrefixes (streams_of names l)) same more.0,
-    extended-further (streams_of names before) (streams_of names (before ++ line ∷ [])) (streams_of names (before ++ line ∷ lines)) one.1
-    (subst (λ (l : List (List ℕ)). AreExtendedBy (streams_of names (before ++ line ∷ [])) (streams_of names l)) same more.1))
+    let same : (before ++ line ∷ []) ++ lines ≡ before ++ line ∷ lines = append_assoc before (line ∷ []) lines in (
+      subst (λ (l : List (List ℕ)). ArePrefixes (streams_of names l)) same more.0,
+      extended-further (streams_of names before) (streams_of names (before ++ line ∷ [])) (streams_of names (before ++ line ∷ lines)) one.1
+          (subst (λ (l : List (List ℕ)). AreExtendedBy (streams_of names (before ++ line ∷ [])) (streams_of names l)) same more.1),
+    )
 
 none-prefixes : (n : ℕ) → ArePrefixes (replicate n empty_prefix)
 none-prefixes zero = tt
@@ -105,9 +106,10 @@ output-extends names xs ys o good more =
     let first = lines-extend names [] xs (none-prefixes (length names)) good in
     let both = lines-extend names xs ys first.0 more in
     let all : AreExtendedBy (streams_of names xs) (ended_by o (streams_of names (xs ++ ys))) =
-    extended-further _ _ _ both.1 (ended-extend o (streams_of names (xs ++ ys)) both.0) in
-    (text_of (drop (length (settled_sets (streams_of names xs))) (settled_sets (ended_by o (streams_of names (xs ++ ys))))),
-    output-more (streams_of names xs) (ended_by o (streams_of names (xs ++ ys))) all)
+    extended-further _ _ _ both.1 (ended-extend o (streams_of names (xs ++ ys)) both.0) in (
+      text_of (drop (length (settled_sets (streams_of names xs))) (settled_sets (ended_by o (streams_of names (xs ++ ys))))),
+      output-more (streams_of names xs) (ended_by o (streams_of names (xs ++ ys))) all,
+    )
 
 good-by : (names before : List (List ℕ)) (line : List ℕ) (later : List (List ℕ)) (o : Option LineFault) → refusal names before line ≡ o
     → AllGood names (before ++ line ∷ []) later → AllGood names before (if_good o (line ∷ later) [])

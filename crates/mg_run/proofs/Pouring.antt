@@ -1,5 +1,5 @@
 -- A run that pours its input into a feed, step by step.
-use Rattle.std.proofs.Common.{◌≡◌, ℕ, suc, ◌+◌, ◌-◌, ◌*◌, ◌<◌, ◌≤◌, List, [], ◌∷◌, ◌++◌, length, take, Bool, true, false, Option, None, Some, IfSome, IsSome, MatchOption, fold, refl, sym, ap, ◌∙◌, subst, arith, append_assoc, append-nil}
+use Rattle.std.proofs.Common.{◌≡◌, ℕ, suc, ◌+◌, ◌-◌, ◌*◌, ◌<◌, ◌≤◌, List, [], ◌++◌, take, Bool, false, Option, None, Some, IfSome, refl, sym, ap, ◌∙◌, subst, arith, append_assoc, append-nil}
 use Rattle.mg_edge.specs.Edge.{ReadTakes, Steady}
 use Rattle.mg_edge.specs.declared.source.Got.TheVariants.{Bytes, End, Failed}
 use Rattle.mg_edge.specs.Runs.{Gave}
@@ -9,13 +9,13 @@ use Rattle.mg_run.specs.Accepted.{streams_of, accepted, accepted_after, first_re
 use Rattle.mg_run.specs.Output.{output_of}
 use Rattle.mg_run.specs.Answer.{run_answer}
 use Rattle.mg_run.specs.Devices.{IsFront, Rises, Flows}
-use Rattle.mg_run.specs.Feed.{rest_of, Took, Holds, Stopped, StandsFor, Ended}
-use Rattle.mg_run.specs.Pouring.{Told, Pours, PouredAll, PouredPart, PouredGood, PouredFront}
+use Rattle.mg_run.specs.Feed.{rest_of, Holds, StandsFor, Ended}
+use Rattle.mg_run.specs.Pouring.{Told, Pours, PouredAll, PouredPart, PouredFront}
 use Rattle.mg_run.specs.declared.line_fault.LineFault.{LineFault}
 use Rattle.mg_run.specs.declared.feed.Feed.{Feed}
 use Rattle.mg_run.proofs.Parts.{glued, all_lines-append}
 use Rattle.mg_run.proofs.Growing.{accepted-are-good, output-extends}
-use Rattle.mg_run.proofs.Standing.{StandsBy, stands-from, stands-at, holds-stands, accepted-good}
+use Rattle.mg_run.proofs.Standing.{StandsBy, stands-from, holds-stands, accepted-good}
 use Rattle.mg_run.proofs.Flowing.{flows-start, steady-refl, steady-trans, rises-after}
 
 -- While no line is refused, the text of the whole lines is a front of that of the whole input.

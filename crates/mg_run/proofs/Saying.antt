@@ -1,5 +1,5 @@
 -- What a line says is said of one of the inputs, at a time of the range.
-use Rattle.std.proofs.Common.{◌≡◌, ℕ, suc, subst, ◌+◌, ◌<◌, ◌≤◌, ℤ, List, [], ◌∷◌, length, codes, Bool, true, false, ◌&&◌, ◌==◌, nat_le, nat_lt, Option, Some, None, IfSome, option_map, option_and_then, if◌then◌else◌, refl, ap, arith, ◌∙◌, sym, leb-true}
+use Rattle.std.proofs.Common.{◌≡◌, ℕ, suc, subst, ◌+◌, ◌<◌, ℤ, List, [], ◌∷◌, length, codes, Bool, true, false, ◌&&◌, ◌==◌, nat_le, nat_lt, Option, Some, None, IfSome, option_map, option_and_then, if◌then◌else◌, refl, arith, leb-true}
 use Rattle.std.proofs.lemmas.Bool.{false≢true}
 use Rattle.std.specs.Str.{is_utf8, bytes_eq}
 use Rattle.std.specs.List.{list_all}
@@ -7,7 +7,7 @@ use Rattle.serde_json.specs.Data.{Data}
 use Rattle.serde_json.specs.Read.{read}
 use Rattle.mg_time.specs.Time.{IsRange, place_of, least, greatest}
 use Rattle.mg_run.specs.declared.reading.Said.{Said}
-use Rattle.mg_run.specs.declared.reading.Said.TheVariants.{Nothing, Packet, Bound, Close, Other}
+use Rattle.mg_run.specs.declared.reading.Said.TheVariants.{Nothing, Packet, Bound, Other}
 use Rattle.mg_run.specs.Reading.{place_in, port_at, text_at, is_of_range, packet_of, mark_of, member_count, number_at, flag_at, value_says, json_says, reading, longest_line, is_blank}
 use Rattle.mg_run.specs.Said.{IsSaidOf}
 

@@ -1,6 +1,6 @@
 -- Which lines of an input are good, and the streams that they make. `names` are the names of the graph's inputs: each
 -- has its stream, in the same order.
-use Rattle.std.specs.Prelude.{ℕ, zero, suc, ◌+◌, ◌==◌, ℤ, List, [], ◌∷◌, ◌++◌, map, replicate, Option, None, Some, length, fold, nat_lt, nat_le, if◌then◌else◌}
+use Rattle.std.specs.Prelude.{ℕ, zero, suc, ◌+◌, ◌==◌, List, [], ◌∷◌, ◌++◌, map, replicate, Option, None, Some, length, fold, nat_lt, nat_le, if◌then◌else◌}
 use Rattle.mg_time.specs.Time.{done}
 use Rattle.mg_value.specs.Payload.{Plain, int}
 use Rattle.mg_value.specs.Prefix.{StreamPrefix, empty_prefix, appended, raised, closed}

@@ -1,6 +1,6 @@
 -- What a call with good words came to, by its status. `file` is the name that the words have, and `content` what the
 -- store tells of it: nothing, or that there is no such name, or its bytes.
-use Rattle.std.specs.Prelude.{◌≡◌, ℕ, ◌^◌, ◌-◌, ◌<◌, ◌⊎◌, List, [], ◌∷◌, Bool, true, false, Option, None, Some, IfSome, take}
+use Rattle.std.specs.Prelude.{◌≡◌, ℕ, ◌^◌, ◌-◌, ◌<◌, ◌⊎◌, List, [], ◌∷◌, Option, None, Some, IfSome, take}
 use Rattle.mg_edge.specs.Edge.{Steady, most_loaded}
 use Rattle.mg_run.specs.Answer.{answer, graph_of, store_note, graph_note}
 use Rattle.mg_run.specs.Devices.{TookFront, Rises}

@@ -1,9 +1,9 @@
 -- What a feed stands for while the bytes of an input come to it, block by block. `names` are the names of the graph's
 -- inputs.
-use Rattle.std.specs.Prelude.{◌≡◌, ℕ, ◌+◌, ◌*◌, List, [], ◌∷◌, ◌++◌, Option, None, Some, length, vec_len, MatchOption, option_map}
+use Rattle.std.specs.Prelude.{◌≡◌, ℕ, ◌+◌, ◌*◌, List, [], ◌∷◌, ◌++◌, None, Some, length, vec_len, MatchOption, option_map}
 use Rattle.mg_run.specs.Lines.{parts, whole_lines, all_lines}
 use Rattle.mg_run.specs.Output.{output_of}
-use Rattle.mg_run.specs.Accepted.{Refused, refusal, accepted, first_refused, streams_of, ended_streams}
+use Rattle.mg_run.specs.Accepted.{refusal, accepted, first_refused, streams_of, ended_streams}
 use Rattle.mg_run.specs.Claimed.{Claimed}
 use Rattle.mg_run.specs.declared.line_fault.LineFault.{LineFault}
 use Rattle.mg_run.specs.declared.feed.Feed.{Feed}

@@ -1,10 +1,10 @@
 -- What a call came to, by its status.
-use Rattle.std.specs.Prelude.{◌≡◌, ◌≢◌, ℕ, ◌⊎◌, List, [], Bool, true, false, Option, None, Some, IfSome, MatchOption, length, take}
-use Rattle.mg_edge.specs.Edge.{Steady, most_loaded}
+use Rattle.std.specs.Prelude.{◌≡◌, ℕ, ◌⊎◌, List, Option, IfSome}
+use Rattle.mg_edge.specs.Edge.{Steady}
 use Rattle.mg_edge.specs.Runs.{Gave, TookAll}
 use Rattle.mg_run.specs.Lines.{whole_lines}
 use Rattle.mg_run.specs.Accepted.{accepted}
-use Rattle.mg_run.specs.Answer.{Answer, answer, run_answer, failed_answer, command, usage_note, store_note, graph_note}
+use Rattle.mg_run.specs.Answer.{Answer, run_answer, failed_answer}
 use Rattle.mg_run.specs.Devices.{TookFront, Rises}
 use Rattle.mg_run.specs.Pouring.{Told}
 use Rattle.mg_run.specs.declared.status.Status.{Status}

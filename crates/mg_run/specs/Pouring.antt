@@ -1,5 +1,5 @@
 -- What was done so far by a run that pours its input into a feed, and the feed's text into its output.
-use Rattle.std.specs.Prelude.{◌≡◌, ℕ, List, [], Bool, Option, None, Some, IsSome, IfSome}
+use Rattle.std.specs.Prelude.{◌≡◌, ℕ, List, Bool, Option, IsSome, IfSome}
 use Rattle.mg_edge.specs.Edge.{Steady}
 use Rattle.mg_edge.specs.Runs.{Gave}
 use Rattle.mg_run.specs.Answer.{run_answer}

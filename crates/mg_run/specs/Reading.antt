@@ -1,9 +1,9 @@
 -- What a line says. A line is JSON (RFC 8259), whose value is what `serde_json` reads. `names` are the names of the
 -- graph's inputs, and a port is the place of one of them, counted from 0.
-use Rattle.std.specs.Prelude.{ℕ, ◌+◌, ◌&&◌, ◌||◌, ◌==◌, ℤ, List, [], ◌∷◌, Bool, true, false, Option, None, Some, length, codes, nat_lt, nat_le, option_and_then, option_map, if◌then◌else◌}
+use Rattle.std.specs.Prelude.{ℕ, ◌+◌, ◌&&◌, ◌||◌, ◌==◌, ℤ, List, [], ◌∷◌, Bool, Option, None, Some, length, codes, nat_lt, nat_le, option_and_then, option_map, if◌then◌else◌}
 use Rattle.std.specs.List.{list_all}
 use Rattle.std.specs.Str.{is_utf8, bytes_eq}
-use Rattle.serde_json.specs.Data.{Num, Data, null, boolean, number, string, array, object, Members, no_members, member}
+use Rattle.serde_json.specs.Data.{Data, null, boolean, number, string, array, object, Members, no_members, member}
 use Rattle.serde_json.specs.Read.{read}
 use Rattle.serde_json.specs.Find.{get, as_number, as_str, as_bool, as_i64}
 use Rattle.mg_run.specs.declared.reading.Said.{Said}

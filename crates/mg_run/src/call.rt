@@ -82,16 +82,14 @@ fn run_file<S: Source, K: Sink, E: Sink, T: Store>(
         (told (E.taken notes.old) (E.taken notes.new) (E.faults notes.old) (E.faults notes.new)) }
 {
     match store.load(alloc, file) {
-        Loaded::Bytes(content) => {
-            let Ok(graph) = graph_of(alloc, &content) else {
-                return Status::OutOfMemory;
-            };
-            if let Some(names) = graph {
-                return run_graph(alloc, names, input, output, notes);
+        Loaded::Bytes(content) => match graph_of(alloc, &content) {
+            Ok(Some(names)) => run_graph(alloc, names, input, output, notes),
+            Ok(None) => {
+                let _ = put_all(notes, NOT_YET);
+                Status::GraphRefused
             }
-            let _ = put_all(notes, NOT_YET);
-            Status::GraphRefused
-        }
+            Err(_) => Status::OutOfMemory,
+        },
         Loaded::Failed => {
             let Ok(note) = store_note(alloc, file) else {
                 return Status::OutOfMemory;

@@ -187,7 +187,8 @@ impl Feed {
                 if at < bound {
                     return Ok(Some(LineFault::NotAscending));
                 }
-                self.merge.packet(self.alloc, port, at, value, &mut self.text)?;
+                self.merge
+                    .packet(self.alloc, port, at, value, &mut self.text)?;
             }
             Said::Bound(port, at) => {
                 if self.merge.bound(port) == Timestamp::DONE {

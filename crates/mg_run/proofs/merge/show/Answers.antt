@@ -1,4 +1,4 @@
-use Rattle.std.proofs.Common.{arith, rules, sym, ◌∙◌, ap, ◌++◌, append-nil, ◌≡◌, List, ℕ, ℤ}
+use Rattle.std.proofs.Common.{arith, rules, sym, ◌∙◌, ap, ◌++◌, append-nil, List, ℕ, ℤ}
 use Rattle.std.proofs.lemmas.Int.{to_z-of_z}
 use mir.Val.{SFits, to_z, of_z}
 use mir.Syntax.{w64}

@@ -1,4 +1,3 @@
-use Rattle.std.proofs.Common.{◌≡◌, ◌<◌, ◌-◌, ◌*◌, ◌+◌, ◌^◌, vec_len}
 use Rattle.mg_run.specs.Feed.{weight}
 use Rattle.mg_run.specs.Pouring.{Pours}
 use Rattle.mg_run.proofs.Pouring.{turns_left}

@@ -1,5 +1,4 @@
-use Rattle.std.proofs.Common.{◌≡◌, arith, sym, ◌∙◌, ap, subst, List, ℕ, Option, Some}
-use Rattle.std.specs.List.{slice_get}
+use Rattle.std.proofs.Common.{◌≡◌, arith, sym, ◌∙◌, ap, List, ℕ, Some}
 use Rattle.std.proofs.lemmas.Bool.{false≢true}
 use Rattle.mg_run.proofs.Names.{place-found, place-later, none-there}
 use Rattle.mg_run.proofs.reading.port_of.Goals as goal

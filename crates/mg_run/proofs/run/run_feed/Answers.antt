@@ -1,8 +1,8 @@
-use Rattle.std.proofs.Common.{refl, sym, ◌∙◌, ap, not, subst, Bool, List, ℕ, true, false, ◌≡◌, Option}
+use Rattle.std.proofs.Common.{refl, sym, ◌∙◌, ap, not, subst, Bool}
 use Rattle.mg_run.specs.Devices.{Flows}
 use Rattle.mg_run.specs.Outcome.{told, Ran}
 use Rattle.mg_run.specs.declared.status.Status.{Status}
-use Rattle.mg_run.proofs.Finishing.{Written, written, front-poured, front-written, short-notes, short-output, ran-written, said-same, ended-same}
+use Rattle.mg_run.proofs.Finishing.{written, front-poured, front-written, short-notes, short-output, ran-written, said-same, ended-same}
 use Rattle.mg_run.proofs.run.run_feed.Goals as goal
 use Rattle.mg_run.proofs.run.run_feed.Goals.{then-not-put_all-via-then-not-put_all, then-not-put_all-via-else-not-put_all+then-failed}
 

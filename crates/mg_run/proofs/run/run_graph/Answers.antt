@@ -1,5 +1,5 @@
 use Rattle.std.proofs.Common.{subst, List, ℕ}
-use Rattle.mg_run.specs.Answer.{Answer, run_answer}
+use Rattle.mg_run.specs.Answer.{run_answer}
 use Rattle.mg_run.specs.Outcome.{told, Ran}
 use Rattle.mg_run.proofs.Finishing.{front-nothing}
 use Rattle.mg_run.proofs.run.run_graph.Goals as goal

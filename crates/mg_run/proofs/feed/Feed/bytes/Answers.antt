@@ -1,4 +1,4 @@
-use Rattle.std.proofs.Common.{List, ℕ, ◌≡◌, take, drop, ◌++◌, ◌∷◌, [], ◌+◌, ◌<◌, length, sym, ap, not, ◌∙◌, arith, subst}
+use Rattle.std.proofs.Common.{take, ◌++◌, ◌∷◌, [], sym, ap, not, ◌∙◌, arith, subst}
 use Rattle.mg_run.specs.Lines.{NoFeed}
 use Rattle.mg_run.proofs.Standing.{none-from, holds-stands, regrouped, stands-on}
 use Rattle.mg_run.proofs.feed.Feed.bytes.Goals as goal

@@ -1,5 +1,5 @@
-use Rattle.std.proofs.Common.{refl, ◌∙◌, sym, ap, not}
-use Rattle.mg_run.proofs.Standing.{ended-refused, ended-closed, none-from, some-from}
+use Rattle.std.proofs.Common.{refl, ◌∙◌, ap, not}
+use Rattle.mg_run.proofs.Standing.{ended-closed, none-from}
 use Rattle.mg_run.proofs.feed.Feed.finish.Goals as goal
 
 pub returns-in_ok-close_all : goal.returns-in_ok-close_all

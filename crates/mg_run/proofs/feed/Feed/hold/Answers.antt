@@ -1,6 +1,5 @@
 use Rattle.std.proofs.Common.{refl, None, arith}
-use Rattle.mg_run.specs.declared.feed.Feed.{Feed}
-use Rattle.mg_run.proofs.Standing.{SameButRest, stopped-long, holds-piece, stands-from}
+use Rattle.mg_run.proofs.Standing.{stopped-long, holds-piece, stands-from}
 use Rattle.mg_run.proofs.feed.Feed.hold.Goals as goal
 
 pub returns-then-len-piece-gt-LONGEST_LINE-clause-stands : goal.returns-then-len-piece-gt-LONGEST_LINE-clause-stands

@@ -1,6 +1,6 @@
 use Rattle.std.proofs.Common.{refl, ◌∙◌, sym, ap}
 use Rattle.std.proofs.lemmas.Bool.{false≢true}
-use Rattle.mg_run.proofs.Standing.{SameButRest, read-refused, read-whole, read-last, holds-stands, none-from, some-from}
+use Rattle.mg_run.proofs.Standing.{read-refused, read-whole, read-last, holds-stands, none-from, some-from}
 use Rattle.mg_run.proofs.feed.Feed.last_line.Goals as goal
 use Rattle.mg_run.proofs.feed.Feed.last_line.Goals.{then-is_some-via-then-is_some, then-is_some-via-else-is_some+then-is_at_line_start}
 

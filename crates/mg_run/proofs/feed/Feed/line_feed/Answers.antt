@@ -1,5 +1,5 @@
 use Rattle.std.proofs.Common.{refl, ◌∙◌, sym, ap, ◌++◌}
-use Rattle.mg_run.proofs.Standing.{SameButRest, stands-line_feed}
+use Rattle.mg_run.proofs.Standing.{stands-line_feed}
 use Rattle.mg_run.proofs.feed.Feed.line_feed.Goals as goal
 
 pub returns-then-is_at_line_start-clause-stands : goal.returns-then-is_at_line_start-clause-stands

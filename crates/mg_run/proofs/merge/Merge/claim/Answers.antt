@@ -1,4 +1,4 @@
-use Rattle.std.proofs.Common.{◌+◌, sym, ◌∙◌, ap, ◌++◌, subst, List, length}
+use Rattle.std.proofs.Common.{◌+◌, sym, ◌∙◌, subst, List, length}
 use Rattle.mg_run.proofs.Claiming.{claim-places, claim-shown, stand-all, none-left}
 use Rattle.mg_value.specs.Payload.{Plain}
 use Rattle.mg_value.specs.Settled.{settled_sets}

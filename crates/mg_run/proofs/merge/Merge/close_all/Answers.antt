@@ -1,4 +1,4 @@
-use Rattle.std.proofs.Common.{◌≡◌, arith, sym, refl, ◌∙◌, ap, subst, List, ℕ}
+use Rattle.std.proofs.Common.{arith, ◌∙◌, subst, List}
 use Rattle.mg_value.specs.Payload.{Plain}
 use Rattle.mg_value.specs.Prefix.{StreamPrefix}
 use Rattle.mg_run.specs.Claimed.{Claimed}

@@ -1,8 +1,8 @@
-use Rattle.std.proofs.Common.{◌≡◌, sym, refl, ◌∙◌, ap, ℤ, subst, List, ℕ}
+use Rattle.std.proofs.Common.{◌≡◌, refl, ◌∙◌, ap, subst}
 use Rattle.std.proofs.lemmas.Int.{to_z-of_z}
 use mir.Syntax.{w64}
 use Rattle.mg_value.specs.Payload.{Plain, int, plain}
-use Rattle.mg_value.specs.Prefix.{Stamped, StreamPrefix, appended}
+use Rattle.mg_value.specs.Prefix.{Stamped, appended}
 use Rattle.mg_run.specs.Accepted.{stepped}
 use Rattle.mg_run.specs.Claimed.{Claimed}
 use Rattle.mg_run.proofs.Claiming.{step-appended, claimed-stepped}
