@@ -1,5 +1,5 @@
 -- What the look over some queues tells of their next set, and what a claim leaves.
-use Rattle.std.proofs.Common.{◌≡◌, ℕ, ◌+◌, ◌<◌, ◌≤◌, List, [], ◌∷◌, map, drop, All, Some, None, slice_get, length, replicate, ap, ap₂, sym, refl, ◌∙◌, arith}
+use Rattle.std.proofs.Common.{◌≡◌, ℕ, ◌+◌, ◌<◌, ◌≤◌, List, [], ◌∷◌, map, drop, All, Some, None, slice_get, length, length-drop, replicate, ap, ap₂, sym, refl, ◌∙◌, arith}
 use Rattle.std.specs.List.{AllZip, AllByRecursion}
 use Rattle.std.proofs.lemmas.List.Elements.{recursion_from_All, All-from_recursion}
 use Rattle.mg_time.specs.Time.{done}
@@ -9,7 +9,8 @@ use Rattle.mg_value.specs.Settled.{low, settled_sets, set_at, TimedSet, after_se
 use Rattle.mg_value.proofs.AfterSets.{settled_sets-after_sets, after_sets-more, after_sets-none}
 use Rattle.mg_stream.specs.Queue.{Waiting, rest_of, first_at, popped_at, StandsFor, IsLike, empty_queue}
 use Rattle.mg_stream.proofs.QueueSteps.{stands_popped, stands_like}
-use Rattle.mg_policy.specs.Inbox.{rests, earliest, next_set, Tells, StandAfter}
+use Rattle.mg_policy.specs.Inbox.{rests, next_set, Tells, StandAfter}
+use Rattle.mg_policy.specs.Looks.{earliest}
 use Rattle.mg_policy.specs.declared.readiness.Readiness.TheVariants.{Ready, Close, NotReady}
 use Rattle.mg_policy.proofs.NextSet.{AreRests, next_set-some, settled_sets-none, empty_from_earliest, earliest_from_empty, AreFrom-earliest, set_at-first, rests-claimed}
 
@@ -72,6 +73,14 @@ claim_left {X} qs e l look below =
     ap (λ (rs : List (StreamPrefix X)). settled_sets rs) (claim_rests qs e l look below)
     ∙ settled_sets-after_sets 1 (rests qs)
 
+-- the settled sets of what waits are those that aren't gone
+pub what_is_next : {X : Type 0} (k : ℕ) (qs : List (Waiting X)) (ss : List (StreamPrefix X)) → StandAfter k qs ss → settled_sets (rests qs) ≡ drop k (settled_sets ss)
+what_is_next {X} k qs ss h = ap (λ (rs : List (StreamPrefix X)). settled_sets rs) h.left ∙ settled_sets-after_sets k ss
+
+some_waits : {Y : Type 0} (ys : List Y) (y : Y) → slice_get ys 0 ≡ Some y → 0 < length ys
+some_waits [] y e = absurd cc
+some_waits (z ∷ zs) y e = omega arith
+
 each_popped : {X : Type 0} (t : ℕ) (qs : List (Waiting X)) (ss : List (StreamPrefix X)) → AllZip StandsFor qs ss → AllZip StandsFor (map (popped_at t) qs) ss
 each_popped t [] [] h = tt
 each_popped t [] (s ∷ ss) h = h
@@ -81,6 +90,10 @@ each_popped t (q ∷ qs) (s ∷ ss) h = (stands_popped t q s h.0, each_popped t 
 pub claim_stands : {X : Type 0} (qs : List (Waiting X)) (e l : ℕ) → IsLook qs e l → e < l → (k : ℕ) (ss : List (StreamPrefix X)) → StandAfter k qs ss → StandAfter (k + 1) (map (popped_at e) qs) ss
 claim_stands {X} qs e l look below k ss h = record {
   each = each_popped e qs ss h.each;
+  gone =
+      (let others : settled_sets (rests qs) ≡ drop k (settled_sets ss) = what_is_next k qs ss h in
+      let first = some_waits (settled_sets (rests qs)) _ (look_some qs e l look below) in
+      omega (arith, first, ap length others, length-drop k (settled_sets ss)));
   left = claim_rests qs e l look below ∙ ap (λ (rs : List (StreamPrefix X)). after_sets 1 rs) h.left ∙ after_sets-more k ss;
 }
 
@@ -101,4 +114,4 @@ rests_empty {X} (q ∷ qs) h = ap₂ (λ (first : StreamPrefix X) (rest : List (
 pub fresh_stands : {X : Type 0} (n : ℕ) (qs : List (Waiting X)) → length qs ≡ n → All (λ q. IsLike q empty_queue) qs → StandAfter 0 qs (replicate n empty_prefix)
 fresh_stands {X} n qs e h =
     let each = recursion_from_All (λ (q : Waiting X). IsLike q empty_queue) qs h in
-    rw (← e) (record { each = each_empty qs each; left = rests_empty qs each ∙ sym (after_sets-none (replicate (length qs) empty_prefix)) })
+    rw (← e) (record { each = each_empty qs each; gone = omega arith; left = rests_empty qs each ∙ sym (after_sets-none (replicate (length qs) empty_prefix)) })

@@ -11,7 +11,8 @@ use Rattle.mg_value.proofs.PrefixSteps.{Ascends-rises}
 use Rattle.mg_value.proofs.SettledSets.{settled_from, settled_to, settled_rises, packet_at-none}
 use Rattle.mg_value.proofs.AfterSets.{left_of}
 use Rattle.mg_stream.specs.Queue.{Waiting, rest_of, first_at, popped_at}
-use Rattle.mg_policy.specs.Inbox.{rests, earliest, next_set}
+use Rattle.mg_policy.specs.Inbox.{rests, next_set}
+use Rattle.mg_policy.specs.Looks.{earliest}
 
 -- what waits in each queue is a prefix
 abbrev pub AreRests : {X : Type 0} → List (Waiting X) → Type 0

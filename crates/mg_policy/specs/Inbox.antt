@@ -1,10 +1,10 @@
 -- The default input policy of the MediaPipe framework (page Synchronization): packets of equal timestamps are processed
 -- together, in ascending order, once no further packet can come at their time. An inbox is a list of queues, one per
 -- input port. What waits in them is the rest of their streams, and its first settled set is the next input set.
-use Rattle.std.specs.Prelude.{◌≡◌, ℕ, List, [], ◌∷◌, map, min, All, Option, None, slice_get, IsSomeAnd}
+use Rattle.std.specs.Prelude.{◌≡◌, ℕ, ◌≤◌, length, List, [], map, All, Option, None, slice_get, IsSomeAnd}
 use Rattle.std.specs.List.{AllZip}
 use Rattle.mg_time.specs.Time.{done}
-use Rattle.mg_value.specs.Prefix.{StreamPrefix, first_time}
+use Rattle.mg_value.specs.Prefix.{StreamPrefix}
 use Rattle.mg_value.specs.Settled.{low, settled_sets, after_sets, TimedSet}
 use Rattle.mg_stream.specs.Queue.{Waiting, rest_of, StandsFor}
 use Rattle.mg_policy.specs.declared.readiness.Readiness.{Readiness}
@@ -13,11 +13,6 @@ use Rattle.mg_policy.specs.declared.readiness.Readiness.TheVariants.{Ready, Clos
 -- what waits in some queues, as prefixes of the rest of their streams
 abbrev pub rests : {X : Type 0} → List (Waiting X) → List (StreamPrefix X)
 rests qs = map rest_of qs
-
--- the least time of a packet that waits, and Done where none waits
-abbrev pub earliest : {X : Type 0} → List (Waiting X) → ℕ
-earliest [] = done
-earliest (q ∷ qs) = min (first_time q.packets done) (earliest qs)
 
 -- the next input set, or none: the first settled set of what waits
 abbrev pub next_set : {X : Type 0} → List (Waiting X) → Option (TimedSet X)
@@ -38,4 +33,5 @@ Tells NotReady qs = (next_set qs ≡ None) × ¬ IsOver qs
 -- is what is left of the prefixes then
 pub record StandAfter {X : Type 0} (k : ℕ) (qs : List (Waiting X)) (ss : List (StreamPrefix X)) : Type 0 where
   pub each : AllZip StandsFor qs ss
+  pub gone : k ≤ length (settled_sets ss)
   pub left : rests qs ≡ after_sets k ss

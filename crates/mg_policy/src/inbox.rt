@@ -87,6 +87,8 @@ impl Inbox {
         ensures shown { IfSome (next_set self.old) (λ e. into.new ≡ e.set) }
         ensures gone { IfSome (next_set self.old) (λ e. self.new ≡ map (popped_at e.at) self.old) }
         ensures left { settled_sets (rests self.new) ≡ drop 1 (settled_sets (rests self.old)) }
+        ensures ports { length self.new ≡ length self.old }
+        ensures places { length into.new ≡ length into.old }
         ensures unchanged { OnFalse result ((self.new ≡ self.old) × (into.new ≡ into.old)) }
         ensures stand { (k : ℕ) (ss : List (StreamPrefix Plain)) → StandAfter k self.old ss → OnTrue result (StandAfter (k + 1) self.new ss) }
     {

@@ -3,9 +3,13 @@
 #![tactic(auto)]
 
 mod inbox;
+pub mod laws;
 mod looks;
 mod next_set;
 mod readiness;
 
 pub use inbox::Inbox;
 pub use readiness::Readiness;
+
+#[cfg(test)]
+mod tests;

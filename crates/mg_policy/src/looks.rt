@@ -2,7 +2,8 @@ ghost use Rattle.std.specs.Prelude.{◌≡◌, ◌<◌, ◌^◌, All, length, ma
 ghost use Rattle.mg_value.specs.Prefix.{IsPrefix};
 ghost use Rattle.mg_value.specs.Settled.{low};
 ghost use Rattle.mg_stream.specs.Queue.{rest_of, first_at, popped_at};
-ghost use Rattle.mg_policy.specs.Inbox.{rests, earliest};
+ghost use Rattle.mg_policy.specs.Inbox.{rests};
+ghost use Rattle.mg_policy.specs.Looks.{earliest};
 
 use mg_stream::Queue;
 use mg_time::Timestamp;

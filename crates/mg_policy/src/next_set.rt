@@ -35,6 +35,8 @@ pub(crate) fn claim_next(queues: &mut [Queue], into: &mut InputSet) -> bool
     ensures shown { IfSome (next_set queues.old) (λ e. into.new ≡ e.set) }
     ensures gone { IfSome (next_set queues.old) (λ e. queues.new ≡ map (popped_at e.at) queues.old) }
     ensures left { settled_sets (rests queues.new) ≡ drop 1 (settled_sets (rests queues.old)) }
+    ensures ports { length queues.new ≡ length queues.old }
+    ensures places { length into.new ≡ length into.old }
     ensures unchanged { OnFalse result ((queues.new ≡ queues.old) × (into.new ≡ into.old)) }
     ensures stand { (k : ℕ) (ss : List (StreamPrefix Plain)) → StandAfter k queues.old ss → OnTrue result (StandAfter (k + 1) queues.new ss) }
 {

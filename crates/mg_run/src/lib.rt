@@ -12,6 +12,8 @@ mod put;
 mod reading;
 mod run;
 mod status;
+#[cfg(test)]
+mod tests;
 mod words;
 mod write_line;
 

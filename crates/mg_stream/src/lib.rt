@@ -7,3 +7,6 @@ mod queue;
 
 pub use fault::{Refused, StreamFault};
 pub use queue::Queue;
+
+#[cfg(test)]
+mod tests;

@@ -1,4 +1,4 @@
-ghost use Rattle.std.specs.Prelude.{◌≡◌, ◌≢◌, Some, IfNone, ◌<◌, ◌≤◌, ◌+◌, ◌^◌, ◌↔◌, [], length, slice_get, option_map, OnOk, OnErr, IfErr, IsErrAnd};
+ghost use Rattle.std.specs.Prelude.{◌≡◌, ◌≢◌, Some, IfNone, ◌<◌, ◌≤◌, ◌+◌, ◌^◌, ◌↔◌, [], length, slice_get, option_map, OnOk, OnErr, IfErr, IsErrAnd, IsOk, MatchResult};
 ghost use Rattle.mg_time.specs.Time.{pre_stream, post_stream, done, IsAllowed};
 ghost use Rattle.mg_value.specs.Payload.{Plain};
 ghost use Rattle.mg_value.specs.Prefix.{StreamPrefix, IsPrefix, empty_prefix, appended, raised, closed};
@@ -49,6 +49,7 @@ impl Queue {
     /// Makes room for more packets: so many appends take no memory.
     pub fn reserve(&mut self, more: u32) -> Result<(), AllocError>
         ensures room { OnOk result (more ≤ self.new.spare) }
+        ensures no_memory { OnErr result (self.old.spare < more) }
         ensures kept { self.old.spare ≤ self.new.spare }
         ensures unchanged { IsLike self.new self.old }
         ensures stands { (s : StreamPrefix Plain) → StandsFor self.old s → StandsFor self.new s }
@@ -61,6 +62,7 @@ impl Queue {
     pub fn append(&mut self, packet: Packet) -> Result<(), Refused>
         ensures ok { OnOk result (IsLike self.new (with_packet self.old packet)) }
         ensures may_come { OnOk result (MayCome self.old packet.at) }
+        ensures accepted { MayCome self.old packet.at → 0 < self.old.spare → IsOk result }
 
         // The first cause that holds is answered.
         ensures not_allowed { IsErrAnd result (λ r. r.cause ≡ StreamFault.NotAllowed) ↔ ¬ IsAllowed packet.at }
@@ -75,7 +77,8 @@ impl Queue {
         ensures returned { IfErr result (λ r. r.packet ≡ packet) }
         ensures room { self.old.spare ≤ self.new.spare + 1 }
 
-        ensures stands { (s : StreamPrefix Plain) → StandsFor self.old s → OnOk result (StandsFor self.new (appended s packet)) }
+        ensures stands { (s : StreamPrefix Plain) → StandsFor self.old s
+            → MatchResult result (λ _. StandsFor self.new (appended s packet)) (λ _. StandsFor self.new s) }
     {
         let cause = match self.cause_of(packet.at) {
             Some(cause) => cause,

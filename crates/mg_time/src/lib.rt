@@ -6,3 +6,6 @@ pub mod laws;
 mod timestamp;
 
 pub use timestamp::Timestamp;
+
+#[cfg(test)]
+mod tests;

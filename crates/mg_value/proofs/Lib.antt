@@ -3,3 +3,4 @@ pub mod Extending
 pub mod PrefixSteps
 pub mod SettledSets
 pub mod Times
+pub mod LoopbackStream

@@ -1,5 +1,6 @@
 -- Settled times and sets: what their members are, that they only grow, and what is left after the first of them.
-use Rattle.std.proofs.Common.{◌≡◌, ℕ, zero, suc, ◌+◌, ◌<◌, ◌≤◌, true, ◌⊎◌, inl, inr, List, [], ◌∷◌, ◌++◌, map, take, drop, length, filter, All, Option, None, ap, ap₂, refl, ◌∙◌, arith, ltb, eqb, ltb-true, lt-ltb, ne_eqb, eq-eqb, is_some, suc-add}
+use Rattle.std.proofs.Common.{◌≡◌, ℕ, zero, suc, ◌+◌, ◌<◌, ◌≤◌, true, ◌⊎◌, inl, inr, List, [], ◌∷◌, ◌++◌, map, take, drop, length, filter, All, Option, None, ap, ap₂, refl, ◌∙◌, arith, ltb, eqb, ltb-true, lt-ltb, ne_eqb, eq-eqb, is_some, suc-add, length-append}
+use Rattle.std.proofs.lemmas.List.{length-map}
 use Rattle.std.specs.List.{AllByRecursion, list_any}
 use Rattle.std.specs.List.Sorted.{IsStrictlyIncreasing}
 use Rattle.std.proofs.lemmas.Bool.{cases_Bool, or_left, or_right}
@@ -151,3 +152,20 @@ set_at-shows t (s ∷ ss) i = elim (In-append_from t (times_of s.packets) (all_t
   | inl first ↦ or_left _ _ (packet_at-some t s.packets first)
   | inr later ↦ or_right _ _ (set_at-shows t ss later)
 ]
+
+-- as many settled sets as settled times, and extension takes none away
+pub length-settled_sets : {X : Type 0} (ss : List (StreamPrefix X)) → length (settled_sets ss) ≡ length (settled_times ss)
+length-settled_sets {X} ss = length-map (settled_times ss) (λ t. (let it : TimedSet X = record { at = t; set = set_at t ss } in it))
+
+pub settled_times_grow : {X : Type 0} (ss tt : List (StreamPrefix X)) → AreExtendedBy ss tt → length (settled_times ss) ≤ length (settled_times tt)
+settled_times_grow ss tt e = omega (arith, ap length (settled_times_first ss tt e), length-append (settled_times ss) (drop (length (settled_times ss)) (settled_times tt)))
+
+pub take_settled_times : {X : Type 0} (k : ℕ) (ss tt : List (StreamPrefix X)) → AreExtendedBy ss tt → k ≤ length (settled_times ss) → take k (settled_times tt) ≡ take k (settled_times ss)
+take_settled_times k ss tt e le =
+    ap (λ (ts : List ℕ). take k ts) (settled_times_first ss tt e)
+    ∙ front k (settled_times ss) (drop (length (settled_times ss)) (settled_times tt)) le
+  where
+    front : (n : ℕ) (xs ys : List ℕ) → n ≤ length xs → take n (xs ++ ys) ≡ take n xs
+    front zero xs ys le = refl
+    front (suc n) [] ys le = absurd (omega (arith, le))
+    front (suc n) (x ∷ xs) ys le = ap (λ (rest : List ℕ). x ∷ rest) (front n xs ys (omega (arith, le)))

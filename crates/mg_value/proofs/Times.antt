@@ -180,3 +180,8 @@ In-take_or_drop t (suc k) (u ∷ us) i = elim i [
 pub map_agree : {Y : Type 0} (f g : ℕ → Y) (ts : List ℕ) → ((t : ℕ) → In t ts → f t ≡ g t) → map f ts ≡ map g ts
 map_agree f g [] same = refl
 map_agree {Y} f g (t ∷ ts) same = ap₂ (λ (h : Y) (rest : List Y). h ∷ rest) (same t (inl refl)) (map_agree f g ts (λ u i. same u (inr i)))
+
+pub In-take : (t k : ℕ) (ts : List ℕ) → In t (take k ts) → In t ts
+In-take t zero ts i = absurd i
+In-take t (suc k) [] i = i
+In-take t (suc k) (u ∷ us) i = elim i [ inl e ↦ inl e | inr j ↦ inr (In-take t k us j) ]

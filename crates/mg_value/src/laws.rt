@@ -6,6 +6,7 @@ ghost use Rattle.mg_time.specs.Time.{IsAllowed, done, post_stream};
 ghost use Rattle.mg_value.specs.Payload.{Plain};
 ghost use Rattle.mg_value.specs.Prefix.{Stamped, StreamPrefix, IsPrefix, empty_prefix, appended, raised, closed};
 ghost use Rattle.mg_value.specs.Extension.{IsExtendedBy, AreExtendedBy};
+ghost use Rattle.mg_value.specs.Loopback.{loopback};
 ghost use Rattle.mg_value.specs.Settled.{low, times_of, all_times, is_among, settled_times, settled_sets, after_sets};
 
 /// A prefix extends itself.
@@ -67,4 +68,15 @@ pub fn settled_sets_stay()
 /// When the first settled sets are gone, the others are the settled sets of what is left.
 pub fn after_sets_leaves_the_others()
     ensures { (k : ℕ) (ss : List (StreamPrefix Plain)) → settled_sets (after_sets k ss) ≡ drop k (settled_sets ss) }
+{}
+
+/// The loopback's output stream is a prefix.
+pub fn loopback_is_a_prefix()
+    ensures { (main loop : StreamPrefix Plain) → IsPrefix main → IsPrefix (loopback main loop) }
+{}
+
+/// What extends the loopback's inputs extends its output stream.
+pub fn loopback_follows_its_inputs()
+    ensures { (main wider loop more : StreamPrefix Plain) → IsPrefix wider → IsExtendedBy main wider → IsExtendedBy loop more
+        → IsExtendedBy (loopback main loop) (loopback wider more) }
 {}

@@ -26,3 +26,35 @@ fn copies_share(rt: HostRuntime) -> Result<(), Fail> {
     assert_eq!(rt; prefix.packets.len(), 2);
     Ok(())
 }
+
+/// The number at a port, or none.
+fn number_at(set: &InputSet, port: u32) -> Option<i64> {
+    let Payload::Int(number) = &*set.get(port)?.payload;
+    Some(*number)
+}
+
+/// Puts a packet, or none, at a port that is there.
+fn put(set: &mut InputSet, port: u32, packet: Option<Packet>) -> Result<(), Fail> {
+    if port >= set.len() {
+        return Err(Fail::from("no such port"));
+    }
+    set.put(port, packet);
+    Ok(())
+}
+
+#[test]
+fn sets_hold_a_packet_per_port(rt: HostRuntime) -> Result<(), Fail> {
+    let mut set = InputSet::new(rt.alloc(), 3)?;
+    assert_eq!(rt; (set.len(), set.is_empty()), (3, false));
+    assert_eq!(rt; InputSet::new(rt.alloc(), 0)?.is_empty(), true);
+    assert_eq!(rt; number_at(&set, 1), None);
+    put(&mut set, 1, Some(packet(rt.alloc(), 5, 7)?))?;
+    put(&mut set, 2, Some(packet(rt.alloc(), 5, 8)?))?;
+    assert_eq!(rt; number_at(&set, 0), None);
+    assert_eq!(rt; number_at(&set, 1), Some(7));
+    put(&mut set, 1, None)?;
+    assert_eq!(rt; number_at(&set, 1), None);
+    assert_eq!(rt; number_at(&set, 2), Some(8));
+    assert_eq!(rt; number_at(&set, 3), None);
+    Ok(())
+}

@@ -2,7 +2,8 @@ use Rattle.std.proofs.Common.{◌≡◌, take, All}
 use Rattle.mg_value.specs.Prefix.{IsPrefix}
 use Rattle.mg_value.specs.Settled.{low}
 use Rattle.mg_stream.specs.Queue.{rest_of}
-use Rattle.mg_policy.specs.Inbox.{rests, earliest}
+use Rattle.mg_policy.specs.Inbox.{rests}
+use Rattle.mg_policy.specs.Looks.{earliest}
 use Rattle.mg_policy.proofs.looks.look_at.Given as goal
 
 abbrev pub invariant-loop-queue : goal.invariant-loop-queue

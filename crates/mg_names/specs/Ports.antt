@@ -1,0 +1,85 @@
+-- The ports of a list of texts, and the text of a port.
+use Rattle.std.specs.Prelude.{ℕ, ◌-◌, ◌≡◌, ◌<◌, ◌⊎◌, List, [], ◌∷◌, ◌++◌, Bool, false, ◌&&◌, ◌||◌, not, ◌==◌, nat_le, Option, unwrap_or, Result, Ok, Err, if◌then◌else◌, count_by, position, IsTrue}
+use Rattle.std.specs.List.{list_any}
+use Rattle.std.specs.Str.{bytes_eq}
+use Rattle.std.specs.Fmt.{decimal}
+use Rattle.mg_names.specs.Grammar.{is_name, is_tag, index_count}
+use Rattle.mg_names.specs.Spelling.{spelling_of, is_untagged}
+use Rattle.mg_names.specs.declared.spelling.Spelling.{Spelling}
+use Rattle.mg_names.specs.declared.port.Port.{Port}
+use Rattle.mg_names.specs.declared.fault.NameFault.{NameFault}
+use Rattle.mg_names.specs.declared.fault.NameFault.TheVariants.{BadIndex, Gap, Twice}
+
+-- what follows a result, unless that is a refusal
+abbrev pub after : {A B : Type 0} → Result A NameFault → (A → Result B NameFault) → Result B NameFault
+after (Ok value) next = next value
+after (Err fault) next = Err fault
+
+-- an untagged port's index is its running number, and a tagged one's is 0 if none is spelled
+abbrev pub index_in : ℕ → Spelling → ℕ
+index_in number spelling = if bytes_eq spelling.tag [] then number else unwrap_or spelling.index 0
+
+-- the port that a spelling makes where so many untagged ports stand before it
+abbrev pub port_of : ℕ → Spelling → Port
+port_of number spelling = record { tag = spelling.tag; index = index_in number spelling; name = spelling.name }
+
+-- an untagged port after 64 others has no index
+abbrev pub lacks_index : ℕ → List ℕ → Bool
+lacks_index number text = is_untagged text && nat_le index_count number
+
+-- the port of a text where so many untagged ports stand before it. The index is tested before the name here too.
+abbrev pub port_at : ℕ → List ℕ → Result Port NameFault
+port_at number text = if lacks_index number text then Err BadIndex else after (spelling_of text) (λ spelling. Ok (port_of number spelling))
+
+-- the port of a text that stands after others
+abbrev pub port_after : List (List ℕ) → List ℕ → Result Port NameFault
+port_after before text = port_at (count_by is_untagged before) text
+
+-- the ports of texts that stand after others, in the order of spelling, or the first text's refusal
+abbrev pub ports_after : List (List ℕ) → List (List ℕ) → Result (List Port) NameFault
+ports_after before [] = Ok []
+ports_after before (text ∷ texts) =
+    after (port_after before text) (λ port. after (ports_after (before ++ text ∷ []) texts) (λ ports. Ok (port ∷ ports)))
+
+-- whether a port has this tag and index
+abbrev pub is_at : List ℕ → ℕ → Port → Bool
+is_at tag index port = bytes_eq tag port.tag && (index == port.index)
+
+-- whether one of the ports has it
+abbrev pub has_port : List ℕ → ℕ → List Port → Bool
+has_port tag index ports = list_any (is_at tag index) ports
+
+-- whether a tag and index stand twice
+abbrev pub stands_twice : List Port → Bool
+stands_twice [] = false
+stands_twice (port ∷ ports) = has_port port.tag port.index ports || stands_twice ports
+
+-- whether a port has an index above 0 while none has its tag and the index below
+abbrev pub has_gap : List Port → Bool
+has_gap ports = list_any (λ port. not (port.index == 0) && not (has_port port.tag (port.index - 1) ports)) ports
+
+-- the ports of a list of texts: the texts in order, then the tags and indexes that stand twice, then the gaps
+abbrev pub checked : List Port → Result (List Port) NameFault
+checked ports = if stands_twice ports then Err Twice else (if has_gap ports then Err Gap else Ok ports)
+
+abbrev pub ports_of : List (List ℕ) → Result (List Port) NameFault
+ports_of texts = after (ports_after [] texts) checked
+
+-- the place of the port with a tag and index
+abbrev pub place_of : List ℕ → ℕ → List Port → Option ℕ
+place_of tag index ports = position (is_at tag index) ports
+
+-- the text of a tagged port: the index is left out at 0
+abbrev pub tagged_text : List ℕ → ℕ → List ℕ → List ℕ
+tagged_text tag index name =
+    if index == 0 then tag ++ (58 ∷ name) else tag ++ (58 ∷ decimal index) ++ (58 ∷ name)
+
+-- the text of a port: `name` where it is untagged, `TAG:name` at index 0, and `TAG:index:name` otherwise
+abbrev pub text_of : Port → List ℕ
+text_of port = if bytes_eq port.tag [] then port.name else tagged_text port.tag port.index port.name
+
+-- a port that a text can spell
+pub record IsSpelled (port : Port) : Type 0 where
+  pub tag : (port.tag ≡ []) ⊎ IsTrue (is_tag port.tag)
+  pub index : port.index < index_count
+  pub name : IsTrue (is_name port.name)

@@ -1,0 +1,129 @@
+//! Names, tags and indexes by their bytes, and where a text is cut.
+ghost use Rattle.std.specs.Prelude.{◌≡◌, ◌∷◌, [], MatchOption, IfOk, position};
+ghost use Rattle.std.specs.List.{list_all};
+ghost use Rattle.std.specs.Str.{IsAscii};
+ghost use Rattle.mg_names.specs.Grammar as grammar;
+ghost use Rattle.mg_names.specs.Spelling.{is_colon, parts_of};
+ghost use Rattle.mg_names.specs.Spelling as spelled;
+
+use mg_value::MgText;
+use std::alloc::{AllocError, Global};
+
+fn begins_name(byte: u8) -> bool
+    ensures { result ≡ grammar.begins_name byte }
+{
+    byte.is_ascii_lowercase() || byte == b'_'
+}
+
+fn begins_tag(byte: u8) -> bool
+    ensures { result ≡ grammar.begins_tag byte }
+{
+    byte.is_ascii_uppercase() || byte == b'_'
+}
+
+fn is_digit(byte: u8) -> bool
+    ensures { result ≡ grammar.is_digit byte }
+{
+    byte.is_ascii_digit()
+}
+
+fn continues_name(byte: u8) -> bool
+    ensures { result ≡ grammar.continues_name byte }
+{
+    begins_name(byte) || is_digit(byte)
+}
+
+fn continues_tag(byte: u8) -> bool
+    ensures { result ≡ grammar.continues_tag byte }
+{
+    begins_tag(byte) || is_digit(byte)
+}
+
+fn all_continue_name(text: &[u8]) -> bool
+    ensures { result ≡ list_all grammar.continues_name text.now }
+{
+    text.iter().all(|byte| continues_name(*byte))
+}
+
+fn all_continue_tag(text: &[u8]) -> bool
+    ensures { result ≡ list_all grammar.continues_tag text.now }
+{
+    text.iter().all(|byte| continues_tag(*byte))
+}
+
+/// Whether a text is a name: `[a-z_][a-z0-9_]*`.
+pub(crate) fn is_name(text: &[u8]) -> bool
+    ensures { result ≡ grammar.is_name text.now }
+{
+    match text.split_first() {
+        Some((first, rest)) => begins_name(*first) && all_continue_name(rest),
+        None => false,
+    }
+}
+
+/// Whether a text is a tag: `[A-Z_][A-Z0-9_]*`.
+pub(crate) fn is_tag(text: &[u8]) -> bool
+    ensures { result ≡ grammar.is_tag text.now }
+{
+    match text.split_first() {
+        Some((first, rest)) => begins_tag(*first) && all_continue_tag(rest),
+        None => false,
+    }
+}
+
+/// The index that a text spells: 0 to 63 in decimal, without leading zeros.
+pub(crate) fn index_of(text: &[u8]) -> Option<u8>
+    ensures { result ≡ grammar.index_of text.now }
+{
+    match text {
+        [ones @ b'0'..=b'9'] => Some(*ones - b'0'),
+        [tens @ b'1'..=b'9', ones @ b'0'..=b'9'] => {
+            let index = 10 * (*tens - b'0') + (*ones - b'0');
+            if index < 64 { Some(index) } else { None }
+        }
+        _ => None,
+    }
+}
+
+fn first_colon(text: &[u8]) -> Option<usize>
+    ensures { result ≡ position is_colon text.now }
+{
+    text.iter().position(|byte| *byte == b':')
+}
+
+/// A text cut at its first colon, or none where it has no colon.
+#[tactic(auto, using(crate::proofs::Parts::parts_without_colon))]
+pub(crate) fn cut(text: &[u8]) -> Option<(&[u8], &[u8])>
+    ensures { MatchOption result (parts_of text.now ≡ text.now ∷ []) (λ cut. parts_of text.now ≡ cut.0.now ∷ parts_of cut.1.now) }
+{
+    match first_colon(text) {
+        None => None,
+        Some(colon) => {
+            let (tag, rest) = text.split_at(colon);
+            Some((tag, &rest[1..]))
+        }
+    }
+}
+
+/// Whether a text has no colon.
+#[tactic(auto, using(crate::proofs::Parts::parts_past_one))]
+pub(crate) fn is_untagged(text: &[u8]) -> bool
+    ensures { result ≡ spelled.is_untagged text.now }
+{
+    match cut(text) {
+        None => true,
+        Some(_) => false,
+    }
+}
+
+/// A text of its own, of ASCII bytes.
+#[tactic(auto, using(crate::proofs::Parts::ascii_is_utf8))]
+pub(crate) fn owned(alloc: Global, bytes: &[u8]) -> Result<MgText, AllocError>
+    requires { IsAscii bytes.now }
+    ensures { IfOk result (λ text. text ≡ bytes.now) }
+{
+    match str::from_utf8(bytes) {
+        Ok(text) => MgText::new(alloc, text),
+        Err(_) => unreachable!(),
+    }
+}

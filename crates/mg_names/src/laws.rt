@@ -1,0 +1,36 @@
+//! Laws of the definitions: each function does nothing, and its contract is the law.
+ghost use Rattle.std.specs.Prelude.{◌≡◌, ◌<◌, ◌↔◌, ℕ, List, false, true, Ok, Some, map, slice_get, All, AllPairs};
+ghost use Rattle.std.specs.Fmt.{decimal};
+ghost use Rattle.mg_names.specs.declared.port.Port.{Port};
+ghost use Rattle.mg_names.specs.Grammar.{index_of, index_count};
+ghost use Rattle.mg_names.specs.Ports.{has_port, is_at, stands_twice, has_gap, ports_of, place_of, text_of, IsSpelled};
+
+/// An index is spelled in decimal, in one way.
+pub fn indexes_are_decimal()
+    ensures { (text : List ℕ) (index : ℕ) → (index_of text ≡ Some index) ↔ ((index < index_count) × (text ≡ decimal index)) }
+{}
+
+/// The ports of texts are those of their own texts.
+pub fn ports_are_read_back()
+    ensures { (texts : List (List ℕ)) (ports : List Port) → ports_of texts ≡ Ok ports → ports_of (map text_of ports) ≡ Ok ports }
+{}
+
+/// Each port of texts can be spelled.
+pub fn ports_are_spelled()
+    ensures { (texts : List (List ℕ)) (ports : List Port) → ports_of texts ≡ Ok ports → All IsSpelled ports }
+{}
+
+/// Nothing stands twice where each two ports differ in tag or index.
+pub fn once_is_pairwise()
+    ensures { (ports : List Port) → (stands_twice ports ≡ false) ↔ AllPairs (λ first second. is_at first.tag first.index second ≡ false) ports }
+{}
+
+/// There is no gap where each index below a port's stands at its tag.
+pub fn filled_is_downward()
+    ensures { (ports : List Port) → (has_gap ports ≡ false) ↔ All (λ port. (index : ℕ) → index < port.index → has_port port.tag index ports ≡ true) ports }
+{}
+
+/// Each port of texts is found at its own place.
+pub fn ports_are_found()
+    ensures { (texts : List (List ℕ)) (ports : List Port) (i : ℕ) (port : Port) → ports_of texts ≡ Ok ports → slice_get ports i ≡ Some port → place_of port.tag port.index ports ≡ Some i }
+{}

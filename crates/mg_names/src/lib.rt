@@ -1,0 +1,25 @@
+//! Ports by their spelling, as `TAG:index:name`: one port's text, and the ports of a list of texts with the indexes
+//! that they leave out. It answers to `spelling_of` and `ports_of` of specs/, and `text_of` is the way back.
+#![tactic(auto)]
+
+mod fault;
+mod grammar;
+mod indexing;
+pub mod laws;
+mod numbering;
+mod places;
+mod port;
+mod port_map;
+mod printing;
+mod reading;
+mod spelling;
+
+pub use fault::NameFault;
+pub use port::Port;
+pub use port_map::PortMap;
+pub use printing::print_port;
+pub use reading::read_port;
+pub use spelling::Spelling;
+
+#[cfg(test)]
+mod tests;

@@ -1,0 +1,68 @@
+ghost use Rattle.std.specs.Prelude.{◌≡◌, ◌≢◌, ◌<◌, ◌+◌, [], true, if◌then◌else◌, IfOk, IfErr, Ok, Err};
+ghost use Rattle.std.specs.Str.{bytes_eq};
+ghost use Rattle.mg_names.specs.Spelling.{is_untagged};
+ghost use Rattle.mg_names.specs.Ports as ports;
+
+use crate::fault::NameFault;
+use crate::grammar::is_untagged;
+use crate::port::Port;
+use crate::reading::read_port;
+use crate::spelling::Spelling;
+use mg_value::MgText;
+use std::alloc::Global;
+
+/// The port of a spelling where so many untagged ports stand before it.
+fn port_of(number: u8, spelling: Spelling) -> Port
+    ensures { result ≡ ports.port_of number spelling }
+{
+    let Spelling { tag, index, name } = spelling;
+    let index = if tag.as_bytes().is_empty() {
+        number
+    } else {
+        index.unwrap_or(0)
+    };
+    Port { tag, index, name }
+}
+
+/// The port of a text where so many untagged ports stand before it.
+#[tactic(auto, using(crate::proofs::Counting::untagged_is_empty, crate::proofs::Counting::untagged_has_room))]
+fn port_at(alloc: Global, number: u8, text: &[u8]) -> Result<Port, NameFault>
+    ensures ok { IfOk result (λ port. ports.port_at number text.now ≡ Ok port) }
+    ensures err { IfErr result (λ fault. fault ≢ NameFault.OutOfMemory → ports.port_at number text.now ≡ Err fault) }
+    ensures untagged { IfOk result (λ port. bytes_eq port.tag [] ≡ is_untagged text.now) }
+    ensures room { IfOk result (λ port. bytes_eq port.tag [] ≡ true → number < 64) }
+{
+    if is_untagged(text) && number >= 64 {
+        return Err(NameFault::BadIndex);
+    }
+    let spelling = read_port(alloc, text)?;
+    Ok(port_of(number, spelling))
+}
+
+/// How many untagged ports stand before the next text.
+fn count_after(untagged: u8, port: &Port) -> u8
+    requires { bytes_eq port.now.tag [] ≡ true → untagged < 64 }
+    ensures { result ≡ untagged + (if bytes_eq port.now.tag [] then 1 else 0) }
+{
+    if port.tag.as_bytes().is_empty() {
+        untagged + 1
+    } else {
+        untagged
+    }
+}
+
+/// The ports of texts, with the indexes that they leave out, or the refusal of the first text that spells none.
+pub(crate) fn read_ports(alloc: Global, texts: &[MgText]) -> Result<Vec<Port>, NameFault>
+    ensures ok { IfOk result (λ made. ports.ports_after [] texts.now ≡ Ok made.items) }
+    ensures err { IfErr result (λ fault. fault ≢ NameFault.OutOfMemory → ports.ports_after [] texts.now ≡ Err fault) }
+{
+    let mut made = Vec::new(alloc);
+    let mut untagged = 0;
+    for text in texts {
+        let port = port_at(alloc, untagged, text.as_bytes())?;
+        let count = count_after(untagged, &port);
+        made.push(port)?;
+        untagged = count;
+    }
+    Ok(made)
+}

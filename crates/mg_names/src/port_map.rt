@@ -1,0 +1,91 @@
+ghost use Rattle.std.specs.Prelude.{◌≡◌, ◌≢◌, [], IfOk, IfErr, length, slice_get, option_copied, Ok, Err, ◌==◌};
+
+use crate::fault::NameFault;
+use crate::indexing::{any_lacks_lower, places_of};
+use crate::numbering::read_ports;
+use crate::places::Places;
+use crate::port::Port;
+use mg_value::{List, MgText};
+use std::alloc::{AllocError, Global};
+use std::marker::Model;
+
+/// The ports of a graph or a node, or those of one of its sides, in the order of spelling. Contracts see it as the
+/// list of its ports.
+#[derive(Debug, Drop)]
+pub struct PortMap {
+    ports: List<Port>,
+    places: Places,
+}
+
+impl Model for PortMap {
+    ghost use Rattle.std.specs.Prelude.{◌≡◌, ◌<◌, ◌^◌, ℕ, List, length};
+    ghost use Rattle.mg_names.specs.declared.port.Port.{Port};
+
+    ghost Value = { List Port };
+
+    ghost use Rattle.mg_names.specs.Places.{kept_place};
+    ghost use Rattle.mg_names.specs.Ports.{place_of};
+
+    ghost view = { λ m. m.ports };
+
+    ghost invariant = { λ m. (length m.ports < 2 ^ 32) × ((tag : List ℕ) (index : ℕ) → kept_place m.places tag index ≡ place_of tag index m.ports) };
+}
+
+impl PortMap {
+    ghost use Rattle.mg_names.specs.Ports.{ports_of, place_of};
+
+    /// No ports.
+    pub fn new(alloc: Global) -> PortMap
+        ensures { result ≡ [] }
+    {
+        PortMap {
+            ports: List::from_vec(Vec::new(alloc)).unwrap(),
+            places: Places::new(alloc),
+        }
+    }
+
+    /// The ports of texts, each spelled as `name`, `TAG:name` or `TAG:index:name`. Without a spelled index a port has
+    /// the index 0 of its tag, or where it is untagged its running number. The texts go in order, and the first that
+    /// spells no port is refused; then tags and indexes that stand twice, then indexes of a tag with a gap.
+    pub fn read(alloc: Global, texts: &[MgText]) -> Result<PortMap, NameFault>
+        ensures ok { IfOk result (λ map. ports_of texts.now ≡ Ok map) }
+        ensures err { IfErr result (λ fault. fault ≢ NameFault.OutOfMemory → ports_of texts.now ≡ Err fault) }
+    {
+        let ports = List::from_vec(read_ports(alloc, texts)?)?;
+        let slice = ports.as_slice();
+        let places = places_of(alloc, slice)?;
+        if any_lacks_lower(&places, slice) {
+            return Err(NameFault::Gap);
+        }
+        Ok(PortMap { ports, places })
+    }
+
+    /// How many ports there are.
+    pub fn len(&self) -> u32
+        ensures { result ≡ length self.now }
+    {
+        self.ports.len()
+    }
+
+    /// Whether there is none.
+    pub fn is_empty(&self) -> bool
+        ensures { result ≡ (length self.now == 0) }
+    {
+        self.ports.is_empty()
+    }
+
+    /// The port at a place, from 0 on.
+    pub fn get(&self, i: u32) -> Option<&Port>
+        ensures { option_copied result ≡ slice_get self.now i }
+    {
+        self.ports.get(i)
+    }
+
+    /// The place of the port with a tag, which is empty for the untagged, and an index. It is looked up in a tree of
+    /// the tags.
+    pub fn find(&self, tag: &[u8], index: u8) -> Option<u32>
+        ensures { result ≡ place_of tag.now index self.now }
+    {
+        self.places.get(tag, index)
+    }
+}

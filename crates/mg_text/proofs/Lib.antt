@@ -1,0 +1,11 @@
+pub mod Clean
+pub mod Complete
+pub mod Depth
+pub mod Faults
+pub mod Finish
+pub mod Pieces
+pub mod Printing
+pub mod Sound
+pub mod Spelled
+pub mod Unicode
+pub mod Views
