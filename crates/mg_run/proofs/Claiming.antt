@@ -1,7 +1,7 @@
 -- What a node has claimed, as its input streams go on.
 use Rattle.std.proofs.Common.{◌≡◌, ℕ, zero, suc, ◌+◌, ◌<◌, ◌≤◌, List, [], ◌∷◌, ◌++◌, length, map, take, drop, replicate, Bool, true, false, Option, None, Some, slice_get, slice_set, unwrap_or, IsSome, IfSome, IsTrue, inl, inr, refl, sym, ap, ap₂, ◌∙◌, subst, arith, append_assoc, take-append-drop, add-one}
 use Rattle.std.proofs.Math.Seq.{take-length}
-use Rattle.std.proofs.lemmas.List.{length-map}
+use Rattle.std.proofs.lemmas.List.{length-map, length-take}
 use Rattle.std.specs.List.{AllZip}
 use Rattle.std.proofs.lemmas.Grind.{flat_map-append}
 use Rattle.std.proofs.lemmas.Bool.{cases_Bool, false≢true}
@@ -123,6 +123,13 @@ still-gone ss more extended =
     ∙ ap (λ (ts : List ℕ). take (length (settled_times ss)) ts) (settled_times_first ss more extended)
     ∙ take-length_append (settled_times ss) (drop (length (settled_times ss)) (settled_times more))
 
+-- no fewer sets are settled as streams go on
+sets-grow : (ss more : List (StreamPrefix Plain)) → AreExtendedBy ss more → length (settled_sets ss) ≤ length (settled_sets more)
+sets-grow ss more extended =
+    let long : length (take (length (settled_sets ss)) (settled_sets more)) ≡ length (settled_sets ss) = ap length (settled_sets_first ss more extended) in
+    let least = length-take (length (settled_sets ss)) (settled_sets more) in
+    omega (arith, long, least)
+
 -- The queues still stand for the streams, of which as many sets are gone as before the step.
 pub stand-stepped : (port : ℕ) (step : StreamPrefix Plain → StreamPrefix Plain) (qs : List (Waiting Plain)) (ss : List (StreamPrefix Plain)) (q after : Waiting Plain)
     → slice_get qs port ≡ Some q → IsStep q after step → StandAfter (length (settled_sets ss)) qs ss
@@ -132,6 +139,7 @@ stand-stepped port step qs ss q after is one stand =
     let ts = settled_times ss in (
       record {
         each = each-stepped port step qs ss q after is one stand.each;
+      gone = sets-grow ss (stepped port step ss) extended;
         left = rests-stepped port step qs q after is one.rest
             ∙ ap (stepped port step) (stand.left ∙ ap (λ (us : List ℕ). map (without us) ss) (all-gone ss))
             ∙ sym (kept-stepped port step ts qs ss q after is one stand.each (λ t i. (settled_from ss t i).0))
@@ -272,6 +280,7 @@ stand-all j qs ss none stand =
     let most : length (settled_sets ss) ≤ j = short j (settled_sets ss) left in
     record {
       each = stand.each;
+      gone = omega arith;
       left = stand.left ∙ ap (λ (ts : List ℕ). map (without ts) ss)
           (take-most j (settled_times ss) (let n = sets-times ss in omega (arith, most, n)) ∙ sym (all-gone ss));
     }
