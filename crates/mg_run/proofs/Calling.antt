@@ -1,14 +1,13 @@
 -- What a call came to.
-use Rattle.std.proofs.Common.{◌≡◌, ◌≢◌, ℕ, ◌-◌, ◌^◌, ◌<◌, ◌≤◌, List, [], ◌∷◌, ◌++◌, take, Bool, true, false, not, Option, None, Some, IfSome, ◌⊎◌, inl, inr, refl, sym, ap, ◌∙◌, subst, arith, append-nil, if◌then◌else◌}
-use Rattle.std.proofs.lemmas.Bool.{false≢true}
-use Rattle.mg_edge.specs.Edge.{Rose, Steady, LoadGives, most_loaded}
+use Rattle.std.proofs.Common.{◌≡◌, ◌≢◌, ℕ, List, [], ◌∷◌, take, Bool, true, false, Option, None, Some, IfSome, ◌⊎◌, inl, inr, refl, sym, ap, ◌∙◌, arith}
+use Rattle.mg_edge.specs.Edge.{Steady, LoadGives, most_loaded}
 use Rattle.mg_edge.specs.declared.store.Loaded.TheVariants.{Bytes}
-use Rattle.mg_edge.specs.Runs.{TookAll}
 use Rattle.mg_edge.proofs.Runs.{TookAll-start}
-use Rattle.mg_run.specs.Answer.{Answer, answer, run_answer, is_pass_through, graph_note}
-use Rattle.mg_run.specs.Devices.{IsFront, TookFront, Rises, HasRisen, Flows}
+use Rattle.mg_run.proofs.Finishing.{front-nothing}
+use Rattle.mg_run.specs.Answer.{answer, run_answer, graph_of, graph_note}
+use Rattle.mg_run.specs.Devices.{TookFront, Rises, HasRisen, Flows}
 use Rattle.mg_run.specs.Pouring.{Told}
-use Rattle.mg_run.specs.Outcome.{told, TookText, Untouched, Noted, Answers, RanAll, Ran}
+use Rattle.mg_run.specs.Outcome.{told, TookText, Untouched, Noted, Answers, Ran}
 use Rattle.mg_run.specs.Call.{IfThere, Loads, CallShort, Called, Unrisen, IsOneOf}
 use Rattle.mg_run.specs.declared.status.Status.{Status}
 use Rattle.mg_run.specs.declared.status.Status.TheVariants.{Good, StoreFault, Usage, GraphRefused, LineRefused, NodeFault, Stalled, ReadFault, WriteFault, OutOfMemory}
@@ -20,45 +19,41 @@ noted-from false before now text a b flows = inl (record { whole = flows.all.0; 
 pub untouched : (t : Option (List ℕ)) (a : ℕ) → Untouched (told t t a a)
 untouched t a = record { told = refl; faults = refl }
 
-pub loads-from : (content : Option (Option (List ℕ))) (v : _) (b : Bool) → LoadGives content (Bytes v) → is_pass_through v.items ≡ b → Loads content b
-loads-from None v b gives is = tt
-loads-from (Some None) v b gives is = elim gives [ ]
-loads-from (Some (Some bytes)) v b gives is = ap is_pass_through (sym gives) ∙ is
-
-short-told : (input : Option (List ℕ)) (taken : Option (List ℕ)) (given : List ℕ → List ℕ) → IfSome input (λ read. TookFront taken taken (given read))
-short-told None taken given = tt
-short-told (Some read) taken given = ([], (given read, refl), TookAll-start taken)
+pub loads-from : (content : Option (Option (List ℕ))) (v : _) (graph : Option (List (List ℕ))) → LoadGives content (Bytes v) → graph_of v.items ≡ graph → Loads content graph
+loads-from None v graph gives is = (v.items, is)
+loads-from (Some None) v graph gives is = elim gives [ ]
+loads-from (Some (Some bytes)) v graph gives is = ap graph_of (sym gives) ∙ is
 
 -- Nothing was written.
 pub short-nothing : (content : Option (Option (List ℕ))) (input : Told) (taken : Option (List ℕ)) (a b : ℕ) → CallShort content input (told taken taken a b)
 short-nothing None input taken a b = tt
 short-nothing (Some None) input taken a b = tt
-short-nothing (Some (Some bytes)) input taken a b = short-told input.before taken (λ read. (answer bytes read).output)
+short-nothing (Some (Some bytes)) input taken a b = front-nothing input.before taken (λ read. (answer bytes read).output)
 
-short-run : (input first now : Option (List ℕ)) (bytes : List ℕ) → is_pass_through (take most_loaded bytes) ≡ true
-    → IfSome input (λ read. TookFront first now (run_answer read).output) → IfSome input (λ read. TookFront first now (answer bytes read).output)
-short-run None first now bytes is took = tt
-short-run (Some read) first now bytes is took = rw is took
+short-run : (names : List (List ℕ)) (input first now : Option (List ℕ)) (bytes : List ℕ) → graph_of (take most_loaded bytes) ≡ Some names
+    → IfSome input (λ read. TookFront first now (run_answer names read).output) → IfSome input (λ read. TookFront first now (answer bytes read).output)
+short-run names None first now bytes is took = tt
+short-run names (Some read) first now bytes is took = rw is took
 
-short-ran : (content : Option (Option (List ℕ))) (input output : Told) → Loads content true
-    → IfSome input.before (λ read. TookFront output.before output.now (run_answer read).output) → CallShort content input output
-short-ran None input output loads took = tt
-short-ran (Some None) input output loads took = tt
-short-ran (Some (Some bytes)) input output loads took = short-run input.before output.before output.now bytes loads took
+short-ran : (names : List (List ℕ)) (content : Option (Option (List ℕ))) (input output : Told) → Loads content (Some names)
+    → IfSome input.before (λ read. TookFront output.before output.now (run_answer names read).output) → CallShort content input output
+short-ran names None input output loads took = tt
+short-ran names (Some None) input output loads took = tt
+short-ran names (Some (Some bytes)) input output loads took = short-run names input.before output.before output.now bytes loads took
 
 -- the graph was run
-pub called-ran : (status : Status) (file : List ℕ) (content : Option (Option (List ℕ))) (failed : Option (List ℕ)) (a b : ℕ) (input output notes : Told)
-    → Loads content true → Steady a b → Ran status input output notes → Called status file content failed a b input output notes
-called-ran Good file content failed a b input output notes loads steady ran = record { loads = loads; steady = steady; ran = ran }
-called-ran StoreFault file content failed a b input output notes loads steady ran = elim ran [ ]
-called-ran Usage file content failed a b input output notes loads steady ran = elim ran [ ]
-called-ran GraphRefused file content failed a b input output notes loads steady ran = elim ran [ ]
-called-ran LineRefused file content failed a b input output notes loads steady ran = record { loads = loads; steady = steady; ran = ran }
-called-ran NodeFault file content failed a b input output notes loads steady ran = elim ran [ ]
-called-ran Stalled file content failed a b input output notes loads steady ran = elim ran [ ]
-called-ran ReadFault file content failed a b input output notes loads steady ran = record { loads = loads; steady = steady; ran = ran }
-called-ran WriteFault file content failed a b input output notes loads steady ran = record { loads = loads; steady = steady; ran = ran }
-called-ran OutOfMemory file content failed a b input output notes loads steady ran = short-ran content input output loads ran
+pub called-ran : (names : List (List ℕ)) (status : Status) (file : List ℕ) (content : Option (Option (List ℕ))) (failed : Option (List ℕ)) (a b : ℕ) (input output notes : Told)
+    → Loads content (Some names) → Steady a b → Ran names status input output notes → Called status file content failed a b input output notes
+called-ran names Good file content failed a b input output notes loads steady ran = record { names = names; loads = loads; steady = steady; ran = ran }
+called-ran names StoreFault file content failed a b input output notes loads steady ran = elim ran [ ]
+called-ran names Usage file content failed a b input output notes loads steady ran = elim ran [ ]
+called-ran names GraphRefused file content failed a b input output notes loads steady ran = elim ran [ ]
+called-ran names LineRefused file content failed a b input output notes loads steady ran = record { names = names; loads = loads; steady = steady; ran = ran }
+called-ran names NodeFault file content failed a b input output notes loads steady ran = elim ran [ ]
+called-ran names Stalled file content failed a b input output notes loads steady ran = elim ran [ ]
+called-ran names ReadFault file content failed a b input output notes loads steady ran = record { names = names; loads = loads; steady = steady; ran = ran }
+called-ran names WriteFault file content failed a b input output notes loads steady ran = record { names = names; loads = loads; steady = steady; ran = ran }
+called-ran names OutOfMemory file content failed a b input output notes loads steady ran = short-ran names content input output loads ran
 
 -- What follows --
 
@@ -71,7 +66,7 @@ risen-steady a b risen steady = let e = steady.1 risen.1 in absurd (omega (arith
 risen-untouched : (t : Told) → HasRisen t.faults_before t.faults_now → Untouched t → ⊥
 risen-untouched t risen untouched = absurd (omega (arith, untouched.faults, risen.0))
 
-refused-told : (input : Told) (output notes : Told) (bytes : List ℕ) → is_pass_through (take most_loaded bytes) ≡ false
+refused-told : (input : Told) (output notes : Told) (bytes : List ℕ) → graph_of (take most_loaded bytes) ≡ None
     → Untouched output → Noted notes graph_note → Unrisen output.faults_before output.faults_now → Unrisen notes.faults_before notes.faults_now
     → (read : List ℕ) → Answers (answer bytes read) GraphRefused output notes
 refused-told input output notes bytes is unwritten noted out_same notes_same read =
@@ -85,10 +80,10 @@ refused-told input output notes bytes is unwritten noted out_same notes_same rea
     took (inl whole) = whole
     took (inr rises) = absurd (unrisen-rises notes.faults_before notes.faults_now notes_same rises)
 
-ran-answer : (bytes : List ℕ) (status : Status) (input : Option (List ℕ)) (output notes : Told) → is_pass_through (take most_loaded bytes) ≡ true
-    → IfSome input (λ read. Answers (run_answer read) status output notes) → IfSome input (λ read. Answers (answer bytes read) status output notes)
-ran-answer bytes status None output notes is answers = tt
-ran-answer bytes status (Some read) output notes is answers = rw is answers
+ran-answer : (names : List (List ℕ)) (bytes : List ℕ) (status : Status) (input : Option (List ℕ)) (output notes : Told) → graph_of (take most_loaded bytes) ≡ Some names
+    → IfSome input (λ read. Answers (run_answer names read) status output notes) → IfSome input (λ read. Answers (answer bytes read) status output notes)
+ran-answer names bytes status None output notes is answers = tt
+ran-answer names bytes status (Some read) output notes is answers = rw is answers
 
 if-told : (input : Option (List ℕ)) (P : List ℕ → Type 0) → ((read : List ℕ) → P read) → IfSome input P
 if-told None P all = tt
@@ -99,12 +94,12 @@ answered-by : (status : Status) (file bytes : List ℕ) (failed : Option (List �
     → Called status file (Some (Some bytes)) failed a b input output notes
     → Unrisen a b → Unrisen input.faults_before input.faults_now → Unrisen output.faults_before output.faults_now → Unrisen notes.faults_before notes.faults_now
     → status ≢ OutOfMemory → IfSome input.before (λ read. Answers (answer bytes read) status output notes)
-answered-by Good file bytes failed a b input output notes called store read written noted some = ran-answer bytes Good input.before output notes called.loads called.ran.answered
+answered-by Good file bytes failed a b input output notes called store read written noted some = ran-answer called.names bytes Good input.before output notes called.loads called.ran.answered
 answered-by StoreFault file bytes failed a b input output notes called store read written noted some = absurd (unrisen-rises a b store called.rises)
 answered-by Usage file bytes failed a b input output notes called store read written noted some = elim called [ ]
 answered-by GraphRefused file bytes failed a b input output notes called store read written noted some =
     if-told input.before (λ r. Answers (answer bytes r) GraphRefused output notes) (refused-told input output notes bytes called.loads called.unwritten called.noted written noted)
-answered-by LineRefused file bytes failed a b input output notes called store read written noted some = ran-answer bytes LineRefused input.before output notes called.loads called.ran.answered
+answered-by LineRefused file bytes failed a b input output notes called store read written noted some = ran-answer called.names bytes LineRefused input.before output notes called.loads called.ran.answered
 answered-by NodeFault file bytes failed a b input output notes called store read written noted some = elim called [ ]
 answered-by Stalled file bytes failed a b input output notes called store read written noted some = elim called [ ]
 answered-by ReadFault file bytes failed a b input output notes called store read written noted some =

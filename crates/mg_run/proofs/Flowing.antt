@@ -1,11 +1,10 @@
 -- What flows to a sink in pieces.
-use Rattle.std.proofs.Common.{◌≡◌, ℕ, ◌+◌, ◌-◌, ◌^◌, ◌<◌, ◌≤◌, List, [], ◌++◌, length, take, drop, Bool, true, false, not, MatchBool, Option, None, Some, refl, sym, ap, ◌∙◌, subst, arith, append_assoc, append-nil, take-append-drop}
-use Rattle.std.proofs.lemmas.Bool.{false≢true}
-use Rattle.mg_edge.specs.Edge.{Rose, Steady, WriteAppends, WriteFaultCounts}
+use Rattle.std.proofs.Common.{◌≡◌, ℕ, List, [], ◌++◌, take, drop, Bool, true, false, MatchBool, Option, None, Some, refl, sym, ap, ◌∙◌, subst, arith, append_assoc, append-nil, take-append-drop}
+use Rattle.mg_edge.specs.Edge.{Steady, WriteAppends}
 use Rattle.mg_edge.specs.declared.sink.Put.TheVariants.{Took, Failed as PutFailed}
 use Rattle.mg_edge.specs.Runs.{TookAll}
 use Rattle.mg_edge.proofs.Runs.{TookAll-start, TookAll-write}
-use Rattle.mg_run.specs.Devices.{IsFront, TookFront, Rises, Flows}
+use Rattle.mg_run.specs.Devices.{Rises, Flows}
 
 pub steady-refl : (a : ℕ) → Steady a a
 steady-refl a = (omega arith, λ below. refl)

@@ -1,7 +1,11 @@
 pub mod Json
+pub mod Names
+pub mod Saying
 pub mod Text
-pub mod Taking
 pub mod Parts
+pub mod Claiming
+pub mod Taking
+pub mod Growing
 pub mod Standing
 pub mod Flowing
 pub mod Pouring

@@ -1,5 +1,5 @@
 -- How an input falls into lines where it is cut in two.
-use Rattle.std.proofs.Common.{◌≡◌, ℕ, zero, suc, ◌+◌, ◌<◌, ◌≤◌, List, [], ◌∷◌, ◌++◌, length, Bool, true, false, ◌==◌, if◌then◌else◌, get_or, take, drop, refl, sym, ap, ◌∙◌, arith, append_assoc, length-append, append-nil, add-one, Option, None, Some, MatchOption}
+use Rattle.std.proofs.Common.{◌≡◌, ℕ, zero, suc, ◌<◌, ◌≤◌, List, [], ◌∷◌, ◌++◌, length, Bool, true, false, ◌==◌, if◌then◌else◌, get_or, take, drop, refl, sym, ap, ◌∙◌, arith, length-append, append-nil, add-one, Option, None, Some, MatchOption}
 use Rattle.std.proofs.lemmas.Bool.{eqb-true}
 use Rattle.memchr.specs.Find.{is_byte, IsFirstByte}
 use Rattle.mg_run.specs.Lines.{NoFeed, EndsLine, with_first, parts, but_last, but_empty_last, whole_lines, all_lines}

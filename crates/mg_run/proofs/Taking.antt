@@ -1,50 +1,48 @@
 -- A good line goes behind the good lines before it.
-use Rattle.std.proofs.Common.{◌≡◌, ℕ, ◌+◌, ◌<◌, ◌≤◌, List, [], ◌∷◌, ◌++◌, length, Option, None, Some, MatchOption, refl, sym, ap, ◌∙◌, subst, arith, append_assoc, append-nil, length-append}
-use Rattle.std.proofs.lemmas.Grind.{fold-append, flat_map-append}
+use Rattle.std.proofs.Common.{◌≡◌, ℕ, ◌+◌, ◌<◌, List, [], ◌∷◌, ◌++◌, length, replicate, fold, None, MatchOption, refl, sym, ap, ◌∙◌, subst, arith, append_assoc, append-nil, length-append}
+use Rattle.std.proofs.lemmas.Grind.{fold-append}
 use Rattle.std.proofs.lemmas.Bool.{lt-leb}
 use Rattle.mg_value.specs.Payload.{Plain}
 use Rattle.mg_value.specs.Prefix.{StreamPrefix, empty_prefix}
 use Rattle.mg_run.specs.Reading.{reading}
-use Rattle.mg_run.specs.Accepted.{with_said, stream_of, said_refusal, refusal, most_lines}
-use Rattle.mg_run.specs.Output.{text_of}
-use Rattle.mg_run.specs.Answer.{output_of}
+use Rattle.mg_run.specs.Accepted.{with_said, streams_of, said_refusal, refusal, most_lines}
+use Rattle.mg_run.specs.Claimed.{Claimed}
 use Rattle.mg_run.specs.Feed.{AllGood, Took}
 use Rattle.mg_run.specs.declared.line_fault.LineFault.{LineFault}
 use Rattle.mg_run.specs.declared.reading.Said.{Said}
 use Rattle.mg_run.specs.declared.feed.Feed.{Feed}
 
-pub stream_of-push : (lines : List (List ℕ)) (line : List ℕ) → stream_of (lines ++ line ∷ []) ≡ with_said (stream_of lines) (reading line)
-stream_of-push lines line = fold-append (λ s l. with_said s (reading l)) empty_prefix lines (line ∷ [])
+pub streams_of-append : (names xs ys : List (List ℕ)) → streams_of names (xs ++ ys) ≡ fold (λ ss l. with_said ss (reading names l)) (streams_of names xs) ys
+streams_of-append names xs ys = fold-append (λ ss l. with_said ss (reading names l)) (replicate (length names) empty_prefix) xs ys
 
 -- a good line after good lines
-pub AllGood-push : (before lines : List (List ℕ)) (line : List ℕ)
-    → AllGood before lines → refusal (before ++ lines) line ≡ None → AllGood before (lines ++ line ∷ [])
-AllGood-push before [] line good none = (rw append-nil at none, tt)
-AllGood-push before (l ∷ ls) line good none = (good.0, AllGood-push (before ++ l ∷ []) ls line good.1 (rw append_assoc none))
+pub AllGood-push : (names before lines : List (List ℕ)) (line : List ℕ)
+    → AllGood names before lines → refusal names (before ++ lines) line ≡ None → AllGood names before (lines ++ line ∷ [])
+AllGood-push names before [] line good none = (rw append-nil at none, tt)
+AllGood-push names before (l ∷ ls) line good none = (good.0, AllGood-push names (before ++ l ∷ []) ls line good.1 (rw append_assoc none))
 
 -- while there is room for lines, only what the line says counts
-pub refusal-few : (lines : List (List ℕ)) (line : List ℕ) (said : Said)
-    → length lines < most_lines → said ≡ reading line → refusal lines line ≡ said_refusal (stream_of lines) said
-refusal-few lines line said few is = rw (lt-leb most_lines (length lines) few, is) refl
+pub refusal-few : (names lines : List (List ℕ)) (line : List ℕ) (said : Said)
+    → length lines < most_lines → said ≡ reading names line → refusal names lines line ≡ said_refusal (streams_of names lines) said
+refusal-few names lines line said few is = rw (lt-leb most_lines (length lines) few, is) refl
 
 length-push : (lines : List (List ℕ)) (line : List ℕ) → length (lines ++ line ∷ []) ≡ length lines + 1
 length-push lines line = length-append lines (line ∷ [])
 
-pub took_more : (lines : List (List ℕ)) (line sent : List ℕ) (said : Said) (feed next : Feed) (F : LineFault → Type 0)
-    → Took lines sent feed → feed.lines < most_lines → said ≡ reading line
-    → said_refusal (stream_of lines) said ≡ None
-    → next.refused ≡ None → next.lines ≡ feed.lines + 1 → next.bound ≡ (with_said (stream_of lines) said).bound
-    → sent ++ next.text.items ≡ text_of (with_said (stream_of lines) said).packets
-    → MatchOption (refusal lines line) (Took (lines ++ line ∷ []) sent next) F
-took_more lines line sent said feed next F took few is good none number bound text =
+pub took_more : (names lines : List (List ℕ)) (line sent : List ℕ) (said : Said) (feed next : Feed) (F : LineFault → Type 0)
+    → Took names lines sent feed → feed.lines < most_lines → said ≡ reading names line
+    → said_refusal (streams_of names lines) said ≡ None
+    → next.names ≡ names → next.refused ≡ None → next.lines ≡ feed.lines + 1
+    → Claimed (with_said (streams_of names lines) said) sent next.merge.inbox next.text.items
+    → MatchOption (refusal names lines line) (Took names (lines ++ line ∷ []) sent next) F
+took_more names lines line sent said feed next F took few is good named none number claimed =
     let few' : length lines < most_lines = omega (arith, took.number) in
-    let no : refusal lines line ≡ None = refusal-few lines line said few' is ∙ good in
-    let push : stream_of (lines ++ line ∷ []) ≡ with_said (stream_of lines) said =
-    stream_of-push lines line ∙ ap (with_said (stream_of lines)) (sym is) in
-    rw no (record {
+    let all : refusal names lines line ≡ None = refusal-few names lines line said few' is ∙ good in
+    rw all (record {
+      named = named;
       refused = none;
       number = number ∙ ap (λ n. n + 1) took.number ∙ sym (length-push lines line);
-      good = AllGood-push [] lines line took.good no;
-      bound = bound ∙ ap (λ (s : StreamPrefix Plain). s.bound) (sym push);
-      text = text ∙ ap (λ (s : StreamPrefix Plain). text_of s.packets) (sym push);
+      good = AllGood-push names [] lines line took.good all;
+      claimed = subst (λ (ss : List (StreamPrefix Plain)). Claimed ss sent next.merge.inbox next.text.items)
+          (ap (with_said (streams_of names lines)) is ∙ sym (streams_of-append names lines (line ∷ []))) claimed;
     })

@@ -4,10 +4,10 @@ use Rattle.std.specs.Prelude.{ℕ, ◌||◌, Bool, List, [], ◌∷◌, ◌++◌
 use Rattle.std.specs.Str.{bytes_eq}
 use Rattle.mg_edge.specs.Edge.{most_loaded}
 use Rattle.mg_run.specs.Lines.{whole_lines, all_lines}
-use Rattle.mg_run.specs.Accepted.{Refused, accepted, first_refused, stream_of}
-use Rattle.mg_run.specs.Output.{text_of}
+use Rattle.mg_run.specs.Accepted.{Refused, accepted, first_refused, streams_of, ended_streams}
+use Rattle.mg_run.specs.Output.{output_of}
 use Rattle.mg_run.specs.declared.line_fault.LineFault.{LineFault}
-use Rattle.mg_run.specs.declared.line_fault.LineFault.TheVariants.{NotYet, NotAscending}
+use Rattle.mg_run.specs.declared.line_fault.LineFault.TheVariants.{NotYet, Closed, NotAscending}
 use Rattle.mg_run.specs.declared.status.Status.{Status}
 use Rattle.mg_run.specs.declared.status.Status.TheVariants.{Good, GraphRefused, LineRefused, ReadFault}
 
@@ -18,14 +18,25 @@ command (word ∷ []) = None
 command (word ∷ file ∷ []) = if bytes_eq word (codes "run") then Some file else None
 command (word ∷ file ∷ next ∷ words) = None
 
--- the one graph that runs so far: a PassThroughCalculator between the streams `in` and `out`
+-- the two graphs that run so far: a PassThroughCalculator between the streams `in` and `out`, and a MergeCalculator
+-- from the streams `a` and `b` to `out`. The first merges one input.
 abbrev pub pass_through_text : List ℕ
 pass_through_text =
     codes "input_stream: \"in\" output_stream: \"out\"\nnode { calculator: \"PassThroughCalculator\" input_stream: \"in\" output_stream: \"out\" }"
 
--- its text, with a line feed at its end or without
-abbrev pub is_pass_through : List ℕ → Bool
-is_pass_through content = bytes_eq content pass_through_text || bytes_eq content (pass_through_text ++ 10 ∷ [])
+abbrev pub merge_text : List ℕ
+merge_text =
+    codes "input_stream: \"a\" input_stream: \"b\" output_stream: \"out\"\nnode { calculator: \"MergeCalculator\" input_stream: \"a\" input_stream: \"b\" output_stream: \"out\" }"
+
+-- whether a content is a text, with a line feed at its end or without
+abbrev pub is_file : List ℕ → List ℕ → Bool
+is_file text content = bytes_eq content text || bytes_eq content (text ++ 10 ∷ [])
+
+-- the names of the inputs of the graph that a content is, where it is one that runs so far
+abbrev pub graph_of : List ℕ → Option (List (List ℕ))
+graph_of content =
+    if is_file pass_through_text content then Some (codes "in" ∷ [])
+    else (if is_file merge_text content then Some (codes "a" ∷ codes "b" ∷ []) else None)
 
 pub record Answer : Type 0 where
   pub output : List ℕ
@@ -45,6 +56,7 @@ graph_note = codes "refused: NotYet\n"
 
 abbrev pub fault_name : LineFault → List ℕ
 fault_name NotYet = codes "NotYet"
+fault_name Closed = codes "Closed"
 fault_name NotAscending = codes "NotAscending"
 
 abbrev pub line_note : Option Refused → List ℕ
@@ -60,22 +72,26 @@ abbrev pub line_status : Option Refused → Status
 line_status None = Good
 line_status (Some refused) = LineRefused
 
--- the text that the packets of these lines make
-abbrev pub output_of : List (List ℕ) → List ℕ
-output_of lines = text_of (stream_of lines).packets
+-- a run of a graph with these inputs over an input that ended after these bytes
+abbrev pub run_answer : List (List ℕ) → List ℕ → Answer
+run_answer names input = record {
+  output = output_of (ended_streams names (all_lines input));
+  notes = line_note (first_refused names (all_lines input));
+  status = line_status (first_refused names (all_lines input));
+}
 
--- a run over an input that ended after these bytes
-abbrev pub run_answer : List ℕ → Answer
-run_answer input =
-    record { output = output_of (accepted (all_lines input)); notes = line_note (first_refused (all_lines input)); status = line_status (first_refused (all_lines input)) }
-
--- a run over an input that failed after these bytes: only the whole lines before count
-abbrev pub failed_answer : List ℕ → Answer
-failed_answer came =
-    record { output = output_of (accepted (whole_lines came)); notes = read_note (length (whole_lines came)); status = ReadFault }
+-- a run over an input that failed after these bytes: only the whole lines before count, and no stream closes
+abbrev pub failed_answer : List (List ℕ) → List ℕ → Answer
+failed_answer names came = record {
+  output = output_of (streams_of names (accepted names (whole_lines came)));
+  notes = read_note (length (whole_lines came));
+  status = ReadFault;
+}
 
 -- what the program answers to a file's content and an input that ends after these bytes
+abbrev pub graph_answer : Option (List (List ℕ)) → List ℕ → Answer
+graph_answer None input = record { output = []; notes = graph_note; status = GraphRefused }
+graph_answer (Some names) input = run_answer names input
+
 abbrev pub answer : List ℕ → List ℕ → Answer
-answer content input =
-    if is_pass_through (take most_loaded content) then run_answer input
-    else record { output = []; notes = graph_note; status = GraphRefused }
+answer content input = graph_answer (graph_of (take most_loaded content)) input

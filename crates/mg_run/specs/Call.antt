@@ -1,8 +1,8 @@
 -- What a call with good words came to, by its status. `file` is the name that the words have, and `content` what the
 -- store tells of it: nothing, or that there is no such name, or its bytes.
-use Rattle.std.specs.Prelude.{◌≡◌, ℕ, ◌^◌, ◌-◌, ◌<◌, ◌⊎◌, List, [], ◌∷◌, Bool, true, false, Option, None, Some, IfSome, take}
+use Rattle.std.specs.Prelude.{◌≡◌, ℕ, ◌^◌, ◌-◌, ◌<◌, ◌⊎◌, List, [], ◌∷◌, Option, None, Some, IfSome, take}
 use Rattle.mg_edge.specs.Edge.{Steady, most_loaded}
-use Rattle.mg_run.specs.Answer.{answer, is_pass_through, store_note, graph_note}
+use Rattle.mg_run.specs.Answer.{answer, graph_of, store_note, graph_note}
 use Rattle.mg_run.specs.Devices.{TookFront, Rises}
 use Rattle.mg_run.specs.Pouring.{Told}
 use Rattle.mg_run.specs.Outcome.{Untouched, Noted, Ran}
@@ -15,11 +15,11 @@ IfThere None P = Unit {0}
 IfThere (Some None) P = Unit {0}
 IfThere (Some (Some bytes)) P = P bytes
 
--- Bytes were loaded, and whether they are the graph that runs so far is this. A name that isn't there has none.
-abbrev pub Loads : Option (Option (List ℕ)) → Bool → Type 0
-Loads None is_graph = Unit {0}
-Loads (Some None) is_graph = ⊥
-Loads (Some (Some bytes)) is_graph = is_pass_through (take most_loaded bytes) ≡ is_graph
+-- Bytes were loaded, and this is the graph that they are, or none that runs so far. A name that isn't there has none.
+abbrev pub Loads : Option (Option (List ℕ)) → Option (List (List ℕ)) → Type 0
+Loads None graph = (bytes : List ℕ) × (graph_of bytes ≡ graph)
+Loads (Some None) graph = ⊥
+Loads (Some (Some bytes)) graph = graph_of (take most_loaded bytes) ≡ graph
 
 -- The file couldn't be loaded.
 pub record CallStoreFault (file : List ℕ) (failed_name : Option (List ℕ)) (faults_before faults_now : ℕ) (input output notes : Told) : Type 0 where
@@ -31,17 +31,18 @@ pub record CallStoreFault (file : List ℕ) (failed_name : Option (List ℕ)) (f
 
 -- The file isn't a graph that runs so far.
 pub record CallRefused (content : Option (Option (List ℕ))) (faults_before faults_now : ℕ) (input output notes : Told) : Type 0 where
-  pub loads : Loads content false
+  pub loads : Loads content None
   pub steady : Steady faults_before faults_now
   pub noted : Noted notes graph_note
   pub unread : Untouched input
   pub unwritten : Untouched output
 
--- The graph was run.
+-- The graph was run: these are the names of its inputs.
 pub record CallRan (status : Status) (content : Option (Option (List ℕ))) (faults_before faults_now : ℕ) (input output notes : Told) : Type 0 where
-  pub loads : Loads content true
+  pub names : List (List ℕ)
+  pub loads : Loads content (Some names)
   pub steady : Steady faults_before faults_now
-  pub ran : Ran status input output notes
+  pub ran : Ran names status input output notes
 
 -- Memory ran out: the output took a front of what a call with enough of it gives.
 abbrev pub CallShort : Option (Option (List ℕ)) → Told → Told → Type 0

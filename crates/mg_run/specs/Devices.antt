@@ -1,5 +1,5 @@
 -- What a call did to the devices that it was handed: what a sink took, and whether a count of faults rose.
-use Rattle.std.specs.Prelude.{◌≡◌, ℕ, ◌^◌, ◌-◌, ◌<◌, ◌≤◌, ◌⊎◌, List, ◌++◌, Bool, Option, None, Some, MatchBool}
+use Rattle.std.specs.Prelude.{◌≡◌, ℕ, ◌^◌, ◌-◌, ◌<◌, ◌≤◌, ◌⊎◌, List, ◌++◌, Bool, Option, MatchBool}
 use Rattle.mg_edge.specs.Edge.{Rose, Steady}
 use Rattle.mg_edge.specs.Runs.{TookAll}
 

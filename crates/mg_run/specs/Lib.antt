@@ -1,8 +1,10 @@
 pub mod Lines
 pub mod Reading
+pub mod Said
 pub mod Accepted
 pub mod Output
 pub mod Answer
+pub mod Claimed
 pub mod Feed
 pub mod Devices
 pub mod Pouring

@@ -1,10 +1,10 @@
 -- What a call came to, by its status.
-use Rattle.std.specs.Prelude.{◌≡◌, ◌≢◌, ℕ, ◌⊎◌, List, [], Bool, true, false, Option, None, Some, IfSome, MatchOption, length, take}
-use Rattle.mg_edge.specs.Edge.{Steady, most_loaded}
+use Rattle.std.specs.Prelude.{◌≡◌, ℕ, ◌⊎◌, List, Option, IfSome}
+use Rattle.mg_edge.specs.Edge.{Steady}
 use Rattle.mg_edge.specs.Runs.{Gave, TookAll}
 use Rattle.mg_run.specs.Lines.{whole_lines}
 use Rattle.mg_run.specs.Accepted.{accepted}
-use Rattle.mg_run.specs.Answer.{Answer, answer, run_answer, failed_answer, command, is_pass_through, usage_note, store_note, graph_note}
+use Rattle.mg_run.specs.Answer.{Answer, run_answer, failed_answer}
 use Rattle.mg_run.specs.Devices.{TookFront, Rises}
 use Rattle.mg_run.specs.Pouring.{Told}
 use Rattle.mg_run.specs.declared.status.Status.{Status}
@@ -34,39 +34,39 @@ pub record Answers (given : Answer) (status : Status) (output notes : Told) : Ty
   pub noted : TookText notes given.notes
   pub ended : status ≡ given.status
 
--- The input was read to its end, or to its first line that isn't good.
-pub record RanAll (status : Status) (input output notes : Told) : Type 0 where
-  pub answered : IfSome input.before (λ bytes. Answers (run_answer bytes) status output notes)
+-- `names` are the names of the graph's inputs. The input was read to its end, or to its first line that isn't good.
+pub record RanAll (names : List (List ℕ)) (status : Status) (input output notes : Told) : Type 0 where
+  pub answered : IfSome input.before (λ bytes. Answers (run_answer names bytes) status output notes)
   pub read : Steady input.faults_before input.faults_now
   pub written : Steady output.faults_before output.faults_now
   pub noted : Steady notes.faults_before notes.faults_now
 
 -- A read failed. The whole lines of what came before were all good, and they count.
-pub record RanPart (status : Status) (input output notes : Told) : Type 0 where
+pub record RanPart (names : List (List ℕ)) (status : Status) (input output notes : Told) : Type 0 where
   pub came : List ℕ
   pub gave : Gave input.before input.now came
-  pub good : accepted (whole_lines came) ≡ whole_lines came
-  pub answered : Answers (failed_answer came) status output notes
+  pub good : accepted names (whole_lines came) ≡ whole_lines came
+  pub answered : Answers (failed_answer names came) status output notes
   pub rises : Rises input.faults_before input.faults_now
 
 -- A write failed. The output took a front of the text of the whole input, and where no write to it failed, all the text
 -- of what was read.
-pub record RanShort (input output notes : Told) : Type 0 where
+pub record RanShort (names : List (List ℕ)) (input output notes : Told) : Type 0 where
   pub rises : Rises output.faults_before output.faults_now ⊎ Rises notes.faults_before notes.faults_now
-  pub front : IfSome input.before (λ bytes. TookFront output.before output.now (run_answer bytes).output)
+  pub front : IfSome input.before (λ bytes. TookFront output.before output.now (run_answer names bytes).output)
   pub whole : Rises output.faults_before output.faults_now
-      ⊎ (IfSome input.before (λ bytes. TookAll output.before output.now (run_answer bytes).output)
-      ⊎ ((came : List ℕ) × Gave input.before input.now came × Rises input.faults_before input.faults_now × TookAll output.before output.now (failed_answer came).output))
+      ⊎ (IfSome input.before (λ bytes. TookAll output.before output.now (run_answer names bytes).output)
+      ⊎ ((came : List ℕ) × Gave input.before input.now came × Rises input.faults_before input.faults_now × TookAll output.before output.now (failed_answer names came).output))
 
 -- A run of the graph ended with this status.
-abbrev pub Ran : Status → Told → Told → Told → Type 0
-Ran Good input output notes = RanAll Good input output notes
-Ran StoreFault input output notes = ⊥
-Ran Usage input output notes = ⊥
-Ran GraphRefused input output notes = ⊥
-Ran LineRefused input output notes = RanAll LineRefused input output notes
-Ran NodeFault input output notes = ⊥
-Ran Stalled input output notes = ⊥
-Ran ReadFault input output notes = RanPart ReadFault input output notes
-Ran WriteFault input output notes = RanShort input output notes
-Ran OutOfMemory input output notes = IfSome input.before (λ bytes. TookFront output.before output.now (run_answer bytes).output)
+abbrev pub Ran : List (List ℕ) → Status → Told → Told → Told → Type 0
+Ran names Good input output notes = RanAll names Good input output notes
+Ran names StoreFault input output notes = ⊥
+Ran names Usage input output notes = ⊥
+Ran names GraphRefused input output notes = ⊥
+Ran names LineRefused input output notes = RanAll names LineRefused input output notes
+Ran names NodeFault input output notes = ⊥
+Ran names Stalled input output notes = ⊥
+Ran names ReadFault input output notes = RanPart names ReadFault input output notes
+Ran names WriteFault input output notes = RanShort names input output notes
+Ran names OutOfMemory input output notes = IfSome input.before (λ bytes. TookFront output.before output.now (run_answer names bytes).output)

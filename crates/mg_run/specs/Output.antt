@@ -1,12 +1,13 @@
--- The output text: one line for each packet, the compact JSON that `serde_json` writes.
-use Rattle.std.specs.Prelude.{ℕ, List, [], ◌∷◌, ◌++◌, codes}
+-- The output text: one line for each settled set, the compact JSON that `serde_json` writes.
+use Rattle.std.specs.Prelude.{ℕ, List, [], ◌∷◌, ◌++◌, Option, None, Some, codes}
 use Rattle.std.specs.List.{flat_map}
 use Rattle.serde_json.specs.Data.{Data, number, string, object, no_members, member}
 use Rattle.serde_json.specs.Find.{of_integer}
 use Rattle.serde_json.specs.Written.{compact_text}
 use Rattle.mg_time.specs.Time.{raw_of}
 use Rattle.mg_value.specs.Payload.{Plain, int}
-use Rattle.mg_value.specs.Prefix.{Stamped}
+use Rattle.mg_value.specs.Prefix.{Stamped, StreamPrefix}
+use Rattle.mg_value.specs.Settled.{TimedSet, settled_sets}
 
 -- a payload as JSON
 abbrev pub data_of : Plain → Data
@@ -21,6 +22,16 @@ packet_data stream p =
 unfoldable pub line_text : Stamped Plain → List ℕ
 line_text p = compact_text (packet_data (codes "out") p) ++ 10 ∷ []
 
--- the lines of a stream's packets
-abbrev pub text_of : List (Stamped Plain) → List ℕ
-text_of packets = flat_map line_text packets
+-- the line of the first packet that a set has
+abbrev pub set_text : List (Option (Stamped Plain)) → List ℕ
+set_text [] = []
+set_text (None ∷ set) = set_text set
+set_text (Some p ∷ set) = line_text p
+
+-- the lines of some sets
+abbrev pub text_of : List (TimedSet Plain) → List ℕ
+text_of sets = flat_map (λ timed. set_text timed.set) sets
+
+-- the output text that some input streams make: at each settled time the packet of the first input that has one
+abbrev pub output_of : List (StreamPrefix Plain) → List ℕ
+output_of ss = text_of (settled_sets ss)

@@ -7,8 +7,8 @@ ghost use Rattle.mg_run.specs.Call.{Called, IfThere, Unrisen, IsOneOf};
 use crate::Status;
 use crate::note::store_note;
 use crate::put::put_all;
-use crate::run::run_pass_through;
-use crate::words::{USAGE, command, is_pass_through};
+use crate::run::run_graph;
+use crate::words::{USAGE, command, graph_of};
 use mg_edge::{Loaded, Sink, Source, Store};
 use mg_value::MgText;
 use std::alloc::Global;
@@ -82,13 +82,14 @@ fn run_file<S: Source, K: Sink, E: Sink, T: Store>(
         (told (E.taken notes.old) (E.taken notes.new) (E.faults notes.old) (E.faults notes.new)) }
 {
     match store.load(alloc, file) {
-        Loaded::Bytes(content) => {
-            if is_pass_through(&content) {
-                return run_pass_through(alloc, input, output, notes);
+        Loaded::Bytes(content) => match graph_of(alloc, &content) {
+            Ok(Some(names)) => run_graph(alloc, names, input, output, notes),
+            Ok(None) => {
+                let _ = put_all(notes, NOT_YET);
+                Status::GraphRefused
             }
-            let _ = put_all(notes, NOT_YET);
-            Status::GraphRefused
-        }
+            Err(_) => Status::OutOfMemory,
+        },
         Loaded::Failed => {
             let Ok(note) = store_note(alloc, file) else {
                 return Status::OutOfMemory;

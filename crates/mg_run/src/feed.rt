@@ -1,24 +1,27 @@
-ghost use Rattle.std.specs.Prelude.{◌≤◌, length, MatchOption};
+ghost use Rattle.std.specs.Prelude.{◌≡◌, ◌≤◌, length, MatchOption};
 ghost use Rattle.mg_run.specs.Lines.{NoFeed, EndsLine};
 
 use crate::LineFault;
+use crate::merge::Merge;
 use crate::reading::{LONGEST_LINE, Said, read_line};
-use crate::write_line::push_line;
 use memchr::memchr;
 use mg_time::Timestamp;
+use mg_value::{List, MgText};
 use std::alloc::{AllocError, Global};
 use std::mem;
 
 /// The most lines of an input, blank ones too.
 pub const MOST_LINES: u64 = 4_000_000;
 
-/// Takes the bytes of an input in blocks of any size, and makes the text of the packets on its good lines.
+/// Takes the bytes of an input in blocks of any size, and makes the text that its good lines give.
 #[derive(Drop)]
 pub struct Feed {
     pub alloc: Global,
-    // How many lines were taken, and the bound of the stream after them.
+    // The names of the graph's inputs, and its node.
+    pub names: List<MgText>,
+    pub merge: Merge,
+    // How many lines were taken.
     pub lines: u64,
-    pub bound: Timestamp,
     // The bytes after the last line feed.
     pub rest: Vec<u8>,
     // Why the line after these was refused.
@@ -27,31 +30,40 @@ pub struct Feed {
     pub text: Vec<u8>,
     ghost few: { lines ≤ 4000000 },
     ghost short: { length rest.items ≤ 1048576 },
+    ghost inputs: { length merge.inbox ≡ length names },
 }
 
 impl Feed {
-    ghost use Rattle.std.specs.Prelude.{◌≡◌, ◌<◌, ◌++◌, ◌∷◌, ◌+◌, [], ℕ, List, None, Some, ◌↔◌, OnOk, IfOk, IsSome, IsTrue};
-    ghost use Rattle.mg_run.specs.Accepted.{refusal, said_refusal, stream_of};
-    ghost use Rattle.mg_run.specs.Feed.{Took, Heard, Holds, StandsFor, Ended, weight};
+    ghost use Rattle.std.specs.Prelude.{◌≡◌, ◌<◌, ◌++◌, ◌∷◌, ◌+◌, [], ℕ, List, None, Some, ◌↔◌, OnOk, IfOk, IsSome, IsTrue, length};
+    ghost use Rattle.mg_value.specs.Payload.{Plain};
+    ghost use Rattle.mg_value.specs.Prefix.{StreamPrefix};
+    ghost use Rattle.mg_run.specs.Said.{IsSaidOf};
+    ghost use Rattle.mg_run.specs.Claimed.{Claimed};
+    ghost use Rattle.mg_run.specs.Accepted.{refusal, said_refusal, with_said};
+    ghost use Rattle.mg_run.specs.Feed.{Took, Holds, StandsFor, HasRead, Ended, weight};
 
-    pub fn new(alloc: Global) -> Feed
-        ensures { StandsFor [] [] result }
+    /// A feed for the inputs with these names, to which nothing came yet.
+    pub fn new(alloc: Global, names: List<MgText>) -> Result<Feed, AllocError>
+        ensures named { IfOk result (λ feed. feed.names ≡ names) }
+        ensures stands { IfOk result (λ feed. StandsFor feed.names [] [] feed) }
     {
-        Feed {
+        let merge = Merge::new(alloc, names.len())?;
+        Ok(Feed {
             alloc,
+            names,
+            merge,
             lines: 0,
-            bound: Timestamp::PRE_STREAM,
             rest: Vec::new(alloc),
             refused: None,
             text: Vec::new(alloc),
-        }
+        })
     }
 
     /// Takes the next bytes of the input, however it is cut into blocks. Once a line is refused the rest is passed
     /// over. After an `Err` the feed is of no further use.
     pub fn bytes(&mut self, block: &[u8]) -> Result<(), AllocError>
-        ensures stands { OnOk result ((came : List ℕ) (sent : List ℕ) → StandsFor came sent self.old
-            → StandsFor (came ++ block.now) sent self.new) }
+        ensures stands { OnOk result ((names : List (List ℕ)) (came sent : List ℕ) → StandsFor names came sent self.old
+            → StandsFor names (came ++ block.now) sent self.new) }
         ensures progress { OnOk result (0 < length block.now → self.new.refused ≡ None → weight self.old < weight self.new) }
     {
         let mut left = block;
@@ -61,15 +73,29 @@ impl Feed {
                     self.line_feed(left.split_at(i).0)?;
                     left = left.split_at(i + 1).1;
                 }
-                None => return self.hold(left),
+                None => {
+                    self.hold(left)?;
+                    return Ok(());
+                }
             }
         }
         Ok(())
     }
 
-    /// The input has ended: bytes after the last line feed are a line.
+    /// The input has ended: bytes after the last line feed are a line, and where no line was refused, the inputs close.
     pub fn finish(&mut self) -> Result<(), AllocError>
-        ensures ended { OnOk result ((came : List ℕ) (sent : List ℕ) → StandsFor came sent self.old → Ended came sent self.new) }
+        ensures ended { OnOk result ((names : List (List ℕ)) (came sent : List ℕ) → StandsFor names came sent self.old → Ended names came sent self.new) }
+    {
+        self.last_line()?;
+        if self.refused.is_none() {
+            self.merge.close_all(&mut self.text)?;
+        }
+        Ok(())
+    }
+
+    // Takes the bytes after the last line feed as a line, if there are any.
+    fn last_line(&mut self) -> Result<(), AllocError>
+        ensures read { OnOk result ((names : List (List ℕ)) (came sent : List ℕ) → StandsFor names came sent self.old → HasRead names came sent self.new) }
     {
         if self.refused.is_some() || self.is_at_line_start() {
             return Ok(());
@@ -89,8 +115,8 @@ impl Feed {
     // Takes bytes that end a line, without its line feed.
     fn line_feed(&mut self, piece: &[u8]) -> Result<(), AllocError>
         requires { NoFeed piece.now }
-        ensures stands { OnOk result ((came : List ℕ) (sent : List ℕ) → Holds came sent self.old
-            → StandsFor (came ++ (piece.now ++ 10 ∷ [])) sent self.new) }
+        ensures stands { OnOk result ((names : List (List ℕ)) (came sent : List ℕ) → Holds names came sent self.old
+            → StandsFor names (came ++ (piece.now ++ 10 ∷ [])) sent self.new) }
         ensures progress { OnOk result (self.old.refused ≡ None → self.new.refused ≡ None → weight self.old < weight self.new) }
     {
         if self.is_at_line_start() {
@@ -106,8 +132,8 @@ impl Feed {
     // Keeps bytes that end no line, or refuses a line that is too long already.
     fn hold(&mut self, piece: &[u8]) -> Result<(), AllocError>
         requires { NoFeed piece.now }
-        ensures stands { OnOk result ((came : List ℕ) (sent : List ℕ) → Holds came sent self.old
-            → StandsFor (came ++ piece.now) sent self.new) }
+        ensures stands { OnOk result ((names : List (List ℕ)) (came sent : List ℕ) → Holds names came sent self.old
+            → StandsFor names (came ++ piece.now) sent self.new) }
         ensures progress { OnOk result (self.new.refused ≡ None → weight self.old + length piece.now ≤ weight self.new) }
     {
         if self.rest.len() + piece.len() > LONGEST_LINE {
@@ -121,9 +147,9 @@ impl Feed {
     // Takes a line without its line feed, or refuses it.
     fn line(&mut self, line: &[u8]) -> Result<(), AllocError>
         ensures rest { OnOk result (self.new.rest.items ≡ self.old.rest.items) }
-        ensures taken { OnOk result ((lines : List (List ℕ)) (sent : List ℕ) → Took lines sent self.old
-            → MatchOption (refusal lines line.now)
-            (Took (lines ++ line.now ∷ []) sent self.new)
+        ensures taken { OnOk result ((names lines : List (List ℕ)) (sent : List ℕ) → Took names lines sent self.old
+            → MatchOption (refusal names lines line.now)
+            (Took names (lines ++ line.now ∷ []) sent self.new)
             (λ fault. (self.new.refused ≡ Some fault) × (self.new.lines ≡ self.old.lines) × (self.new.text.items ≡ self.old.text.items))) }
         ensures counted { OnOk result (self.new.refused ≡ None → self.old.refused ≡ None → self.new.lines ≡ self.old.lines + 1) }
     {
@@ -131,7 +157,7 @@ impl Feed {
             self.refused = Some(LineFault::NotYet);
             return Ok(());
         }
-        let said = read_line(self.alloc, line)?;
+        let said = read_line(self.alloc, &self.names, line)?;
         match self.hear(said)? {
             Some(fault) => self.refused = Some(fault),
             None => self.lines += 1,
@@ -141,25 +167,43 @@ impl Feed {
 
     // Takes what a line says, or tells why it isn't good.
     fn hear(&mut self, said: Said) -> Result<Option<LineFault>, AllocError>
-        ensures fault { IfOk result (λ fault. (lines : List (List ℕ)) (sent : List ℕ) → Took lines sent self.old
-            → fault ≡ said_refusal (stream_of lines) said) }
-        ensures good { IfOk result (λ fault. (lines : List (List ℕ)) (sent : List ℕ) → Took lines sent self.old
-            → fault ≡ None → Heard lines sent said self.old self.new) }
-        ensures bad { IfOk result (λ fault. IsSome fault → self.new ≡ self.old) }
-        ensures same { OnOk result ((self.new.lines ≡ self.old.lines) × (self.new.rest.items ≡ self.old.rest.items) × (self.new.refused ≡ self.old.refused)) }
+        requires { IsSaidOf (length self.old.names) said }
+        ensures fault { IfOk result (λ fault. (ss : List (StreamPrefix Plain)) (sent : List ℕ) → Claimed ss sent self.old.merge.inbox self.old.text.items
+            → fault ≡ said_refusal ss said) }
+        ensures good { IfOk result (λ fault. (ss : List (StreamPrefix Plain)) (sent : List ℕ) → Claimed ss sent self.old.merge.inbox self.old.text.items
+            → fault ≡ None → Claimed (with_said ss said) sent self.new.merge.inbox self.new.text.items) }
+        ensures bad { IfOk result (λ fault. IsSome fault → self.new.text.items ≡ self.old.text.items) }
+        ensures same { OnOk result ((self.new.lines ≡ self.old.lines) × (self.new.rest.items ≡ self.old.rest.items)
+            × (self.new.refused ≡ self.old.refused) × (self.new.names ≡ self.old.names)) }
     {
         match said {
-            Said::Nothing => Ok(None),
-            Said::Other => Ok(Some(LineFault::NotYet)),
-            Said::Packet(at, value) => {
-                if at < self.bound {
+            Said::Nothing => {}
+            Said::Other => return Ok(Some(LineFault::NotYet)),
+            Said::Packet(port, at, value) => {
+                let bound = self.merge.bound(port);
+                if bound == Timestamp::DONE {
+                    return Ok(Some(LineFault::Closed));
+                }
+                if at < bound {
                     return Ok(Some(LineFault::NotAscending));
                 }
-                push_line(&mut self.text, at, value)?;
-                self.bound = at.next_allowed();
-                Ok(None)
+                self.merge
+                    .packet(self.alloc, port, at, value, &mut self.text)?;
+            }
+            Said::Bound(port, at) => {
+                if self.merge.bound(port) == Timestamp::DONE {
+                    return Ok(Some(LineFault::Closed));
+                }
+                self.merge.raise(port, at, &mut self.text)?;
+            }
+            Said::Close(port) => {
+                if self.merge.bound(port) == Timestamp::DONE {
+                    return Ok(Some(LineFault::Closed));
+                }
+                self.merge.close(port, &mut self.text)?;
             }
         }
+        Ok(None)
     }
 }
 

@@ -5,6 +5,7 @@
 mod call;
 mod feed;
 mod line_fault;
+mod merge;
 mod note;
 mod pour;
 mod put;

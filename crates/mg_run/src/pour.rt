@@ -31,11 +31,11 @@ pub fn pour<S: Source, K: Sink>(
     feed: &mut Feed,
     failed: &mut bool,
 ) -> Result<Poured, AllocError>
-    requires fresh { StandsFor [] [] feed.old }
+    requires fresh { StandsFor feed.old.names [] [] feed.old }
     requires well { failed.old ≡ false }
     ensures { let from : Told = record { before = S.left input.old; now = S.left input.new; faults_before = S.faults input.old; faults_now = S.faults input.new } in
         let to : Told = record { before = K.taken output.old; now = K.taken output.new; faults_before = K.faults output.old; faults_now = K.faults output.new } in
-        MatchResult result (λ poured. HasPoured poured from to failed.new feed.new) (λ _. PouredFront from to failed.new) }
+        MatchResult result (λ poured. HasPoured poured feed.old.names from to failed.new feed.new) (λ _. PouredFront feed.old.names from to failed.new) }
 {
     let mut block = zeros(alloc, BLOCK)?;
     pour_through(&mut block, input, output, feed, failed)
@@ -50,11 +50,11 @@ fn pour_through<S: Source, K: Sink>(
     failed: &mut bool,
 ) -> Result<Poured, AllocError>
     requires room { 0 < length block.old }
-    requires fresh { StandsFor [] [] feed.old }
+    requires fresh { StandsFor feed.old.names [] [] feed.old }
     requires well { failed.old ≡ false }
     ensures { let from : Told = record { before = S.left input.old; now = S.left input.new; faults_before = S.faults input.old; faults_now = S.faults input.new } in
         let to : Told = record { before = K.taken output.old; now = K.taken output.new; faults_before = K.faults output.old; faults_now = K.faults output.new } in
-        MatchResult result (λ poured. HasPoured poured from to failed.new feed.new) (λ _. PouredFront from to failed.new) }
+        MatchResult result (λ poured. HasPoured poured feed.old.names from to failed.new feed.new) (λ _. PouredFront feed.old.names from to failed.new) }
 {
     'reading: while feed.refused.is_none() {
         match input.read(block) {

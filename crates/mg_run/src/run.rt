@@ -1,4 +1,5 @@
-ghost use Rattle.std.specs.Prelude.{◌≡◌, IfOk};
+ghost use Rattle.std.specs.Prelude.{◌≡◌, [], IfOk};
+ghost use Rattle.mg_run.specs.Feed.{StandsFor};
 ghost use Rattle.mg_run.specs.Ended.{said_of, ended_as};
 ghost use Rattle.mg_run.specs.Outcome.{told, Ran};
 
@@ -8,21 +9,42 @@ use crate::note::{line_note, read_note};
 use crate::pour::{Poured, pour};
 use crate::put::{flush, put_all};
 use mg_edge::{Sink, Source};
+use mg_value::{List, MgText};
 use std::alloc::{AllocError, Global};
 
-/// Runs the graph of one pass-through over the input.
-pub fn run_pass_through<S: Source, K: Sink, E: Sink>(
+/// Runs the graph whose inputs have these names over the input.
+pub fn run_graph<S: Source, K: Sink, E: Sink>(
     alloc: Global,
+    names: List<MgText>,
     input: &mut S,
     output: &mut K,
     notes: &mut E,
 ) -> Status
-    ensures { Ran result
+    ensures { Ran names result
         (told (S.left input.old) (S.left input.new) (S.faults input.old) (S.faults input.new))
         (told (K.taken output.old) (K.taken output.new) (K.faults output.old) (K.faults output.new))
         (told (E.taken notes.old) (E.taken notes.new) (E.faults notes.old) (E.faults notes.new)) }
 {
-    let mut feed = Feed::new(alloc);
+    match Feed::new(alloc, names) {
+        Ok(feed) => run_feed(alloc, feed, input, output, notes),
+        Err(_) => Status::OutOfMemory,
+    }
+}
+
+// Pours the input into a feed, and its text into the output.
+fn run_feed<S: Source, K: Sink, E: Sink>(
+    alloc: Global,
+    mut feed: Feed,
+    input: &mut S,
+    output: &mut K,
+    notes: &mut E,
+) -> Status
+    requires { StandsFor feed.names [] [] feed }
+    ensures { Ran feed.names result
+        (told (S.left input.old) (S.left input.new) (S.faults input.old) (S.faults input.new))
+        (told (K.taken output.old) (K.taken output.new) (K.faults output.old) (K.faults output.new))
+        (told (E.taken notes.old) (E.taken notes.new) (E.faults notes.old) (E.faults notes.new)) }
+{
     let mut failed = false;
     let Ok(poured) = pour(alloc, input, output, &mut feed, &mut failed) else {
         return Status::OutOfMemory;

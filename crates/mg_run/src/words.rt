@@ -1,7 +1,8 @@
-ghost use Rattle.std.specs.Prelude.{◌≡◌, option_map};
-ghost use Rattle.mg_run.specs.Answer.{command, is_pass_through};
+ghost use Rattle.std.specs.Prelude.{◌≡◌, Some, IfOk, option_map};
+ghost use Rattle.mg_run.specs.Answer.{command, graph_of};
 
-use mg_value::MgText;
+use mg_value::{List, MgText};
+use std::alloc::{AllocError, Global};
 
 /// The note for words that are no command.
 pub const USAGE: &[u8] =
@@ -23,16 +24,41 @@ pub fn command(words: &[MgText]) -> Option<&str>
     }
 }
 
-// The one graph that runs so far, with a line feed at its end and without.
+// The two graphs that run so far, each without a line feed at its end and with one.
 const PASS_THROUGH: &[u8] =
     b"input_stream: \"in\" output_stream: \"out\"\nnode { calculator: \"PassThroughCalculator\" input_stream: \"in\" output_stream: \"out\" }";
 
 const PASS_THROUGH_LINE: &[u8] =
     b"input_stream: \"in\" output_stream: \"out\"\nnode { calculator: \"PassThroughCalculator\" input_stream: \"in\" output_stream: \"out\" }\n";
 
-/// Whether a file is that graph.
-pub fn is_pass_through(content: &[u8]) -> bool
-    ensures { result ≡ is_pass_through content.now }
+const MERGE: &[u8] =
+    b"input_stream: \"a\" input_stream: \"b\" output_stream: \"out\"\nnode { calculator: \"MergeCalculator\" input_stream: \"a\" input_stream: \"b\" output_stream: \"out\" }";
+
+const MERGE_LINE: &[u8] =
+    b"input_stream: \"a\" input_stream: \"b\" output_stream: \"out\"\nnode { calculator: \"MergeCalculator\" input_stream: \"a\" input_stream: \"b\" output_stream: \"out\" }\n";
+
+/// The names of the inputs of the graph that a file is, where it is one that runs so far.
+pub fn graph_of(alloc: Global, content: &[u8]) -> Result<Option<List<MgText>>, AllocError>
+    ensures { IfOk result (λ names. names ≡ graph_of content.now) }
 {
-    content == PASS_THROUGH || content == PASS_THROUGH_LINE
+    if content == PASS_THROUGH || content == PASS_THROUGH_LINE {
+        let input = MgText::new(alloc, "in")?;
+        return listed(vec![in alloc; input]?);
+    }
+    if content == MERGE || content == MERGE_LINE {
+        let first = MgText::new(alloc, "a")?;
+        let second = MgText::new(alloc, "b")?;
+        return listed(vec![in alloc; first, second]?);
+    }
+    Ok(None)
+}
+
+// Names as a list.
+fn listed(names: Vec<MgText>) -> Result<Option<List<MgText>>, AllocError>
+    ensures { IfOk result (λ list. list ≡ Some names.items) }
+{
+    match List::from_vec(names) {
+        Ok(names) => Ok(Some(names)),
+        Err(_) => Err(AllocError),
+    }
 }

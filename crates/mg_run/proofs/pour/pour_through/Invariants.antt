@@ -1,4 +1,3 @@
-use Rattle.std.proofs.Common.{◌≡◌, ◌<◌, ◌-◌, ◌*◌, ◌+◌, ◌^◌, vec_len}
 use Rattle.mg_run.specs.Feed.{weight}
 use Rattle.mg_run.specs.Pouring.{Pours}
 use Rattle.mg_run.proofs.Pouring.{turns_left}
@@ -7,7 +6,7 @@ use Rattle.mg_run.proofs.pour.pour_through.Given as goal
 abbrev pub invariant-reading : goal.invariant-reading
 invariant-reading g l =
     record {
-      pours : Pours
+      pours : Pours l.fn.feed.names
           (record { before = g.S.Source.left l.fn.input; now = g.S.Source.left l.input; faults_before = g.S.Source.faults l.fn.input; faults_now = g.S.Source.faults l.input })
           (record { before = g.K.Sink.taken l.fn.output; now = g.K.Sink.taken l.output; faults_before = g.K.Sink.faults l.fn.output; faults_now = g.K.Sink.faults l.output })
           l.failed l.feed;

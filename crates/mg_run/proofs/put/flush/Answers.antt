@@ -1,4 +1,4 @@
-use Rattle.std.proofs.Common.{subst, Bool, List, ℕ, not, ◌++◌}
+use Rattle.std.proofs.Common.{subst, Bool, List, ℕ, not}
 use Rattle.mg_run.specs.Devices.{Flows}
 use Rattle.mg_run.proofs.Flowing.{flows-on}
 use Rattle.mg_run.proofs.put.flush.Goals as goal

@@ -1,4 +1,3 @@
-use Rattle.std.proofs.Common.{rules}
 use Rattle.mg_run.proofs.Flowing.{TookAll-on, steady-trans}
 use Rattle.mg_run.proofs.put.put_all.Goals as goal
 

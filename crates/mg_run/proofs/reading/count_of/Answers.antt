@@ -1,6 +1,4 @@
-use Rattle.std.proofs.Common.{◌≡◌, ap, sym, ◌∙◌}
-use Rattle.serde_json.specs.View.{members_view}
-use Rattle.mg_run.specs.Reading.{count}
+use Rattle.std.proofs.Common.{sym, ◌∙◌}
 use Rattle.mg_run.proofs.Json.{count-members_view, member_count-as_object}
 use Rattle.mg_run.proofs.reading.count_of.Goals as goal
 

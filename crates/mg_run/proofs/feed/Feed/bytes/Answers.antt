@@ -1,4 +1,4 @@
-use Rattle.std.proofs.Common.{List, ℕ, ◌≡◌, take, drop, ◌++◌, ◌∷◌, [], ◌+◌, ◌<◌, length, sym, ap, not, ◌∙◌, arith, subst}
+use Rattle.std.proofs.Common.{take, ◌++◌, ◌∷◌, [], sym, ap, not, ◌∙◌, arith, subst}
 use Rattle.mg_run.specs.Lines.{NoFeed}
 use Rattle.mg_run.proofs.Standing.{none-from, holds-stands, regrouped, stands-on}
 use Rattle.mg_run.proofs.feed.Feed.bytes.Goals as goal
@@ -15,9 +15,9 @@ loop-left-preserved c =
       stands = (
         was.0 ++ (piece ++ 10 ∷ []),
         regrouped _ was.0 piece c.loop-left.left.now _ was.1 (c.in-Some.ensures.cut ∙ ap (λ l. piece ++ 10 ∷ l) (sym c.split_at-in-Some.ensures.back)),
-        λ came sent stood.
-            stands-on came was.0 piece _ sent _ c.split_at.ensures.front
-            (c.in_ok-line_feed-in-Some.ensures.stands _ sent (holds-stands _ sent _ refused (was.2 came sent stood))),
+        λ names came sent stood.
+            stands-on names came was.0 piece _ sent _ c.split_at.ensures.front
+            (c.in_ok-line_feed-in-Some.ensures.stands names _ sent (holds-stands names _ sent _ refused (was.2 names came sent stood))),
       );
       progress = λ none. let p = c.in_ok-line_feed-in-Some.ensures.progress refused none in let q = c.loop-left.invariant.progress refused in omega arith;
     }

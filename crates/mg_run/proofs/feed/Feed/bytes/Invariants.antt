@@ -6,7 +6,7 @@ use Rattle.mg_run.proofs.feed.Feed.bytes.Given as goal
 abbrev pub invariant-loop-left : goal.invariant-loop-left
 invariant-loop-left l = record {
   stands : (done : List ℕ) × (l.block ≡ done ++ l.left)
-      × ((came : List ℕ) (sent : List ℕ) → StandsFor came sent l.fn.self → StandsFor (came ++ done) sent l.self);
+      × ((names : List (List ℕ)) (came sent : List ℕ) → StandsFor names came sent l.fn.self → StandsFor names (came ++ done) sent l.self);
   progress : l.self.refused ≡ None → weight l.fn.self + min 1 (length l.block - length l.left) ≤ weight l.self;
 }
 

@@ -1,28 +1,10 @@
-use Rattle.std.proofs.Common.{refl, ◌∙◌, sym, ap}
-use Rattle.std.proofs.lemmas.Bool.{false≢true}
-use Rattle.mg_run.proofs.Standing.{SameButRest, ended-refused, ended-whole, ended-last, holds-stands, none-from, some-from}
+use Rattle.std.proofs.Common.{refl, ◌∙◌, ap, not}
+use Rattle.mg_run.proofs.Standing.{ended-closed, none-from}
 use Rattle.mg_run.proofs.feed.Feed.finish.Goals as goal
-use Rattle.mg_run.proofs.feed.Feed.finish.Goals.{then-is_some-via-then-is_some, then-is_some-via-else-is_some+then-is_at_line_start}
 
-pub returns-then-is_some : goal.returns-then-is_some
-returns-then-is_some c = record {
-  ended = λ came sent stands.
-      elim c.then-is_some.branch [
-        | then-is_some-via-then-is_some w ↦ ended-refused came sent c.args.self.now (some-from _ (sym c.is_some.ensures ∙ w.if-is_some.true)) stands
-        | then-is_some-via-else-is_some+then-is_at_line_start w ↦
-            ended-whole came sent c.args.self.now
-            (holds-stands came sent c.args.self.now (none-from _ (sym c.is_some.ensures ∙ w.if-is_some.false)) stands)
-            (w.is_at_line_start.ensures.0 w.if-is_at_line_start.true)
-      ];
-}
-
-pub returns : goal.returns
-returns c = record {
-  ended = λ came sent stands.
-      ended-last came sent c.deref.result.now c.args.self.now _ c.line.new.self
-      (holds-stands came sent c.args.self.now (none-from _ (sym c.is_some.ensures ∙ c.if-is_some.false)) stands)
-      (record { refused = refl; number = refl; bound = refl; text = refl })
-      (c.deref.ensures.value ∙ ap (λ v. v.items) c.replace-line.ensures.value)
-      (λ empty. false≢true (sym c.if-is_at_line_start.false ∙ c.is_at_line_start.ensures.1 empty))
-      c.in_ok-line.ensures.taken;
+pub returns-in_ok-close_all : goal.returns-in_ok-close_all
+returns-in_ok-close_all c = record {
+  ended = λ names came sent stands.
+      ended-closed names came sent c.last_line.new.self _ (none-from _ (c.is_none.ensures ∙ ap not c.if-is_none.true)) (c.in_ok-last_line.ensures.read names came sent stands) refl
+      c.in_ok-close_all.ensures.claimed;
 }

@@ -1,0 +1,159 @@
+ghost use Rattle.std.specs.Prelude.{◌≡◌, ◌++◌, length, OnOk};
+ghost use Rattle.mg_value.specs.Payload.{Plain, int, plain};
+ghost use Rattle.mg_value.specs.Prefix.{StreamPrefix, appended};
+ghost use Rattle.mg_stream.specs.Queue.{StandsFor, MayCome, IsLike, with_packet};
+ghost use Rattle.mg_run.specs.Output.{set_text};
+
+use crate::write_line::push_line;
+use mg_policy::Inbox;
+use mg_stream::Queue;
+use mg_time::Timestamp;
+use mg_value::{InputSet, Packet, Payload};
+use std::alloc::{AllocError, Global};
+use std::sync::Arc;
+
+/// The one node of a graph that runs so far: it shows of each input set the first packet (MediaPipe,
+/// MergeCalculator; PassThroughCalculator where there is one input). What it shows goes to the end of a text.
+#[derive(Drop)]
+pub struct Merge {
+    pub inbox: Inbox,
+    // The set that was claimed last.
+    set: InputSet,
+    ghost places: { length set ≡ length inbox },
+}
+
+impl Merge {
+    ghost use Rattle.std.specs.Prelude.{◌≡◌, ◌<◌, ◌≤◌, ◌++◌, ℕ, List, [], map, replicate, length, IfOk, OnOk};
+    ghost use Rattle.mg_time.specs.Time.{IsRange};
+    ghost use Rattle.mg_value.specs.Payload.{Plain, int};
+    ghost use Rattle.mg_value.specs.Prefix.{StreamPrefix, empty_prefix, appended, raised, closed};
+    ghost use Rattle.mg_value.specs.Settled.{settled_sets};
+    ghost use Rattle.mg_policy.specs.Inbox.{rests, StandAfter};
+    ghost use Rattle.mg_run.specs.Accepted.{stepped, bound_at};
+    ghost use Rattle.mg_run.specs.Output.{text_of};
+    ghost use Rattle.mg_run.specs.Claimed.{Claimed};
+
+    /// A node of as many inputs, to which nothing came yet.
+    pub fn new(alloc: Global, inputs: u32) -> Result<Merge, AllocError>
+        ensures inputs { IfOk result (λ m. length m.inbox ≡ inputs) }
+        ensures claimed { IfOk result (λ m. Claimed (replicate inputs empty_prefix) [] m.inbox []) }
+    {
+        let inbox = Inbox::new(alloc, inputs)?;
+        let set = InputSet::new(alloc, inputs)?;
+        Ok(Merge { inbox, set })
+    }
+
+    /// The bound of an input.
+    pub fn bound(&mut self, port: u32) -> Timestamp
+        requires { port < length self.old.inbox }
+        ensures bound { (ss : List (StreamPrefix Plain)) (sent text : List ℕ) → Claimed ss sent self.old.inbox text → result ≡ bound_at port ss }
+        ensures unchanged { self.new.inbox ≡ self.old.inbox }
+    {
+        self.inbox.queue(port).bound()
+    }
+
+    /// A packet comes at an input, not below its bound.
+    pub fn packet(
+        &mut self,
+        alloc: Global,
+        port: u32,
+        at: Timestamp,
+        value: i64,
+        text: &mut Vec<u8>,
+    ) -> Result<(), AllocError>
+        requires port { port < length self.old.inbox }
+        requires range { IsRange at }
+        ensures inputs { length self.new.inbox ≡ length self.old.inbox }
+        ensures claimed { OnOk result ((ss : List (StreamPrefix Plain)) (sent : List ℕ) → Claimed ss sent self.old.inbox text.old.items
+            → Claimed (stepped port (λ s. appended s (record { at = at; value = int value })) ss) sent self.new.inbox text.new.items) }
+    {
+        let payload = Arc::new(alloc, Payload::Int(value))?;
+        append(self.inbox.queue(port), Packet { at, payload })?;
+        self.claim(text)?;
+        Ok(())
+    }
+
+    /// The bound of an input rises to a time, if it is lower.
+    pub fn raise(&mut self, port: u32, at: Timestamp, text: &mut Vec<u8>) -> Result<(), AllocError>
+        requires { port < length self.old.inbox }
+        ensures inputs { length self.new.inbox ≡ length self.old.inbox }
+        ensures claimed { OnOk result ((ss : List (StreamPrefix Plain)) (sent : List ℕ) → Claimed ss sent self.old.inbox text.old.items
+            → Claimed (stepped port (λ s. raised s at) ss) sent self.new.inbox text.new.items) }
+    {
+        self.inbox.queue(port).raise(at);
+        self.claim(text)?;
+        Ok(())
+    }
+
+    /// An input closes.
+    pub fn close(&mut self, port: u32, text: &mut Vec<u8>) -> Result<(), AllocError>
+        requires { port < length self.old.inbox }
+        ensures inputs { length self.new.inbox ≡ length self.old.inbox }
+        ensures claimed { OnOk result ((ss : List (StreamPrefix Plain)) (sent : List ℕ) → Claimed ss sent self.old.inbox text.old.items
+            → Claimed (stepped port closed ss) sent self.new.inbox text.new.items) }
+    {
+        self.inbox.queue(port).close();
+        self.claim(text)?;
+        Ok(())
+    }
+
+    /// All inputs close.
+    pub fn close_all(&mut self, text: &mut Vec<u8>) -> Result<(), AllocError>
+        ensures inputs { length self.new.inbox ≡ length self.old.inbox }
+        ensures claimed { OnOk result ((ss : List (StreamPrefix Plain)) (sent : List ℕ) → Claimed ss sent self.old.inbox text.old.items
+            → Claimed (map closed ss) sent self.new.inbox text.new.items) }
+    {
+        for port in 0..self.inbox.ports() {
+            self.close(port, text)?;
+        }
+        Ok(())
+    }
+
+    // Takes the sets that are ready, and shows the first packet of each.
+    fn claim(&mut self, text: &mut Vec<u8>) -> Result<(), AllocError>
+        ensures inputs { length self.new.inbox ≡ length self.old.inbox }
+        ensures none { OnOk result (settled_sets (rests self.new.inbox) ≡ []) }
+        ensures text { OnOk result (text.new.items ≡ text.old.items ++ text_of (settled_sets (rests self.old.inbox))) }
+        ensures stand { OnOk result ((k : ℕ) (ss : List (StreamPrefix Plain)) → StandAfter k self.old.inbox ss
+            → StandAfter (length (settled_sets ss)) self.new.inbox ss) }
+    {
+        while self.inbox.claim(&mut self.set) {
+            show(&self.set, text)?;
+        }
+        Ok(())
+    }
+}
+
+// Puts a packet into a queue.
+fn append(queue: &mut Queue, packet: Packet) -> Result<(), AllocError>
+    ensures like { OnOk result (IsLike queue.new (with_packet queue.old packet)) }
+    ensures may_come { OnOk result (MayCome queue.old packet.at) }
+    ensures stand { OnOk result ((s : StreamPrefix Plain) → StandsFor queue.old s → StandsFor queue.new (appended s packet)) }
+{
+    match queue.append(packet) {
+        Ok(()) => Ok(()),
+        Err(_) => Err(AllocError),
+    }
+}
+
+// Puts the line of the first packet of a set at the end of a text.
+fn show(set: &InputSet, text: &mut Vec<u8>) -> Result<(), AllocError>
+    ensures { OnOk result (text.new.items ≡ text.old.items ++ set_text set.now) }
+{
+    for port in 0..set.len() {
+        if let Some(packet) = set.get(port) {
+            push_line(text, packet.at, number_of(&packet.payload))?;
+            return Ok(());
+        }
+    }
+    Ok(())
+}
+
+// The number of a payload.
+fn number_of(payload: &Payload) -> i64
+    ensures { int result ≡ plain payload.now }
+{
+    match payload {
+        Payload::Int(number) => *number,
+    }
+}
