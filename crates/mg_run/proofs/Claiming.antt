@@ -139,7 +139,7 @@ stand-stepped port step qs ss q after is one stand =
     let ts = settled_times ss in (
       record {
         each = each-stepped port step qs ss q after is one stand.each;
-      gone = sets-grow ss (stepped port step ss) extended;
+        gone = sets-grow ss (stepped port step ss) extended;
         left = rests-stepped port step qs q after is one.rest
             ∙ ap (stepped port step) (stand.left ∙ ap (λ (us : List ℕ). map (without us) ss) (all-gone ss))
             ∙ sym (kept-stepped port step ts qs ss q after is one stand.each (λ t i. (settled_from ss t i).0))

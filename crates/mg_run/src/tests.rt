@@ -1,5 +1,6 @@
 mod faults;
 mod lines;
+mod merge;
 mod words;
 
 use super::*;
