@@ -17,7 +17,7 @@ use Rattle.mg_run.specs.Ended.{refused_line, said_of, ended_as}
 use Rattle.mg_run.specs.declared.line_fault.LineFault.{LineFault}
 use Rattle.mg_run.specs.declared.feed.Feed.{Feed}
 use Rattle.mg_run.specs.declared.pour.Poured.{Poured}
-use Rattle.mg_run.specs.declared.pour.Poured.TheVariants.{All, Part, Good}
+use Rattle.mg_run.specs.declared.pour.Poured.TheVariants.{All, Part, Halted}
 use Rattle.mg_run.proofs.Standing.{stands-at, accepted-all}
 use Rattle.mg_run.proofs.Pouring.{text-of-holds}
 
@@ -39,7 +39,7 @@ pub record Cut (names : List (List ℕ)) (input : Told) (text : List ℕ) (feed 
 abbrev pub Means : List (List ℕ) → Poured → Told → List ℕ → Feed → Type 0
 Means names All input text feed = Whole names input text feed
 Means names Part input text feed = Cut names input text feed
-Means names Good input text feed = Whole names input text feed
+Means names Halted input text feed = Whole names input text feed
 
 -- what flowed in all, once the feed's text is handed on
 pub record Written (names : List (List ℕ)) (poured : Poured) (input output : Told) (failed : Bool) (feed : Feed) : Type 0 where
@@ -106,7 +106,7 @@ written names Part input first before now a b c failed failed' feed part flows =
       };
       flows = flows first a part.sent part.flows;
     }
-written names Good input first before now a b c failed failed' feed good flows = record {
+written names Halted input first before now a b c failed failed' feed good flows = record {
   text = good.pours.sent ++ feed.text.items;
   means = good-told names feed.refused input (told first before a b) failed feed good.pours refl good.refused;
   flows = flows first a good.pours.sent good.pours.flows;
@@ -145,7 +145,7 @@ pub front-written : (names : List (List ℕ)) (poured : Poured) (input output : 
     → IfSome input.before (λ bytes. TookFront output.before output.now (run_answer names bytes).output)
 front-written names All input output failed feed done = whole-front names input.before output.before output.now done.text feed done.flows.front done.means.means
 front-written names Part input output failed feed done = cut-front names input.before output.before output.now done.text done.flows.front done.means.front
-front-written names Good input output failed feed done = whole-front names input.before output.before output.now done.text feed done.flows.front done.means.means
+front-written names Halted input output failed feed done = whole-front names input.before output.before output.now done.text feed done.flows.front done.means.means
 
 whole-all : (names : List (List ℕ)) (before first now : Option (List ℕ)) (text : List ℕ) (feed : Feed) → TookAll first now text
     → IfSome before (λ bytes. (text ≡ (run_answer names bytes).output) × (refused_line feed ≡ first_refused names (all_lines bytes)))
@@ -161,7 +161,7 @@ TookRead names input output = IfSome input.before (λ bytes. TookAll output.befo
 all-written : (names : List (List ℕ)) (poured : Poured) (input output : Told) (feed : Feed) → Written names poured input output false feed → TookRead names input output
 all-written names All input output feed done = inl (whole-all names input.before output.before output.now done.text feed done.flows.all.0 done.means.means)
 all-written names Part input output feed done = inr (done.means.came, done.means.gave, done.means.rises, rw (← done.means.means) done.flows.all.0)
-all-written names Good input output feed done = inl (whole-all names input.before output.before output.now done.text feed done.flows.all.0 done.means.means)
+all-written names Halted input output feed done = inl (whole-all names input.before output.before output.now done.text feed done.flows.all.0 done.means.means)
 
 short-by : (names : List (List ℕ)) (failed : Bool) (poured : Poured) (input output notes : Told) (feed : Feed) → Written names poured input output failed feed
     → Rises output.faults_before output.faults_now ⊎ Rises notes.faults_before notes.faults_now → RanShort names input output notes
@@ -212,7 +212,7 @@ pub ran-written : (names : List (List ℕ)) (poured : Poured) (input output note
     → Ran names (ended_as poured feed) input output notes
 ran-written names All input output notes failed said feed well done noted is =
     ran-told names input output notes done.text said feed done.means (subst (λ (b : Bool). Flows b output.before output.now done.text output.faults_before output.faults_now) well done.flows) noted is
-ran-written names Good input output notes failed said feed well done noted is =
+ran-written names Halted input output notes failed said feed well done noted is =
     ran-told names input output notes done.text said feed done.means (subst (λ (b : Bool). Flows b output.before output.now done.text output.faults_before output.faults_now) well done.flows) noted is
 ran-written names Part input output notes failed said feed well done noted is =
     let flows : Flows false output.before output.now done.text output.faults_before output.faults_now =
@@ -233,9 +233,9 @@ ran-written names Part input output notes failed said feed well done noted is =
 pub said-same : (poured : Poured) (feed other : Feed) → feed.lines ≡ other.lines → feed.refused ≡ other.refused → said_of poured feed ≡ said_of poured other
 said-same All feed other lines refused = rw (lines, refused) refl
 said-same Part feed other lines refused = rw lines refl
-said-same Good feed other lines refused = rw (lines, refused) refl
+said-same Halted feed other lines refused = rw (lines, refused) refl
 
 pub ended-same : (poured : Poured) (feed other : Feed) → feed.lines ≡ other.lines → feed.refused ≡ other.refused → ended_as poured feed ≡ ended_as poured other
 ended-same All feed other lines refused = rw (lines, refused) refl
 ended-same Part feed other lines refused = refl
-ended-same Good feed other lines refused = rw (lines, refused) refl
+ended-same Halted feed other lines refused = rw (lines, refused) refl

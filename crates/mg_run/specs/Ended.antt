@@ -4,7 +4,7 @@ use Rattle.mg_run.specs.Accepted.{Refused}
 use Rattle.mg_run.specs.Answer.{line_note, line_status, read_note}
 use Rattle.mg_run.specs.declared.feed.Feed.{Feed}
 use Rattle.mg_run.specs.declared.pour.Poured.{Poured}
-use Rattle.mg_run.specs.declared.pour.Poured.TheVariants.{All, Part, Good}
+use Rattle.mg_run.specs.declared.pour.Poured.TheVariants.{All, Part, Halted}
 use Rattle.mg_run.specs.declared.status.Status.{Status}
 use Rattle.mg_run.specs.declared.status.Status.TheVariants.{ReadFault}
 
@@ -15,9 +15,9 @@ refused_line feed = option_map (λ fault. record { number = feed.lines + 1; faul
 abbrev pub said_of : Poured → Feed → List ℕ
 said_of All feed = line_note (refused_line feed)
 said_of Part feed = read_note feed.lines
-said_of Good feed = line_note (refused_line feed)
+said_of Halted feed = line_note (refused_line feed)
 
 abbrev pub ended_as : Poured → Feed → Status
 ended_as All feed = line_status (refused_line feed)
 ended_as Part feed = ReadFault
-ended_as Good feed = line_status (refused_line feed)
+ended_as Halted feed = line_status (refused_line feed)

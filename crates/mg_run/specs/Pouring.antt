@@ -42,7 +42,7 @@ pub record PouredPart (names : List (List ℕ)) (input output : Told) (failed : 
   pub holds : Holds names came sent feed
 
 -- A line was refused.
-pub record PouredGood (names : List (List ℕ)) (input output : Told) (failed : Bool) (feed : Feed) : Type 0 where
+pub record PouredHalted (names : List (List ℕ)) (input output : Told) (failed : Bool) (feed : Feed) : Type 0 where
   pub pours : Pours names input output failed feed
   pub refused : IsSome feed.refused
 

@@ -19,7 +19,7 @@ pub enum Poured {
     /// A read failed.
     Part,
     /// A line was refused, and the rest wasn't read.
-    Good,
+    Halted,
 }
 
 /// Reads the input to its end, its first fault or its first line that isn't good, block by block, and hands the text
@@ -69,7 +69,7 @@ fn pour_through<S: Source, K: Sink>(
             flush(output, &mut feed.text, failed);
         }
     }
-    Ok(Poured::Good)
+    Ok(Poured::Halted)
 }
 
 // So many zeros.
