@@ -1,0 +1,9 @@
+pub mod Complete
+pub mod Depth
+pub mod Faults
+pub mod Finish
+pub mod Pieces
+pub mod Printing
+pub mod Sound
+pub mod Spelled
+pub mod Views

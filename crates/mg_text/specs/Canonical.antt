@@ -1,0 +1,62 @@
+-- The canonical text of fields: what `print` writes.
+use Rattle.std.specs.Prelude.{◌≡◌, ℕ, suc, ◌+◌, ◌*◌, ◌/◌, ◌%◌, ◌≤◌, ◌<◌, List, [], ◌∷◌, ◌++◌, ◌||◌, ◌==◌, nat_lt, if◌then◌else◌, replicate, Some}
+use Rattle.std.specs.List.{flat_map}
+use Rattle.mg_text.specs.Tree.{Kind, word, number, quoted, Fields, none, scalar, message, depth}
+use Rattle.mg_text.specs.Byte.{lead, IsTail}
+use Rattle.mg_text.specs.Grammar.{IsName, IsWord, IsNumber}
+use Rattle.mg_text.specs.declared.parts.Tail.{Tail}
+
+-- two spaces for each open message
+abbrev pub indent : ℕ → List ℕ
+indent k = replicate (2 * k) 32
+
+-- A byte in a string: the escapes \n \r \t \\ \" and three octal digits for the other bytes below 32 and for 127. All
+-- else is as it is.
+abbrev pub escape : ℕ → List ℕ
+escape b =
+    if b == 10 then 92 ∷ 110 ∷ []
+    else (if b == 13 then 92 ∷ 114 ∷ []
+    else (if b == 9 then 92 ∷ 116 ∷ []
+    else (if b == 92 then 92 ∷ 92 ∷ []
+    else (if b == 34 then 92 ∷ 34 ∷ []
+    else (if nat_lt b 32 || b == 127 then 92 ∷ (48 + b / 64) ∷ (48 + b / 8 % 8) ∷ (48 + b % 8) ∷ []
+    else b ∷ [])))))
+
+-- a string is one piece in double quotes
+abbrev pub spelling : Kind → List ℕ → List ℕ
+spelling word bytes = bytes
+spelling number bytes = bytes
+spelling quoted bytes = 34 ∷ flat_map escape bytes ++ 34 ∷ []
+
+-- Each field has a line of its own, indented. A message has the lines of its fields between two of its own.
+abbrev pub scalar_line : ℕ → List ℕ → Kind → List ℕ → List ℕ
+scalar_line k name kind bytes = indent k ++ name ++ 58 ∷ 32 ∷ spelling kind bytes ++ 10 ∷ []
+
+abbrev pub message_lines : ℕ → List ℕ → List ℕ → List ℕ
+message_lines k name lines = indent k ++ name ++ 32 ∷ 123 ∷ 10 ∷ lines ++ indent k ++ 125 ∷ 10 ∷ []
+
+abbrev pub lines_of : ℕ → Fields → List ℕ
+lines_of k none = []
+lines_of k (scalar name kind bytes rest) = scalar_line k name kind bytes ++ lines_of k rest
+lines_of k (message name inner rest) = message_lines k name (lines_of (suc k) inner) ++ lines_of k rest
+
+abbrev pub canonical : Fields → List ℕ
+canonical t = lines_of 0 t
+
+-- the bytes are characters: ASCII, or UTF-8 past it
+pub data AreCharacters : List ℕ → Type 0 where
+  no_more : AreCharacters []
+  ascii : {b : ℕ} {s : List ℕ} → b < 128 → AreCharacters s → AreCharacters (b ∷ s)
+  beyond : {b : ℕ} {t : Tail} {u s : List ℕ} → lead b ≡ Some t → IsTail t u → AreCharacters s → AreCharacters (b ∷ u ++ s)
+
+-- a scalar that the grammar spells
+abbrev pub IsSpelled : Kind → List ℕ → Type 0
+IsSpelled word bytes = IsWord bytes
+IsSpelled number bytes = IsNumber bytes
+IsSpelled quoted bytes = AreCharacters bytes
+
+-- names and scalars are spelled by the grammar
+abbrev pub AreSpelled : Fields → Type 0
+AreSpelled none = Unit {0}
+AreSpelled (scalar name kind bytes rest) = IsName name × IsSpelled kind bytes × AreSpelled rest
+AreSpelled (message name inner rest) = IsName name × AreSpelled inner × AreSpelled rest

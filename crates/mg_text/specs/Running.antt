@@ -1,0 +1,89 @@
+-- What the parser's own types stand for in the machine.
+use Rattle.std.specs.Prelude.{ℕ, List, [], ◌∷◌, Bool, true, false, Option, Some, None, ◌≡◌, ◌≤◌, map, reverse, Result, Ok, Err}
+use Rattle.mg_text.specs.declared.machine.Frame.{Frame}
+use Rattle.mg_text.specs.declared.machine.Machine.{Machine}
+use Rattle.mg_text.specs.declared.parts.Kind.{Kind}
+use Rattle.mg_text.specs.declared.parts.Kind.TheVariants as kinds
+use Rattle.mg_text.specs.declared.parts.Slot.{Slot}
+use Rattle.mg_text.specs.declared.parts.Between.{Between}
+use Rattle.mg_text.specs.declared.parts.Between.TheVariants as between
+use Rattle.mg_text.specs.declared.parts.Reading.{Reading}
+use Rattle.mg_text.specs.declared.parts.Reading.TheVariants as reading
+use Rattle.mg_text.specs.declared.parts.Inside.{Inside}
+use Rattle.mg_text.specs.Grammar.{Gives, Place, start, named, valued, opened, element, behind, joined}
+use Rattle.mg_text.specs.Machine as model
+use Rattle.mg_text.specs.Machine.{Spot, at, comment, naming, token, piece, State}
+use Rattle.mg_text.specs.Tree as tree
+use Rattle.mg_text.specs.Tree.{depth}
+use Rattle.mg_text.specs.View.{view, fields_view}
+use Rattle.mg_text.specs.Answer.{max_depth, IsFault}
+use Rattle.mg_text.specs.declared.tree.Tree.{Tree}
+use Rattle.mg_text.specs.declared.fault.TextFault.{TextFault}
+use Rattle.mg_text.specs.declared.fault.TextFault.TheVariants.{Syntax, TooDeep, TooLong, OutOfMemory}
+
+abbrev pub place_of : Between → List ℕ → List ℕ → Place
+place_of (between.Start f) name bytes = start f
+place_of between.Named name bytes = named name
+place_of between.Valued name bytes = valued name
+place_of (between.Opened c) name bytes = opened name c
+place_of (between.Element m) name bytes = element name m
+place_of (between.Behind m) name bytes = behind name m
+place_of (between.Joined slot) name bytes = joined name slot bytes
+
+abbrev pub spot_of : Reading → List ℕ → List ℕ → Spot
+spot_of (reading.At p) name bytes = at (place_of p name bytes)
+spot_of (reading.Comment p t) name bytes = comment (place_of p name bytes) t
+spot_of (reading.Name part) name bytes = naming part bytes
+spot_of (reading.Scalar slot part) name bytes = token name slot part bytes
+spot_of (reading.Piece slot q i) name bytes = piece name slot bytes q i
+
+-- a slot with the name of the field
+abbrev pub named_slot : List ℕ → Option Slot → Option (List ℕ × Slot)
+named_slot name None = None
+named_slot name (Some slot) = Some (name, slot)
+
+abbrev pub named_list : List ℕ → Option Bool → Option (List ℕ × Bool)
+named_list name None = None
+named_list name (Some colon) = Some (name, colon)
+
+-- what is read next within a piece, and the byte that is spelled, if any
+abbrev pub spelled : Option ℕ → List ℕ
+spelled None = []
+spelled (Some b) = b ∷ []
+
+-- what is read next within a piece, and what is spelled
+abbrev pub spelling_of : Inside × Option ℕ → Inside × List ℕ
+spelling_of next = (next.0, spelled next.1)
+
+abbrev pub kind_view : Kind → tree.Kind
+kind_view kinds.Word = tree.word
+kind_view kinds.Number = tree.number
+kind_view kinds.Quoted = tree.quoted
+
+abbrev pub frame_of : Frame → model.Frame
+frame_of f = record { before = fields_view f.before.items; name = f.name; slot = f.slot; mark = f.mark }
+
+-- the open messages, the innermost first
+abbrev pub frames_of : List Frame → List model.Frame
+frames_of fs = map frame_of (reverse fs)
+
+abbrev pub state_of : Machine → State
+state_of m = record { done = fields_view m.done.items; frames = frames_of m.frames.items; spot = spot_of m.reading m.name m.token.items }
+
+-- whether a step was taken, and to which state
+abbrev pub Took : Option State → Bool → State → Type 0
+Took o true s = o ≡ Some s
+Took o false s = o ≡ None
+
+-- what the end of a file at this place leads to
+abbrev pub Ended : State → ℕ → Result Tree TextFault → Type 0
+Ended s place (Ok tree) = model.outcome s (10 ∷ []) ≡ Some (view tree)
+Ended s place (Err (Syntax where_is)) = (where_is ≡ place) × (model.outcome s (10 ∷ []) ≡ None)
+Ended s place (Err OutOfMemory) = Unit {0}
+Ended s place (Err fault) = ⊥
+
+-- the answer for a file that isn't too long
+abbrev pub IsAnswered : List ℕ → Result Tree TextFault → Type 0
+IsAnswered file (Ok tree) = Gives file (view tree) × (depth (view tree) ≤ max_depth)
+IsAnswered file (Err TooLong) = ⊥
+IsAnswered file (Err fault) = IsFault file fault

@@ -1,0 +1,276 @@
+ghost use Rattle.std.specs.Prelude.{◌≡◌, if◌then◌else◌};
+ghost use Rattle.mg_text.specs.Byte.{class_of, below_digits, digit_class, upper_class, lower_class, is_letter, is_digit, is_octal, is_hex, is_word_byte, joins, lead, follow, is_within};
+
+use crate::parts::Tail;
+
+/// The classes of bytes that the grammar tells apart.
+#[derive(Clone, Copy, Debug)]
+pub enum Class {
+    Blank,
+    LineFeed,
+    Hash,
+    DoubleQuote,
+    SingleQuote,
+    Backslash,
+    Colon,
+    Comma,
+    Semicolon,
+    BraceOpen,
+    BraceClose,
+    AngleOpen,
+    AngleClose,
+    BracketOpen,
+    BracketClose,
+    Minus,
+    Plus,
+    Dot,
+    Slash,
+    Zero,
+    One,
+    OctalDigit,
+    Digit,
+    LetterE,
+    LetterF,
+    HexLetter,
+    LetterX,
+    LetterN,
+    LetterR,
+    LetterT,
+    Letter,
+    Other,
+    Beyond,
+}
+
+#[tactic(auto, unfolding(crate::specs::Byte::below_digits))]
+fn below_digits(b: u8) -> Class
+    ensures { result ≡ below_digits b }
+{
+    if b == 10 {
+        Class::LineFeed
+    } else if (9 <= b && b <= 13) || b == 32 {
+        Class::Blank
+    } else if b == 34 {
+        Class::DoubleQuote
+    } else if b == 35 {
+        Class::Hash
+    } else if b == 39 {
+        Class::SingleQuote
+    } else if b == 43 {
+        Class::Plus
+    } else if b == 44 {
+        Class::Comma
+    } else if b == 45 {
+        Class::Minus
+    } else if b == 46 {
+        Class::Dot
+    } else if b == 47 {
+        Class::Slash
+    } else {
+        Class::Other
+    }
+}
+
+#[tactic(auto, unfolding(crate::specs::Byte::digit_class))]
+fn digit_class(b: u8) -> Class
+    ensures { result ≡ digit_class b }
+{
+    if b == 48 {
+        Class::Zero
+    } else if b == 49 {
+        Class::One
+    } else if 50 <= b && b <= 55 {
+        Class::OctalDigit
+    } else {
+        Class::Digit
+    }
+}
+
+#[tactic(auto, unfolding(crate::specs::Byte::upper_class))]
+fn upper_class(b: u8) -> Class
+    ensures { result ≡ upper_class b }
+{
+    if b == 58 {
+        Class::Colon
+    } else if b == 59 {
+        Class::Semicolon
+    } else if b == 60 {
+        Class::AngleOpen
+    } else if b == 62 {
+        Class::AngleClose
+    } else if b == 91 {
+        Class::BracketOpen
+    } else if b == 92 {
+        Class::Backslash
+    } else if b == 93 {
+        Class::BracketClose
+    } else if b == 69 {
+        Class::LetterE
+    } else if b == 70 {
+        Class::LetterF
+    } else if 65 <= b && b <= 68 {
+        Class::HexLetter
+    } else if b == 88 {
+        Class::LetterX
+    } else if (65 <= b && b <= 90) || b == 95 {
+        Class::Letter
+    } else {
+        Class::Other
+    }
+}
+
+#[tactic(auto, unfolding(crate::specs::Byte::lower_class))]
+fn lower_class(b: u8) -> Class
+    ensures { result ≡ lower_class b }
+{
+    if b == 123 {
+        Class::BraceOpen
+    } else if b == 125 {
+        Class::BraceClose
+    } else if b == 101 {
+        Class::LetterE
+    } else if b == 102 {
+        Class::LetterF
+    } else if 97 <= b && b <= 100 {
+        Class::HexLetter
+    } else if b == 120 {
+        Class::LetterX
+    } else if b == 110 {
+        Class::LetterN
+    } else if b == 114 {
+        Class::LetterR
+    } else if b == 116 {
+        Class::LetterT
+    } else if 97 <= b && b <= 122 {
+        Class::Letter
+    } else {
+        Class::Other
+    }
+}
+
+/// The class of a byte.
+#[tactic(auto, unfolding(crate::specs::Byte::class_of))]
+pub fn class_of(b: u8) -> Class
+    ensures { result ≡ class_of b }
+{
+    if b < 48 {
+        below_digits(b)
+    } else if b < 58 {
+        digit_class(b)
+    } else if b < 97 {
+        upper_class(b)
+    } else if b < 128 {
+        lower_class(b)
+    } else {
+        Class::Beyond
+    }
+}
+
+impl Class {
+    pub fn is_letter(self) -> bool
+        ensures { result ≡ is_letter self }
+    {
+        matches!(
+            self,
+            Class::LetterE
+                | Class::LetterF
+                | Class::HexLetter
+                | Class::LetterX
+                | Class::LetterN
+                | Class::LetterR
+                | Class::LetterT
+                | Class::Letter
+        )
+    }
+
+    pub fn is_digit(self) -> bool
+        ensures { result ≡ is_digit self }
+    {
+        matches!(self, Class::Zero | Class::One | Class::OctalDigit | Class::Digit)
+    }
+
+    pub fn is_octal(self) -> bool
+        ensures { result ≡ is_octal self }
+    {
+        matches!(self, Class::Zero | Class::One | Class::OctalDigit)
+    }
+
+    pub fn is_hex(self) -> bool
+        ensures { result ≡ is_hex self }
+    {
+        matches!(
+            self,
+            Class::Zero
+                | Class::One
+                | Class::OctalDigit
+                | Class::Digit
+                | Class::LetterE
+                | Class::LetterF
+                | Class::HexLetter
+        )
+    }
+
+    pub fn is_word_byte(self) -> bool
+        ensures { result ≡ is_word_byte self }
+    {
+        self.is_letter() || self.is_digit()
+    }
+
+    /// Whether a byte would join a word or a number before it.
+    pub fn joins(self) -> bool
+        ensures { result ≡ joins self }
+    {
+        match self {
+            Class::Dot => true,
+            _ => self.is_word_byte(),
+        }
+    }
+}
+
+/// What a first byte past ASCII awaits.
+pub fn lead(b: u8) -> Option<Tail>
+    ensures { result ≡ lead b }
+{
+    if 194 <= b && b <= 223 {
+        Some(Tail::OneMore)
+    } else if b == 224 {
+        Some(Tail::AfterE0)
+    } else if b == 237 {
+        Some(Tail::AfterED)
+    } else if 225 <= b && b <= 239 {
+        Some(Tail::TwoMore)
+    } else if b == 240 {
+        Some(Tail::AfterF0)
+    } else if 241 <= b && b <= 243 {
+        Some(Tail::ThreeMore)
+    } else if b == 244 {
+        Some(Tail::AfterF4)
+    } else {
+        None
+    }
+}
+
+fn within(low: u8, high: u8, b: u8, next: Tail) -> Option<Tail>
+    ensures { result ≡ (if is_within low high b then Some next else None) }
+{
+    if low <= b && b <= high {
+        Some(next)
+    } else {
+        None
+    }
+}
+
+/// What is awaited after one more byte of a character.
+pub fn follow(t: Tail, b: u8) -> Option<Tail>
+    ensures { result ≡ follow t b }
+{
+    match t {
+        Tail::Whole => None,
+        Tail::OneMore => within(128, 191, b, Tail::Whole),
+        Tail::TwoMore => within(128, 191, b, Tail::OneMore),
+        Tail::ThreeMore => within(128, 191, b, Tail::TwoMore),
+        Tail::AfterE0 => within(160, 191, b, Tail::OneMore),
+        Tail::AfterED => within(128, 159, b, Tail::OneMore),
+        Tail::AfterF0 => within(144, 191, b, Tail::TwoMore),
+        Tail::AfterF4 => within(128, 143, b, Tail::TwoMore),
+    }
+}

@@ -1,0 +1,22 @@
+//! The text form of protocol buffers, as graph files are written in it: `parse` reads a file, byte by byte, and
+//! `print` writes the canonical text. What a text means is the grammar of `specs/Grammar.antt`.
+#![tactic(auto)]
+
+mod class;
+mod between;
+mod fault;
+mod inside;
+mod machine;
+mod next;
+
+mod parts;
+mod reader;
+mod step;
+mod tree;
+
+pub use fault::TextFault;
+pub use reader::parse;
+pub use tree::{Field, Scalar, Tree, TreeValue};
+
+#[cfg(test)]
+mod tests;

@@ -1,0 +1,214 @@
+ghost use Rattle.std.specs.Prelude.{◌≡◌, ℕ, List, [], ◌∷◌, ◌++◌, IfOk, OnOk, length, Some};
+ghost use Rattle.std.specs.Option.{option_map};
+ghost use Rattle.mg_text.specs.Tree.{append, none, scalar, message};
+ghost use Rattle.mg_text.specs.View.{fields_view, value_view, simple, inner};
+ghost use Rattle.mg_text.specs.Machine.{resumed, step, step_at, step_settled, step_naming, step_token, moves, settled, settled_place, opens_at, closes_at, bracket_spot, token_spot, letter_spot, quote_spot, piece_spot, goes_on, accepts, name_next, scalar_next, begin, with_scalar, inside_next, is_closing_quote};
+ghost use Rattle.mg_text.specs.Grammar.{scalar_slot, message_slot, piece_slot, list_slot, after};
+ghost use Rattle.mg_text.specs.Running.{state_of, frames_of, place_of, spot_of, kind_view, frame_of, Took};
+
+use std::alloc::{AllocError, Global};
+use std::mem;
+
+use mg_value::MgText;
+
+use crate::between::{comment_next, same_mark};
+use crate::class::{class_of, Class};
+use crate::inside::{inside_next, is_closing_quote};
+use crate::next::{is_whole_name, is_whole_scalar, name_next, scalar_next};
+use crate::parts::{Between, Inside, Kind, Mark, NamePart, Quote, Reading, ScalarPart, Slot, Tail};
+use crate::tree::{Field, Scalar, Tree, TreeValue};
+
+/// A message that is open: the fields before it, its name, where it stands and its mark.
+#[derive(Drop)]
+pub struct Frame {
+    pub before: Vec<Field>,
+    pub name: MgText,
+    pub slot: Slot,
+    pub mark: Mark,
+}
+
+/// The reader of a text: the fields of the innermost open message so far, the messages around it, and what is being
+/// read, with the name of the field and the bytes of the token so far.
+#[derive(Drop)]
+pub struct Machine {
+    pub done: Vec<Field>,
+    pub frames: Vec<Frame>,
+    pub reading: Reading,
+    pub name: MgText,
+    pub token: Vec<u8>,
+}
+
+/// The text of bytes that are UTF-8.
+pub fn text_of(bytes: Vec<u8>) -> Result<MgText, AllocError>
+    ensures { IfOk result (λ t. t ≡ bytes.items) }
+{
+    match String::from_utf8(bytes) {
+        Ok(text) => Ok(MgText::from_string(text)),
+        Err(_) => Err(AllocError),
+    }
+}
+
+fn scalar_of(kind: Kind, text: MgText) -> TreeValue
+    ensures { value_view result ≡ simple (kind_view kind) text }
+{
+    match kind {
+        Kind::Word => TreeValue::Scalar(Scalar::Word(text)),
+        Kind::Number => TreeValue::Scalar(Scalar::Number(text)),
+        Kind::Quoted => TreeValue::Scalar(Scalar::Quoted(text)),
+    }
+}
+
+fn message_of(fields: Vec<Field>) -> TreeValue
+    ensures { value_view result ≡ inner (fields_view fields.items) }
+{
+    TreeValue::Message(Tree { fields })
+}
+
+impl Machine {
+    /// At the start of a text.
+    pub fn new(alloc: Global) -> Machine
+        ensures { state_of result ≡ begin }
+    {
+        Machine {
+            done: Vec::new(alloc),
+            frames: Vec::new(alloc),
+            reading: Reading::At(Between::Start(false)),
+            name: MgText::from_string(String::new(alloc)),
+            token: Vec::new(alloc),
+        }
+    }
+}
+
+impl Machine {
+    /// How many messages are open.
+    pub fn depth(&self) -> usize
+        ensures { result ≡ length (frames_of self.now.frames.items) }
+    {
+        self.frames.len()
+    }
+
+    /// The name of the field, for a value: a list keeps it for its other elements.
+    fn take_name(&mut self, alloc: Global, slot: Slot) -> Result<MgText, AllocError>
+        ensures name { IfOk result (λ t. t ≡ self.old.name) }
+        ensures place { after self.new.name slot ≡ after self.old.name slot }
+        ensures same { self.new ≡ record self.old { name = self.new.name } }
+    {
+        match slot {
+            Slot::One => {
+                let none = MgText::from_string(String::new(alloc));
+                Ok(mem::replace(&mut self.name, none))
+            }
+            Slot::Scalars | Slot::Messages => self.name.try_clone(alloc),
+        }
+    }
+
+    /// Adds the scalar that has been read, and goes to the place after it.
+    pub fn emit(&mut self, alloc: Global, slot: Slot, kind: Kind) -> Result<Between, AllocError>
+        ensures state { OnOk result (state_of self.new
+            ≡ with_scalar (state_of self.old) self.old.name slot (kind_view kind) self.old.token.items) }
+        ensures place { IfOk result (λ q. place_of q self.new.name self.new.token.items ≡ after self.old.name slot) }
+    {
+        let name = self.take_name(alloc, slot)?;
+        let bytes = mem::replace(&mut self.token, Vec::new(alloc));
+        let value = scalar_of(kind, text_of(bytes)?);
+        self.done.push(Field { name, value })?;
+        let place = Between::after(slot);
+        self.reading = Reading::At(place);
+        Ok(place)
+    }
+
+    /// Goes on to what is read next, if anything may be.
+    pub fn moves(&mut self, next: Option<Reading>) -> bool
+        ensures { Took (moves (state_of self.old)
+            (option_map (λ r. spot_of r self.old.name self.old.token.items) next)) result (state_of self.new) }
+    {
+        match next {
+            Some(reading) => {
+                self.reading = reading;
+                true
+            }
+            None => false,
+        }
+    }
+
+    /// Ends a string where no piece follows: the place after it.
+    pub fn settle(&mut self, alloc: Global, p: Between) -> Result<Between, AllocError>
+        ensures state { OnOk result (state_of self.new
+            ≡ settled (state_of self.old) (place_of p self.old.name self.old.token.items)) }
+        ensures place { IfOk result (λ q. place_of q self.new.name self.new.token.items
+            ≡ settled_place (place_of p self.old.name self.old.token.items)) }
+    {
+        match p {
+            Between::Joined(slot) => self.emit(alloc, slot, Kind::Quoted),
+            _ => {
+                self.reading = Reading::At(p);
+                Ok(p)
+            }
+        }
+    }
+
+    /// Opens a message, where one may stand.
+    pub fn open(&mut self, alloc: Global, p: Between, mark: Mark) -> Result<bool, AllocError>
+        ensures { IfOk result (λ taken. Took (opens_at (state_of self.old) mark
+            (message_slot (place_of p self.old.name self.old.token.items))) taken (state_of self.new)) }
+    {
+        match p.message_slot() {
+            None => Ok(false),
+            Some(slot) => {
+                let before = mem::replace(&mut self.done, Vec::new(alloc));
+                let none = MgText::from_string(String::new(alloc));
+                let name = mem::replace(&mut self.name, none);
+                let frame = Frame {
+                    before,
+                    name,
+                    slot,
+                    mark,
+                };
+                self.frames.push(frame)?;
+                self.reading = Reading::At(Between::Start(false));
+                Ok(true)
+            }
+        }
+    }
+
+    /// Adds a message that is closed to the fields before it, and goes to the place after it.
+    fn resume(&mut self, alloc: Global, frame: Frame) -> Result<(), AllocError>
+        ensures { OnOk result (state_of self.new
+            ≡ resumed (fields_view self.old.done.items) (frame_of frame) (frames_of self.old.frames.items)) }
+    {
+        let Frame {
+            before,
+            name,
+            slot,
+            mark: _,
+        } = frame;
+        let fields = mem::replace(&mut self.done, before);
+        self.name = name;
+        let name = self.take_name(alloc, slot)?;
+        let value = message_of(fields);
+        self.done.push(Field { name, value })?;
+        self.reading = Reading::At(Between::after(slot));
+        Ok(())
+    }
+
+    /// Closes the innermost message, where it may end, by the mark that opened it.
+    pub fn close(&mut self, alloc: Global, p: Between, mark: Mark) -> Result<bool, AllocError>
+        ensures { IfOk result (λ taken. Took (closes_at (state_of self.old) mark
+            (place_of p self.old.name self.old.token.items)) taken (state_of self.new)) }
+    {
+        let Between::Start(_) = p else {
+            return Ok(false);
+        };
+        match self.frames.pop() {
+            None => Ok(false),
+            Some(frame) => {
+                if same_mark(frame.mark, mark) {
+                    self.resume(alloc, frame)?;
+                    Ok(true)
+                } else {
+                    Ok(false)
+                }
+            }
+        }
+    }
+}

@@ -1,0 +1,69 @@
+ghost use Rattle.std.specs.Prelude.{◌≡◌, ℕ, ◌<◌, ◌≤◌, ◌↔◌, length, IfOk, IfErr, Err};
+ghost use Rattle.mg_text.specs.Tree.{Fields, depth};
+ghost use Rattle.mg_text.specs.Grammar.{Gives};
+ghost use Rattle.mg_text.specs.View.{view};
+ghost use Rattle.mg_text.specs.Answer.{max_len, max_depth, IsSyntaxFault, IsTooDeep, IsFault, IsTree, IsFailed};
+ghost use Rattle.mg_text.specs.Running.{state_of, Ended, IsAnswered};
+
+use std::alloc::Global;
+
+use crate::fault::TextFault;
+use crate::machine::Machine;
+use crate::tree::Tree;
+
+const MAX_LEN: usize = 4_194_304;
+const MAX_DEPTH: usize = 64;
+
+/// The line feed that ends a comment at the end of a file.
+const LINE_FEED: u8 = 10;
+
+/// Ends the file.
+fn end(alloc: Global, mut machine: Machine, at: u32) -> Result<Tree, TextFault>
+    ensures { Ended (state_of machine) at result }
+{
+    if !machine.step(alloc, LINE_FEED)? {
+        return Err(TextFault::Syntax { at });
+    }
+    match machine.finish(alloc)? {
+        Some(tree) => Ok(tree),
+        None => Err(TextFault::Syntax { at }),
+    }
+}
+
+fn read(alloc: Global, bytes: &[u8]) -> Result<Tree, TextFault>
+    requires { length bytes.now ≤ max_len }
+    ensures { IsAnswered bytes.now result }
+{
+    let mut machine = Machine::new(alloc);
+    for (i, b) in bytes.iter().enumerate() {
+        let at = i as u32;
+        if !machine.step(alloc, *b)? {
+            return Err(TextFault::Syntax { at });
+        }
+        if machine.depth() > MAX_DEPTH {
+            return Err(TextFault::TooDeep { at });
+        }
+    }
+    end(alloc, machine, bytes.len() as u32)
+}
+
+/// Reads a file in the text form of protocol buffers, in the profile of docs/TEXT_FORMAT.md, after the Protocol
+/// Buffers text format language specification. It takes time in the file's length, and no stack for its depth.
+pub fn parse(alloc: Global, bytes: &[u8]) -> Result<Tree, TextFault>
+    // What is read is what the grammar gives.
+    ensures ok { IfOk result (λ tree. Gives bytes.now (view tree) × (depth (view tree) ≤ max_depth)) }
+    ensures fault { IfErr result (IsFault bytes.now) }
+
+    // Each answer is given wherever it is due, unless memory runs out.
+    ensures too_long { (result ≡ Err TextFault.TooLong) ↔ (max_len < length bytes.now) }
+    ensures tree { (t : Fields) → length bytes.now ≤ max_len → Gives bytes.now t → depth t ≤ max_depth → IsTree t result }
+    ensures syntax { (place : ℕ) → length bytes.now ≤ max_len → IsSyntaxFault bytes.now place
+        → IsFailed (TextFault.Syntax place) result }
+    ensures too_deep { (place : ℕ) → length bytes.now ≤ max_len → IsTooDeep bytes.now place
+        → IsFailed (TextFault.TooDeep place) result }
+{
+    if bytes.len() > MAX_LEN {
+        return Err(TextFault::TooLong);
+    }
+    read(alloc, bytes)
+}
