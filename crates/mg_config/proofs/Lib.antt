@@ -1,3 +1,10 @@
 pub mod Digits
 pub mod Lists
 pub mod Checked
+pub mod Loops
+pub mod Refused
+pub mod AsPort
+pub mod Marked
+pub mod Joined
+pub mod Named
+pub mod Noded

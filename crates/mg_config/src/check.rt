@@ -64,7 +64,7 @@ fn inside(
     name: &MgText,
     fault: ConfigFault,
 ) -> ConfigFault
-    ensures { result ≢ ConfigFault.OutOfMemory → result ≡ paths.within (paths.step many name.now (map field_view before.now)) fault }
+    ensures { result ≢ ConfigFault.OutOfMemory → (fault ≢ ConfigFault.OutOfMemory) × (result ≡ paths.within (paths.step many name.now (map field_view before.now)) fault) }
 {
     match step(alloc, many, name, before) {
         Ok(place) => within(alloc, place.as_str(), fault),

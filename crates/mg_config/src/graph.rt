@@ -1,6 +1,19 @@
+ghost use Rattle.std.specs.Prelude.{◌≡◌, ◌≢◌, Ok, Err, IfOk, IfErr, map};
+ghost use Rattle.mg_text.specs.View.{field_view, fields_view, view};
+ghost use Rattle.mg_config.specs.Config as config;
+
+use crate::calculators::check_calculators;
+use crate::check::check;
+use crate::fault::ConfigFault;
 use crate::node::NodeConfig;
+use crate::nodes::nodes_named;
+use crate::ports::ports_named;
+use crate::schema::Message;
+use crate::value::{number_named, text_named};
 use mg_names::PortMap;
+use mg_text::{Field, Tree};
 use mg_value::{List, MgText};
+use std::alloc::Global;
 
 /// The nodes of a graph, in the order of the text.
 pub type NodeList = List<NodeConfig>;
@@ -17,4 +30,45 @@ pub struct GraphConfig {
     pub output_sides: PortMap,
     pub max_queue_size: i32,
     pub num_threads: i32,
+}
+
+/// The graph of fields that have no fault of their own.
+fn graph_of(alloc: Global, fields: &[Field]) -> Result<GraphConfig, ConfigFault>
+    ensures ok { IfOk result (λ graph. config.graph_of (map field_view fields.now) ≡ Ok (config.graph_view graph)) }
+    ensures err { IfErr result (λ fault. fault ≢ ConfigFault.OutOfMemory → config.graph_of (map field_view fields.now) ≡ Err fault) }
+{
+    let inputs = ports_named(alloc, fields, "input_stream")?;
+    let outputs = ports_named(alloc, fields, "output_stream")?;
+    let input_sides = ports_named(alloc, fields, "input_side_packet")?;
+    let output_sides = ports_named(alloc, fields, "output_side_packet")?;
+    let nodes = nodes_named(alloc, fields)?;
+    Ok(GraphConfig {
+        type_name: text_named(alloc, fields, b"type")?,
+        nodes,
+        inputs,
+        outputs,
+        input_sides,
+        output_sides,
+        max_queue_size: number_named(fields, b"max_queue_size"),
+        num_threads: number_named(fields, b"num_threads"),
+    })
+}
+
+fn read_fields(alloc: Global, fields: &[Field]) -> Result<GraphConfig, ConfigFault>
+    ensures ok { IfOk result (λ graph. config.config_of (fields_view fields.now) ≡ Ok (config.graph_view graph)) }
+    ensures err { IfErr result (λ fault. fault ≢ ConfigFault.OutOfMemory → config.config_of (fields_view fields.now) ≡ Err fault) }
+{
+    check(alloc, Message::Graph, fields)?;
+    check_calculators(alloc, fields)?;
+    graph_of(alloc, fields)
+}
+
+/// The configuration of a file's fields (MediaPipe, calculator.proto: CalculatorGraphConfig). Faults of fields come
+/// first, in the order of the text; then nodes whose calculator is absent or empty; then what spells no port, first
+/// among the graph's lists and then among each node's, in the order in which `write` writes them.
+pub fn read(alloc: Global, tree: &Tree) -> Result<GraphConfig, ConfigFault>
+    ensures ok { IfOk result (λ graph. config.config_of (view tree.now) ≡ Ok (config.graph_view graph)) }
+    ensures err { IfErr result (λ fault. fault ≢ ConfigFault.OutOfMemory → config.config_of (view tree.now) ≡ Err fault) }
+{
+    read_fields(alloc, tree.fields.as_slice())
 }

@@ -2,17 +2,24 @@
 //! specs/, the configuration of a list of fields or its first fault, and `write` to `fields_of`.
 #![tactic(auto)]
 
+mod calculators;
 mod check;
+mod copy;
 mod fault;
 mod graph;
 mod mark;
+mod marks;
 mod node;
+mod nodes;
 mod number;
+mod options;
 mod path;
+mod ports;
 mod schema;
+mod texts;
 mod value;
 
 pub use fault::ConfigFault;
-pub use graph::{GraphConfig, NodeList};
+pub use graph::{GraphConfig, NodeList, read};
 pub use mark::Mark;
 pub use node::{MarkList, NodeConfig};

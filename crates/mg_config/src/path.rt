@@ -70,10 +70,20 @@ fn moved(alloc: Global, place: &str, fault: ConfigFault) -> Result<ConfigFault, 
 
 /// A fault of what is inside a field, or want of memory.
 pub fn within(alloc: Global, place: &str, fault: ConfigFault) -> ConfigFault
-    ensures { result ≢ ConfigFault.OutOfMemory → result ≡ paths.within place.now fault }
+    ensures { result ≢ ConfigFault.OutOfMemory → (fault ≢ ConfigFault.OutOfMemory) × (result ≡ paths.within place.now fault) }
 {
     match moved(alloc, place, fault) {
         Ok(fault) => fault,
+        Err(_) => ConfigFault::OutOfMemory,
+    }
+}
+
+/// A fault of what is inside the field of a name that stands after k others of it, or want of memory.
+pub fn within_numbered(alloc: Global, name: &str, k: usize, fault: ConfigFault) -> ConfigFault
+    ensures { result ≢ ConfigFault.OutOfMemory → (fault ≢ ConfigFault.OutOfMemory) × (result ≡ paths.within (paths.numbered name.now k) fault) }
+{
+    match numbered(alloc, name, k) {
+        Ok(place) => within(alloc, place.as_str(), fault),
         Err(_) => ConfigFault::OutOfMemory,
     }
 }
