@@ -7,4 +7,5 @@ pub mod AsPort
 pub mod Marked
 pub mod Joined
 pub mod Named
+pub mod Made
 pub mod Noded

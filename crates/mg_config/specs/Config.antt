@@ -13,6 +13,7 @@ use Rattle.mg_config.specs.Faults.{field_fault, calculator_fault}
 use Rattle.mg_config.specs.Marks.{mark_of}
 use Rattle.mg_config.specs.declared.schema.Message.TheVariants.{Graph}
 use Rattle.mg_config.specs.declared.mark.Mark.{Mark}
+use Rattle.mg_config.specs.declared.ports.PortPair.{PortPair}
 use Rattle.mg_config.specs.declared.node.NodeConfig.{NodeConfig}
 use Rattle.mg_config.specs.declared.graph.GraphConfig.{GraphConfig}
 use Rattle.mg_config.specs.declared.fault.ConfigFault.{ConfigFault}
@@ -93,6 +94,17 @@ ports_by name texts (Err cause) = Err (BadPort (port_path cause name texts) caus
 abbrev pub ports_in : List ℕ → List Entry → Result (List Port) ConfigFault
 ports_in name fields = ports_by name (texts_in name fields) (ports_of (texts_in name fields))
 
+-- the ports that come in and then those that go out
+abbrev pub pair_in : List ℕ → List ℕ → List Entry → Result PortPair ConfigFault
+pair_in input output fields =
+    then_do (ports_in input fields) (λ inputs. then_do (ports_in output fields) (λ outputs. Ok (record { inputs = inputs; outputs = outputs })))
+
+abbrev pub streams_in : List Entry → Result PortPair ConfigFault
+streams_in fields = pair_in (codes "input_stream") (codes "output_stream") fields
+
+abbrev pub sides_in : List Entry → Result PortPair ConfigFault
+sides_in fields = pair_in (codes "input_side_packet") (codes "output_side_packet") fields
+
 abbrev pub mark_by : Result Mark NameFault → Result Mark ConfigFault
 mark_by (Ok mark) = Ok mark
 mark_by (Err cause) = Err (BadPort (codes "tag_index") cause)
@@ -124,27 +136,27 @@ options_in fields = joined (map (λ field. fields_of_value field.value) (filter 
 abbrev pub handler_in : List Entry → List ℕ
 handler_in fields = text_in (codes "input_stream_handler") (entries (message_in (codes "input_stream_handler") fields))
 
+-- a node of the ports and back edges that its fields tell of
+abbrev pub node_with : List Entry → PortPair → PortPair → List Mark → NodeView
+node_with fields streams sides back_marks = record {
+  name = text_in (codes "name") fields;
+  calculator = text_in (codes "calculator") fields;
+  inputs = streams.inputs;
+  outputs = streams.outputs;
+  input_sides = sides.inputs;
+  output_sides = sides.outputs;
+  options = options_in fields;
+  back_marks = back_marks;
+  handler = handler_in fields;
+  max_in_flight = number_in (codes "max_in_flight") fields;
+  buffer_size_hint = number_in (codes "buffer_size_hint") fields;
+}
+
 -- a node whose fields have no fault: its ports and back edges, in the order in which they are written
 abbrev pub node_of : List Entry → Result NodeView ConfigFault
 node_of fields =
-    then_do (ports_in (codes "input_stream") fields) (λ inputs.
-    then_do (ports_in (codes "output_stream") fields) (λ outputs.
-    then_do (ports_in (codes "input_side_packet") fields) (λ input_sides.
-    then_do (ports_in (codes "output_side_packet") fields) (λ output_sides.
-    then_do (marks_from 0 (messages_in (codes "input_stream_info") fields)) (λ back_marks.
-    Ok (record {
-      name = text_in (codes "name") fields;
-      calculator = text_in (codes "calculator") fields;
-      inputs = inputs;
-      outputs = outputs;
-      input_sides = input_sides;
-      output_sides = output_sides;
-      options = options_in fields;
-      back_marks = back_marks;
-      handler = handler_in fields;
-      max_in_flight = number_in (codes "max_in_flight") fields;
-      buffer_size_hint = number_in (codes "buffer_size_hint") fields;
-    }))))))
+    then_do (streams_in fields) (λ streams. then_do (sides_in fields) (λ sides.
+    then_do (marks_from 0 (messages_in (codes "input_stream_info") fields)) (λ back_marks. Ok (node_with fields streams sides back_marks))))
 
 -- the nodes, counted from k on
 abbrev pub nodes_from : ℕ → List Fields → Result (List NodeView) ConfigFault
@@ -153,24 +165,24 @@ nodes_from k (fields ∷ more) =
     then_do (placed (numbered (codes "node") k) (node_of (entries fields)))
     (λ node. then_do (nodes_from (suc k) more) (λ nodes. Ok (node ∷ nodes)))
 
+-- a graph of the ports and nodes that its fields tell of
+abbrev pub graph_with : List Entry → PortPair → PortPair → List NodeView → GraphView
+graph_with fields streams sides nodes = record {
+  type_name = text_in (codes "type") fields;
+  nodes = nodes;
+  inputs = streams.inputs;
+  outputs = streams.outputs;
+  input_sides = sides.inputs;
+  output_sides = sides.outputs;
+  max_queue_size = number_in (codes "max_queue_size") fields;
+  num_threads = number_in (codes "num_threads") fields;
+}
+
 -- a graph whose fields have no fault: its own ports first, then its nodes
 abbrev pub graph_of : List Entry → Result GraphView ConfigFault
 graph_of fields =
-    then_do (ports_in (codes "input_stream") fields) (λ inputs.
-    then_do (ports_in (codes "output_stream") fields) (λ outputs.
-    then_do (ports_in (codes "input_side_packet") fields) (λ input_sides.
-    then_do (ports_in (codes "output_side_packet") fields) (λ output_sides.
-    then_do (nodes_from 0 (messages_in (codes "node") fields)) (λ nodes.
-    Ok (record {
-      type_name = text_in (codes "type") fields;
-      nodes = nodes;
-      inputs = inputs;
-      outputs = outputs;
-      input_sides = input_sides;
-      output_sides = output_sides;
-      max_queue_size = number_in (codes "max_queue_size") fields;
-      num_threads = number_in (codes "num_threads") fields;
-    }))))))
+    then_do (streams_in fields) (λ streams. then_do (sides_in fields) (λ sides.
+    then_do (nodes_from 0 (messages_in (codes "node") fields)) (λ nodes. Ok (graph_with fields streams sides nodes))))
 
 abbrev pub unless : {A : Type 0} → Option ConfigFault → Result A ConfigFault → Result A ConfigFault
 unless (Some fault) result = Err fault

@@ -7,13 +7,13 @@ use crate::check::check;
 use crate::fault::ConfigFault;
 use crate::node::NodeConfig;
 use crate::nodes::nodes_named;
-use crate::ports::ports_named;
+use crate::ports::{PortPair, pair_named};
 use crate::schema::Message;
 use crate::value::{number_named, text_named};
 use mg_names::PortMap;
 use mg_text::{Field, Tree};
 use mg_value::{List, MgText};
-use std::alloc::Global;
+use std::alloc::{AllocError, Global};
 
 /// The nodes of a graph, in the order of the text.
 pub type NodeList = List<NodeConfig>;
@@ -32,26 +32,37 @@ pub struct GraphConfig {
     pub num_threads: i32,
 }
 
+fn graph_with(
+    alloc: Global,
+    fields: &[Field],
+    streams: PortPair,
+    sides: PortPair,
+    nodes: NodeList,
+) -> Result<GraphConfig, AllocError>
+    ensures { IfOk result (λ graph. config.graph_view graph ≡ config.graph_with (map field_view fields.now) streams sides (map config.node_view nodes)) }
+{
+    let type_name = text_named(alloc, fields, b"type")?;
+    Ok(GraphConfig {
+        type_name,
+        nodes,
+        inputs: streams.inputs,
+        outputs: streams.outputs,
+        input_sides: sides.inputs,
+        output_sides: sides.outputs,
+        max_queue_size: number_named(fields, b"max_queue_size"),
+        num_threads: number_named(fields, b"num_threads"),
+    })
+}
+
 /// The graph of fields that have no fault of their own.
 fn graph_of(alloc: Global, fields: &[Field]) -> Result<GraphConfig, ConfigFault>
     ensures ok { IfOk result (λ graph. config.graph_of (map field_view fields.now) ≡ Ok (config.graph_view graph)) }
     ensures err { IfErr result (λ fault. fault ≢ ConfigFault.OutOfMemory → config.graph_of (map field_view fields.now) ≡ Err fault) }
 {
-    let inputs = ports_named(alloc, fields, "input_stream")?;
-    let outputs = ports_named(alloc, fields, "output_stream")?;
-    let input_sides = ports_named(alloc, fields, "input_side_packet")?;
-    let output_sides = ports_named(alloc, fields, "output_side_packet")?;
+    let streams = pair_named(alloc, fields, "input_stream", "output_stream")?;
+    let sides = pair_named(alloc, fields, "input_side_packet", "output_side_packet")?;
     let nodes = nodes_named(alloc, fields)?;
-    Ok(GraphConfig {
-        type_name: text_named(alloc, fields, b"type")?,
-        nodes,
-        inputs,
-        outputs,
-        input_sides,
-        output_sides,
-        max_queue_size: number_named(fields, b"max_queue_size"),
-        num_threads: number_named(fields, b"num_threads"),
-    })
+    Ok(graph_with(alloc, fields, streams, sides, nodes)?)
 }
 
 fn read_fields(alloc: Global, fields: &[Field]) -> Result<GraphConfig, ConfigFault>

@@ -1,5 +1,5 @@
-//! Configurations: what the fields of a graph file say, and the fields that say it. `read` answers to `config_of` of
-//! specs/, the configuration of a list of fields or its first fault, and `write` to `fields_of`.
+//! Configurations: what the fields of a graph file say. `read` answers to `config_of` of
+//! specs/, the configuration of a list of fields or its first fault,.
 #![tactic(auto)]
 
 mod calculators;
@@ -23,3 +23,6 @@ pub use fault::ConfigFault;
 pub use graph::{GraphConfig, NodeList, read};
 pub use mark::Mark;
 pub use node::{MarkList, NodeConfig};
+
+#[cfg(test)]
+mod tests;

@@ -111,3 +111,25 @@ pub fn ports_named(alloc: Global, fields: &[Field], name: &str) -> Result<PortMa
         Err(cause) => Err(port_fault(alloc, name, texts, cause)),
     }
 }
+
+/// The ports that come in and those that go out, of streams or of side packets.
+#[derive(Debug, Drop)]
+pub struct PortPair {
+    pub inputs: PortMap,
+    pub outputs: PortMap,
+}
+
+/// The ports of the fields of two names.
+pub fn pair_named(
+    alloc: Global,
+    fields: &[Field],
+    input: &str,
+    output: &str,
+) -> Result<PortPair, ConfigFault>
+    ensures ok { IfOk result (λ pair. config.pair_in input.now output.now (map field_view fields.now) ≡ Ok pair) }
+    ensures err { IfErr result (λ fault. fault ≢ ConfigFault.OutOfMemory → config.pair_in input.now output.now (map field_view fields.now) ≡ Err fault) }
+{
+    let inputs = ports_named(alloc, fields, input)?;
+    let outputs = ports_named(alloc, fields, output)?;
+    Ok(PortPair { inputs, outputs })
+}
