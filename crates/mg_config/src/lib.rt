@@ -1,5 +1,5 @@
 //! Configurations: what the fields of a graph file say. `read` answers to `config_of` of
-//! specs/, the configuration of a list of fields or its first fault,.
+//! specs/, the configuration of a list of fields or its first fault.
 #![tactic(auto)]
 
 mod calculators;
