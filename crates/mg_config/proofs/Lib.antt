@@ -7,5 +7,7 @@ pub mod AsPort
 pub mod Marked
 pub mod Joined
 pub mod Named
+pub mod Emptied
+pub mod Appended
 pub mod Made
 pub mod Noded

@@ -5,3 +5,4 @@ pub mod Path
 pub mod Faults
 pub mod Marks
 pub mod Config
+pub mod Written

@@ -18,11 +18,14 @@ mod ports;
 mod schema;
 mod texts;
 mod value;
+mod writer;
+mod writing;
 
 pub use fault::ConfigFault;
 pub use graph::{GraphConfig, NodeList, read};
 pub use mark::Mark;
 pub use node::{MarkList, NodeConfig};
+pub use writing::write;
 
 #[cfg(test)]
 mod tests;
