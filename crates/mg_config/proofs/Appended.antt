@@ -12,12 +12,12 @@ pub map_map : {A B C : Type 0} (f : B → C) (g : A → B) (xs : List A) → map
 map_map f g [] = refl
 map_map f g (x ∷ xs) = ap (λ z. f (g x) ∷ z) (map_map f g xs)
 
-regroup : {E : Type 0} (a b c d e : List E) → (((a ++ b) ++ c) ++ d) ++ e ≡ a ++ (b ++ (c ++ (d ++ e)))
+regroup : {E : Type 0} (a b c d e : List E) → ((a ++ b) ++ (c ++ d)) ++ e ≡ a ++ (b ++ (c ++ (d ++ e)))
 regroup a b c d e = simp append_assoc
 
-pub chain : {E : Type 0} (x0 x1 x2 x3 x4 x5 a b c d e : List E) → x0 ≡ [] → x1 ≡ x0 ++ a → x2 ≡ x1 ++ b → x3 ≡ x2 ++ c → x4 ≡ x3 ++ d → x5 ≡ x4 ++ e → x5 ≡ a ++ (b ++ (c ++ (d ++ e)))
-chain x0 x1 x2 x3 x4 x5 a b c d e e0 e1 e2 e3 e4 e5 =
-    e5 ∙ ap (λ z. z ++ e) (e4 ∙ ap (λ z. z ++ d) (e3 ∙ ap (λ z. z ++ c) (e2 ∙ ap (λ z. z ++ b) (e1 ∙ ap (λ z. z ++ a) e0)))) ∙ regroup a b c d e
+pub chain : {E : Type 0} (x0 x1 x2 x3 x4 a b c d e : List E) → x0 ≡ [] → x1 ≡ x0 ++ a → x2 ≡ x1 ++ b → x3 ≡ x2 ++ (c ++ d) → x4 ≡ x3 ++ e → x4 ≡ a ++ (b ++ (c ++ (d ++ e)))
+chain x0 x1 x2 x3 x4 a b c d e e0 e1 e2 e3 e4 =
+    e4 ∙ ap (λ z. z ++ e) (e3 ∙ ap (λ z. z ++ (c ++ d)) (e2 ∙ ap (λ z. z ++ b) (e1 ∙ ap (λ z. z ++ a) e0))) ∙ regroup a b c d e
 
 pub not_empty : (xs : List ℕ) → 0 < length xs → bytes_eq xs [] ≡ false
 not_empty [] some = absurd (omega arith)

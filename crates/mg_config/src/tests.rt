@@ -1,4 +1,4 @@
-use crate::{ConfigFault, GraphConfig, read};
+use crate::{ConfigFault, GraphConfig, read, write};
 use mg_text::parse;
 use std::alloc::{AllocError, Global};
 use std::process::Abort;
@@ -203,6 +203,45 @@ fn spellings_of_truth_values(rt: HostRuntime) -> Result<(), Fail> {
     let alloc = rt.alloc();
     for row in truths().split('\n') {
         assert_truth(&rt, alloc, row)?;
+    }
+    Ok(())
+}
+
+// Files that are read, written and read again.
+fn files() -> &'static str {
+    "input_stream: \"in\" output_stream: \"out\" node { calculator: \"PassThroughCalculator\" input_stream: \"in\" output_stream: \"out\" }
+type: \"T\" max_queue_size: 0x10 num_threads: -1 input_side_packet: \"K:k\" output_side_packet: \"T:1:a\" output_side_packet: \"T:b\"
+node { calculator: \"C\" name: \"n\" node_options { b: 2 } options { a: 1 } input_stream_info { back_edge: t tag_index: \"A:1\" } input_stream_info { tag_index: \":0\" back_edge: 1 } input_stream_handler { input_stream_handler: \"h\" } max_in_flight: 3 buffer_size_hint: 4 }"
+}
+
+fn again(alloc: Global, config: &GraphConfig) -> Result<Option<GraphConfig>, AllocError> {
+    let tree = write(alloc, config)?;
+    match read(alloc, &tree) {
+        Ok(again) => Ok(Some(again)),
+        Err(_) => Ok(None),
+    }
+}
+
+fn assert_again(rt: &impl Abort, alloc: Global, file: &str) -> Result<(), AllocError> {
+    let Some(first) = config_of(alloc, file)? else {
+        assert!(rt; false, "{file}");
+        return Ok(());
+    };
+    let Some(second) = again(alloc, &first)? else {
+        assert!(rt; false, "{file}");
+        return Ok(());
+    };
+    let shown = format!(in alloc; "{first:?}")?;
+    let shown_again = format!(in alloc; "{second:?}")?;
+    assert!(rt; shown.as_str() == shown_again.as_str(), "{file}");
+    Ok(())
+}
+
+#[test]
+fn files_that_are_read_again(rt: HostRuntime) -> Result<(), Fail> {
+    let alloc = rt.alloc();
+    for file in files().split('\n') {
+        assert_again(&rt, alloc, file)?;
     }
     Ok(())
 }

@@ -1,5 +1,5 @@
 //! The fields that a configuration is written as.
-ghost use Rattle.std.specs.Prelude.{◌≡◌, [], ◌∷◌, ◌++◌, OnOk, IfOk, map, string_bytes};
+ghost use Rattle.std.specs.Prelude.{◌≡◌, [], ◌∷◌, ◌++◌, OnOk, IfOk, map, string_bytes, codes};
 ghost use Rattle.mg_text.specs.View.{field_view, fields_view, view};
 ghost use Rattle.mg_config.specs.Config.{node_view, graph_view};
 ghost use Rattle.mg_config.specs.Marks.{text_of_mark};
@@ -109,6 +109,14 @@ fn put_nodes(alloc: Global, out: &mut Vec<Field>, nodes: &[NodeConfig]) -> Resul
     Ok(())
 }
 
+fn put_numbers(alloc: Global, out: &mut Vec<Field>, graph: &GraphConfig) -> Result<(), AllocError>
+    ensures { OnOk result (map field_view out.new.items ≡ map field_view out.old.items ++ (written.number_field (codes "max_queue_size") graph.now.max_queue_size ++ written.number_field (codes "num_threads") graph.now.num_threads)) }
+{
+    put_number(alloc, out, "max_queue_size", graph.max_queue_size)?;
+    put_number(alloc, out, "num_threads", graph.num_threads)?;
+    Ok(())
+}
+
 fn graph_fields(alloc: Global, graph: &GraphConfig) -> Result<Vec<Field>, AllocError>
     ensures { IfOk result (λ fields. map field_view fields.items ≡ written.graph_fields (graph_view graph.now)) }
 {
@@ -122,8 +130,7 @@ fn graph_fields(alloc: Global, graph: &GraphConfig) -> Result<Vec<Field>, AllocE
         &graph.input_sides,
         &graph.output_sides,
     )?;
-    put_number(alloc, &mut fields, "max_queue_size", graph.max_queue_size)?;
-    put_number(alloc, &mut fields, "num_threads", graph.num_threads)?;
+    put_numbers(alloc, &mut fields, graph)?;
     put_nodes(alloc, &mut fields, graph.nodes.as_slice())?;
     Ok(fields)
 }
