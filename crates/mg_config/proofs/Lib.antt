@@ -1,0 +1,13 @@
+pub mod Digits
+pub mod Lists
+pub mod Checked
+pub mod Loops
+pub mod Refused
+pub mod AsPort
+pub mod Marked
+pub mod Joined
+pub mod Named
+pub mod Emptied
+pub mod Appended
+pub mod Made
+pub mod Noded

@@ -1,0 +1,23 @@
+use Rattle.std.proofs.Common.{◌≡◌, ◌∙◌, sym, ap, arith, refl, take}
+use Rattle.mg_text.specs.View.{fields_view}
+use Rattle.mg_text.proofs.Views.{view-record}
+use Rattle.mg_config.specs.Schema.{rule_of}
+use Rattle.mg_config.specs.Path.{within}
+use Rattle.mg_config.specs.Faults.{field_fault}
+use Rattle.mg_config.proofs.Checked.{IsAt, found_own, found_inside, clear_inside, not_judged, scalar_clear}
+use Rattle.mg_config.proofs.check.+check.Goals as goal
+
+pub returns-in-Err-clause-err : goal.returns-in-Err-clause-err
+returns-in-Err-clause-err t c = λ ne.
+    let at : IsAt c.args.kind c.args.fields.now c.loop-i.i c.index-fields-i.result c.rule_of-rule.result (take c.loop-i.i c.args.fields.now) = record { inside = omega arith; field = c.index-fields-i.is; ruled = c.rule_of-rule.ensures ∙ ap (rule_of c.args.kind) c.as_bytes.ensures.bytes; front = refl } in
+    c.loop-i.invariant ∙ found_inside c.args.kind c.args.fields.now c.loop-i.i c.index-fields-i.result c.rule_of-rule.result (take c.loop-i.i c.args.fields.now) c.in-Message.tree c.in-Some.many c.in-Some.message c.in-Err.fault c.inside.result
+    at c.in_ok-check_own.ensures.ok c.in-Message.is (cc)
+    (ap (field_fault c.in-Some.message) (view-record c.in-Message.tree ∙ ap fields_view (sym c.as_slice.ensures.value)) ∙ c.in-Err.ensures.err (c.inside.ensures ne).0)
+    (c.inside.ensures ne).1
+
+pub loop-i-preserved : goal.loop-i-preserved
+loop-i-preserved t c =
+    let at : IsAt c.args.kind c.args.fields.now c.loop-i.i c.index-fields-i.result c.rule_of-rule.result (take c.loop-i.i c.args.fields.now) = record { inside = omega arith; field = c.index-fields-i.is; ruled = c.rule_of-rule.ensures ∙ ap (rule_of c.args.kind) c.as_bytes.ensures.bytes; front = refl } in
+    c.loop-i.invariant ∙ clear_inside c.args.kind c.args.fields.now c.loop-i.i c.index-fields-i.result c.rule_of-rule.result (take c.loop-i.i c.args.fields.now) c.in-Message.tree c.in-Some.many c.in-Some.message
+    at c.in_ok-check_own.ensures.ok c.in-Message.is (cc)
+    (ap (field_fault c.in-Some.message) (view-record c.in-Message.tree ∙ ap fields_view (sym c.as_slice.ensures.value)) ∙ c.in_default-check.ensures.ok)

@@ -1,0 +1,8 @@
+pub mod Schema
+pub mod Number
+pub mod Values
+pub mod Path
+pub mod Faults
+pub mod Marks
+pub mod Config
+pub mod Written

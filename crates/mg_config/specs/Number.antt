@@ -1,0 +1,52 @@
+-- What numbers and truth values are spelled as, after the text format of protocol buffers.
+use Rattle.std.specs.Prelude.{ℕ, ◌-◌, ◌^◌, List, [], ◌∷◌, Bool, true, false, ◌&&◌, ◌||◌, not, ◌==◌, nat_le, nat_lt, ℤ, pos, neg_ℤ, Option, None, Some, option_map, is_some, if◌then◌else◌, codes}
+use Rattle.std.specs.List.{list_all}
+use Rattle.std.specs.Str.{bytes_eq}
+use Rattle.std.specs.Char.{is_digit, digit_value}
+use Rattle.std.specs.Str.Parse.{digits_value}
+
+-- the value of a digit in a base
+abbrev pub digit_of : ℕ → ℕ → Option ℕ
+digit_of base byte = if is_digit byte base then Some (digit_value byte) else None
+
+-- one digit of a base or more, and nothing else
+abbrev pub is_numeral : ℕ → List ℕ → Bool
+is_numeral base [] = false
+is_numeral base (first ∷ rest) = list_all (λ byte. is_digit byte base) (first ∷ rest)
+
+-- the number that digits spell, if it is at most a bound
+abbrev pub value_in : ℕ → ℕ → List ℕ → Option ℕ
+value_in base most digits = if is_numeral base digits && nat_le (digits_value base digits) most then Some (digits_value base digits) else None
+
+-- what follows a leading 0: nothing, or `x` and hexadecimal digits, or octal digits
+abbrev pub after_zero : ℕ → List ℕ → Option ℕ
+after_zero most [] = Some 0
+after_zero most (first ∷ rest) = if (first == 120) || (first == 88) then value_in 16 most rest else value_in 8 most (first ∷ rest)
+
+-- a number without a sign, if it is at most a bound
+abbrev pub magnitude : ℕ → List ℕ → Option ℕ
+magnitude most [] = None
+magnitude most (first ∷ rest) = if first == 48 then after_zero most rest else value_in 10 most (first ∷ rest)
+
+-- a number in the range of 32 signed bits
+abbrev pub number_of : List ℕ → Option ℤ
+number_of [] = None
+number_of (first ∷ rest) =
+    if first == 45 then option_map (λ n. neg_ℤ (pos n)) (magnitude (2 ^ 31) rest)
+    else option_map (λ n. pos n) (magnitude (2 ^ 31 - 1) (first ∷ rest))
+
+-- one of the words
+abbrev pub is_one_of : List (List ℕ) → List ℕ → Bool
+is_one_of [] text = false
+is_one_of (word ∷ words) text = bytes_eq text word || is_one_of words text
+
+abbrev pub truth_in : List (List ℕ) → List (List ℕ) → List ℕ → Option Bool
+truth_in truths lies text = if is_one_of truths text then Some true else (if is_one_of lies text then Some false else None)
+
+-- `true`, `True`, `t`, `false`, `False` and `f`
+abbrev pub truth_of_word : List ℕ → Option Bool
+truth_of_word text = truth_in (codes "true" ∷ codes "True" ∷ codes "t" ∷ []) (codes "false" ∷ codes "False" ∷ codes "f" ∷ []) text
+
+-- `1` and `0`
+abbrev pub truth_of_number : List ℕ → Option Bool
+truth_of_number text = truth_in (codes "1" ∷ []) (codes "0" ∷ []) text

@@ -1,0 +1,70 @@
+-- The fields of graphs, of nodes and of the messages in them, after calculator.proto of the MediaPipe framework.
+use Rattle.std.specs.Prelude.{ℕ, List, [], ◌∷◌, ◌++◌, Bool, true, false, Option, None, Some, if◌then◌else◌, codes}
+use Rattle.std.specs.Str.{bytes_eq}
+use Rattle.mg_config.specs.declared.schema.Message.{Message}
+use Rattle.mg_config.specs.declared.schema.Message.TheVariants.{Graph, Node, Info, Handler}
+use Rattle.mg_config.specs.declared.schema.Shape.{Shape}
+use Rattle.mg_config.specs.declared.schema.Shape.TheVariants.{Text, Number, Truth, Options, Inside}
+use Rattle.mg_config.specs.declared.schema.FieldRule.{FieldRule}
+
+-- a field that may stand once, and one that may stand any number of times
+abbrev pub once : Shape → FieldRule
+once shape = record { many = false; shape = shape }
+
+abbrev pub many : Shape → FieldRule
+many shape = record { many = true; shape = shape }
+
+pub record Row : Type 0 where
+  pub name : List ℕ
+  pub rule : FieldRule
+
+abbrev pub row : List ℕ → FieldRule → Row
+row name rule = record { name = name; rule = rule }
+
+-- the lists of ports that graphs and nodes have
+abbrev pub port_fields : List Row
+port_fields = row (codes "input_stream") (many Text) ∷ row (codes "output_stream") (many Text)
+    ∷ row (codes "input_side_packet") (many Text) ∷ row (codes "output_side_packet") (many Text) ∷ []
+
+abbrev pub graph_fields : List Row
+graph_fields = row (codes "type") (once Text) ∷ row (codes "max_queue_size") (once Number) ∷ row (codes "num_threads") (once Number)
+    ∷ row (codes "node") (many (Inside Node)) ∷ port_fields
+
+abbrev pub node_message_fields : List Row
+node_message_fields = row (codes "input_stream_info") (many (Inside Info)) ∷ row (codes "input_stream_handler") (once (Inside Handler))
+    ∷ row (codes "options") (once Options) ∷ row (codes "node_options") (many Options) ∷ port_fields
+
+abbrev pub node_fields : List Row
+node_fields = row (codes "name") (once Text) ∷ row (codes "calculator") (once Text) ∷ row (codes "max_in_flight") (once Number)
+    ∷ row (codes "buffer_size_hint") (once Number) ∷ node_message_fields
+
+-- an input stream's tag and index, and whether it is a back edge
+abbrev pub info_fields : List Row
+info_fields = row (codes "tag_index") (once Text) ∷ row (codes "back_edge") (once Truth) ∷ []
+
+-- the name of an input policy
+abbrev pub handler_fields : List Row
+handler_fields = row (codes "input_stream_handler") (once Text) ∷ []
+
+abbrev pub fields_in : Message → List Row
+fields_in Graph = graph_fields
+fields_in Node = node_fields
+fields_in Info = info_fields
+fields_in Handler = handler_fields
+
+-- the rule of a name, if a row has it
+abbrev pub rule_in : List Row → List ℕ → Option FieldRule
+rule_in [] name = None
+rule_in (r ∷ rows) name = if bytes_eq name r.name then Some r.rule else rule_in rows name
+
+abbrev pub rule_of : Message → List ℕ → Option FieldRule
+rule_of message name = rule_in (fields_in message) name
+
+-- where the fields inside a field are judged: whether it is starred, and what they are
+abbrev pub judged_as : Bool → Shape → Option (Bool × Message)
+judged_as starred (Inside message) = Some (starred, message)
+judged_as starred shape = None
+
+abbrev pub judged_by : Option FieldRule → Option (Bool × Message)
+judged_by None = None
+judged_by (Some rule) = judged_as rule.many rule.shape

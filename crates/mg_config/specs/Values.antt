@@ -1,0 +1,89 @@
+-- What the fields of a name say.
+use Rattle.std.specs.Prelude.{ℕ, List, [], ◌∷◌, Bool, true, false, ◌||◌, ℤ, pos, Option, None, Some, unwrap_or, map, filter}
+use Rattle.std.specs.Str.{bytes_eq}
+use Rattle.mg_text.specs.Tree.{Kind, word, number, quoted, Fields, none, scalar, message, append}
+use Rattle.mg_text.specs.View.{Value, simple, inner, Entry}
+use Rattle.mg_config.specs.Number.{number_of, truth_of_word, truth_of_number}
+
+abbrev pub entry : List ℕ → Value → Entry
+entry name value = record { name = name; value = value }
+
+-- the fields, one after another
+abbrev pub entries : Fields → List Entry
+entries none = []
+entries (scalar name kind bytes rest) = entry name (simple kind bytes) ∷ entries rest
+entries (message name fields rest) = entry name (inner fields) ∷ entries rest
+
+abbrev pub has_name : List ℕ → Entry → Bool
+has_name name field = bytes_eq field.name name
+
+-- the values of the fields of a name, in order
+abbrev pub values_of : List ℕ → List Entry → List Value
+values_of name fields = map (λ field. field.value) (filter (has_name name) fields)
+
+-- the first value, if there is one
+abbrev pub first : List Value → Option Value
+first [] = None
+first (value ∷ more) = Some value
+
+-- a text, which is empty where there is none
+abbrev pub text_of_value : Value → List ℕ
+text_of_value (simple quoted bytes) = bytes
+text_of_value value = []
+
+abbrev pub text_of_first : Option Value → List ℕ
+text_of_first None = []
+text_of_first (Some value) = text_of_value value
+
+abbrev pub text_in : List ℕ → List Entry → List ℕ
+text_in name fields = text_of_first (first (values_of name fields))
+
+-- the texts of a starred field
+abbrev pub texts_in : List ℕ → List Entry → List (List ℕ)
+texts_in name fields = map text_of_value (values_of name fields)
+
+-- a number, which is 0 where there is none
+abbrev pub number_in_value : Value → Option ℤ
+number_in_value (simple number bytes) = number_of bytes
+number_in_value value = None
+
+abbrev pub number_of_first : Option Value → ℤ
+number_of_first None = pos 0
+number_of_first (Some value) = unwrap_or (number_in_value value) (pos 0)
+
+abbrev pub number_in : List ℕ → List Entry → ℤ
+number_in name fields = number_of_first (first (values_of name fields))
+
+-- a truth value, which is false where there is none
+abbrev pub truth_in_value : Value → Option Bool
+truth_in_value (simple word bytes) = truth_of_word bytes
+truth_in_value (simple number bytes) = truth_of_number bytes
+truth_in_value value = None
+
+abbrev pub truth_of_first : Option Value → Bool
+truth_of_first None = false
+truth_of_first (Some value) = unwrap_or (truth_in_value value) false
+
+abbrev pub truth_in : List ℕ → List Entry → Bool
+truth_in name fields = truth_of_first (first (values_of name fields))
+
+-- the fields of a message, of which there are none where there is no message
+abbrev pub fields_of_value : Value → Fields
+fields_of_value (inner fields) = fields
+fields_of_value value = none
+
+abbrev pub message_of_first : Option Value → Fields
+message_of_first None = none
+message_of_first (Some value) = fields_of_value value
+
+abbrev pub message_in : List ℕ → List Entry → Fields
+message_in name fields = message_of_first (first (values_of name fields))
+
+-- the messages of a starred field
+abbrev pub messages_in : List ℕ → List Entry → List Fields
+messages_in name fields = map fields_of_value (values_of name fields)
+
+-- messages joined into one
+abbrev pub joined : List Fields → Fields
+joined [] = none
+joined (fields ∷ more) = append fields (joined more)

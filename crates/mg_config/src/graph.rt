@@ -1,0 +1,85 @@
+ghost use Rattle.std.specs.Prelude.{◌≡◌, ◌≢◌, Ok, Err, IfOk, IfErr, map};
+ghost use Rattle.mg_text.specs.View.{field_view, fields_view, view};
+ghost use Rattle.mg_config.specs.Config as config;
+
+use crate::calculators::check_calculators;
+use crate::check::check;
+use crate::fault::ConfigFault;
+use crate::node::NodeConfig;
+use crate::nodes::nodes_named;
+use crate::ports::{PortPair, pair_named};
+use crate::schema::Message;
+use crate::value::{number_named, text_named};
+use mg_names::PortMap;
+use mg_text::{Field, Tree};
+use mg_value::{List, MgText};
+use std::alloc::{AllocError, Global};
+
+/// The nodes of a graph, in the order of the text.
+pub type NodeList = List<NodeConfig>;
+
+/// A graph (MediaPipe, calculator.proto: CalculatorGraphConfig). A text that is absent is empty, and a number that is
+/// absent is 0.
+#[derive(Debug, Drop)]
+pub struct GraphConfig {
+    pub type_name: MgText,
+    pub nodes: NodeList,
+    pub inputs: PortMap,
+    pub outputs: PortMap,
+    pub input_sides: PortMap,
+    pub output_sides: PortMap,
+    pub max_queue_size: i32,
+    pub num_threads: i32,
+}
+
+fn graph_with(
+    alloc: Global,
+    fields: &[Field],
+    streams: PortPair,
+    sides: PortPair,
+    nodes: NodeList,
+) -> Result<GraphConfig, AllocError>
+    ensures { IfOk result (λ graph. config.graph_view graph ≡ config.graph_with (map field_view fields.now) streams sides (map config.node_view nodes)) }
+{
+    let type_name = text_named(alloc, fields, b"type")?;
+    Ok(GraphConfig {
+        type_name,
+        nodes,
+        inputs: streams.inputs,
+        outputs: streams.outputs,
+        input_sides: sides.inputs,
+        output_sides: sides.outputs,
+        max_queue_size: number_named(fields, b"max_queue_size"),
+        num_threads: number_named(fields, b"num_threads"),
+    })
+}
+
+/// The graph of fields that have no fault of their own.
+fn graph_of(alloc: Global, fields: &[Field]) -> Result<GraphConfig, ConfigFault>
+    ensures ok { IfOk result (λ graph. config.graph_of (map field_view fields.now) ≡ Ok (config.graph_view graph)) }
+    ensures err { IfErr result (λ fault. fault ≢ ConfigFault.OutOfMemory → config.graph_of (map field_view fields.now) ≡ Err fault) }
+{
+    let streams = pair_named(alloc, fields, "input_stream", "output_stream")?;
+    let sides = pair_named(alloc, fields, "input_side_packet", "output_side_packet")?;
+    let nodes = nodes_named(alloc, fields)?;
+    Ok(graph_with(alloc, fields, streams, sides, nodes)?)
+}
+
+fn read_fields(alloc: Global, fields: &[Field]) -> Result<GraphConfig, ConfigFault>
+    ensures ok { IfOk result (λ graph. config.config_of (fields_view fields.now) ≡ Ok (config.graph_view graph)) }
+    ensures err { IfErr result (λ fault. fault ≢ ConfigFault.OutOfMemory → config.config_of (fields_view fields.now) ≡ Err fault) }
+{
+    check(alloc, Message::Graph, fields)?;
+    check_calculators(alloc, fields)?;
+    graph_of(alloc, fields)
+}
+
+/// The configuration of a file's fields (MediaPipe, calculator.proto: CalculatorGraphConfig). Faults of fields come
+/// first, in the order of the text; then nodes whose calculator is absent or empty; then what spells no port, first
+/// among the graph's lists and then among each node's, in the order in which `write` writes them.
+pub fn read(alloc: Global, tree: &Tree) -> Result<GraphConfig, ConfigFault>
+    ensures ok { IfOk result (λ graph. config.config_of (view tree.now) ≡ Ok (config.graph_view graph)) }
+    ensures err { IfErr result (λ fault. fault ≢ ConfigFault.OutOfMemory → config.config_of (view tree.now) ≡ Err fault) }
+{
+    read_fields(alloc, tree.fields.as_slice())
+}

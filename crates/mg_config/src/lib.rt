@@ -1,0 +1,31 @@
+//! Configurations: what the fields of a graph file say, and the fields that say it. `read` answers to `config_of` of
+//! specs/, the configuration of a list of fields or its first fault, and `write` to `tree_of`.
+#![tactic(auto)]
+
+mod calculators;
+mod check;
+mod copy;
+mod fault;
+mod graph;
+mod mark;
+mod marks;
+mod node;
+mod nodes;
+mod number;
+mod options;
+mod path;
+mod ports;
+mod schema;
+mod texts;
+mod value;
+mod writer;
+mod writing;
+
+pub use fault::ConfigFault;
+pub use graph::{GraphConfig, NodeList, read};
+pub use mark::Mark;
+pub use node::{MarkList, NodeConfig};
+pub use writing::write;
+
+#[cfg(test)]
+mod tests;

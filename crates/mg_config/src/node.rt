@@ -1,0 +1,93 @@
+ghost use Rattle.std.specs.Prelude.{◌≡◌, ◌≢◌, Ok, Err, IfOk, IfErr, map};
+ghost use Rattle.mg_text.specs.View.{field_view, view};
+ghost use Rattle.mg_config.specs.Config as config;
+
+use crate::fault::ConfigFault;
+use crate::mark::Mark;
+use crate::marks::marks_named;
+use crate::options::options_of;
+use crate::ports::{PortPair, pair_named};
+use crate::value::{message_named, number_named, text_named};
+use mg_names::PortMap;
+use mg_text::{Field, Tree};
+use mg_value::{List, MgText};
+use std::alloc::{AllocError, Global};
+
+/// The back edges among a node's inputs, in the order of the text.
+pub type MarkList = List<Mark>;
+
+/// A node of a graph (MediaPipe, calculator.proto: CalculatorGraphConfig.Node). A text that is absent is empty, and a
+/// number that is absent is 0. `options` are the fields of its `options` and `node_options` in the order of the text,
+/// `handler` is the name of its input policy, and `buffer_size_hint` has no effect.
+#[derive(Debug, Drop)]
+pub struct NodeConfig {
+    pub name: MgText,
+    pub calculator: MgText,
+    pub inputs: PortMap,
+    pub outputs: PortMap,
+    pub input_sides: PortMap,
+    pub output_sides: PortMap,
+    pub options: Tree,
+    pub back_marks: MarkList,
+    pub handler: MgText,
+    pub max_in_flight: i32,
+    pub buffer_size_hint: i32,
+}
+
+/// A node's options, and its handler's name.
+#[derive(Debug, Drop)]
+pub struct NodeExtra {
+    pub options: Tree,
+    pub handler: MgText,
+}
+
+fn extra_of(alloc: Global, fields: &[Field]) -> Result<NodeExtra, AllocError>
+    ensures options { IfOk result (λ extra. view extra.options ≡ config.options_in (map field_view fields.now)) }
+    ensures handler { IfOk result (λ extra. extra.handler ≡ config.handler_in (map field_view fields.now)) }
+{
+    let options = options_of(alloc, fields)?;
+    let handler = message_named(fields, b"input_stream_handler");
+    let handler = text_named(alloc, handler, b"input_stream_handler")?;
+    Ok(NodeExtra {
+        options: Tree { fields: options },
+        handler,
+    })
+}
+
+fn node_with(
+    alloc: Global,
+    fields: &[Field],
+    streams: PortPair,
+    sides: PortPair,
+    back_marks: MarkList,
+) -> Result<NodeConfig, AllocError>
+    ensures { IfOk result (λ node. config.node_view node ≡ config.node_with (map field_view fields.now) streams sides back_marks) }
+{
+    let name = text_named(alloc, fields, b"name")?;
+    let calculator = text_named(alloc, fields, b"calculator")?;
+    let NodeExtra { options, handler } = extra_of(alloc, fields)?;
+    Ok(NodeConfig {
+        name,
+        calculator,
+        inputs: streams.inputs,
+        outputs: streams.outputs,
+        input_sides: sides.inputs,
+        output_sides: sides.outputs,
+        options,
+        back_marks,
+        handler,
+        max_in_flight: number_named(fields, b"max_in_flight"),
+        buffer_size_hint: number_named(fields, b"buffer_size_hint"),
+    })
+}
+
+/// The node of fields that have no fault of their own.
+pub(crate) fn node_of(alloc: Global, fields: &[Field]) -> Result<NodeConfig, ConfigFault>
+    ensures ok { IfOk result (λ node. config.node_of (map field_view fields.now) ≡ Ok (config.node_view node)) }
+    ensures err { IfErr result (λ fault. fault ≢ ConfigFault.OutOfMemory → config.node_of (map field_view fields.now) ≡ Err fault) }
+{
+    let streams = pair_named(alloc, fields, "input_stream", "output_stream")?;
+    let sides = pair_named(alloc, fields, "input_side_packet", "output_side_packet")?;
+    let back_marks = marks_named(alloc, fields)?;
+    Ok(node_with(alloc, fields, streams, sides, back_marks)?)
+}

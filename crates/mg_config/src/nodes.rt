@@ -1,0 +1,44 @@
+//! The nodes that the fields of a graph tell of.
+ghost use Rattle.std.specs.Prelude.{◌≡◌, ◌≢◌, [], ◌++◌, Ok, Err, OnOk, IfOk, IfErr, map, codes};
+ghost use Rattle.mg_text.specs.View.{field_view};
+ghost use Rattle.mg_config.specs.Values.{messages_in};
+ghost use Rattle.mg_config.specs.Path as paths;
+ghost use Rattle.mg_config.specs.Config as config;
+
+use crate::fault::ConfigFault;
+use crate::graph::NodeList;
+use crate::node::{NodeConfig, node_of};
+use crate::path::within_numbered;
+use crate::value::{fields_of, has_name};
+use mg_text::Field;
+use mg_value::List;
+use std::alloc::Global;
+
+/// The node of a message, where k others of the name stand before it.
+fn node_at(alloc: Global, k: usize, fields: &[Field]) -> Result<NodeConfig, ConfigFault>
+    ensures ok { IfOk result (λ node. paths.placed (paths.numbered (codes "node") k) (config.node_of (map field_view fields.now)) ≡ Ok (config.node_view node)) }
+    ensures err { IfErr result (λ fault. fault ≢ ConfigFault.OutOfMemory → paths.placed (paths.numbered (codes "node") k) (config.node_of (map field_view fields.now)) ≡ Err fault) }
+{
+    match node_of(alloc, fields) {
+        Ok(node) => Ok(node),
+        Err(fault) => Err(within_numbered(alloc, "node", k, fault)),
+    }
+}
+
+/// The nodes of a graph.
+pub fn nodes_named(alloc: Global, fields: &[Field]) -> Result<NodeList, ConfigFault>
+    ensures ok { IfOk result (λ nodes. config.nodes_from 0 (messages_in (codes "node") (map field_view fields.now)) ≡ Ok (map config.node_view nodes)) }
+    ensures err { IfErr result (λ fault. fault ≢ ConfigFault.OutOfMemory → config.nodes_from 0 (messages_in (codes "node") (map field_view fields.now)) ≡ Err fault) }
+{
+    let mut nodes = Vec::new(alloc);
+    let mut k: usize = 0;
+    for field in fields {
+        if !has_name(field, b"node") {
+            continue;
+        }
+        let node = node_at(alloc, k, fields_of(&field.value))?;
+        nodes.push(node)?;
+        k += 1;
+    }
+    Ok(List::from_vec(nodes)?)
+}

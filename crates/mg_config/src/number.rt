@@ -1,0 +1,113 @@
+//! Numbers and truth values by their spelling (Protocol Buffers text format, language specification: numeric
+//! literals, and the values of Boolean fields).
+ghost use Rattle.std.specs.Prelude.{◌≡◌, ◌<◌, ◌≤◌, ◌^◌, ◌*◌, ◌+◌, IfSome};
+ghost use Rattle.std.specs.Str.{bytes_eq};
+ghost use Rattle.mg_config.specs.Number as number;
+
+/// The value of a digit, of hexadecimal ones too.
+fn digit_of(byte: u8, base: u32) -> Option<u32>
+    requires { base ≤ 16 }
+    ensures value { result ≡ number.digit_of base byte }
+    ensures bound { IfSome result (λ value. value < 16) }
+{
+    let value = match byte {
+        b'0'..=b'9' => byte - b'0',
+        b'A'..=b'F' => byte - b'A' + 10,
+        b'a'..=b'f' => byte - b'a' + 10,
+        _ => 16,
+    };
+    let value = u32::from(value);
+    if value < base { Some(value) } else { None }
+}
+
+/// A number with one digit more.
+fn appended(base: u32, value: u32, digit: u32) -> u64
+    requires base { base ≤ 16 }
+    requires digit { digit < 16 }
+    ensures { result ≡ value * base + digit }
+{
+    u64::from(value) * u64::from(base) + u64::from(digit)
+}
+
+/// The number that digits of a base spell, if it is at most a bound.
+fn value_in(base: u32, most: u32, digits: &[u8]) -> Option<u32>
+    requires base { base ≤ 16 }
+    requires some { 1 ≤ base }
+    ensures value { result ≡ number.value_in base most digits.now }
+    ensures bound { IfSome result (λ value. value ≤ most) }
+{
+    if digits.is_empty() {
+        return None;
+    }
+    let mut value: u32 = 0;
+    for byte in digits {
+        let digit = digit_of(*byte, base)?;
+        let more = appended(base, value, digit);
+        if more > u64::from(most) {
+            return None;
+        }
+        value = more as u32;
+    }
+    Some(value)
+}
+
+/// The number that a text without a sign spells, in decimal, after `0x` in hexadecimal or after `0` in octal, if it
+/// is at most a bound.
+fn magnitude(most: u32, text: &[u8]) -> Option<u32>
+    ensures value { result ≡ number.magnitude most text.now }
+    ensures bound { IfSome result (λ value. value ≤ most) }
+{
+    match text {
+        [b'0'] => Some(0),
+        [b'0', b'x' | b'X', digits @ ..] => value_in(16, most, digits),
+        [b'0', digits @ ..] => value_in(8, most, digits),
+        _ => value_in(10, most, text),
+    }
+}
+
+/// The number that a text spells, in the range of 32 signed bits.
+pub fn number_of(text: &[u8]) -> Option<i32>
+    ensures { result ≡ number.number_of text.now }
+{
+    match text {
+        [b'-', rest @ ..] => {
+            let size = magnitude(1 << 31, rest)?;
+            Some((-i64::from(size)) as i32)
+        }
+        _ => {
+            let size = magnitude((1 << 31) - 1, text)?;
+            Some(size as i32)
+        }
+    }
+}
+
+/// Whether a text is a word.
+fn is(text: &[u8], word: &[u8]) -> bool
+    ensures { result ≡ bytes_eq text.now word.now }
+{
+    text == word
+}
+
+/// The truth value that a word spells.
+pub fn truth_of_word(text: &[u8]) -> Option<bool>
+    ensures { result ≡ number.truth_of_word text.now }
+{
+    if is(text, b"true") || is(text, b"True") || is(text, b"t") {
+        Some(true)
+    } else if is(text, b"false") || is(text, b"False") || is(text, b"f") {
+        Some(false)
+    } else {
+        None
+    }
+}
+
+/// The truth value that a number spells.
+pub fn truth_of_number(text: &[u8]) -> Option<bool>
+    ensures { result ≡ number.truth_of_number text.now }
+{
+    match text {
+        b"1" => Some(true),
+        b"0" => Some(false),
+        _ => None,
+    }
+}

@@ -1,0 +1,148 @@
+ghost use Rattle.std.specs.Prelude.{◌≡◌};
+ghost use Rattle.std.specs.Str.{bytes_eq};
+ghost use Rattle.mg_config.specs.Schema as schema;
+
+/// What has fields of its own: a graph, a node (MediaPipe, calculator.proto: CalculatorGraphConfig and its Node), and
+/// the two messages in a node whose fields are read.
+#[derive(Clone, Copy)]
+pub enum Message {
+    Graph,
+    Node,
+    Info,
+    Handler,
+}
+
+/// What the value of a field is: a string, a number, a truth value, a message of any fields, or a message with the
+/// fields of its own kind.
+#[derive(Clone, Copy)]
+pub enum Shape {
+    Text,
+    Number,
+    Truth,
+    Options,
+    Inside(Message),
+}
+
+/// What is known of a field by its name: whether it may stand more than once, and its shape.
+#[derive(Clone, Copy)]
+pub struct FieldRule {
+    pub many: bool,
+    pub shape: Shape,
+}
+
+fn is(name: &[u8], word: &[u8]) -> bool
+    ensures { result ≡ bytes_eq name.now word.now }
+{
+    name == word
+}
+
+fn once(shape: Shape) -> Option<FieldRule>
+    ensures { result ≡ Some (schema.once shape) }
+{
+    Some(FieldRule { many: false, shape })
+}
+
+fn many(shape: Shape) -> Option<FieldRule>
+    ensures { result ≡ Some (schema.many shape) }
+{
+    Some(FieldRule { many: true, shape })
+}
+
+/// The rule of the four lists of ports that graphs and nodes have.
+fn port_field(name: &[u8]) -> Option<FieldRule>
+    ensures { result ≡ schema.rule_in schema.port_fields name.now }
+{
+    if is(name, b"input_stream") {
+        many(Shape::Text)
+    } else if is(name, b"output_stream") {
+        many(Shape::Text)
+    } else if is(name, b"input_side_packet") {
+        many(Shape::Text)
+    } else if is(name, b"output_side_packet") {
+        many(Shape::Text)
+    } else {
+        None
+    }
+}
+
+fn graph_field(name: &[u8]) -> Option<FieldRule>
+    ensures { result ≡ schema.rule_in schema.graph_fields name.now }
+{
+    if is(name, b"type") {
+        once(Shape::Text)
+    } else if is(name, b"max_queue_size") {
+        once(Shape::Number)
+    } else if is(name, b"num_threads") {
+        once(Shape::Number)
+    } else if is(name, b"node") {
+        many(Shape::Inside(Message::Node))
+    } else {
+        port_field(name)
+    }
+}
+
+fn node_message_field(name: &[u8]) -> Option<FieldRule>
+    ensures { result ≡ schema.rule_in schema.node_message_fields name.now }
+{
+    if is(name, b"input_stream_info") {
+        many(Shape::Inside(Message::Info))
+    } else if is(name, b"input_stream_handler") {
+        once(Shape::Inside(Message::Handler))
+    } else if is(name, b"options") {
+        once(Shape::Options)
+    } else if is(name, b"node_options") {
+        many(Shape::Options)
+    } else {
+        port_field(name)
+    }
+}
+
+fn node_field(name: &[u8]) -> Option<FieldRule>
+    ensures { result ≡ schema.rule_in schema.node_fields name.now }
+{
+    if is(name, b"name") {
+        once(Shape::Text)
+    } else if is(name, b"calculator") {
+        once(Shape::Text)
+    } else if is(name, b"max_in_flight") {
+        once(Shape::Number)
+    } else if is(name, b"buffer_size_hint") {
+        once(Shape::Number)
+    } else {
+        node_message_field(name)
+    }
+}
+
+fn info_field(name: &[u8]) -> Option<FieldRule>
+    ensures { result ≡ schema.rule_in schema.info_fields name.now }
+{
+    if is(name, b"tag_index") {
+        once(Shape::Text)
+    } else if is(name, b"back_edge") {
+        once(Shape::Truth)
+    } else {
+        None
+    }
+}
+
+fn handler_field(name: &[u8]) -> Option<FieldRule>
+    ensures { result ≡ schema.rule_in schema.handler_fields name.now }
+{
+    if is(name, b"input_stream_handler") {
+        once(Shape::Text)
+    } else {
+        None
+    }
+}
+
+/// The rule of a field by its name, where there is such a field.
+pub fn rule_of(message: Message, name: &[u8]) -> Option<FieldRule>
+    ensures { result ≡ schema.rule_of message name.now }
+{
+    match message {
+        Message::Graph => graph_field(name),
+        Message::Node => node_field(name),
+        Message::Info => info_field(name),
+        Message::Handler => handler_field(name),
+    }
+}

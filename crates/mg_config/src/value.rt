@@ -1,0 +1,122 @@
+//! What one value says, and the first value of a name among fields.
+ghost use Rattle.std.specs.Prelude.{◌≡◌, ◌++◌, IfOk, option_copied, option_map, map};
+ghost use Rattle.mg_text.specs.View.{value_view, field_view, fields_view};
+ghost use Rattle.mg_config.specs.Values as values;
+ghost use Rattle.mg_config.specs.Faults as faults;
+
+use crate::number::{number_of, truth_of_number, truth_of_word};
+use crate::schema::Shape;
+use mg_text::{Field, Scalar, TreeValue};
+use mg_value::MgText;
+use std::alloc::{AllocError, Global};
+
+/// Whether a value is of a shape.
+pub fn has_shape(shape: Shape, value: &TreeValue) -> bool
+    ensures { result ≡ faults.has_shape shape (value_view value.now) }
+{
+    match shape {
+        Shape::Text => matches!(value, TreeValue::Scalar(Scalar::Quoted(_))),
+        Shape::Number => number_in(value).is_some(),
+        Shape::Truth => truth_in(value).is_some(),
+        Shape::Options | Shape::Inside(_) => matches!(value, TreeValue::Message(_)),
+    }
+}
+
+fn number_in(value: &TreeValue) -> Option<i32>
+    ensures { result ≡ values.number_in_value (value_view value.now) }
+{
+    match value {
+        TreeValue::Scalar(Scalar::Number(text)) => number_of(text.as_bytes()),
+        _ => None,
+    }
+}
+
+fn truth_in(value: &TreeValue) -> Option<bool>
+    ensures { result ≡ values.truth_in_value (value_view value.now) }
+{
+    match value {
+        TreeValue::Scalar(Scalar::Word(text)) => truth_of_word(text.as_bytes()),
+        TreeValue::Scalar(Scalar::Number(text)) => truth_of_number(text.as_bytes()),
+        _ => None,
+    }
+}
+
+/// The text of a value, which is empty where it is none.
+pub fn text_of(alloc: Global, value: &TreeValue) -> Result<MgText, AllocError>
+    ensures { IfOk result (λ text. text ≡ values.text_of_value (value_view value.now)) }
+{
+    match value {
+        TreeValue::Scalar(Scalar::Quoted(text)) => text.try_clone(alloc),
+        _ => MgText::new(alloc, ""),
+    }
+}
+
+/// The fields of a message, of which there are none where it is none.
+pub fn fields_of(value: &TreeValue) -> &[Field]
+    ensures { fields_view result.now ≡ values.fields_of_value (value_view value.now) }
+{
+    match value {
+        TreeValue::Message(tree) => tree.fields.as_slice(),
+        _ => &[],
+    }
+}
+
+/// Whether a field has a name.
+pub fn has_name(field: &Field, name: &[u8]) -> bool
+    ensures { result ≡ values.has_name name.now (field_view field.now) }
+{
+    field.name.is(name)
+}
+
+/// The first value of a name.
+#[tactic(auto, using(crate::proofs::Lists::values_here, crate::proofs::Lists::values_skip, crate::proofs::Lists::no_values))]
+pub fn first_of<'a>(fields: &'a [Field], name: &[u8]) -> Option<&'a TreeValue>
+    ensures { option_map value_view (option_copied result) ≡ values.first (values.values_of name.now (map field_view fields.now)) }
+{
+    for field in fields {
+        if has_name(field, name) {
+            return Some(&field.value);
+        }
+    }
+    None
+}
+
+/// The text of the first value of a name, which is empty where there is none.
+pub fn text_named(alloc: Global, fields: &[Field], name: &[u8]) -> Result<MgText, AllocError>
+    ensures { IfOk result (λ text. text ≡ values.text_in name.now (map field_view fields.now)) }
+{
+    match first_of(fields, name) {
+        Some(value) => text_of(alloc, value),
+        None => MgText::new(alloc, ""),
+    }
+}
+
+/// The number of the first value of a name, which is 0 where there is none.
+pub fn number_named(fields: &[Field], name: &[u8]) -> i32
+    ensures { result ≡ values.number_in name.now (map field_view fields.now) }
+{
+    match first_of(fields, name) {
+        Some(value) => number_in(value).unwrap_or(0),
+        None => 0,
+    }
+}
+
+/// The truth value of the first value of a name, which is false where there is none.
+pub fn truth_named(fields: &[Field], name: &[u8]) -> bool
+    ensures { result ≡ values.truth_in name.now (map field_view fields.now) }
+{
+    match first_of(fields, name) {
+        Some(value) => truth_in(value).unwrap_or(false),
+        None => false,
+    }
+}
+
+/// The fields of the first message of a name, of which there are none where there is none.
+pub fn message_named<'a>(fields: &'a [Field], name: &[u8]) -> &'a [Field]
+    ensures { fields_view result.now ≡ values.message_in name.now (map field_view fields.now) }
+{
+    match first_of(fields, name) {
+        Some(value) => fields_of(value),
+        None => &[],
+    }
+}

@@ -1,0 +1,145 @@
+//! The fields that a configuration is written as.
+ghost use Rattle.std.specs.Prelude.{◌≡◌, [], ◌∷◌, ◌++◌, OnOk, IfOk, map, string_bytes, codes};
+ghost use Rattle.mg_text.specs.View.{field_view, fields_view, view};
+ghost use Rattle.mg_config.specs.Config.{node_view, graph_view};
+ghost use Rattle.mg_config.specs.Marks.{text_of_mark};
+ghost use Rattle.mg_config.specs.Written as written;
+
+use crate::graph::GraphConfig;
+use crate::mark::Mark;
+use crate::node::NodeConfig;
+use crate::writer::{
+    put, put_handler, put_message, put_number, put_options, put_ports, put_string, put_text,
+};
+use mg_names::PortMap;
+use mg_text::{Field, Scalar, Tree, TreeValue};
+use mg_value::MgText;
+use std::alloc::{AllocError, Global};
+
+fn mark_text(alloc: Global, mark: &Mark) -> Result<String, AllocError>
+    ensures { IfOk result (λ text. string_bytes text ≡ text_of_mark mark.now) }
+{
+    let mut text = String::new(alloc);
+    text.push_str(mark.tag.as_str())?;
+    if mark.index != 0 || mark.tag.as_bytes().is_empty() {
+        write!(text, ":{}", mark.index)?;
+    }
+    Ok(text)
+}
+
+fn put_mark(alloc: Global, out: &mut Vec<Field>, mark: &Mark) -> Result<(), AllocError>
+    ensures { OnOk result (map field_view out.new.items ≡ map field_view out.old.items ++ written.mark_entry mark.now ∷ []) }
+{
+    let mut fields = Vec::new(alloc);
+    let text = MgText::from_string(mark_text(alloc, mark)?);
+    put_string(alloc, &mut fields, "tag_index", text)?;
+    let yes = MgText::new(alloc, "true")?;
+    put(
+        alloc,
+        &mut fields,
+        "back_edge",
+        TreeValue::Scalar(Scalar::Word(yes)),
+    )?;
+    put_message(alloc, out, "input_stream_info", fields)?;
+    Ok(())
+}
+
+fn put_marks(alloc: Global, out: &mut Vec<Field>, marks: &[Mark]) -> Result<(), AllocError>
+    ensures { OnOk result (map field_view out.new.items ≡ map field_view out.old.items ++ written.mark_fields marks.now) }
+{
+    for mark in marks {
+        put_mark(alloc, out, mark)?;
+    }
+    Ok(())
+}
+
+fn put_lists(
+    alloc: Global,
+    out: &mut Vec<Field>,
+    inputs: &PortMap,
+    outputs: &PortMap,
+    input_sides: &PortMap,
+    output_sides: &PortMap,
+) -> Result<(), AllocError>
+    ensures { OnOk result (map field_view out.new.items ≡ map field_view out.old.items ++ written.list_fields inputs.now outputs.now input_sides.now output_sides.now) }
+{
+    put_ports(alloc, out, "input_stream", inputs)?;
+    put_ports(alloc, out, "output_stream", outputs)?;
+    put_ports(alloc, out, "input_side_packet", input_sides)?;
+    put_ports(alloc, out, "output_side_packet", output_sides)?;
+    Ok(())
+}
+
+fn put_ends(alloc: Global, out: &mut Vec<Field>, node: &NodeConfig) -> Result<(), AllocError>
+    ensures { OnOk result (map field_view out.new.items ≡ map field_view out.old.items ++ written.node_ends (node_view node.now)) }
+{
+    put_marks(alloc, out, node.back_marks.as_slice())?;
+    put_handler(alloc, out, &node.handler)?;
+    put_number(alloc, out, "max_in_flight", node.max_in_flight)?;
+    put_number(alloc, out, "buffer_size_hint", node.buffer_size_hint)?;
+    put_options(alloc, out, node.options.fields.as_slice())?;
+    Ok(())
+}
+
+fn node_fields(alloc: Global, node: &NodeConfig) -> Result<Vec<Field>, AllocError>
+    ensures { IfOk result (λ fields. map field_view fields.items ≡ written.node_fields (node_view node.now)) }
+{
+    let mut fields = Vec::new(alloc);
+    put_text(alloc, &mut fields, "name", &node.name)?;
+    put_text(alloc, &mut fields, "calculator", &node.calculator)?;
+    put_lists(
+        alloc,
+        &mut fields,
+        &node.inputs,
+        &node.outputs,
+        &node.input_sides,
+        &node.output_sides,
+    )?;
+    put_ends(alloc, &mut fields, node)?;
+    Ok(fields)
+}
+
+fn put_nodes(alloc: Global, out: &mut Vec<Field>, nodes: &[NodeConfig]) -> Result<(), AllocError>
+    ensures { OnOk result (map field_view out.new.items ≡ map field_view out.old.items ++ map (λ node. written.node_entry (node_view node)) nodes.now) }
+{
+    for node in nodes {
+        let fields = node_fields(alloc, node)?;
+        put_message(alloc, out, "node", fields)?;
+    }
+    Ok(())
+}
+
+fn put_numbers(alloc: Global, out: &mut Vec<Field>, graph: &GraphConfig) -> Result<(), AllocError>
+    ensures { OnOk result (map field_view out.new.items ≡ map field_view out.old.items ++ (written.number_field (codes "max_queue_size") graph.now.max_queue_size ++ written.number_field (codes "num_threads") graph.now.num_threads)) }
+{
+    put_number(alloc, out, "max_queue_size", graph.max_queue_size)?;
+    put_number(alloc, out, "num_threads", graph.num_threads)?;
+    Ok(())
+}
+
+fn graph_fields(alloc: Global, graph: &GraphConfig) -> Result<Vec<Field>, AllocError>
+    ensures { IfOk result (λ fields. map field_view fields.items ≡ written.graph_fields (graph_view graph.now)) }
+{
+    let mut fields = Vec::new(alloc);
+    put_text(alloc, &mut fields, "type", &graph.type_name)?;
+    put_lists(
+        alloc,
+        &mut fields,
+        &graph.inputs,
+        &graph.outputs,
+        &graph.input_sides,
+        &graph.output_sides,
+    )?;
+    put_numbers(alloc, &mut fields, graph)?;
+    put_nodes(alloc, &mut fields, graph.nodes.as_slice())?;
+    Ok(fields)
+}
+
+/// The fields of a configuration, in the order of calculator.proto's readers: a graph's type, its lists of ports, its
+/// numbers, its nodes. What has its absent value isn't written.
+pub fn write(alloc: Global, config: &GraphConfig) -> Result<Tree, AllocError>
+    ensures { IfOk result (λ tree. view tree ≡ written.tree_of (graph_view config.now)) }
+{
+    let fields = graph_fields(alloc, config)?;
+    Ok(Tree { fields })
+}
