@@ -6,3 +6,4 @@ pub mod Faults
 pub mod Marks
 pub mod Config
 pub mod Written
+pub mod Sound

@@ -1,9 +1,13 @@
 //! The fields that a configuration is written as.
-ghost use Rattle.std.specs.Prelude.{◌≡◌, [], ◌∷◌, ◌++◌, OnOk, IfOk, map, string_bytes, codes};
+ghost use Rattle.std.specs.Prelude.{◌≡◌, ◌≤◌, [], ◌∷◌, ◌++◌, Ok, OnOk, IfOk, map, string_bytes, codes};
+ghost use Rattle.mg_text.specs.Tree.{depth};
 ghost use Rattle.mg_text.specs.View.{field_view, fields_view, view};
-ghost use Rattle.mg_config.specs.Config.{node_view, graph_view};
+ghost use Rattle.mg_text.specs.Answer.{max_depth};
+ghost use Rattle.mg_text.specs.Canonical.{AreSpelled};
+ghost use Rattle.mg_config.specs.Config.{node_view, graph_view, config_of};
 ghost use Rattle.mg_config.specs.Marks.{text_of_mark};
 ghost use Rattle.mg_config.specs.Written as written;
+ghost use Rattle.mg_config.specs.Sound.{IsSound, IsPrintable};
 
 use crate::graph::GraphConfig;
 use crate::mark::Mark;
@@ -135,10 +139,15 @@ fn graph_fields(alloc: Global, graph: &GraphConfig) -> Result<Vec<Field>, AllocE
     Ok(fields)
 }
 
-/// The fields of a configuration, in the order of calculator.proto's readers: a graph's type, its lists of ports, its
-/// numbers, its nodes. What has its absent value isn't written.
+/// The fields of a configuration: a graph's type, its lists of ports, its numbers, its nodes; and a node's name, its
+/// calculator, its lists of ports, its back edges, its handler, its numbers, its options. What has its absent value
+/// isn't written.
 pub fn write(alloc: Global, config: &GraphConfig) -> Result<Tree, AllocError>
-    ensures { IfOk result (λ tree. view tree ≡ written.tree_of (graph_view config.now)) }
+    ensures tree { IfOk result (λ tree. view tree ≡ written.tree_of (graph_view config.now)) }
+    // They are read back as the configuration, and can be printed.
+    ensures read_back { IfOk result (λ tree. IsSound (graph_view config.now) → config_of (view tree) ≡ Ok (graph_view config.now)) }
+    ensures spelled { IfOk result (λ tree. IsSound (graph_view config.now) → IsPrintable (graph_view config.now) → AreSpelled (view tree)) }
+    ensures shallow { IfOk result (λ tree. IsPrintable (graph_view config.now) → depth (view tree) ≤ max_depth) }
 {
     let fields = graph_fields(alloc, config)?;
     Ok(Tree { fields })

@@ -1,0 +1,57 @@
+-- What every configuration has that was read, and what the text form asks of one: both are kept by whoever makes a
+-- configuration of others, and they are what `write` needs for its fields to be read back, and to be printed.
+use Rattle.std.specs.Prelude.{ℕ, ◌+◌, ◌^◌, ◌<◌, ◌≤◌, ◌≡◌, ◌≢◌, ◌⊎◌, ℤ, pos, negsuc, List, [], map, Ok, IsTrue, All}
+use Rattle.mg_text.specs.Tree.{depth}
+use Rattle.mg_text.specs.Answer.{max_depth}
+use Rattle.mg_text.specs.Canonical.{AreCharacters, AreSpelled}
+use Rattle.mg_names.specs.Grammar.{is_tag, index_count}
+use Rattle.mg_names.specs.Ports.{ports_of, text_of}
+use Rattle.mg_names.specs.declared.port.Port.{Port}
+use Rattle.mg_config.specs.Config.{NodeView, GraphView}
+use Rattle.mg_config.specs.declared.mark.Mark.{Mark}
+
+-- a number of 32 signed bits
+abbrev pub FitsI32 : ℤ → Type 0
+FitsI32 (pos n) = n < 2 ^ 31
+FitsI32 (negsuc n) = n < 2 ^ 31
+
+-- ports that their texts spell
+abbrev pub AreReadBack : List Port → Type 0
+AreReadBack ports = ports_of (map text_of ports) ≡ Ok ports
+
+-- a tag, which may be empty, and an index
+pub record IsMark (mark : Mark) : Type 0 where
+  pub tag : (mark.tag ≡ []) ⊎ IsTrue (is_tag mark.tag)
+  pub index : mark.index < index_count
+
+pub record IsSoundNode (node : NodeView) : Type 0 where
+  pub calculator : node.calculator ≢ []
+  pub inputs : AreReadBack node.inputs
+  pub outputs : AreReadBack node.outputs
+  pub input_sides : AreReadBack node.input_sides
+  pub output_sides : AreReadBack node.output_sides
+  pub back_marks : All IsMark node.back_marks
+  pub max_in_flight : FitsI32 node.max_in_flight
+  pub buffer_size_hint : FitsI32 node.buffer_size_hint
+
+-- Each node has a calculator, its ports and back edges can be spelled, and its numbers fit. So do the graph's own.
+pub record IsSound (graph : GraphView) : Type 0 where
+  pub nodes : All IsSoundNode graph.nodes
+  pub inputs : AreReadBack graph.inputs
+  pub outputs : AreReadBack graph.outputs
+  pub input_sides : AreReadBack graph.input_sides
+  pub output_sides : AreReadBack graph.output_sides
+  pub max_queue_size : FitsI32 graph.max_queue_size
+  pub num_threads : FitsI32 graph.num_threads
+
+-- a node's texts are characters, and its options can be spelled and stand two messages deep
+pub record IsPrintableNode (node : NodeView) : Type 0 where
+  pub name : AreCharacters node.name
+  pub calculator : AreCharacters node.calculator
+  pub handler : AreCharacters node.handler
+  pub options : AreSpelled node.options
+  pub shallow : depth node.options + 2 ≤ max_depth
+
+pub record IsPrintable (graph : GraphView) : Type 0 where
+  pub type_name : AreCharacters graph.type_name
+  pub nodes : All IsPrintableNode graph.nodes
