@@ -1,72 +1,69 @@
--- What the program answers: the output text, the notes and the status, as functions of the words, the file's
--- content and the input's bytes.
-use Rattle.std.specs.Prelude.{ℕ, ◌||◌, Bool, List, [], ◌∷◌, ◌++◌, Option, None, Some, length, take, codes, decimal, if◌then◌else◌}
+-- What the program answers: the output text, the notes and the status, as a function of the command, of what its file
+-- is, and of the input's bytes.
+use Rattle.std.specs.Prelude.{ℕ, List, [], ◌∷◌, Option, None, Some, length, codes, if◌then◌else◌}
 use Rattle.std.specs.Str.{bytes_eq}
-use Rattle.mg_edge.specs.Edge.{most_loaded}
+use Rattle.mg_text.specs.Canonical.{canonical}
+use Rattle.mg_config.specs.Config.{GraphView}
+use Rattle.mg_config.specs.Written.{tree_of}
+use Rattle.mg_run.specs.Command.{Command}
+use Rattle.mg_run.specs.File.{File, graph, no_text, no_graph}
+use Rattle.mg_run.specs.Notes.{file_note, text_refusal, config_refusal, unbuilt_note, line_note, read_note}
 use Rattle.mg_run.specs.Lines.{whole_lines, all_lines}
 use Rattle.mg_run.specs.Accepted.{Refused, accepted, first_refused, streams_of, ended_streams}
 use Rattle.mg_run.specs.Output.{output_of}
-use Rattle.mg_run.specs.declared.line_fault.LineFault.{LineFault}
-use Rattle.mg_run.specs.declared.line_fault.LineFault.TheVariants.{NotYet, Closed, NotAscending}
+use Rattle.mg_run.specs.declared.words.Verb.{Verb}
+use Rattle.mg_run.specs.declared.words.Verb.TheVariants.{Run, Expand}
 use Rattle.mg_run.specs.declared.status.Status.{Status}
 use Rattle.mg_run.specs.declared.status.Status.TheVariants.{Good, GraphRefused, LineRefused, ReadFault}
 
--- The words are `run` and one file name, which is given here.
-abbrev pub command : List (List ℕ) → Option (List ℕ)
-command [] = None
-command (word ∷ []) = None
-command (word ∷ file ∷ []) = if bytes_eq word (codes "run") then Some file else None
-command (word ∷ file ∷ next ∷ words) = None
+-- The graphs --
 
--- the two graphs that run so far: a PassThroughCalculator between the streams `in` and `out`, and a MergeCalculator
--- from the streams `a` and `b` to `out`. The first merges one input.
+-- the text of a configuration
+abbrev pub text_of : GraphView → List ℕ
+text_of g = canonical (tree_of g)
+
+-- The texts of the two graphs that run so far: a PassThroughCalculator between the streams `in` and `out`, and a
+-- MergeCalculator from the streams `a` and `b` to `out`.
 abbrev pub pass_through_text : List ℕ
-pass_through_text =
-    codes "input_stream: \"in\" output_stream: \"out\"\nnode { calculator: \"PassThroughCalculator\" input_stream: \"in\" output_stream: \"out\" }"
+pass_through_text = codes "input_stream: \"in\"\noutput_stream: \"out\"\nnode {\n  calculator: \"PassThroughCalculator\"\n  input_stream: \"in\"\n  output_stream: \"out\"\n}\n"
 
 abbrev pub merge_text : List ℕ
-merge_text =
-    codes "input_stream: \"a\" input_stream: \"b\" output_stream: \"out\"\nnode { calculator: \"MergeCalculator\" input_stream: \"a\" input_stream: \"b\" output_stream: \"out\" }"
+merge_text = codes "input_stream: \"a\"\ninput_stream: \"b\"\noutput_stream: \"out\"\nnode {\n  calculator: \"MergeCalculator\"\n  input_stream: \"a\"\n  input_stream: \"b\"\n  output_stream: \"out\"\n}\n"
 
--- whether a content is a text, with a line feed at its end or without
-abbrev pub is_file : List ℕ → List ℕ → Bool
-is_file text content = bytes_eq content text || bytes_eq content (text ++ 10 ∷ [])
+-- The names of the inputs of the graph that a text says, where it is one that runs so far. To hand on the packets of
+-- one input is to merge one input.
+abbrev pub inputs_of : List ℕ → Option (List (List ℕ))
+inputs_of text =
+    if bytes_eq text pass_through_text then Some (codes "in" ∷ [])
+    else (if bytes_eq text merge_text then Some (codes "a" ∷ codes "b" ∷ []) else None)
 
--- the names of the inputs of the graph that a content is, where it is one that runs so far
-abbrev pub graph_of : List ℕ → Option (List (List ℕ))
-graph_of content =
-    if is_file pass_through_text content then Some (codes "in" ∷ [])
-    else (if is_file merge_text content then Some (codes "a" ∷ codes "b" ∷ []) else None)
+-- What is to be done --
+
+-- The file is refused, with a note; or a text is the output; or the graph is run whose inputs have these names.
+pub data Job : Type 0 where
+  refuse : List ℕ → Job
+  show : List ℕ → Job
+  merge : List (List ℕ) → Job
+
+abbrev pub run_job : Option (List (List ℕ)) → Job
+run_job None = refuse unbuilt_note
+run_job (Some names) = merge names
+
+abbrev pub graph_job : Verb → GraphView → Job
+graph_job Run g = run_job (inputs_of (text_of g))
+graph_job Expand g = show (text_of g)
+
+abbrev pub job_of : Command → File → Job
+job_of command (graph g) = graph_job command.verb g
+job_of command (no_text fault) = refuse (file_note command.file (codes "text") (text_refusal fault))
+job_of command (no_graph fault) = refuse (file_note command.file (codes "config") (config_refusal fault))
+
+-- The answers --
 
 pub record Answer : Type 0 where
   pub output : List ℕ
   pub notes : List ℕ
   pub status : Status
-
--- The notes --
-
-abbrev pub usage_note : List ℕ
-usage_note = codes "usage: mg run|solve|check|expand|generate [--workers N] [--max-queue-size N] [--no-queue-limit] [--number N] [--report] GRAPH [SUBGRAPH...]\n"
-
-abbrev pub store_note : List ℕ → List ℕ
-store_note file = codes "store: " ++ file ++ codes "\n"
-
-abbrev pub graph_note : List ℕ
-graph_note = codes "refused: NotYet\n"
-
-abbrev pub fault_name : LineFault → List ℕ
-fault_name NotYet = codes "NotYet"
-fault_name Closed = codes "Closed"
-fault_name NotAscending = codes "NotAscending"
-
-abbrev pub line_note : Option Refused → List ℕ
-line_note None = []
-line_note (Some refused) = codes "line " ++ decimal refused.number ++ codes ": " ++ fault_name refused.fault ++ codes "\n"
-
-abbrev pub read_note : ℕ → List ℕ
-read_note lines = codes "read fault after line " ++ decimal lines ++ codes "\n"
-
--- The answers --
 
 abbrev pub line_status : Option Refused → Status
 line_status None = Good
@@ -88,10 +85,11 @@ failed_answer names came = record {
   status = ReadFault;
 }
 
--- what the program answers to a file's content and an input that ends after these bytes
-abbrev pub graph_answer : Option (List (List ℕ)) → List ℕ → Answer
-graph_answer None input = record { output = []; notes = graph_note; status = GraphRefused }
-graph_answer (Some names) input = run_answer names input
+-- what the program answers where an input of these bytes ends well
+abbrev pub answer_of : Job → List ℕ → Answer
+answer_of (refuse note) input = record { output = []; notes = note; status = GraphRefused }
+answer_of (show text) input = record { output = text; notes = []; status = Good }
+answer_of (merge names) input = run_answer names input
 
-abbrev pub answer : List ℕ → List ℕ → Answer
-answer content input = graph_answer (graph_of (take most_loaded content)) input
+abbrev pub answer : Command → File → List ℕ → Answer
+answer command file input = answer_of (job_of command file) input

@@ -1,9 +1,13 @@
+pub mod Command
+pub mod File
 pub mod Lines
 pub mod Reading
 pub mod Said
 pub mod Accepted
+pub mod Notes
 pub mod Output
 pub mod Answer
+pub mod Jobs
 pub mod Claimed
 pub mod Feed
 pub mod Devices

@@ -1,20 +1,20 @@
 ghost use Rattle.std.specs.Prelude.{◌≡◌, ◌≢◌, ◌↔◌, ◌⊎◌, ◌∷◌, [], None, Some, IfSome};
-ghost use Rattle.mg_run.specs.Answer.{command, answer, usage_note};
+ghost use Rattle.mg_run.specs.Command.{command, command_of};
+ghost use Rattle.mg_run.specs.Notes.{usage_note};
+ghost use Rattle.mg_run.specs.Jobs.{job_view};
 ghost use Rattle.mg_run.specs.Devices.{HasRisen};
-ghost use Rattle.mg_run.specs.Outcome.{told, Untouched, Noted, Answers};
-ghost use Rattle.mg_run.specs.Call.{Called, IfThere, Unrisen, IsOneOf};
+ghost use Rattle.mg_run.specs.Outcome.{told, Untouched, Noted};
+ghost use Rattle.mg_run.specs.Call.{Called, Did, MayRead, IfThere, Answered, Unrisen, IsOneOf};
 
 use crate::Status;
+use crate::job::{Job, job_of};
 use crate::note::store_note;
 use crate::put::put_all;
 use crate::run::run_graph;
-use crate::words::{USAGE, command, graph_of};
+use crate::words::{USAGE, Verb, command_of};
 use mg_edge::{Loaded, Sink, Source, Store};
 use mg_value::MgText;
 use std::alloc::Global;
-
-/// The note for a graph that isn't run so far.
-const NOT_YET: &[u8] = b"refused: NotYet\n";
 
 /// Does what the words of a command line say, and answers the status to exit with.
 pub fn run_words<S: Source, K: Sink, E: Sink, T: Store>(
@@ -26,28 +26,32 @@ pub fn run_words<S: Source, K: Sink, E: Sink, T: Store>(
     notes: &mut E,
 ) -> Status
     // The words are judged first, and no device matters to it.
-    ensures usage { (result ≡ Status.Usage) ↔ (command words.now ≡ None) }
-    ensures usage_note { command words.now ≡ None
+    ensures usage { (result ≡ Status.Usage) ↔ (command_of words.now ≡ None) }
+    ensures usage_note { command_of words.now ≡ None
         → Noted (told (E.taken notes.old) (E.taken notes.new) (E.faults notes.old) (E.faults notes.new)) usage_note
         × Untouched (told (S.left input.old) (S.left input.new) (S.faults input.old) (S.faults input.new))
         × Untouched (told (K.taken output.old) (K.taken output.new) (K.faults output.old) (K.faults output.new)) }
 
     // What each other status means.
-    ensures called { IfSome (command words.now) (λ file. Called result
-        file (T.content store.old file) (T.failed_name store.new) (T.faults store.old) (T.faults store.new)
+    ensures called { IfSome (command_of words.now) (λ command. Called result
+        command (T.content store.old command.file) (T.failed_name store.new) (T.faults store.old) (T.faults store.new)
         (told (S.left input.old) (S.left input.new) (S.faults input.old) (S.faults input.new))
         (told (K.taken output.old) (K.taken output.new) (K.faults output.old) (K.faults output.new))
         (told (E.taken notes.old) (E.taken notes.new) (E.faults notes.old) (E.faults notes.new))) }
 
     // No device failed and memory was had: the output's text, the notes and the status are those of the answer to
     // the file's bytes and the input's.
-    ensures answered { IfSome (command words.now) (λ file.
+    ensures answered { IfSome (command_of words.now) (λ command.
         Unrisen (T.faults store.old) (T.faults store.new) → Unrisen (S.faults input.old) (S.faults input.new)
         → Unrisen (K.faults output.old) (K.faults output.new) → Unrisen (E.faults notes.old) (E.faults notes.new)
         → result ≢ Status.OutOfMemory
-        → IfThere (T.content store.old file) (λ bytes. IfSome (S.left input.old) (λ read. Answers (answer bytes read) result
+        → IfThere (T.content store.old command.file) (λ bytes. IfSome (S.left input.old) (λ read. Answered command bytes read result
         (told (K.taken output.old) (K.taken output.new) (K.faults output.old) (K.faults output.new))
         (told (E.taken notes.old) (E.taken notes.new) (E.faults notes.old) (E.faults notes.new))))) }
+
+    // An `expand` leaves the input as it was.
+    ensures unread { IfSome (command_of words.now) (λ command. command.verb ≡ Verb.Expand
+        → Untouched (told (S.left input.old) (S.left input.new) (S.faults input.old) (S.faults input.new))) }
 
     // No fault of a device hides behind another status.
     ensures store_rose { HasRisen (T.faults store.old) (T.faults store.new)
@@ -57,8 +61,8 @@ pub fn run_words<S: Source, K: Sink, E: Sink, T: Store>(
     ensures write_rose { HasRisen (K.faults output.old) (K.faults output.new) ⊎ HasRisen (E.faults notes.old) (E.faults notes.new)
         → IsOneOf result (Status.Usage ∷ Status.StoreFault ∷ Status.GraphRefused ∷ Status.WriteFault ∷ Status.OutOfMemory ∷ []) }
 {
-    match command(words) {
-        Some(file) => run_file(alloc, file, store, input, output, notes),
+    match command_of(words) {
+        Some((verb, file)) => serve(alloc, verb, file, store, input, output, notes),
         None => {
             let _ = put_all(notes, USAGE);
             Status::Usage
@@ -66,28 +70,26 @@ pub fn run_words<S: Source, K: Sink, E: Sink, T: Store>(
     }
 }
 
-// Loads the file, and runs its graph.
-fn run_file<S: Source, K: Sink, E: Sink, T: Store>(
+// Loads the file, and does what the verb has to do with it.
+fn serve<S: Source, K: Sink, E: Sink, T: Store>(
     alloc: Global,
+    verb: Verb,
     file: &str,
     store: &mut T,
     input: &mut S,
     output: &mut K,
     notes: &mut E,
 ) -> Status
-    ensures { Called result
-        file.now (T.content store.old file.now) (T.failed_name store.new) (T.faults store.old) (T.faults store.new)
+    ensures called { Called result
+        (command verb file.now) (T.content store.old file.now) (T.failed_name store.new) (T.faults store.old) (T.faults store.new)
         (told (S.left input.old) (S.left input.new) (S.faults input.old) (S.faults input.new))
         (told (K.taken output.old) (K.taken output.new) (K.faults output.old) (K.faults output.new))
         (told (E.taken notes.old) (E.taken notes.new) (E.faults notes.old) (E.faults notes.new)) }
+    ensures unread { verb ≡ Verb.Expand → Untouched (told (S.left input.old) (S.left input.new) (S.faults input.old) (S.faults input.new)) }
 {
     match store.load(alloc, file) {
-        Loaded::Bytes(content) => match graph_of(alloc, &content) {
-            Ok(Some(names)) => run_graph(alloc, names, input, output, notes),
-            Ok(None) => {
-                let _ = put_all(notes, NOT_YET);
-                Status::GraphRefused
-            }
+        Loaded::Bytes(content) => match job_of(alloc, verb, file, &content) {
+            Ok(job) => do_job(alloc, job, input, output, notes),
             Err(_) => Status::OutOfMemory,
         },
         Loaded::Failed => {
@@ -98,5 +100,34 @@ fn run_file<S: Source, K: Sink, E: Sink, T: Store>(
             Status::StoreFault
         }
         Loaded::OutOfMemory => Status::OutOfMemory,
+    }
+}
+
+fn do_job<S: Source, K: Sink, E: Sink>(
+    alloc: Global,
+    job: Job,
+    input: &mut S,
+    output: &mut K,
+    notes: &mut E,
+) -> Status
+    ensures did { Did (job_view job) result
+        (told (S.left input.old) (S.left input.new) (S.faults input.old) (S.faults input.new))
+        (told (K.taken output.old) (K.taken output.new) (K.faults output.old) (K.faults output.new))
+        (told (E.taken notes.old) (E.taken notes.new) (E.faults notes.old) (E.faults notes.new)) }
+    ensures unread { MayRead (job_view job) ⊎ Untouched (told (S.left input.old) (S.left input.new) (S.faults input.old) (S.faults input.new)) }
+{
+    match job {
+        Job::Refuse(note) => {
+            let _ = put_all(notes, &note);
+            Status::GraphRefused
+        }
+        Job::Show(text) => {
+            if put_all(output, &text) {
+                Status::Good
+            } else {
+                Status::WriteFault
+            }
+        }
+        Job::Merge(names) => run_graph(alloc, names, input, output, notes),
     }
 }

@@ -4,6 +4,8 @@
 
 mod call;
 mod feed;
+mod job;
+pub mod laws;
 mod line_fault;
 mod merge;
 mod note;

@@ -1,5 +1,5 @@
 ghost use Rattle.std.specs.Prelude.{◌≡◌};
-ghost use Rattle.mg_run.specs.Answer.{fault_name};
+ghost use Rattle.mg_run.specs.Notes.{fault_name};
 
 /// Why a line isn't good. Of several causes the first is told.
 #[derive(Clone, Copy, Debug, PartialEq, Eq)]

@@ -1,13 +1,17 @@
-ghost use Rattle.std.specs.Prelude.{◌≡◌, IfOk, Some};
-ghost use Rattle.mg_run.specs.Answer.{store_note, line_note, read_note};
+ghost use Rattle.std.specs.Prelude.{◌≡◌, ◌++◌, IfOk, Some, codes, decimal};
+ghost use Rattle.mg_run.specs.Notes as notes;
 
 use crate::LineFault;
 use itoa::Buffer;
+use mg_config::ConfigFault;
+use mg_names::NameFault;
+use mg_text::TextFault;
+use mg_value::MgText;
 use std::alloc::{AllocError, Global};
 
 /// The note that a file couldn't be loaded.
 pub fn store_note(alloc: Global, file: &str) -> Result<Vec<u8>, AllocError>
-    ensures { IfOk result (λ v. v.items ≡ store_note file.now) }
+    ensures { IfOk result (λ v. v.items ≡ notes.store_note file.now) }
 {
     let mut note = Vec::from_slice(alloc, b"store: ")?;
     note.extend_from_slice(file.as_bytes())?;
@@ -15,9 +19,102 @@ pub fn store_note(alloc: Global, file: &str) -> Result<Vec<u8>, AllocError>
     Ok(note)
 }
 
+/// The note that a file isn't text of the grammar.
+pub fn text_note(alloc: Global, file: &str, fault: &TextFault) -> Result<Vec<u8>, AllocError>
+    ensures { IfOk result (λ v. v.items ≡ notes.file_note file.now (codes "text") (notes.text_refusal fault.now)) }
+{
+    let refusal = text_refusal(alloc, fault)?;
+    file_note(alloc, file, b"text", &refusal)
+}
+
+/// The note that a file's fields are no configuration.
+pub fn config_note(alloc: Global, file: &str, fault: &ConfigFault) -> Result<Vec<u8>, AllocError>
+    ensures { IfOk result (λ v. v.items ≡ notes.file_note file.now (codes "config") (notes.config_refusal fault.now)) }
+{
+    let refusal = config_refusal(alloc, fault)?;
+    file_note(alloc, file, b"config", &refusal)
+}
+
+fn file_note(alloc: Global, file: &str, stage: &[u8], refusal: &[u8]) -> Result<Vec<u8>, AllocError>
+    ensures { IfOk result (λ v. v.items ≡ notes.file_note file.now stage.now refusal.now) }
+{
+    let mut note = Vec::from_slice(alloc, b"refused: ")?;
+    note.extend_from_slice(file.as_bytes())?;
+    note.extend_from_slice(b" ")?;
+    note.extend_from_slice(stage)?;
+    note.extend_from_slice(b" ")?;
+    note.extend_from_slice(refusal)?;
+    note.extend_from_slice(b"\n")?;
+    Ok(note)
+}
+
+fn text_refusal(alloc: Global, fault: &TextFault) -> Result<Vec<u8>, AllocError>
+    ensures { IfOk result (λ v. v.items ≡ notes.text_refusal fault.now) }
+{
+    match fault {
+        TextFault::Syntax { at } => at_place(alloc, b"Syntax ", *at),
+        TextFault::TooDeep { at } => at_place(alloc, b"TooDeep ", *at),
+        TextFault::TooLong => Vec::from_slice(alloc, b"TooLong"),
+        TextFault::OutOfMemory => Ok(Vec::new(alloc)),
+    }
+}
+
+// A refusal and its place.
+fn at_place(alloc: Global, refusal: &[u8], place: u32) -> Result<Vec<u8>, AllocError>
+    ensures { IfOk result (λ v. v.items ≡ refusal.now ++ decimal place) }
+{
+    let mut digits = Buffer::new();
+    let mut text = Vec::from_slice(alloc, refusal)?;
+    text.extend_from_slice(digits.format(place).as_bytes())?;
+    Ok(text)
+}
+
+fn config_refusal(alloc: Global, fault: &ConfigFault) -> Result<Vec<u8>, AllocError>
+    ensures { IfOk result (λ v. v.items ≡ notes.config_refusal fault.now) }
+{
+    match fault {
+        ConfigFault::UnknownField { path } => of_path(alloc, b"UnknownField ", path),
+        ConfigFault::WrongShape { path } => of_path(alloc, b"WrongShape ", path),
+        ConfigFault::Repeated { path } => of_path(alloc, b"Repeated ", path),
+        ConfigFault::BadPort { path, cause } => port_refusal(alloc, path, *cause),
+        ConfigFault::OutOfMemory => Ok(Vec::new(alloc)),
+    }
+}
+
+// A refusal and its path.
+fn of_path(alloc: Global, refusal: &[u8], path: &MgText) -> Result<Vec<u8>, AllocError>
+    ensures { IfOk result (λ v. v.items ≡ refusal.now ++ path.now) }
+{
+    let mut text = Vec::from_slice(alloc, refusal)?;
+    text.extend_from_slice(path.as_bytes())?;
+    Ok(text)
+}
+
+fn port_refusal(alloc: Global, path: &MgText, cause: NameFault) -> Result<Vec<u8>, AllocError>
+    ensures { IfOk result (λ v. v.items ≡ notes.config_refusal (ConfigFault.BadPort path.now cause)) }
+{
+    let mut text = of_path(alloc, b"BadPort ", path)?;
+    text.extend_from_slice(b" ")?;
+    text.extend_from_slice(cause_name(cause).as_bytes())?;
+    Ok(text)
+}
+
+fn cause_name(cause: NameFault) -> &'static str
+    ensures { result.now ≡ notes.cause_name cause }
+{
+    match cause {
+        NameFault::BadName => "BadName",
+        NameFault::BadTag => "BadTag",
+        NameFault::BadIndex => "BadIndex",
+        NameFault::Gap => "Gap",
+        NameFault::Twice => "Twice",
+        NameFault::OutOfMemory => "",
+    }
+}
+
 /// The note that a line isn't good. Lines are counted from 1.
 pub fn line_note(alloc: Global, number: u64, fault: LineFault) -> Result<Vec<u8>, AllocError>
-    ensures { IfOk result (λ v. v.items ≡ line_note (Some (record { number = number; fault = fault }))) }
+    ensures { IfOk result (λ v. v.items ≡ notes.line_note (Some (record { number = number; fault = fault }))) }
 {
     let mut digits = Buffer::new();
     let mut note = Vec::from_slice(alloc, b"line ")?;
@@ -30,7 +127,7 @@ pub fn line_note(alloc: Global, number: u64, fault: LineFault) -> Result<Vec<u8>
 
 /// The note that a read failed after so many whole lines.
 pub fn read_note(alloc: Global, lines: u64) -> Result<Vec<u8>, AllocError>
-    ensures { IfOk result (λ v. v.items ≡ read_note lines) }
+    ensures { IfOk result (λ v. v.items ≡ notes.read_note lines) }
 {
     let mut digits = Buffer::new();
     let mut note = Vec::from_slice(alloc, b"read fault after line ")?;

@@ -1,4 +1,5 @@
 mod faults;
+mod graphs;
 mod lines;
 mod merge;
 mod words;

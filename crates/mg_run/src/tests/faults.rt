@@ -226,7 +226,7 @@ fn faults_have_an_order(rt: HostRuntime) -> Result<(), Fail> {
 #[test]
 fn faults_before_a_run_keep_their_status(rt: HostRuntime) -> Result<(), Fail> {
     // The file, whether its load fails, the notes' room, and what comes of it.
-    let rows: [(&[&str], bool, usize, &str, Status); 9] = [
+    let rows: [(&[&str], bool, usize, &str, Status); 11] = [
         (RUN, true, ROOM, "store: g.pbtxt\n", Status::StoreFault),
         (RUN, true, 0, "", Status::StoreFault),
         (RUN, true, 9, "store: g.", Status::StoreFault),
@@ -235,10 +235,18 @@ fn faults_before_a_run_keep_their_status(rt: HostRuntime) -> Result<(), Fail> {
             &["run", "text"],
             false,
             ROOM,
-            "refused: NotYet\n",
+            "refused: text text Syntax 4\n",
             Status::GraphRefused,
         ),
         (&["run", "text"], false, 0, "", Status::GraphRefused),
+        (
+            &["expand", "g.pbtxt"],
+            true,
+            ROOM,
+            "store: g.pbtxt\n",
+            Status::StoreFault,
+        ),
+        (&["expand", "text"], false, 0, "", Status::GraphRefused),
         (&["run"], true, 0, "", Status::Usage),
         (&["run"], true, 5, "usage", Status::Usage),
         (RUN, false, 0, "", Status::Good),

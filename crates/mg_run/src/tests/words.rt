@@ -16,7 +16,7 @@ fn padded(alloc: Global, line: &str, length: usize) -> Result<Vec<u8>, AllocErro
 
 #[test]
 fn words_are_judged_first(rt: HostRuntime) -> Result<(), Fail> {
-    let rows: [&[&str]; 10] = [
+    let rows: [&[&str]; 14] = [
         &[],
         &["run"],
         &["g.pbtxt"],
@@ -27,6 +27,10 @@ fn words_are_judged_first(rt: HostRuntime) -> Result<(), Fail> {
         &["g.pbtxt", "run"],
         &["run", "--fast", "g.pbtxt"],
         &["walk"],
+        &["expand"],
+        &["Expand", "g.pbtxt"],
+        &["expand", "g.pbtxt", "h.pbtxt"],
+        &["expand", "run", "g.pbtxt"],
     ];
     for words in rows {
         let mut devices = Devices::new(rt.alloc(), GOOD, 64)?;
@@ -57,32 +61,6 @@ fn the_file_of_the_words_is_loaded(rt: HostRuntime) -> Result<(), Fail> {
         devices.took(&rt, name, b"", note);
         assert_eq!(rt; ended, Status::StoreFault);
         assert_eq!(rt; devices.store.failed_name(), Some(name));
-        assert_eq!(rt; devices.input.reads(), 0, "nothing is read");
-    }
-    Ok(())
-}
-
-#[test]
-fn a_graph_is_known_by_its_bytes(rt: HostRuntime) -> Result<(), Fail> {
-    let mut devices = Devices::new(rt.alloc(), GOOD, 64)?;
-    devices.store.put("g.pbtxt", GRAPH.trim_end().as_bytes())?;
-    assert_eq!(rt; devices.call(rt.alloc(), RUN)?, Status::Good);
-    devices.took(&rt, "no line feed at the end", GIVEN, "");
-    let rows = [
-        "",
-        "\n",
-        "input_stream: \"in\" output_stream: \"out\"\n",
-        "input_stream: \"in\" output_stream: \"out\"\nnode { calculator: \"PassThroughCalculator\" input_stream: \"in\" output_stream: \"in\" }\n",
-        "input_stream: \"in\" output_stream: \"out\"\nnode { calculator: \"PassThroughCalculator\" input_stream: \"in\" output_stream: \"out\" }\n\n",
-        "input_stream: \"in\" output_stream: \"out\"\nnode { calculator: \"PassThroughCalculator\" input_stream: \"in\" output_stream: \"out\" }\r\n",
-        "input_stream: \"in\" output_stream: \"out\"\r\nnode { calculator: \"PassThroughCalculator\" input_stream: \"in\" output_stream: \"out\" }\n",
-    ];
-    for content in rows {
-        let mut devices = Devices::new(rt.alloc(), GOOD, 64)?;
-        devices.store.put("g.pbtxt", content.as_bytes())?;
-        let ended = devices.call(rt.alloc(), RUN)?;
-        devices.took(&rt, content, b"", "refused: NotYet\n");
-        assert_eq!(rt; ended, Status::GraphRefused, "the file {content:?}");
         assert_eq!(rt; devices.input.reads(), 0, "nothing is read");
     }
     Ok(())

@@ -1,0 +1,64 @@
+-- The notes, each a line.
+use Rattle.std.specs.Prelude.{ℕ, List, [], ◌∷◌, ◌++◌, Option, None, Some, codes, decimal}
+use Rattle.mg_text.specs.declared.fault.TextFault.{TextFault}
+use Rattle.mg_text.specs.declared.fault.TextFault.TheVariants.{Syntax, TooDeep, TooLong, OutOfMemory}
+use Rattle.mg_names.specs.declared.fault.NameFault.{NameFault}
+use Rattle.mg_names.specs.declared.fault.NameFault.TheVariants as names
+use Rattle.mg_config.specs.declared.fault.ConfigFault.{ConfigFault}
+use Rattle.mg_config.specs.declared.fault.ConfigFault.TheVariants as configs
+use Rattle.mg_run.specs.Accepted.{Refused}
+use Rattle.mg_run.specs.declared.line_fault.LineFault.{LineFault}
+use Rattle.mg_run.specs.declared.line_fault.LineFault.TheVariants.{NotYet, Closed, NotAscending}
+
+abbrev pub usage_note : List ℕ
+usage_note = codes "usage: mg run|solve|check|expand|generate [--workers N] [--max-queue-size N] [--no-queue-limit] [--number N] [--report] GRAPH [SUBGRAPH...]\n"
+
+abbrev pub store_note : List ℕ → List ℕ
+store_note file = codes "store: " ++ file ++ codes "\n"
+
+-- A graph file is refused --
+
+-- the file isn't text, and where
+abbrev pub text_refusal : TextFault → List ℕ
+text_refusal (Syntax place) = codes "Syntax " ++ decimal place
+text_refusal (TooDeep place) = codes "TooDeep " ++ decimal place
+text_refusal TooLong = codes "TooLong"
+text_refusal OutOfMemory = []
+
+abbrev pub cause_name : NameFault → List ℕ
+cause_name names.BadName = codes "BadName"
+cause_name names.BadTag = codes "BadTag"
+cause_name names.BadIndex = codes "BadIndex"
+cause_name names.Gap = codes "Gap"
+cause_name names.Twice = codes "Twice"
+cause_name names.OutOfMemory = []
+
+-- its fields are no configuration, and which
+abbrev pub config_refusal : ConfigFault → List ℕ
+config_refusal (configs.UnknownField path) = codes "UnknownField " ++ path
+config_refusal (configs.WrongShape path) = codes "WrongShape " ++ path
+config_refusal (configs.Repeated path) = codes "Repeated " ++ path
+config_refusal (configs.BadPort path cause) = codes "BadPort " ++ path ++ codes " " ++ cause_name cause
+config_refusal configs.OutOfMemory = []
+
+-- `stage` is what refuses the file: `text` or `config`
+abbrev pub file_note : List ℕ → List ℕ → List ℕ → List ℕ
+file_note file stage refusal = codes "refused: " ++ file ++ codes " " ++ stage ++ codes " " ++ refusal ++ codes "\n"
+
+-- the graph isn't one that runs so far
+abbrev pub unbuilt_note : List ℕ
+unbuilt_note = codes "refused: NotYet\n"
+
+-- A line is refused, or a read fails --
+
+abbrev pub fault_name : LineFault → List ℕ
+fault_name NotYet = codes "NotYet"
+fault_name Closed = codes "Closed"
+fault_name NotAscending = codes "NotAscending"
+
+abbrev pub line_note : Option Refused → List ℕ
+line_note None = []
+line_note (Some refused) = codes "line " ++ decimal refused.number ++ codes ": " ++ fault_name refused.fault ++ codes "\n"
+
+abbrev pub read_note : ℕ → List ℕ
+read_note lines = codes "read fault after line " ++ decimal lines ++ codes "\n"
