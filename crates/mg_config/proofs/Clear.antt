@@ -1,10 +1,10 @@
 -- Fields that are written have no fault: a list of them, piece after piece.
-use Rattle.std.proofs.Common.{ℕ, ℤ, pos, negsuc, ◌<◌, ◌≡◌, List, [], ◌∷◌, ◌++◌, Bool, true, false, not, ◌&&◌, ◌||◌, ◌==◌, if◌then◌else◌, Option, None, Some, is_some, map, append_assoc, append-nil, arith, refl, sym, ap, ◌∙◌, codes}
+use Rattle.std.proofs.Common.{ℕ, ℤ, pos, negsuc, ◌≡◌, List, [], ◌∷◌, ◌++◌, Bool, true, false, ◌||◌, ◌==◌, if◌then◌else◌, None, Some, is_some, append_assoc, append-nil, refl, sym, ap, ◌∙◌}
 use Rattle.std.specs.List.{list_any}
 use Rattle.std.specs.Str.{bytes_eq}
 use Rattle.std.specs.Fmt.{signed_decimal}
 use Rattle.std.proofs.lemmas.List.Folds.{list_any-append}
-use Rattle.mg_text.specs.Tree.{Fields, none, scalar, message, word, number, quoted}
+use Rattle.mg_text.specs.Tree.{Fields, number, quoted}
 use Rattle.mg_text.specs.View.{Value, simple, inner, Entry, put, fields_of}
 use Rattle.mg_names.specs.Ports.{text_of}
 use Rattle.mg_names.specs.declared.port.Port.{Port}
@@ -17,9 +17,7 @@ use Rattle.mg_config.specs.Written.{text_entry, text_field, number_field, port_f
 use Rattle.mg_config.specs.Sound.{FitsI32}
 use Rattle.mg_config.specs.declared.schema.Message.{Message}
 use Rattle.mg_config.specs.declared.schema.Shape.{Shape}
-use Rattle.mg_config.specs.declared.schema.Shape.TheVariants.{Text, Number, Options, Inside}
-use Rattle.mg_config.specs.declared.schema.FieldRule.{FieldRule}
-use Rattle.mg_config.specs.declared.fault.ConfigFault.{ConfigFault}
+use Rattle.mg_config.specs.declared.schema.Shape.TheVariants.{Text, Number}
 use Rattle.mg_config.proofs.Checked.{fault_inside}
 
 fault_of_put : (kind : Message) (before : List Entry) (n : List ℕ) (v : Value) (rest : Fields)
@@ -117,7 +115,7 @@ text_clear kind before n text ruled fresh = by (bytes_eq text [])
     by true = none_clear kind before
     by false = single_clear kind before n (simple quoted text) (own_once kind before n (simple quoted text) Text ruled refl fresh) refl
 
-text_called : (n text : List ℕ) → AreCalled n (text_field n text)
+pub text_called : (n text : List ℕ) → AreCalled n (text_field n text)
 text_called n text = by (bytes_eq text [])
   where
     by : (t : Bool) → AreCalled n (if t then [] else text_entry n text ∷ [])
@@ -140,14 +138,16 @@ number_clear back kind before n value fits ruled fresh = by value one
     one : AreClear kind before (entry n (simple number (signed_decimal value)) ∷ [])
     one = single_clear kind before n (simple number (signed_decimal value))
         (own_once kind before n (simple number (signed_decimal value)) Number ruled (ap is_some (back value fits)) fresh) refl
+
     if_some : (t : Bool) (v : ℤ) → AreClear kind before (entry n (simple number (signed_decimal v)) ∷ []) → AreClear kind before (if t then [] else entry n (simple number (signed_decimal v)) ∷ [])
     if_some true v written = none_clear kind before
     if_some false v written = written
+
     by : (v : ℤ) → AreClear kind before (entry n (simple number (signed_decimal v)) ∷ []) → AreClear kind before (number_field n v)
     by (pos k) written = if_some (k == 0) (pos k) written
     by (negsuc k) written = written
 
-number_called : (n : List ℕ) (value : ℤ) → AreCalled n (number_field n value)
+pub number_called : (n : List ℕ) (value : ℤ) → AreCalled n (number_field n value)
 number_called n (pos k) = by (k == 0)
   where
     by : (t : Bool) → AreCalled n (if t then [] else entry n (simple number (signed_decimal (pos k))) ∷ [])
@@ -167,7 +167,7 @@ ports_clear kind before n (port ∷ ports) ruled =
     first_clear kind before n (simple quoted (text_of port)) (port_fields n ports) (own_many kind before n (simple quoted (text_of port)) Text ruled refl) refl
     (ports_clear kind (before ++ text_entry n (text_of port) ∷ []) n ports ruled)
 
-ports_called : (n : List ℕ) (ports : List Port) → AreCalled n (port_fields n ports)
+pub ports_called : (n : List ℕ) (ports : List Port) → AreCalled n (port_fields n ports)
 ports_called n [] = none_called n
 ports_called n (port ∷ ports) = more_called n (simple quoted (text_of port)) (port_fields n ports) (ports_called n ports)
 

@@ -12,3 +12,5 @@ pub mod Appended
 pub mod Made
 pub mod Noded
 pub mod Clear
+pub mod ClearNode
+pub mod ClearCalculator
