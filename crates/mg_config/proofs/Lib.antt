@@ -11,3 +11,6 @@ pub mod Emptied
 pub mod Appended
 pub mod Made
 pub mod Noded
+pub mod Pieces
+pub mod Restored
+pub mod Given
