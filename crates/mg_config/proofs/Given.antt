@@ -1,11 +1,11 @@
 -- A configuration is read out of the fields that it is written as.
-use Rattle.std.proofs.Common.{ℕ, suc, ◌≡◌, List, [], ◌∷◌, ◌++◌, Bool, Some, Result, Ok, map, refl, sym, ap, ◌∙◌, codes, append_assoc, append-nil, ◌||◌}
-use Rattle.std.specs.Prelude.{ℤ, pos, All}
+use Rattle.std.proofs.Common.{ℕ, suc, ◌≡◌, List, [], ◌∷◌, ◌++◌, Bool, Some, Result, Ok, map, refl, ap, ◌∙◌, codes, append_assoc, append-nil, ◌||◌}
+use Rattle.std.specs.Prelude.{ℤ, All}
 use Rattle.std.specs.Str.{bytes_eq}
 use Rattle.std.specs.Fmt.{signed_decimal}
 use Rattle.std.proofs.lemmas.List.Elements.{All-head, All-tail}
 use Rattle.mg_text.specs.Tree.{Fields}
-use Rattle.mg_text.specs.View.{Value, Entry, fields_of}
+use Rattle.mg_text.specs.View.{Entry}
 use Rattle.mg_names.specs.Ports.{ports_of, text_of}
 use Rattle.mg_names.specs.declared.port.Port.{Port}
 use Rattle.mg_config.specs.Values.{entries, first, values_of, text_of_value, text_of_first, number_of_first, texts_in, text_in, number_in, fields_of_value, message_of_first, messages_in, joined}
@@ -23,7 +23,7 @@ use Rattle.mg_config.proofs.Appended.{map_map}
 use Rattle.mg_config.proofs.Pieces.{values, all_named, Piece, piece, spread, passing, look, spread_passing}
 use Rattle.mg_config.proofs.Restored.{text_named, number_named, ports_named, marks_named, handler_named, options_named, text_back, number_back, texts_back, handler_back, options_back, marks_back}
 
--- the fields of a name in pieces
+-- the values of a name, in fields that stand in pieces
 values_in : (name : List ℕ) (ps : List Piece) (fields : List Entry) → fields ≡ spread ps → values_of name fields ≡ look (λ other. bytes_eq other name) ps
 values_in name ps fields are = ap (values_of name) are ∙ spread_passing (λ other. bytes_eq other name) ps
 

@@ -1,11 +1,11 @@
 -- What is written under a name is what the values of that name say.
-use Rattle.std.proofs.Common.{ℕ, suc, ◌≡◌, ◌==◌, List, [], ◌∷◌, ◌++◌, Bool, true, false, Option, Some, Result, Ok, map, refl, sym, ap, ◌∙◌, if◌then◌else◌, arith, codes, unwrap_or}
+use Rattle.std.proofs.Common.{ℕ, suc, ◌≡◌, ◌==◌, List, [], ◌∷◌, Bool, true, false, Some, Ok, map, refl, ap, ◌∙◌, if◌then◌else◌, arith, codes, unwrap_or}
 use Rattle.std.specs.Prelude.{ℤ, pos, negsuc, All}
 use Rattle.std.specs.Fmt.{signed_decimal}
 use Rattle.std.proofs.lemmas.Bool.Decides.{nat_tests}
 use Rattle.std.proofs.lemmas.List.Elements.{All-head, All-tail}
 use Rattle.mg_text.specs.Tree.{number, quoted, Fields, none, scalar, message}
-use Rattle.mg_text.specs.View.{Value, simple, Entry}
+use Rattle.mg_text.specs.View.{simple}
 use Rattle.mg_names.specs.Ports.{text_of}
 use Rattle.mg_names.specs.declared.port.Port.{Port}
 use Rattle.mg_config.specs.Values.{entry, entries, first, text_of_value, text_of_first, number_of_first, text_in, fields_of_value, message_of_first, joined}
