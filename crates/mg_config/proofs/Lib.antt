@@ -14,3 +14,6 @@ pub mod Noded
 pub mod Clear
 pub mod ClearNode
 pub mod ClearCalculator
+pub mod Pieces
+pub mod Restored
+pub mod Given
