@@ -12,3 +12,4 @@ pub mod Appended
 pub mod Made
 pub mod Noded
 pub mod Numbers
+pub mod Sounded
