@@ -1,16 +1,16 @@
 -- What was read is sound: it can be written, and read back.
-use Rattle.std.proofs.Common.{ℕ, suc, zero, ◌-◌, ◌^◌, ◌<◌, ◌≤◌, ◌≡◌, ◌≢◌, ◌⊎◌, inl, inr, List, [], ◌∷◌, ◌++◌, Bool, true, false, ◌&&◌, ◌||◌, eqb, Option, None, Some, Result, Ok, Err, nat_le, map, arith, refl, sym, ap, subst, ◌∙◌, if◌then◌else◌, codes, ℤ, pos, negsuc, neg_ℤ}
+use Rattle.std.proofs.Common.{ℕ, suc, zero, ◌-◌, ◌^◌, ◌<◌, ◌≤◌, ◌≡◌, ◌≢◌, ◌⊎◌, inl, inr, List, [], ◌∷◌, Bool, true, false, ◌&&◌, ◌||◌, eqb, Option, None, Some, Result, Ok, Err, nat_le, arith, refl, ap, subst, if◌then◌else◌, codes, ℤ, pos, neg_ℤ}
 use Rattle.std.specs.Prelude.{IsTrue, option_map, unwrap_or}
 use Rattle.std.specs.List.{All}
 use Rattle.std.specs.Str.{bytes_eq}
 use Rattle.std.specs.Str.Parse.{digits_value}
 use Rattle.std.proofs.lemmas.Bool.Decides.{nat_tests}
 use Rattle.std.proofs.lemmas.List.Elements.{All-nil, All-cons}
-use Rattle.mg_text.specs.Tree.{Kind, word, number, quoted, Fields}
+use Rattle.mg_text.specs.Tree.{word, number, quoted, Fields}
 use Rattle.mg_text.specs.View.{Value, simple, inner, Entry}
 use Rattle.mg_names.specs.Grammar.{is_tag, index_of}
 use Rattle.mg_names.specs.Spelling.{parts_of}
-use Rattle.mg_names.specs.Ports.{ports_of, text_of}
+use Rattle.mg_names.specs.Ports.{ports_of}
 use Rattle.mg_names.specs.declared.port.Port.{Port}
 use Rattle.mg_names.specs.declared.fault.NameFault.{NameFault}
 use Rattle.mg_names.specs.declared.fault.NameFault.TheVariants.{BadTag}
