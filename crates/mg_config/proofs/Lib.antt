@@ -17,3 +17,5 @@ pub mod ClearCalculator
 pub mod Pieces
 pub mod Restored
 pub mod Given
+pub mod Numbers
+pub mod Sounded
