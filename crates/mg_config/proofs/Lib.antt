@@ -11,3 +11,4 @@ pub mod Emptied
 pub mod Appended
 pub mod Made
 pub mod Noded
+pub mod Printed
