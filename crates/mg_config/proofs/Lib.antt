@@ -12,3 +12,6 @@ pub mod Appended
 pub mod Made
 pub mod Noded
 pub mod Printed
+pub mod Letters
+pub mod Spelled
+pub mod Shallow
