@@ -1,5 +1,5 @@
 -- The fields that a configuration is written as nest no deeper than a text may.
-use Rattle.std.proofs.Common.{ℕ, suc, ℤ, pos, negsuc, max, ◌+◌, ◌≤◌, ◌≡◌, ◌==◌, List, [], ◌∷◌, ◌++◌, Bool, true, false, if◌then◌else◌, map, codes, arith}
+use Rattle.std.proofs.Common.{ℕ, suc, ℤ, pos, negsuc, ◌+◌, ◌≤◌, ◌==◌, List, [], ◌∷◌, ◌++◌, Bool, true, false, if◌then◌else◌, map, codes, arith}
 use Rattle.std.specs.List.{All}
 use Rattle.std.specs.Str.{bytes_eq}
 use Rattle.std.specs.Fmt.{signed_decimal}

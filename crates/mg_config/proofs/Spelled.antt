@@ -5,7 +5,7 @@ use Rattle.std.specs.Str.{bytes_eq}
 use Rattle.std.specs.Fmt.{signed_decimal}
 use Rattle.std.proofs.lemmas.List.Elements.{All-head, All-tail}
 use Rattle.mg_text.specs.Byte.{class_of, below_digits, digit_class, upper_class, lower_class}
-use Rattle.mg_text.specs.Tree.{word, number, quoted, Fields, none, scalar, message}
+use Rattle.mg_text.specs.Tree.{number, Fields, none, scalar, message}
 use Rattle.mg_text.specs.View.{Value, simple, inner, Entry, put, fields_of}
 use Rattle.mg_text.specs.Grammar.{IsName}
 use Rattle.mg_text.specs.Canonical.{AreCharacters, IsSpelled, AreSpelled}
@@ -14,8 +14,7 @@ use Rattle.mg_names.specs.declared.port.Port.{Port}
 use Rattle.mg_names.proofs.Again.{all_spelled}
 use Rattle.mg_config.specs.Values.{entry}
 use Rattle.mg_config.specs.Config.{NodeView, GraphView}
-use Rattle.mg_config.specs.Written.{text_entry, text_field, number_field, port_fields, mark_entry, mark_fields, handler_field, options_field, list_fields, node_ends, node_fields, node_entry, graph_fields, tree_of}
-use Rattle.mg_config.specs.Marks.{text_of_mark}
+use Rattle.mg_config.specs.Written.{text_entry, text_field, number_field, port_fields, mark_fields, handler_field, options_field, list_fields, node_ends, node_fields, node_entry, graph_fields, tree_of}
 use Rattle.mg_config.specs.Sound.{FitsI32, AreReadBack, IsMark, IsSoundNode, IsSound, IsPrintableNode, IsPrintable}
 use Rattle.mg_config.specs.declared.mark.Mark.{Mark}
 use Rattle.mg_config.proofs.Letters.{is_word, word_of, name_of, number_spelled, port_characters, mark_characters}
@@ -121,9 +120,11 @@ lists_spelled inputs outputs input_sides output_sides ins outs in_sides out_side
 
 marks_spelled : (marks : List Mark) → All IsMark marks → AllSpelled (mark_fields marks)
 marks_spelled [] all = tt
-marks_spelled (mark ∷ marks) all =
-    (words.input_stream_info, (words.tag_index, mark_characters mark (All-head IsMark mark marks all), (words.back_edge, word_of (codes "true") true_is, tt)),
-    marks_spelled marks (All-tail IsMark mark marks all))
+marks_spelled (mark ∷ marks) all = (
+  words.input_stream_info,
+  (words.tag_index, mark_characters mark (All-head IsMark mark marks all), (words.back_edge, word_of (codes "true") true_is, tt)),
+  marks_spelled marks (All-tail IsMark mark marks all),
+)
 
 handler_spelled : (name : List ℕ) → AreCharacters name → AllSpelled (handler_field name)
 handler_spelled name characters = by (bytes_eq name [])
@@ -156,9 +157,11 @@ node_spelled node sound printable =
 
 nodes_spelled : (nodes : List NodeView) → All IsSoundNode nodes → All IsPrintableNode nodes → AllSpelled (map node_entry nodes)
 nodes_spelled [] sound printable = tt
-nodes_spelled (node ∷ nodes) sound printable =
-    (words.node, fields_spelled (node_fields node) (node_spelled node (All-head IsSoundNode node nodes sound) (All-head IsPrintableNode node nodes printable)),
-    nodes_spelled nodes (All-tail IsSoundNode node nodes sound) (All-tail IsPrintableNode node nodes printable))
+nodes_spelled (node ∷ nodes) sound printable = (
+  words.node,
+  fields_spelled (node_fields node) (node_spelled node (All-head IsSoundNode node nodes sound) (All-head IsPrintableNode node nodes printable)),
+  nodes_spelled nodes (All-tail IsSoundNode node nodes sound) (All-tail IsPrintableNode node nodes printable),
+)
 
 -- the graph
 graph_spelled : (graph : GraphView) → IsSound graph → IsPrintable graph → AllSpelled (graph_fields graph)

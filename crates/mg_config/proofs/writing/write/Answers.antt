@@ -6,7 +6,6 @@ use Rattle.mg_text.specs.Canonical.{AreSpelled}
 use Rattle.mg_text.specs.declared.tree.Tree.{roll-Tree}
 use Rattle.mg_text.specs.declared.tree.TreeValue.{the_lemmas}
 use Rattle.mg_config.specs.Config.{graph_view}
-use Rattle.mg_config.specs.Written.{tree_of}
 use Rattle.mg_config.proofs.Spelled.{spelled_tree}
 use Rattle.mg_config.proofs.Shallow.{shallow_tree}
 use Rattle.mg_config.proofs.writing.write.Goals as goal
