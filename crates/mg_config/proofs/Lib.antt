@@ -19,3 +19,7 @@ pub mod Restored
 pub mod Given
 pub mod Numbers
 pub mod Sounded
+pub mod Printed
+pub mod Letters
+pub mod Spelled
+pub mod Shallow
