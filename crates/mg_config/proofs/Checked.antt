@@ -26,7 +26,7 @@ abbrev pub fault_inside : Option FieldRule → List Entry → List ℕ → Value
 fault_inside rule before name (simple kind bytes) = None
 fault_inside rule before name (inner fields) = inner_fault rule before name (λ inside. fault_after fields inside [])
 
-fault_put : (kind : Message) (before : List Entry) (n : List ℕ) (v : Value) (rest : Fields)
+pub fault_put : (kind : Message) (before : List Entry) (n : List ℕ) (v : Value) (rest : Fields)
     → fault_after (put n v rest) kind before ≡ or_else (own_fault (rule_of kind n) before n v) (or_else (fault_inside (rule_of kind n) before n v) (fault_after rest kind (before ++ entry n v ∷ [])))
 fault_put kind before n (simple k bytes) rest = refl
 fault_put kind before n (inner fields) rest = refl

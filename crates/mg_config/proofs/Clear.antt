@@ -18,17 +18,12 @@ use Rattle.mg_config.specs.Sound.{FitsI32}
 use Rattle.mg_config.specs.declared.schema.Message.{Message}
 use Rattle.mg_config.specs.declared.schema.Shape.{Shape}
 use Rattle.mg_config.specs.declared.schema.Shape.TheVariants.{Text, Number}
-use Rattle.mg_config.proofs.Checked.{fault_inside}
-
-fault_of_put : (kind : Message) (before : List Entry) (n : List ℕ) (v : Value) (rest : Fields)
-    → fault_after (put n v rest) kind before ≡ or_else (own_fault (rule_of kind n) before n v) (or_else (fault_inside (rule_of kind n) before n v) (fault_after rest kind (before ++ entry n v ∷ [])))
-fault_of_put kind before n (simple k bytes) rest = refl
-fault_of_put kind before n (inner fields) rest = refl
+use Rattle.mg_config.proofs.Checked.{fault_inside, fault_put}
 
 one_clear : (kind : Message) (before : List Entry) (n : List ℕ) (v : Value) (rest : Fields) → own_fault (rule_of kind n) before n v ≡ None → fault_inside (rule_of kind n) before n v ≡ None
     → fault_after (put n v rest) kind before ≡ fault_after rest kind (before ++ entry n v ∷ [])
 one_clear kind before n v rest own clear =
-    fault_of_put kind before n v rest
+    fault_put kind before n v rest
     ∙ ap (λ o. or_else o (or_else (fault_inside (rule_of kind n) before n v) (fault_after rest kind (before ++ entry n v ∷ [])))) own
     ∙ ap (λ o. or_else o (fault_after rest kind (before ++ entry n v ∷ []))) clear
 

@@ -23,3 +23,4 @@ pub mod Printed
 pub mod Letters
 pub mod Spelled
 pub mod Shallow
+pub mod WrittenBack

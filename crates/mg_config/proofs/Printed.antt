@@ -16,6 +16,7 @@ use Rattle.mg_config.specs.declared.schema.Message.TheVariants.{Graph}
 use Rattle.mg_config.specs.declared.mark.Mark.{Mark}
 use Rattle.mg_config.specs.declared.ports.PortPair.{PortPair}
 use Rattle.mg_config.specs.declared.fault.ConfigFault.{ConfigFault}
+use Rattle.mg_config.proofs.Made.{then_ok, placed_ok, unless_ok}
 
 -- fields that are spelled, and nest at most so many messages
 pub record AreWithin (n : ℕ) (fields : Fields) : Type 0 where
@@ -116,19 +117,6 @@ options_fields n (e ∷ es) within = (fields_within n e.value within.0, options_
 pub options_within : (n : ℕ) (es : List Entry) → AllWithin n (values es) → AreWithin n (options_in es)
 options_within n es within = joined_within n (map (λ field. fields_of_value field.value) (filter is_option es)) (options_fields n (filter is_option es) (filtered n is_option es within))
 
--- what a result that isn't a fault comes from
-then_ok : {A B : Type 0} (r : Result A ConfigFault) (next : A → Result B ConfigFault) (value : B) → then_do r next ≡ Ok value → (a : A) × (r ≡ Ok a) × (next a ≡ Ok value)
-then_ok (Ok a) next value made = (a, refl, made)
-then_ok (Err fault) next value made = cc
-
-placed_ok : {A : Type 0} (place : List ℕ) (r : Result A ConfigFault) (value : A) → placed place r ≡ Ok value → r ≡ Ok value
-placed_ok place (Ok a) value made = made
-placed_ok place (Err fault) value made = cc
-
-unless_ok : {A : Type 0} (o : Option ConfigFault) (r : Result A ConfigFault) (value : A) → unless o r ≡ Ok value → r ≡ Ok value
-unless_ok None r value made = made
-unless_ok (Some fault) r value made = cc
-
 abbrev read_node : NodeView → Result NodeView ConfigFault
 read_node node = Ok node
 
@@ -194,5 +182,5 @@ graph_printable n es graph small made within =
 pub printable_of : (fields : Fields) (graph : GraphView) → config_of fields ≡ Ok graph → AreSpelled fields → depth fields ≤ max_depth → IsPrintable graph
 printable_of fields graph made spelled shallow =
     let named = unless_ok (field_fault Graph fields) (unless (calculator_fault 0 (messages_in (codes "node") (entries fields))) (graph_of (entries fields))) graph made in
-    let read = unless_ok (calculator_fault 0 (messages_in (codes "node") (entries fields))) (graph_of (entries fields)) graph named in
-    graph_printable 61 (entries fields) graph (omega arith) read (values_within 63 fields spelled shallow)
+    let read = unless_ok (calculator_fault 0 (messages_in (codes "node") (entries fields))) (graph_of (entries fields)) graph named.1 in
+    graph_printable 61 (entries fields) graph (omega arith) read.1 (values_within 63 fields spelled shallow)

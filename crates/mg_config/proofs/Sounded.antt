@@ -28,6 +28,7 @@ use Rattle.mg_config.specs.declared.mark.Mark.{Mark}
 use Rattle.mg_config.specs.declared.ports.PortPair.{PortPair}
 use Rattle.mg_config.specs.declared.fault.ConfigFault.{ConfigFault}
 use Rattle.mg_config.specs.declared.fault.ConfigFault.TheVariants.{WrongShape}
+use Rattle.mg_config.proofs.Made.{then_ok, placed_ok, unless_ok}
 
 -- a number without a sign is at most the bound
 value_bound : (base most : ℕ) (digits : List ℕ) (n : ℕ) → value_in base most digits ≡ Some n → n ≤ most
@@ -122,21 +123,8 @@ parts_are_mark (tag ∷ index ∷ other ∷ more) mark read = cc
 mark_read : (text : List ℕ) (mark : Mark) → mark_of text ≡ Ok mark → IsMark mark
 mark_read text mark read = parts_are_mark (parts_of text) mark read
 
--- what a result that is no fault was made of
 abbrev made_as : {A : Type 0} → A → Result A ConfigFault
 made_as value = Ok value
-
-then_ok : {A B : Type 0} (result : Result A ConfigFault) (next : A → Result B ConfigFault) (value : B) → then_do result next ≡ Ok value → (first : A) × (result ≡ Ok first) × (next first ≡ Ok value)
-then_ok (Ok first) next value made = (first, refl, made)
-then_ok (Err fault) next value made = cc
-
-placed_ok : {A : Type 0} (place : List ℕ) (result : Result A ConfigFault) (value : A) → placed place result ≡ Ok value → result ≡ Ok value
-placed_ok place (Ok first) value made = made
-placed_ok place (Err fault) value made = cc
-
-unless_ok : {A : Type 0} (fault : Option ConfigFault) (result : Result A ConfigFault) (value : A) → unless fault result ≡ Ok value → (fault ≡ None) × (result ≡ Ok value)
-unless_ok None result value made = (refl, made)
-unless_ok (Some fault) result value made = cc
 
 -- the ports of texts
 ports_by_ok : (name : List ℕ) (texts : List (List ℕ)) (result : Result (List Port) NameFault) (ports : List Port) → ports_by name texts result ≡ Ok ports → result ≡ Ok ports
