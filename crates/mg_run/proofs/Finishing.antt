@@ -7,7 +7,8 @@ use Rattle.mg_edge.proofs.Runs.{TookAll-start}
 use Rattle.mg_run.specs.Lines.{whole_lines, all_lines}
 use Rattle.mg_run.specs.Accepted.{Refused, accepted, first_refused, streams_of, ended_by}
 use Rattle.mg_run.specs.Output.{output_of}
-use Rattle.mg_run.specs.Answer.{line_note, read_note, line_status, run_answer, failed_answer}
+use Rattle.mg_run.specs.Notes.{line_note, read_note}
+use Rattle.mg_run.specs.Answer.{line_status, run_answer, failed_answer}
 use Rattle.mg_run.specs.Devices.{IsFront, TookFront, Rises, Flows}
 use Rattle.mg_run.specs.Feed.{Holds, Stopped}
 use Rattle.mg_run.specs.Pouring.{Told, Pours, PouredFront}

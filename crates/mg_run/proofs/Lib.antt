@@ -1,3 +1,4 @@
+pub mod Files
 pub mod Json
 pub mod Names
 pub mod Saying
@@ -11,3 +12,4 @@ pub mod Flowing
 pub mod Pouring
 pub mod Finishing
 pub mod Calling
+pub mod Risen

@@ -14,8 +14,8 @@ ghost use Rattle.mg_run.specs.Call.{IsJob};
 
 use crate::note::{config_note, text_note};
 use crate::words::Verb;
-use mg_config::{ConfigFault, GraphConfig, read, write};
-use mg_text::{TextFault, Tree, parse, print};
+use mg_config::{GraphConfig, read, write};
+use mg_text::{Tree, parse, print};
 use mg_value::{List, MgText};
 use std::alloc::{AllocError, Global};
 
@@ -39,7 +39,6 @@ pub fn job_of(alloc: Global, verb: Verb, file: &str, content: &[u8]) -> Result<J
 {
     match parse(alloc, content) {
         Ok(tree) => tree_job(alloc, verb, file, &tree),
-        Err(TextFault::OutOfMemory) => Err(AllocError),
         Err(fault) => Ok(Job::Refuse(text_note(alloc, file, &fault)?)),
     }
 }
@@ -51,7 +50,6 @@ fn tree_job(alloc: Global, verb: Verb, file: &str, tree: &Tree) -> Result<Job, A
 {
     match read(alloc, tree) {
         Ok(graph) => graph_job(alloc, verb, &graph),
-        Err(ConfigFault::OutOfMemory) => Err(AllocError),
         Err(fault) => Ok(Job::Refuse(config_note(alloc, file, &fault)?)),
     }
 }
@@ -88,9 +86,11 @@ fn run_job(alloc: Global, text: &[u8]) -> Result<Job, AllocError>
 }
 
 // The texts of the two graphs that run so far.
-const PASS_THROUGH: &[u8] = b"input_stream: \"in\"\noutput_stream: \"out\"\nnode {\n  calculator: \"PassThroughCalculator\"\n  input_stream: \"in\"\n  output_stream: \"out\"\n}\n";
+const PASS_THROUGH: &[u8] =
+    b"input_stream: \"in\"\noutput_stream: \"out\"\nnode {\n  calculator: \"PassThroughCalculator\"\n  input_stream: \"in\"\n  output_stream: \"out\"\n}\n";
 
-const MERGE: &[u8] = b"input_stream: \"a\"\ninput_stream: \"b\"\noutput_stream: \"out\"\nnode {\n  calculator: \"MergeCalculator\"\n  input_stream: \"a\"\n  input_stream: \"b\"\n  output_stream: \"out\"\n}\n";
+const MERGE: &[u8] =
+    b"input_stream: \"a\"\ninput_stream: \"b\"\noutput_stream: \"out\"\nnode {\n  calculator: \"MergeCalculator\"\n  input_stream: \"a\"\n  input_stream: \"b\"\n  output_stream: \"out\"\n}\n";
 
 /// The names of the inputs of the graph that a text says, where it is one that runs so far.
 fn inputs_of(alloc: Global, text: &[u8]) -> Result<Option<List<MgText>>, AllocError>

@@ -1,4 +1,4 @@
-ghost use Rattle.std.specs.Prelude.{◌≡◌, ◌++◌, IfOk, Some, codes, decimal};
+ghost use Rattle.std.specs.Prelude.{◌≡◌, ◌≢◌, ◌++◌, OnOk, IfOk, Some, codes, decimal};
 ghost use Rattle.mg_run.specs.Notes as notes;
 
 use crate::LineFault;
@@ -19,17 +19,19 @@ pub fn store_note(alloc: Global, file: &str) -> Result<Vec<u8>, AllocError>
     Ok(note)
 }
 
-/// The note that a file isn't text of the grammar.
+/// The note that a file isn't text of the grammar. Want of memory isn't noted.
 pub fn text_note(alloc: Global, file: &str, fault: &TextFault) -> Result<Vec<u8>, AllocError>
-    ensures { IfOk result (λ v. v.items ≡ notes.file_note file.now (codes "text") (notes.text_refusal fault.now)) }
+    ensures some { OnOk result (fault.now ≢ TextFault.OutOfMemory) }
+    ensures note { IfOk result (λ v. v.items ≡ notes.file_note file.now (codes "text") (notes.text_refusal fault.now)) }
 {
     let refusal = text_refusal(alloc, fault)?;
     file_note(alloc, file, b"text", &refusal)
 }
 
-/// The note that a file's fields are no configuration.
+/// The note that a file's fields are no configuration. Want of memory isn't noted.
 pub fn config_note(alloc: Global, file: &str, fault: &ConfigFault) -> Result<Vec<u8>, AllocError>
-    ensures { IfOk result (λ v. v.items ≡ notes.file_note file.now (codes "config") (notes.config_refusal fault.now)) }
+    ensures some { OnOk result (fault.now ≢ ConfigFault.OutOfMemory) }
+    ensures note { IfOk result (λ v. v.items ≡ notes.file_note file.now (codes "config") (notes.config_refusal fault.now)) }
 {
     let refusal = config_refusal(alloc, fault)?;
     file_note(alloc, file, b"config", &refusal)
@@ -49,13 +51,14 @@ fn file_note(alloc: Global, file: &str, stage: &[u8], refusal: &[u8]) -> Result<
 }
 
 fn text_refusal(alloc: Global, fault: &TextFault) -> Result<Vec<u8>, AllocError>
-    ensures { IfOk result (λ v. v.items ≡ notes.text_refusal fault.now) }
+    ensures some { OnOk result (fault.now ≢ TextFault.OutOfMemory) }
+    ensures text { IfOk result (λ v. v.items ≡ notes.text_refusal fault.now) }
 {
     match fault {
         TextFault::Syntax { at } => at_place(alloc, b"Syntax ", *at),
         TextFault::TooDeep { at } => at_place(alloc, b"TooDeep ", *at),
         TextFault::TooLong => Vec::from_slice(alloc, b"TooLong"),
-        TextFault::OutOfMemory => Ok(Vec::new(alloc)),
+        TextFault::OutOfMemory => Err(AllocError),
     }
 }
 
@@ -70,14 +73,15 @@ fn at_place(alloc: Global, refusal: &[u8], place: u32) -> Result<Vec<u8>, AllocE
 }
 
 fn config_refusal(alloc: Global, fault: &ConfigFault) -> Result<Vec<u8>, AllocError>
-    ensures { IfOk result (λ v. v.items ≡ notes.config_refusal fault.now) }
+    ensures some { OnOk result (fault.now ≢ ConfigFault.OutOfMemory) }
+    ensures text { IfOk result (λ v. v.items ≡ notes.config_refusal fault.now) }
 {
     match fault {
         ConfigFault::UnknownField { path } => of_path(alloc, b"UnknownField ", path),
         ConfigFault::WrongShape { path } => of_path(alloc, b"WrongShape ", path),
         ConfigFault::Repeated { path } => of_path(alloc, b"Repeated ", path),
         ConfigFault::BadPort { path, cause } => port_refusal(alloc, path, *cause),
-        ConfigFault::OutOfMemory => Ok(Vec::new(alloc)),
+        ConfigFault::OutOfMemory => Err(AllocError),
     }
 }
 

@@ -18,12 +18,7 @@ fn called(alloc: Global, words: &[&str], graph: &[u8]) -> Result<(Devices, Statu
 }
 
 // The text of a graph.
-fn expands(
-    rt: &impl Abort,
-    alloc: Global,
-    graph: &[u8],
-    text: &[&str],
-) -> Result<(), AllocError> {
+fn expands(rt: &impl Abort, alloc: Global, graph: &[u8], text: &[&str]) -> Result<(), AllocError> {
     let (devices, ended) = called(alloc, EXPAND, graph)?;
     devices.took(rt, "a graph", &joined(alloc, text, true)?, "");
     assert_eq!(rt; ended, Status::Good, "the status of expand");
@@ -32,12 +27,7 @@ fn expands(
 }
 
 // A refusal, by each command.
-fn refuses(
-    rt: &impl Abort,
-    alloc: Global,
-    graph: &[u8],
-    refusal: &str,
-) -> Result<(), AllocError> {
+fn refuses(rt: &impl Abort, alloc: Global, graph: &[u8], refusal: &str) -> Result<(), AllocError> {
     let note = format!(in alloc; "refused: {refusal}\n")?;
     for words in [RUN, EXPAND] {
         let (devices, ended) = called(alloc, words, graph)?;
@@ -235,8 +225,16 @@ fn a_text_that_is_not_written_leaves_a_front(rt: HostRuntime) -> Result<(), Fail
         let took = if failing == 0 { 0 } else { room };
         assert!(rt; took <= text.len());
         devices.took(&rt, "a front", &text.as_bytes()[..took], "");
-        assert_eq!(rt; ended == Status::Good, took == text.len(), "room for {room} bytes");
-        assert_eq!(rt; ended == Status::WriteFault, took < text.len(), "room for {room} bytes");
+        assert_eq!(rt;
+            ended == Status::Good,
+            took == text.len(),
+            "room for {room} bytes"
+        );
+        assert_eq!(rt;
+            ended == Status::WriteFault,
+            took < text.len(),
+            "room for {room} bytes"
+        );
         assert_eq!(rt; devices.input.reads(), 0, "expand reads nothing");
     }
     Ok(())
