@@ -1,4 +1,5 @@
 pub mod Files
+pub mod Texts
 pub mod Json
 pub mod Names
 pub mod Saying

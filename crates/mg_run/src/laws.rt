@@ -1,8 +1,21 @@
 //! Laws of the definitions: each function does nothing, and its contract is the law.
-ghost use Rattle.std.specs.Prelude.{◌≡◌, ℕ, List};
-ghost use Rattle.mg_run.specs.File.{File, IsFile};
+ghost use Rattle.std.specs.Prelude.{◌≡◌, ◌≤◌, ℕ, List, length};
+ghost use Rattle.mg_text.specs.Answer.{max_len};
+ghost use Rattle.mg_config.specs.Config.{GraphView};
+ghost use Rattle.mg_run.specs.File.{File, graph, IsFile};
+ghost use Rattle.mg_run.specs.Answer.{text_of};
 
 /// A content is one file at most: so what the program answers to it is one answer.
 pub fn one_file()
     ensures { (content : List ℕ) (a b : File) → IsFile content a → IsFile content b → a ≡ b }
+{}
+
+/// The text of a graph says the same graph again, where it isn't too long for a file.
+pub fn texts_say_their_graph()
+    ensures { (content : List ℕ) (g : GraphView) → IsFile content (graph g) → length (text_of g) ≤ max_len → IsFile (text_of g) (graph g) }
+{}
+
+/// A graph is known by its text: two files that say graphs of the same text say the same graph.
+pub fn graphs_are_known_by_their_text()
+    ensures { (a b : List ℕ) (g h : GraphView) → IsFile a (graph g) → IsFile b (graph h) → text_of g ≡ text_of h → g ≡ h }
 {}

@@ -1,0 +1,49 @@
+-- The text of a graph, and the graph of that text.
+use Rattle.std.proofs.Common.{◌≡◌, ◌≤◌, ℕ, List, length, Result, Ok, sym, ap, ◌∙◌, subst}
+use Rattle.mg_text.specs.Tree.{Fields}
+use Rattle.mg_text.specs.Grammar.{Gives}
+use Rattle.mg_text.specs.Answer.{max_len}
+use Rattle.mg_text.specs.Canonical.{AreSpelled, canonical}
+use Rattle.mg_text.proofs.Faults.{one_text}
+use Rattle.mg_text.proofs.Printing.{canonical_given, text_spelled}
+use Rattle.mg_config.specs.Config.{GraphView, config_of}
+use Rattle.mg_config.specs.Written.{tree_of}
+use Rattle.mg_config.specs.Sound.{IsSound, IsPrintable}
+use Rattle.mg_config.specs.declared.fault.ConfigFault.{ConfigFault}
+use Rattle.mg_config.proofs.Sounded.{sound_of}
+use Rattle.mg_config.proofs.Printed.{printable_of}
+use Rattle.mg_config.proofs.Spelled.{spelled_tree}
+use Rattle.mg_config.proofs.Shallow.{shallow_tree}
+use Rattle.mg_config.proofs.WrittenBack.{written_back}
+use Rattle.mg_run.specs.File.{graph, IsText, IsFile}
+use Rattle.mg_run.specs.Answer.{text_of}
+
+-- what holds of the graph of a file
+sound_graph : (content : List ℕ) (g : GraphView) → IsFile content (graph g) → IsSound g
+sound_graph content g (fields, text, made) = sound_of fields g made
+
+printable_graph : (content : List ℕ) (g : GraphView) → IsFile content (graph g) → IsPrintable g
+printable_graph content g (fields, text, made) = printable_of fields g made (text_spelled content fields text.gives) text.shallow
+
+given_text : (g : GraphView) → IsSound g → IsPrintable g → Gives (text_of g) (tree_of g)
+given_text g sound printable = canonical_given (tree_of g) (spelled_tree g sound printable)
+
+pub said_again : (content : List ℕ) (g : GraphView) → IsFile content (graph g) → length (text_of g) ≤ max_len → IsFile (text_of g) (graph g)
+said_again content g is short =
+    let sound = sound_graph content g is in
+    let printable = printable_graph content g is in
+    (tree_of g, record { short = short; gives = given_text g sound printable; shallow = shallow_tree g printable }, written_back g sound)
+
+abbrev read_as : GraphView → Result GraphView ConfigFault
+read_as g = Ok g
+
+same_graph : (g h : GraphView) → read_as g ≡ read_as h → g ≡ h
+same_graph g h e = cc
+
+pub known_by_text : (a b : List ℕ) (g h : GraphView) → IsFile a (graph g) → IsFile b (graph h) → text_of g ≡ text_of h → g ≡ h
+known_by_text a b g h one other same =
+    let g_sound = sound_graph a g one in
+    let h_sound = sound_graph b h other in
+    let g_given = given_text g g_sound (printable_graph a g one) in
+    let h_given = subst (λ (text : List ℕ). Gives text (tree_of h)) (sym same) (given_text h h_sound (printable_graph b h other)) in
+    same_graph g h (sym (written_back g g_sound) ∙ ap config_of (one_text (text_of g) (tree_of g) (tree_of h) g_given h_given) ∙ written_back h h_sound)
