@@ -4,7 +4,6 @@
 
 mod calculators;
 mod check;
-mod copy;
 mod fault;
 mod graph;
 mod mark;

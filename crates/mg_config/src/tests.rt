@@ -1,4 +1,7 @@
-use crate::{ConfigFault, GraphConfig, read, write};
+mod printed;
+
+use crate::{ConfigFault, GraphConfig, NodeConfig, read, write};
+use mg_names::PortMap;
 use mg_text::parse;
 use std::alloc::{AllocError, Global};
 use std::process::Abort;
@@ -12,12 +15,18 @@ input_stream: [\"a\", \"b:c\"]=BadPort input_stream[1] BadTag
 output_stream: \"A:64:a\"=BadPort output_stream[0] BadIndex
 input_stream: \"T:a\" input_stream: \"T:0:b\"=BadPort input_stream Twice
 output_side_packet: \"T:1:a\"=BadPort output_side_packet Gap
+node { calculator: \"C\" input_stream: \"T:1:a\" }=BadPort node[0].input_stream Gap
+input_stream: \"T:2:a\" input_stream: \"T:2:b\"=BadPort input_stream Twice
+input_stream: \"T:a\" input_stream: \"T:b\" input_stream: \"In\"=BadPort input_stream[2] BadName
 executor {}=UnknownField executor
 executor: 1=UnknownField executor
 input_stream: \"In\" executor {}=UnknownField executor
 node { calculator: \"C\" } node { calculator: \"C\" executor: \"x\" }=UnknownField node[1].executor
 node { input_stream_info { tag_index: \"A\" } input_stream_info { edge: true } }=UnknownField node[0].input_stream_info[1].edge
 node { input_stream_handler { input_stream_handler: \"x\" options {} } }=UnknownField node[0].input_stream_handler.options
+node { calculator: \"C\" } node { input_stream_info { } input_stream_info { tag_index { } [a.b]: 1 } }=WrongShape node[1].input_stream_info[1].tag_index
+node { calculator: \"C\" } node { input_stream_info { } input_stream_info { [a.b]: 1 tag_index { } } }=UnknownField node[1].input_stream_info[1].[a.b]
+node { calculator: \"C\" input_stream_handler { } input_stream_handler { options { } } }=Repeated node[0].input_stream_handler
 type: word=WrongShape type
 type: 1=WrongShape type
 type {}=WrongShape type
@@ -40,6 +49,8 @@ node {}=WrongShape node[0].calculator
 node { calculator: \"\" }=WrongShape node[0].calculator
 node { calculator: \"C\" } node { name: \"x\" }=WrongShape node[1].calculator
 node { calculator: \"C\" calculator: \"C\" }=Repeated node[0].calculator
+input_stream: \"in\" output_stream: \"out\" node { calculator: \"PassThroughCalculator\" calculator: \"PassThroughCalculator\" input_stream: \"in\" output_stream: \"out\" }=Repeated node[0].calculator
+node {} node {}=WrongShape node[0].calculator
 node { calculator: C }=WrongShape node[0].calculator
 node { calculator: \"C\" } node { calculator: \"C\" input_stream: 1 }=WrongShape node[1].input_stream[0]
 node { calculator: \"C\" input_stream: \"a\" input_stream: b }=WrongShape node[0].input_stream[1]
@@ -55,6 +66,8 @@ node { calculator: \"C\" input_stream_info { tag_index: \"A\" back_edge: 2 } }=W
 node { calculator: \"C\" input_stream_info { tag_index: \"A\" back_edge: \"true\" } }=WrongShape node[0].input_stream_info[0].back_edge
 node { calculator: \"C\" input_stream_info { } }=BadPort node[0].input_stream_info[0].tag_index BadTag
 node { calculator: \"C\" input_stream_info { tag_index: \"\" back_edge: false } }=BadPort node[0].input_stream_info[0].tag_index BadTag
+node { calculator: \"C\" input_stream_info { tag_index: \"A:64\" back_edge: 0 } }=BadPort node[0].input_stream_info[0].tag_index BadIndex
+node { calculator: \"C\" input_stream_info { back_edge: true tag_index: \"A\" } input_stream_info { back_edge: f tag_index: \"A:0:b\" } }=BadPort node[0].input_stream_info[1].tag_index BadName
 node { calculator: \"C\" input_stream_info { tag_index: \"A\" } input_stream_info { tag_index: \"a\" } }=BadPort node[0].input_stream_info[1].tag_index BadTag
 node { calculator: \"C\" input_stream_info { tag_index: \"A:1:b\" } }=BadPort node[0].input_stream_info[0].tag_index BadName
 node { calculator: \"C\" input_stream_info { tag_index: \":1:b\" } }=BadPort node[0].input_stream_info[0].tag_index BadName
@@ -66,12 +79,19 @@ node { calculator: \"C\" } node { calculator: \"C\" input_side_packet: \"T:a\" i
 node { calculator: \"C\" input_stream: \"In\" } node {}=WrongShape node[1].calculator
 node { calculator: \"C\" input_stream: \"In\" } output_stream: \"In\"=BadPort output_stream[0] BadName
 output_stream: \"In\" input_stream: \"b:c\"=BadPort input_stream[0] BadTag
+input_stream: \"b:c\" output_stream: \"In\"=BadPort input_stream[0] BadTag
 node { calculator: \"C\" output_stream: \"In\" input_stream: \"b:c\" }=BadPort node[0].input_stream[0] BadTag
 node { calculator: \"C\" input_stream_info { } output_side_packet: \"In\" }=BadPort node[0].output_side_packet[0] BadName
 max_queue_size: 1.5 executor: 1=WrongShape max_queue_size
 executor: 1 max_queue_size: 1.5=UnknownField executor
 node { executor: 1 } max_queue_size: 1.5=UnknownField node[0].executor
 max_queue_size: 1.5 node { executor: 1 }=WrongShape max_queue_size
+node {} executor {}=UnknownField executor
+executor {} node {}=UnknownField executor
+type: \"a\" type: \"b\" executor: 1=Repeated type
+type: \"a\" executor: 1 type: \"b\"=UnknownField executor
+node: 5 node { executor: 1 }=WrongShape node[0]
+node { executor: 1 } node: 5=UnknownField node[0].executor
 node { calculator: \"C\" buffer_size_hint: 1 buffer_size_hint: 1 } type: 1=Repeated node[0].buffer_size_hint"
 }
 
@@ -87,10 +107,13 @@ fn numbers() -> &'static str {
 0XfF=255
 -0x1=-1
 0x7FFFFFFF=2147483647
+0X7fffffff=2147483647
 -0x80000000=-2147483648
 010=8
 -017=-15
 00=0
+-00=0
+-020000000000=-2147483648
 017777777777=2147483647"
 }
 
@@ -243,5 +266,61 @@ fn files_that_are_read_again(rt: HostRuntime) -> Result<(), Fail> {
     for file in files().split('\n') {
         assert_again(&rt, alloc, file)?;
     }
+    Ok(())
+}
+
+fn config_in(alloc: Global, file: &str) -> Result<GraphConfig, Fail> {
+    let tree = parse(alloc, file.as_bytes())?;
+    Ok(read(alloc, &tree)?)
+}
+
+fn pass_through() -> &'static str {
+    r#"input_stream: "in" output_stream: "out"
+node { calculator: "PassThroughCalculator" input_stream: "in" output_stream: "out" }"#
+}
+
+// Whether there is one port, untagged, of a name.
+fn has_one(ports: &PortMap, name: &[u8]) -> bool {
+    match ports.get(0) {
+        Some(port) => {
+            ports.len() == 1 && port.tag.is(b"") && port.index == 0 && port.name.is(name)
+        }
+        None => false,
+    }
+}
+
+fn assert_pass_through_node(rt: &impl Abort, node: &NodeConfig) {
+    assert!(rt; node.name.is(b""));
+    assert!(rt; node.calculator.is(b"PassThroughCalculator"));
+    assert!(rt; has_one(&node.inputs, b"in"));
+    assert!(rt; has_one(&node.outputs, b"out"));
+    assert!(rt; node.input_sides.is_empty() && node.output_sides.is_empty());
+    assert!(rt; node.options.fields.is_empty());
+    assert!(rt; node.back_marks.is_empty());
+    assert!(rt; node.handler.is(b""));
+    assert!(rt; node.max_in_flight == 0 && node.buffer_size_hint == 0);
+}
+
+fn assert_pass_through(rt: &impl Abort, config: &GraphConfig) {
+    assert!(rt; config.type_name.is(b""));
+    assert!(rt; has_one(&config.inputs, b"in"));
+    assert!(rt; has_one(&config.outputs, b"out"));
+    assert!(rt; config.input_sides.is_empty() && config.output_sides.is_empty());
+    assert!(rt; config.max_queue_size == 0 && config.num_threads == 0);
+    assert!(rt; config.nodes.len() == 1);
+    match config.nodes.get(0) {
+        Some(node) => assert_pass_through_node(rt, node),
+        None => assert!(rt; false),
+    }
+}
+
+#[test]
+fn a_pass_through_is_read_again(rt: HostRuntime) -> Result<(), Fail> {
+    let alloc = rt.alloc();
+    let first = config_in(alloc, pass_through())?;
+    assert_pass_through(&rt, &first);
+    let tree = write(alloc, &first)?;
+    let second = read(alloc, &tree)?;
+    assert_pass_through(&rt, &second);
     Ok(())
 }

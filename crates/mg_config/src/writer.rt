@@ -5,7 +5,7 @@ ghost use Rattle.mg_text.specs.View.{Value, simple, inner, field_view, value_vie
 ghost use Rattle.mg_config.specs.Values.{entry};
 ghost use Rattle.mg_config.specs.Written as written;
 
-use crate::copy::append_copies;
+use crate::options::append_copies;
 use mg_names::{Port, PortMap, print_port};
 use mg_text::{Field, Scalar, Tree, TreeValue};
 use mg_value::MgText;

@@ -4,6 +4,7 @@
 
 mod between;
 mod class;
+mod copying;
 mod fault;
 mod inside;
 pub mod laws;

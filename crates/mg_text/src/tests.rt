@@ -316,3 +316,42 @@ fn scalars_are_of_their_kinds(rt: HostRuntime) -> Result<(), Fail> {
     assert!(rt; matches!(&tree.fields[3].value, TreeValue::Message(_)));
     Ok(())
 }
+
+/// The canonical text of a copy of what a text stands for.
+fn printed_copy(alloc: Global, text: &[u8]) -> Result<Vec<u8>, TextFault> {
+    let tree = parse(alloc, text)?;
+    let copy = tree.try_clone(alloc)?;
+    Ok(print(alloc, &copy)?)
+}
+
+/// A text that has each kind of value, in a message too.
+fn text_of_every_kind() -> &'static str {
+    "w:inf n:-0X1f q:'a\"b' 'c\\n' m{w:[x,y] m<n:.5e1 m{}>} [e.f]{q:\"\"} q:'\\177'"
+}
+
+fn canonical_of_every_kind() -> &'static str {
+    "w: inf
+n: -0X1f
+q: \"a\\\"bc\\n\"
+m {
+  w: x
+  w: y
+  m {
+    n: .5e1
+    m {
+    }
+  }
+}
+[e.f] {
+  q: \"\"
+}
+q: \"\\177\"
+"
+}
+
+#[test]
+fn copies_print_the_same(rt: HostRuntime) -> Result<(), Fail> {
+    let copy = printed_copy(rt.alloc(), text_of_every_kind().as_bytes())?;
+    assert_eq!(rt; copy.as_slice(), canonical_of_every_kind().as_bytes());
+    Ok(())
+}

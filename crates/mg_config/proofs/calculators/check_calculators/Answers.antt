@@ -1,4 +1,4 @@
-use Rattle.std.proofs.Common.{◌≡◌, ◌∙◌, sym, ap, refl, arith, true}
+use Rattle.std.proofs.Common.{◌≡◌, ◌∙◌, sym, arith, true}
 use Rattle.mg_text.specs.View.{field_view}
 use Rattle.mg_config.specs.Values.{has_name}
 use Rattle.mg_config.proofs.Named.{named_more, unnamed, node_name}

@@ -1,10 +1,9 @@
-use Rattle.std.proofs.Common.{◌≡◌, ◌∙◌, sym, ap, arith, refl, take}
+use Rattle.std.proofs.Common.{◌∙◌, sym, ap, arith, refl, take}
 use Rattle.mg_text.specs.View.{fields_view}
 use Rattle.mg_text.proofs.Views.{view-record}
 use Rattle.mg_config.specs.Schema.{rule_of}
-use Rattle.mg_config.specs.Path.{within}
 use Rattle.mg_config.specs.Faults.{field_fault}
-use Rattle.mg_config.proofs.Checked.{IsAt, found_own, found_inside, clear_inside, not_judged, scalar_clear}
+use Rattle.mg_config.proofs.Checked.{IsAt, found_inside, clear_inside}
 use Rattle.mg_config.proofs.check.+check.Goals as goal
 
 pub returns-in-Err-clause-err : goal.returns-in-Err-clause-err

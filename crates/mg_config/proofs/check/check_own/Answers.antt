@@ -1,7 +1,5 @@
-use Rattle.std.proofs.Common.{◌≡◌, ◌∙◌, sym, ap, arith, refl, not, ◌&&◌, Bool, map, Some}
-use Rattle.std.specs.List.{list_any}
+use Rattle.std.proofs.Common.{◌∙◌, sym, ap, map, Some}
 use Rattle.mg_text.specs.View.{field_view}
-use Rattle.mg_config.specs.Values.{has_name}
 use Rattle.mg_config.specs.Faults.{own_fault, repeated_by}
 use Rattle.mg_config.specs.declared.fault.ConfigFault.TheVariants.{Repeated}
 use Rattle.mg_config.proofs.Checked.{own_by}

@@ -1,6 +1,6 @@
-use Rattle.std.proofs.Common.{◌≡◌, ◌∙◌, sym, ap, refl, map, codes}
+use Rattle.std.proofs.Common.{◌∙◌, ap, map, codes}
 use Rattle.std.proofs.lemmas.Result.{err_from_is_err_and, IfOk-weaker, MatchResult-weaker}
-use Rattle.mg_text.specs.View.{field_view, fields_view}
+use Rattle.mg_text.specs.View.{field_view}
 use Rattle.mg_config.specs.Values.{messages_in}
 use Rattle.mg_config.specs.Faults.{calculator_fault}
 use Rattle.mg_config.specs.Config.{graph_of, unless}

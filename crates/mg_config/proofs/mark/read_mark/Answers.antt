@@ -1,4 +1,4 @@
-use Rattle.std.proofs.Common.{◌≡◌, ◌≢◌, ◌∙◌, sym, ap, refl, Ok, Err, slice_index, ◌==◌}
+use Rattle.std.proofs.Common.{◌≡◌, ◌∙◌, ap, Err, slice_index, ◌==◌}
 use Rattle.mg_config.proofs.AsPort.{mark_read, mark_made, port_text}
 use Rattle.mg_config.proofs.mark.read_mark.Goals as goal
 

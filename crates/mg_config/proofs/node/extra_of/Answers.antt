@@ -1,4 +1,4 @@
-use Rattle.std.proofs.Common.{◌≡◌, ◌∙◌, sym, ap, codes}
+use Rattle.std.proofs.Common.{◌∙◌, sym, ap, codes}
 use Rattle.mg_config.specs.Values.{text_in, entries}
 use Rattle.mg_config.proofs.Loops.{entries_view}
 use Rattle.mg_config.proofs.node.extra_of.Goals as goal

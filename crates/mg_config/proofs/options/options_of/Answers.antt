@@ -1,7 +1,7 @@
-use Rattle.std.proofs.Common.{◌≡◌, ◌∙◌, sym, ap, refl, arith, true}
+use Rattle.std.proofs.Common.{◌≡◌, arith, true}
 use Rattle.mg_text.specs.View.{field_view}
 use Rattle.mg_config.specs.Config.{is_option}
-use Rattle.mg_config.proofs.Joined.{joined_more, joined_skip, joined_all}
+use Rattle.mg_config.proofs.Joined.{joined_more, joined_all}
 use Rattle.mg_config.proofs.options.options_of.Goals as goal
 
 pub loop-field-preserved : goal.loop-field-preserved

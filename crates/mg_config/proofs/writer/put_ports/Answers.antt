@@ -1,6 +1,6 @@
-use Rattle.std.proofs.Common.{◌≡◌, ◌∙◌, sym, ap, ◌++◌, ◌∷◌, [], List, ℕ, map, arith}
+use Rattle.std.proofs.Common.{◌∙◌, sym, ap, ◌++◌, ◌∷◌, [], List, ℕ, map, arith}
 use Rattle.std.proofs.lemmas.Option.{get_or_from_slice_get}
-use Rattle.mg_text.specs.View.{Entry, field_view}
+use Rattle.mg_text.specs.View.{field_view}
 use Rattle.mg_names.specs.Ports.{text_of}
 use Rattle.mg_names.specs.declared.port.Port.{Port}
 use Rattle.mg_config.specs.Written.{text_entry}

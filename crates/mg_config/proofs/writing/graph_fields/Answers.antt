@@ -1,8 +1,7 @@
-use Rattle.std.proofs.Common.{◌≡◌, ◌∙◌, ap, ◌++◌, map, codes}
+use Rattle.std.proofs.Common.{◌∙◌, ap, ◌++◌, map, codes}
 use Rattle.mg_text.specs.View.{field_view}
 use Rattle.mg_config.specs.Config.{node_view}
 use Rattle.mg_config.specs.Written.{text_field, list_fields, number_field, node_entry}
-use Rattle.mg_config.specs.declared.node.NodeConfig.{NodeConfig}
 use Rattle.mg_config.proofs.Appended.{chain, map_map}
 use Rattle.mg_config.proofs.writing.graph_fields.Goals as goal
 

@@ -1,4 +1,4 @@
-use Rattle.std.proofs.Common.{◌≡◌, ◌∙◌, sym, ap, ◌++◌, ◌∷◌, [], List, ℕ, map, codes}
+use Rattle.std.proofs.Common.{◌≡◌, ◌∙◌, ap, ◌++◌, ◌∷◌, [], List, ℕ, map, codes}
 use Rattle.mg_text.specs.Tree.{word}
 use Rattle.mg_text.specs.View.{Value, simple, field_view, fields_of, inner, value_view}
 use Rattle.mg_text.proofs.Views.{value-scalar}
