@@ -1,13 +1,13 @@
 -- A tag and index as the front of a port's text.
-use Rattle.std.proofs.Common.{ℕ, List, [], ◌∷◌, ◌++◌, Bool, true, false, ◌||◌, ◌==◌, if◌then◌else◌, cond, slice_index, length, arith, ◌≤◌, ◌≡◌, ◌≢◌, refl, sym, ap, ◌∙◌, Option, Some, None, unwrap_or, Result, Ok, Err}
-use Rattle.std.specs.List.{slice_split, onto_first}
+use Rattle.std.proofs.Common.{ℕ, List, [], ◌∷◌, ◌++◌, Bool, true, false, ◌||◌, ◌==◌, if◌then◌else◌, cond, slice_index, length, arith, ◌≤◌, ◌≡◌, refl, sym, ap, ◌∙◌, Option, Some, None, unwrap_or, Result, Ok, Err}
+use Rattle.std.specs.List.{onto_first}
 use Rattle.std.proofs.lemmas.List.Splits.{length-slice_split}
 use Rattle.std.specs.Str.{bytes_eq}
-use Rattle.mg_names.specs.Grammar.{is_tag, index_of, is_name}
-use Rattle.mg_names.specs.Spelling.{is_colon, parts_of, spelling_of, spelling_of_parts, named, tagged, named_at, indexed}
+use Rattle.mg_names.specs.Grammar.{is_tag, index_of}
+use Rattle.mg_names.specs.Spelling.{is_colon, parts_of, spelling_of, spelling_of_parts, named, named_at}
 use Rattle.mg_names.specs.declared.spelling.Spelling.{Spelling}
 use Rattle.mg_names.specs.declared.fault.NameFault.{NameFault}
-use Rattle.mg_names.specs.declared.fault.NameFault.TheVariants.{BadName, BadTag, BadIndex}
+use Rattle.mg_names.specs.declared.fault.NameFault.TheVariants.{BadTag}
 use Rattle.mg_config.specs.Marks.{mark_at, mark_of, mark_of_parts}
 use Rattle.mg_config.specs.declared.mark.Mark.{Mark}
 

@@ -1,9 +1,7 @@
 -- The faults of fields, one field after another.
-use Rattle.std.proofs.Common.{ℕ, suc, ◌+◌, ◌<◌, ◌≤◌, ◌≡◌, List, [], ◌∷◌, ◌++◌, Bool, true, false, Option, None, Some, length, take, drop, get_or, map, add-one, drop-cons, arith, refl, sym, ap, ◌∙◌, not, ◌&&◌, ◌||◌}
+use Rattle.std.proofs.Common.{ℕ, ◌+◌, ◌<◌, ◌≤◌, ◌≡◌, List, [], ◌∷◌, ◌++◌, Bool, true, Option, None, Some, length, take, drop, get_or, map, refl, sym, ap, ◌∙◌, not, ◌&&◌, ◌||◌}
 use Rattle.std.specs.List.{list_any}
-use Rattle.std.proofs.lemmas.List.{take_more}
-use Rattle.std.proofs.Math.ListN.{drop_of_length-le}
-use Rattle.mg_text.specs.Tree.{Fields, none, scalar, message}
+use Rattle.mg_text.specs.Tree.{Fields}
 use Rattle.mg_text.specs.declared.tree.Field.{Field}
 use Rattle.mg_text.specs.declared.tree.Scalar.{Scalar}
 use Rattle.mg_text.specs.declared.tree.Scalar.TheVariants as scalars
@@ -11,7 +9,7 @@ use Rattle.mg_text.specs.declared.tree.Tree.{Tree}
 use Rattle.mg_text.specs.declared.tree.TreeValue as values
 use Rattle.mg_text.specs.declared.tree.TreeValue.{TreeValue}
 use Rattle.mg_text.proofs.Views.{value-scalar, value-message, field-record}
-use Rattle.mg_text.specs.View.{Value, simple, inner, Entry, put, fields_of, field_view, value_view, fields_view, scalar_view, view}
+use Rattle.mg_text.specs.View.{Value, simple, inner, Entry, put, fields_of, field_view, value_view, scalar_view, view}
 use Rattle.mg_config.specs.Schema.{rule_of, judged_by}
 use Rattle.mg_config.specs.Values.{entry, has_name}
 use Rattle.mg_config.specs.Path.{step, within}

@@ -10,7 +10,6 @@ use Rattle.mg_names.specs.Ports.{text_of}
 use Rattle.mg_names.specs.declared.port.Port.{Port}
 use Rattle.mg_config.specs.Schema.{once, many, rule_of, judged_by}
 use Rattle.mg_config.specs.Values.{entry, has_name}
-use Rattle.mg_config.specs.Number.{number_of}
 use Rattle.mg_config.specs.Path.{step}
 use Rattle.mg_config.specs.Faults.{own_fault, has_shape, repeated_by, shaped_by, or_else, inside_fault, fault_within, fault_after, field_fault}
 use Rattle.mg_config.specs.Written.{text_entry, text_field, number_field, port_fields}
@@ -19,6 +18,7 @@ use Rattle.mg_config.specs.declared.schema.Message.{Message}
 use Rattle.mg_config.specs.declared.schema.Shape.{Shape}
 use Rattle.mg_config.specs.declared.schema.Shape.TheVariants.{Text, Number}
 use Rattle.mg_config.proofs.Checked.{fault_inside, fault_put}
+use Rattle.mg_config.proofs.Numbers.{number_of-decimal}
 
 one_clear : (kind : Message) (before : List Entry) (n : List ℕ) (v : Value) (rest : Fields) → own_fault (rule_of kind n) before n v ≡ None → fault_inside (rule_of kind n) before n v ≡ None
     → fault_after (put n v rest) kind before ≡ fault_after rest kind (before ++ entry n v ∷ [])
@@ -123,16 +123,13 @@ chain_text kind names fields n text ruled apart chain =
     chain_more kind names fields n (text_field n text) chain (text_clear kind fields n text ruled (chain.fresh n apart)) (text_called n text)
 
 -- a number that is written where it isn't 0
-abbrev pub ReadsBack : Type 0
-ReadsBack = (n : ℤ) → FitsI32 n → number_of (signed_decimal n) ≡ Some n
-
-number_clear : ReadsBack → (kind : Message) (before : List Entry) (n : List ℕ) (value : ℤ) → FitsI32 value → rule_of kind n ≡ Some (once Number) → list_any (has_name n) before ≡ false
+number_clear : (kind : Message) (before : List Entry) (n : List ℕ) (value : ℤ) → FitsI32 value → rule_of kind n ≡ Some (once Number) → list_any (has_name n) before ≡ false
     → AreClear kind before (number_field n value)
-number_clear back kind before n value fits ruled fresh = by value one
+number_clear kind before n value fits ruled fresh = by value one
   where
     one : AreClear kind before (entry n (simple number (signed_decimal value)) ∷ [])
     one = single_clear kind before n (simple number (signed_decimal value))
-        (own_once kind before n (simple number (signed_decimal value)) Number ruled (ap is_some (back value fits)) fresh) refl
+        (own_once kind before n (simple number (signed_decimal value)) Number ruled (ap is_some (number_of-decimal value fits)) fresh) refl
 
     if_some : (t : Bool) (v : ℤ) → AreClear kind before (entry n (simple number (signed_decimal v)) ∷ []) → AreClear kind before (if t then [] else entry n (simple number (signed_decimal v)) ∷ [])
     if_some true v written = none_clear kind before
@@ -150,10 +147,10 @@ number_called n (pos k) = by (k == 0)
     by false = one_called n (simple number (signed_decimal (pos k)))
 number_called n (negsuc k) = one_called n (simple number (signed_decimal (negsuc k)))
 
-pub chain_number : ReadsBack → (kind : Message) (names : List (List ℕ)) (fields : List Entry) (n : List ℕ) (value : ℤ) → FitsI32 value → rule_of kind n ≡ Some (once Number)
+pub chain_number : (kind : Message) (names : List (List ℕ)) (fields : List Entry) (n : List ℕ) (value : ℤ) → FitsI32 value → rule_of kind n ≡ Some (once Number)
     → list_any (λ m. bytes_eq m n) names ≡ false → IsChain kind names fields → IsChain kind (n ∷ names) (fields ++ number_field n value)
-chain_number back kind names fields n value fits ruled apart chain =
-    chain_more kind names fields n (number_field n value) chain (number_clear back kind fields n value fits ruled (chain.fresh n apart)) (number_called n value)
+chain_number kind names fields n value fits ruled apart chain =
+    chain_more kind names fields n (number_field n value) chain (number_clear kind fields n value fits ruled (chain.fresh n apart)) (number_called n value)
 
 -- the ports of a list
 ports_clear : (kind : Message) (before : List Entry) (n : List ℕ) (ports : List Port) → rule_of kind n ≡ Some (many Text) → AreClear kind before (port_fields n ports)

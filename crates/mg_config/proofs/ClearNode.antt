@@ -1,24 +1,22 @@
 -- The fields that a configuration is written as have no fault.
-use Rattle.std.proofs.Common.{ℕ, ℤ, suc, ◌≡◌, List, [], ◌∷◌, ◌++◌, Bool, true, false, if◌then◌else◌, None, Some, map, append_assoc, arith, refl, subst, codes}
+use Rattle.std.proofs.Common.{ℕ, suc, ◌≡◌, List, [], ◌∷◌, ◌++◌, Bool, true, false, if◌then◌else◌, None, Some, map, append_assoc, arith, refl, subst, codes}
 use Rattle.std.specs.List.{list_any, All}
 use Rattle.std.specs.Str.{bytes_eq}
-use Rattle.std.specs.Fmt.{signed_decimal}
 use Rattle.mg_text.specs.Tree.{Fields, none, scalar, message, word}
 use Rattle.mg_text.specs.View.{simple, inner, Entry, fields_of}
 use Rattle.mg_names.specs.declared.port.Port.{Port}
 use Rattle.mg_config.specs.Schema.{many, rule_of}
 use Rattle.mg_config.specs.Values.{entry, has_name}
-use Rattle.mg_config.specs.Number.{number_of}
 use Rattle.mg_config.specs.Config.{NodeView, GraphView}
 use Rattle.mg_config.specs.Faults.{field_fault}
 use Rattle.mg_config.specs.Marks.{text_of_mark}
 use Rattle.mg_config.specs.Written.{text_entry, text_field, number_field, port_fields, mark_entry, mark_fields, handler_field, options_field, list_fields, node_fields, node_entry, graph_fields, tree_of}
-use Rattle.mg_config.specs.Sound.{FitsI32, IsSoundNode, IsSound}
+use Rattle.mg_config.specs.Sound.{IsSoundNode, IsSound}
 use Rattle.mg_config.specs.declared.mark.Mark.{Mark}
 use Rattle.mg_config.specs.declared.schema.Message.{Message}
 use Rattle.mg_config.specs.declared.schema.Message.TheVariants.{Graph, Node, Info, Handler}
 use Rattle.mg_config.specs.declared.schema.Shape.TheVariants.{Text, Options, Inside}
-use Rattle.mg_config.proofs.Clear.{AreClear, none_clear, first_clear, single_clear, own_many, own_once, inside_clear, AreCalled, none_called, more_called, one_called, IsChain, chain_begun, chain_more, chain_clear, chain_text, ReadsBack, chain_number, chain_ports}
+use Rattle.mg_config.proofs.Clear.{AreClear, none_clear, first_clear, single_clear, own_many, own_once, inside_clear, AreCalled, none_called, more_called, one_called, IsChain, chain_begun, chain_more, chain_clear, chain_text, chain_number, chain_ports}
 
 -- the four lists of ports
 lists_regroup : {E : Type 0} (x a b c d : List E) → (((x ++ a) ++ b) ++ c) ++ d ≡ x ++ (a ++ (b ++ (c ++ d)))
@@ -108,19 +106,19 @@ node_head node =
 abbrev number_names : List (List ℕ)
 number_names = codes "buffer_size_hint" ∷ codes "max_in_flight" ∷ codes "input_stream_handler" ∷ codes "input_stream_info" ∷ head_names
 
-node_numbers : ReadsBack → (node : NodeView) → IsSoundNode node → (head : List Entry) → IsChain Node head_names head
+node_numbers : (node : NodeView) → IsSoundNode node → (head : List Entry) → IsChain Node head_names head
     → IsChain Node number_names ((((head ++ mark_fields node.back_marks) ++ handler_field node.handler) ++ number_field (codes "max_in_flight") node.max_in_flight) ++ number_field (codes "buffer_size_hint") node.buffer_size_hint)
-node_numbers back node sound head chain =
+node_numbers node sound head chain =
     let marked : IsChain Node (codes "input_stream_info" ∷ head_names) (head ++ mark_fields node.back_marks) =
     chain_more Node head_names head (codes "input_stream_info") (mark_fields node.back_marks) chain (marks_clear head node.back_marks) (marks_called node.back_marks) in
     let handled : IsChain Node (codes "input_stream_handler" ∷ codes "input_stream_info" ∷ head_names) ((head ++ mark_fields node.back_marks) ++ handler_field node.handler) =
     chain_more Node _ _ (codes "input_stream_handler") (handler_field node.handler) marked
     (handler_clear (head ++ mark_fields node.back_marks) node.handler (marked.fresh (codes "input_stream_handler") refl)) (handler_called node.handler) in
-    chain_number back Node _ _ (codes "buffer_size_hint") node.buffer_size_hint sound.buffer_size_hint refl refl
-    (chain_number back Node _ _ (codes "max_in_flight") node.max_in_flight sound.max_in_flight refl refl handled)
+    chain_number Node _ _ (codes "buffer_size_hint") node.buffer_size_hint sound.buffer_size_hint refl refl
+    (chain_number Node _ _ (codes "max_in_flight") node.max_in_flight sound.max_in_flight refl refl handled)
 
-node_chain : ReadsBack → (node : NodeView) → IsSoundNode node → IsChain Node (codes "options" ∷ number_names) (node_fields node)
-node_chain back node sound =
+node_chain : (node : NodeView) → IsSoundNode node → IsChain Node (codes "options" ∷ number_names) (node_fields node)
+node_chain node sound =
     let a = text_field (codes "name") node.name in
     let b = text_field (codes "calculator") node.calculator in
     let c = list_fields node.inputs node.outputs node.input_sides node.output_sides in
@@ -130,22 +128,22 @@ node_chain back node sound =
     let g = number_field (codes "buffer_size_hint") node.buffer_size_hint in
     let h = options_field node.options in
     let front = ((((((([] ++ a) ++ b) ++ c) ++ d) ++ e) ++ f) ++ g) in
-    let numbered : IsChain Node number_names front = node_numbers back node sound ((([] ++ a) ++ b) ++ c) (node_head node) in
+    let numbered : IsChain Node number_names front = node_numbers node sound ((([] ++ a) ++ b) ++ c) (node_head node) in
     let all : IsChain Node (codes "options" ∷ number_names) (front ++ h) =
     chain_more Node number_names front (codes "options") h numbered (options_clear front node.options (numbered.fresh (codes "options") refl)) (options_called node.options) in
     subst (λ es. IsChain Node (codes "options" ∷ number_names) es) (node_regroup a b c d e f g h) all
 
-pub node_judged : ReadsBack → (node : NodeView) → IsSoundNode node → field_fault Node (fields_of (node_fields node)) ≡ None
-node_judged back node sound = chain_clear Node (codes "options" ∷ number_names) (node_fields node) (node_chain back node sound)
+pub node_judged : (node : NodeView) → IsSoundNode node → field_fault Node (fields_of (node_fields node)) ≡ None
+node_judged node sound = chain_clear Node (codes "options" ∷ number_names) (node_fields node) (node_chain node sound)
 
 -- nodes
-nodes_clear : ReadsBack → (before : List Entry) (nodes : List NodeView) → All IsSoundNode nodes → AreClear Graph before (map node_entry nodes)
-nodes_clear back before [] sound = none_clear Graph before
-nodes_clear back before (node ∷ nodes) sound =
+nodes_clear : (before : List Entry) (nodes : List NodeView) → All IsSoundNode nodes → AreClear Graph before (map node_entry nodes)
+nodes_clear before [] sound = none_clear Graph before
+nodes_clear before (node ∷ nodes) sound =
     let fields = fields_of (node_fields node) in
     first_clear Graph before (codes "node") (inner fields) (map node_entry nodes) (own_many Graph before (codes "node") (inner fields) (Inside Node) refl refl)
-    (inside_clear Graph Node true before (codes "node") fields refl (node_judged back node (sound 0 node (omega arith))))
-    (nodes_clear back (before ++ node_entry node ∷ []) nodes (λ k d inside. sound (suc k) d (omega arith)))
+    (inside_clear Graph Node true before (codes "node") fields refl (node_judged node (sound 0 node (omega arith))))
+    (nodes_clear (before ++ node_entry node ∷ []) nodes (λ k d inside. sound (suc k) d (omega arith)))
 
 nodes_called : (nodes : List NodeView) → AreCalled (codes "node") (map node_entry nodes)
 nodes_called [] = none_called (codes "node")
@@ -169,18 +167,18 @@ own_then_nodes graph =
     graph_regroup (text_field (codes "type") graph.type_name) (list_fields graph.inputs graph.outputs graph.input_sides graph.output_sides)
     (number_field (codes "max_queue_size") graph.max_queue_size) (number_field (codes "num_threads") graph.num_threads) (map node_entry graph.nodes)
 
-pub own_chain : ReadsBack → (graph : GraphView) → IsSound graph → IsChain Graph own_names (own_fields graph)
-own_chain back graph sound =
-    chain_number back Graph _ _ (codes "num_threads") graph.num_threads sound.num_threads refl refl
-    (chain_number back Graph _ _ (codes "max_queue_size") graph.max_queue_size sound.max_queue_size refl refl
+pub own_chain : (graph : GraphView) → IsSound graph → IsChain Graph own_names (own_fields graph)
+own_chain graph sound =
+    chain_number Graph _ _ (codes "num_threads") graph.num_threads sound.num_threads refl refl
+    (chain_number Graph _ _ (codes "max_queue_size") graph.max_queue_size sound.max_queue_size refl refl
     (chain_lists Graph (codes "type" ∷ []) _ graph.inputs graph.outputs graph.input_sides graph.output_sides refl refl refl refl
     (chain_text Graph [] [] (codes "type") graph.type_name refl refl (chain_begun Graph))))
 
-graph_chain : ReadsBack → (graph : GraphView) → IsSound graph → IsChain Graph (codes "node" ∷ own_names) (graph_fields graph)
-graph_chain back graph sound =
+graph_chain : (graph : GraphView) → IsSound graph → IsChain Graph (codes "node" ∷ own_names) (graph_fields graph)
+graph_chain graph sound =
     let all : IsChain Graph (codes "node" ∷ own_names) (own_fields graph ++ map node_entry graph.nodes) =
-    chain_more Graph own_names (own_fields graph) (codes "node") (map node_entry graph.nodes) (own_chain back graph sound) (nodes_clear back (own_fields graph) graph.nodes sound.nodes) (nodes_called graph.nodes) in
+    chain_more Graph own_names (own_fields graph) (codes "node") (map node_entry graph.nodes) (own_chain graph sound) (nodes_clear (own_fields graph) graph.nodes sound.nodes) (nodes_called graph.nodes) in
     subst (λ es. IsChain Graph (codes "node" ∷ own_names) es) (own_then_nodes graph) all
 
-pub no_field_fault : ((n : ℤ) → FitsI32 n → number_of (signed_decimal n) ≡ Some n) → (graph : GraphView) → IsSound graph → field_fault Graph (tree_of graph) ≡ None
-no_field_fault back graph sound = chain_clear Graph (codes "node" ∷ own_names) (graph_fields graph) (graph_chain back graph sound)
+pub no_field_fault : (graph : GraphView) → IsSound graph → field_fault Graph (tree_of graph) ≡ None
+no_field_fault graph sound = chain_clear Graph (codes "node" ∷ own_names) (graph_fields graph) (graph_chain graph sound)

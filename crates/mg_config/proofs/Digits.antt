@@ -1,5 +1,5 @@
 -- Digits, one after another.
-use Rattle.std.proofs.Common.{ℕ, suc, ◌+◌, ◌*◌, ◌<◌, ◌≤◌, ◌≡◌, List, [], ◌∷◌, Bool, true, false, Option, None, Some, length, take, get_or, arith, refl, sym, ap, ◌∙◌, if◌then◌else◌, nat_le, ◌&&◌}
+use Rattle.std.proofs.Common.{ℕ, ◌+◌, ◌*◌, ◌<◌, ◌≤◌, ◌≡◌, List, [], ◌∷◌, Bool, true, false, None, Some, length, take, get_or, arith, refl, sym, ap, ◌∙◌, if◌then◌else◌, nat_le, ◌&&◌}
 use Rattle.std.specs.List.{list_all}
 use Rattle.std.specs.Char.{is_digit, digit_value}
 use Rattle.std.specs.Str.Parse.{digits_value}

@@ -1,7 +1,7 @@
 -- Options that are written.
-use Rattle.std.proofs.Common.{ℕ, ◌<◌, ◌≡◌, List, [], ◌∷◌, length, map, arith, refl, codes}
+use Rattle.std.proofs.Common.{ℕ, ◌<◌, ◌≡◌, List, [], ◌∷◌, length, arith, refl, codes}
 use Rattle.mg_text.specs.Tree.{Fields}
-use Rattle.mg_text.specs.View.{Value, simple, inner, put, fields_of, field_view, fields_view}
+use Rattle.mg_text.specs.View.{Value, simple, inner, put, field_view, fields_view}
 use Rattle.mg_text.specs.declared.tree.Field.{Field}
 use Rattle.mg_config.specs.Values.{entry}
 use Rattle.mg_config.specs.Written.{options_field}

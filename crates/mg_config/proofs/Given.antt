@@ -11,13 +11,12 @@ use Rattle.mg_names.specs.declared.port.Port.{Port}
 use Rattle.mg_config.specs.Values.{entries, first, values_of, text_of_value, text_of_first, number_of_first, texts_in, text_in, number_in, fields_of_value, message_of_first, messages_in, joined}
 use Rattle.mg_config.specs.Number.{number_of}
 use Rattle.mg_config.specs.Path.{numbered, placed, then_do}
-use Rattle.mg_config.specs.Marks.{mark_of, text_of_mark}
 use Rattle.mg_config.specs.Config.{NodeView, GraphView, ports_by, ports_in, pair_in, streams_in, sides_in, marks_from, options_in, handler_in, node_with, node_of, nodes_from, graph_with, graph_of}
-use Rattle.mg_config.specs.Sound.{FitsI32, AreReadBack, IsMark, IsSoundNode, IsSound}
+use Rattle.mg_config.specs.Sound.{AreReadBack, IsSoundNode, IsSound}
 use Rattle.mg_config.specs.Written.{text_field, number_field, port_fields, mark_fields, handler_field, options_field, node_fields, node_entry, graph_fields, tree_of}
-use Rattle.mg_config.specs.declared.mark.Mark.{Mark}
 use Rattle.mg_config.specs.declared.ports.PortPair.{PortPair}
 use Rattle.mg_config.specs.declared.fault.ConfigFault.{ConfigFault}
+use Rattle.mg_config.proofs.Numbers.{number_of-decimal}
 use Rattle.mg_config.proofs.Loops.{entries-of}
 use Rattle.mg_config.proofs.Appended.{map_map}
 use Rattle.mg_config.proofs.Pieces.{values, all_named, Piece, piece, spread, passing, look, spread_passing}
@@ -85,7 +84,7 @@ node_found node fields streams sides marks name calculator options handler in_fl
     ∙ ap Ok (node_same node _ _ _ _ _ _ name calculator options handler in_flight hint)
 
 -- the pieces of a node
-abbrev node_pieces : NodeView → List Piece
+abbrev pub node_pieces : NodeView → List Piece
 node_pieces node =
     piece (codes "name") (text_field (codes "name") node.name) (text_named (codes "name") node.name)
     ∷ piece (codes "calculator") (text_field (codes "calculator") node.calculator) (text_named (codes "calculator") node.calculator)
@@ -119,7 +118,7 @@ node_ports : (node : NodeView) (name : List ℕ) (ports : List Port) → look (�
     → ports_in name (node_fields node) ≡ Ok ports
 node_ports node name ports is read = ports_back name (node_fields node) ports (node_values node name (port_fields name ports) is) read
 
-node_text : (node : NodeView) (name text : List ℕ) → look (λ other. bytes_eq other name) (node_pieces node) ≡ values (text_field name text) ++ [] → text_in name (node_fields node) ≡ text
+pub node_text : (node : NodeView) (name text : List ℕ) → look (λ other. bytes_eq other name) (node_pieces node) ≡ values (text_field name text) ++ [] → text_in name (node_fields node) ≡ text
 node_text node name text is = text_found name text (node_fields node) (node_values node name (text_field name text) is)
 
 node_number : (node : NodeView) (name : List ℕ) (n : ℤ) → look (λ other. bytes_eq other name) (node_pieces node) ≡ values (number_field name n) ++ [] → number_of (signed_decimal n) ≡ Some n
@@ -135,24 +134,23 @@ node_options node =
     ap (λ fields. values (passing names_options fields)) (node_spread node) ∙ spread_passing names_options (node_pieces node) ∙ append-nil (values (options_field node.options)) in
     ap joined (map_map fields_of_value (λ field. field.value) (passing names_options (node_fields node))) ∙ ap (λ vs. joined (map fields_of_value vs)) own ∙ options_back node.options
 
-pub node_given : ((n : ℤ) → FitsI32 n → number_of (signed_decimal n) ≡ Some n) → ((mark : Mark) → IsMark mark → mark_of (text_of_mark mark) ≡ Ok mark)
-    → (node : NodeView) → IsSoundNode node → node_of (node_fields node) ≡ Ok node
-node_given numbers marks node sound =
+pub node_given : (node : NodeView) → IsSoundNode node → node_of (node_fields node) ≡ Ok node
+node_given node sound =
     node_found node (node_fields node)
     (pair_back (codes "input_stream") (codes "output_stream") (node_fields node) node.inputs node.outputs
     (node_ports node (codes "input_stream") node.inputs refl sound.inputs) (node_ports node (codes "output_stream") node.outputs refl sound.outputs))
     (pair_back (codes "input_side_packet") (codes "output_side_packet") (node_fields node) node.input_sides node.output_sides
     (node_ports node (codes "input_side_packet") node.input_sides refl sound.input_sides) (node_ports node (codes "output_side_packet") node.output_sides refl sound.output_sides))
-    (ap (λ vs. marks_from 0 (map fields_of_value vs)) (node_values node (codes "input_stream_info") (mark_fields node.back_marks) refl) ∙ marks_back marks node.back_marks 0 sound.back_marks)
+    (ap (λ vs. marks_from 0 (map fields_of_value vs)) (node_values node (codes "input_stream_info") (mark_fields node.back_marks) refl) ∙ marks_back node.back_marks 0 sound.back_marks)
     (node_text node (codes "name") node.name refl)
     (node_text node (codes "calculator") node.calculator refl)
     (node_options node)
     (ap (λ vs. text_in (codes "input_stream_handler") (entries (message_of_first (first vs)))) (node_values node (codes "input_stream_handler") (handler_field node.handler) refl) ∙ handler_back node.handler)
-    (node_number node (codes "max_in_flight") node.max_in_flight refl (numbers node.max_in_flight sound.max_in_flight))
-    (node_number node (codes "buffer_size_hint") node.buffer_size_hint refl (numbers node.buffer_size_hint sound.buffer_size_hint))
+    (node_number node (codes "max_in_flight") node.max_in_flight refl (number_of-decimal node.max_in_flight sound.max_in_flight))
+    (node_number node (codes "buffer_size_hint") node.buffer_size_hint refl (number_of-decimal node.buffer_size_hint sound.buffer_size_hint))
 
 -- nodes, one after another
-nodes_named : (nodes : List NodeView) → map node_entry nodes ≡ all_named (codes "node") (values (map node_entry nodes))
+pub nodes_named : (nodes : List NodeView) → map node_entry nodes ≡ all_named (codes "node") (values (map node_entry nodes))
 nodes_named [] = refl
 nodes_named (node ∷ nodes) = ap (λ fields. node_entry node ∷ fields) (nodes_named nodes)
 
@@ -196,7 +194,7 @@ graph_found graph fields streams sides nodes type_name size threads =
     ∙ ap Ok (graph_same graph _ _ _ type_name size threads)
 
 -- the pieces of a graph
-abbrev graph_pieces : GraphView → List Piece
+abbrev pub graph_pieces : GraphView → List Piece
 graph_pieces graph =
     piece (codes "type") (text_field (codes "type") graph.type_name) (text_named (codes "type") graph.type_name)
     ∷ piece (codes "input_stream") (port_fields (codes "input_stream") graph.inputs) (ports_named (codes "input_stream") graph.inputs)
@@ -216,7 +214,7 @@ graph_spread graph =
     (port_fields (codes "input_side_packet") graph.input_sides) (port_fields (codes "output_side_packet") graph.output_sides)
     (number_field (codes "max_queue_size") graph.max_queue_size) (number_field (codes "num_threads") graph.num_threads) (map node_entry graph.nodes)
 
-graph_values : (graph : GraphView) (name : List ℕ) (fields : List Entry) → look (λ other. bytes_eq other name) (graph_pieces graph) ≡ values fields ++ [] → values_of name (graph_fields graph) ≡ values fields
+pub graph_values : (graph : GraphView) (name : List ℕ) (fields : List Entry) → look (λ other. bytes_eq other name) (graph_pieces graph) ≡ values fields ++ [] → values_of name (graph_fields graph) ≡ values fields
 graph_values graph name fields is = values_in name (graph_pieces graph) (graph_fields graph) (graph_spread graph) ∙ is ∙ append-nil (values fields)
 
 graph_ports : (graph : GraphView) (name : List ℕ) (ports : List Port) → look (λ other. bytes_eq other name) (graph_pieces graph) ≡ values (port_fields name ports) ++ [] → AreReadBack ports
@@ -227,16 +225,15 @@ graph_number : (graph : GraphView) (name : List ℕ) (n : ℤ) → look (λ othe
     → number_in name (graph_fields graph) ≡ n
 graph_number graph name n is spelled = number_found name n (graph_fields graph) (graph_values graph name (number_field name n) is) spelled
 
-pub graph_given : ((n : ℤ) → FitsI32 n → number_of (signed_decimal n) ≡ Some n) → ((mark : Mark) → IsMark mark → mark_of (text_of_mark mark) ≡ Ok mark)
-    → (graph : GraphView) → IsSound graph → graph_of (entries (tree_of graph)) ≡ Ok graph
-graph_given numbers marks graph sound =
+pub graph_given : (graph : GraphView) → IsSound graph → graph_of (entries (tree_of graph)) ≡ Ok graph
+graph_given graph sound =
     ap graph_of (entries-of (graph_fields graph))
     ∙ graph_found graph (graph_fields graph)
     (pair_back (codes "input_stream") (codes "output_stream") (graph_fields graph) graph.inputs graph.outputs
     (graph_ports graph (codes "input_stream") graph.inputs refl sound.inputs) (graph_ports graph (codes "output_stream") graph.outputs refl sound.outputs))
     (pair_back (codes "input_side_packet") (codes "output_side_packet") (graph_fields graph) graph.input_sides graph.output_sides
     (graph_ports graph (codes "input_side_packet") graph.input_sides refl sound.input_sides) (graph_ports graph (codes "output_side_packet") graph.output_sides refl sound.output_sides))
-    (ap (λ vs. nodes_from 0 (map fields_of_value vs)) (graph_values graph (codes "node") (map node_entry graph.nodes) refl) ∙ nodes_back (node_given numbers marks) graph.nodes 0 sound.nodes)
+    (ap (λ vs. nodes_from 0 (map fields_of_value vs)) (graph_values graph (codes "node") (map node_entry graph.nodes) refl) ∙ nodes_back node_given graph.nodes 0 sound.nodes)
     (text_found (codes "type") graph.type_name (graph_fields graph) (graph_values graph (codes "type") (text_field (codes "type") graph.type_name) refl))
-    (graph_number graph (codes "max_queue_size") graph.max_queue_size refl (numbers graph.max_queue_size sound.max_queue_size))
-    (graph_number graph (codes "num_threads") graph.num_threads refl (numbers graph.num_threads sound.num_threads))
+    (graph_number graph (codes "max_queue_size") graph.max_queue_size refl (number_of-decimal graph.max_queue_size sound.max_queue_size))
+    (graph_number graph (codes "num_threads") graph.num_threads refl (number_of-decimal graph.num_threads sound.num_threads))

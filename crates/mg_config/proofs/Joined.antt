@@ -1,10 +1,10 @@
 -- Options, one field after another.
-use Rattle.std.proofs.Common.{ℕ, suc, ◌+◌, ◌<◌, ◌≤◌, ◌≡◌, List, [], ◌∷◌, ◌++◌, Bool, true, false, length, drop, get_or, map, filter, arith, refl, sym, ap, ◌∙◌}
+use Rattle.std.proofs.Common.{ℕ, ◌+◌, ◌<◌, ◌≤◌, ◌≡◌, List, [], ◌∷◌, ◌++◌, Bool, true, false, length, drop, get_or, map, refl, sym, ap, ◌∙◌}
 use Rattle.mg_text.specs.Tree.{Fields, none, scalar, message, append}
 use Rattle.mg_text.specs.declared.tree.Field.{Field}
 use Rattle.mg_text.specs.View.{Value, simple, inner, Entry, put, fields_of, field_view, value_view, fields_view}
 use Rattle.mg_text.proofs.Views.{field-record}
-use Rattle.mg_config.specs.Values.{fields_of_value, joined}
+use Rattle.mg_config.specs.Values.{fields_of_value}
 use Rattle.mg_config.specs.Config.{is_option, options_in}
 use Rattle.mg_config.proofs.Lists.{rest_of, none_after}
 

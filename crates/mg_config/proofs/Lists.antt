@@ -1,11 +1,11 @@
 -- Fields, one after another, beside what they stand for.
-use Rattle.std.proofs.Common.{ℕ, suc, ◌+◌, ◌<◌, ◌≤◌, ◌≡◌, List, [], ◌∷◌, ◌++◌, Bool, true, false, Option, None, Some, length, take, drop, get_or, map, filter, count_by, add-one, drop-cons, arith, refl, sym, ap, ◌∙◌}
+use Rattle.std.proofs.Common.{ℕ, ◌+◌, ◌<◌, ◌≤◌, ◌≡◌, List, [], ◌∷◌, ◌++◌, Bool, true, false, length, take, drop, get_or, map, add-one, drop-cons, refl, sym, ap, ◌∙◌}
 use Rattle.std.proofs.lemmas.List.{take_more, map-append}
 use Rattle.std.proofs.Math.ListN.{drop_of_length-le}
 use Rattle.mg_text.specs.declared.tree.Field.{Field}
 use Rattle.mg_text.specs.View.{Value, Entry, field_view, value_view}
 use Rattle.mg_text.proofs.Views.{field-record}
-use Rattle.mg_config.specs.Values.{entry, has_name, values_of, first}
+use Rattle.mg_config.specs.Values.{has_name, values_of}
 
 -- the fields from one on
 pub rest_of : (fs : List Field) (i : ℕ) (d : Field) → i < length fs → map field_view (drop i fs) ≡ field_view (get_or fs i d) ∷ map field_view (drop (i + 1) fs)

@@ -1,8 +1,8 @@
 -- The texts and the messages of a name, one field after another.
-use Rattle.std.proofs.Common.{ℕ, suc, ◌+◌, ◌<◌, ◌≤◌, ◌≡◌, List, [], ◌∷◌, ◌++◌, Bool, true, false, length, take, drop, get_or, map, append_assoc, append-nil, arith, refl, sym, ap, ◌∙◌}
+use Rattle.std.proofs.Common.{ℕ, ◌+◌, ◌<◌, ◌≤◌, ◌≡◌, List, [], ◌∷◌, ◌++◌, true, false, length, drop, get_or, map, append_assoc, append-nil, refl, sym, ap, ◌∙◌}
 use Rattle.mg_text.specs.declared.tree.Field.{Field}
 use Rattle.mg_text.specs.View.{Value, simple, inner, Entry, put, fields_of, fields_view, field_view, value_view}
-use Rattle.mg_text.specs.Tree.{Fields, none}
+use Rattle.mg_text.specs.Tree.{Fields}
 use Rattle.mg_config.specs.Values.{has_name, entry, entries, values_of, text_of_value, fields_of_value}
 use Rattle.mg_config.proofs.Lists.{values_here, values_skip, no_values}
 

@@ -1,5 +1,5 @@
 -- Back edges, one message after another.
-use Rattle.std.proofs.Common.{ℕ, suc, ◌+◌, ◌<◌, ◌≤◌, ◌≡◌, List, [], ◌∷◌, ◌++◌, Bool, true, false, length, get_or, map, append_assoc, append-nil, add-one, arith, refl, sym, ap, ◌∙◌, Result, Ok, Err, codes}
+use Rattle.std.proofs.Common.{ℕ, suc, ◌+◌, ◌<◌, ◌≤◌, ◌≡◌, List, [], ◌∷◌, ◌++◌, Bool, true, false, length, get_or, map, append_assoc, append-nil, arith, refl, sym, ap, ◌∙◌, Result, Ok, Err, codes}
 use Rattle.mg_text.specs.Tree.{Fields}
 use Rattle.mg_text.specs.declared.tree.Field.{Field}
 use Rattle.mg_text.specs.View.{field_view, value_view, fields_view}

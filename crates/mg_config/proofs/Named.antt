@@ -1,7 +1,6 @@
 -- Nodes without a calculator, one node after another.
-use Rattle.std.proofs.Common.{ℕ, suc, ◌+◌, ◌<◌, ◌≤◌, ◌≡◌, List, [], ◌∷◌, Bool, true, false, length, get_or, map, add-one, arith, refl, sym, ap, ◌∙◌, Option, None, Some, codes, if◌then◌else◌}
+use Rattle.std.proofs.Common.{ℕ, suc, ◌+◌, ◌<◌, ◌≤◌, ◌≡◌, List, [], Bool, true, false, length, get_or, map, add-one, arith, refl, sym, ap, ◌∙◌, Option, None, Some, codes, if◌then◌else◌}
 use Rattle.std.specs.Str.{bytes_eq}
-use Rattle.mg_text.specs.Tree.{Fields}
 use Rattle.mg_text.specs.declared.tree.Field.{Field}
 use Rattle.mg_text.specs.View.{field_view, value_view, fields_view}
 use Rattle.mg_config.specs.Values.{has_name, entries, fields_of_value, messages_in, text_in}

@@ -1,5 +1,5 @@
 -- Numbers and back edges are read back from their texts.
-use Rattle.std.proofs.Common.{ℕ, suc, zero, ◌+◌, ◌-◌, ◌^◌, ◌<◌, ◌≤◌, ◌≡◌, ◌⊎◌, inl, inr, List, [], ◌∷◌, ◌++◌, Bool, true, false, ◌&&◌, eqb, None, Some, Ok, get_or, nat_le, arith, refl, ap, ◌∙◌, if◌then◌else◌, ℤ, pos, negsuc, neg_ℤ}
+use Rattle.std.proofs.Common.{ℕ, suc, zero, ◌-◌, ◌^◌, ◌<◌, ◌≤◌, ◌≡◌, ◌⊎◌, inl, inr, List, [], ◌∷◌, ◌++◌, Bool, true, false, ◌&&◌, eqb, None, Some, Ok, get_or, nat_le, arith, refl, ap, ◌∙◌, if◌then◌else◌, ℤ, pos, negsuc, neg_ℤ}
 use Rattle.std.specs.Prelude.{IsTrue, option_map}
 use Rattle.std.specs.List.{list_all, All}
 use Rattle.std.specs.Char.{is_digit}
@@ -50,12 +50,12 @@ plain_back n (first ∷ rest) numeral value above small =
     let unsigned : eqb first 45 ≡ false = grind (arith, nat_tests) in
     rw unsigned (ap (option_map (λ n. pos n)) (magnitude_back (2 ^ 31 - 1) n (first ∷ rest) numeral value above (omega arith)))
 
-pub number_back : (n : ℤ) → FitsI32 n → number_of (signed_decimal n) ≡ Some n
-number_back (pos zero) fits = ap number_of (decimal_digit 0 (omega arith))
-number_back (pos (suc n)) fits =
+pub number_of-decimal : (n : ℤ) → FitsI32 n → number_of (signed_decimal n) ≡ Some n
+number_of-decimal (pos zero) fits = ap number_of (decimal_digit 0 (omega arith))
+number_of-decimal (pos (suc n)) fits =
     let is = decimal_is_IsNumeral (suc n) (omega arith) in
     plain_back (suc n) (decimal (suc n)) is.0 is.1 (first_decimal (suc n) (omega arith) (omega arith)) fits
-number_back (negsuc n) fits =
+number_of-decimal (negsuc n) fits =
     let is = decimal_is_IsNumeral (suc n) (omega arith) in
     ap (option_map (λ n. neg_ℤ (pos n))) (magnitude_back (2 ^ 31) (suc n) (decimal (suc n)) is.0 is.1 (first_decimal (suc n) (omega arith) (omega arith)) (omega arith))
 
@@ -102,5 +102,5 @@ plain_mark_back [] index kind small =
 plain_mark_back (first ∷ rest) index (inl empty) small = cc
 plain_mark_back (first ∷ rest) index (inr good) small = tagged_back (first ∷ rest) index good small
 
-pub mark_back : (mark : Mark) → IsMark mark → mark_of (text_of_mark mark) ≡ Ok mark
-mark_back mark good = plain_mark_back mark.tag mark.index good.tag good.index
+pub mark_of-text : (mark : Mark) → IsMark mark → mark_of (text_of_mark mark) ≡ Ok mark
+mark_of-text mark good = plain_mark_back mark.tag mark.index good.tag good.index

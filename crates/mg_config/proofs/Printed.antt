@@ -1,5 +1,5 @@
 -- What is read of fields that can be printed can be printed: its texts are characters, and its options are spelled and not too deep.
-use Rattle.std.proofs.Common.{ℕ, suc, ◌+◌, ◌≤◌, ◌≡◌, List, [], ◌∷◌, Bool, true, false, Option, None, Some, Result, Ok, Err, map, filter, codes, if◌then◌else◌, arith, refl, subst}
+use Rattle.std.proofs.Common.{ℕ, suc, ◌+◌, ◌≤◌, ◌≡◌, List, [], ◌∷◌, Bool, true, false, Result, Ok, map, filter, codes, if◌then◌else◌, arith, subst}
 use Rattle.std.specs.List.{All}
 use Rattle.std.proofs.lemmas.List.Elements.{All-nil, All-cons}
 use Rattle.mg_text.specs.Tree.{word, number, quoted, Fields, none, scalar, message, append, depth}

@@ -1,9 +1,9 @@
 -- The first text that spells no port.
-use Rattle.std.proofs.Common.{ℕ, suc, ◌+◌, ◌<◌, ◌≤◌, ◌≡◌, List, [], ◌∷◌, ◌++◌, Bool, true, false, not, Ok, Err, None, Some, count_by, length, take, drop, get_or, add-one, drop-cons, arith, refl, sym, ap, ◌∙◌, if◌then◌else◌, is_err}
+use Rattle.std.proofs.Common.{ℕ, suc, ◌+◌, ◌<◌, ◌≤◌, ◌≡◌, List, [], ◌∷◌, Bool, true, false, None, Some, count_by, length, take, drop, get_or, add-one, drop-cons, arith, refl, sym, ap, ◌∙◌, if◌then◌else◌, is_err}
 use Rattle.std.specs.Prelude.{position}
 use Rattle.std.proofs.lemmas.List.{take_more}
 use Rattle.std.proofs.Math.ListN.{drop_of_length-le}
-use Rattle.mg_names.specs.Spelling.{is_colon, parts_of, is_untagged, is_one}
+use Rattle.mg_names.specs.Spelling.{is_colon, is_untagged, is_one}
 use Rattle.mg_names.specs.Ports.{port_at, port_after}
 use Rattle.mg_names.proofs.Parts.{parts_without_colon, parts_from_colon, parts_past_one}
 use Rattle.mg_names.proofs.Counting.{count_step}

@@ -1,5 +1,5 @@
 -- The configuration of a list of fields, or its first fault.
-use Rattle.std.specs.Prelude.{ℕ, suc, ℤ, List, [], ◌∷◌, ◌++◌, Bool, true, false, Option, None, Some, Result, Ok, Err, if◌then◌else◌, map, codes, is_err, ◌||◌, filter}
+use Rattle.std.specs.Prelude.{ℕ, suc, ℤ, List, [], ◌∷◌, ◌++◌, Bool, true, false, Option, None, Some, Result, Ok, Err, map, codes, is_err, ◌||◌, filter}
 use Rattle.std.specs.Str.{bytes_eq}
 use Rattle.mg_text.specs.Tree.{Fields}
 use Rattle.mg_text.specs.View.{Entry, view}
@@ -7,8 +7,8 @@ use Rattle.mg_names.specs.Ports.{ports_of, port_after}
 use Rattle.mg_names.specs.declared.port.Port.{Port}
 use Rattle.mg_names.specs.declared.fault.NameFault.{NameFault}
 use Rattle.mg_names.specs.declared.fault.NameFault.TheVariants.{Gap, Twice}
-use Rattle.mg_config.specs.Values.{entries, texts_in, text_in, number_in, truth_in, message_in, messages_in, joined, values_of, fields_of_value}
-use Rattle.mg_config.specs.Path.{numbered, below, placed, then_do}
+use Rattle.mg_config.specs.Values.{entries, texts_in, text_in, number_in, truth_in, message_in, messages_in, joined, fields_of_value}
+use Rattle.mg_config.specs.Path.{numbered, placed, then_do}
 use Rattle.mg_config.specs.Faults.{field_fault, calculator_fault}
 use Rattle.mg_config.specs.Marks.{mark_of}
 use Rattle.mg_config.specs.declared.schema.Message.TheVariants.{Graph}

@@ -2,7 +2,7 @@
 use Rattle.std.specs.Prelude.{ℕ, suc, List, [], ◌∷◌, ◌++◌, Bool, true, false, ◌&&◌, not, Option, None, Some, is_some, if◌then◌else◌, codes}
 use Rattle.std.specs.List.{list_any}
 use Rattle.std.specs.Str.{bytes_eq}
-use Rattle.mg_text.specs.Tree.{Kind, word, number, quoted, Fields, none, scalar, message}
+use Rattle.mg_text.specs.Tree.{quoted, Fields, none, scalar, message}
 use Rattle.mg_text.specs.View.{Value, simple, inner, Entry}
 use Rattle.mg_config.specs.Schema.{rule_of, judged_by}
 use Rattle.mg_config.specs.Values.{entry, entries, has_name, number_in_value, truth_in_value, text_in}

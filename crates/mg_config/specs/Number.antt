@@ -1,5 +1,5 @@
 -- What numbers and truth values are spelled as, after the text format of protocol buffers.
-use Rattle.std.specs.Prelude.{ℕ, ◌-◌, ◌^◌, List, [], ◌∷◌, Bool, true, false, ◌&&◌, ◌||◌, not, ◌==◌, nat_le, nat_lt, ℤ, pos, neg_ℤ, Option, None, Some, option_map, is_some, if◌then◌else◌, codes}
+use Rattle.std.specs.Prelude.{ℕ, ◌-◌, ◌^◌, List, [], ◌∷◌, Bool, true, false, ◌&&◌, ◌||◌, ◌==◌, nat_le, ℤ, pos, neg_ℤ, Option, None, Some, option_map, if◌then◌else◌, codes}
 use Rattle.std.specs.List.{list_all}
 use Rattle.std.specs.Str.{bytes_eq}
 use Rattle.std.specs.Char.{is_digit, digit_value}

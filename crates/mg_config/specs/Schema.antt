@@ -1,5 +1,5 @@
 -- The fields of graphs, of nodes and of the messages in them, after calculator.proto of the MediaPipe framework.
-use Rattle.std.specs.Prelude.{ℕ, List, [], ◌∷◌, ◌++◌, Bool, true, false, Option, None, Some, if◌then◌else◌, codes}
+use Rattle.std.specs.Prelude.{ℕ, List, [], ◌∷◌, Bool, true, false, Option, None, Some, if◌then◌else◌, codes}
 use Rattle.std.specs.Str.{bytes_eq}
 use Rattle.mg_config.specs.declared.schema.Message.{Message}
 use Rattle.mg_config.specs.declared.schema.Message.TheVariants.{Graph, Node, Info, Handler}

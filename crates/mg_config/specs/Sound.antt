@@ -1,6 +1,6 @@
 -- What every configuration has that was read, and what the text form asks of one: both are kept by whoever makes a
 -- configuration of others, and they are what `write` needs for its fields to be read back, and to be printed.
-use Rattle.std.specs.Prelude.{ℕ, ◌+◌, ◌^◌, ◌<◌, ◌≤◌, ◌≡◌, ◌≢◌, ◌⊎◌, ℤ, pos, negsuc, List, [], map, Ok, IsTrue, All}
+use Rattle.std.specs.Prelude.{◌+◌, ◌^◌, ◌<◌, ◌≤◌, ◌≡◌, ◌≢◌, ◌⊎◌, ℤ, pos, negsuc, List, [], map, Ok, IsTrue, All}
 use Rattle.mg_text.specs.Tree.{depth}
 use Rattle.mg_text.specs.Answer.{max_depth}
 use Rattle.mg_text.specs.Canonical.{AreCharacters, AreSpelled}

@@ -1,7 +1,7 @@
 -- What the fields of a name say.
-use Rattle.std.specs.Prelude.{ℕ, List, [], ◌∷◌, Bool, true, false, ◌||◌, ℤ, pos, Option, None, Some, unwrap_or, map, filter}
+use Rattle.std.specs.Prelude.{ℕ, List, [], ◌∷◌, Bool, false, ℤ, pos, Option, None, Some, unwrap_or, map, filter}
 use Rattle.std.specs.Str.{bytes_eq}
-use Rattle.mg_text.specs.Tree.{Kind, word, number, quoted, Fields, none, scalar, message, append}
+use Rattle.mg_text.specs.Tree.{word, number, quoted, Fields, none, scalar, message, append}
 use Rattle.mg_text.specs.View.{Value, simple, inner, Entry}
 use Rattle.mg_config.specs.Number.{number_of, truth_of_word, truth_of_number}
 

@@ -1,9 +1,9 @@
 -- The fields that a configuration is written as, in the order of writing. What has its absent value isn't written.
-use Rattle.std.specs.Prelude.{ℕ, ℤ, pos, negsuc, List, [], ◌∷◌, ◌++◌, Bool, ◌==◌, if◌then◌else◌, map, codes}
+use Rattle.std.specs.Prelude.{ℕ, ℤ, pos, negsuc, List, [], ◌∷◌, ◌++◌, ◌==◌, if◌then◌else◌, map, codes}
 use Rattle.std.specs.Str.{bytes_eq}
 use Rattle.std.specs.Fmt.{signed_decimal}
-use Rattle.mg_text.specs.Tree.{Kind, word, number, quoted, Fields, none, scalar, message}
-use Rattle.mg_text.specs.View.{Value, simple, inner, Entry, fields_of}
+use Rattle.mg_text.specs.Tree.{word, number, quoted, Fields, none, scalar, message}
+use Rattle.mg_text.specs.View.{simple, inner, Entry, fields_of}
 use Rattle.mg_names.specs.Ports.{text_of}
 use Rattle.mg_names.specs.declared.port.Port.{Port}
 use Rattle.mg_config.specs.Values.{entry}

@@ -1,5 +1,5 @@
 -- What a call came to.
-use Rattle.std.proofs.Common.{◌≡◌, ◌≢◌, ℕ, List, [], ◌∷◌, take, Bool, true, false, not, Option, None, Some, IfSome, ◌⊎◌, inl, inr, refl, sym, ap, ◌∙◌, subst, arith}
+use Rattle.std.proofs.Common.{◌≡◌, ◌≢◌, ℕ, List, [], take, Bool, true, false, Option, None, Some, IfSome, ◌⊎◌, inl, inr, refl, ap, ◌∙◌, subst, arith}
 use Rattle.mg_edge.specs.Edge.{Steady, LoadGives, most_loaded}
 use Rattle.mg_edge.specs.declared.store.Loaded.TheVariants.{Bytes}
 use Rattle.mg_edge.proofs.Runs.{TookAll-start}
@@ -11,7 +11,7 @@ use Rattle.mg_run.specs.Answer.{Job, refuse, show, merge, job_of, answer_of, ans
 use Rattle.mg_run.specs.Devices.{TookFront, Rises, HasRisen, Flows}
 use Rattle.mg_run.specs.Pouring.{Told}
 use Rattle.mg_run.specs.Outcome.{told, TookText, Untouched, Noted, Answers, Ran}
-use Rattle.mg_run.specs.Call.{IfThere, Loads, WasShown, Did, IsJob, CallDid, CallShort, Called, Answered, Unrisen, IsOneOf}
+use Rattle.mg_run.specs.Call.{IfThere, Loads, WasShown, Did, IsJob, CallDid, CallShort, Called, Answered, Unrisen}
 use Rattle.mg_run.specs.declared.status.Status.{Status}
 use Rattle.mg_run.specs.declared.status.Status.TheVariants.{Good, StoreFault, Usage, GraphRefused, LineRefused, NodeFault, Stalled, ReadFault, WriteFault, OutOfMemory}
 

@@ -9,11 +9,11 @@ use Rattle.mg_text.specs.declared.fault.TextFault.TheVariants.{Syntax, TooDeep, 
 use Rattle.mg_text.proofs.Faults.{one_text, one_syntax, one_too_deep, not_both, deep_text}
 use Rattle.mg_config.specs.Config.{GraphView, config_of}
 use Rattle.mg_config.specs.declared.fault.ConfigFault.{ConfigFault}
-use Rattle.mg_run.specs.Command.{Command, command}
+use Rattle.mg_run.specs.Command.{command}
 use Rattle.mg_run.specs.File.{File, graph, no_text, no_graph, IsText, IsNoText, IsFile}
-use Rattle.mg_run.specs.Answer.{Job, refuse, show, merge, job_of}
+use Rattle.mg_run.specs.Answer.{Job, job_of}
 use Rattle.mg_run.specs.Call.{MayRead, IsJob}
-use Rattle.mg_run.specs.declared.words.Verb.TheVariants.{Run, Expand}
+use Rattle.mg_run.specs.declared.words.Verb.TheVariants.{Expand}
 
 abbrev read_as : GraphView → Result GraphView ConfigFault
 read_as g = Ok g

@@ -1,12 +1,12 @@
 -- Which statuses a call may have whose devices failed.
-use Rattle.std.proofs.Common.{◌≡◌, ℕ, List, [], ◌∷◌, Option, ◌⊎◌, inl, inr, refl, arith}
+use Rattle.std.proofs.Common.{◌≡◌, ℕ, List, [], ◌∷◌, Option, ◌⊎◌, inl, inr, refl}
 use Rattle.mg_edge.specs.Edge.{Steady}
 use Rattle.mg_run.specs.Command.{Command}
 use Rattle.mg_run.specs.Answer.{Job, refuse, show, merge}
 use Rattle.mg_run.specs.Devices.{TookFront, Rises, HasRisen}
 use Rattle.mg_run.specs.Pouring.{Told}
-use Rattle.mg_run.specs.Outcome.{TookText, Untouched, Ran}
-use Rattle.mg_run.specs.Call.{WasShown, Did, CallDid, Called, IsOneOf}
+use Rattle.mg_run.specs.Outcome.{TookText, Ran}
+use Rattle.mg_run.specs.Call.{WasShown, Did, Called, IsOneOf}
 use Rattle.mg_run.specs.declared.status.Status.{Status}
 use Rattle.mg_run.specs.declared.status.Status.TheVariants.{Good, StoreFault, Usage, GraphRefused, LineRefused, NodeFault, Stalled, ReadFault, WriteFault, OutOfMemory}
 use Rattle.mg_run.proofs.Calling.{risen-steady, risen-untouched}

@@ -1,9 +1,7 @@
 -- The text of a graph, and the graph of that text.
 use Rattle.std.proofs.Common.{◌≡◌, ◌≤◌, ℕ, List, length, Result, Ok, sym, ap, ◌∙◌, subst}
-use Rattle.mg_text.specs.Tree.{Fields}
 use Rattle.mg_text.specs.Grammar.{Gives}
 use Rattle.mg_text.specs.Answer.{max_len}
-use Rattle.mg_text.specs.Canonical.{AreSpelled, canonical}
 use Rattle.mg_text.proofs.Faults.{one_text}
 use Rattle.mg_text.proofs.Printing.{canonical_given, text_spelled}
 use Rattle.mg_config.specs.Config.{GraphView, config_of}
@@ -15,7 +13,7 @@ use Rattle.mg_config.proofs.Printed.{printable_of}
 use Rattle.mg_config.proofs.Spelled.{spelled_tree}
 use Rattle.mg_config.proofs.Shallow.{shallow_tree}
 use Rattle.mg_config.proofs.WrittenBack.{written_back}
-use Rattle.mg_run.specs.File.{graph, IsText, IsFile}
+use Rattle.mg_run.specs.File.{graph, IsFile}
 use Rattle.mg_run.specs.Answer.{text_of}
 
 -- what holds of the graph of a file

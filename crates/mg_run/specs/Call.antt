@@ -10,7 +10,7 @@ use Rattle.mg_run.specs.Devices.{TookFront, Rises}
 use Rattle.mg_run.specs.Pouring.{Told}
 use Rattle.mg_run.specs.Outcome.{Untouched, Noted, TookText, Answers, Ran}
 use Rattle.mg_run.specs.declared.status.Status.{Status}
-use Rattle.mg_run.specs.declared.status.Status.TheVariants.{Good, StoreFault, Usage, GraphRefused, LineRefused, NodeFault, Stalled, ReadFault, WriteFault, OutOfMemory}
+use Rattle.mg_run.specs.declared.status.Status.TheVariants.{Good, StoreFault, Usage, GraphRefused, WriteFault, OutOfMemory}
 
 -- P holds of the bytes, where the store tells them.
 abbrev pub IfThere : Option (Option (List ℕ)) → (List ℕ → Type 0) → Type 0

@@ -1,5 +1,5 @@
 -- The notes, each a line.
-use Rattle.std.specs.Prelude.{ℕ, List, [], ◌∷◌, ◌++◌, Option, None, Some, codes, decimal}
+use Rattle.std.specs.Prelude.{ℕ, List, [], ◌++◌, Option, None, Some, codes, decimal}
 use Rattle.mg_text.specs.declared.fault.TextFault.{TextFault}
 use Rattle.mg_text.specs.declared.fault.TextFault.TheVariants.{Syntax, TooDeep, TooLong, OutOfMemory}
 use Rattle.mg_names.specs.declared.fault.NameFault.{NameFault}
