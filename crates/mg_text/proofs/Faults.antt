@@ -5,10 +5,10 @@ use Rattle.std.proofs.Math.Seq.{take-length}
 use Rattle.mg_text.specs.Tree.{quoted, Fields, none, scalar, append, depth}
 use Rattle.mg_text.specs.Grammar.{Gives, Place, start, named, valued, opened, element, behind, joined, after}
 use Rattle.mg_text.specs.Machine.{Spot, at, comment, naming, token, piece, Frame, State, settled, settled_place, step, final, accepts_spot, accepts, run, outcome, begin, is_whole_scalar, kind_of}
-use Rattle.mg_text.proofs.Pieces.{some_same}
-use Rattle.mg_text.proofs.Finish.{level, level_least, extra, spot_extra}
+use Rattle.mg_text.proofs.Choices.{some_same}
 use Rattle.mg_text.proofs.Sound.{sound_text}
 use Rattle.mg_text.proofs.Complete.{complete_text}
+use Rattle.mg_text.proofs.Finish.{level, level_least, extra, spot_extra}
 use Rattle.mg_text.proofs.Printing.{text_spelled, canonical_given}
 use Rattle.std.proofs.Common.{Vec, Global}
 use Rattle.std.specs.declared.alloc.AllocError.{AllocError}

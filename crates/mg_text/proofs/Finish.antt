@@ -19,8 +19,12 @@ use Rattle.mg_text.specs.Tree.{Kind, number, quoted, Fields, none, scalar, messa
 use Rattle.mg_text.specs.Grammar as g
 use Rattle.mg_text.specs.Grammar.{Stands, Gives, Apart, Place, start, named, valued, opened, element, behind, joined, after, scalar_slot, message_slot, piece_slot, list_slot, list_ends, opening, closing, quote_class, in_line, is_separator}
 use Rattle.mg_text.specs.Machine.{Spot, at, comment, naming, token, piece, Frame, State, digit_onto, outcome, kind_of}
-use Rattle.mg_text.proofs.Pieces.{NameEnds, ScalarEnds}
-use Rattle.mg_text.proofs.Complete.{st, complete, tail_run, line_run, gap_run, naming_run, token_run, inside_run, tail_bytes}
+use Rattle.mg_text.proofs.Names.{NameEnds}
+use Rattle.mg_text.proofs.Scalars.{ScalarEnds}
+use Rattle.mg_text.proofs.Runs.{st, tail_run, line_run, gap_run}
+use Rattle.mg_text.proofs.TokenRuns.{naming_run, token_run}
+use Rattle.mg_text.proofs.StringRuns.{inside_run, tail_bytes}
+use Rattle.mg_text.proofs.Complete.{complete}
 
 -- The depth of the whole so far, where the innermost open message is k deep.
 abbrev pub level : ℕ → List Frame → ℕ

@@ -18,9 +18,9 @@ use Rattle.mg_text.specs.Grammar as g
 use Rattle.mg_text.specs.Grammar.{Stands, Gives, Apart, Place, start, named, valued, opened, element, behind, joined, after, IsContent, IsName, octal, is_first_octal}
 use Rattle.mg_text.specs.Canonical as c
 use Rattle.mg_text.specs.Canonical.{indent, escape, escape_by, short_escape, spelling, scalar_line, message_lines, lines_of, canonical, AreCharacters, IsSpelled, AreSpelled}
-use Rattle.mg_text.proofs.Sound.{append_none}
-use Rattle.mg_text.proofs.Pieces.{octal_digit, first_octal_digit, some_same}
-use Rattle.mg_text.proofs.Complete.{beyond_class}
+use Rattle.mg_text.proofs.Choices.{some_same}
+use Rattle.mg_text.proofs.ByteValues.{octal_digit, first_octal_digit, beyond_class}
+use Rattle.mg_text.proofs.Appending.{append_none}
 use Rattle.std.proofs.lemmas.Bool.{cases_lt}
 
 plain_in_piece : (b : ℕ) → 32 ≤ b → b < 127 → (b ≡ 92 → ⊥) → (b ≡ 34 → ⊥) → g.in_piece Double (class_of b) ≡ true

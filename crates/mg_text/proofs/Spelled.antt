@@ -9,7 +9,8 @@ use Rattle.mg_text.specs.Byte.{class_of, is_letter, is_digit, is_hex, is_word_by
 use Rattle.mg_text.specs.Grammar as g
 use Rattle.mg_text.specs.Grammar.{AllOf, Begins, Some1, IsWord, IsPath, IsName, IsNumber, IsUnsigned, IsEnd, IsSign, IsSuffix}
 use Rattle.mg_text.specs.Machine.{name_next, scalar_next, is_whole_scalar}
-use Rattle.mg_text.proofs.Pieces.{NameEnds, ScalarEnds}
+use Rattle.mg_text.proofs.Names.{NameEnds}
+use Rattle.mg_text.proofs.Scalars.{ScalarEnds}
 
 if_is : {A : Type 0} (b : Bool) {x : A} → b ≡ true → cond b (Some x) None ≡ Some x
 if_is true e = refl
