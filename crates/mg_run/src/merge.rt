@@ -1,4 +1,4 @@
-ghost use Rattle.std.specs.Prelude.{◌≡◌, ◌++◌, length, OnOk};
+ghost use Rattle.std.specs.Prelude.{◌≡◌, ◌++◌, length, OnOk, OnErr};
 ghost use Rattle.mg_value.specs.Payload.{Plain, int, plain};
 ghost use Rattle.mg_value.specs.Prefix.{StreamPrefix, appended};
 ghost use Rattle.mg_stream.specs.Queue.{StandsFor, MayCome, IsLike, with_packet};
@@ -6,7 +6,7 @@ ghost use Rattle.mg_run.specs.Output.{set_text};
 
 use crate::write_line::push_line;
 use mg_policy::Inbox;
-use mg_stream::Queue;
+use mg_stream::{Queue, StreamFault};
 use mg_time::Timestamp;
 use mg_value::{InputSet, Packet, Payload};
 use std::alloc::{AllocError, Global};
@@ -23,7 +23,8 @@ pub struct Merge {
 }
 
 impl Merge {
-    ghost use Rattle.std.specs.Prelude.{◌≡◌, ◌<◌, ◌≤◌, ◌++◌, ℕ, List, [], map, replicate, length, IfOk, OnOk};
+    ghost use Rattle.std.specs.Prelude.{◌≡◌, ◌<◌, ◌≤◌, ◌++◌, ℕ, List, [], Some, map, replicate, length, slice_get, IfOk, OnOk};
+    ghost use Rattle.mg_stream.specs.Queue.{Waiting};
     ghost use Rattle.mg_time.specs.Time.{IsRange};
     ghost use Rattle.mg_value.specs.Payload.{Plain, int};
     ghost use Rattle.mg_value.specs.Prefix.{StreamPrefix, empty_prefix, appended, raised, closed};
@@ -46,6 +47,7 @@ impl Merge {
     /// The bound of an input.
     pub fn bound(&mut self, port: u32) -> Timestamp
         requires { port < length self.old.inbox }
+        ensures value { (q : Waiting Plain) → slice_get self.old.inbox port ≡ Some q → result ≡ q.bound }
         ensures bound { (ss : List (StreamPrefix Plain)) (sent text : List ℕ) → Claimed ss sent self.old.inbox text → result ≡ bound_at port ss }
         ensures unchanged { self.new.inbox ≡ self.old.inbox }
     {
@@ -63,6 +65,7 @@ impl Merge {
     ) -> Result<(), AllocError>
         requires port { port < length self.old.inbox }
         requires range { IsRange at }
+        requires above { (q : Waiting Plain) → slice_get self.old.inbox port ≡ Some q → q.bound ≤ at }
         ensures inputs { length self.new.inbox ≡ length self.old.inbox }
         ensures claimed { OnOk result ((ss : List (StreamPrefix Plain)) (sent : List ℕ) → Claimed ss sent self.old.inbox text.old.items
             → Claimed (stepped port (λ s. appended s (record { at = at; value = int value })) ss) sent self.new.inbox text.new.items) }
@@ -124,15 +127,22 @@ impl Merge {
     }
 }
 
-// Puts a packet into a queue.
+// Puts a packet that may come into a queue. Only want of memory refuses it.
 fn append(queue: &mut Queue, packet: Packet) -> Result<(), AllocError>
+    requires { MayCome queue.old packet.at }
     ensures like { OnOk result (IsLike queue.new (with_packet queue.old packet)) }
     ensures may_come { OnOk result (MayCome queue.old packet.at) }
     ensures stand { OnOk result ((s : StreamPrefix Plain) → StandsFor queue.old s → StandsFor queue.new (appended s packet)) }
+    ensures no_memory { OnErr result (queue.old.spare ≡ 0) }
 {
     match queue.append(packet) {
         Ok(()) => Ok(()),
-        Err(_) => Err(AllocError),
+        Err(refused) => match refused.cause {
+            StreamFault::OutOfMemory => Err(AllocError),
+            StreamFault::NotAllowed | StreamFault::NotAscending | StreamFault::NotAlone => {
+                unreachable!()
+            }
+        },
     }
 }
 
