@@ -1,22 +1,13 @@
 -- Options, one field after another.
 use Rattle.std.proofs.Common.{ℕ, ◌+◌, ◌<◌, ◌≤◌, ◌≡◌, List, [], ◌∷◌, ◌++◌, Bool, true, false, length, drop, get_or, map, refl, sym, ap, ◌∙◌}
-use Rattle.mg_text.specs.Tree.{Fields, none, scalar, message, append}
+use Rattle.mg_text.specs.Tree.{Fields, none, append}
 use Rattle.mg_text.specs.declared.tree.Field.{Field}
 use Rattle.mg_text.specs.View.{Value, simple, inner, Entry, put, fields_of, field_view, value_view, fields_view}
 use Rattle.mg_text.proofs.Views.{field-record}
+use Rattle.mg_text.proofs.Appending.{append_none, append_fields_assoc}
 use Rattle.mg_config.specs.Values.{fields_of_value}
 use Rattle.mg_config.specs.Config.{is_option, options_in}
 use Rattle.mg_config.proofs.Lists.{rest_of, none_after}
-
-append_assoc : (a b c : Fields) → append (append a b) c ≡ append a (append b c)
-append_assoc none b c = refl
-append_assoc (scalar n k s a) b c = ap (scalar n k s) (append_assoc a b c)
-append_assoc (message n x a) b c = ap (message n x) (append_assoc a b c)
-
-pub append_none : (a : Fields) → append a none ≡ a
-append_none none = refl
-append_none (scalar n k s a) = ap (scalar n k s) (append_none a)
-append_none (message n x a) = ap (message n x) (append_none a)
 
 put-append : (n : List ℕ) (v : Value) (a b : Fields) → append (put n v a) b ≡ put n v (append a b)
 put-append n (simple k s) a b = refl
@@ -43,7 +34,7 @@ joined_more fs i d options made more inside same here at view is =
           ∙ ap (append (fields_view options)) (options_cons (field_view d) (map field_view (drop (i + 1) fs)) true here)
           ∙ ap (λ v. append (fields_view options) (append (fields_of_value v) later)) (ap (λ e. e.value) (field-record d))
           ∙ ap (λ f. append (fields_view options) (append f later)) (sym view)
-          ∙ sym (append_assoc (fields_view options) (fields_view more) later)
+          ∙ sym (append_fields_assoc (fields_view options) (fields_view more) later)
           ∙ ap (λ f. append f later) (sym (fields_of-append (map field_view options) (map field_view more)) ∙ ap fields_of (sym is));
     }
 

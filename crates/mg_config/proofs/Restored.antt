@@ -16,7 +16,7 @@ use Rattle.mg_config.specs.Sound.{IsMark}
 use Rattle.mg_config.specs.Written.{text_field, number_field, port_fields, mark_entry, mark_fields, handler_field, options_field}
 use Rattle.mg_config.specs.declared.mark.Mark.{Mark}
 use Rattle.mg_config.proofs.Numbers.{mark_of-text}
-use Rattle.mg_config.proofs.Joined.{append_none}
+use Rattle.mg_text.proofs.Appending.{append_none}
 use Rattle.mg_config.proofs.Pieces.{values, all_named}
 
 -- the fields have the name that they are written under

@@ -1,5 +1,5 @@
 -- What follows from an equation of options, and from the truth of a test.
-use Rattle.std.proofs.Common.{◌≡◌, Bool, true, false, cond, Option, Some, None, refl, ◌⊎◌, inl, inr, not, ◌&&◌}
+use Rattle.std.proofs.Common.{◌≡◌, Bool, true, false, cond, Option, Some, None, refl, not, ◌&&◌}
 use Rattle.std.specs.Option.{option_map}
 
 pub some_same : {A : Type 0} {x y : A} → Some x ≡ Some y → x ≡ y
@@ -12,10 +12,6 @@ from_if false e = cc
 pub mapped : {A B : Type 0} (f : A → B) (o : Option A) (y : B) → option_map f o ≡ Some y → (x : A) × (o ≡ Some x) × (f x ≡ y)
 mapped f (Some x) y e = (x, refl, cc)
 mapped f None y e = cc
-
-pub chosen : {A : Type 0} (b : Bool) {x y z : A} → cond b x y ≡ z → ((b ≡ true) × (x ≡ z)) ⊎ (y ≡ z)
-chosen true e = inl (refl, e)
-chosen false e = inr e
 
 pub if_so : {A : Type 0} (b : Bool) {x : A} (y : A) → b ≡ true → cond b x y ≡ x
 if_so true y e = refl

@@ -22,10 +22,6 @@ abbrev pub Closes : Fields → List Frame → List ℕ → Fields → Type 0
 Closes d [] v r = (v ≡ []) × (d ≡ r)
 Closes d (f ∷ fs) v r = (c : ℕ) × (u : List ℕ) × (v ≡ c ∷ u) × (class_of c ≡ closing f.mark) × (outcome (resumed d f fs) u ≡ Some r)
 
-marks_same : (m : Mark) → same_mark m m ≡ true
-marks_same Brace = refl
-marks_same Angle = refl
-
 pub closing_step : (d : Fields) (f : Frame) (fs : List Frame) (sep : Bool) (m : Mark) (b : ℕ) → f.mark ≡ m → step_at (st d (f ∷ fs) (at (start sep))) (start sep) (closing m) b ≡ Some (resumed d f fs)
 closing_step d f fs sep Brace b e = ap (λ x. cond (same_mark x Brace) (Some (resumed d f fs)) None) e
 closing_step d f fs sep Angle b e = ap (λ x. cond (same_mark x Angle) (Some (resumed d f fs)) None) e

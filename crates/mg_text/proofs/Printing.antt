@@ -12,12 +12,13 @@ use Rattle.mg_text.specs.declared.parts.Slot.{Slot}
 use Rattle.mg_text.specs.declared.parts.Slot.TheVariants as slots
 use Rattle.mg_text.specs.declared.parts.Tail.{Tail}
 use Rattle.mg_text.specs.declared.parts.Tail.TheVariants.{Whole, OneMore, TwoMore, ThreeMore, AfterE0, AfterED, AfterF0, AfterF4}
-use Rattle.mg_text.specs.Byte.{below_digits, digit_class, upper_class, lower_class, class_of, is_octal, lead, follow, IsTail, byte, whole as no_tail}
+use Rattle.mg_text.specs.Byte.{below_digits, digit_class, upper_class, lower_class, class_of, is_octal, follow, IsTail, byte, whole as no_tail}
 use Rattle.mg_text.specs.Tree.{Kind, word, number, quoted, Fields, none, scalar, message, append}
 use Rattle.mg_text.specs.Grammar as g
 use Rattle.mg_text.specs.Grammar.{Stands, Gives, Apart, Place, start, named, valued, opened, element, behind, joined, after, IsContent, IsName, octal, is_first_octal}
 use Rattle.mg_text.specs.Canonical as c
 use Rattle.mg_text.specs.Canonical.{indent, escape, escape_by, short_escape, spelling, scalar_line, message_lines, lines_of, canonical, AreCharacters, IsSpelled, AreSpelled}
+use Rattle.mg_text.proofs.ByteValues.{lead_least}
 use Rattle.mg_text.proofs.Choices.{some_same}
 use Rattle.mg_text.proofs.ByteValues.{octal_digit, first_octal_digit, beyond_class}
 use Rattle.mg_text.proofs.Appending.{append_none}
@@ -90,9 +91,6 @@ tail_least AfterE0 u b e = grind (arith, nat_tests)
 tail_least AfterED u b e = grind (arith, nat_tests)
 tail_least AfterF0 u b e = grind (arith, nat_tests)
 tail_least AfterF4 u b e = grind (arith, nat_tests)
-
-lead_least : (b : ℕ) (t : Tail) → lead b ≡ Some t → 128 ≤ b
-lead_least b t e = grind (arith, nat_tests)
 
 escape_tail : (t : Tail) (u : List ℕ) → IsTail t u → flat_map escape u ≡ u
 escape_tail t u no_tail = refl
