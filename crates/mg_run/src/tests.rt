@@ -19,6 +19,11 @@ const RUN: &[&str] = &["run", "g.pbtxt"];
 const USAGE: &str =
     "usage: mg run|solve|check|expand|generate [--workers N] [--max-queue-size N] [--no-queue-limit] [--number N] [--report] GRAPH [SUBGRAPH...]\n";
 
+// A good line, and what it gives.
+const GOOD: &[u8] = b"{\"stream\":\"in\",\"ts\":5,\"value\":7}\n";
+
+const GIVEN: &[u8] = b"{\"stream\":\"out\",\"ts\":5,\"value\":7}\n";
+
 // More than any text here takes.
 const ROOM: usize = 1 << 20;
 

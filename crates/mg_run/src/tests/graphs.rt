@@ -5,10 +5,6 @@ use std::test::Fail;
 
 const EXPAND: &[&str] = &["expand", "g.pbtxt"];
 
-const GOOD: &[u8] = b"{\"stream\":\"in\",\"ts\":5,\"value\":7}\n";
-
-const GIVEN: &[u8] = b"{\"stream\":\"out\",\"ts\":5,\"value\":7}\n";
-
 // Calls over a graph file and an input that has one good line.
 fn called(alloc: Global, words: &[&str], graph: &[u8]) -> Result<(Devices, Status), AllocError> {
     let mut devices = Devices::new(alloc, GOOD, 64)?;

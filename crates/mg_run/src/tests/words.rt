@@ -3,10 +3,6 @@
 use super::*;
 use std::test::Fail;
 
-const GOOD: &[u8] = b"{\"stream\":\"in\",\"ts\":5,\"value\":7}\n";
-
-const GIVEN: &[u8] = b"{\"stream\":\"out\",\"ts\":5,\"value\":7}\n";
-
 // A line with spaces after it, up to a length.
 fn padded(alloc: Global, line: &str, length: usize) -> Result<Vec<u8>, AllocError> {
     let mut text = Vec::from_slice(alloc, line.as_bytes())?;
