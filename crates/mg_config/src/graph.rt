@@ -26,13 +26,20 @@ pub type NodeList = List<NodeConfig>;
 /// absent is 0.
 #[derive(Debug, Drop)]
 pub struct GraphConfig {
+    /// The name by which other graphs use this one as a subgraph.
     pub type_name: MgText,
     pub nodes: NodeList,
+    /// The streams that come in.
     pub inputs: PortMap,
+    /// The streams that go out.
     pub outputs: PortMap,
+    /// The side packets that come in.
     pub input_sides: PortMap,
+    /// The side packets that go out.
     pub output_sides: PortMap,
+    /// How many packets a queue holds before its feeder is throttled; below 0 there is no limit.
     pub max_queue_size: i32,
+    /// How many workers run the graph.
     pub num_threads: i32,
 }
 

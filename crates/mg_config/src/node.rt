@@ -17,20 +17,30 @@ use std::alloc::{AllocError, Global};
 pub type MarkList = List<Mark>;
 
 /// A node of a graph (MediaPipe, calculator.proto: CalculatorGraphConfig.Node). A text that is absent is empty, and a
-/// number that is absent is 0. `options` are the fields of its `options` and `node_options` in the order of the text,
-/// `handler` is the name of its input policy, and `buffer_size_hint` has no effect.
+/// number that is absent is 0.
 #[derive(Debug, Drop)]
 pub struct NodeConfig {
+    /// The node's name, which may be empty.
     pub name: MgText,
+    /// What the node does. It is never empty where a configuration was read.
     pub calculator: MgText,
+    /// The streams that the node reads.
     pub inputs: PortMap,
+    /// The streams that the node writes.
     pub outputs: PortMap,
+    /// The side packets that the node reads.
     pub input_sides: PortMap,
+    /// The side packets that the node writes.
     pub output_sides: PortMap,
+    /// The fields of `options` and `node_options`, in the order of the text.
     pub options: Tree,
+    /// The inputs that are back edges.
     pub back_marks: MarkList,
+    /// The name of the input policy.
     pub handler: MgText,
+    /// How many input sets the node works on at once.
     pub max_in_flight: i32,
+    /// This has no effect.
     pub buffer_size_hint: i32,
 }
 
