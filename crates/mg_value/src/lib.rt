@@ -17,6 +17,3 @@ pub use packet::{Packet, PacketList};
 pub use payload::Payload;
 pub use prefix::Prefix;
 pub use text::MgText;
-
-#[cfg(test)]
-mod tests;

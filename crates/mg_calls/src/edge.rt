@@ -1,6 +1,9 @@
 ghost use Rattle.std.specs.Prelude.{IfOk, ◌≤◌};
 
-use super::*;
+use mg_edge::{
+    FolderStore, Got, Loaded, MemorySink, MemorySource, MemoryStore, Put, ReaderSource, Sink,
+    Source, Store, WriterSink,
+};
 use std::io::{Cursor, ErrorKind, Read, Write};
 use std::test::Fail;
 use std::{fs, io};

@@ -1,4 +1,4 @@
-use super::*;
+use mg_stream::{Queue, StreamFault};
 use mg_time::Timestamp;
 use mg_value::{Packet, Payload};
 use std::alloc::Global;

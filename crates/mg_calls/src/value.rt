@@ -1,5 +1,5 @@
-use super::*;
 use mg_time::Timestamp;
+use mg_value::{InputSet, Packet, PacketList, Payload, Prefix};
 use std::alloc::Global;
 use std::sync::Arc;
 use std::test::Fail;

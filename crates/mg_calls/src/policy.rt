@@ -1,4 +1,4 @@
-use super::*;
+use mg_policy::{Inbox, Readiness};
 use mg_time::Timestamp;
 use mg_value::{InputSet, Packet, Payload};
 use std::alloc::Global;

@@ -1,4 +1,4 @@
-use crate::Timestamp;
+use mg_time::Timestamp;
 
 // The numbers of the framework's page on timestamps, and what may follow a packet at each.
 #[test]

@@ -1,4 +1,4 @@
-use crate::{Scalar, TextFault, TreeValue, parse, print};
+use mg_text::{Scalar, TextFault, TreeValue, parse, print};
 use std::alloc::{AllocError, Global};
 use std::process::Abort;
 use std::test::Fail;
