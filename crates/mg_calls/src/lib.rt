@@ -11,6 +11,8 @@ mod edge;
 #[cfg(test)]
 mod names;
 #[cfg(test)]
+mod packets;
+#[cfg(test)]
 mod policy;
 #[cfg(test)]
 mod stream;

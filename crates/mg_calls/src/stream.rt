@@ -1,166 +1,135 @@
-use mg_stream::{Queue, StreamFault};
-use mg_time::Timestamp;
-use mg_value::{Packet, Payload};
+//! Queues: what each call answers, and what the queue shows then.
+
+use crate::packets::{number_of, packet_of, text_of, time_of};
+use mg_stream::Queue;
+use mg_value::Packet;
 use std::alloc::Global;
-use std::sync::Arc;
+use std::process::Abort;
 use std::test::Fail;
 
-/// A packet with a whole number.
-fn packet(alloc: Global, at: Timestamp, number: i64) -> Result<Packet, Fail> {
-    let payload = Arc::new(alloc, Payload::Int(number))?;
-    Ok(Packet { at, payload })
+// The calls of one queue, a row each, and after `=` the answer, and what the queue shows then: the first timestamp, the
+// bound, how many packets wait and how many came. A packet has a time and a number.
+fn appends() -> &'static str {
+    "reserve 1=ok - PreStream 0 0
+append 5 7=ok 5 6 1 1
+append 5 8=NotAscending 5 8; 5 6 1 1
+append PostStream 8=NotAlone PostStream 8; 5 6 1 1
+append Done 8=NotAllowed Done 8; 5 6 1 1
+append Unstarted 8=NotAllowed Unstarted 8; 5 6 1 1
+append 6 9=ok 5 7 2 2
+append 9223372036854775804 1=ok 5 OneOverPostStream 3 3
+append 9223372036854775804 1=NotAscending 9223372036854775804 1; 5 OneOverPostStream 3 3"
 }
 
-/// The timestamp of the range with a number.
-fn time(number: i64) -> Result<Timestamp, Fail> {
-    Ok(Timestamp::of_range(number).ok_or("no time of the range")?)
+fn alone() -> &'static str {
+    "append PostStream 1=ok PostStream OneOverPostStream 1 1"
 }
 
-/// A new queue.
-fn queue_of(alloc: Global) -> Queue {
-    Queue::new(alloc)
+fn alone_also_after_what_is_gone() -> &'static str {
+    "append 5 1=ok 5 6 1 1
+pop 5=5 1; - 6 0 1
+append PostStream 2=NotAlone PostStream 2; - 6 0 1"
 }
 
-/// Sends a packet: why the queue refused it, if it did, and whether the same packet then came back.
-fn send(
-    alloc: Global,
-    queue: &mut Queue,
-    at: Timestamp,
-    number: i64,
-) -> Result<Option<StreamFault>, Fail> {
-    match queue.append(packet(alloc, at, number)?) {
-        Ok(()) => Ok(None),
+fn pops() -> &'static str {
+    "append 3 30=ok 3 4 1 1
+append 4 40=ok 3 5 2 2
+append 9 90=ok 3 10 3 3
+pop 4=- 3 10 3 3
+pop 3=3 30; 4 10 2 3
+pop 4=4 40; 9 10 1 3
+pop 9=9 90; - 10 0 3"
+}
+
+fn bounds() -> &'static str {
+    "raise 8=ok - 8 0 0
+raise 3=ok - 8 0 0
+raise 9=ok - 9 0 0
+close=ok - Done 0 0
+append 9 1=NotAscending 9 1; - Done 0 0"
+}
+
+// A packet's time and number.
+fn show_packet(alloc: Global, packet: &Packet) -> Result<String, Fail> {
+    let at = text_of(alloc, packet.at)?;
+    Ok(format!(in alloc; "{} {};", at.as_str(), number_of(packet))?)
+}
+
+fn append(alloc: Global, queue: &mut Queue, packet: &str) -> Result<String, Fail> {
+    match queue.append(packet_of(alloc, packet)?) {
+        Ok(()) => Ok(String::from_str(alloc, "ok")?),
         Err(refused) => {
-            if number_of(refused.packet) != (at, number) {
-                return Err(Fail::from("another packet came back"));
-            }
-            Ok(Some(refused.cause))
+            let packet = show_packet(alloc, &refused.packet)?;
+            Ok(format!(in alloc; "{:?} {}", refused.cause, packet.as_str())?)
         }
     }
 }
 
-/// The timestamp and the number of a packet.
-fn number_of(packet: Packet) -> (Timestamp, i64) {
-    let Payload::Int(number) = &*packet.payload;
-    (packet.at, *number)
+fn pop(alloc: Global, queue: &mut Queue, at: &str) -> Result<String, Fail> {
+    match queue.pop_at(time_of(alloc, at)?) {
+        None => Ok(String::from_str(alloc, "-")?),
+        Some(packet) => show_packet(alloc, &packet),
+    }
 }
 
-/// The packet that leaves at a timestamp.
-fn pop(queue: &mut Queue, at: i64) -> Result<Option<(Timestamp, i64)>, Fail> {
-    Ok(queue.pop_at(time(at)?).map(number_of))
+// The other calls, which answer nothing.
+fn change(alloc: Global, queue: &mut Queue, name: &str, argument: &str) -> Result<String, Fail> {
+    if name == "reserve" {
+        queue.reserve(argument.parse::<u32>()?)?;
+    } else if name == "raise" {
+        queue.raise(time_of(alloc, argument)?);
+    } else {
+        queue.close();
+    }
+    Ok(String::from_str(alloc, "ok")?)
 }
 
-/// What a queue shows: its first timestamp, its bound, how many packets wait and how many came.
-fn look(queue: &Queue) -> (Option<Timestamp>, Timestamp, u64, u64) {
-    (queue.first(), queue.bound(), queue.waiting(), queue.count())
+fn answer(alloc: Global, queue: &mut Queue, call: &str) -> Result<String, Fail> {
+    let (name, argument) = call.split_once(' ').unwrap_or((call, ""));
+    if name == "append" {
+        append(alloc, queue, argument)
+    } else if name == "pop" {
+        pop(alloc, queue, argument)
+    } else {
+        change(alloc, queue, name, argument)
+    }
 }
 
-/// Makes room.
-fn reserve(queue: &mut Queue, more: u32) -> Result<(), Fail> {
-    Ok(queue.reserve(more)?)
+// What a queue shows.
+fn show(alloc: Global, queue: &Queue) -> Result<String, Fail> {
+    let first = match queue.first() {
+        None => String::from_str(alloc, "-")?,
+        Some(first) => text_of(alloc, first)?,
+    };
+    let bound = text_of(alloc, queue.bound())?;
+    let waiting = queue.waiting();
+    let count = queue.count();
+    Ok(format!(in alloc; "{} {} {waiting} {count}", first.as_str(), bound.as_str())?)
 }
 
-/// Raises the bound.
-fn raise(queue: &mut Queue, bound: i64) -> Result<(), Fail> {
-    queue.raise(time(bound)?);
+fn assert_call(rt: &impl Abort, alloc: Global, queue: &mut Queue, row: &str) -> Result<(), Fail> {
+    let (call, wanted) = row.split_once('=').ok_or("no `=`")?;
+    let answer = answer(alloc, queue, call)?;
+    let shown = show(alloc, queue)?;
+    let came = format!(in alloc; "{} {}", answer.as_str(), shown.as_str())?;
+    assert!(rt; came.as_str() == wanted, "{row}: {came}");
     Ok(())
 }
 
-/// Closes the queue.
-fn close(queue: &mut Queue) {
-    queue.close();
-}
-
-#[test]
-fn appends_are_answered(rt: HostRuntime) -> Result<(), Fail> {
-    let mut queue = queue_of(rt.alloc());
-    reserve(&mut queue, 1)?;
-    let rows = [
-        (time(5)?, None, time(6)?, 1),
-        (time(5)?, Some(StreamFault::NotAscending), time(6)?, 1),
-        (
-            Timestamp::POST_STREAM,
-            Some(StreamFault::NotAlone),
-            time(6)?,
-            1,
-        ),
-        (Timestamp::DONE, Some(StreamFault::NotAllowed), time(6)?, 1),
-        (
-            Timestamp::UNSTARTED,
-            Some(StreamFault::NotAllowed),
-            time(6)?,
-            1,
-        ),
-        (time(6)?, None, time(7)?, 2),
-        (Timestamp::MAX, None, Timestamp::ONE_OVER_POST_STREAM, 3),
-        (
-            Timestamp::MAX,
-            Some(StreamFault::NotAscending),
-            Timestamp::ONE_OVER_POST_STREAM,
-            3,
-        ),
-    ];
-    for (at, fault, bound, count) in rows {
-        assert_eq!(rt; send(rt.alloc(), &mut queue, at, 1)?, fault);
-        assert_eq!(rt; look(&queue), (Some(time(5)?), bound, count, count));
+fn assert_calls(rt: &impl Abort, alloc: Global, rows: &str) -> Result<(), Fail> {
+    let mut queue = Queue::new(alloc);
+    for row in rows.split('\n') {
+        assert_call(rt, alloc, &mut queue, row)?;
     }
     Ok(())
 }
 
 #[test]
-fn post_stream_is_alone(rt: HostRuntime) -> Result<(), Fail> {
-    let mut queue = queue_of(rt.alloc());
-    assert_eq!(rt;
-        send(rt.alloc(), &mut queue, Timestamp::POST_STREAM, 1)?,
-        None
-    );
-    let only = (
-        Some(Timestamp::POST_STREAM),
-        Timestamp::ONE_OVER_POST_STREAM,
-        1,
-        1,
-    );
-    assert_eq!(rt; look(&queue), only);
-    // A packet that is gone counts too.
-    let mut queue = queue_of(rt.alloc());
-    assert_eq!(rt; send(rt.alloc(), &mut queue, time(5)?, 1)?, None);
-    assert_eq!(rt; pop(&mut queue, 5)?, Some((time(5)?, 1)));
-    let fault = Some(StreamFault::NotAlone);
-    assert_eq!(rt;
-        send(rt.alloc(), &mut queue, Timestamp::POST_STREAM, 1)?,
-        fault
-    );
-    Ok(())
-}
-
-#[test]
-fn packets_leave_in_order(rt: HostRuntime) -> Result<(), Fail> {
-    let mut queue = queue_of(rt.alloc());
-    assert_eq!(rt; look(&queue), (None, Timestamp::PRE_STREAM, 0, 0));
-    for number in [3, 4, 9] {
-        assert_eq!(rt; send(rt.alloc(), &mut queue, time(number)?, number)?, None);
-    }
-    let rows = [(4, None, 3, 3), (3, Some(3), 4, 2), (4, Some(4), 9, 1)];
-    for (at, number, first, waiting) in rows {
-        let at_time = time(at)?;
-        assert_eq!(rt; pop(&mut queue, at)?, number.map(|n| (at_time, n)));
-        assert_eq!(rt; look(&queue), (Some(time(first)?), time(10)?, waiting, 3));
-    }
-    assert_eq!(rt; pop(&mut queue, 9)?, Some((time(9)?, 9)));
-    assert_eq!(rt; look(&queue), (None, time(10)?, 0, 3));
-    Ok(())
-}
-
-#[test]
-fn bounds_only_rise(rt: HostRuntime) -> Result<(), Fail> {
-    let mut queue = queue_of(rt.alloc());
-    for (bound, then) in [(8, 8), (3, 8), (9, 9)] {
-        raise(&mut queue, bound)?;
-        assert_eq!(rt; look(&queue), (None, time(then)?, 0, 0));
-    }
-    close(&mut queue);
-    assert_eq!(rt; look(&queue), (None, Timestamp::DONE, 0, 0));
-    let fault = Some(StreamFault::NotAscending);
-    assert_eq!(rt; send(rt.alloc(), &mut queue, time(9)?, 1)?, fault);
-    Ok(())
+fn queues_answer_and_show(rt: HostRuntime) -> Result<(), Fail> {
+    let alloc = rt.alloc();
+    assert_calls(&rt, alloc, appends())?;
+    assert_calls(&rt, alloc, alone())?;
+    assert_calls(&rt, alloc, alone_also_after_what_is_gone())?;
+    assert_calls(&rt, alloc, pops())?;
+    assert_calls(&rt, alloc, bounds())
 }
