@@ -1,5 +1,7 @@
-use mg_config::{ConfigFault, GraphConfig, NodeConfig, read, write};
-use mg_names::PortMap;
+//! Configurations: the refusals of files, and the spellings of numbers and truth values.
+
+use crate::config_written::assert_written;
+use mg_config::{ConfigFault, GraphConfig, read};
 use mg_text::parse;
 use std::alloc::{AllocError, Global};
 use std::process::Abort;
@@ -93,12 +95,12 @@ node { executor: 1 } node: 5=UnknownField node[0].executor
 node { calculator: \"C\" buffer_size_hint: 1 buffer_size_hint: 1 } type: 1=Repeated node[0].buffer_size_hint"
 }
 
-// The spelling of a number, and after `=` the number.
+// The spelling of a number, and after `=` the number that is written, if it isn't 0.
 fn numbers() -> &'static str {
-    "0=0
+    "0=
 7=7
 -7=-7
--0=0
+-0=
 2147483647=2147483647
 -2147483648=-2147483648
 0x10=16
@@ -109,22 +111,19 @@ fn numbers() -> &'static str {
 -0x80000000=-2147483648
 010=8
 -017=-15
-00=0
--00=0
+00=
+-00=
 -020000000000=-2147483648
 017777777777=2147483647"
 }
 
-// The spelling of a truth value, and after `=` whether the back edge is kept.
+// The spellings of the truth value of a back edge, which is written, and of one that is none.
 fn truths() -> &'static str {
-    "true=1
-True=1
-t=1
-1=1
-false=0
-False=0
-f=0
-0=0"
+    "true True t 1"
+}
+
+fn falsehoods() -> &'static str {
+    "false False f 0"
 }
 
 fn show_fault(alloc: Global, fault: &ConfigFault) -> Result<String, AllocError> {
@@ -139,63 +138,18 @@ fn show_fault(alloc: Global, fault: &ConfigFault) -> Result<String, AllocError> 
     }
 }
 
-fn show_read(alloc: Global, file: &str) -> Result<String, AllocError> {
-    match parse(alloc, file.as_bytes()) {
-        Err(_) => format!(in alloc; "no text"),
-        Ok(tree) => match read(alloc, &tree) {
-            Ok(_) => format!(in alloc; "a configuration"),
-            Err(fault) => show_fault(alloc, &fault),
-        },
-    }
+/// The configuration of a text, which has the text form, or its refusal.
+pub fn config_of(alloc: Global, file: &[u8]) -> Result<Result<GraphConfig, ConfigFault>, Fail> {
+    Ok(read(alloc, &parse(alloc, file)?))
 }
 
-fn config_of(alloc: Global, file: &str) -> Result<Option<GraphConfig>, AllocError> {
-    match parse(alloc, file.as_bytes()) {
-        Err(_) => Ok(None),
-        Ok(tree) => match read(alloc, &tree) {
-            Ok(config) => Ok(Some(config)),
-            Err(_) => Ok(None),
-        },
-    }
-}
-
-fn assert_refusal(rt: &impl Abort, alloc: Global, row: &str) -> Result<(), AllocError> {
-    if let Some((file, expected)) = row.split_once('=') {
-        let shown = show_read(alloc, file)?;
-        assert!(rt; shown.as_str() == expected, "{row}: {shown}");
-    }
-    Ok(())
-}
-
-fn assert_number(rt: &impl Abort, alloc: Global, row: &str) -> Result<(), AllocError> {
-    if let Some((spelled, expected)) = row.split_once('=') {
-        let file = format!(in alloc; "max_queue_size: {spelled}")?;
-        let config = config_of(alloc, file.as_str())?;
-        match config {
-            Some(config) => {
-                let shown = format!(in alloc; "{}", config.max_queue_size)?;
-                assert!(rt; shown.as_str() == expected, "{row}");
-            }
-            None => assert!(rt; false, "{row}"),
-        }
-    }
-    Ok(())
-}
-
-fn assert_truth(rt: &impl Abort, alloc: Global, row: &str) -> Result<(), AllocError> {
-    if let Some((spelled, expected)) = row.split_once('=') {
-        let file = format!(in alloc;
-            "node {{ calculator: \"C\" input_stream_info {{ tag_index: \":3\" back_edge: {spelled} }} }}"
-        )?;
-        match config_of(alloc, file.as_str())? {
-            Some(config) => match config.nodes.get(0) {
-                Some(node) => {
-                    let shown = format!(in alloc; "{}", node.back_marks.len())?;
-                    assert!(rt; shown.as_str() == expected, "{row}");
-                }
-                None => assert!(rt; false, "{row}"),
-            },
-            None => assert!(rt; false, "{row}"),
+fn assert_refusal(rt: &impl Abort, alloc: Global, row: &str) -> Result<(), Fail> {
+    let (file, wanted) = row.split_once('=').ok_or("no `=`")?;
+    match config_of(alloc, file.as_bytes())? {
+        Ok(_) => assert!(rt; false, "{row}"),
+        Err(fault) => {
+            let shown = show_fault(alloc, &fault)?;
+            assert!(rt; shown.as_str() == wanted, "{row}: {shown}");
         }
     }
     Ok(())
@@ -203,122 +157,66 @@ fn assert_truth(rt: &impl Abort, alloc: Global, row: &str) -> Result<(), AllocEr
 
 #[test]
 fn files_that_are_refused(rt: HostRuntime) -> Result<(), Fail> {
-    let alloc = rt.alloc();
     for row in refusals().split('\n') {
-        assert_refusal(&rt, alloc, row)?;
+        assert_refusal(&rt, rt.alloc(), row)?;
     }
     Ok(())
+}
+
+// The field of a number, or nothing where there is none.
+fn number_field(alloc: Global, number: &str) -> Result<String, AllocError> {
+    if number.is_empty() {
+        return Ok(String::new(alloc));
+    }
+    format!(in alloc; "max_queue_size: {number}\n")
 }
 
 #[test]
 fn spellings_of_numbers(rt: HostRuntime) -> Result<(), Fail> {
     let alloc = rt.alloc();
     for row in numbers().split('\n') {
-        assert_number(&rt, alloc, row)?;
+        let (spelled, number) = row.split_once('=').ok_or("no `=`")?;
+        let file = number_field(alloc, spelled)?;
+        let wanted = number_field(alloc, number)?;
+        assert_written(&rt, alloc, file.as_str(), wanted.as_str())?;
     }
     Ok(())
+}
+
+fn back_edge(alloc: Global, spelled: &str) -> Result<String, AllocError> {
+    format!(in alloc;
+        "node {{ calculator: \"C\" input_stream_info {{ tag_index: \":3\" back_edge: {spelled} }} }}"
+    )
 }
 
 #[test]
 fn spellings_of_truth_values(rt: HostRuntime) -> Result<(), Fail> {
     let alloc = rt.alloc();
-    for row in truths().split('\n') {
-        assert_truth(&rt, alloc, row)?;
+    for spelled in truths().split(' ') {
+        let file = back_edge(alloc, spelled)?;
+        assert_written(&rt, alloc, file.as_str(), node_with_back_edge())?;
+    }
+    for spelled in falsehoods().split(' ') {
+        let file = back_edge(alloc, spelled)?;
+        assert_written(&rt, alloc, file.as_str(), node())?;
     }
     Ok(())
 }
 
-// Files that are read, written and read again.
-fn files() -> &'static str {
-    "input_stream: \"in\" output_stream: \"out\" node { calculator: \"PassThroughCalculator\" input_stream: \"in\" output_stream: \"out\" }
-type: \"T\" max_queue_size: 0x10 num_threads: -1 input_side_packet: \"K:k\" output_side_packet: \"T:1:a\" output_side_packet: \"T:b\"
-node { calculator: \"C\" name: \"n\" node_options { b: 2 } options { a: 1 } input_stream_info { back_edge: t tag_index: \"A:1\" } input_stream_info { tag_index: \":0\" back_edge: 1 } input_stream_handler { input_stream_handler: \"h\" } max_in_flight: 3 buffer_size_hint: 4 }"
+fn node() -> &'static str {
+    r#"node {
+  calculator: "C"
+}
+"#
 }
 
-fn again(alloc: Global, config: &GraphConfig) -> Result<Option<GraphConfig>, AllocError> {
-    let tree = write(alloc, config)?;
-    match read(alloc, &tree) {
-        Ok(again) => Ok(Some(again)),
-        Err(_) => Ok(None),
-    }
+fn node_with_back_edge() -> &'static str {
+    r#"node {
+  calculator: "C"
+  input_stream_info {
+    tag_index: ":3"
+    back_edge: true
+  }
 }
-
-fn assert_again(rt: &impl Abort, alloc: Global, file: &str) -> Result<(), AllocError> {
-    let Some(first) = config_of(alloc, file)? else {
-        assert!(rt; false, "{file}");
-        return Ok(());
-    };
-    let Some(second) = again(alloc, &first)? else {
-        assert!(rt; false, "{file}");
-        return Ok(());
-    };
-    let shown = format!(in alloc; "{first:?}")?;
-    let shown_again = format!(in alloc; "{second:?}")?;
-    assert!(rt; shown.as_str() == shown_again.as_str(), "{file}");
-    Ok(())
-}
-
-#[test]
-fn files_that_are_read_again(rt: HostRuntime) -> Result<(), Fail> {
-    let alloc = rt.alloc();
-    for file in files().split('\n') {
-        assert_again(&rt, alloc, file)?;
-    }
-    Ok(())
-}
-
-fn config_in(alloc: Global, file: &str) -> Result<GraphConfig, Fail> {
-    let tree = parse(alloc, file.as_bytes())?;
-    Ok(read(alloc, &tree)?)
-}
-
-fn pass_through() -> &'static str {
-    r#"input_stream: "in" output_stream: "out"
-node { calculator: "PassThroughCalculator" input_stream: "in" output_stream: "out" }"#
-}
-
-// Whether there is one port, untagged, of a name.
-fn has_one(ports: &PortMap, name: &[u8]) -> bool {
-    match ports.get(0) {
-        Some(port) => {
-            ports.len() == 1 && port.tag.is(b"") && port.index == 0 && port.name.is(name)
-        }
-        None => false,
-    }
-}
-
-fn assert_pass_through_node(rt: &impl Abort, node: &NodeConfig) {
-    assert!(rt; node.name.is(b""));
-    assert!(rt; node.calculator.is(b"PassThroughCalculator"));
-    assert!(rt; has_one(&node.inputs, b"in"));
-    assert!(rt; has_one(&node.outputs, b"out"));
-    assert!(rt; node.input_sides.is_empty() && node.output_sides.is_empty());
-    assert!(rt; node.options.fields.is_empty());
-    assert!(rt; node.back_marks.is_empty());
-    assert!(rt; node.handler.is(b""));
-    assert!(rt; node.max_in_flight == 0 && node.buffer_size_hint == 0);
-}
-
-fn assert_pass_through(rt: &impl Abort, config: &GraphConfig) {
-    assert!(rt; config.type_name.is(b""));
-    assert!(rt; has_one(&config.inputs, b"in"));
-    assert!(rt; has_one(&config.outputs, b"out"));
-    assert!(rt; config.input_sides.is_empty() && config.output_sides.is_empty());
-    assert!(rt; config.max_queue_size == 0 && config.num_threads == 0);
-    assert!(rt; config.nodes.len() == 1);
-    match config.nodes.get(0) {
-        Some(node) => assert_pass_through_node(rt, node),
-        None => assert!(rt; false),
-    }
-}
-
-#[test]
-fn a_pass_through_is_read_again(rt: HostRuntime) -> Result<(), Fail> {
-    let alloc = rt.alloc();
-    let first = config_in(alloc, pass_through())?;
-    assert_pass_through(&rt, &first);
-    let tree = write(alloc, &first)?;
-    let second = read(alloc, &tree)?;
-    assert_pass_through(&rt, &second);
-    Ok(())
+"#
 }

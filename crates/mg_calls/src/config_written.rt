@@ -1,26 +1,47 @@
 //! What is written of configurations, as the canonical text of its fields.
 
-use mg_config::{read, write};
-use mg_text::{parse, print};
+use crate::config::config_of;
+use mg_config::write;
+use mg_text::print;
 use std::alloc::Global;
 use std::process::Abort;
 use std::test::Fail;
 
 // The canonical text of what is written of the configuration that a text tells of.
 fn written(alloc: Global, file: &[u8]) -> Result<Vec<u8>, Fail> {
-    let tree = parse(alloc, file)?;
-    let config = read(alloc, &tree)?;
+    let config = config_of(alloc, file)??;
     let tree = write(alloc, &config)?;
     Ok(print(alloc, &tree)?)
 }
 
-// What is written is written the same when it has been read.
-fn assert_written(rt: &impl Abort, alloc: Global, file: &str, want: &str) -> Result<(), Fail> {
+/// Whether what is written of a configuration is as wanted, and is written the same when it has been read.
+pub fn assert_written(
+    rt: &impl Abort,
+    alloc: Global,
+    file: &str,
+    wanted: &str,
+) -> Result<(), Fail> {
     let once = written(alloc, file.as_bytes())?;
-    assert_eq!(rt; once.as_slice(), want.as_bytes());
+    assert_eq!(rt; once.as_slice(), wanted.as_bytes(), "{file}");
     let again = written(alloc, once.as_slice())?;
-    assert_eq!(rt; again.as_slice(), want.as_bytes());
+    assert_eq!(rt; again.as_slice(), wanted.as_bytes(), "{file}");
     Ok(())
+}
+
+fn pass_through() -> &'static str {
+    r#"input_stream: "in" output_stream: "out"
+node { calculator: "PassThroughCalculator" input_stream: "in" output_stream: "out" }"#
+}
+
+fn pass_through_written() -> &'static str {
+    r#"input_stream: "in"
+output_stream: "out"
+node {
+  calculator: "PassThroughCalculator"
+  input_stream: "in"
+  output_stream: "out"
+}
+"#
 }
 
 // Every field, in another order and spelling than it is written in.
@@ -149,6 +170,11 @@ fn absent_values_left_out() -> &'static str {
   calculator: "C"
 }
 "#
+}
+
+#[test]
+fn a_pass_through_is_written(rt: HostRuntime) -> Result<(), Fail> {
+    assert_written(&rt, rt.alloc(), pass_through(), pass_through_written())
 }
 
 #[test]

@@ -1,3 +1,5 @@
+//! Ports: their spellings, the ports of lists of texts, and the texts of ports.
+
 use mg_names::{NameFault, Port, PortMap, print_port, read_port};
 use mg_value::MgText;
 use std::alloc::{AllocError, Global};
@@ -81,26 +83,72 @@ A:64:a a:b=BadIndex
 a:b A:64:a=BadTag"
 }
 
-fn show_index(alloc: Global, index: Option<u8>) -> Result<String, AllocError> {
-    match index {
-        None => String::from_str(alloc, "-"),
-        Some(index) => format!(in alloc; "{index}"),
-    }
+// A tag, an index, and the place of that port, if there is one: of 64 texts without tags, of 64 with the tag T whose
+// indexes fall, and of none.
+fn places_of_untagged() -> &'static str {
+    " 0=0
+ 63=63
+ 64=-
+T 0=-"
+}
+
+fn places_of_falling() -> &'static str {
+    "T 63=0
+T 0=63
+T 64=-
+ 0=-
+U 0=-"
+}
+
+fn places_of_none() -> &'static str {
+    " 0=-"
+}
+
+// A tag, an index, and the text of the port of that tag and index with the name `b`.
+fn ports() -> &'static str {
+    " 7=b
+T 0=T:b
+T 1=T:1:b
+T 63=T:63:b
+T 255=T:255:b"
+}
+
+fn messages() -> &'static str {
+    "1 the name of a port is faulty
+2 the tag of a port is faulty
+3 the index of a port is faulty
+4 the indexes of a tag have a gap
+5 a tag and index stand twice
+6 out of memory"
 }
 
 fn show_spelling(alloc: Global, text: &str) -> Result<String, AllocError> {
     match read_port(alloc, text.as_bytes()) {
-        Ok(spelling) => {
-            let index = show_index(alloc, spelling.index)?;
-            format!(in alloc;
-                "{}|{}|{}",
-                spelling.tag.as_str(),
-                index.as_str(),
-                spelling.name.as_str()
-            )
-        }
         Err(fault) => format!(in alloc; "{fault:?}"),
+        Ok(port) => match port.index {
+            None => format!(in alloc; "{}|-|{}", port.tag.as_str(), port.name.as_str()),
+            Some(index) => format!(in alloc;
+                "{}|{index}|{}",
+                port.tag.as_str(),
+                port.name.as_str()
+            ),
+        },
     }
+}
+
+fn assert_spelling(rt: &impl Abort, alloc: Global, row: &str) -> Result<(), Fail> {
+    let (text, wanted) = row.split_once('=').ok_or("no `=`")?;
+    let shown = show_spelling(alloc, text)?;
+    assert!(rt; shown.as_str() == wanted, "{row}: {shown}");
+    Ok(())
+}
+
+#[test]
+fn spellings_of_texts(rt: HostRuntime) -> Result<(), Fail> {
+    for row in spellings().split('\n') {
+        assert_spelling(&rt, rt.alloc(), row)?;
+    }
+    Ok(())
 }
 
 fn show_port(shown: &mut String, port: &Port) -> Result<(), AllocError> {
@@ -135,75 +183,22 @@ fn texts_of(alloc: Global, spelled: &str) -> Result<Vec<MgText>, AllocError> {
     Ok(texts)
 }
 
-fn copies_of(alloc: Global, count: u32) -> Result<Vec<MgText>, AllocError> {
-    let mut texts = Vec::new(alloc);
+fn assert_list(rt: &impl Abort, alloc: Global, row: &str) -> Result<(), Fail> {
+    let (spelled, wanted) = row.split_once('=').ok_or("no `=`")?;
+    let texts = texts_of(alloc, spelled)?;
+    let shown = show_list(alloc, texts.as_slice())?;
+    assert!(rt; shown.as_str() == wanted, "{row}: {shown}");
+    Ok(())
+}
+
+// So many copies of `a`, and then another text.
+fn untagged_and(alloc: Global, count: u32, last: &str) -> Result<String, AllocError> {
+    let mut spelled = String::new(alloc);
     for _ in 0..count {
-        texts.push(MgText::new(alloc, "a")?)?;
+        spelled.push_str("a ")?;
     }
-    Ok(texts)
-}
-
-fn indexed_down(alloc: Global, count: u8) -> Result<Vec<MgText>, AllocError> {
-    let mut texts = Vec::new(alloc);
-    for index in (0..count).rev() {
-        let text = format!(in alloc; "T:{index}:a")?;
-        texts.push(MgText::from_string(text))?;
-    }
-    Ok(texts)
-}
-
-fn assert_spelling(rt: &impl Abort, alloc: Global, row: &str) -> Result<(), AllocError> {
-    if let Some((text, expected)) = row.split_once('=') {
-        let shown = show_spelling(alloc, text)?;
-        assert!(rt; shown.as_str() == expected, "{row}");
-    }
-    Ok(())
-}
-
-fn assert_list(rt: &impl Abort, alloc: Global, row: &str) -> Result<(), AllocError> {
-    if let Some((spelled, expected)) = row.split_once('=') {
-        let texts = texts_of(alloc, spelled)?;
-        let shown = show_list(alloc, texts.as_slice())?;
-        assert!(rt; shown.as_str() == expected, "{row}");
-    }
-    Ok(())
-}
-
-fn assert_text(
-    rt: &impl Abort,
-    alloc: Global,
-    tag: &str,
-    index: u8,
-    expected: &str,
-) -> Result<(), AllocError> {
-    let port = Port {
-        tag: MgText::new(alloc, tag)?,
-        index,
-        name: MgText::new(alloc, "b")?,
-    };
-    let text = print_port(alloc, &port)?;
-    assert!(rt; text.as_str() == expected, "{expected}");
-    Ok(())
-}
-
-fn assert_message(
-    rt: &impl Abort,
-    alloc: Global,
-    fault: NameFault,
-    expected: &str,
-) -> Result<(), AllocError> {
-    let text = format!(in alloc; "{} {fault}", fault as u8)?;
-    assert!(rt; text.as_str() == expected, "{expected}");
-    Ok(())
-}
-
-#[test]
-fn spellings_of_texts(rt: HostRuntime) -> Result<(), Fail> {
-    let alloc = rt.alloc();
-    for row in spellings().split('\n') {
-        assert_spelling(&rt, alloc, row)?;
-    }
-    Ok(())
+    spelled.push_str(last)?;
+    Ok(spelled)
 }
 
 #[test]
@@ -212,94 +207,100 @@ fn ports_of_lists(rt: HostRuntime) -> Result<(), Fail> {
     for row in lists().split('\n') {
         assert_list(&rt, alloc, row)?;
     }
+    // The 65th untagged port has no index, whatever its name.
+    for last in ["a=BadIndex", "A=BadIndex"] {
+        assert_list(&rt, alloc, untagged_and(alloc, 64, last)?.as_str())?;
+    }
     Ok(())
 }
 
+fn falling(alloc: Global, count: u8) -> Result<Vec<MgText>, AllocError> {
+    let mut texts = Vec::new(alloc);
+    for index in (0..count).rev() {
+        let text = format!(in alloc; "T:{index}:a")?;
+        texts.push(MgText::from_string(text))?;
+    }
+    Ok(texts)
+}
+
+fn show_place(alloc: Global, map: &PortMap, tag: &str, index: u8) -> Result<String, AllocError> {
+    match map.find(tag.as_bytes(), index) {
+        None => String::from_str(alloc, "-"),
+        Some(place) => format!(in alloc; "{place}"),
+    }
+}
+
+fn assert_places(rt: &impl Abort, alloc: Global, map: &PortMap, rows: &str) -> Result<(), Fail> {
+    for row in rows.split('\n') {
+        let (port, wanted) = row.split_once('=').ok_or("no `=`")?;
+        let (tag, index) = port.split_once(' ').ok_or("no index")?;
+        let shown = show_place(alloc, map, tag, index.parse::<u8>()?)?;
+        assert!(rt; shown.as_str() == wanted, "{row}: {shown}");
+    }
+    Ok(())
+}
+
+fn assert_read_places(
+    rt: &impl Abort,
+    alloc: Global,
+    texts: &[MgText],
+    rows: &str,
+) -> Result<(), Fail> {
+    assert_places(rt, alloc, &PortMap::read(alloc, texts)?, rows)
+}
+
 #[test]
-fn untagged_ports_up_to_sixty_four(rt: HostRuntime) -> Result<(), Fail> {
+fn places_of_ports(rt: HostRuntime) -> Result<(), Fail> {
     let alloc = rt.alloc();
-    let mut texts = copies_of(alloc, 64)?;
-    let map = PortMap::read(alloc, texts.as_slice())?;
-    assert_eq!(rt; map.find(b"", 63), Some(63));
-    assert_eq!(rt; map.find(b"", 64), None);
-    texts.push(MgText::new(alloc, "a")?)?;
-    assert!(rt; show_list(alloc, texts.as_slice())?.as_str() == "BadIndex");
-    Ok(())
+    let untagged = texts_of(alloc, untagged_and(alloc, 63, "a")?.as_str())?;
+    assert_read_places(&rt, alloc, untagged.as_slice(), places_of_untagged())?;
+    let falling = falling(alloc, 64)?;
+    assert_read_places(&rt, alloc, falling.as_slice(), places_of_falling())?;
+    assert_places(&rt, alloc, &PortMap::new(alloc), places_of_none())
 }
 
-#[test]
-fn index_goes_before_name(rt: HostRuntime) -> Result<(), Fail> {
-    let alloc = rt.alloc();
-    let mut texts = copies_of(alloc, 64)?;
-    texts.push(MgText::new(alloc, "A")?)?;
-    assert!(rt; show_list(alloc, texts.as_slice())?.as_str() == "BadIndex");
-    Ok(())
+fn show_text(alloc: Global, tag: &str, index: u8) -> Result<MgText, AllocError> {
+    let port = Port {
+        tag: MgText::new(alloc, tag)?,
+        index,
+        name: MgText::new(alloc, "b")?,
+    };
+    print_port(alloc, &port)
 }
 
-#[test]
-fn tagged_ports_in_any_order(rt: HostRuntime) -> Result<(), Fail> {
-    let alloc = rt.alloc();
-    let texts = indexed_down(alloc, 64)?;
-    let map = PortMap::read(alloc, texts.as_slice())?;
-    assert_eq!(rt; map.find(b"T", 63), Some(0));
-    assert_eq!(rt; map.find(b"T", 0), Some(63));
-    assert_eq!(rt; map.find(b"U", 0), None);
+fn assert_text(rt: &impl Abort, alloc: Global, row: &str) -> Result<(), Fail> {
+    let (port, wanted) = row.split_once('=').ok_or("no `=`")?;
+    let (tag, index) = port.split_once(' ').ok_or("no index")?;
+    let text = show_text(alloc, tag, index.parse::<u8>()?)?;
+    assert!(rt; text.as_str() == wanted, "{row}");
     Ok(())
-}
-
-#[test]
-fn no_ports(rt: HostRuntime) {
-    let map = PortMap::new(rt.alloc());
-    assert_eq!(rt; map.len(), 0);
-    assert!(rt; map.is_empty());
-    assert!(rt; map.get(0).is_none());
-    assert_eq!(rt; map.find(b"", 0), None);
 }
 
 #[test]
 fn texts_of_ports(rt: HostRuntime) -> Result<(), Fail> {
-    let alloc = rt.alloc();
-    assert_text(&rt, alloc, "", 7, "b")?;
-    assert_text(&rt, alloc, "T", 0, "T:b")?;
-    assert_text(&rt, alloc, "T", 1, "T:1:b")?;
-    assert_text(&rt, alloc, "T", 63, "T:63:b")?;
-    assert_text(&rt, alloc, "T", 255, "T:255:b")?;
+    for row in ports().split('\n') {
+        assert_text(&rt, rt.alloc(), row)?;
+    }
     Ok(())
+}
+
+fn show_fault(alloc: Global, fault: NameFault) -> Result<String, AllocError> {
+    format!(in alloc; "{} {fault}", fault as u8)
 }
 
 #[test]
 fn numbers_and_messages(rt: HostRuntime) -> Result<(), Fail> {
-    let alloc = rt.alloc();
-    assert_message(
-        &rt,
-        alloc,
+    let faults = [
         NameFault::BadName,
-        "1 the name of a port is faulty",
-    )?;
-    assert_message(
-        &rt,
-        alloc,
         NameFault::BadTag,
-        "2 the tag of a port is faulty",
-    )?;
-    assert_message(
-        &rt,
-        alloc,
         NameFault::BadIndex,
-        "3 the index of a port is faulty",
-    )?;
-    assert_message(
-        &rt,
-        alloc,
         NameFault::Gap,
-        "4 the indexes of a tag have a gap",
-    )?;
-    assert_message(
-        &rt,
-        alloc,
         NameFault::Twice,
-        "5 a tag and index stand twice",
-    )?;
-    assert_message(&rt, alloc, NameFault::OutOfMemory, "6 out of memory")?;
+        NameFault::OutOfMemory,
+    ];
+    for (fault, wanted) in faults.iter().zip(messages().split('\n')) {
+        let shown = show_fault(rt.alloc(), *fault)?;
+        assert!(rt; shown.as_str() == wanted, "{shown}");
+    }
     Ok(())
 }
