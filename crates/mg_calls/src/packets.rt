@@ -1,7 +1,7 @@
 //! Timestamps and packets in the tables of tests: a timestamp as `print_text` writes it, a payload as its number.
 
 use mg_time::Timestamp;
-use mg_value::{Packet, Payload};
+use mg_value::{InputSet, Packet, Payload};
 use std::alloc::Global;
 use std::sync::Arc;
 use std::test::Fail;
@@ -33,8 +33,28 @@ pub fn packet_of(alloc: Global, text: &str) -> Result<Packet, Fail> {
     })
 }
 
-/// The number of a packet.
-pub fn number_of(packet: &Packet) -> i64 {
+/// The timestamp and the number of a packet.
+pub fn show_packet(alloc: Global, packet: &Packet) -> Result<String, Fail> {
+    let at = text_of(alloc, packet.at)?;
+    Ok(format!(in alloc; "{} {}", at.as_str(), number_of(packet))?)
+}
+
+/// The numbers at the ports of a set.
+pub fn show_set(alloc: Global, set: &InputSet) -> Result<String, Fail> {
+    let mut shown = String::new(alloc);
+    for port in 0..set.len() {
+        if port > 0 {
+            shown.push_str(" ")?;
+        }
+        match set.get(port) {
+            None => shown.push_str("-")?,
+            Some(packet) => write!(shown, "{}", number_of(packet))?,
+        }
+    }
+    Ok(shown)
+}
+
+fn number_of(packet: &Packet) -> i64 {
     let Payload::Int(number) = &*packet.payload;
     *number
 }

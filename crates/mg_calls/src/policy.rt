@@ -1,6 +1,6 @@
 //! Inboxes: the next settled set, or why there is none.
 
-use crate::packets::{number_of, packet_of, text_of, time_of};
+use crate::packets::{packet_of, show_set, text_of, time_of};
 use mg_policy::{Inbox, Readiness};
 use mg_value::InputSet;
 use std::alloc::Global;
@@ -56,23 +56,14 @@ fn raise(alloc: Global, inbox: &mut Inbox, port: u32, bound: &str) -> Result<(),
     Ok(())
 }
 
-// The number at a port of a set, if there is one.
-fn show_port(alloc: Global, set: &InputSet, port: u32) -> Result<String, Fail> {
-    match set.get(port) {
-        None => Ok(String::from_str(alloc, "-")?),
-        Some(packet) => Ok(format!(in alloc; "{}", number_of(packet))?),
-    }
-}
-
 // The numbers at both ports of the next set.
 fn claim(alloc: Global, inbox: &mut Inbox) -> Result<String, Fail> {
     let mut set = InputSet::new(alloc, inbox.ports())?;
     if !inbox.claim(&mut set) {
         return Ok(String::from_str(alloc, "none; ")?);
     }
-    let first = show_port(alloc, &set, 0)?;
-    let second = show_port(alloc, &set, 1)?;
-    Ok(format!(in alloc; "{} {}; ", first.as_str(), second.as_str())?)
+    let shown = show_set(alloc, &set)?;
+    Ok(format!(in alloc; "{}; ", shown.as_str())?)
 }
 
 fn answer(alloc: Global, inbox: &mut Inbox, call: &str) -> Result<String, Fail> {

@@ -1,8 +1,7 @@
 //! Queues: what each call answers, and what the queue shows then.
 
-use crate::packets::{number_of, packet_of, text_of, time_of};
+use crate::packets::{packet_of, show_packet, text_of, time_of};
 use mg_stream::Queue;
-use mg_value::Packet;
 use std::alloc::Global;
 use std::process::Abort;
 use std::test::Fail;
@@ -49,18 +48,12 @@ close=ok - Done 0 0
 append 9 1=NotAscending 9 1; - Done 0 0"
 }
 
-// A packet's time and number.
-fn show_packet(alloc: Global, packet: &Packet) -> Result<String, Fail> {
-    let at = text_of(alloc, packet.at)?;
-    Ok(format!(in alloc; "{} {};", at.as_str(), number_of(packet))?)
-}
-
 fn append(alloc: Global, queue: &mut Queue, packet: &str) -> Result<String, Fail> {
     match queue.append(packet_of(alloc, packet)?) {
         Ok(()) => Ok(String::from_str(alloc, "ok")?),
         Err(refused) => {
             let packet = show_packet(alloc, &refused.packet)?;
-            Ok(format!(in alloc; "{:?} {}", refused.cause, packet.as_str())?)
+            Ok(format!(in alloc; "{:?} {};", refused.cause, packet.as_str())?)
         }
     }
 }
@@ -68,7 +61,10 @@ fn append(alloc: Global, queue: &mut Queue, packet: &str) -> Result<String, Fail
 fn pop(alloc: Global, queue: &mut Queue, at: &str) -> Result<String, Fail> {
     match queue.pop_at(time_of(alloc, at)?) {
         None => Ok(String::from_str(alloc, "-")?),
-        Some(packet) => show_packet(alloc, &packet),
+        Some(packet) => {
+            let packet = show_packet(alloc, &packet)?;
+            Ok(format!(in alloc; "{};", packet.as_str())?)
+        }
     }
 }
 
