@@ -1,4 +1,5 @@
 pub mod Extension
+pub mod Left
 pub mod Loopback
 pub mod Payload
 pub mod Prefix

@@ -8,6 +8,7 @@ pub mod laws;
 mod list;
 mod packet;
 mod payload;
+mod policy;
 mod prefix;
 mod text;
 
@@ -15,6 +16,7 @@ pub use input_set::InputSet;
 pub use list::List;
 pub use packet::{Packet, PacketList};
 pub use payload::Payload;
+pub use policy::Policy;
 pub use prefix::Prefix;
 pub use text::MgText;
 
