@@ -6,7 +6,7 @@ use Rattle.std.proofs.lemmas.Bool.{cases_Bool, false≢true}
 use Rattle.mg_value.specs.Prefix.{Stamped, StreamPrefix}
 use Rattle.mg_value.specs.Settled.{low, times_of, all_times, settled_times, settled_sets, packet_at, set_at, TimedSet, is_among, without, after_sets}
 use Rattle.mg_value.proofs.Times.{In, Rises, same_members, In-append_from, In-append_left, In-append_right, In-is_among, is_among-false, Rises-drop, In-drop, not-In-take, In-take_or_drop, map_agree}
-use Rattle.mg_value.proofs.SettledSets.{settled_from, settled_to, settled_rises}
+use Rattle.mg_value.proofs.SettledTimes.{settled_from, settled_to, settled_rises}
 
 -- packets without those at some times
 abbrev pub left_of : {X : Type 0} → List ℕ → List (Stamped X) → List (Stamped X)

@@ -1,6 +1,13 @@
 pub mod AfterSets
+pub mod Climbs
+pub mod DefaultSets
+pub mod Examples
 pub mod Extending
-pub mod PrefixSteps
-pub mod SettledSets
-pub mod Times
+pub mod Fronts
 pub mod LoopbackStream
+pub mod MuxSets
+pub mod PolicySets
+pub mod Ports
+pub mod PrefixSteps
+pub mod SettledTimes
+pub mod Times

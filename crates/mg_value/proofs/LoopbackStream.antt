@@ -10,7 +10,7 @@ use Rattle.mg_value.specs.Settled.{times_of, packet_at}
 use Rattle.mg_value.specs.Loopback.{is_answered, answer, loopback}
 use Rattle.mg_value.proofs.Times.{Rises, Rises-lower}
 use Rattle.mg_value.proofs.PrefixSteps.{next_above, Ascends-rises, first_time-most}
-use Rattle.mg_value.proofs.SettledSets.{packet_at-append, not-In-above}
+use Rattle.mg_value.proofs.SettledTimes.{packet_at-append, not-In-above}
 
 -- the answers to the packets of a list, and the time up to which they are told
 abbrev answers : {X : Type 0} → StreamPrefix X → List (Stamped X) → List (Stamped X)
@@ -93,7 +93,7 @@ loopback_is_prefix {X} main loop h =
       opened = ends.0;
       within = ends.1;
       allowed = All-from_recursion (λ (r : Stamped X). IsAllowed r.at) (answers loop main.packets) (Each-answer IsAllowed loop main.packets allowed);
-      ascending = asc loop main.packets main.bound allowed h.ascending;
+      ascends = asc loop main.packets main.bound allowed h.ascends;
       alone = All-weaker (λ (r : Stamped X). r.at ≡ post_stream → ⊥) (λ (r : Stamped X). r.at ≡ post_stream → length (answers loop main.packets) ≡ 1) (λ r out e. absurd (out e)) (answers loop main.packets)
           (All-from_recursion (λ (r : Stamped X). r.at ≡ post_stream → ⊥) (answers loop main.packets) (not_post loop main.packets h.alone));
     }
@@ -149,5 +149,5 @@ extended_answers {X} loop more e (p ∷ q ∷ qs) fs b c above le allowed r = el
 pub loopback_extends : {X : Type 0} (main wider loop more : StreamPrefix X) → IsPrefix wider → IsExtendedBy main wider → IsExtendedBy loop more → IsExtendedBy (loopback main loop) (loopback wider more)
 loopback_extends {X} main wider loop more h e f =
     let allowed : AllByRecursion (λ (p : Stamped X). IsAllowed p.at) (main.packets ++ e.further) = rw e.packets at (recursion_from_All (λ (p : Stamped X). IsAllowed p.at) wider.packets h.allowed) in
-    let ascending : Ascends (main.packets ++ e.further) wider.bound = rw e.packets at h.ascending in
+    let ascending : Ascends (main.packets ++ e.further) wider.bound = rw e.packets at h.ascends in
     rw e.packets (extended_answers loop more f main.packets e.further main.bound wider.bound e.above e.bound allowed ascending)

@@ -1,4 +1,4 @@
--- Settled times and sets: what their members are, that they only grow, and what is left after the first of them.
+-- The settled times of the default policy, and what stands at them: their members, and that they only grow.
 use Rattle.std.proofs.Common.{◌≡◌, ℕ, zero, suc, ◌+◌, ◌<◌, ◌≤◌, true, ◌⊎◌, inl, inr, List, [], ◌∷◌, ◌++◌, map, take, drop, length, filter, All, Option, None, ap, ap₂, refl, ◌∙◌, arith, ltb, eqb, ltb-true, lt-ltb, ne_eqb, eq-eqb, is_some, suc-add, length-append}
 use Rattle.std.proofs.lemmas.List.{length-map}
 use Rattle.std.specs.List.{AllByRecursion, list_any}
@@ -8,19 +8,19 @@ use Rattle.std.proofs.lemmas.List.Elements.{All-from_recursion, All-head, All-ta
 use Rattle.mg_value.specs.Prefix.{Stamped, StreamPrefix}
 use Rattle.mg_value.specs.Extension.{AreExtendedBy}
 use Rattle.mg_value.specs.Settled.{low, times_of, all_times, settled_times, settled_sets, packet_at, set_at, TimedSet}
-use Rattle.mg_value.proofs.Times.{In, Rises, first_members, In-ascending_from, In-ascending_to, Rises-ascending, In-filter_from, In-filter_to, In-append_from, In-append_left, In-append_right, map_agree}
+use Rattle.mg_value.proofs.Times.{In, Rises, first_members, In-in_order_from, In-in_order_to, Rises-in_order, In-filter_from, In-filter_to, In-append_from, In-append_left, In-append_right, map_agree}
 
 -- the members of the settled times
 pub settled_from : {X : Type 0} (ss : List (StreamPrefix X)) (t : ℕ) → In t (settled_times ss) → (t < low ss) × In t (all_times ss)
 settled_from ss t i =
-    let kept = In-filter_from (λ u. ltb u (low ss)) t (all_times ss) (In-ascending_from t _ i) in
+    let kept = In-filter_from (λ u. ltb u (low ss)) t (all_times ss) (In-in_order_from t _ i) in
     (ltb-true t (low ss) kept.0, kept.1)
 
 pub settled_to : {X : Type 0} (ss : List (StreamPrefix X)) (t : ℕ) → t < low ss → In t (all_times ss) → In t (settled_times ss)
-settled_to ss t below i = In-ascending_to t _ (In-filter_to (λ u. ltb u (low ss)) t (all_times ss) (lt-ltb t (low ss) below) i)
+settled_to ss t below i = In-in_order_to t _ (In-filter_to (λ u. ltb u (low ss)) t (all_times ss) (lt-ltb t (low ss) below) i)
 
 pub settled_rises : {X : Type 0} (ss : List (StreamPrefix X)) → Rises 0 (settled_times ss)
-settled_rises ss = Rises-ascending (filter (λ t. ltb t (low ss)) (all_times ss))
+settled_rises ss = Rises-in_order (filter (λ t. ltb t (low ss)) (all_times ss))
 
 -- the times of appended packets
 pub In-times_of_append_from : {X : Type 0} (t : ℕ) (ps qs : List (Stamped X)) → In t (times_of (ps ++ qs)) → In t (times_of ps) ⊎ In t (times_of qs)
@@ -95,22 +95,6 @@ settled_times_first ss tt e =
     (λ t i. (let was = settled_from ss t i in (was.0, settled_to tt t (let up = low_rises ss tt e in omega (arith, up, was.0)) (In-all_times_extended ss tt e t was.1))))
     (λ t below i. (let is = settled_from tt t i in settled_to ss t below (In-all_times_below ss tt e t below is.1)))
 
-pub map-append : {X : Type 0} {Y : Type 0} (f : X → Y) (xs ys : List X) → map f (xs ++ ys) ≡ map f xs ++ map f ys
-map-append f [] ys = refl
-map-append {X} {Y} f (x ∷ xs) ys = ap (λ (rest : List Y). f x ∷ rest) (map-append f xs ys)
-
-pub take-length_append : {X : Type 0} (xs ys : List X) → take (length xs) (xs ++ ys) ≡ xs
-take-length_append [] ys = refl
-take-length_append {X} (x ∷ xs) ys = ap (λ (rest : List X). x ∷ rest) (take-length_append xs ys)
-
-pub settled_sets_first : {X : Type 0} (ss tt : List (StreamPrefix X)) → AreExtendedBy ss tt → take (length (settled_sets ss)) (settled_sets tt) ≡ settled_sets ss
-settled_sets_first {X} ss tt e =
-    let set_of = λ (rs : List (StreamPrefix X)) (t : ℕ). (let it : TimedSet X = record { at = t; set = set_at t rs } in it) in
-    let later = drop (length (settled_times ss)) (settled_times tt) in
-    let split : settled_sets tt ≡ map (set_of tt) (settled_times ss) ++ map (set_of tt) later = ap (λ (times : List ℕ). map (set_of tt) times) (settled_times_first ss tt e) ∙ map-append (set_of tt) (settled_times ss) later in
-    let same : map (set_of tt) (settled_times ss) ≡ settled_sets ss = map_agree (set_of tt) (set_of ss) (settled_times ss) (λ t i. ap (λ (set : List (Option (Stamped X))). (let it : TimedSet X = record { at = t; set = set } in it)) (set_at_extended ss tt e t (settled_from ss t i).0)) in
-    rw (split, same) (take-length_append (settled_sets ss) (map (set_of tt) later))
-
 -- rising times increase strictly, place by place
 pub Rises-increasing : (a : ℕ) (ts : List ℕ) → Rises a ts → IsStrictlyIncreasing ts
 Rises-increasing a [] r k below = absurd (omega (arith, below))
@@ -121,22 +105,6 @@ Rises-increasing a (t ∷ u ∷ us) r (suc k) below = rw suc-add (Rises-increasi
 pub All-members : (P : ℕ → Type 0) (ts : List ℕ) → ((t : ℕ) → In t ts → P t) → AllByRecursion P ts
 All-members P [] each = tt
 All-members P (t ∷ ts) each = (each t (inl refl), All-members P ts (λ u i. each u (inr i)))
-
--- the times of the settled sets are the settled times
-pub times_of_sets : {X : Type 0} (ss : List (StreamPrefix X)) → map (λ e. e.at) (settled_sets ss) ≡ settled_times ss
-times_of_sets {X} ss = back (λ t. set_at t ss) (settled_times ss)
-  where
-    back : (f : ℕ → List (Option (Stamped X))) (ts : List ℕ) → map (λ (e : TimedSet X). e.at) (map (λ t. record { at = t; set = f t }) ts) ≡ ts
-    back f [] = refl
-    back f (t ∷ ts) = ap (λ (rest : List ℕ). t ∷ rest) (back f ts)
-
--- a fact of each settled time and its set is one of each settled set
-pub All-sets : {X : Type 0} (P : TimedSet X → Type 0) (ss : List (StreamPrefix X)) → ((t : ℕ) → In t (settled_times ss) → P (record { at = t; set = set_at t ss })) → All P (settled_sets ss)
-All-sets {X} P ss each = All-from_recursion P (settled_sets ss) (go (settled_times ss) each)
-  where
-    go : (ts : List ℕ) → ((t : ℕ) → In t ts → P (record { at = t; set = set_at t ss })) → AllByRecursion P (map (λ t. record { at = t; set = set_at t ss }) ts)
-    go [] each = tt
-    go (t ∷ ts) each = (each t (inl refl), go ts (λ u i. each u (inr i)))
 
 -- at the time of a packet the set shows one
 pub packet_at-some : {X : Type 0} (t : ℕ) (ps : List (Stamped X)) → In t (times_of ps) → is_some (packet_at t ps) ≡ true
@@ -152,10 +120,6 @@ set_at-shows t (s ∷ ss) i = elim (In-append_from t (times_of s.packets) (all_t
   | inl first ↦ or_left _ _ (packet_at-some t s.packets first)
   | inr later ↦ or_right _ _ (set_at-shows t ss later)
 ]
-
--- as many settled sets as settled times, and extension takes none away
-pub length-settled_sets : {X : Type 0} (ss : List (StreamPrefix X)) → length (settled_sets ss) ≡ length (settled_times ss)
-length-settled_sets {X} ss = length-map (settled_times ss) (λ t. (let it : TimedSet X = record { at = t; set = set_at t ss } in it))
 
 pub settled_times_grow : {X : Type 0} (ss tt : List (StreamPrefix X)) → AreExtendedBy ss tt → length (settled_times ss) ≤ length (settled_times tt)
 settled_times_grow ss tt e = omega (arith, ap length (settled_times_first ss tt e), length-append (settled_times ss) (drop (length (settled_times ss)) (settled_times tt)))
