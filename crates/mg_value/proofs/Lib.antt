@@ -1,10 +1,15 @@
 pub mod AfterSets
 pub mod Climbs
+pub mod DefaultLeft
 pub mod DefaultSets
 pub mod Examples
 pub mod Extending
 pub mod Fronts
+pub mod Going
+pub mod Leaves
+pub mod Leaving
 pub mod LoopbackStream
+pub mod MuxLeft
 pub mod MuxSets
 pub mod PolicySets
 pub mod Ports

@@ -185,3 +185,12 @@ pub In-take : (t k : ℕ) (ts : List ℕ) → In t (take k ts) → In t ts
 In-take t zero ts i = absurd i
 In-take t (suc k) [] i = i
 In-take t (suc k) (u ∷ us) i = elim i [ inl e ↦ inl e | inr j ↦ inr (In-take t k us j) ]
+
+-- the first times of a rising list stand below the others
+pub take-below-drop : (a k u t : ℕ) (ts : List ℕ) → Rises a ts → In u (take k ts) → In t (drop k ts) → u < t
+take-below-drop a zero u t ts r i j = absurd i
+take-below-drop a (suc k) u t [] r i j = absurd i
+take-below-drop a (suc k) u t (v ∷ vs) r i j = elim i [
+  | inl e ↦ (let above = Rises-least (v + 1) t vs r.1 (In-drop t k vs j) in omega (arith, e, above))
+  | inr m ↦ take-below-drop (v + 1) k u t vs r.1 m j
+]
