@@ -1,4 +1,5 @@
 pub mod AfterSets
+pub mod ClaimedPackets
 pub mod Climbs
 pub mod DefaultLeft
 pub mod DefaultSets
@@ -6,6 +7,7 @@ pub mod Examples
 pub mod Extending
 pub mod Fronts
 pub mod Going
+pub mod GonePackets
 pub mod Leaves
 pub mod Leaving
 pub mod LoopbackStream
