@@ -29,7 +29,7 @@ settled_more ss ts e p here = rw (← same_ports ss ts e)
     (passes_by (selected (length ss) p.value) (λ i. ltb p.at (port_of ss i).bound) (λ i. ltb p.at (port_of ts i).bound)
     (λ i below. (let le = (port-extended ss ts e i).bound in lt-ltb p.at (port_of ts i).bound (omega (arith, ltb-true p.at (port_of ss i).bound below, le)))) here)
 
-packet_at-extended : {X : Type 0} (s t : StreamPrefix X) → IsExtendedBy s t → (u : ℕ) → u < s.bound → packet_at u t.packets ≡ packet_at u s.packets
+pub packet_at-extended : {X : Type 0} (s t : StreamPrefix X) → IsExtendedBy s t → (u : ℕ) → u < s.bound → packet_at u t.packets ≡ packet_at u s.packets
 packet_at-extended s t e u below = rw e.packets (packet_at-append u s.packets e.further (not-In-above s.bound u e.further e.above below))
 
 pub same_set : (ss ts : List (StreamPrefix Plain)) → AreExtendedBy ss ts → (p : Stamped Plain) → is_settled ss p ≡ true → set_of ts p ≡ set_of ss p
