@@ -28,8 +28,12 @@ impl Model for Inbox {
     ghost use Rattle.std.specs.Prelude.{List, ◌<◌, ◌^◌, vec_len};
     ghost use Rattle.mg_value.specs.Payload.{Plain};
     ghost use Rattle.mg_stream.specs.Queue.{Waiting};
+    ghost use Rattle.mg_stream.specs.Codes.{waiting_code};
+    ghost use Rattle.std.specs.Coded.{coded_list};
 
     ghost Value = { List (Waiting Plain) };
+
+    ghost coded = { coded_list waiting_code };
 
     ghost view = { λ i. i.queues.items };
 

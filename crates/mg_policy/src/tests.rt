@@ -48,6 +48,7 @@ fn number_at(set: &InputSet, port: u32) -> Option<i64> {
     let packet = set.get(port)?;
     match &*packet.payload {
         Payload::Int(number) => Some(*number),
+        _ => None,
     }
 }
 

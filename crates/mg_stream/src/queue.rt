@@ -23,8 +23,11 @@ pub struct Queue {
 impl Model for Queue {
     ghost use Rattle.mg_value.specs.Payload.{Plain};
     ghost use Rattle.mg_stream.specs.Queue.{Waiting, IsQueue};
+    ghost use Rattle.mg_stream.specs.Codes.{waiting_code};
 
     ghost Value = { Waiting Plain };
+
+    ghost coded = { waiting_code };
 
     ghost use Rattle.mg_stream.specs.QueueView.{queue_view};
 

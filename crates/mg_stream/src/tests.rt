@@ -41,8 +41,10 @@ fn send(
 
 /// The timestamp and the number of a packet.
 fn number_of(packet: Packet) -> (Timestamp, i64) {
-    let Payload::Int(number) = &*packet.payload;
-    (packet.at, *number)
+    match &*packet.payload {
+        Payload::Int(number) => (packet.at, *number),
+        _ => (packet.at, i64::MIN),
+    }
 }
 
 /// The packet that leaves at a timestamp.

@@ -4,20 +4,26 @@
 #![tactic(auto)]
 
 mod input_set;
+mod kind;
 pub mod laws;
 mod list;
 mod packet;
 mod payload;
+mod payload_list;
 mod policy;
 mod prefix;
+mod record_list;
 mod text;
 
 pub use input_set::InputSet;
+pub use kind::Kind;
 pub use list::List;
 pub use packet::{Packet, PacketList};
 pub use payload::Payload;
+pub use payload_list::PayloadList;
 pub use policy::Policy;
 pub use prefix::Prefix;
+pub use record_list::{Entry, RecordList};
 pub use text::MgText;
 
 #[cfg(test)]

@@ -16,8 +16,7 @@ fn copies_share(rt: HostRuntime) -> Result<(), Fail> {
     let first = packet(rt.alloc(), 5, -7)?;
     let second = first.try_clone()?;
     assert_eq!(rt; second.at.raw(), 5);
-    let Payload::Int(number) = &*second.payload;
-    assert_eq!(rt; *number, -7);
+    assert_eq!(rt; matches!(&*second.payload, Payload::Int(-7)), true);
     let list = PacketList::from_vec(vec![in rt.alloc(); first, second]?).map_err(|_| "too long")?;
     let prefix = Prefix {
         packets: list,
@@ -29,8 +28,10 @@ fn copies_share(rt: HostRuntime) -> Result<(), Fail> {
 
 /// The number at a port, or none.
 fn number_at(set: &InputSet, port: u32) -> Option<i64> {
-    let Payload::Int(number) = &*set.get(port)?.payload;
-    Some(*number)
+    match &*set.get(port)?.payload {
+        Payload::Int(number) => Some(*number),
+        _ => None,
+    }
 }
 
 /// Puts a packet, or none, at a port that is there.
