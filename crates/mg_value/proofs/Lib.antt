@@ -8,6 +8,7 @@ pub mod Extending
 pub mod Fronts
 pub mod Going
 pub mod GonePackets
+pub mod LeadingPackets
 pub mod Leaves
 pub mod Leaving
 pub mod LoopbackStream

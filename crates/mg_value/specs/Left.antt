@@ -1,12 +1,12 @@
 -- What is left of a node's input streams once its first settled sets are claimed. Definitions speak of the whole prefixes
 -- of these streams, one per port, and of how many of their first packets are gone.
-use Rattle.std.specs.Prelude.{ℕ, Bool, true, false, not, List, map, take, drop, length, zip, All, IsTrue, slice_index_or, filter, ◌≡◌, ◌+◌, ◌<◌, ◌≤◌, ◌==◌, nat_le}
+use Rattle.std.specs.Prelude.{ℕ, Bool, true, false, not, List, map, take, drop, length, zip, All, IsTrue, IsSome, slice_index_or, filter, ◌≡◌, ◌+◌, ◌<◌, ◌≤◌, ◌==◌, nat_le}
 use Rattle.std.specs.List.{list_any}
 use Rattle.mg_value.specs.Payload.{Plain}
 use Rattle.mg_value.specs.declared.policy.Policy.{Policy}
 use Rattle.mg_value.specs.declared.policy.Policy.TheVariants.{Default, Mux}
 use Rattle.mg_value.specs.Prefix.{StreamPrefix}
-use Rattle.mg_value.specs.Settled.{settled_sets, port_of, is_among}
+use Rattle.mg_value.specs.Settled.{settled_sets, port_of, packet_at, is_among}
 
 -- the times of the settled sets
 abbrev pub set_times : Policy → List (StreamPrefix Plain) → List ℕ
@@ -35,6 +35,13 @@ without_first gone ss = map (λ e. record { packets = drop e.0 e.1.packets; boun
 abbrev pub leads : Policy → ℕ → ℕ → Bool
 leads Default ports i = true
 leads Mux ports i = i + 1 == ports
+
+-- at a port that leads stands a packet at a time
+pub record HasLeadingPacket (policy : Policy) (ss : List (StreamPrefix Plain)) (t : ℕ) : Type 0 where
+  pub port : ℕ
+  pub there : port < length ss
+  pub lead : IsTrue (leads policy (length ss) port)
+  pub packet : IsSome (packet_at t (port_of ss port).packets)
 
 -- so many first packets of a prefix are gone as the claim of the sets at some times allows: each of them goes with these
 -- sets; and where the port leads no other packet does

@@ -9,7 +9,7 @@ ghost use Rattle.mg_value.specs.Prefix.{Stamped, StreamPrefix, IsPrefix, MayFoll
 ghost use Rattle.mg_value.specs.Extension.{IsExtendedBy, AreExtendedBy};
 ghost use Rattle.mg_value.specs.Loopback.{loopback, replies};
 ghost use Rattle.mg_value.specs.Settled.{low, times_of, all_times, is_among, settled_times, settled_sets, reach, IsBelowBounds};
-ghost use Rattle.mg_value.specs.Left.{set_times, after_sets, without_first, AreGone};
+ghost use Rattle.mg_value.specs.Left.{set_times, after_sets, without_first, HasLeadingPacket, AreGone};
 
 /// A prefix is extended by itself.
 pub fn extension_is_reflexive()
@@ -72,6 +72,13 @@ pub fn settled_sets_ascend()
     ensures reach { (policy : Policy) (ss : List (StreamPrefix Plain)) → All IsPrefix ss → All (λ e. e.at < reach policy ss) (settled_sets policy ss) }
     ensures places { (policy : Policy) (ss : List (StreamPrefix Plain)) → All (λ e. length e.set ≡ length ss) (settled_sets policy ss) }
     ensures shown { (policy : Policy) (ss : List (StreamPrefix Plain)) → All (λ e. IsTrue (list_any is_some e.set)) (settled_sets policy ss) }
+{}
+
+/// Each settled set stands at the time of a packet of a port that leads, and each such packet below the reach has its set.
+pub fn settled_sets_are_of_leading_packets()
+    ensures of { (policy : Policy) (ss : List (StreamPrefix Plain)) → All (λ e. HasLeadingPacket policy ss e.at) (settled_sets policy ss) }
+    ensures all { (policy : Policy) (ss : List (StreamPrefix Plain)) (t : ℕ) → All IsPrefix ss → HasLeadingPacket policy ss t → t < reach policy ss
+        → IsTrue (is_among (set_times policy ss) t) }
 {}
 
 /// Where prefixes are extended, their settled sets stay, and others come only behind them, at the reach or above; where
