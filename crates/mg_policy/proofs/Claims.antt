@@ -1,12 +1,12 @@
 -- What the look over some queues tells of their next set by default, and what a claim leaves.
-use Rattle.std.proofs.Common.{◌≡◌, ℕ, ◌+◌, ◌<◌, ◌≤◌, List, [], ◌∷◌, map, drop, All, Some, None, slice_get, length, get_or, IsTrue, ap, sym, refl, ◌∙◌, arith}
+use Rattle.std.proofs.Common.{◌≡◌, ℕ, ◌+◌, ◌<◌, ◌≤◌, List, [], ◌∷◌, map, drop, All, Some, None, slice_get, length, ap, sym, refl, ◌∙◌, arith}
 use Rattle.std.specs.List.{AllZip, AllByRecursion}
 use Rattle.std.proofs.lemmas.List.{get_or-map, length-map}
 use Rattle.std.proofs.lemmas.List.Elements.{recursion_from_All, All-from_recursion, All-map}
 use Rattle.mg_time.specs.Time.{done}
 use Rattle.mg_value.specs.Payload.{Plain}
 use Rattle.mg_value.specs.declared.policy.Policy.TheVariants.{Default}
-use Rattle.mg_value.specs.Prefix.{Stamped, StreamPrefix, IsPrefix, closed, empty_prefix}
+use Rattle.mg_value.specs.Prefix.{StreamPrefix, IsPrefix, closed, empty_prefix}
 use Rattle.mg_value.specs.Settled.{low, settled_sets, set_at, TimedSet}
 use Rattle.mg_value.specs.Left.{after_sets}
 use Rattle.mg_value.proofs.AfterSets.{sets-after}

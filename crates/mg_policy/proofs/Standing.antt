@@ -5,7 +5,7 @@ use Rattle.std.proofs.lemmas.List.{length-replicate}
 use Rattle.std.proofs.lemmas.List.Elements.{recursion_from_All, All-from_recursion}
 use Rattle.mg_value.specs.Payload.{Plain}
 use Rattle.mg_value.specs.declared.policy.Policy.{Policy}
-use Rattle.mg_value.specs.Prefix.{Stamped, StreamPrefix, IsPrefix, empty_prefix}
+use Rattle.mg_value.specs.Prefix.{StreamPrefix, IsPrefix, empty_prefix}
 use Rattle.mg_value.specs.Extension.{AreExtendedBy}
 use Rattle.mg_value.specs.Settled.{settled_sets, reach}
 use Rattle.mg_value.specs.Left.{after_sets, without_first, AreGone}

@@ -1,14 +1,14 @@
 -- What is left when the first settled sets are claimed, for each policy.
-use Rattle.std.proofs.Common.{◌≡◌, ℕ, ◌<◌, Bool, false, List, map, take, drop, length, All, IsTrue, ap, refl}
+use Rattle.std.proofs.Common.{◌≡◌, ℕ, Bool, List, map, take, drop, All, refl}
 use Rattle.std.proofs.lemmas.List.{length-map, get_or-map}
 use Rattle.mg_value.specs.Payload.{Plain}
 use Rattle.mg_value.specs.declared.policy.Policy.{Policy}
 use Rattle.mg_value.specs.declared.policy.Policy.TheVariants.{Default, Mux}
 use Rattle.mg_value.specs.Prefix.{StreamPrefix, IsPrefix, closed, empty_prefix}
 use Rattle.mg_value.specs.Settled.{settled_sets, reach, port_of}
-use Rattle.mg_value.specs.Left.{set_times, goes, without, after_sets, leads}
+use Rattle.mg_value.specs.Left.{set_times, goes, without, after_sets}
 use Rattle.mg_value.proofs.Leaving.{packet_at-left_of}
-use Rattle.mg_value.proofs.Leaves.{Leaves, AllLeave}
+use Rattle.mg_value.proofs.Leaves.{AllLeave}
 use Rattle.mg_value.proofs.DefaultLeft.{default_sets-left, default_reach-left}
 use Rattle.mg_value.proofs.MuxLeft.{mux_sets-left, mux_reach-left}
 

@@ -1,16 +1,16 @@
 -- The packets that are gone with a further claim.
-use Rattle.std.proofs.Common.{◌≡◌, ℕ, zero, suc, ◌+◌, ◌<◌, ◌≤◌, Bool, true, false, ◌⊎◌, inl, inr, List, [], ◌∷◌, ◌++◌, ◌||◌, map, take, drop, length, length-drop, get_or, All, IsTrue, ap, sym, refl, ◌∙◌, arith}
-use Rattle.std.specs.List.{AllZip, AllByRecursion}
+use Rattle.std.proofs.Common.{◌≡◌, ℕ, zero, suc, ◌+◌, ◌<◌, ◌≤◌, Bool, true, false, inl, inr, List, [], ◌∷◌, ◌++◌, ◌||◌, map, take, drop, length, get_or, All, IsTrue, ap, sym, refl, ◌∙◌, arith}
+use Rattle.std.specs.List.{AllZip}
 use Rattle.std.proofs.Math.Seq.{take-add}
 use Rattle.std.proofs.lemmas.Bool.{cases_Bool, or_left, or_right, or_from}
-use Rattle.std.proofs.lemmas.List.{take-map, drop-map, length-map, get_or-map}
-use Rattle.std.proofs.lemmas.List.Elements.{recursion_from_All, All-from_recursion, AllZip-get_or, length_all_zip}
+use Rattle.std.proofs.lemmas.List.{take-map, drop-map, get_or-map}
+use Rattle.std.proofs.lemmas.List.Elements.{recursion_from_All, All-from_recursion}
 use Rattle.mg_value.specs.Payload.{Plain}
 use Rattle.mg_value.specs.declared.policy.Policy.{Policy}
 use Rattle.mg_value.specs.Prefix.{Stamped, StreamPrefix, IsPrefix, closed, empty_prefix}
 use Rattle.mg_value.specs.Settled.{TimedSet, times_of, settled_sets, port_of}
 use Rattle.mg_value.specs.Left.{set_times, goes, without, after_sets, without_first, leads, MayBeGone, AreGone}
-use Rattle.mg_value.proofs.Times.{In, Rises, not-In-take, In-take_or_drop, In-take}
+use Rattle.mg_value.proofs.Times.{In, not-In-take, In-take_or_drop, In-take}
 use Rattle.mg_value.proofs.Leaving.{left_of, In-left_of_from, In-left_of_to, each-packet, each-time}
 use Rattle.mg_value.proofs.Going.{goes-append}
 use Rattle.mg_value.proofs.Climbs.{prefix-rises}

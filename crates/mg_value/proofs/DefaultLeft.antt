@@ -1,5 +1,5 @@
 -- What is left when the first settled sets of the default policy are claimed.
-use Rattle.std.proofs.Common.{◌≡◌, ℕ, zero, suc, ◌<◌, Bool, true, false, inl, inr, List, [], ◌∷◌, map, take, drop, length, Option, get_or, ap, ap₂, sym, refl, ◌∙◌, arith}
+use Rattle.std.proofs.Common.{◌≡◌, ℕ, ◌<◌, Bool, false, inl, inr, List, [], ◌∷◌, map, take, drop, length, Option, ap, ap₂, sym, refl, ◌∙◌, arith}
 use Rattle.std.proofs.lemmas.Bool.{false≢true}
 use Rattle.std.proofs.lemmas.List.{drop-map, length-map, get_or-map, get_or_default, same_lists}
 use Rattle.mg_value.specs.Payload.{Plain}
@@ -11,7 +11,7 @@ use Rattle.mg_value.proofs.Times.{In, Rises, same_members, In-append_from, In-ap
 use Rattle.mg_value.proofs.Leaving.{left_of, In-left_of_from, In-left_of_to, packet_at-left_of}
 use Rattle.mg_value.proofs.SettledTimes.{settled_from, settled_to, settled_rises}
 use Rattle.mg_value.proofs.DefaultSets.{set_of, default_times}
-use Rattle.mg_value.proofs.Leaves.{Leaves, AllLeave}
+use Rattle.mg_value.proofs.Leaves.{AllLeave}
 
 pub low-without : {X : Type 0} (test : ℕ → Bool) (ss : List (StreamPrefix X)) → low (map (without test) ss) ≡ low ss
 low-without test [] = refl

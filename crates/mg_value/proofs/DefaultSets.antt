@@ -1,6 +1,6 @@
 -- The settled sets of the default policy: where they stand, and that they stay where prefixes are extended.
-use Rattle.std.proofs.Common.{◌≡◌, ℕ, zero, suc, ◌+◌, ◌<◌, ◌≤◌, inl, inr, List, [], ◌∷◌, ◌++◌, map, take, drop, length, length-take, All, Option, ap, sym, refl, ◌∙◌, arith, IsTrue, is_some}
-use Rattle.std.specs.List.{AllByRecursion, list_any}
+use Rattle.std.proofs.Common.{◌≡◌, ℕ, ◌<◌, ◌≤◌, inl, inr, List, [], ◌∷◌, map, take, drop, length, All, Option, ap, refl, ◌∙◌, arith}
+use Rattle.std.specs.List.{AllByRecursion}
 use Rattle.std.proofs.lemmas.Bool.{cases_lt}
 use Rattle.std.proofs.lemmas.List.{take-map, drop-map, length-map, take_at}
 use Rattle.std.proofs.lemmas.List.Elements.{All-from_recursion, All-map}
@@ -9,10 +9,10 @@ use Rattle.mg_value.specs.Payload.{Plain}
 use Rattle.mg_value.specs.declared.policy.Policy.TheVariants.{Default}
 use Rattle.mg_value.specs.Prefix.{Stamped, StreamPrefix, IsPrefix}
 use Rattle.mg_value.specs.Extension.{AreExtendedBy}
-use Rattle.mg_value.specs.Settled.{TimedSet, low, packet_at, set_at, all_times, settled_times, settled_sets}
+use Rattle.mg_value.specs.Settled.{TimedSet, low, set_at, settled_times, settled_sets}
 use Rattle.mg_value.specs.Left.{set_times}
-use Rattle.mg_value.proofs.Times.{In, Rises, map_agree, In-drop, not-In-take}
-use Rattle.mg_value.proofs.SettledTimes.{settled_from, settled_to, settled_rises, settled_times_first, set_at_extended, low_rises, In-all_times_below, set_at-shows, All-members}
+use Rattle.mg_value.proofs.Times.{In, map_agree, In-drop, not-In-take}
+use Rattle.mg_value.proofs.SettledTimes.{settled_from, settled_to, settled_rises, settled_times_first, set_at_extended, In-all_times_below, All-members}
 
 -- the set at a time, with the time
 abbrev pub set_of : List (StreamPrefix Plain) → ℕ → TimedSet Plain

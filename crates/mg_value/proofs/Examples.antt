@@ -1,11 +1,11 @@
 -- The definitions at a few small inputs.
-use Rattle.std.proofs.Common.{◌≡◌, ℕ, List, [], ◌∷◌, Option, Some, None, refl, ℤ, pos}
+use Rattle.std.proofs.Common.{◌≡◌, ℕ, List, [], ◌∷◌, Some, None, refl, pos}
 use Rattle.mg_value.specs.Payload.{Plain, int}
 use Rattle.mg_value.specs.declared.policy.Policy.TheVariants.{Default, Mux}
 use Rattle.mg_value.specs.Prefix.{Stamped, StreamPrefix}
-use Rattle.mg_value.specs.Settled.{settled_sets, reach, TimedSet}
+use Rattle.mg_value.specs.Settled.{settled_sets, reach}
 use Rattle.mg_value.specs.Left.{after_sets, set_times}
-use Rattle.mg_value.specs.Loopback.{loopback, replies}
+use Rattle.mg_value.specs.Loopback.{loopback}
 
 -- a packet of a number, and a prefix of packets
 abbrev pk : ℕ → ℕ → Stamped Plain

@@ -1,22 +1,20 @@
 -- The packets that are gone when the first settled sets are claimed, told by their numbers.
-use Rattle.std.proofs.Common.{◌≡◌, ℕ, zero, suc, ◌+◌, ◌<◌, ◌≤◌, Bool, true, false, inl, inr, List, [], ◌∷◌, ◌++◌, map, take, drop, zip, length, length-append, length-take, replicate, get_or, All, IsTrue, ap, ap₂, subst, sym, refl, ◌∙◌, arith}
-use Rattle.std.specs.List.{AllZip, AllByRecursion}
-use Rattle.std.proofs.Math.Seq.{take-add}
-use Rattle.std.proofs.lemmas.Bool.{cases_Bool, cases_lt, or_left, or_right, or_from, false≢true, eqb-true}
-use Rattle.std.proofs.lemmas.List.{take-map, drop-map, take-take, take-append-le, drop-append-le, length-map, length-replicate, get_or-map, get_or-replicate, get_or_past}
-use Rattle.std.proofs.lemmas.List.Elements.{recursion_from_All, All-from_recursion, All-append, All-weaker, All-head, All-tail, AllZip-get_or}
+use Rattle.std.proofs.Common.{◌≡◌, ℕ, zero, suc, ◌+◌, ◌<◌, ◌≤◌, Bool, true, false, inl, inr, List, [], ◌∷◌, map, take, drop, length, length-append, length-take, replicate, get_or, All, IsTrue, ap, subst, sym, refl, ◌∙◌, arith}
+use Rattle.std.specs.List.{AllByRecursion}
+use Rattle.std.proofs.lemmas.Bool.{eqb-true}
+use Rattle.std.proofs.lemmas.List.{take-map, take-take, take-append-le, drop-append-le, length-replicate, get_or-replicate}
+use Rattle.std.proofs.lemmas.List.Elements.{recursion_from_All, All-append, All-weaker}
 use Rattle.mg_value.specs.Payload.{Plain}
 use Rattle.mg_value.specs.declared.policy.Policy.{Policy}
 use Rattle.mg_value.specs.declared.policy.Policy.TheVariants.{Default, Mux}
 use Rattle.mg_value.specs.Prefix.{Stamped, StreamPrefix, IsPrefix, closed, empty_prefix}
 use Rattle.mg_value.specs.Extension.{IsExtendedBy, AreExtendedBy}
-use Rattle.mg_value.specs.Settled.{TimedSet, times_of, settled_sets, reach, port_of, IsBelowBounds}
-use Rattle.mg_value.specs.Left.{set_times, goes, without, after_sets, without_first, leads, MayBeGone, AreGone}
-use Rattle.mg_value.proofs.Times.{In, Rises, not-In-take, In-take_or_drop, In-take}
-use Rattle.mg_value.proofs.Leaving.{left_of, In-left_of_from, In-left_of_to, left_of-first, packet_at-drop, each-packet, each-time}
-use Rattle.mg_value.proofs.Going.{goes-above, goes-none, goes-append}
-use Rattle.mg_value.proofs.Climbs.{prefix-rises}
-use Rattle.mg_value.proofs.Ports.{port-prefix, port-extended, same_ports}
+use Rattle.mg_value.specs.Settled.{TimedSet, settled_sets, reach, port_of, IsBelowBounds}
+use Rattle.mg_value.specs.Left.{set_times, goes, without_first, leads, MayBeGone, AreGone}
+use Rattle.mg_value.proofs.Times.{In, In-take}
+use Rattle.mg_value.proofs.Leaving.{left_of-first, packet_at-drop}
+use Rattle.mg_value.proofs.Going.{goes-above, goes-none}
+use Rattle.mg_value.proofs.Ports.{port-extended, same_ports}
 use Rattle.mg_value.proofs.PolicySets.{sets-stay, below-bounds}
 use Rattle.mg_value.proofs.Leaves.{Leaves, AllLeave}
 use Rattle.mg_value.proofs.AfterSets.{sets-left, reach-left}

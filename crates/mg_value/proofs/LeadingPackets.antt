@@ -1,19 +1,19 @@
 -- The settled sets stand at the times of packets of the ports that lead.
-use Rattle.std.proofs.Common.{◌≡◌, ℕ, zero, suc, ◌+◌, ◌-◌, ◌<◌, ◌≤◌, true, false, inl, inr, List, [], ◌∷◌, map, take, drop, length, All, IsTrue, sym, refl, ap, ◌∙◌, arith, eq-eqb, eqb-true, subst}
+use Rattle.std.proofs.Common.{◌≡◌, ℕ, zero, suc, ◌+◌, ◌-◌, ◌<◌, ◌≤◌, true, false, inl, inr, List, [], ◌∷◌, map, take, drop, length, All, IsTrue, sym, refl, ◌∙◌, arith, eq-eqb, eqb-true, subst}
 use Rattle.std.specs.List.{AllByRecursion, prefix_len}
 use Rattle.std.proofs.lemmas.Bool.{cases_lt, cases_Bool, false≢true}
 use Rattle.std.proofs.lemmas.List.{get_or_past, take-map, drop-map}
-use Rattle.std.proofs.lemmas.List.Elements.{All-from_recursion, recursion_from_All, All-head}
+use Rattle.std.proofs.lemmas.List.Elements.{All-from_recursion}
 use Rattle.std.proofs.lemmas.List.Folds.{length-prefix_len}
 use Rattle.mg_value.specs.Payload.{Plain}
 use Rattle.mg_value.specs.declared.policy.Policy.{Policy}
 use Rattle.mg_value.specs.declared.policy.Policy.TheVariants.{Default, Mux}
 use Rattle.mg_value.specs.Prefix.{Stamped, StreamPrefix, IsPrefix, first_time, closed, empty_prefix}
-use Rattle.mg_value.specs.Settled.{TimedSet, low, times_of, all_times, packet_at, is_among, port_of, select_of, is_settled, settled_selects, settled_sets, reach}
+use Rattle.mg_value.specs.Settled.{TimedSet, times_of, all_times, is_among, port_of, select_of, is_settled, settled_sets, reach}
 use Rattle.mg_value.specs.Left.{set_times, leads, HasLeadingPacket}
 use Rattle.mg_value.proofs.Times.{In, In-take, In-take_or_drop, In-append_from, In-append_left, In-append_right, is_among-In, In-is_among}
-use Rattle.mg_value.proofs.Climbs.{prefix-climbs, Climbs-drop, Climbs-first, Climbs-from, Climbs}
-use Rattle.mg_value.proofs.Leaving.{each-packet, each-time}
+use Rattle.mg_value.proofs.Climbs.{prefix-climbs, Climbs-drop, Climbs-from, Climbs}
+use Rattle.mg_value.proofs.Leaving.{each-time}
 use Rattle.mg_value.proofs.Ports.{select-prefix}
 use Rattle.mg_value.proofs.SettledTimes.{settled_from, settled_to, packet_at-some, packet_at-none}
 use Rattle.mg_value.proofs.DefaultSets.{default_times}

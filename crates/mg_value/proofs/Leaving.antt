@@ -1,5 +1,5 @@
 -- Packets without those at the times that pass a test.
-use Rattle.std.proofs.Common.{◌≡◌, ℕ, zero, suc, ◌≤◌, Bool, true, false, not, inl, inr, List, [], ◌∷◌, take, drop, length, filter, ap, refl, sym, ◌∙◌, eqb, eqb-true, arith, subst}
+use Rattle.std.proofs.Common.{◌≡◌, ℕ, zero, suc, Bool, true, false, not, inl, inr, List, [], ◌∷◌, take, drop, filter, ap, refl, sym, ◌∙◌, eqb, eqb-true, subst}
 use Rattle.std.specs.List.{AllByRecursion}
 use Rattle.std.proofs.lemmas.Bool.{cases_Bool, false≢true}
 use Rattle.mg_value.specs.Prefix.{Stamped}

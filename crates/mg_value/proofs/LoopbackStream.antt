@@ -1,5 +1,5 @@
 -- The loopback's output stream is a prefix, and what extends its inputs extends it.
-use Rattle.std.proofs.Common.{◌≡◌, ℕ, suc, ◌+◌, ◌<◌, ◌≤◌, true, inl, inr, List, [], ◌∷◌, ◌++◌, zip, map, take, drop, filter_map, length, All, Option, Some, None, option_map, ap, ap₂, sym, refl, ◌∙◌, arith, ltb, lt-ltb, ltb-true}
+use Rattle.std.proofs.Common.{◌≡◌, ℕ, ◌≤◌, true, inl, inr, List, [], ◌∷◌, ◌++◌, zip, map, take, drop, filter_map, length, All, Option, Some, None, option_map, ap, sym, refl, ◌∙◌, arith, lt-ltb, ltb-true}
 use Rattle.std.specs.List.{AllByRecursion, cons_option, prefix_len, take_while}
 use Rattle.std.proofs.lemmas.Bool.{cases_Bool}
 use Rattle.std.proofs.lemmas.List.{take-map, take_all, length-map}
@@ -9,7 +9,6 @@ use Rattle.std.proofs.lemmas.List.Elements.{All-from_recursion, recursion_from_A
 use Rattle.mg_time.specs.Time.{next, done, pre_stream, post_stream, IsAllowed}
 use Rattle.mg_value.specs.Prefix.{Stamped, StreamPrefix, IsPrefix, Ascends, StandsAlone, first_time}
 use Rattle.mg_value.specs.Extension.{IsExtendedBy}
-use Rattle.mg_value.specs.Settled.{packet_at}
 use Rattle.mg_value.specs.Loopback.{with_previous, is_answered, Reply, reply, replies, packet_of, loopback}
 use Rattle.mg_value.proofs.PrefixSteps.{next_above, first_time-most}
 use Rattle.mg_value.proofs.Climbs.{Ascends-climbs, Climbs-from}

@@ -1,16 +1,16 @@
 -- What is left when the first settled sets under Mux are claimed.
-use Rattle.std.proofs.Common.{◌≡◌, ℕ, zero, suc, ◌+◌, ◌-◌, ◌<◌, ◌≤◌, min, Bool, true, false, inl, inr, List, [], ◌∷◌, map, take, drop, length, All, Option, Some, IsTrue, get_or, set, ap, ap₂, sym, refl, ◌∙◌, arith, ltb, eq-eqb, eqb}
+use Rattle.std.proofs.Common.{◌≡◌, ℕ, zero, suc, ◌+◌, ◌-◌, ◌<◌, ◌≤◌, min, Bool, true, false, inl, inr, List, [], ◌∷◌, map, take, drop, length, All, Option, set, ap, ap₂, sym, refl, ◌∙◌, arith, ltb, eq-eqb}
 use mathlib.Core.Path.{fun_ext}
 use Rattle.std.specs.List.{AllByRecursion, prefix_len, take_while}
 use Rattle.std.proofs.lemmas.Bool.{cases_lt}
-use Rattle.std.proofs.lemmas.List.{drop-map, take-map, drop-drop, take-take, take_min, drop_min, length-map, length-drop, get_or_past, take_all}
+use Rattle.std.proofs.lemmas.List.{drop-map, take-map, drop-drop, take-take, take_min, drop_min, length-map, length-drop, get_or_past}
 use Rattle.std.proofs.lemmas.List.Elements.{All-from_recursion, recursion_from_All, All-weaker}
 use Rattle.std.proofs.lemmas.List.Folds.{length-prefix_len}
 use Rattle.mg_value.specs.Payload.{Plain}
 use Rattle.mg_value.specs.declared.policy.Policy.TheVariants.{Mux}
 use Rattle.mg_value.specs.Prefix.{Stamped, StreamPrefix, IsPrefix, first_time, closed, empty_prefix}
 use Rattle.mg_value.specs.Settled.{TimedSet, times_of, packet_at, port_of, select_of, selected, is_settled, settled_selects, select_alone, settled_sets, reach}
-use Rattle.mg_value.specs.Left.{set_times, goes, leads}
+use Rattle.mg_value.specs.Left.{set_times, goes}
 use Rattle.mg_value.proofs.Times.{In, Rises, take-below-drop}
 use Rattle.mg_value.proofs.Leaving.{left_of, left_of-first, each-packet}
 use Rattle.mg_value.proofs.Going.{goes-here, goes-above}

@@ -1,5 +1,5 @@
 -- The settled sets under Mux: where they stand, and that they stay where prefixes are extended.
-use Rattle.std.proofs.Common.{◌≡◌, ℕ, zero, suc, ◌+◌, ◌-◌, ◌<◌, ◌≤◌, Bool, true, false, cond, inl, inr, List, [], ◌∷◌, ◌++◌, map, take, drop, length, replicate, All, Option, Some, None, IsTrue, IsSomeAnd, is_some, option_map, unwrap_or, set, get_or, pos, ap, sym, refl, ◌∙◌, arith, ltb, ltb-true, lt-ltb}
+use Rattle.std.proofs.Common.{◌≡◌, ℕ, zero, suc, ◌+◌, ◌-◌, ◌<◌, ◌≤◌, Bool, true, false, cond, inl, inr, List, [], ◌∷◌, ◌++◌, map, take, drop, length, replicate, All, Option, Some, None, IsTrue, IsSomeAnd, is_some, option_map, unwrap_or, set, get_or, pos, ap, refl, ◌∙◌, arith, ltb, ltb-true, lt-ltb}
 use Rattle.std.specs.List.{prefix_len, take_while, list_any, AllByRecursion}
 use Rattle.std.proofs.lemmas.Bool.{cases_Bool, cases_lt, or_left, or_right}
 use Rattle.std.proofs.lemmas.List.{take-map, drop-map, length-map, length-set, length-replicate, get_or-set_same, get_or-set_other, get_or_past}

@@ -1,6 +1,6 @@
 -- The settled sets of each policy, one sentence for all.
 use Rattle.std.proofs.Common.{◌≡◌, ℕ, ◌<◌, ◌≤◌, List, [], ◌∷◌, ◌++◌, take, drop, length, All, IsTrue, is_some, sym, refl, ◌∙◌, ap, arith, append-nil}
-use Rattle.std.specs.List.{AllByRecursion, list_any}
+use Rattle.std.specs.List.{list_any}
 use Rattle.std.proofs.lemmas.List.{take-append-drop, length-map}
 use Rattle.std.proofs.lemmas.List.Elements.{recursion_from_All, All-from_recursion, All-head, All-drop}
 use Rattle.mg_time.specs.Time.{pre_stream, done}
@@ -9,7 +9,7 @@ use Rattle.mg_value.specs.declared.policy.Policy.{Policy}
 use Rattle.mg_value.specs.declared.policy.Policy.TheVariants.{Default, Mux}
 use Rattle.mg_value.specs.Prefix.{StreamPrefix, IsPrefix}
 use Rattle.mg_value.specs.Extension.{AreExtendedBy}
-use Rattle.mg_value.specs.Settled.{TimedSet, low, settled_times, settled_sets, reach, set_at, IsBelowBounds}
+use Rattle.mg_value.specs.Settled.{TimedSet, low, settled_sets, reach, IsBelowBounds}
 use Rattle.mg_value.specs.Left.{set_times}
 use Rattle.mg_value.proofs.Times.{Rises}
 use Rattle.mg_value.proofs.SettledTimes.{settled_from, settled_rises, low_rises, set_at-shows}

@@ -1,9 +1,9 @@
 -- The prefix of a port by its number.
-use Rattle.std.proofs.Common.{◌≡◌, ℕ, ◌<◌, ◌≤◌, ◌-◌, inl, inr, List, length, get_or, map, All, Option, Some, None, option_map, unwrap_or, true, Bool, ap, sym, refl, ◌∙◌, arith, subst}
+use Rattle.std.proofs.Common.{◌≡◌, ℕ, ◌≤◌, ◌-◌, inl, inr, List, length, All, Option, Some, None, option_map, unwrap_or, true, Bool, refl, arith, subst}
 use Rattle.std.proofs.lemmas.Bool.{cases_lt}
-use Rattle.std.proofs.lemmas.List.{get_or_past, get_or-map, length-map}
+use Rattle.std.proofs.lemmas.List.{get_or_past}
 use Rattle.std.proofs.lemmas.List.Elements.{AllZip-get_or, length_all_zip}
-use Rattle.mg_value.specs.Prefix.{Stamped, StreamPrefix, IsPrefix, closed, empty_prefix}
+use Rattle.mg_value.specs.Prefix.{StreamPrefix, IsPrefix, closed, empty_prefix}
 use Rattle.mg_value.specs.Extension.{IsExtendedBy, AreExtendedBy}
 use Rattle.mg_value.specs.Settled.{port_of, select_of}
 use Rattle.mg_value.proofs.PrefixSteps.{empty_is_prefix, closed_is_prefix}

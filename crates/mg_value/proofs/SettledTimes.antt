@@ -1,14 +1,13 @@
 -- The settled times of the default policy, and what stands at them: their members, and that they only grow.
-use Rattle.std.proofs.Common.{◌≡◌, ℕ, zero, suc, ◌+◌, ◌<◌, ◌≤◌, true, ◌⊎◌, inl, inr, List, [], ◌∷◌, ◌++◌, map, take, drop, length, filter, All, Option, None, ap, ap₂, refl, ◌∙◌, arith, ltb, eqb, ltb-true, lt-ltb, ne_eqb, eq-eqb, is_some, suc-add, length-append}
-use Rattle.std.proofs.lemmas.List.{length-map}
+use Rattle.std.proofs.Common.{◌≡◌, ℕ, zero, suc, ◌+◌, ◌<◌, ◌≤◌, true, ◌⊎◌, inl, inr, List, [], ◌∷◌, ◌++◌, take, drop, length, filter, All, Option, None, ap, ap₂, refl, ◌∙◌, arith, ltb, eqb, ltb-true, lt-ltb, ne_eqb, eq-eqb, is_some, suc-add, length-append}
 use Rattle.std.specs.List.{AllByRecursion, list_any}
 use Rattle.std.specs.List.Sorted.{IsStrictlyIncreasing}
 use Rattle.std.proofs.lemmas.Bool.{cases_Bool, or_left, or_right}
-use Rattle.std.proofs.lemmas.List.Elements.{All-from_recursion, All-head, All-tail}
+use Rattle.std.proofs.lemmas.List.Elements.{All-head, All-tail}
 use Rattle.mg_value.specs.Prefix.{Stamped, StreamPrefix}
 use Rattle.mg_value.specs.Extension.{AreExtendedBy}
-use Rattle.mg_value.specs.Settled.{low, times_of, all_times, settled_times, settled_sets, packet_at, set_at, TimedSet}
-use Rattle.mg_value.proofs.Times.{In, Rises, first_members, In-in_order_from, In-in_order_to, Rises-in_order, In-filter_from, In-filter_to, In-append_from, In-append_left, In-append_right, map_agree}
+use Rattle.mg_value.specs.Settled.{low, times_of, all_times, settled_times, packet_at, set_at}
+use Rattle.mg_value.proofs.Times.{In, Rises, first_members, In-in_order_from, In-in_order_to, Rises-in_order, In-filter_from, In-filter_to, In-append_from, In-append_left, In-append_right}
 
 -- the members of the settled times
 pub settled_from : {X : Type 0} (ss : List (StreamPrefix X)) (t : ℕ) → In t (settled_times ss) → (t < low ss) × In t (all_times ss)
