@@ -10,7 +10,7 @@ use Rattle.mg_value.specs.Prefix.{Stamped, StreamPrefix, IsPrefix, first_time}
 use Rattle.mg_value.specs.Settled.{low, times_of, all_times, settled_times, settled_sets, packet_at, set_at, is_among, TimedSet}
 use Rattle.mg_value.specs.Left.{without, after_sets}
 use Rattle.mg_value.proofs.Times.{In, Rises, Rises-least, In-append_from, In-append_left, In-append_right}
-use Rattle.mg_value.proofs.PrefixSteps.{Ascends-rises}
+use Rattle.mg_value.proofs.Climbs.{Climbs-rises, prefix-climbs}
 use Rattle.mg_value.proofs.SettledTimes.{settled_from, settled_to, settled_rises, packet_at-none}
 use Rattle.mg_value.proofs.Leaving.{left_of}
 use Rattle.mg_value.proofs.DefaultSets.{low_most, default_times}
@@ -25,7 +25,7 @@ AreRests qs = AllByRecursion (λ q. IsPrefix (rest_of q)) qs
 -- the times that wait in a queue rise from the first
 rest_rises : {X : Type 0} (ps : List (Stamped X)) (b c : ℕ) → IsPrefix (record { packets = ps; bound = b }) → Rises (first_time ps c) (times_of ps)
 rest_rises [] b c h = tt
-rest_rises {X} (p ∷ ps) b c h = Ascends-rises p.at b (p ∷ ps) (recursion_from_All (λ (r : Stamped X). IsAllowed r.at) (p ∷ ps) h.allowed) h.ascends (omega arith)
+rest_rises {X} (p ∷ ps) b c h = (omega arith, Climbs-rises (p.at + 1) b ps (prefix-climbs (record { packets = p ∷ ps; bound = b }) h).1)
 
 -- no time that waits is before the earliest
 pub earliest_least : {X : Type 0} (qs : List (Waiting X)) → AreRests qs → (t : ℕ) → In t (all_times (rests qs)) → earliest qs ≤ t

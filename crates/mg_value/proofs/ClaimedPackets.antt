@@ -11,18 +11,11 @@ use Rattle.mg_value.specs.Prefix.{Stamped, StreamPrefix, IsPrefix, closed, empty
 use Rattle.mg_value.specs.Settled.{TimedSet, times_of, settled_sets, port_of}
 use Rattle.mg_value.specs.Left.{set_times, goes, without, after_sets, without_first, leads, MayBeGone, AreGone}
 use Rattle.mg_value.proofs.Times.{In, not-In-take, In-take_or_drop, In-take}
-use Rattle.mg_value.proofs.Leaving.{left_of, In-left_of_from, In-left_of_to, each-packet, each-time}
+use Rattle.mg_value.proofs.Leaving.{left_of, In-left_of_from, In-left_of_to, each-packet, each-time, times-take, times-drop}
 use Rattle.mg_value.proofs.Going.{goes-append}
 use Rattle.mg_value.proofs.Climbs.{prefix-rises}
 use Rattle.mg_value.proofs.Ports.{port-prefix}
 use Rattle.mg_value.proofs.GonePackets.{rest_after, length-without_first, port-without_first, sets-gone}
-
--- the times of the first packets, and of the others
-times-take : {X : Type 0} (n : ℕ) (ps : List (Stamped X)) → times_of (take n ps) ≡ take n (times_of ps)
-times-take n ps = sym (take-map (λ p. p.at) n ps)
-
-times-drop : {X : Type 0} (n : ℕ) (ps : List (Stamped X)) → times_of (drop n ps) ≡ drop n (times_of ps)
-times-drop n ps = sym (drop-map (λ p. p.at) n ps)
 
 -- one prefix: the packets that go with a further set join those that are gone
 joined : {X : Type 0} (policy : Policy) (lead : Bool) (ts us : List ℕ) (s : StreamPrefix X) (n m : ℕ) → IsPrefix s → MayBeGone policy lead ts s n → m ≤ length s.packets → drop m s.packets ≡ left_of (goes policy us) (drop n s.packets) → MayBeGone policy lead (ts ++ us) s m

@@ -84,6 +84,10 @@ pub all_appended_extend : {X : Type 0} (s : StreamPrefix X) (ps : List (Stamped 
 all_appended_extend s [] may = extended_by_itself s
 all_appended_extend s (p ∷ ps) may = extended_further s (appended s p) (all_appended (appended s p) ps) (appended_extends s p may.0) (all_appended_extend (appended s p) ps may.1)
 
+pub all_appended_behind : {X : Type 0} (s : StreamPrefix X) (ps : List (Stamped X)) → (all_appended s ps).packets ≡ s.packets ++ ps
+all_appended_behind s [] = sym (append-nil s.packets)
+all_appended_behind s (p ∷ ps) = all_appended_behind (appended s p) ps ∙ append_assoc s.packets (p ∷ []) ps
+
 pub raised_extends : {X : Type 0} (s : StreamPrefix X) (b : ℕ) → IsExtendedBy s (raised s b)
 raised_extends {X} s b = record { further = []; packets = sym (append-nil s.packets); bound = omega arith; above = All-nil (λ (p : Stamped X). s.bound ≤ p.at) }
 

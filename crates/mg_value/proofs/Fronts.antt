@@ -15,10 +15,6 @@ take_while_grows {X} f g (x ∷ xs) ys more = elim (cases_Bool (f x)) [
   | inr fails ↦ rw fails refl
 ]
 
-pub prefix_len_grows : {X : Type 0} (f g : X → Bool) (xs ys : List X) → ((x : X) → f x ≡ true → g x ≡ true) → prefix_len f xs ≤ prefix_len g (xs ++ ys)
-prefix_len_grows f g xs ys more =
-    omega (arith, ap length (take_while_grows f g xs ys more), length-prefix_len f xs, length-prefix_len g (xs ++ ys), length-take (prefix_len f xs) (take_while g (xs ++ ys)))
-
 -- functions that agree where the test passes map them alike
 pub map_while_agree : {X Y : Type 0} (f : X → Bool) (h k : X → Y) (xs : List X) → ((x : X) → f x ≡ true → h x ≡ k x) → map h (take_while f xs) ≡ map k (take_while f xs)
 map_while_agree f h k [] same = refl
@@ -28,15 +24,6 @@ map_while_agree {X} {Y} f h k (x ∷ xs) same = elim (cases_Bool (f x)) [
 ]
 
 -- without some of them the others are left
-pub prefix_len-drop : {X : Type 0} (f : X → Bool) (k : ℕ) (xs : List X) → k ≤ prefix_len f xs → prefix_len f (drop k xs) + k ≡ prefix_len f xs
-prefix_len-drop f zero xs le = omega arith
-prefix_len-drop f (suc k) [] le = absurd (omega (arith, le))
-prefix_len-drop {X} f (suc k) (x ∷ xs) le = elim (cases_Bool (f x)) [
-  | inl passes ↦ (let few : k ≤ prefix_len f xs = (let le' : suc k ≤ 1 + prefix_len f xs = rw passes at le in omega (arith, le')) in
-      rw passes (omega (arith, prefix_len-drop f k xs few)))
-  | inr fails ↦ absurd (let le' : suc k ≤ 0 = rw fails at le in omega (arith, le'))
-]
-
 pub take_while-drop : {X : Type 0} (f : X → Bool) (k : ℕ) (xs : List X) → k ≤ prefix_len f xs → take_while f (drop k xs) ≡ drop k (take_while f xs)
 take_while-drop f zero xs le = refl
 take_while-drop f (suc k) [] le = refl

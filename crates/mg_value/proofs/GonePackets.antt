@@ -1,15 +1,16 @@
 -- The packets that are gone when the first settled sets are claimed, told by their numbers.
-use Rattle.std.proofs.Common.{◌≡◌, ℕ, zero, suc, ◌+◌, ◌<◌, ◌≤◌, Bool, true, false, inl, inr, List, [], ◌∷◌, map, take, drop, length, length-append, length-take, replicate, get_or, All, IsTrue, ap, subst, sym, refl, ◌∙◌, arith}
-use Rattle.std.specs.List.{AllByRecursion}
-use Rattle.std.proofs.lemmas.Bool.{eqb-true}
-use Rattle.std.proofs.lemmas.List.{take-map, take-take, take-append-le, drop-append-le, length-replicate, get_or-replicate}
+use Rattle.std.proofs.Common.{◌≡◌, ℕ, zero, suc, ◌+◌, ◌-◌, length-drop, eq-eqb, ◌<◌, ◌≤◌, Bool, true, false, inl, inr, List, [], ◌∷◌, map, take, drop, length, length-append, length-take, replicate, get_or, All, IsTrue, ap, subst, sym, refl, ◌∙◌, arith}
+use Rattle.std.specs.List.{AllByRecursion, prefix_len}
+use Rattle.std.proofs.lemmas.Bool.{cases_lt, eqb-true}
+use Rattle.std.proofs.lemmas.List.{take-map, take-take, take-append-le, drop-append-le, length-replicate, get_or-replicate, get_or_past}
+use Rattle.std.proofs.lemmas.List.Sums.{prefix_len-le-length}
 use Rattle.std.proofs.lemmas.List.Elements.{recursion_from_All, All-append, All-weaker}
 use Rattle.mg_value.specs.Payload.{Plain}
 use Rattle.mg_value.specs.declared.policy.Policy.{Policy}
 use Rattle.mg_value.specs.declared.policy.Policy.TheVariants.{Default, Mux}
 use Rattle.mg_value.specs.Prefix.{Stamped, StreamPrefix, IsPrefix, closed, empty_prefix}
 use Rattle.mg_value.specs.Extension.{IsExtendedBy, AreExtendedBy}
-use Rattle.mg_value.specs.Settled.{TimedSet, settled_sets, reach, port_of, IsBelowBounds}
+use Rattle.mg_value.specs.Settled.{TimedSet, settled_sets, reach, port_of, select_of, is_settled, IsBelowBounds}
 use Rattle.mg_value.specs.Left.{set_times, goes, without_first, leads, MayBeGone, AreGone}
 use Rattle.mg_value.proofs.Times.{In, In-take}
 use Rattle.mg_value.proofs.Leaving.{left_of-first, packet_at-drop}
@@ -17,6 +18,8 @@ use Rattle.mg_value.proofs.Going.{goes-above, goes-none}
 use Rattle.mg_value.proofs.Ports.{port-extended, same_ports}
 use Rattle.mg_value.proofs.PolicySets.{sets-stay, below-bounds}
 use Rattle.mg_value.proofs.Leaves.{Leaves, AllLeave}
+use Rattle.mg_value.proofs.MuxSets.{length-mux_sets}
+use Rattle.mg_value.proofs.MuxLeft.{selects-go}
 use Rattle.mg_value.proofs.AfterSets.{sets-left, reach-left}
 
 -- a prefix without its first packets
@@ -123,3 +126,27 @@ gone-extended policy k ss ts gone h e are =
           (λ lead u j. claimed-below policy ss h i was lead u (In-take u k (set_times policy ss) j))
           (are.each i was)));
     }
+
+-- under Mux as many packets of SELECT are gone as sets are claimed
+as_many : {X : Type 0} (n k : ℕ) (xs : List X) → n ≤ length xs → k ≤ length xs → drop n xs ≡ drop k xs → n ≡ k
+as_many n k xs few less same = omega (arith, few, less, ap length same, length-drop n xs, length-drop k xs)
+
+pub selects-gone : (k : ℕ) (ss : List (StreamPrefix Plain)) (gone : List ℕ) → All IsPrefix ss → AreGone Mux k ss gone → get_or gone (length ss - 1) 0 ≡ k
+selects-gone k ss gone h are =
+    let xs = (select_of ss).packets in
+    let n = get_or gone (length ss - 1) 0 in
+    let claimed = are.claimed in
+    let few : k ≤ prefix_len (is_settled ss) xs = omega (arith, claimed, length-mux_sets ss) in
+    let less = prefix_len-le-length (is_settled ss) xs in
+    elim (cases_lt 0 (length ss)) [
+      | inl some ↦
+          (let last : length ss - 1 < length ss = omega (arith, some) in
+          let here = are.each (length ss - 1) last in
+          let leaves = (rest-leaves Mux (leads Mux (length ss) (length ss - 1)) (take k (set_times Mux ss)) (select_of ss) n here).rest (eq-eqb (length ss - 1 + 1) (length ss) (omega (arith, some))) in
+          let within = here.within in
+          as_many n k xs within (omega (arith, few, less)) (leaves ∙ selects-go k ss h few))
+      | inr none ↦
+          (let empty : length xs ≡ 0 = ap (λ (s : StreamPrefix Plain). length s.packets) (get_or_past ss (length ss - 1) (closed empty_prefix) (omega (arith, none))) in
+          let zero_gone : n ≡ 0 = get_or_past gone (length ss - 1) 0 (let ports = are.ports in omega (arith, ports, none)) in
+          omega (arith, few, less, empty, zero_gone))
+    ]

@@ -13,7 +13,7 @@ use Rattle.mg_value.specs.Settled.{TimedSet, times_of, all_times, is_among, port
 use Rattle.mg_value.specs.Left.{set_times, leads, HasLeadingPacket}
 use Rattle.mg_value.proofs.Times.{In, In-take, In-take_or_drop, In-append_from, In-append_left, In-append_right, is_among-In, In-is_among}
 use Rattle.mg_value.proofs.Climbs.{prefix-climbs, Climbs-drop, Climbs-from, Climbs}
-use Rattle.mg_value.proofs.Leaving.{each-time}
+use Rattle.mg_value.proofs.Leaving.{each-time, times-take, times-drop}
 use Rattle.mg_value.proofs.Ports.{select-prefix}
 use Rattle.mg_value.proofs.SettledTimes.{settled_from, settled_to, packet_at-some, packet_at-none}
 use Rattle.mg_value.proofs.DefaultSets.{default_times}
@@ -43,7 +43,7 @@ of-leading Default ss t at =
     record { port = one.0; there = one.1; lead = refl; packet = packet_at-some t (port_of ss one.0).packets one.2 }
 of-leading Mux ss t at =
     let n = prefix_len (is_settled ss) (select_of ss).packets in
-    let front : In t (take n (times_of (select_of ss).packets)) = rw (take-map (λ p. p.at) n (select_of ss).packets) (rw (mux_times ss) at at) in
+    let front : In t (take n (times_of (select_of ss).packets)) = rw (← times-take n (select_of ss).packets) (rw (mux_times ss) at at) in
     let packet = In-take t n (times_of (select_of ss).packets) front in
     let some = some_port t ss packet in
     record { port = length ss - 1; there = omega (arith, some); lead = eq-eqb (length ss - 1 + 1) (length ss) (omega (arith, some)); packet = packet_at-some t (select_of ss).packets packet }
@@ -57,8 +57,8 @@ leading-in Mux ss h i there lead t at below =
     let here : In t (times_of s.packets) = subst (λ (j : ℕ). In t (times_of (port_of ss j).packets)) last at in
     let under : t < first_time (drop n s.packets) s.bound = rw (length-prefix_len (is_settled ss) s.packets) at below in
     rw (mux_times ss) (elim (In-take_or_drop t n (times_of s.packets) here) [
-      | inl early ↦ rw (← take-map (λ p. p.at) n s.packets) early
-      | inr late ↦ absurd (past (drop n s.packets) (Climbs-drop 0 s.bound n s.packets (prefix-climbs s (select-prefix ss h))) under (rw (← drop-map (λ p. p.at) n s.packets) late))
+      | inl early ↦ rw (times-take n s.packets) early
+      | inr late ↦ absurd (past (drop n s.packets) (Climbs-drop 0 s.bound n s.packets (prefix-climbs s (select-prefix ss h))) under (rw (times-drop n s.packets) late))
     ])
   where
     past : (ps : List (Stamped Plain)) → Climbs 0 ps (select_of ss).bound → t < first_time ps (select_of ss).bound → In t (times_of ps) → ⊥

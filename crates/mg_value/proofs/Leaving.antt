@@ -2,6 +2,7 @@
 use Rattle.std.proofs.Common.{◌≡◌, ℕ, zero, suc, Bool, true, false, not, inl, inr, List, [], ◌∷◌, take, drop, filter, ap, refl, sym, ◌∙◌, eqb, eqb-true, subst}
 use Rattle.std.specs.List.{AllByRecursion}
 use Rattle.std.proofs.lemmas.Bool.{cases_Bool, false≢true}
+use Rattle.std.proofs.lemmas.List.{take-map, drop-map}
 use Rattle.mg_value.specs.Prefix.{Stamped}
 use Rattle.mg_value.specs.Settled.{times_of, packet_at}
 use Rattle.mg_value.proofs.Times.{In}
@@ -67,3 +68,10 @@ each-packet P (p ∷ ps) each = (each p.at (inl refl), each-packet P ps (λ t i.
 pub each-time : {X : Type 0} (P : ℕ → Type 0) (ps : List (Stamped X)) → AllByRecursion (λ p. P p.at) ps → (t : ℕ) → In t (times_of ps) → P t
 each-time P [] all t i = absurd i
 each-time P (p ∷ ps) all t i = elim i [ inl e ↦ subst P e all.0 | inr j ↦ each-time P ps all.1 t j ]
+
+-- the times of the first packets, and of the others
+pub times-take : {X : Type 0} (n : ℕ) (ps : List (Stamped X)) → times_of (take n ps) ≡ take n (times_of ps)
+times-take n ps = sym (take-map (λ p. p.at) n ps)
+
+pub times-drop : {X : Type 0} (n : ℕ) (ps : List (Stamped X)) → times_of (drop n ps) ≡ drop n (times_of ps)
+times-drop n ps = sym (drop-map (λ p. p.at) n ps)

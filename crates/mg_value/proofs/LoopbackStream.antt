@@ -80,9 +80,6 @@ not_post {X} loop (p ∷ q ∷ qs) alone =
 pub length-replies : {X : Type 0} (main loop : StreamPrefix X) → length (replies main loop) ≡ number loop None main.packets
 length-replies main loop = length-map (take_while (is_answered loop) (with_previous main.packets)) (reply loop) ∙ length-prefix_len (is_answered loop) (with_previous main.packets)
 
-bound-is : {X : Type 0} (main loop : StreamPrefix X) → (loopback main loop).bound ≡ stop loop None main.packets main.bound
-bound-is main loop = ap (λ (n : ℕ). first_time (drop n main.packets) main.bound) (length-replies main loop)
-
 pub loopback_is_prefix : {X : Type 0} (main loop : StreamPrefix X) → IsPrefix main → IsPrefix (loopback main loop)
 loopback_is_prefix {X} main loop h =
     let ps = main.packets in

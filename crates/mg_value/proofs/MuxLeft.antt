@@ -12,7 +12,7 @@ use Rattle.mg_value.specs.Prefix.{Stamped, StreamPrefix, IsPrefix, first_time, c
 use Rattle.mg_value.specs.Settled.{TimedSet, times_of, packet_at, port_of, select_of, selected, is_settled, settled_selects, select_alone, settled_sets, reach}
 use Rattle.mg_value.specs.Left.{set_times, goes}
 use Rattle.mg_value.proofs.Times.{In, Rises, take-below-drop}
-use Rattle.mg_value.proofs.Leaving.{left_of, left_of-first, each-packet}
+use Rattle.mg_value.proofs.Leaving.{left_of, left_of-first, each-packet, times-take, times-drop}
 use Rattle.mg_value.proofs.Going.{goes-here, goes-above}
 use Rattle.mg_value.proofs.Climbs.{prefix-rises}
 use Rattle.mg_value.proofs.Fronts.{take_while-drop}
@@ -66,21 +66,15 @@ thinned-reach k ss rs few h =
     ap₂ (λ (ps : List (Stamped Plain)) (b : ℕ). first_time (drop m ps) b) h.select (select_bound k ss rs h)
     ∙ ap (λ (ps : List (Stamped Plain)). first_time ps (select_of ss).bound) (drop-drop m k xs ∙ ap (λ (j : ℕ). drop j xs) sum)
 
--- the packets of SELECT that go are the first
-times-take : {X : Type 0} (n : ℕ) (ps : List (Stamped X)) → take n (times_of ps) ≡ times_of (take n ps)
-times-take n ps = take-map (λ p. p.at) n ps
-
-times-drop : {X : Type 0} (n : ℕ) (ps : List (Stamped X)) → drop n (times_of ps) ≡ times_of (drop n ps)
-times-drop n ps = drop-map (λ p. p.at) n ps
-
 -- the times of the first sets are those of as many packets of SELECT
 first_times : (k : ℕ) (ss : List (StreamPrefix Plain)) → k ≤ prefix_len (is_settled ss) (select_of ss).packets → take k (set_times Mux ss) ≡ times_of (take k (select_of ss).packets)
 first_times k ss few =
     ap (λ (ts : List ℕ). take k ts) (mux_times ss)
-    ∙ times-take k (settled_selects ss)
+    ∙ sym (times-take k (settled_selects ss))
     ∙ ap (λ (ps : List (Stamped Plain)). times_of ps) (take-take k (prefix_len (is_settled ss) (select_of ss).packets) (select_of ss).packets few)
 
-selects-go : (k : ℕ) (ss : List (StreamPrefix Plain)) → All IsPrefix ss → k ≤ prefix_len (is_settled ss) (select_of ss).packets → left_of (goes Mux (take k (set_times Mux ss))) (select_of ss).packets ≡ drop k (select_of ss).packets
+-- the packets of SELECT that go are the first
+pub selects-go : (k : ℕ) (ss : List (StreamPrefix Plain)) → All IsPrefix ss → k ≤ prefix_len (is_settled ss) (select_of ss).packets → left_of (goes Mux (take k (set_times Mux ss))) (select_of ss).packets ≡ drop k (select_of ss).packets
 selects-go k ss h few =
     let xs = (select_of ss).packets in
     let ts = times_of (take k xs) in
@@ -88,7 +82,7 @@ selects-go k ss h few =
     rw (first_times k ss few)
     (left_of-first (goes Mux ts) k xs
     (each-packet (λ t. goes Mux ts t ≡ true) (take k xs) (λ t i. goes-here Mux ts t i))
-    (each-packet (λ t. goes Mux ts t ≡ false) (drop k xs) (λ t i. goes-above Mux ts t (λ u j. take-below-drop 0 k u t (times_of xs) rises (rw (times-take k xs) j) (rw (times-drop k xs) i)))))
+    (each-packet (λ t. goes Mux ts t ≡ false) (drop k xs) (λ t i. goes-above Mux ts t (λ u j. take-below-drop 0 k u t (times_of xs) rises (rw (← times-take k xs) j) (rw (← times-drop k xs) i)))))
 
 thinned : (k : ℕ) (ss rs : List (StreamPrefix Plain)) → All IsPrefix ss → k ≤ prefix_len (is_settled ss) (select_of ss).packets → AllLeave Mux (goes Mux (take k (set_times Mux ss))) ss rs → IsThinned k ss rs
 thinned k ss rs h few left = record {
@@ -117,7 +111,7 @@ thinned k ss rs h few left = record {
     nothing (suc n) = refl
 
     stays : (t : ℕ) → In t (times_of (drop k (settled_selects ss))) → goes Mux (take k (set_times Mux ss)) t ≡ false
-    stays t i = goes-above Mux (take k (set_times Mux ss)) t (λ u j. take-below-drop 0 k u t (set_times Mux ss) (mux_times-rise ss h) j (rw (mux_times ss, times-drop k (settled_selects ss)) i))
+    stays t i = goes-above Mux (take k (set_times Mux ss)) t (λ u j. take-below-drop 0 k u t (set_times Mux ss) (mux_times-rise ss h) j (rw (mux_times ss, ← times-drop k (settled_selects ss)) i))
 
 -- also where more sets are counted than there are
 fewer : (k : ℕ) (ss rs : List (StreamPrefix Plain)) → AllLeave Mux (goes Mux (take k (set_times Mux ss))) ss rs → AllLeave Mux (goes Mux (take (min k (length (set_times Mux ss))) (set_times Mux ss))) ss rs

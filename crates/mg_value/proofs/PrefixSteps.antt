@@ -14,11 +14,7 @@ next_above t a = grind (arith, nat_tests)
 pub next_most : (t : ℕ) → IsAllowed t → next t ≤ one_over_post_stream
 next_most t a = grind (arith, nat_tests)
 
--- the times of ascending packets rise, and stay below the bound
-pub Ascends-rises : {X : Type 0} (a b : ℕ) (ps : List (Stamped X)) → AllByRecursion (λ p. IsAllowed p.at) ps → Ascends ps b → a ≤ first_time ps b → Rises a (times_of ps)
-Ascends-rises a b [] allowed r le = tt
-Ascends-rises a b (p ∷ ps) allowed r le = (le, Ascends-rises (p.at + 1) b ps allowed.1 r.1 (let up = next_above p.at allowed.0 in omega (arith, up, r.0)))
-
+-- the packets of ascending ones, and the first, stand below the bound
 pub first_time-most : {X : Type 0} (b : ℕ) (ps : List (Stamped X)) → AllByRecursion (λ p. IsAllowed p.at) ps → Ascends ps b → first_time ps b ≤ b
 first_time-most b [] allowed r = omega arith
 first_time-most b (p ∷ ps) allowed r =
@@ -29,13 +25,6 @@ first_time-most b (p ∷ ps) allowed r =
 pub Ascends-next : {X : Type 0} (b : ℕ) (ps : List (Stamped X)) → AllByRecursion (λ p. IsAllowed p.at) ps → Ascends ps b → AllByRecursion (λ p. next p.at ≤ b) ps
 Ascends-next b [] allowed r = tt
 Ascends-next b (p ∷ ps) allowed r = ((let later = first_time-most b ps allowed.1 r.1 in omega (arith, later, r.0)), Ascends-next b ps allowed.1 r.1)
-
-pub Ascends-below : {X : Type 0} (b t : ℕ) (ps : List (Stamped X)) → AllByRecursion (λ p. IsAllowed p.at) ps → Ascends ps b → In t (times_of ps) → t < b
-Ascends-below b t [] allowed r i = absurd i
-Ascends-below b t (p ∷ ps) allowed r i = elim i [
-  | inl e ↦ (let up = next_above p.at allowed.0 in let later = first_time-most b ps allowed.1 r.1 in omega (arith, up, later, r.0, e))
-  | inr j ↦ Ascends-below b t ps allowed.1 r.1 j
-]
 
 -- ascending packets stay so under a higher bound, and with a packet at the bound or above
 pub Ascends-raised : {X : Type 0} (b c : ℕ) (ps : List (Stamped X)) → b ≤ c → Ascends ps b → Ascends ps c

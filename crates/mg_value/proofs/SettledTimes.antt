@@ -119,16 +119,3 @@ set_at-shows t (s ∷ ss) i = elim (In-append_from t (times_of s.packets) (all_t
   | inl first ↦ or_left _ _ (packet_at-some t s.packets first)
   | inr later ↦ or_right _ _ (set_at-shows t ss later)
 ]
-
-pub settled_times_grow : {X : Type 0} (ss tt : List (StreamPrefix X)) → AreExtendedBy ss tt → length (settled_times ss) ≤ length (settled_times tt)
-settled_times_grow ss tt e = omega (arith, ap length (settled_times_first ss tt e), length-append (settled_times ss) (drop (length (settled_times ss)) (settled_times tt)))
-
-pub take_settled_times : {X : Type 0} (k : ℕ) (ss tt : List (StreamPrefix X)) → AreExtendedBy ss tt → k ≤ length (settled_times ss) → take k (settled_times tt) ≡ take k (settled_times ss)
-take_settled_times k ss tt e le =
-    ap (λ (ts : List ℕ). take k ts) (settled_times_first ss tt e)
-    ∙ front k (settled_times ss) (drop (length (settled_times ss)) (settled_times tt)) le
-  where
-    front : (n : ℕ) (xs ys : List ℕ) → n ≤ length xs → take n (xs ++ ys) ≡ take n xs
-    front zero xs ys le = refl
-    front (suc n) [] ys le = absurd (omega (arith, le))
-    front (suc n) (x ∷ xs) ys le = ap (λ (rest : List ℕ). x ∷ rest) (front n xs ys (omega (arith, le)))

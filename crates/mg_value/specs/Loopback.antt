@@ -11,7 +11,7 @@ with_previous ps = zip (None ∷ map (λ p. Some p) ps) ps
 
 -- whether a packet of MAIN is answered: it is the first, or the time of the one before it is settled on LOOP
 abbrev pub is_answered : {X : Type 0} → StreamPrefix X → Option (Stamped X) × Stamped X → Bool
-is_answered loop main = unwrap_or (option_map (λ previous. nat_lt previous.at loop.bound) main.0) true
+is_answered loop turn = unwrap_or (option_map (λ previous. nat_lt previous.at loop.bound) turn.0) true
 
 -- the answer to a packet of MAIN, at its time: what LOOP has exactly at the time of the one before it, or nothing
 pub record Reply (X : Type 0) : Type 0 where
@@ -23,7 +23,7 @@ found loop None = None
 found loop (Some previous) = option_map (λ p. p.value) (packet_at previous.at loop.packets)
 
 abbrev pub reply : {X : Type 0} → StreamPrefix X → Option (Stamped X) × Stamped X → Reply X
-reply loop main = record { at = main.1.at; value = found loop main.0 }
+reply loop turn = record { at = turn.1.at; value = found loop turn.0 }
 
 -- the answers, one to each packet of MAIN that is answered: these are the packets before the first that isn't
 abbrev pub replies : {X : Type 0} → StreamPrefix X → StreamPrefix X → List (Reply X)

@@ -1,10 +1,11 @@
 //! Laws of the definitions of streams: each function does nothing, and its contract is the law.
-ghost use Rattle.std.specs.Prelude.{◌≡◌, ℕ, ◌+◌, ◌<◌, ◌≤◌, ◌↔◌, List, take, drop, length, replicate, All, IsTrue, is_some};
+ghost use Rattle.std.specs.Prelude.{◌≡◌, ℕ, ◌+◌, ◌-◌, ◌++◌, slice_index_or, ◌<◌, ◌≤◌, ◌↔◌, List, take, drop, length, replicate, All, IsTrue, is_some};
 ghost use Rattle.std.specs.List.{AllZip, list_any};
 ghost use Rattle.std.specs.List.Sorted.{IsStrictlyIncreasing};
 ghost use Rattle.mg_time.specs.Time.{pre_stream, done};
 ghost use Rattle.mg_value.specs.Payload.{Plain};
 ghost use Rattle.mg_value.specs.declared.policy.Policy.{Policy};
+ghost use Rattle.mg_value.specs.declared.policy.Policy.TheVariants.{Mux};
 ghost use Rattle.mg_value.specs.Prefix.{Stamped, StreamPrefix, IsPrefix, MayFollow, MayAllFollow, empty_prefix, appended, all_appended, raised, closed};
 ghost use Rattle.mg_value.specs.Extension.{IsExtendedBy, AreExtendedBy};
 ghost use Rattle.mg_value.specs.Loopback.{loopback, replies};
@@ -44,10 +45,11 @@ pub fn steps_make_prefixes()
     ensures closed { (s : StreamPrefix Plain) → IsPrefix s → IsPrefix (closed s) }
 {}
 
-/// Each of these steps extends the prefix.
+/// Each of these steps extends the prefix; packets go behind its own, in order.
 pub fn steps_extend()
     ensures appended { (s : StreamPrefix Plain) (p : Stamped Plain) → MayFollow s p → IsExtendedBy s (appended s p) }
     ensures all_appended { (s : StreamPrefix Plain) (ps : List (Stamped Plain)) → MayAllFollow s ps → IsExtendedBy s (all_appended s ps) }
+    ensures behind { (s : StreamPrefix Plain) (ps : List (Stamped Plain)) → (all_appended s ps).packets ≡ s.packets ++ ps }
     ensures raised { (s : StreamPrefix Plain) (b : ℕ) → IsExtendedBy s (raised s b) }
     ensures closed { (s : StreamPrefix Plain) → IsPrefix s → IsExtendedBy s (closed s) }
 {}
@@ -125,6 +127,12 @@ pub fn what_is_gone_is_kept()
     ensures claimed { (policy : Policy) (k : ℕ) (ss : List (StreamPrefix Plain)) (gone more : List ℕ) → All IsPrefix ss → AreGone policy k ss gone
         → k < length (settled_sets policy ss) → AllZip (λ s n. n ≤ length s.packets) ss more
         → without_first more ss ≡ after_sets policy 1 (without_first gone ss) → AreGone policy (k + 1) ss more }
+{}
+
+/// Under Mux as many packets of SELECT are gone as sets are claimed.
+pub fn a_set_takes_a_packet_of_select()
+    ensures { (k : ℕ) (ss : List (StreamPrefix Plain)) (gone : List ℕ) → All IsPrefix ss → AreGone Mux k ss gone
+        → slice_index_or gone (length ss - 1) 0 ≡ k }
 {}
 
 /// The loopback's output stream is a prefix.

@@ -1,4 +1,4 @@
-use Rattle.mg_value.proofs.Extending.{appended_extends, all_appended_extend, raised_extends, closed_extends}
+use Rattle.mg_value.proofs.Extending.{appended_extends, all_appended_extend, all_appended_behind, raised_extends, closed_extends}
 use Rattle.mg_value.proofs.laws.steps_extend.Goals as goal
 
 pub returns-clause-appended : goal.returns-clause-appended
@@ -12,3 +12,6 @@ returns-clause-raised c = λ s b. raised_extends s b
 
 pub returns-clause-closed : goal.returns-clause-closed
 returns-clause-closed c = λ s h. closed_extends s h
+
+pub returns-clause-behind : goal.returns-clause-behind
+returns-clause-behind c = λ s ps. all_appended_behind s ps
