@@ -1,8 +1,7 @@
 -- The first elements of a list that pass a test, where more elements come behind it and more of them pass.
-use Rattle.std.proofs.Common.{◌≡◌, ℕ, zero, suc, ◌+◌, ◌≤◌, Bool, true, inl, inr, List, [], ◌∷◌, ◌++◌, map, take, drop, length, ap, ap₂, refl, arith, length-take}
+use Rattle.std.proofs.Common.{◌≡◌, ℕ, zero, suc, ◌+◌, ◌≤◌, Bool, true, inl, inr, List, [], ◌∷◌, ◌++◌, map, take, drop, ap, ap₂, refl, arith}
 use Rattle.std.specs.List.{prefix_len, take_while}
 use Rattle.std.proofs.lemmas.Bool.{cases_Bool}
-use Rattle.std.proofs.lemmas.List.Folds.{length-prefix_len}
 
 pub one_more : (n : ℕ) → 1 + n ≡ suc n
 one_more n = omega arith

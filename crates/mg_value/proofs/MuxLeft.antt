@@ -3,7 +3,7 @@ use Rattle.std.proofs.Common.{◌≡◌, ℕ, zero, suc, ◌+◌, ◌-◌, ◌<�
 use mathlib.Core.Path.{fun_ext}
 use Rattle.std.specs.List.{AllByRecursion, prefix_len, take_while}
 use Rattle.std.proofs.lemmas.Bool.{cases_lt}
-use Rattle.std.proofs.lemmas.List.{drop-map, take-map, drop-drop, take-take, take_min, drop_min, length-map, length-drop, get_or_past}
+use Rattle.std.proofs.lemmas.List.{drop-map, drop-drop, take-take, take_min, drop_min, length-map, length-drop, get_or_past}
 use Rattle.std.proofs.lemmas.List.Elements.{All-from_recursion, recursion_from_All, All-weaker}
 use Rattle.std.proofs.lemmas.List.Folds.{length-prefix_len}
 use Rattle.mg_value.specs.Payload.{Plain}

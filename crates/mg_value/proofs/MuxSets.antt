@@ -166,7 +166,7 @@ mux_bounds ss h =
     let passes = All-from_recursion (λ (p : Stamped Plain). is_settled ss p ≡ true) (settled_selects ss) (passes-front (is_settled ss) s.packets) in
     All-map (λ (e : TimedSet Plain). IsBelowBounds Mux ss e.at) (set_of ss) (settled_selects ss)
     (λ k d lt. (let p = get_or (settled_selects ss) k d in
-      (below k d lt, some_and (packet_at p.at s.packets) (λ q. IsTrue (is_settled ss q)) p (finds k d lt).1 (passes k d lt))))
+    (below k d lt, some_and (packet_at p.at s.packets) (λ q. IsTrue (is_settled ss q)) p (finds k d lt).1 (passes k d lt))))
 
 -- each set has a place per port, and SELECT's packet at its own
 pub mux_places : (ss : List (StreamPrefix Plain)) → All (λ e. length e.set ≡ length ss) (settled_sets Mux ss)

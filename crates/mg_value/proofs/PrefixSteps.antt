@@ -1,12 +1,10 @@
 -- What a prefix's packets are, and that each step on a prefix makes a prefix that extends it.
-use Rattle.std.proofs.Common.{◌≡◌, ℕ, ◌+◌, ◌<◌, ◌≤◌, max, inl, inr, List, [], ◌∷◌, ◌++◌, length, length-append, All, ap, arith}
+use Rattle.std.proofs.Common.{◌≡◌, ℕ, ◌<◌, ◌≤◌, max, List, [], ◌∷◌, ◌++◌, length, length-append, All, ap, arith}
 use Rattle.std.specs.List.{AllByRecursion}
 use Rattle.std.proofs.lemmas.Bool.Decides.{nat_tests}
 use Rattle.std.proofs.lemmas.List.Elements.{All-from_recursion, recursion_from_All, All-push, All-weaker, All-nil}
 use Rattle.mg_time.specs.Time.{next, IsAllowed, post_stream, one_over_post_stream, done}
 use Rattle.mg_value.specs.Prefix.{Stamped, StreamPrefix, IsPrefix, MayFollow, MayAllFollow, Ascends, first_time, appended, all_appended, raised, closed, empty_prefix}
-use Rattle.mg_value.specs.Settled.{times_of}
-use Rattle.mg_value.proofs.Times.{In, Rises}
 
 pub next_above : (t : ℕ) → IsAllowed t → t < next t
 next_above t a = grind (arith, nat_tests)

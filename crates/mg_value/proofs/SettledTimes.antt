@@ -1,5 +1,5 @@
 -- The settled times of the default policy, and what stands at them: their members, and that they only grow.
-use Rattle.std.proofs.Common.{◌≡◌, ℕ, zero, suc, ◌+◌, ◌<◌, ◌≤◌, true, ◌⊎◌, inl, inr, List, [], ◌∷◌, ◌++◌, take, drop, length, filter, All, Option, None, ap, ap₂, refl, ◌∙◌, arith, ltb, eqb, ltb-true, lt-ltb, ne_eqb, eq-eqb, is_some, suc-add, length-append}
+use Rattle.std.proofs.Common.{◌≡◌, ℕ, zero, suc, ◌+◌, ◌<◌, ◌≤◌, true, ◌⊎◌, inl, inr, List, [], ◌∷◌, ◌++◌, drop, length, filter, All, Option, None, ap₂, refl, arith, ltb, eqb, ltb-true, lt-ltb, ne_eqb, eq-eqb, is_some, suc-add}
 use Rattle.std.specs.List.{AllByRecursion, list_any}
 use Rattle.std.specs.List.Sorted.{IsStrictlyIncreasing}
 use Rattle.std.proofs.lemmas.Bool.{cases_Bool, or_left, or_right}

@@ -109,4 +109,4 @@ reach Mux ss = first_time (drop (length (settled_selects ss)) (select_of ss).pac
 abbrev pub IsBelowBounds : Policy → List (StreamPrefix Plain) → ℕ → Type 0
 IsBelowBounds Default ss t = All (λ s. t < s.bound) ss
 IsBelowBounds Mux ss t = (t < (select_of ss).bound)
-  × IsSomeAnd (packet_at t (select_of ss).packets) (λ p. IsTrue (is_settled ss p))
+    × IsSomeAnd (packet_at t (select_of ss).packets) (λ p. IsTrue (is_settled ss p))
