@@ -1,7 +1,7 @@
 ghost use Rattle.std.specs.Prelude.{◌≡◌, ℕ, List, Option, None, Some};
 ghost use Rattle.std.specs.Option.{option_map};
-ghost use Rattle.std.specs.String.{string_bytes};
 ghost use Rattle.mg_edge.specs.Edge.{LoadsWithin, LoadGives};
+ghost use Rattle.mg_edge.specs.Adapters.{folder_failed_name, folder_faults};
 
 use crate::{Loaded, MOST_LOADED, Store};
 use std::alloc::Global;
@@ -35,9 +35,9 @@ impl<R: Files + Drop> FolderStore<R> {
 impl<R: Files + Drop> Store for FolderStore<R> {
     ghost content = { λ _ _. None };
 
-    ghost failed_name = { λ s. option_map string_bytes s.failed_name };
+    ghost failed_name = { folder_failed_name };
 
-    ghost faults = { λ s. s.faults };
+    ghost faults = { folder_faults };
 
     fn load(&mut self, alloc: Global, name: &str) -> Loaded {
         let Ok(copy) = String::from_str(alloc, name) else {

@@ -2,7 +2,7 @@ ghost use Rattle.std.specs.Prelude.{◌≡◌, ◌≢◌, ℕ, List, None, Some,
 ghost use Rattle.std.specs.Option.{option_map};
 ghost use Rattle.mg_edge.specs.Edge.{LoadsWithin, LoadGives, LoadFaultCounts, KeepsFailedName, one_more};
 ghost use Rattle.mg_edge.specs.MemoryStore.{stored, failing_load, loads_made, last_failed, store_faults, content_at};
-ghost use Rattle.mg_edge.specs.MemoryStore.{KeepsCalls, AnswersLoad, CountsFault, LooksUp, IsFrontOf};
+ghost use Rattle.mg_edge.specs.MemoryStore.{KeepsCalls, AnswersLoad, LooksUp, IsFrontOf};
 
 use crate::{Loaded, MOST_LOADED, Store};
 use std::alloc::{AllocError, Global};
@@ -95,7 +95,6 @@ impl Store for MemoryStore {
         ensures fault { LoadFaultCounts (store_faults self.old) (store_faults self.new) result }
         ensures answer { AnswersLoad self.old name.now result }
         ensures loads { loads_made self.new ≡ one_more (loads_made self.old) }
-        ensures faults { CountsFault self.old self.new result }
         ensures failing { failing_load self.new ≡ failing_load self.old }
     {
         let number = self.loads;

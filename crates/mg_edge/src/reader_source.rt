@@ -1,6 +1,7 @@
 ghost use Rattle.std.specs.Prelude.{◌≡◌, ℕ, List, Option, None};
 ghost use Rattle.std.specs.Io.{ReadsAtMost};
 ghost use Rattle.std.specs.Io.KnownBytes.{ReadConsumes};
+ghost use Rattle.mg_edge.specs.Adapters.{source_reader, source_ends, source_faults};
 
 use crate::{Got, MOST_INTERRUPTIONS, Source};
 use std::io;
@@ -31,13 +32,15 @@ impl<R: Read + Drop> ReaderSource<R> {
 }
 
 impl<R: Read + Drop> Source for ReaderSource<R> {
-    ghost left = { λ s. R.remaining s.reader };
+    ghost left = { λ s. R.remaining (source_reader s) };
 
     ghost reads = { λ _. None };
 
-    ghost ends = { λ s. s.ends };
+    ghost ends = { source_ends };
 
-    ghost faults = { λ s. s.faults };
+    ghost faults = { source_faults };
+
+    ghost left_at_fault = { λ _. None };
 
     fn read(&mut self, buf: &mut [u8]) -> Got {
         match read_uninterrupted(&mut self.reader, buf) {

@@ -15,7 +15,7 @@ pub trait Sink {
     /// The bytes taken so far, or `None` where the sink doesn't tell them.
     ghost taken: { Self → Option (List ℕ) };
 
-    /// How many writes failed. It never falls.
+    /// How many writes failed. It stays at 2^64 - 1 once it is there.
     ghost faults: { Self → ℕ };
 
     /// Writes bytes from the front of `piece`, which has at least one. It may take fewer than there are.

@@ -1,5 +1,5 @@
 ghost use Rattle.std.specs.Prelude.{ℕ, ◌<◌, List, Option, length};
-ghost use Rattle.mg_edge.specs.Edge.{GivesWithin, ReadTakes, CountsOne, EndCounts, ReadFaultCounts};
+ghost use Rattle.mg_edge.specs.Edge.{GivesWithin, ReadTakes, CountsOne, EndCounts, ReadFaultCounts, KeepsLeftAtFault};
 
 /// What a read answers.
 #[derive(Clone, Copy, Debug, PartialEq, Eq)]
@@ -20,11 +20,15 @@ pub trait Source {
     /// How many reads there were, or `None` where the source doesn't tell it. It stays at 2^64 - 1 once it is there.
     ghost reads: { Self → Option ℕ };
 
-    /// How many reads answered `End`. It never falls.
+    /// How many reads answered `End`. It stays at 2^64 - 1 once it is there.
     ghost ends: { Self → ℕ };
 
-    /// How many reads failed. It never falls.
+    /// How many reads failed. It stays at 2^64 - 1 once it is there.
     ghost faults: { Self → ℕ };
+
+    /// What `left` was at the read that failed last, `Some None` before the first; or `None` where the source doesn't
+    /// tell it.
+    ghost left_at_fault: { Self → Option (Option (List ℕ)) };
 
     /// Reads the next bytes into the front of `buf`, which has room for at least one.
     ///
@@ -36,5 +40,6 @@ pub trait Source {
         ensures bytes { ReadTakes (left self.old) (left self.new) result buf.new }
         ensures counted { CountsOne (reads self.old) (reads self.new) }
         ensures end { EndCounts (ends self.old) (ends self.new) result }
-        ensures fault { ReadFaultCounts (faults self.old) (faults self.new) result };
+        ensures fault { ReadFaultCounts (faults self.old) (faults self.new) result }
+        ensures left_at_fault { KeepsLeftAtFault (left_at_fault self.old) (left_at_fault self.new) result (left self.old) };
 }

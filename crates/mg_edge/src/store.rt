@@ -26,7 +26,7 @@ pub trait Store {
     /// The name of the load that failed last, and `None` before the first.
     ghost failed_name: { Self → Option (List ℕ) };
 
-    /// How many loads failed. It never falls.
+    /// How many loads failed. It stays at 2^64 - 1 once it is there.
     ghost faults: { Self → ℕ };
 
     /// Loads the content of a name.

@@ -1,6 +1,7 @@
 ghost use Rattle.std.specs.Prelude.{◌≡◌, ℕ, List, Option};
 ghost use Rattle.std.specs.Io.{WritesAtMost};
 ghost use Rattle.std.specs.Io.KnownBytes.{WriteAppends};
+ghost use Rattle.mg_edge.specs.Adapters.{sink_writer, sink_faults};
 
 use crate::{MOST_INTERRUPTIONS, Put, Sink};
 use std::io;
@@ -27,9 +28,9 @@ impl<W: Write + Drop> WriterSink<W> {
 }
 
 impl<W: Write + Drop> Sink for WriterSink<W> {
-    ghost taken = { λ s. W.contents s.writer };
+    ghost taken = { λ s. W.contents (sink_writer s) };
 
-    ghost faults = { λ s. s.faults };
+    ghost faults = { sink_faults };
 
     fn write(&mut self, piece: &[u8]) -> Put {
         match write_uninterrupted(&mut self.writer, piece) {
