@@ -25,6 +25,16 @@ CountsOne (Some count) now = now ≡ Some (one_more count)
 
 -- A source --
 
+-- What a source tells of itself at a moment: the bytes that are left, and how many reads there were, where it tells
+-- them; how many reads answered `End`, and how many failed; and what was left at the read that failed last, `Some None`
+-- before the first, where it tells that.
+pub record SourceTold : Type 0 where
+  pub left : Option (List ℕ)
+  pub reads : Option ℕ
+  pub ends : ℕ
+  pub faults : ℕ
+  pub left_at_fault : Option (Option (List ℕ))
+
 -- A read that gives bytes gives at least one, and no more than there is room for.
 abbrev pub GivesWithin : Got → ℕ → Type 0
 GivesWithin (Bytes n) room = (1 ≤ n) × (n ≤ room)
@@ -62,6 +72,11 @@ KeepsLeftAtFault (Some before) now Failed left = now ≡ Some left
 
 -- A sink --
 
+-- What a sink tells of itself at a moment: the bytes taken so far, where it tells them, and how many writes failed.
+pub record SinkTold : Type 0 where
+  pub taken : Option (List ℕ)
+  pub faults : ℕ
+
 -- A write that takes bytes takes at least one, and no more than the piece has.
 abbrev pub TakesWithin : Put → ℕ → Type 0
 TakesWithin (Took n) len = (1 ≤ n) × (n ≤ len)
@@ -80,6 +95,14 @@ WriteFaultCounts before now (Took n) = now ≡ before
 WriteFaultCounts before now PutFailed = now ≡ one_more before
 
 -- A store --
+
+-- What a store tells of itself at a moment: what a name has, which is `None` where it doesn't tell it, `Some None` where
+-- it tells that the name isn't there, and else the bytes; the name of the load that failed last, and none before the
+-- first; and how many loads failed.
+pub record StoreTold : Type 0 where
+  pub content : List ℕ → Option (Option (List ℕ))
+  pub failed_name : Option (List ℕ)
+  pub faults : ℕ
 
 -- The most bytes of a content that a load gives: one more than 4 MiB, so that the caller sees that a content is
 -- longer than that.

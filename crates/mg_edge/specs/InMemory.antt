@@ -5,7 +5,7 @@ use Rattle.mg_edge.specs.declared.source.Got.{Got}
 use Rattle.mg_edge.specs.declared.source.Got.TheVariants.{Bytes, End, Failed}
 use Rattle.mg_edge.specs.declared.sink.Put.{Put}
 use Rattle.mg_edge.specs.declared.sink.Put.TheVariants.{Took, Failed as PutFailed}
-use Rattle.mg_edge.specs.Edge.{one_more}
+use Rattle.mg_edge.specs.Edge.{SourceTold, SinkTold, one_more}
 
 -- A source in memory --
 
@@ -24,6 +24,16 @@ pub record SourceState : Type 0 where
 abbrev pub whole_source : List ℕ → ℕ → List ℕ → SourceState
 whole_source bytes piece failing =
     record { left = bytes; piece = piece; failing = failing; reads = 0; ends = 0; faults = 0; left_at_fault = None }
+
+-- It tells all that a source can tell.
+abbrev pub source_told : SourceState → SourceTold
+source_told source = record {
+  left = Some source.left;
+  reads = Some source.reads;
+  ends = source.ends;
+  faults = source.faults;
+  left_at_fault = Some source.left_at_fault;
+}
 
 -- Whether the next read is one that fails.
 abbrev pub read_fails : SourceState → Bool
@@ -57,6 +67,9 @@ pub record SinkState : Type 0 where
 -- A sink that has taken nothing yet.
 abbrev pub empty_sink : ℕ → List ℕ → SinkState
 empty_sink room failing = record { taken = []; room = room; failing = failing; writes = 0; faults = 0 }
+
+abbrev pub sink_told : SinkState → SinkTold
+sink_told sink = record { taken = Some sink.taken; faults = sink.faults }
 
 -- Whether the next write fails: it is one that is to, or no room is left.
 abbrev pub write_fails : SinkState → Bool

@@ -1,6 +1,6 @@
 ghost use Rattle.std.specs.Prelude.{◌≡◌, ◌<◌, length, IfOk, Some};
 ghost use Rattle.mg_edge.specs.Edge.{TakesWithin, WriteAppends, WriteFaultCounts};
-ghost use Rattle.mg_edge.specs.InMemory.{SinkState, empty_sink, next_put, after_put};
+ghost use Rattle.mg_edge.specs.InMemory.{SinkState, empty_sink, sink_told, next_put, after_put};
 
 use crate::{Put, Sink};
 use std::alloc::{AllocError, Global};
@@ -65,9 +65,7 @@ impl MemorySink {
 }
 
 impl Sink for MemorySink {
-    ghost taken = { λ s. Some s.taken };
-
-    ghost faults = { λ s. s.faults };
+    ghost told = { sink_told };
 
     fn write(&mut self, piece: &[u8]) -> Put
         requires { 0 < length piece.now }

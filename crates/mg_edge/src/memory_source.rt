@@ -1,6 +1,6 @@
 ghost use Rattle.std.specs.Prelude.{◌≡◌, ◌<◌, ◌≤◌, length, take, IfOk, Some};
 ghost use Rattle.mg_edge.specs.Edge.{GivesWithin, ReadTakes, CountsOne, EndCounts, ReadFaultCounts, KeepsLeftAtFault};
-ghost use Rattle.mg_edge.specs.InMemory.{SourceState, whole_source, next_got, after_got};
+ghost use Rattle.mg_edge.specs.InMemory.{SourceState, whole_source, source_told, next_got, after_got};
 
 use crate::{Got, Source};
 use std::alloc::{AllocError, Global};
@@ -89,15 +89,7 @@ impl MemorySource {
 }
 
 impl Source for MemorySource {
-    ghost left = { λ s. Some s.left };
-
-    ghost reads = { λ s. Some s.reads };
-
-    ghost ends = { λ s. s.ends };
-
-    ghost faults = { λ s. s.faults };
-
-    ghost left_at_fault = { λ s. Some s.left_at_fault };
+    ghost told = { source_told };
 
     fn read(&mut self, buf: &mut [u8]) -> Got
         requires { 0 < length buf.old }
