@@ -2,11 +2,12 @@
 --
 -- What an object tells is optional: `None` claims nothing. A count rises by one at the calls that it counts, and is
 -- left as it was by every other. It stands still at 2 ^ 64 - 1, the end of its type.
-use Rattle.std.specs.Prelude.{◌≡◌, ℕ, ◌+◌, ◌-◌, ◌^◌, ◌≤◌, min, List, [], ◌++◌, length, take, drop, Option, None, Some, ⊤}
+use Rattle.std.specs.Prelude.{◌≡◌, ℕ, ◌+◌, ◌-◌, ◌^◌, ◌≤◌, min, List, [], ◌++◌, length, take, drop, Option, None, Some, option_map, ⊤}
 use Rattle.mg_edge.specs.declared.source.Got.{Got}
 use Rattle.mg_edge.specs.declared.source.Got.TheVariants.{Bytes, End, Failed}
 use Rattle.mg_edge.specs.declared.sink.Put.{Put}
 use Rattle.mg_edge.specs.declared.sink.Put.TheVariants.{Took, Failed as PutFailed}
+use Rattle.mg_edge.specs.declared.store.TheConstants.{MOST_LOADED}
 use Rattle.mg_edge.specs.declared.store.Loaded.{Loaded}
 use Rattle.mg_edge.specs.declared.store.Loaded.TheVariants.{Bytes as LoadedBytes, Failed as LoadFailed, OutOfMemory}
 
@@ -16,7 +17,7 @@ one_more count = min (count + 1) (2 ^ 64 - 1)
 
 -- The count has risen, or stands at its type's end.
 abbrev pub Rose : ℕ → ℕ → Type 0
-Rose before now = (before ≤ now) × (one_more before ≤ now)
+Rose before now = one_more before ≤ now
 
 -- A count that is told rises by one, and stays told.
 abbrev pub CountsOne : Option ℕ → Option ℕ → Type 0
@@ -62,13 +63,12 @@ ReadFaultCounts before now (Bytes n) = now ≡ before
 ReadFaultCounts before now End = now ≡ before
 ReadFaultCounts before now Failed = now ≡ one_more before
 
--- What was left at the read that failed last, where the source tells it: a read that fails leaves its own, and any
+-- What was left at the read that failed last, where the source tells that: a read that fails leaves its own, and any
 -- other keeps the one before. `left` is what the source tells to be left before the read.
 abbrev pub KeepsLeftAtFault : Option (Option (List ℕ)) → Option (Option (List ℕ)) → Got → Option (List ℕ) → Type 0
-KeepsLeftAtFault None now got left = ⊤
-KeepsLeftAtFault (Some before) now (Bytes n) left = now ≡ Some before
-KeepsLeftAtFault (Some before) now End left = now ≡ Some before
-KeepsLeftAtFault (Some before) now Failed left = now ≡ Some left
+KeepsLeftAtFault before now (Bytes n) left = now ≡ before
+KeepsLeftAtFault before now End left = now ≡ before
+KeepsLeftAtFault before now Failed left = now ≡ option_map (λ last. left) before
 
 -- A sink --
 
@@ -107,7 +107,7 @@ pub record StoreTold : Type 0 where
 -- The most bytes of a content that a load gives: one more than 4 MiB, so that the caller sees that a content is
 -- longer than that.
 abbrev pub most_loaded : ℕ
-most_loaded = 4194305
+most_loaded = MOST_LOADED
 
 -- A load gives at most so many bytes.
 abbrev pub LoadsWithin : Loaded → Type 0
