@@ -18,8 +18,8 @@ use Rattle.mg_value.proofs.AfterSets.{left_of, settled_sets-after_sets}
 use Rattle.mg_stream.specs.Queue.{Waiting, rest_of, StandsFor, MayCome, IsLike, with_packet, raised_to, popped_at}
 use Rattle.mg_policy.specs.Inbox.{rests, next_set, StandAfter}
 use Rattle.mg_run.specs.Accepted.{stepped, bound_at}
-use Rattle.mg_run.specs.Output.{line_text, set_text, text_of, output_of}
-use Rattle.mg_run.specs.Claimed.{Claimed}
+use Rattle.mg_run.specs.Output.{line_text, set_text, sets_text, output_of}
+use Rattle.mg_run.specs.Inner.Claimed.{Claimed}
 
 -- A step of a queue that stands for a stream steps the stream too: it extends it, and leaves what is settled.
 pub record IsStep (q after : Waiting Plain) (step : StreamPrefix Plain → StreamPrefix Plain) : Type 0 where
@@ -149,21 +149,21 @@ stand-stepped port step qs ss q after is one stand =
     )
 
 -- The text of streams grows as they go on.
-text-append : (xs ys : List (TimedSet Plain)) → text_of (xs ++ ys) ≡ text_of xs ++ text_of ys
+text-append : (xs ys : List (TimedSet Plain)) → sets_text (xs ++ ys) ≡ sets_text xs ++ sets_text ys
 text-append xs ys = flat_map-append _ xs ys
 
 pub output-more : (ss more : List (StreamPrefix Plain)) → AreExtendedBy ss more
-    → output_of more ≡ output_of ss ++ text_of (drop (length (settled_sets ss)) (settled_sets more))
+    → output_of more ≡ output_of ss ++ sets_text (drop (length (settled_sets ss)) (settled_sets more))
 output-more ss more extended =
     let n = length (settled_sets ss) in
-    ap text_of (sym (take-append-drop n (settled_sets more)))
+    ap sets_text (sym (take-append-drop n (settled_sets more)))
     ∙ text-append (take n (settled_sets more)) (drop n (settled_sets more))
-    ∙ ap (λ (sets : List (TimedSet Plain)). text_of sets ++ text_of (drop n (settled_sets more))) (settled_sets_first ss more extended)
+    ∙ ap (λ (sets : List (TimedSet Plain)). sets_text sets ++ sets_text (drop n (settled_sets more))) (settled_sets_first ss more extended)
 
 -- All is claimed again after a step of the queue at a port and a claim of all sets that are ready.
 pub claimed-stepped : (port : ℕ) (step : StreamPrefix Plain → StreamPrefix Plain) (qs mid last : List (Waiting Plain)) (ss : List (StreamPrefix Plain)) (q after : Waiting Plain) (sent text new : List ℕ)
     → slice_get qs port ≡ Some q → IsStep q after step → mid ≡ slice_set qs port after
-    → new ≡ text ++ text_of (settled_sets (rests mid))
+    → new ≡ text ++ sets_text (settled_sets (rests mid))
     → ((k : ℕ) (ss : List (StreamPrefix Plain)) → StandAfter k mid ss → StandAfter (length (settled_sets ss)) last ss)
     → Claimed ss sent qs text → Claimed (stepped port step ss) sent last new
 claimed-stepped port step qs mid last ss q after sent text new is one mid_is new_is stands claimed =
@@ -174,9 +174,9 @@ claimed-stepped port step qs mid last ss q after sent text new is one mid_is new
     ap settled_sets now.left ∙ settled_sets-after_sets n (stepped port step ss) in
     record {
       stand = stands n (stepped port step ss) now;
-      means = ap (λ t. sent ++ t) (new_is ∙ ap (λ (w : List (TimedSet Plain)). text ++ text_of w) sets)
-          ∙ sym (append_assoc sent text (text_of (drop n (settled_sets (stepped port step ss)))))
-          ∙ ap (λ t. t ++ text_of (drop n (settled_sets (stepped port step ss)))) claimed.means
+      means = ap (λ t. sent ++ t) (new_is ∙ ap (λ (w : List (TimedSet Plain)). text ++ sets_text w) sets)
+          ∙ sym (append_assoc sent text (sets_text (drop n (settled_sets (stepped port step ss)))))
+          ∙ ap (λ t. t ++ sets_text (drop n (settled_sets (stepped port step ss)))) claimed.means
           ∙ sym (output-more ss (stepped port step ss) both.1);
     }
 
@@ -198,7 +198,7 @@ no-sets n = rw (no-times n) refl
 pub claimed-nothing : (n : ℕ) (qs : List (Waiting Plain)) → StandAfter 0 qs (replicate n empty_prefix) → Claimed (replicate n empty_prefix) [] qs []
 claimed-nothing n qs stand = record {
   stand = subst (λ (sets : List (TimedSet Plain)). StandAfter (length sets) qs (replicate n empty_prefix)) (sym (no-sets n)) stand;
-  means = ap text_of (sym (no-sets n));
+  means = ap sets_text (sym (no-sets n));
 }
 
 -- Closing all --
@@ -261,15 +261,15 @@ show-none (o ∷ set) (suc port) le = show-none set port (omega (arith, le))
 
 -- the first of some sets shown, and the others left
 pub shown-more : (text shown before : List ℕ) (all left : List (TimedSet Plain)) (e : TimedSet Plain)
-    → slice_get all 0 ≡ Some e → left ≡ drop 1 all → shown ≡ text ++ set_text e.set → text ++ text_of all ≡ before
-    → shown ++ text_of left ≡ before
+    → slice_get all 0 ≡ Some e → left ≡ drop 1 all → shown ≡ text ++ set_text e.set → text ++ sets_text all ≡ before
+    → shown ++ sets_text left ≡ before
 shown-more text shown before [] left e is left_is shown_is was = cc
 shown-more text shown before (f ∷ all) left e is left_is shown_is was =
     let same : f ≡ e = cc in
-    ap (λ t. t ++ text_of left) shown_is
-    ∙ append_assoc text (set_text e.set) (text_of left)
-    ∙ ap (λ (l : List (TimedSet Plain)). text ++ (set_text e.set ++ text_of l)) left_is
-    ∙ ap (λ (g : TimedSet Plain). text ++ (set_text g.set ++ text_of all)) (sym same)
+    ap (λ t. t ++ sets_text left) shown_is
+    ∙ append_assoc text (set_text e.set) (sets_text left)
+    ∙ ap (λ (l : List (TimedSet Plain)). text ++ (set_text e.set ++ sets_text l)) left_is
+    ∙ ap (λ (g : TimedSet Plain). text ++ (set_text g.set ++ sets_text all)) (sym same)
     ∙ was
 
 -- Queues of which no set is left stand after all sets.
@@ -330,7 +330,7 @@ some-by (Some e) P some all = (e, refl, all)
 -- the set that was claimed, shown
 pub claim-shown : (qs : List (Waiting Plain)) (set : List (Option (Stamped Plain))) (left : List (TimedSet Plain)) (text shown before : List ℕ)
     → IsSome (next_set qs) → IfSome (next_set qs) (λ e. set ≡ e.set) → left ≡ drop 1 (settled_sets (rests qs)) → shown ≡ text ++ set_text set
-    → text ++ text_of (settled_sets (rests qs)) ≡ before → shown ++ text_of left ≡ before
+    → text ++ sets_text (settled_sets (rests qs)) ≡ before → shown ++ sets_text left ≡ before
 claim-shown qs set left text shown before some is left_is shown_is was =
     let e = some-by (next_set qs) (λ e. set ≡ e.set) some is in
     shown-more text shown before (settled_sets (rests qs)) left e.0 e.1 left_is (shown_is ∙ ap (λ (l : List (Option (Stamped Plain))). text ++ set_text l) e.2) was

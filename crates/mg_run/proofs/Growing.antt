@@ -9,9 +9,9 @@ use Rattle.mg_value.proofs.Extending.{extended_by_itself, extended_further, appe
 use Rattle.mg_value.proofs.PrefixSteps.{empty_is_prefix, appended_is_prefix, raised_is_prefix, closed_is_prefix}
 use Rattle.mg_run.specs.Reading.{reading}
 use Rattle.mg_run.specs.Accepted.{stepped, bound_at, with_said, streams_of, said_refusal, refusal, if_good, accepted_after, Refused, ended_by}
-use Rattle.mg_run.specs.Output.{text_of, output_of}
-use Rattle.mg_run.specs.Said.{IsSaidOf}
-use Rattle.mg_run.specs.Feed.{AllGood}
+use Rattle.mg_run.specs.Output.{sets_text, output_of}
+use Rattle.mg_run.specs.Inner.Said.{IsSaidOf}
+use Rattle.mg_run.specs.Inner.Feed.{AllGood}
 use Rattle.mg_run.specs.declared.line_fault.LineFault.{LineFault}
 use Rattle.mg_run.specs.declared.line_fault.LineFault.TheVariants.{NotYet, Closed, NotAscending}
 use Rattle.mg_run.specs.declared.reading.Said.{Said}
@@ -107,7 +107,7 @@ output-extends names xs ys o good more =
     let both = lines-extend names xs ys first.0 more in
     let all : AreExtendedBy (streams_of names xs) (ended_by o (streams_of names (xs ++ ys))) =
     extended-further _ _ _ both.1 (ended-extend o (streams_of names (xs ++ ys)) both.0) in (
-      text_of (drop (length (settled_sets (streams_of names xs))) (settled_sets (ended_by o (streams_of names (xs ++ ys))))),
+      sets_text (drop (length (settled_sets (streams_of names xs))) (settled_sets (ended_by o (streams_of names (xs ++ ys))))),
       output-more (streams_of names xs) (ended_by o (streams_of names (xs ++ ys))) all,
     )
 

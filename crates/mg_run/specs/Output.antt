@@ -29,9 +29,9 @@ set_text (None ∷ set) = set_text set
 set_text (Some p ∷ set) = line_text p
 
 -- the lines of some sets
-abbrev pub text_of : List (TimedSet Plain) → List ℕ
-text_of sets = flat_map (λ timed. set_text timed.set) sets
+abbrev pub sets_text : List (TimedSet Plain) → List ℕ
+sets_text sets = flat_map (λ timed. set_text timed.set) sets
 
 -- the output text that some input streams make: at each settled time the packet of the first input that has one
 abbrev pub output_of : List (StreamPrefix Plain) → List ℕ
-output_of ss = text_of (settled_sets ss)
+output_of ss = sets_text (settled_sets ss)

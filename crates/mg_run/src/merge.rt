@@ -31,8 +31,8 @@ impl Merge {
     ghost use Rattle.mg_value.specs.Settled.{settled_sets};
     ghost use Rattle.mg_policy.specs.Inbox.{rests, StandAfter};
     ghost use Rattle.mg_run.specs.Accepted.{stepped, bound_at};
-    ghost use Rattle.mg_run.specs.Output.{text_of};
-    ghost use Rattle.mg_run.specs.Claimed.{Claimed};
+    ghost use Rattle.mg_run.specs.Output.{sets_text};
+    ghost use Rattle.mg_run.specs.Inner.Claimed.{Claimed};
 
     /// A node of as many inputs, to which nothing came yet.
     pub fn new(alloc: Global, inputs: u32) -> Result<Merge, AllocError>
@@ -116,7 +116,7 @@ impl Merge {
     fn claim(&mut self, text: &mut Vec<u8>) -> Result<(), AllocError>
         ensures inputs { length self.new.inbox ≡ length self.old.inbox }
         ensures none { OnOk result (settled_sets (rests self.new.inbox) ≡ []) }
-        ensures text { OnOk result (text.new.items ≡ text.old.items ++ text_of (settled_sets (rests self.old.inbox))) }
+        ensures text { OnOk result (text.new.items ≡ text.old.items ++ sets_text (settled_sets (rests self.old.inbox))) }
         ensures stand { OnOk result ((k : ℕ) (ss : List (StreamPrefix Plain)) → StandAfter k self.old.inbox ss
             → StandAfter (length (settled_sets ss)) self.new.inbox ss) }
     {

@@ -4,7 +4,8 @@ use Rattle.std.specs.Prelude.{◌≡◌, ℕ, ◌+◌, ◌*◌, List, [], ◌∷
 use Rattle.mg_run.specs.Lines.{parts, whole_lines, all_lines}
 use Rattle.mg_run.specs.Output.{output_of}
 use Rattle.mg_run.specs.Accepted.{refusal, accepted, first_refused, streams_of, ended_streams}
-use Rattle.mg_run.specs.Claimed.{Claimed}
+use Rattle.mg_run.specs.Inner.Claimed.{Claimed}
+use Rattle.mg_run.specs.Reading.{longest_line}
 use Rattle.mg_run.specs.declared.line_fault.LineFault.{LineFault}
 use Rattle.mg_run.specs.declared.feed.Feed.{Feed}
 
@@ -63,4 +64,4 @@ pub record Ended (names : List (List ℕ)) (came sent : List ℕ) (feed : Feed) 
 
 -- a number that rises with each byte, while no line is refused
 abbrev pub weight : Feed → ℕ
-weight feed = feed.lines * 1048578 + vec_len feed.rest
+weight feed = feed.lines * (longest_line + 2) + vec_len feed.rest
