@@ -6,6 +6,7 @@ use Rattle.serde_json.specs.Find.{of_integer}
 use Rattle.serde_json.specs.Written.{compact_text}
 use Rattle.mg_time.specs.Time.{raw_of}
 use Rattle.mg_value.specs.Payload.{Plain, int}
+use Rattle.mg_value.specs.declared.policy.Policy.TheVariants.{Default}
 use Rattle.mg_value.specs.Prefix.{Stamped, StreamPrefix}
 use Rattle.mg_value.specs.Settled.{TimedSet, settled_sets}
 
@@ -34,4 +35,4 @@ sets_text sets = flat_map (λ timed. set_text timed.set) sets
 
 -- the output text that some input streams make: at each settled time the packet of the first input that has one
 abbrev pub output_of : List (StreamPrefix Plain) → List ℕ
-output_of ss = sets_text (settled_sets ss)
+output_of ss = sets_text (settled_sets Default ss)

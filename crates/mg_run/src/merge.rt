@@ -28,6 +28,7 @@ impl Merge {
     ghost use Rattle.mg_time.specs.Time.{IsRange};
     ghost use Rattle.mg_value.specs.Payload.{Plain, int};
     ghost use Rattle.mg_value.specs.Prefix.{StreamPrefix, empty_prefix, appended, raised, closed};
+    ghost use Rattle.mg_value.specs.declared.policy.Policy.TheVariants.{Default};
     ghost use Rattle.mg_value.specs.Settled.{settled_sets};
     ghost use Rattle.mg_policy.specs.Inbox.{rests, StandAfter};
     ghost use Rattle.mg_run.specs.Accepted.{stepped, bound_at};
@@ -115,10 +116,10 @@ impl Merge {
     // Takes the sets that are ready, and shows the first packet of each.
     fn claim(&mut self, text: &mut Vec<u8>) -> Result<(), AllocError>
         ensures inputs { length self.new.inbox ≡ length self.old.inbox }
-        ensures none { OnOk result (settled_sets (rests self.new.inbox) ≡ []) }
-        ensures text { OnOk result (text.new.items ≡ text.old.items ++ sets_text (settled_sets (rests self.old.inbox))) }
-        ensures stand { OnOk result ((k : ℕ) (ss : List (StreamPrefix Plain)) → StandAfter k self.old.inbox ss
-            → StandAfter (length (settled_sets ss)) self.new.inbox ss) }
+        ensures none { OnOk result (settled_sets Default (rests self.new.inbox) ≡ []) }
+        ensures text { OnOk result (text.new.items ≡ text.old.items ++ sets_text (settled_sets Default (rests self.old.inbox))) }
+        ensures stand { OnOk result ((k : ℕ) (ss : List (StreamPrefix Plain)) → StandAfter Default k self.old.inbox ss
+            → StandAfter Default (length (settled_sets Default ss)) self.new.inbox ss) }
     {
         while self.inbox.claim(&mut self.set) {
             show(&self.set, text)?;
