@@ -25,6 +25,3 @@ pub use policy::Policy;
 pub use prefix::Prefix;
 pub use record_list::{Entry, RecordList};
 pub use text::MgText;
-
-#[cfg(test)]
-mod tests;
