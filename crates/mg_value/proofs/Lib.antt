@@ -2,6 +2,7 @@ pub mod AfterSets
 pub mod Extending
 pub mod JsonFaults
 pub mod JsonLists
+pub mod JsonWriting
 pub mod PrefixSteps
 pub mod SettledSets
 pub mod Times

@@ -133,7 +133,7 @@ fn write_entries(alloc: Global, entries: &RecordList) -> Result<Map<String, Valu
     for entry in entries.as_slice() {
         let name = String::from_str(alloc, entry.key.as_str())?;
         let value = write(alloc, &entry.value)?;
-        members.insert(name, value)?;
+        drop(members.insert(name, value)?);
     }
     Ok(members)
 }

@@ -8,13 +8,13 @@ use Rattle.mg_value.proofs.JsonLists.{payload_said}
 use Rattle.mg_value.proofs.json.+writing.Given as goal
 
 abbrev pub decreases-write : goal.decreases-write
-decreases-write l = 2 * depth (plain l.payload)
+decreases-write l = 2 * depth (plain l.payload.now)
 
 abbrev pub decreases-write_items : goal.decreases-write_items
-decreases-write_items l = 2 * items_depth (items_of l.payloads) + 1
+decreases-write_items l = 2 * items_depth (items_of l.payloads.now) + 1
 
 abbrev pub decreases-write_entries : goal.decreases-write_entries
-decreases-write_entries l = 2 * entries_depth (entries_of l.entries) + 1
+decreases-write_entries l = 2 * entries_depth (entries_of l.entries.now) + 1
 
 abbrev pub invariant-write_items-loop-payload : goal.invariant-write_items-loop-payload
 invariant-write_items-loop-payload l = map view l.values.items ≡ map payload_said (take l.payload-index l.payload-items)
