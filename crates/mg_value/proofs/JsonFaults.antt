@@ -1,5 +1,5 @@
 -- The first fault of a list or an object, by what of it isn't read yet.
-use Rattle.std.proofs.Common.{◌≡◌, ℕ, suc, ◌+◌, ◌<◌, ◌≤◌, length, drop, get_or, List, [], ◌∷◌, ◌++◌, Bool, true, false, Some, nat_lt, if◌then◌else◌, refl, sym, ap, ◌∙◌, arith}
+use Rattle.std.proofs.Common.{◌≡◌, ℕ, suc, ◌+◌, ◌<◌, ◌≤◌, length, drop, get_or, List, [], ◌∷◌, ◌++◌, Bool, false, Some, nat_lt, if◌then◌else◌, refl, sym, ap, ◌∙◌, arith}
 use Rattle.std.proofs.Math.Seq.{drop-cons}
 use Rattle.serde_json.specs.View.{view, items_view, members_view}
 use Rattle.serde_json.specs.declared.value.Value.{Value}
@@ -11,10 +11,10 @@ use Rattle.mg_value.proofs.JsonLists.{Member}
 pub not_too_deep : (depth : ℕ) (faults : List ValueFault) → depth ≤ 16 → depth_faults depth ++ faults ≡ faults
 not_too_deep depth faults h = at (nat_lt 16 depth) (let e : nat_lt 16 depth ≡ false = grind arith in e)
   where
-  at : (b : Bool) → b ≡ false → (if b then TooDeep ∷ [] else []) ++ faults ≡ faults
-  at b e = rw e refl
+    at : (b : Bool) → b ≡ false → (if b then TooDeep ∷ [] else []) ++ faults ≡ faults
+    at b e = rw e refl
 
-first-append : (faults more : List ValueFault) (fault : ValueFault) → first faults ≡ Some fault → first (faults ++ more) ≡ Some fault
+pub first-append : (faults more : List ValueFault) (fault : ValueFault) → first faults ≡ Some fault → first (faults ++ more) ≡ Some fault
 first-append [] more fault e = absurd (cc)
 first-append (f ∷ faults) more fault e = e
 

@@ -1,5 +1,7 @@
 -- Lists of payloads beside the JSON values that say them.
-use Rattle.std.proofs.Common.{◌≡◌, ℕ, List, [], ◌∷◌, ◌++◌, map, String, Global, string_bytes, string_cmp, refl, sym, ap, ◌∙◌, subst}
+use Rattle.std.proofs.Common.{◌≡◌, ℕ, ◌+◌, ◌<◌, List, [], ◌∷◌, ◌++◌, map, take, length, get_or, String, Global, string_bytes, string_cmp, refl, sym, ap, ap₂, ◌∙◌, subst}
+use Rattle.std.proofs.lemmas.List.{map-append}
+use Rattle.std.proofs.lemmas.Grind.{take_at_read}
 use Rattle.std.specs.Cmp.Lexicographic.{slice_cmp}
 use Rattle.std.specs.Ordering.{nat_cmp}
 use Rattle.std.specs.declared.cmp.Ordering.TheVariants.{Less}
@@ -11,7 +13,7 @@ use Rattle.serde_json.specs.View.{view, items_of as json_list, items_view, membe
 use Rattle.serde_json.specs.declared.value.Value.{Value}
 use Rattle.mg_value.specs.declared.payload.Payload.{Payload}
 use Rattle.mg_value.specs.declared.record_list.Entry.{Entry}
-use Rattle.mg_value.specs.Plain.{Plain, items_of, entries_of}
+use Rattle.mg_value.specs.Plain.{items_of, entries_of}
 use Rattle.mg_value.specs.Payload.{plain}
 use Rattle.mg_value.specs.Entry.{plain_entry, KeysAscend}
 use Rattle.mg_value.specs.Json.{json_of, json_items, json_members}
@@ -82,3 +84,10 @@ sorted_by_bytes (k ∷ ks) h = (above_by_bytes k ks h.0, sorted_by_bytes ks h.1)
 pub keys_ascend : (es : List Entry) (ms : List Member) → map entry_said es ≡ map member_said ms → IsStrictlySortedBy string_cmp (keys_of ms) → KeysAscend (map plain_entry es)
 keys_ascend es ms e h =
     subst (IsStrictlySortedBy (slice_cmp nat_cmp)) (sym (keys-map es ∙ ap first_parts e ∙ names-map ms)) (sorted_by_bytes (keys_of ms) h)
+
+-- one more value says one more payload
+pub one_more : (ps : List Payload) (i : ℕ) (p : Payload) (before after : List Value) (v : Value) → i < length ps → p ≡ get_or ps i p → map view before ≡ map payload_said (take i ps)
+    → after ≡ before ++ v ∷ [] → view v ≡ payload_said p → map view after ≡ map payload_said (take (i + 1) ps)
+one_more ps i p before after v within is said pushed value =
+    ap (map view) pushed ∙ map-append view before (v ∷ []) ∙ ap₂ (λ xs y. xs ++ y ∷ []) said (value ∙ ap payload_said is)
+    ∙ sym (ap (map payload_said) ((take_at_read ps i p within).1) ∙ map-append payload_said (take i ps) (get_or ps i p ∷ []))

@@ -1,5 +1,5 @@
 -- What of a list or a record is written next: it nests less deep, and goes behind what is written.
-use Rattle.std.proofs.Common.{◌≡◌, ℕ, zero, suc, ◌+◌, ◌<◌, ◌≤◌, List, [], ◌∷◌, map, take, length, get_or, add-one, Ordering, Less, Greater, refl, sym, ap, ◌∙◌, arith}
+use Rattle.std.proofs.Common.{◌≡◌, ℕ, zero, suc, ◌+◌, ◌<◌, ◌≤◌, List, [], ◌∷◌, map, take, length, get_or, add-one, Less, Greater, refl, ap, subst, ◌∙◌, arith}
 use Rattle.std.proofs.lemmas.Cmp.{nat_list_cmp_total}
 use Rattle.std.specs.Cmp.Lexicographic.{slice_cmp}
 use Rattle.std.specs.Ordering.{nat_cmp, ordering_reverse}
@@ -8,7 +8,7 @@ use Rattle.std.specs.List.Sorted.{IsStrictlySortedBy}
 use Rattle.serde_json.specs.Data as json
 use Rattle.mg_value.specs.declared.payload.Payload.{Payload}
 use Rattle.mg_value.specs.declared.record_list.Entry.{Entry}
-use Rattle.mg_value.specs.Plain.{depth, items_of, items_depth, entries_of, entries_depth}
+use Rattle.mg_value.specs.Plain.{depth, items_of, items_depth, entries_of, entries_depth, NumbersFit, ItemsFit, EntriesFit}
 use Rattle.mg_value.specs.Payload.{plain}
 use Rattle.mg_value.specs.Entry.{plain_entry, KeysAscend}
 use Rattle.mg_value.specs.Json.{json_of, json_members}
@@ -51,3 +51,20 @@ pub entry_written : (es : List Entry) (i : ℕ) (e : Entry) (key : List ℕ) (va
     → key ≡ e.key → value ≡ json_of (plain e.value) → ms ≡ members_before i es → json.put key value ms ≡ members_before (i + 1) es
 entry_written es i e key value ms h within is keyed said before =
     rw (keyed ∙ ap (λ x. x.key) is, said ∙ ap (λ x. json_of (plain x.value)) is, before, add-one) (put_next es i e h within)
+
+-- with one more that fits, they fit
+pub items_fit_next : (ps : List Payload) (i : ℕ) (p : Payload) → i < length ps → p ≡ get_or ps i p → ItemsFit (items_of (map plain (take i ps))) → NumbersFit (plain p) → ItemsFit (items_of (map plain (take (i + 1) ps)))
+items_fit_next ps i p within is before fit = rw add-one (at ps i p within before (subst (λ x. NumbersFit (plain x)) is fit))
+  where
+    at : (qs : List Payload) (j : ℕ) (d : Payload) → j < length qs → ItemsFit (items_of (map plain (take j qs))) → NumbersFit (plain (get_or qs j d)) → ItemsFit (items_of (map plain (take (suc j) qs)))
+    at [] j d within before fit = absurd (omega arith)
+    at (q ∷ qs) zero d within before fit = (fit, tt)
+    at (q ∷ qs) (suc j) d within before fit = (before.0, at qs j d (omega arith) before.1 fit)
+
+pub entries_fit_next : (es : List Entry) (i : ℕ) (e : Entry) → i < length es → e ≡ get_or es i e → EntriesFit (entries_of (map plain_entry (take i es))) → NumbersFit (plain e.value) → EntriesFit (entries_of (map plain_entry (take (i + 1) es)))
+entries_fit_next es i e within is before fit = rw add-one (at es i e within before (subst (λ x. NumbersFit (plain x.value)) is fit))
+  where
+    at : (fs : List Entry) (j : ℕ) (d : Entry) → j < length fs → EntriesFit (entries_of (map plain_entry (take j fs))) → NumbersFit (plain (get_or fs j d).value) → EntriesFit (entries_of (map plain_entry (take (suc j) fs)))
+    at [] j d within before fit = absurd (omega arith)
+    at (f ∷ fs) zero d within before fit = (fit, tt)
+    at (f ∷ fs) (suc j) d within before fit = (before.0, at fs j d (omega arith) before.1 fit)

@@ -4,6 +4,7 @@ pub mod JsonFaults
 pub mod JsonLists
 pub mod JsonWriting
 pub mod PrefixSteps
+pub mod RoundTrip
 pub mod SettledSets
 pub mod Times
 pub mod LoopbackStream

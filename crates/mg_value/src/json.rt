@@ -1,8 +1,8 @@
-ghost use Rattle.std.specs.Prelude.{◌≡◌, ◌≢◌, ◌≤◌, ◌+◌, [], ◌∷◌, ◌++◌, None, Some, IfOk, IfErr};
+ghost use Rattle.std.specs.Prelude.{◌≡◌, ◌≢◌, ◌<◌, ◌≤◌, ◌+◌, [], ◌∷◌, ◌++◌, None, Some, IfOk, IfErr};
 ghost use Rattle.std.specs.Arc.{arc_value};
 ghost use Rattle.serde_json.specs.Find.{of_integer};
 ghost use Rattle.serde_json.specs.View.{view, number_view, items_view, members_view};
-ghost use Rattle.mg_value.specs.Plain.{items_of, entries_of};
+ghost use Rattle.mg_value.specs.Plain.{Plain, depth, items_of, entries_of, NumbersFit, ItemsFit, EntriesFit};
 ghost use Rattle.mg_value.specs.Payload.{plain};
 ghost use Rattle.mg_value.specs.Json.{json_of, json_items, json_members, number_faults, depth_faults, faults_at, items_faults, members_faults, first, first_fault};
 
@@ -18,6 +18,7 @@ const MAX_DEPTH: u32 = 16;
 /// value, an object's in the byte order of its keys.
 pub fn from_json(alloc: Global, value: &Value) -> Result<Arc<Payload>, ValueFault>
     ensures says { IfOk result (λ p. json_of (plain (arc_value p)) ≡ view value.now) }
+    ensures only { IfOk result (λ p. (q : Plain) → json_of q ≡ view value.now → q ≡ plain (arc_value p)) }
     ensures clear { IfOk result (λ p. first_fault (view value.now) ≡ None) }
     ensures fault { IfErr result (λ fault. fault ≢ ValueFault.OutOfMemory → first_fault (view value.now) ≡ Some fault) }
 {
@@ -25,11 +26,13 @@ pub fn from_json(alloc: Global, value: &Value) -> Result<Arc<Payload>, ValueFaul
     Ok(Arc::new(alloc, payload)?)
 }
 
-/// The JSON value that says a payload.
+/// The JSON value that says a payload. `from_json` takes it back, unless its lists and records are too deep.
 pub fn to_json(alloc: Global, payload: &Payload) -> Result<Value, AllocError>
-    ensures { IfOk result (λ value. view value ≡ json_of (plain payload.now)) }
+    ensures says { IfOk result (λ value. view value ≡ json_of (plain payload.now)) }
+    ensures back { IfOk result (λ value. depth (plain payload.now) ≤ 16 → first_fault (view value) ≡ None) }
+    ensures deep { IfOk result (λ value. 16 < depth (plain payload.now) → first_fault (view value) ≡ Some ValueFault.TooDeep) }
 {
-    write(alloc, payload)
+    Ok(write(alloc, payload)?)
 }
 
 // Reads a value; a list or record here is the so many-th of those inside one another.
@@ -82,7 +85,11 @@ fn read_items(alloc: Global, values: &[Value], depth: u32) -> Result<PayloadList
 }
 
 #[cycle(reading)]
-fn read_entries(alloc: Global, members: &Map<String, Value>, depth: u32) -> Result<RecordList, ValueFault>
+fn read_entries(
+    alloc: Global,
+    members: &Map<String, Value>,
+    depth: u32,
+) -> Result<RecordList, ValueFault>
     requires { depth ≤ 17 }
     ensures says { IfOk result (λ es. json_members (entries_of es) ≡ members_view members.now.entries) }
     ensures clear { IfOk result (λ _. depth_faults depth ++ members_faults (depth + 1) (members_view members.now.entries) ≡ []) }
@@ -103,7 +110,8 @@ fn read_entries(alloc: Global, members: &Map<String, Value>, depth: u32) -> Resu
 
 #[cycle(writing)]
 fn write(alloc: Global, payload: &Payload) -> Result<Value, AllocError>
-    ensures { IfOk result (λ value. view value ≡ json_of (plain payload.now)) }
+    ensures says { IfOk result (λ value. view value ≡ json_of (plain payload.now)) }
+    ensures fit { IfOk result (λ _. NumbersFit (plain payload.now)) }
 {
     match payload {
         Payload::Flag(flag) => Ok(Value::Bool(*flag)),
@@ -116,7 +124,8 @@ fn write(alloc: Global, payload: &Payload) -> Result<Value, AllocError>
 
 #[cycle(writing)]
 fn write_items(alloc: Global, payloads: &PayloadList) -> Result<Vec<Value>, AllocError>
-    ensures { IfOk result (λ values. items_view values.items ≡ json_items (items_of payloads.now)) }
+    ensures says { IfOk result (λ values. items_view values.items ≡ json_items (items_of payloads.now)) }
+    ensures fit { IfOk result (λ _. ItemsFit (items_of payloads.now)) }
 {
     let mut values = Vec::with_capacity(alloc, payloads.len() as usize)?;
     for payload in payloads.as_slice() {
@@ -127,7 +136,8 @@ fn write_items(alloc: Global, payloads: &PayloadList) -> Result<Vec<Value>, Allo
 
 #[cycle(writing)]
 fn write_entries(alloc: Global, entries: &RecordList) -> Result<Map<String, Value>, AllocError>
-    ensures { IfOk result (λ members. members_view members.entries ≡ json_members (entries_of entries.now)) }
+    ensures says { IfOk result (λ members. members_view members.entries ≡ json_members (entries_of entries.now)) }
+    ensures fit { IfOk result (λ _. EntriesFit (entries_of entries.now)) }
 {
     let mut members = Map::new(alloc);
     for entry in entries.as_slice() {

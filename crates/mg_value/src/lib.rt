@@ -19,7 +19,7 @@ mod value_fault;
 
 pub use input_set::InputSet;
 pub use json::{from_json, to_json};
-pub use kind::{has_kind, Kind};
+pub use kind::{Kind, has_kind};
 pub use list::List;
 pub use packet::{Packet, PacketList};
 pub use payload::Payload;

@@ -71,4 +71,5 @@ fn values_both_ways(rt: HostRuntime) -> Result<(), Fail> {
     }
     Ok(())
 }
+
 const VALUES: &str = "true\n-5\n[1,2,[]]\n{\"a\":1,\"b\":[{}]}\n\"hello\"";

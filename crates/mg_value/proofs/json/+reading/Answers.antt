@@ -1,7 +1,6 @@
-use Rattle.std.proofs.Common.{◌≡◌, ◌++◌, List, ◌∷◌, [], map, sym, ap, ap₂, ◌∙◌, append_assoc, append-nil, arith}
+use Rattle.std.proofs.Common.{◌++◌, ◌∷◌, [], map, sym, ap, ap₂, ◌∙◌, append_assoc, append-nil, arith}
 use Rattle.std.proofs.lemmas.List.{map-append, take_all}
 use Rattle.std.proofs.lemmas.Result.{err_from_is_err_and}
-use Rattle.mg_value.specs.declared.record_list.Entry.{Entry}
 use Rattle.serde_json.specs.View.{view}
 use Rattle.mg_value.specs.Plain.{items_of, entries_of}
 use Rattle.mg_value.specs.Json.{json_items, json_members}
@@ -27,7 +26,7 @@ read_entries-loop-name-preserved t c =
       done ++ m ∷ [],
       kept.2 ∙ ap (λ ms. done ++ ms) c.in-Some.ensures.steps ∙ sym (append_assoc done (m ∷ []) left),
       ap (map entry_said) c.in_ok-push.ensures.items ∙ map-append entry_said c.loop-name.entries.items _
-      ∙ ap₂ (λ xs ys. xs ++ ys) kept.3 (ap₂ (λ k d. (k, d) ∷ []) (c.in_ok-key.ensures ∙ c.as_str.ensures.value) c.in_ok-value.ensures.says) ∙ sym (map-append member_said done (m ∷ [])),
+          ∙ ap₂ (λ xs ys. xs ++ ys) kept.3 (ap₂ (λ k d. (k, d) ∷ []) (c.in_ok-key.ensures ∙ c.as_str.ensures.value) c.in_ok-value.ensures.says) ∙ sym (map-append member_said done (m ∷ [])),
       member_passed _ c.args.members.now.entries _ left m kept.4 c.in-Some.ensures.steps c.in_ok-value.ensures.clear,
     )
 

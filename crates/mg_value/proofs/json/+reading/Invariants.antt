@@ -1,8 +1,6 @@
 use Rattle.std.proofs.Common.{◌≡◌, ◌≤◌, ◌+◌, List, ◌++◌, map, take, drop}
 use Rattle.serde_json.specs.View.{view, items_view, members_view}
-use Rattle.mg_value.specs.Payload.{plain}
-use Rattle.mg_value.specs.Entry.{plain_entry}
-use Rattle.mg_value.specs.Json.{json_of, items_faults, members_faults}
+use Rattle.mg_value.specs.Json.{items_faults, members_faults}
 use Rattle.mg_value.proofs.JsonLists.{Member, member_said, entry_said, payload_said}
 use Rattle.mg_value.proofs.json.+reading.Given as goal
 

@@ -1,6 +1,6 @@
-use Rattle.std.proofs.Common.{◌≡◌, ◌+◌, ◌*◌, List, ◌++◌, map, take, drop}
+use Rattle.std.proofs.Common.{◌≡◌, ◌+◌, ◌*◌, map, take}
 use Rattle.serde_json.specs.View.{view, members_view}
-use Rattle.mg_value.specs.Plain.{depth, items_of, items_depth, entries_of, entries_depth}
+use Rattle.mg_value.specs.Plain.{depth, items_of, items_depth, entries_of, entries_depth, ItemsFit, EntriesFit}
 use Rattle.mg_value.specs.Payload.{plain}
 use Rattle.mg_value.specs.Entry.{plain_entry}
 use Rattle.mg_value.specs.Json.{json_members}
@@ -17,7 +17,11 @@ abbrev pub decreases-write_entries : goal.decreases-write_entries
 decreases-write_entries l = 2 * entries_depth (entries_of l.entries.now) + 1
 
 abbrev pub invariant-write_items-loop-payload : goal.invariant-write_items-loop-payload
-invariant-write_items-loop-payload l = map view l.values.items ≡ map payload_said (take l.payload-index l.payload-items)
+invariant-write_items-loop-payload l =
+    (map view l.values.items ≡ map payload_said (take l.payload-index l.payload-items))
+    × ItemsFit (items_of (map plain (take l.payload-index l.payload-items)))
 
 abbrev pub invariant-write_entries-loop-entry : goal.invariant-write_entries-loop-entry
-invariant-write_entries-loop-entry l = members_view l.members.entries ≡ json_members (entries_of (map plain_entry (take l.entry-index l.entry-items)))
+invariant-write_entries-loop-entry l =
+    (members_view l.members.entries ≡ json_members (entries_of (map plain_entry (take l.entry-index l.entry-items))))
+    × EntriesFit (entries_of (map plain_entry (take l.entry-index l.entry-items)))

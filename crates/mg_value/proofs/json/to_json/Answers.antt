@@ -1,0 +1,13 @@
+use Rattle.std.proofs.Common.{ap, ◌∙◌, arith}
+use Rattle.mg_value.specs.Payload.{plain}
+use Rattle.mg_value.specs.Json.{first, first_fault}
+use Rattle.mg_value.proofs.RoundTrip.{payload_at}
+use Rattle.mg_value.proofs.json.to_json.Goals as goal
+
+pub returns-clause-back : goal.returns-clause-back
+returns-clause-back c =
+    λ low. ap first_fault c.in_ok-write.ensures.says ∙ ap first ((payload_at 1 (plain c.args.payload.now) (omega arith) c.in_ok-write.ensures.fit).none (omega arith))
+
+pub returns-clause-deep : goal.returns-clause-deep
+returns-clause-deep c =
+    λ high. ap first_fault c.in_ok-write.ensures.says ∙ (payload_at 1 (plain c.args.payload.now) (omega arith) c.in_ok-write.ensures.fit).deeper (omega arith)
