@@ -1,9 +1,10 @@
--- A JSON value says one payload at most, and what says a payload has no fault but for its depth.
-use Rattle.std.proofs.Common.{◌≡◌, ℕ, suc, ◌+◌, ◌<◌, ◌≤◌, ◌^◌, ℤ, pos, negsuc, max, List, [], ◌++◌, true, Some, nat_lt, FitsSigned, inl, inr, refl, sym, ap, ap₂, ◌∙◌, arith}
+-- A JSON value says one payload at most, and what says a payload has no float and no fault but for its depth.
+use Rattle.std.proofs.Common.{◌≡◌, ℕ, suc, ◌+◌, ◌<◌, ◌≤◌, ◌^◌, ℤ, pos, negsuc, max, List, [], ◌++◌, true, false, Some, nat_lt, FitsSigned, inl, inr, refl, sym, ap, ap₂, ◌∙◌, arith}
 use Rattle.std.proofs.lemmas.Bool.{cases_lt}
 use Rattle.std.specs.Int.{w64}
 use Rattle.serde_json.specs.Data as json
-use Rattle.serde_json.specs.Find.{of_integer}
+use Rattle.serde_json.specs.Find.{of_integer, is_float}
+use Rattle.serde_json.specs.Written.{has_float, items_have_float, members_have_float}
 use Rattle.mg_value.specs.declared.value_fault.ValueFault.{ValueFault}
 use Rattle.mg_value.specs.declared.value_fault.ValueFault.TheVariants.{TooDeep}
 use Rattle.mg_value.specs.Plain.{Plain, flag, int, text, items, entries, Items, no_items, item, Entries, no_entries, entry, depth, items_depth, entries_depth, NumbersFit, ItemsFit, EntriesFit}
@@ -96,3 +97,25 @@ mutual
   entries_at : (level : ℕ) (es : Entries) → level ≤ 17 → EntriesFit es → At level (entries_depth es) (members_faults level (json_members es))
   entries_at level no_entries h fit = scalar level [] h refl
   entries_at level (entry k p es) h fit = joined level (depth p) (entries_depth es) _ _ (payload_at level p h fit.0) (entries_at level es h fit.1)
+
+-- ---- no fraction
+
+number_whole : (n : ℤ) → is_float (of_integer n) ≡ false
+number_whole (pos n) = refl
+number_whole (negsuc n) = refl
+
+mutual
+  pub whole_numbers : (p : Plain) → has_float (json_of p) ≡ false
+  whole_numbers (flag b) = refl
+  whole_numbers (int n) = number_whole n
+  whole_numbers (text s) = refl
+  whole_numbers (items is) = whole_items is
+  whole_numbers (entries es) = whole_entries es
+
+  whole_items : (is : Items) → items_have_float (json_items is) ≡ false
+  whole_items no_items = refl
+  whole_items (item p is) = rw (whole_numbers p) (whole_items is)
+
+  whole_entries : (es : Entries) → members_have_float (json_members es) ≡ false
+  whole_entries no_entries = refl
+  whole_entries (entry k p es) = rw (whole_numbers p) (whole_entries es)

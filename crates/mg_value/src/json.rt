@@ -1,6 +1,7 @@
-ghost use Rattle.std.specs.Prelude.{◌≡◌, ◌≢◌, ◌<◌, ◌≤◌, ◌+◌, [], ◌∷◌, ◌++◌, None, Some, IfOk, IfErr};
+ghost use Rattle.std.specs.Prelude.{◌≡◌, ◌≢◌, ◌<◌, ◌≤◌, ◌+◌, [], ◌∷◌, ◌++◌, None, Some, false, IfOk, IfErr};
 ghost use Rattle.std.specs.Arc.{arc_value};
 ghost use Rattle.serde_json.specs.Find.{of_integer};
+ghost use Rattle.serde_json.specs.Written.{has_float};
 ghost use Rattle.serde_json.specs.View.{view, number_view, items_view, members_view};
 ghost use Rattle.mg_value.specs.Plain.{Plain, depth, items_of, entries_of, NumbersFit, ItemsFit, EntriesFit};
 ghost use Rattle.mg_value.specs.Payload.{plain};
@@ -29,6 +30,7 @@ pub fn from_json(alloc: Global, value: &Value) -> Result<Arc<Payload>, ValueFaul
 /// The JSON value that says a payload. `from_json` takes it back, unless its lists and records are too deep.
 pub fn to_json(alloc: Global, payload: &Payload) -> Result<Value, AllocError>
     ensures says { IfOk result (λ value. view value ≡ json_of (plain payload.now)) }
+    ensures whole { IfOk result (λ value. has_float (view value) ≡ false) }
     ensures back { IfOk result (λ value. depth (plain payload.now) ≤ 16 → first_fault (view value) ≡ None) }
     ensures deep { IfOk result (λ value. 16 < depth (plain payload.now) → first_fault (view value) ≡ Some ValueFault.TooDeep) }
 {
