@@ -1,5 +1,5 @@
 ghost use Rattle.std.specs.Prelude.{◌≡◌, ◌++◌, length, OnOk, OnErr};
-ghost use Rattle.mg_value.specs.Payload.{Plain, int, plain};
+ghost use Rattle.mg_value.specs.Payload.{Plain};
 ghost use Rattle.mg_value.specs.Prefix.{StreamPrefix, appended};
 ghost use Rattle.mg_stream.specs.Queue.{StandsFor, MayCome, IsLike, with_packet};
 ghost use Rattle.mg_run.specs.Output.{set_text};
@@ -153,18 +153,9 @@ fn show(set: &InputSet, text: &mut Vec<u8>) -> Result<(), AllocError>
 {
     for port in 0..set.len() {
         if let Some(packet) = set.get(port) {
-            push_line(text, packet.at, number_of(&packet.payload))?;
+            push_line(text, packet)?;
             return Ok(());
         }
     }
     Ok(())
-}
-
-// The number of a payload.
-fn number_of(payload: &Payload) -> i64
-    ensures { int result ≡ plain payload.now }
-{
-    match payload {
-        Payload::Int(number) => *number,
-    }
 }

@@ -8,6 +8,9 @@ pub mod Extending
 pub mod Fronts
 pub mod Going
 pub mod GonePackets
+pub mod JsonFaults
+pub mod JsonLists
+pub mod JsonWriting
 pub mod LeadingPackets
 pub mod Leaves
 pub mod Leaving
@@ -17,5 +20,6 @@ pub mod MuxSets
 pub mod PolicySets
 pub mod Ports
 pub mod PrefixSteps
+pub mod RoundTrip
 pub mod SettledTimes
 pub mod Times

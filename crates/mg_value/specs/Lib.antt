@@ -1,6 +1,8 @@
 pub mod Codes
 pub mod Entry
 pub mod Extension
+pub mod Json
+pub mod Kind
 pub mod Left
 pub mod Loopback
 pub mod Payload

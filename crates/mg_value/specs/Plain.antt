@@ -1,5 +1,6 @@
 -- Plain payloads: what a payload says, as a tree. A record's entries stand in the order of their keys.
-use Rattle.std.specs.Prelude.{ℕ, suc, ℤ, Bool, max, List, [], ◌∷◌}
+use Rattle.std.specs.Prelude.{ℕ, suc, ℤ, Bool, max, List, [], ◌∷◌, FitsSigned}
+use Rattle.std.specs.Int.{w64}
 
 mutual
   -- a truth value, a whole number, a text by its bytes, a list, or a record
@@ -49,3 +50,20 @@ abbrev mutual
   pub entries_depth : Entries → ℕ
   entries_depth no_entries = 0
   entries_depth (entry k p es) = max (depth p) (entries_depth es)
+
+-- its whole numbers have 64 signed bits
+abbrev mutual
+  pub NumbersFit : Plain → Type 0
+  NumbersFit (flag b) = Unit {0}
+  NumbersFit (int n) = FitsSigned w64 n
+  NumbersFit (text s) = Unit {0}
+  NumbersFit (items is) = ItemsFit is
+  NumbersFit (entries es) = EntriesFit es
+
+  pub ItemsFit : Items → Type 0
+  ItemsFit no_items = Unit {0}
+  ItemsFit (item p ps) = NumbersFit p × ItemsFit ps
+
+  pub EntriesFit : Entries → Type 0
+  EntriesFit no_entries = Unit {0}
+  EntriesFit (entry k p es) = NumbersFit p × EntriesFit es

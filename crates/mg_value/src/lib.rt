@@ -4,6 +4,7 @@
 #![tactic(auto)]
 
 mod input_set;
+mod json;
 mod kind;
 pub mod laws;
 mod list;
@@ -14,9 +15,11 @@ mod policy;
 mod prefix;
 mod record_list;
 mod text;
+mod value_fault;
 
 pub use input_set::InputSet;
-pub use kind::Kind;
+pub use json::{from_json, to_json};
+pub use kind::{Kind, has_kind};
 pub use list::List;
 pub use packet::{Packet, PacketList};
 pub use payload::Payload;
@@ -25,3 +28,4 @@ pub use policy::Policy;
 pub use prefix::Prefix;
 pub use record_list::{Entry, RecordList};
 pub use text::MgText;
+pub use value_fault::ValueFault;
