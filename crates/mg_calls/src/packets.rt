@@ -55,6 +55,8 @@ pub fn show_set(alloc: Global, set: &InputSet) -> Result<String, Fail> {
 }
 
 fn number_of(packet: &Packet) -> i64 {
-    let Payload::Int(number) = &*packet.payload;
-    *number
+    match &*packet.payload {
+        Payload::Int(number) => *number,
+        _ => i64::MIN,
+    }
 }

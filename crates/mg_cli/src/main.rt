@@ -15,7 +15,7 @@ fn main(rt: HostRuntime) -> ExitCode {
         Ok(words) => call(&rt, words.as_slice()),
         Err(AllocError) => Status::OutOfMemory,
     };
-    ExitCode::from(status as u8)
+    ExitCode::from(status.number())
 }
 
 // The words after the program's name. Where one isn't UTF-8 there are none, which is no command either.

@@ -1,26 +1,23 @@
 -- What a call of a source, a sink or a store does to the bytes that it tells of and to its counts.
 --
--- What an object tells is optional: `None` claims nothing. A count that is said to rise by one stands still at
--- 2 ^ 64 - 1, the end of its type.
-use Rattle.std.specs.Prelude.{◌≡◌, ℕ, ◌+◌, ◌-◌, ◌^◌, ◌<◌, ◌≤◌, min, List, [], ◌++◌, length, take, drop, Option, None, Some, ⊤}
+-- What an object tells is optional: `None` claims nothing. A count rises by one at the calls that it counts, and is
+-- left as it was by every other. It stands still at 2 ^ 64 - 1, the end of its type.
+use Rattle.std.specs.Prelude.{◌≡◌, ℕ, ◌+◌, ◌-◌, ◌^◌, ◌≤◌, min, List, [], ◌++◌, length, take, drop, Option, None, Some, option_map, ⊤}
 use Rattle.mg_edge.specs.declared.source.Got.{Got}
 use Rattle.mg_edge.specs.declared.source.Got.TheVariants.{Bytes, End, Failed}
 use Rattle.mg_edge.specs.declared.sink.Put.{Put}
 use Rattle.mg_edge.specs.declared.sink.Put.TheVariants.{Took, Failed as PutFailed}
+use Rattle.mg_edge.specs.declared.store.TheConstants.{MOST_LOADED}
 use Rattle.mg_edge.specs.declared.store.Loaded.{Loaded}
 use Rattle.mg_edge.specs.declared.store.Loaded.TheVariants.{Bytes as LoadedBytes, Failed as LoadFailed, OutOfMemory}
-
--- The count has risen, or it stands at its type's end.
-abbrev pub Rose : ℕ → ℕ → Type 0
-Rose before now = min (before + 1) (2 ^ 64 - 1) ≤ now
-
--- The count hasn't changed, unless it has come to its type's end.
-abbrev pub Steady : ℕ → ℕ → Type 0
-Steady before now = (before ≤ now) × (now < 2 ^ 64 - 1 → now ≡ before)
 
 -- One more, up to the type's end.
 abbrev pub one_more : ℕ → ℕ
 one_more count = min (count + 1) (2 ^ 64 - 1)
+
+-- The count has risen, or stands at its type's end.
+abbrev pub Rose : ℕ → ℕ → Type 0
+Rose before now = one_more before ≤ now
 
 -- A count that is told rises by one, and stays told.
 abbrev pub CountsOne : Option ℕ → Option ℕ → Type 0
@@ -28,6 +25,16 @@ CountsOne None now = ⊤
 CountsOne (Some count) now = now ≡ Some (one_more count)
 
 -- A source --
+
+-- What a source tells of itself at a moment: the bytes that are left, and how many reads there were, where it tells
+-- them; how many reads answered `End`, and how many failed; and what was left at the read that failed last, `Some None`
+-- before the first, where it tells that.
+pub record SourceTold : Type 0 where
+  pub left : Option (List ℕ)
+  pub reads : Option ℕ
+  pub ends : ℕ
+  pub faults : ℕ
+  pub left_at_fault : Option (Option (List ℕ))
 
 -- A read that gives bytes gives at least one, and no more than there is room for.
 abbrev pub GivesWithin : Got → ℕ → Type 0
@@ -44,21 +51,31 @@ ReadTakes (Some left) now (Bytes n) buf =
 ReadTakes (Some left) now End buf = (left ≡ []) × (now ≡ Some [])
 ReadTakes (Some left) now Failed buf = now ≡ Some left
 
--- The end is told only where the count of ends rose, and at no other read, but that it may come to its
--- type's end.
+-- The reads that answer `End` are counted.
 abbrev pub EndCounts : ℕ → ℕ → Got → Type 0
 EndCounts before now (Bytes n) = now ≡ before
-EndCounts before now End = (before ≤ now) × Rose before now
+EndCounts before now End = now ≡ one_more before
 EndCounts before now Failed = now ≡ before
 
--- A read fails only where the count of faults rose, and at no other read, but that it may come to its
--- type's end.
+-- The reads that fail are counted.
 abbrev pub ReadFaultCounts : ℕ → ℕ → Got → Type 0
-ReadFaultCounts before now (Bytes n) = Steady before now
-ReadFaultCounts before now End = Steady before now
-ReadFaultCounts before now Failed = (before ≤ now) × Rose before now
+ReadFaultCounts before now (Bytes n) = now ≡ before
+ReadFaultCounts before now End = now ≡ before
+ReadFaultCounts before now Failed = now ≡ one_more before
+
+-- What was left at the read that failed last, where the source tells that: a read that fails leaves its own, and any
+-- other keeps the one before. `left` is what the source tells to be left before the read.
+abbrev pub KeepsLeftAtFault : Option (Option (List ℕ)) → Option (Option (List ℕ)) → Got → Option (List ℕ) → Type 0
+KeepsLeftAtFault before now (Bytes n) left = now ≡ before
+KeepsLeftAtFault before now End left = now ≡ before
+KeepsLeftAtFault before now Failed left = now ≡ option_map (λ last. left) before
 
 -- A sink --
+
+-- What a sink tells of itself at a moment: the bytes taken so far, where it tells them, and how many writes failed.
+pub record SinkTold : Type 0 where
+  pub taken : Option (List ℕ)
+  pub faults : ℕ
 
 -- A write that takes bytes takes at least one, and no more than the piece has.
 abbrev pub TakesWithin : Put → ℕ → Type 0
@@ -72,18 +89,25 @@ WriteAppends None now put piece = ⊤
 WriteAppends (Some taken) now (Took n) piece = now ≡ Some (taken ++ take n piece)
 WriteAppends (Some taken) now PutFailed piece = now ≡ Some taken
 
--- A write fails only where the count of faults rose, and at no other write, but that it may come to
--- its type's end.
+-- The writes that fail are counted.
 abbrev pub WriteFaultCounts : ℕ → ℕ → Put → Type 0
-WriteFaultCounts before now (Took n) = Steady before now
-WriteFaultCounts before now PutFailed = (before ≤ now) × Rose before now
+WriteFaultCounts before now (Took n) = now ≡ before
+WriteFaultCounts before now PutFailed = now ≡ one_more before
 
 -- A store --
+
+-- What a store tells of itself at a moment: what a name has, which is `None` where it doesn't tell it, `Some None` where
+-- it tells that the name isn't there, and else the bytes; the name of the load that failed last, and none before the
+-- first; and how many loads failed.
+pub record StoreTold : Type 0 where
+  pub content : List ℕ → Option (Option (List ℕ))
+  pub failed_name : Option (List ℕ)
+  pub faults : ℕ
 
 -- The most bytes of a content that a load gives: one more than 4 MiB, so that the caller sees that a content is
 -- longer than that.
 abbrev pub most_loaded : ℕ
-most_loaded = 4194305
+most_loaded = MOST_LOADED
 
 -- A load gives at most so many bytes.
 abbrev pub LoadsWithin : Loaded → Type 0
@@ -102,12 +126,11 @@ LoadGives (Some (Some content)) (LoadedBytes bytes) = bytes.items ≡ take most_
 LoadGives (Some (Some content)) LoadFailed = ⊤
 LoadGives (Some (Some content)) OutOfMemory = ⊤
 
--- A load fails only where the count of faults rose, and at no other load, but that it may come to its
--- type's end.
+-- The loads that fail are counted.
 abbrev pub LoadFaultCounts : ℕ → ℕ → Loaded → Type 0
-LoadFaultCounts before now (LoadedBytes bytes) = Steady before now
-LoadFaultCounts before now LoadFailed = (before ≤ now) × Rose before now
-LoadFaultCounts before now OutOfMemory = Steady before now
+LoadFaultCounts before now (LoadedBytes bytes) = now ≡ before
+LoadFaultCounts before now LoadFailed = now ≡ one_more before
+LoadFaultCounts before now OutOfMemory = now ≡ before
 
 -- The name of the load that failed last: a load that fails leaves its own, and any other keeps the one before.
 abbrev pub KeepsFailedName : Option (List ℕ) → Option (List ℕ) → Loaded → List ℕ → Type 0

@@ -1,5 +1,5 @@
 pub mod Edge
-pub mod Failures
+pub mod Adapters
 pub mod InMemory
 pub mod MemoryStore
 pub mod Runs

@@ -7,7 +7,7 @@ use Rattle.std.specs.declared.alloc.Global.{Global}
 use Rattle.mg_edge.specs.declared.memory_store.MemoryStore.{MemoryStore}
 use Rattle.mg_edge.specs.declared.store.Loaded.{Loaded}
 use Rattle.mg_edge.specs.declared.store.Loaded.TheVariants.{Bytes, Failed, OutOfMemory}
-use Rattle.mg_edge.specs.Edge.{most_loaded, one_more}
+use Rattle.mg_edge.specs.Edge.{StoreTold, most_loaded}
 
 -- The content of a name in a map, if it is there.
 abbrev pub content_at : BTreeMap (String Global) (Vec ℕ Global) → List ℕ → Option (List ℕ)
@@ -32,6 +32,11 @@ last_failed store = option_map string_bytes store.failed_name
 -- How many loads failed.
 abbrev pub store_faults : MemoryStore → ℕ
 store_faults store = store.faults
+
+-- It tells all that a store can tell.
+abbrev pub store_told : MemoryStore → StoreTold
+store_told store =
+    record { content = λ name. Some (stored store name); failed_name = last_failed store; faults = store_faults store }
 
 -- What is known of the loads so far stays.
 pub record KeepsCalls (old new : MemoryStore) : Type 0 where
@@ -63,9 +68,3 @@ abbrev pub IsFrontOf : List ℕ → Loaded → Type 0
 IsFrontOf content (Bytes bytes) = bytes.items ≡ take most_loaded content
 IsFrontOf content Failed = ⊥
 IsFrontOf content OutOfMemory = ⊤
-
--- The count of faults rises by one at a load that fails, and at no other.
-abbrev pub CountsFault : MemoryStore → MemoryStore → Loaded → Type 0
-CountsFault old new (Bytes bytes) = store_faults new ≡ store_faults old
-CountsFault old new Failed = store_faults new ≡ one_more (store_faults old)
-CountsFault old new OutOfMemory = store_faults new ≡ store_faults old

@@ -1,7 +1,7 @@
 ghost use Rattle.std.specs.Prelude.{◌≡◌, ℕ, List, Option, None, Some};
 ghost use Rattle.std.specs.Option.{option_map};
-ghost use Rattle.std.specs.String.{string_bytes};
 ghost use Rattle.mg_edge.specs.Edge.{LoadsWithin, LoadGives};
+ghost use Rattle.mg_edge.specs.Adapters.{folder_told};
 
 use crate::{Loaded, MOST_LOADED, Store};
 use std::alloc::Global;
@@ -21,8 +21,8 @@ pub struct FolderStore<R> {
 impl<R: Files + Drop> FolderStore<R> {
     /// A store over the files of a runtime, by the names that `std::fs` takes.
     pub fn new(rt: R) -> FolderStore<R>
-        ensures failed_name { ⟦<FolderStore<R> as Store>⟧.failed_name result ≡ None }
-        ensures faults { ⟦<FolderStore<R> as Store>⟧.faults result ≡ 0 }
+        ensures failed_name { (⟦<FolderStore<R> as Store>⟧.told result).failed_name ≡ None }
+        ensures faults { (⟦<FolderStore<R> as Store>⟧.told result).faults ≡ 0 }
     {
         FolderStore {
             rt,
@@ -33,11 +33,7 @@ impl<R: Files + Drop> FolderStore<R> {
 }
 
 impl<R: Files + Drop> Store for FolderStore<R> {
-    ghost content = { λ _ _. None };
-
-    ghost failed_name = { λ s. option_map string_bytes s.failed_name };
-
-    ghost faults = { λ s. s.faults };
+    ghost told = { folder_told };
 
     fn load(&mut self, alloc: Global, name: &str) -> Loaded {
         let Ok(copy) = String::from_str(alloc, name) else {

@@ -1,26 +1,25 @@
 ghost use Rattle.std.specs.Prelude.{◌≡◌, ◌<◌, length, IfOk, Some};
 ghost use Rattle.mg_edge.specs.Edge.{TakesWithin, WriteAppends, WriteFaultCounts};
-ghost use Rattle.mg_edge.specs.InMemory.{SinkState, empty_sink, sink_faults, next_put, after_put};
+ghost use Rattle.mg_edge.specs.InMemory.{SinkState, empty_sink, sink_told, next_put, after_put};
 
 use crate::{Put, Sink};
 use std::alloc::{AllocError, Global};
 use std::marker::Model;
 
 /// A sink in memory with a fixed room, which fails at the writes that it is told to. Contracts see it as the bytes
-/// taken, the room, the numbers of the writes that fail, how many writes there were, and the number of the first
-/// write that finds no room.
+/// taken, the room, the numbers of the writes that fail, and how many writes and faults there were.
 #[derive(Drop)]
 pub struct MemorySink {
     taken: Vec<u8>,
     room: usize,
     failing: Vec<u64>,
     writes: u64,
-    full_from: Option<u64>,
+    faults: u64,
 }
 
 impl Model for MemorySink {
-    ghost use Rattle.std.specs.Prelude.{◌≤◌, vec_capacity};
-    ghost use Rattle.mg_edge.specs.InMemory.{SinkState, KnowsItsRoom};
+    ghost use Rattle.std.specs.Prelude.{◌≤◌, vec_len, vec_capacity};
+    ghost use Rattle.mg_edge.specs.InMemory.{SinkState};
 
     ghost Value = { SinkState };
 
@@ -29,10 +28,10 @@ impl Model for MemorySink {
       room = s.room;
       failing = s.failing.items;
       writes = s.writes;
-      full_from = s.full_from;
+      faults = s.faults;
     } };
 
-    ghost invariant = { λ s. KnowsItsRoom s.taken.items s.room s.writes s.full_from × (s.room ≤ vec_capacity s.taken) };
+    ghost invariant = { λ s. (vec_len s.taken ≤ s.room) × (s.room ≤ vec_capacity s.taken) };
 }
 
 impl MemorySink {
@@ -46,7 +45,7 @@ impl MemorySink {
             room,
             failing: failing.to_vec(alloc)?,
             writes: 0,
-            full_from: if room == 0 { Some(0) } else { None },
+            faults: 0,
         })
     }
 
@@ -56,19 +55,23 @@ impl MemorySink {
     {
         &self.taken
     }
+
+    /// How many writes failed. It stays at 2^64 - 1 once it is there.
+    pub fn faults(&self) -> u64
+        ensures { result ≡ self.now.faults }
+    {
+        self.faults
+    }
 }
 
 impl Sink for MemorySink {
-    ghost taken = { λ s. Some s.taken };
+    ghost told = { sink_told };
 
-    ghost faults = { sink_faults };
-
-    #[tactic(auto, using(crate::proofs::Counted::failures_later, crate::proofs::Counted::failures_rose))]
     fn write(&mut self, piece: &[u8]) -> Put
         requires { 0 < length piece.now }
         ensures bound { TakesWithin result (length piece.now) }
         ensures bytes { WriteAppends (Some self.old.taken) (Some self.new.taken) result piece.now }
-        ensures fault { WriteFaultCounts (sink_faults self.old) (sink_faults self.new) result }
+        ensures fault { WriteFaultCounts self.old.faults self.new.faults result }
         ensures answer { result ≡ next_put self.old (length piece.now) }
         ensures after { self.new ≡ after_put self.old piece.now result }
     {
@@ -76,15 +79,13 @@ impl Sink for MemorySink {
         self.writes = number.saturating_add(1);
         let left = self.room - self.taken.len();
         if left == 0 || self.failing.contains(&number) {
+            self.faults = self.faults.saturating_add(1);
             return Put::Failed;
         }
         let count = piece.len().min(left);
         let Ok(()) = self.taken.extend_from_slice(&piece[..count]) else {
             unreachable!()
         };
-        if self.taken.len() == self.room {
-            self.full_from = Some(self.writes);
-        }
         Put::Took(count)
     }
 }

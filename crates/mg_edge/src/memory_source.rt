@@ -1,13 +1,14 @@
 ghost use Rattle.std.specs.Prelude.{◌≡◌, ◌<◌, ◌≤◌, length, take, IfOk, Some};
-ghost use Rattle.mg_edge.specs.Edge.{GivesWithin, ReadTakes, CountsOne, EndCounts, ReadFaultCounts};
-ghost use Rattle.mg_edge.specs.InMemory.{SourceState, whole_source, source_faults, next_got, after_got};
+ghost use Rattle.mg_edge.specs.Edge.{GivesWithin, ReadTakes, CountsOne, EndCounts, ReadFaultCounts, KeepsLeftAtFault};
+ghost use Rattle.mg_edge.specs.InMemory.{SourceState, whole_source, source_told, next_got, after_got};
 
 use crate::{Got, Source};
 use std::alloc::{AllocError, Global};
 use std::marker::Model;
 
 /// A source over bytes in memory, which fails at the reads that it is told to. Contracts see it as the bytes that are
-/// left, the most that one read gives, the numbers of the reads that fail, and how many reads and ends there were.
+/// left, the most that one read gives, the numbers of the reads that fail, how many reads, ends and faults there were,
+/// and what was left at the read that failed last.
 #[derive(Drop)]
 pub struct MemorySource {
     bytes: Vec<u8>,
@@ -16,10 +17,14 @@ pub struct MemorySource {
     failing: Vec<u64>,
     reads: u64,
     ends: u64,
+    faults: u64,
+    // Where the read stood that failed last.
+    failed_at: Option<usize>,
 }
 
 impl Model for MemorySource {
-    ghost use Rattle.std.specs.Prelude.{◌≡◌, ◌≤◌, drop, vec_len};
+    ghost use Rattle.std.specs.Prelude.{◌≤◌, drop, vec_len};
+    ghost use Rattle.std.specs.Option.{option_map};
     ghost use Rattle.mg_edge.specs.InMemory.{SourceState};
 
     ghost Value = { SourceState };
@@ -30,6 +35,8 @@ impl Model for MemorySource {
       failing = s.failing.items;
       reads = s.reads;
       ends = s.ends;
+      faults = s.faults;
+      left_at_fault = option_map (λ at. drop at s.bytes.items) s.failed_at;
     } };
 
     ghost invariant = { λ s. (s.at ≤ vec_len s.bytes) × (1 ≤ s.piece) };
@@ -54,6 +61,8 @@ impl MemorySource {
             failing: failing.to_vec(alloc)?,
             reads: 0,
             ends: 0,
+            faults: 0,
+            failed_at: None,
         })
     }
 
@@ -70,31 +79,34 @@ impl MemorySource {
     {
         self.ends
     }
+
+    /// How many reads failed. It stays at 2^64 - 1 once it is there.
+    pub fn faults(&self) -> u64
+        ensures { result ≡ self.now.faults }
+    {
+        self.faults
+    }
 }
 
 impl Source for MemorySource {
-    ghost left = { λ s. Some s.left };
+    ghost told = { source_told };
 
-    ghost reads = { λ s. Some s.reads };
-
-    ghost ends = { λ s. s.ends };
-
-    ghost faults = { source_faults };
-
-    #[tactic(auto, using(crate::proofs::Counted::failures_later, crate::proofs::Counted::failures_rose))]
     fn read(&mut self, buf: &mut [u8]) -> Got
         requires { 0 < length buf.old }
         ensures bound { GivesWithin result (length buf.new) }
         ensures bytes { ReadTakes (Some self.old.left) (Some self.new.left) result buf.new }
         ensures counted { CountsOne (Some self.old.reads) (Some self.new.reads) }
         ensures end { EndCounts self.old.ends self.new.ends result }
-        ensures fault { ReadFaultCounts (source_faults self.old) (source_faults self.new) result }
+        ensures fault { ReadFaultCounts self.old.faults self.new.faults result }
+        ensures left_at_fault { KeepsLeftAtFault (Some self.old.left_at_fault) (Some self.new.left_at_fault) result (Some self.old.left) }
         ensures answer { result ≡ next_got self.old (length buf.new) }
         ensures after { self.new ≡ after_got self.old result }
     {
         let number = self.reads;
         self.reads = number.saturating_add(1);
         if self.failing.contains(&number) {
+            self.faults = self.faults.saturating_add(1);
+            self.failed_at = Some(self.at);
             return Got::Failed;
         }
         let left = &self.bytes[self.at..];

@@ -1,8 +1,8 @@
 ghost use Rattle.std.specs.Prelude.{◌≡◌, ◌≢◌, ℕ, List, None, Some, OnOk, OnErr};
 ghost use Rattle.std.specs.Option.{option_map};
 ghost use Rattle.mg_edge.specs.Edge.{LoadsWithin, LoadGives, LoadFaultCounts, KeepsFailedName, one_more};
-ghost use Rattle.mg_edge.specs.MemoryStore.{stored, failing_load, loads_made, last_failed, store_faults, content_at};
-ghost use Rattle.mg_edge.specs.MemoryStore.{KeepsCalls, AnswersLoad, CountsFault, LooksUp, IsFrontOf};
+ghost use Rattle.mg_edge.specs.MemoryStore.{stored, failing_load, loads_made, last_failed, store_faults, store_told, content_at};
+ghost use Rattle.mg_edge.specs.MemoryStore.{KeepsCalls, AnswersLoad, LooksUp, IsFrontOf};
 
 use crate::{Loaded, MOST_LOADED, Store};
 use std::alloc::{AllocError, Global};
@@ -81,11 +81,7 @@ impl MemoryStore {
 }
 
 impl Store for MemoryStore {
-    ghost content = { λ s name. Some (stored s name) };
-
-    ghost failed_name = { last_failed };
-
-    ghost faults = { store_faults };
+    ghost told = { store_told };
 
     fn load(&mut self, alloc: Global, name: &str) -> Loaded
         ensures kept { (other : List ℕ) → Some (stored self.new other) ≡ Some (stored self.old other) }
@@ -95,7 +91,6 @@ impl Store for MemoryStore {
         ensures fault { LoadFaultCounts (store_faults self.old) (store_faults self.new) result }
         ensures answer { AnswersLoad self.old name.now result }
         ensures loads { loads_made self.new ≡ one_more (loads_made self.old) }
-        ensures faults { CountsFault self.old self.new result }
         ensures failing { failing_load self.new ≡ failing_load self.old }
     {
         let number = self.loads;

@@ -1,6 +1,7 @@
 ghost use Rattle.std.specs.Prelude.{◌≡◌, ℕ, List, Option, None};
 ghost use Rattle.std.specs.Io.{ReadsAtMost};
 ghost use Rattle.std.specs.Io.KnownBytes.{ReadConsumes};
+ghost use Rattle.mg_edge.specs.Adapters.{reader_told};
 
 use crate::{Got, MOST_INTERRUPTIONS, Source};
 use std::io;
@@ -18,9 +19,7 @@ pub struct ReaderSource<R> {
 impl<R: Read + Drop> ReaderSource<R> {
     /// A source over a reader that was not read by it yet.
     pub fn new(reader: R) -> ReaderSource<R>
-        ensures left { ⟦<ReaderSource<R> as Source>⟧.left result ≡ R.remaining reader }
-        ensures ends { ⟦<ReaderSource<R> as Source>⟧.ends result ≡ 0 }
-        ensures faults { ⟦<ReaderSource<R> as Source>⟧.faults result ≡ 0 }
+        ensures { ⟦<ReaderSource<R> as Source>⟧.told result ≡ record { left = R.remaining reader; reads = None; ends = 0; faults = 0; left_at_fault = None } }
     {
         ReaderSource {
             reader,
@@ -31,13 +30,7 @@ impl<R: Read + Drop> ReaderSource<R> {
 }
 
 impl<R: Read + Drop> Source for ReaderSource<R> {
-    ghost left = { λ s. R.remaining s.reader };
-
-    ghost reads = { λ _. None };
-
-    ghost ends = { λ s. s.ends };
-
-    ghost faults = { λ s. s.faults };
+    ghost told = { reader_told R.remaining };
 
     fn read(&mut self, buf: &mut [u8]) -> Got {
         match read_uninterrupted(&mut self.reader, buf) {

@@ -1,5 +1,5 @@
-ghost use Rattle.std.specs.Prelude.{ℕ, ◌<◌, List, Option, length};
-ghost use Rattle.mg_edge.specs.Edge.{TakesWithin, WriteAppends, WriteFaultCounts};
+ghost use Rattle.std.specs.Prelude.{◌<◌, length};
+ghost use Rattle.mg_edge.specs.Edge.{SinkTold, TakesWithin, WriteAppends, WriteFaultCounts};
 
 /// What a write answers.
 #[derive(Clone, Copy, Debug, PartialEq, Eq)]
@@ -12,11 +12,8 @@ pub enum Put {
 
 /// Where bytes go: a file, a terminal, or memory.
 pub trait Sink {
-    /// The bytes taken so far, or `None` where the sink doesn't tell them.
-    ghost taken: { Self → Option (List ℕ) };
-
-    /// How many writes failed. It never falls.
-    ghost faults: { Self → ℕ };
+    /// What the sink tells of itself.
+    ghost told: { Self → SinkTold };
 
     /// Writes bytes from the front of `piece`, which has at least one. It may take fewer than there are.
     ///
@@ -24,6 +21,6 @@ pub trait Sink {
     fn write(&mut self, piece: &[u8]) -> Put
         requires { 0 < length piece.now }
         ensures bound { TakesWithin result (length piece.now) }
-        ensures bytes { WriteAppends (taken self.old) (taken self.new) result piece.now }
-        ensures fault { WriteFaultCounts (faults self.old) (faults self.new) result };
+        ensures bytes { WriteAppends (told self.old).taken (told self.new).taken result piece.now }
+        ensures fault { WriteFaultCounts (told self.old).faults (told self.new).faults result };
 }

@@ -1,5 +1,5 @@
-ghost use Rattle.std.specs.Prelude.{ℕ, ◌<◌, List, Option, length};
-ghost use Rattle.mg_edge.specs.Edge.{GivesWithin, ReadTakes, CountsOne, EndCounts, ReadFaultCounts};
+ghost use Rattle.std.specs.Prelude.{◌<◌, length};
+ghost use Rattle.mg_edge.specs.Edge.{SourceTold, GivesWithin, ReadTakes, CountsOne, EndCounts, ReadFaultCounts, KeepsLeftAtFault};
 
 /// What a read answers.
 #[derive(Clone, Copy, Debug, PartialEq, Eq)]
@@ -14,17 +14,8 @@ pub enum Got {
 
 /// Where bytes come from: a file, a terminal, or bytes in memory.
 pub trait Source {
-    /// The bytes that are left, or `None` where the source doesn't tell them.
-    ghost left: { Self → Option (List ℕ) };
-
-    /// How many reads there were, or `None` where the source doesn't tell it. It stays at 2^64 - 1 once it is there.
-    ghost reads: { Self → Option ℕ };
-
-    /// How many reads answered `End`. It never falls.
-    ghost ends: { Self → ℕ };
-
-    /// How many reads failed. It never falls.
-    ghost faults: { Self → ℕ };
+    /// What the source tells of itself.
+    ghost told: { Self → SourceTold };
 
     /// Reads the next bytes into the front of `buf`, which has room for at least one.
     ///
@@ -33,8 +24,9 @@ pub trait Source {
     fn read(&mut self, buf: &mut [u8]) -> Got
         requires { 0 < length buf.old }
         ensures bound { GivesWithin result (length buf.new) }
-        ensures bytes { ReadTakes (left self.old) (left self.new) result buf.new }
-        ensures counted { CountsOne (reads self.old) (reads self.new) }
-        ensures end { EndCounts (ends self.old) (ends self.new) result }
-        ensures fault { ReadFaultCounts (faults self.old) (faults self.new) result };
+        ensures bytes { ReadTakes (told self.old).left (told self.new).left result buf.new }
+        ensures counted { CountsOne (told self.old).reads (told self.new).reads }
+        ensures end { EndCounts (told self.old).ends (told self.new).ends result }
+        ensures fault { ReadFaultCounts (told self.old).faults (told self.new).faults result }
+        ensures left_at_fault { KeepsLeftAtFault (told self.old).left_at_fault (told self.new).left_at_fault result (told self.old).left };
 }

@@ -1,5 +1,5 @@
-ghost use Rattle.std.specs.Prelude.{◌≡◌, ℕ, List, Option};
-ghost use Rattle.mg_edge.specs.Edge.{LoadsWithin, LoadGives, LoadFaultCounts, KeepsFailedName};
+ghost use Rattle.std.specs.Prelude.{◌≡◌, ℕ, List};
+ghost use Rattle.mg_edge.specs.Edge.{StoreTold, LoadsWithin, LoadGives, LoadFaultCounts, KeepsFailedName};
 
 use std::alloc::Global;
 
@@ -19,23 +19,16 @@ pub enum Loaded {
 
 /// Contents by their names: files below a folder, or bytes in memory.
 pub trait Store {
-    /// What a name has: `None` where the store doesn't tell it, `Some None` where it tells that the name isn't there,
-    /// and else the bytes.
-    ghost content: { Self → List ℕ → Option (Option (List ℕ)) };
-
-    /// The name of the load that failed last, and `None` before the first.
-    ghost failed_name: { Self → Option (List ℕ) };
-
-    /// How many loads failed. It never falls.
-    ghost faults: { Self → ℕ };
+    /// What the store tells of itself.
+    ghost told: { Self → StoreTold };
 
     /// Loads the content of a name.
     ///
     /// It changes no content. A load that fails leaves its name as the one that failed last.
     fn load(&mut self, alloc: Global, name: &str) -> Loaded
-        ensures kept { (other : List ℕ) → content self.new other ≡ content self.old other }
+        ensures kept { (other : List ℕ) → (told self.new).content other ≡ (told self.old).content other }
         ensures bound { LoadsWithin result }
-        ensures bytes { LoadGives (content self.old name.now) result }
-        ensures failed_name { KeepsFailedName (failed_name self.old) (failed_name self.new) result name.now }
-        ensures fault { LoadFaultCounts (faults self.old) (faults self.new) result };
+        ensures bytes { LoadGives ((told self.old).content name.now) result }
+        ensures failed_name { KeepsFailedName (told self.old).failed_name (told self.new).failed_name result name.now }
+        ensures fault { LoadFaultCounts (told self.old).faults (told self.new).faults result };
 }

@@ -1,6 +1,7 @@
 ghost use Rattle.std.specs.Prelude.{◌≡◌, ℕ, List, Option};
 ghost use Rattle.std.specs.Io.{WritesAtMost};
 ghost use Rattle.std.specs.Io.KnownBytes.{WriteAppends};
+ghost use Rattle.mg_edge.specs.Adapters.{writer_told};
 
 use crate::{MOST_INTERRUPTIONS, Put, Sink};
 use std::io;
@@ -19,17 +20,14 @@ pub struct WriterSink<W> {
 impl<W: Write + Drop> WriterSink<W> {
     /// A sink over a writer.
     pub fn new(writer: W) -> WriterSink<W>
-        ensures taken { ⟦<WriterSink<W> as Sink>⟧.taken result ≡ W.contents writer }
-        ensures faults { ⟦<WriterSink<W> as Sink>⟧.faults result ≡ 0 }
+        ensures { ⟦<WriterSink<W> as Sink>⟧.told result ≡ record { taken = W.contents writer; faults = 0 } }
     {
         WriterSink { writer, faults: 0 }
     }
 }
 
 impl<W: Write + Drop> Sink for WriterSink<W> {
-    ghost taken = { λ s. W.contents s.writer };
-
-    ghost faults = { λ s. s.faults };
+    ghost told = { writer_told W.contents };
 
     fn write(&mut self, piece: &[u8]) -> Put {
         match write_uninterrupted(&mut self.writer, piece) {

@@ -1,6 +1,6 @@
 -- What a call came to.
-use Rattle.std.proofs.Common.{◌≡◌, ◌≢◌, ℕ, List, [], take, Bool, true, false, Option, None, Some, IfSome, ◌⊎◌, inl, inr, refl, ap, ◌∙◌, subst, arith}
-use Rattle.mg_edge.specs.Edge.{Steady, LoadGives, most_loaded}
+use Rattle.std.proofs.Common.{◌≡◌, ◌≢◌, ℕ, List, [], take, Bool, true, false, Option, None, Some, IfSome, if◌then◌else◌, ◌⊎◌, inl, inr, refl, ap, ◌∙◌, subst, arith}
+use Rattle.mg_edge.specs.Edge.{SourceTold, SinkTold, StoreTold, LoadGives, most_loaded, Rose}
 use Rattle.mg_edge.specs.declared.store.Loaded.TheVariants.{Bytes}
 use Rattle.mg_edge.proofs.Runs.{TookAll-start}
 use Rattle.mg_run.proofs.Finishing.{front-nothing}
@@ -8,19 +8,15 @@ use Rattle.mg_run.proofs.Files.{one_file}
 use Rattle.mg_run.specs.Command.{Command}
 use Rattle.mg_run.specs.File.{File, IsFile}
 use Rattle.mg_run.specs.Answer.{Job, refuse, show, merge, job_of, answer_of, answer, run_answer}
-use Rattle.mg_run.specs.Devices.{TookFront, Rises, HasRisen, Flows}
-use Rattle.mg_run.specs.Pouring.{Told}
-use Rattle.mg_run.specs.Outcome.{told, TookText, Untouched, Noted, Answers, Ran}
-use Rattle.mg_run.specs.Call.{IfThere, Loads, WasShown, Did, IsJob, CallDid, CallShort, Called, Answered, Unrisen}
+use Rattle.mg_run.specs.Devices.{Device, device, Devices, devices, Untouched, Unrisen, NoneFailed, TookFront, TookText, TookPart, Noted}
+use Rattle.mg_run.specs.Call.{Meets, IfThere, Loads, WasShown, TookSome, Ran, Did, IsJob, CallDid, CallShort, Called, IsAnswered}
+use Rattle.mg_run.specs.Inner.Flow.{Flows}
 use Rattle.mg_run.specs.declared.status.Status.{Status}
 use Rattle.mg_run.specs.declared.status.Status.TheVariants.{Good, StoreFault, Usage, GraphRefused, LineRefused, NodeFault, Stalled, ReadFault, WriteFault, OutOfMemory}
 
-pub noted-from : (failed : Bool) (before now : Option (List ℕ)) (text : List ℕ) (a b : ℕ) → Flows failed before now text a b → Noted (told before now a b) text
-noted-from true before now text a b flows = inr flows.all
-noted-from false before now text a b flows = inl (record { whole = flows.all.0; steady = flows.all.1 })
-
-pub untouched : (t : Option (List ℕ)) (a : ℕ) → Untouched (told t t a a)
-untouched t a = record { told = refl; faults = refl }
+pub noted-from : (failed : Bool) (notes : Device SinkTold) (text : List ℕ) → Flows failed notes text → Noted notes text
+noted-from true notes text flows = inr flows
+noted-from false notes text flows = inl flows
 
 pub loads-from : (content : Option (Option (List ℕ))) (v : _) (P : List ℕ → Type 0) → LoadGives content (Bytes v) → P v.items → Loads content P
 loads-from None v P gives is = (v.items, is)
@@ -28,188 +24,156 @@ loads-from (Some None) v P gives is = elim gives [ ]
 loads-from (Some (Some bytes)) v P gives is = subst P gives is
 
 -- a text was written, or wasn't
-pub shown-whole : (before now : Option (List ℕ)) (text : List ℕ) (a b : ℕ) (input notes : Told) → Flows false before now text a b → Untouched input → Untouched notes
-    → WasShown text Good input (told before now a b) notes
-shown-whole before now text a b input notes flows unread unnoted = record {
-  written = inl (refl, record { whole = flows.all.0; steady = flows.all.1 });
-  unread = unread;
-  unnoted = unnoted;
-}
-
-pub shown-part : (before now : Option (List ℕ)) (text : List ℕ) (a b : ℕ) (input notes : Told) → Flows true before now text a b → Untouched input → Untouched notes
-    → WasShown text WriteFault input (told before now a b) notes
-shown-part before now text a b input notes flows unread unnoted = record {
-  written = inr (refl, flows.all, flows.front);
-  unread = unread;
-  unnoted = unnoted;
-}
+pub shown-by : (failed : Bool) (text : List ℕ) (status : Status) (all : Devices) → status ≡ (if failed then WriteFault else Good) → Flows failed all.output text
+    → Untouched all.input → Untouched all.notes → WasShown text status all
+shown-by true text status all ended flows unread unnoted = record { written = inr (ended, flows); unread = unread; unnoted = unnoted }
+shown-by false text status all ended flows unread unnoted = record { written = inl (ended, flows); unread = unread; unnoted = unnoted }
 
 -- Nothing was written.
 if-any : (input : Option (List ℕ)) (P : List ℕ → Type 0) → ((read : List ℕ) → P read) → IfSome input P
 if-any None P all = tt
 if-any (Some read) P all = all read
 
-front-none : (taken : Option (List ℕ)) (text : List ℕ) → TookFront taken taken text
-front-none taken text = front-nothing (Some []) taken (λ read. text)
+if-there : (content : Option (Option (List ℕ))) (P : List ℕ → Type 0) → ((bytes : List ℕ) → P bytes) → IfThere content P
+if-there None P all = tt
+if-there (Some None) P all = tt
+if-there (Some (Some bytes)) P all = all bytes
 
-pub short-nothing : (command : Command) (content : Option (Option (List ℕ))) (input : Told) (taken : Option (List ℕ)) (a b : ℕ) → CallShort command content input (told taken taken a b)
-short-nothing command None input taken a b = tt
-short-nothing command (Some None) input taken a b = tt
-short-nothing command (Some (Some bytes)) input taken a b =
-    if-any input.before (λ read. (file : File) → IsFile (take most_loaded bytes) file → TookFront taken taken (answer command file read).output)
-    (λ read file is. front-none taken (answer command file read).output)
+front-none : (output : SinkTold) (text : List ℕ) → TookFront (device output output) text
+front-none output text = front-nothing (Some []) output (λ read. text)
+
+pub short-nothing : (command : Command) (store : Device StoreTold) (input : Device SourceTold) (output : SinkTold) (notes : Device SinkTold)
+    → CallShort command (devices store input (device output output) notes)
+short-nothing command store input output notes =
+    if-there (store.before.content command.file) _ (λ bytes. if-any input.before.left _ (λ read file is. front-none output (answer command file read).output))
 
 -- a run of the graph found no memory
-short-run : (command : Command) (names : List (List ℕ)) (input first now : Option (List ℕ)) (bytes : List ℕ) → IsJob command (take most_loaded bytes) (merge names)
-    → IfSome input (λ read. TookFront first now (run_answer names read).output)
-    → IfSome input (λ read. (file : File) → IsFile (take most_loaded bytes) file → TookFront first now (answer command file read).output)
-short-run command names None first now bytes is took = tt
-short-run command names (Some read) first now bytes (file, is, same) took =
-    λ other other_is. subst (λ (job : Job). TookFront first now (answer_of job read).output) (same ∙ ap (job_of command) (one_file (take most_loaded bytes) file other is other_is)) took
+short-run : (command : Command) (names : List (List ℕ)) (input : Option (List ℕ)) (output : Device SinkTold) (bytes : List ℕ) → IsJob command (take most_loaded bytes) (merge names)
+    → IfSome input (λ read. TookFront output (run_answer names read).output)
+    → IfSome input (λ read. (file : File) → IsFile (take most_loaded bytes) file → TookFront output (answer command file read).output)
+short-run command names None output bytes is took = tt
+short-run command names (Some read) output bytes (file, is, same) took =
+    λ other other_is. subst (λ (job : Job). TookFront output (answer_of job read).output) (same ∙ ap (job_of command) (one_file (take most_loaded bytes) file other is other_is)) took
 
-short-ran : (command : Command) (names : List (List ℕ)) (content : Option (Option (List ℕ))) (input output : Told) → Loads content (λ bytes. IsJob command bytes (merge names))
-    → IfSome input.before (λ read. TookFront output.before output.now (run_answer names read).output) → CallShort command content input output
+short-ran : (command : Command) (names : List (List ℕ)) (content : Option (Option (List ℕ))) (input : Option (List ℕ)) (output : Device SinkTold) → Loads content (λ bytes. IsJob command bytes (merge names))
+    → IfSome input (λ read. TookFront output (run_answer names read).output)
+    → IfThere content (λ bytes. IfSome input (λ read. (file : File) → IsFile (take most_loaded bytes) file → TookFront output (answer command file read).output))
 short-ran command names None input output loads took = tt
 short-ran command names (Some None) input output loads took = tt
-short-ran command names (Some (Some bytes)) input output loads took = short-run command names input.before output.before output.now bytes loads took
+short-ran command names (Some (Some bytes)) input output loads took = short-run command names input output bytes loads took
 
 -- The statuses of what was done.
-not-shown : (text : List ℕ) (status : Status) (input output notes : Told) → status ≢ Good → status ≢ WriteFault → WasShown text status input output notes → ⊥
-not-shown text status input output notes not_good not_failed shown = by shown.written
+not-shown : (text : List ℕ) (status : Status) (all : Devices) → status ≢ Good → status ≢ WriteFault → WasShown text status all → ⊥
+not-shown text status all not_good not_failed shown = by shown.written
   where
-    by : ((status ≡ Good) × TookText output text) ⊎ ((status ≡ WriteFault) × Rises output.faults_before output.faults_now × TookFront output.before output.now text) → ⊥
+    by : ((status ≡ Good) × TookText all.output text) ⊎ ((status ≡ WriteFault) × TookPart all.output text) → ⊥
     by (inl good) = not_good good.0
     by (inr failed) = not_failed failed.0
 
-did-store : (job : Job) (input output notes : Told) → Did job StoreFault input output notes → ⊥
-did-store (refuse note) input output notes did = let e = did.ended in cc
-did-store (show text) input output notes did = not-shown text StoreFault input output notes (λ e. cc) (λ e. cc) did
-did-store (merge names) input output notes did = did
+did-store : (job : Job) (all : Devices) → Did job StoreFault all → ⊥
+did-store (refuse note) all did = let e = did.ended in cc
+did-store (show text) all did = not-shown text StoreFault all (λ e. cc) (λ e. cc) did
+did-store (merge names) all did = did
 
-did-usage : (job : Job) (input output notes : Told) → Did job Usage input output notes → ⊥
-did-usage (refuse note) input output notes did = let e = did.ended in cc
-did-usage (show text) input output notes did = not-shown text Usage input output notes (λ e. cc) (λ e. cc) did
-did-usage (merge names) input output notes did = did
+did-usage : (job : Job) (all : Devices) → Did job Usage all → ⊥
+did-usage (refuse note) all did = let e = did.ended in cc
+did-usage (show text) all did = not-shown text Usage all (λ e. cc) (λ e. cc) did
+did-usage (merge names) all did = did
 
-did-short : (job : Job) (command : Command) (content : Option (Option (List ℕ))) (input output notes : Told) → Loads content (λ bytes. IsJob command bytes job)
-    → Did job OutOfMemory input output notes → CallShort command content input output
-did-short (refuse note) command content input output notes loads did = let e = did.ended in absurd (differ e)
+did-short : (job : Job) (command : Command) (all : Devices) → Loads (all.store.before.content command.file) (λ bytes. IsJob command bytes job)
+    → Did job OutOfMemory all → CallShort command all
+did-short (refuse note) command all loads did = let e = did.ended in absurd (differ e)
   where
     differ : OutOfMemory ≡ GraphRefused → ⊥
     differ e = cc
-did-short (show text) command content input output notes loads did = absurd (not-shown text OutOfMemory input output notes (λ e. cc) (λ e. cc) did)
-did-short (merge names) command content input output notes loads did = short-ran command names content input output loads did
+did-short (show text) command all loads did = absurd (not-shown text OutOfMemory all (λ e. cc) (λ e. cc) did)
+did-short (merge names) command all loads did = short-ran command names (all.store.before.content command.file) all.input.before.left all.output loads did
 
-pub called-did : (job : Job) (status : Status) (command : Command) (content : Option (Option (List ℕ))) (failed : Option (List ℕ)) (a b : ℕ) (input output notes : Told)
-    → Loads content (λ bytes. IsJob command bytes job) → Steady a b → Did job status input output notes → Called status command content failed a b input output notes
-called-did job Good command content failed a b input output notes loads steady did = record { job = job; loads = loads; steady = steady; did = did }
-called-did job StoreFault command content failed a b input output notes loads steady did = absurd (did-store job input output notes did)
-called-did job Usage command content failed a b input output notes loads steady did = absurd (did-usage job input output notes did)
-called-did job GraphRefused command content failed a b input output notes loads steady did = record { job = job; loads = loads; steady = steady; did = did }
-called-did job LineRefused command content failed a b input output notes loads steady did = record { job = job; loads = loads; steady = steady; did = did }
-called-did job NodeFault command content failed a b input output notes loads steady did = record { job = job; loads = loads; steady = steady; did = did }
-called-did job Stalled command content failed a b input output notes loads steady did = record { job = job; loads = loads; steady = steady; did = did }
-called-did job ReadFault command content failed a b input output notes loads steady did = record { job = job; loads = loads; steady = steady; did = did }
-called-did job WriteFault command content failed a b input output notes loads steady did = record { job = job; loads = loads; steady = steady; did = did }
-called-did job OutOfMemory command content failed a b input output notes loads steady did = did-short job command content input output notes loads did
+pub called-did : (job : Job) (status : Status) (command : Command) (all : Devices)
+    → Loads (all.store.before.content command.file) (λ bytes. IsJob command bytes job) → all.store.now.faults ≡ all.store.before.faults → Did job status all → Called status command all
+called-did job Good command all loads steady did = record { job = job; loads = loads; steady = steady; did = did }
+called-did job StoreFault command all loads steady did = absurd (did-store job all did)
+called-did job Usage command all loads steady did = absurd (did-usage job all did)
+called-did job GraphRefused command all loads steady did = record { job = job; loads = loads; steady = steady; did = did }
+called-did job LineRefused command all loads steady did = record { job = job; loads = loads; steady = steady; did = did }
+called-did job NodeFault command all loads steady did = record { job = job; loads = loads; steady = steady; did = did }
+called-did job Stalled command all loads steady did = record { job = job; loads = loads; steady = steady; did = did }
+called-did job ReadFault command all loads steady did = record { job = job; loads = loads; steady = steady; did = did }
+called-did job WriteFault command all loads steady did = record { job = job; loads = loads; steady = steady; did = did }
+called-did job OutOfMemory command all loads steady did = did-short job command all loads did
 
 -- What follows --
 
-unrisen-rises : (a b : ℕ) → Unrisen a b → Rises a b → ⊥
-unrisen-rises a b same rises = absurd (omega (arith, same.0, same.1, rises.1))
-
-unrisen-steady : (a b : ℕ) → Unrisen a b → Steady a b
-unrisen-steady a b same = (omega (arith, same.0), λ below. same.0)
-
-pub risen-steady : (a b : ℕ) → HasRisen a b → Steady a b → ⊥
-risen-steady a b risen steady = let e = steady.1 risen.1 in absurd (omega (arith, e, risen.0))
-
-pub risen-untouched : (t : Told) → HasRisen t.faults_before t.faults_now → Untouched t → ⊥
-risen-untouched t risen untouched = absurd (omega (arith, untouched.faults, risen.0))
+unrisen-rose : (a b : ℕ) → Unrisen a b → Rose a b → ⊥
+unrisen-rose a b same rose = absurd (omega (arith, same.0, same.1, rose))
 
 -- A sink that wasn't used took nothing.
-took-nothing : (sink : Told) → Unrisen sink.faults_before sink.faults_now → Untouched sink → TookText sink []
-took-nothing sink same untouched = record {
-  whole = rw untouched.told (TookAll-start sink.before);
-  steady = unrisen-steady sink.faults_before sink.faults_now same;
-}
+took-nothing : (sink : Device SinkTold) → Untouched sink → TookText sink []
+took-nothing sink untouched = record { whole = rw untouched (TookAll-start sink.before.taken); steady = ap (λ s. s.faults) untouched }
 
-took-noted : (notes : Told) (note : List ℕ) → Unrisen notes.faults_before notes.faults_now → Noted notes note → TookText notes note
+took-noted : (notes : Device SinkTold) (note : List ℕ) → Unrisen notes.before.faults notes.now.faults → Noted notes note → TookText notes note
 took-noted notes note same (inl whole) = whole
-took-noted notes note same (inr rises) = absurd (unrisen-rises notes.faults_before notes.faults_now same rises)
+took-noted notes note same (inr part) = absurd (unrisen-rose notes.before.faults notes.now.faults same part.rose)
 
-shown-answer : (text : List ℕ) (status : Status) (input output notes : Told) → WasShown text status input output notes
-    → Unrisen output.faults_before output.faults_now → Unrisen notes.faults_before notes.faults_now → (read : List ℕ) → Answers (answer_of (show text) read) status output notes
-shown-answer text status input output notes shown written noted read = by shown.written
+shown-answer : (text : List ℕ) (status : Status) (all : Devices) → WasShown text status all → NoneFailed all → (read : List ℕ) → Meets (answer_of (show text) read) status all
+shown-answer text status all shown none read = by shown.written
   where
-    by : ((status ≡ Good) × TookText output text) ⊎ ((status ≡ WriteFault) × Rises output.faults_before output.faults_now × TookFront output.before output.now text) → Answers (answer_of (show text) read) status output notes
-    by (inl good) = record { text = good.1; noted = took-nothing notes noted shown.unnoted; ended = good.0 }
-    by (inr failed) = absurd (unrisen-rises output.faults_before output.faults_now written failed.1)
+    by : ((status ≡ Good) × TookText all.output text) ⊎ ((status ≡ WriteFault) × TookPart all.output text) → Meets (answer_of (show text) read) status all
+    by (inl good) = record { text = good.1; noted = took-nothing all.notes shown.unnoted; ended = good.0 }
+    by (inr failed) = absurd (unrisen-rose all.output.before.faults all.output.now.faults none.output failed.1.rose)
 
-ran-answer : (names : List (List ℕ)) (status : Status) (input output notes : Told) → Ran names status input output notes
-    → Unrisen input.faults_before input.faults_now → Unrisen output.faults_before output.faults_now → Unrisen notes.faults_before notes.faults_now
-    → status ≢ OutOfMemory → IfSome input.before (λ read. Answers (run_answer names read) status output notes)
-ran-answer names Good input output notes ran read written noted some = ran.answered
-ran-answer names StoreFault input output notes ran read written noted some = elim ran [ ]
-ran-answer names Usage input output notes ran read written noted some = elim ran [ ]
-ran-answer names GraphRefused input output notes ran read written noted some = elim ran [ ]
-ran-answer names LineRefused input output notes ran read written noted some = ran.answered
-ran-answer names NodeFault input output notes ran read written noted some = elim ran [ ]
-ran-answer names Stalled input output notes ran read written noted some = elim ran [ ]
-ran-answer names ReadFault input output notes ran read written noted some = absurd (unrisen-rises input.faults_before input.faults_now read ran.rises)
-ran-answer names WriteFault input output notes ran read written noted some = absurd (neither ran.rises)
+ran-answer : (names : List (List ℕ)) (status : Status) (all : Devices) → Ran names status all → NoneFailed all → status ≢ OutOfMemory
+    → IfSome all.input.before.left (λ read. Meets (run_answer names read) status all)
+ran-answer names Good all ran none some = ran.answered
+ran-answer names StoreFault all ran none some = elim ran [ ]
+ran-answer names Usage all ran none some = elim ran [ ]
+ran-answer names GraphRefused all ran none some = elim ran [ ]
+ran-answer names LineRefused all ran none some = ran.answered
+ran-answer names NodeFault all ran none some = elim ran [ ]
+ran-answer names Stalled all ran none some = elim ran [ ]
+ran-answer names ReadFault all ran none some = absurd (unrisen-rose all.input.before.faults all.input.now.faults none.input ran.failed.rose)
+ran-answer names WriteFault all ran none some = absurd (neither ran.rose)
   where
-    neither : Rises output.faults_before output.faults_now ⊎ Rises notes.faults_before notes.faults_now → ⊥
-    neither (inl rises) = unrisen-rises output.faults_before output.faults_now written rises
-    neither (inr rises) = unrisen-rises notes.faults_before notes.faults_now noted rises
-ran-answer names OutOfMemory input output notes ran read written noted some = absurd (some refl)
+    neither : Rose all.output.before.faults all.output.now.faults ⊎ Rose all.notes.before.faults all.notes.now.faults → ⊥
+    neither (inl rose) = unrisen-rose all.output.before.faults all.output.now.faults none.output rose
+    neither (inr rose) = unrisen-rose all.notes.before.faults all.notes.now.faults none.notes rose
+ran-answer names OutOfMemory all ran none some = absurd (some refl)
 
-did-answer : (job : Job) (status : Status) (input output notes : Told) → Did job status input output notes
-    → Unrisen input.faults_before input.faults_now → Unrisen output.faults_before output.faults_now → Unrisen notes.faults_before notes.faults_now
-    → status ≢ OutOfMemory → IfSome input.before (λ read. Answers (answer_of job read) status output notes)
-did-answer (refuse note) status input output notes did read written noted some =
-    if-any input.before (λ r. Answers (answer_of (refuse note) r) status output notes)
-    (λ r. record { text = took-nothing output written did.unwritten; noted = took-noted notes note noted did.noted; ended = did.ended })
-did-answer (show text) status input output notes did read written noted some =
-    if-any input.before (λ r. Answers (answer_of (show text) r) status output notes) (shown-answer text status input output notes did written noted)
-did-answer (merge names) status input output notes did read written noted some = ran-answer names status input output notes did read written noted some
+did-answer : (job : Job) (status : Status) (all : Devices) → Did job status all → NoneFailed all → status ≢ OutOfMemory
+    → IfSome all.input.before.left (λ read. Meets (answer_of job read) status all)
+did-answer (refuse note) status all did none some =
+    if-any all.input.before.left (λ r. Meets (answer_of (refuse note) r) status all)
+    (λ r. record { text = took-nothing all.output did.unwritten; noted = took-noted all.notes note none.notes did.noted; ended = did.ended })
+did-answer (show text) status all did none some =
+    if-any all.input.before.left (λ r. Meets (answer_of (show text) r) status all) (shown-answer text status all did none)
+did-answer (merge names) status all did none some = ran-answer names status all did none some
 
--- No count of faults rose, and memory was had: the answer is that of the file's bytes and the input's.
-job-answered : (command : Command) (bytes : List ℕ) (status : Status) (job : Job) (input : Option (List ℕ)) (output notes : Told) → IsJob command (take most_loaded bytes) job
-    → IfSome input (λ read. Answers (answer_of job read) status output notes) → IfSome input (λ read. Answered command bytes read status output notes)
-job-answered command bytes status job None output notes is answers = tt
-job-answered command bytes status job (Some read) output notes (file, is, same) answers = record {
-  file = file;
-  is = is;
-  answers = subst (λ (j : Job). Answers (answer_of j read) status output notes) same answers;
-}
+-- The answer of the job is that of the file's bytes and the input's.
+job-answered : (command : Command) (bytes : List ℕ) (status : Status) (job : Job) (input : Option (List ℕ)) (all : Devices) → IsJob command (take most_loaded bytes) job
+    → IfSome input (λ read. Meets (answer_of job read) status all)
+    → IfSome input (λ read. (file : File) × IsFile (take most_loaded bytes) file × Meets (answer command file read) status all)
+job-answered command bytes status job None all is meets = tt
+job-answered command bytes status job (Some read) all (file, is, same) meets = (file, is, subst (λ (j : Job). Meets (answer_of j read) status all) same meets)
 
-did-answered : (status : Status) (command : Command) (bytes : List ℕ) (a b : ℕ) (input output notes : Told) → CallDid status command (Some (Some bytes)) a b input output notes
-    → Unrisen input.faults_before input.faults_now → Unrisen output.faults_before output.faults_now → Unrisen notes.faults_before notes.faults_now
-    → status ≢ OutOfMemory → IfSome input.before (λ read. Answered command bytes read status output notes)
-did-answered status command bytes a b input output notes called read written noted some =
-    job-answered command bytes status called.job input.before output notes called.loads (did-answer called.job status input output notes called.did read written noted some)
+did-answered : (status : Status) (command : Command) (content : Option (Option (List ℕ))) (job : Job) (input : Option (List ℕ)) (all : Devices)
+    → Loads content (λ bytes. IsJob command bytes job) → IfSome input (λ read. Meets (answer_of job read) status all)
+    → IfThere content (λ bytes. IfSome input (λ read. (file : File) × IsFile (take most_loaded bytes) file × Meets (answer command file read) status all))
+did-answered status command None job input all loads meets = tt
+did-answered status command (Some None) job input all loads meets = tt
+did-answered status command (Some (Some bytes)) job input all loads meets = job-answered command bytes status job input all loads meets
 
-answered-by : (status : Status) (command : Command) (bytes : List ℕ) (failed : Option (List ℕ)) (a b : ℕ) (input output notes : Told)
-    → Called status command (Some (Some bytes)) failed a b input output notes
-    → Unrisen a b → Unrisen input.faults_before input.faults_now → Unrisen output.faults_before output.faults_now → Unrisen notes.faults_before notes.faults_now
-    → status ≢ OutOfMemory → IfSome input.before (λ read. Answered command bytes read status output notes)
-answered-by Good command bytes failed a b input output notes called store read written noted some = did-answered Good command bytes a b input output notes called read written noted some
-answered-by StoreFault command bytes failed a b input output notes called store read written noted some = absurd (unrisen-rises a b store called.rises)
-answered-by Usage command bytes failed a b input output notes called store read written noted some = elim called [ ]
-answered-by GraphRefused command bytes failed a b input output notes called store read written noted some = did-answered GraphRefused command bytes a b input output notes called read written noted some
-answered-by LineRefused command bytes failed a b input output notes called store read written noted some = did-answered LineRefused command bytes a b input output notes called read written noted some
-answered-by NodeFault command bytes failed a b input output notes called store read written noted some = did-answered NodeFault command bytes a b input output notes called read written noted some
-answered-by Stalled command bytes failed a b input output notes called store read written noted some = did-answered Stalled command bytes a b input output notes called read written noted some
-answered-by ReadFault command bytes failed a b input output notes called store read written noted some = did-answered ReadFault command bytes a b input output notes called read written noted some
-answered-by WriteFault command bytes failed a b input output notes called store read written noted some = did-answered WriteFault command bytes a b input output notes called read written noted some
-answered-by OutOfMemory command bytes failed a b input output notes called store read written noted some = absurd (some refl)
+call-answered : (status : Status) (command : Command) (all : Devices) → CallDid status command all → NoneFailed all → status ≢ OutOfMemory → IsAnswered status command all
+call-answered status command all called none some =
+    did-answered status command (all.store.before.content command.file) called.job all.input.before.left all called.loads (did-answer called.job status all called.did none some)
 
-pub answered-from : (status : Status) (command : Command) (content : Option (Option (List ℕ))) (failed : Option (List ℕ)) (a b : ℕ) (input output notes : Told)
-    → Called status command content failed a b input output notes
-    → Unrisen a b → Unrisen input.faults_before input.faults_now → Unrisen output.faults_before output.faults_now → Unrisen notes.faults_before notes.faults_now
-    → status ≢ OutOfMemory → IfThere content (λ bytes. IfSome input.before (λ read. Answered command bytes read status output notes))
-answered-from status command None failed a b input output notes called store read written noted some = tt
-answered-from status command (Some None) failed a b input output notes called store read written noted some = tt
-answered-from status command (Some (Some bytes)) failed a b input output notes called store read written noted some =
-    answered-by status command bytes failed a b input output notes called store read written noted some
+pub answered-from : (status : Status) (command : Command) (all : Devices) → Called status command all → NoneFailed all → status ≢ OutOfMemory → IsAnswered status command all
+answered-from Good command all called none some = call-answered Good command all called none some
+answered-from StoreFault command all called none some = absurd (unrisen-rose all.store.before.faults all.store.now.faults none.store called.rose)
+answered-from Usage command all called none some = elim called [ ]
+answered-from GraphRefused command all called none some = call-answered GraphRefused command all called none some
+answered-from LineRefused command all called none some = call-answered LineRefused command all called none some
+answered-from NodeFault command all called none some = call-answered NodeFault command all called none some
+answered-from Stalled command all called none some = call-answered Stalled command all called none some
+answered-from ReadFault command all called none some = call-answered ReadFault command all called none some
+answered-from WriteFault command all called none some = call-answered WriteFault command all called none some
+answered-from OutOfMemory command all called none some = absurd (some refl)

@@ -1,109 +1,112 @@
 -- Which statuses a call may have whose devices failed.
-use Rattle.std.proofs.Common.{◌≡◌, ℕ, List, [], ◌∷◌, Option, ◌⊎◌, inl, inr, refl}
-use Rattle.mg_edge.specs.Edge.{Steady}
+use Rattle.std.proofs.Common.{◌≡◌, ℕ, List, [], ◌∷◌, ◌⊎◌, inl, inr, refl, ap, arith}
+use Rattle.mg_edge.specs.Edge.{SourceTold, SinkTold}
 use Rattle.mg_run.specs.Command.{Command}
 use Rattle.mg_run.specs.Answer.{Job, refuse, show, merge}
-use Rattle.mg_run.specs.Devices.{TookFront, Rises, HasRisen}
-use Rattle.mg_run.specs.Pouring.{Told}
-use Rattle.mg_run.specs.Outcome.{TookText, Ran}
-use Rattle.mg_run.specs.Call.{WasShown, Did, Called, IsOneOf}
+use Rattle.mg_run.specs.Devices.{Device, Devices, Untouched, HasRisen, TookText, TookPart}
+use Rattle.mg_run.specs.Call.{WasShown, Ran, Did, Called, IsOneOf}
 use Rattle.mg_run.specs.declared.status.Status.{Status}
 use Rattle.mg_run.specs.declared.status.Status.TheVariants.{Good, StoreFault, Usage, GraphRefused, LineRefused, NodeFault, Stalled, ReadFault, WriteFault, OutOfMemory}
-use Rattle.mg_run.proofs.Calling.{risen-steady, risen-untouched}
+
+risen-steady : (a b : ℕ) → HasRisen a b → b ≡ a → ⊥
+risen-steady a b risen steady = absurd (omega (arith, steady, risen))
+
+risen-unread : (input : Device SourceTold) → HasRisen input.before.faults input.now.faults → Untouched input → ⊥
+risen-unread input risen untouched = risen-steady _ _ risen (ap (λ s. s.faults) untouched)
+
+risen-unwritten : (sink : Device SinkTold) → HasRisen sink.before.faults sink.now.faults → Untouched sink → ⊥
+risen-unwritten sink risen untouched = risen-steady _ _ risen (ap (λ s. s.faults) untouched)
 
 -- The store's count rose.
-pub store-risen : (status : Status) (command : Command) (content : Option (Option (List ℕ))) (failed : Option (List ℕ)) (a b : ℕ) (input output notes : Told)
-    → Called status command content failed a b input output notes → HasRisen a b → IsOneOf status (StoreFault ∷ OutOfMemory ∷ [])
-store-risen Good command content failed a b input output notes called risen = absurd (risen-steady a b risen called.steady)
-store-risen StoreFault command content failed a b input output notes called risen = inl refl
-store-risen Usage command content failed a b input output notes called risen = elim called [ ]
-store-risen GraphRefused command content failed a b input output notes called risen = absurd (risen-steady a b risen called.steady)
-store-risen LineRefused command content failed a b input output notes called risen = absurd (risen-steady a b risen called.steady)
-store-risen NodeFault command content failed a b input output notes called risen = absurd (risen-steady a b risen called.steady)
-store-risen Stalled command content failed a b input output notes called risen = absurd (risen-steady a b risen called.steady)
-store-risen ReadFault command content failed a b input output notes called risen = absurd (risen-steady a b risen called.steady)
-store-risen WriteFault command content failed a b input output notes called risen = absurd (risen-steady a b risen called.steady)
-store-risen OutOfMemory command content failed a b input output notes called risen = inr (inl refl)
+pub store-risen : (status : Status) (command : Command) (all : Devices) → Called status command all → HasRisen all.store.before.faults all.store.now.faults → IsOneOf status (StoreFault ∷ OutOfMemory ∷ [])
+store-risen Good command all called risen = absurd (risen-steady _ _ risen called.steady)
+store-risen StoreFault command all called risen = inl refl
+store-risen Usage command all called risen = elim called [ ]
+store-risen GraphRefused command all called risen = absurd (risen-steady _ _ risen called.steady)
+store-risen LineRefused command all called risen = absurd (risen-steady _ _ risen called.steady)
+store-risen NodeFault command all called risen = absurd (risen-steady _ _ risen called.steady)
+store-risen Stalled command all called risen = absurd (risen-steady _ _ risen called.steady)
+store-risen ReadFault command all called risen = absurd (risen-steady _ _ risen called.steady)
+store-risen WriteFault command all called risen = absurd (risen-steady _ _ risen called.steady)
+store-risen OutOfMemory command all called risen = inr (inl refl)
 
 -- The input's count rose.
 abbrev read_statuses : List Status
 read_statuses = ReadFault ∷ WriteFault ∷ OutOfMemory ∷ []
 
-read-ran : (names : List (List ℕ)) (status : Status) (input output notes : Told) → Ran names status input output notes → HasRisen input.faults_before input.faults_now → IsOneOf status read_statuses
-read-ran names Good input output notes ran risen = absurd (risen-steady _ _ risen ran.read)
-read-ran names StoreFault input output notes ran risen = elim ran [ ]
-read-ran names Usage input output notes ran risen = elim ran [ ]
-read-ran names GraphRefused input output notes ran risen = elim ran [ ]
-read-ran names LineRefused input output notes ran risen = absurd (risen-steady _ _ risen ran.read)
-read-ran names NodeFault input output notes ran risen = elim ran [ ]
-read-ran names Stalled input output notes ran risen = elim ran [ ]
-read-ran names ReadFault input output notes ran risen = inl refl
-read-ran names WriteFault input output notes ran risen = inr (inl refl)
-read-ran names OutOfMemory input output notes ran risen = inr (inr (inl refl))
+read-ran : (names : List (List ℕ)) (status : Status) (all : Devices) → Ran names status all → HasRisen all.input.before.faults all.input.now.faults → IsOneOf status read_statuses
+read-ran names Good all ran risen = absurd (risen-steady _ _ risen ran.read)
+read-ran names StoreFault all ran risen = elim ran [ ]
+read-ran names Usage all ran risen = elim ran [ ]
+read-ran names GraphRefused all ran risen = elim ran [ ]
+read-ran names LineRefused all ran risen = absurd (risen-steady _ _ risen ran.read)
+read-ran names NodeFault all ran risen = elim ran [ ]
+read-ran names Stalled all ran risen = elim ran [ ]
+read-ran names ReadFault all ran risen = inl refl
+read-ran names WriteFault all ran risen = inr (inl refl)
+read-ran names OutOfMemory all ran risen = inr (inr (inl refl))
 
-read-did : (job : Job) (status : Status) (input output notes : Told) → Did job status input output notes → HasRisen input.faults_before input.faults_now → IsOneOf status read_statuses
-read-did (refuse note) status input output notes did risen = absurd (risen-untouched input risen did.unread)
-read-did (show text) status input output notes did risen = absurd (risen-untouched input risen did.unread)
-read-did (merge names) status input output notes did risen = read-ran names status input output notes did risen
+read-did : (job : Job) (status : Status) (all : Devices) → Did job status all → HasRisen all.input.before.faults all.input.now.faults → IsOneOf status read_statuses
+read-did (refuse note) status all did risen = absurd (risen-unread all.input risen did.unread)
+read-did (show text) status all did risen = absurd (risen-unread all.input risen did.unread)
+read-did (merge names) status all did risen = read-ran names status all did risen
 
-pub read-risen : (status : Status) (command : Command) (content : Option (Option (List ℕ))) (failed : Option (List ℕ)) (a b : ℕ) (input output notes : Told)
-    → Called status command content failed a b input output notes → HasRisen input.faults_before input.faults_now → IsOneOf status read_statuses
-read-risen Good command content failed a b input output notes called risen = read-did called.job Good input output notes called.did risen
-read-risen StoreFault command content failed a b input output notes called risen = absurd (risen-untouched input risen called.unread)
-read-risen Usage command content failed a b input output notes called risen = elim called [ ]
-read-risen GraphRefused command content failed a b input output notes called risen = read-did called.job GraphRefused input output notes called.did risen
-read-risen LineRefused command content failed a b input output notes called risen = read-did called.job LineRefused input output notes called.did risen
-read-risen NodeFault command content failed a b input output notes called risen = read-did called.job NodeFault input output notes called.did risen
-read-risen Stalled command content failed a b input output notes called risen = read-did called.job Stalled input output notes called.did risen
-read-risen ReadFault command content failed a b input output notes called risen = inl refl
-read-risen WriteFault command content failed a b input output notes called risen = inr (inl refl)
-read-risen OutOfMemory command content failed a b input output notes called risen = inr (inr (inl refl))
+pub read-risen : (status : Status) (command : Command) (all : Devices) → Called status command all → HasRisen all.input.before.faults all.input.now.faults → IsOneOf status read_statuses
+read-risen Good command all called risen = read-did called.job Good all called.did risen
+read-risen StoreFault command all called risen = absurd (risen-unread all.input risen called.unread)
+read-risen Usage command all called risen = elim called [ ]
+read-risen GraphRefused command all called risen = read-did called.job GraphRefused all called.did risen
+read-risen LineRefused command all called risen = read-did called.job LineRefused all called.did risen
+read-risen NodeFault command all called risen = read-did called.job NodeFault all called.did risen
+read-risen Stalled command all called risen = read-did called.job Stalled all called.did risen
+read-risen ReadFault command all called risen = inl refl
+read-risen WriteFault command all called risen = inr (inl refl)
+read-risen OutOfMemory command all called risen = inr (inr (inl refl))
 
 -- The output's count or the notes' rose.
 abbrev write_statuses : List Status
 write_statuses = StoreFault ∷ GraphRefused ∷ WriteFault ∷ OutOfMemory ∷ []
 
-abbrev EitherRisen : Told → Told → Type 0
-EitherRisen output notes = HasRisen output.faults_before output.faults_now ⊎ HasRisen notes.faults_before notes.faults_now
+abbrev EitherRisen : Devices → Type 0
+EitherRisen all = HasRisen all.output.before.faults all.output.now.faults ⊎ HasRisen all.notes.before.faults all.notes.now.faults
 
-either-steady : (output notes : Told) → EitherRisen output notes → Steady output.faults_before output.faults_now → Steady notes.faults_before notes.faults_now → ⊥
-either-steady output notes (inl risen) one two = risen-steady _ _ risen one
-either-steady output notes (inr risen) one two = risen-steady _ _ risen two
+either-steady : (all : Devices) → EitherRisen all → all.output.now.faults ≡ all.output.before.faults → all.notes.now.faults ≡ all.notes.before.faults → ⊥
+either-steady all (inl risen) one two = risen-steady _ _ risen one
+either-steady all (inr risen) one two = risen-steady _ _ risen two
 
-write-ran : (names : List (List ℕ)) (status : Status) (input output notes : Told) → Ran names status input output notes → EitherRisen output notes → IsOneOf status write_statuses
-write-ran names Good input output notes ran risen = absurd (either-steady output notes risen ran.written ran.noted)
-write-ran names StoreFault input output notes ran risen = elim ran [ ]
-write-ran names Usage input output notes ran risen = elim ran [ ]
-write-ran names GraphRefused input output notes ran risen = elim ran [ ]
-write-ran names LineRefused input output notes ran risen = absurd (either-steady output notes risen ran.written ran.noted)
-write-ran names NodeFault input output notes ran risen = elim ran [ ]
-write-ran names Stalled input output notes ran risen = elim ran [ ]
-write-ran names ReadFault input output notes ran risen = absurd (either-steady output notes risen ran.answered.text.steady ran.answered.noted.steady)
-write-ran names WriteFault input output notes ran risen = inr (inr (inl refl))
-write-ran names OutOfMemory input output notes ran risen = inr (inr (inr (inl refl)))
+write-ran : (names : List (List ℕ)) (status : Status) (all : Devices) → Ran names status all → EitherRisen all → IsOneOf status write_statuses
+write-ran names Good all ran risen = absurd (either-steady all risen ran.written ran.noted)
+write-ran names StoreFault all ran risen = elim ran [ ]
+write-ran names Usage all ran risen = elim ran [ ]
+write-ran names GraphRefused all ran risen = elim ran [ ]
+write-ran names LineRefused all ran risen = absurd (either-steady all risen ran.written ran.noted)
+write-ran names NodeFault all ran risen = elim ran [ ]
+write-ran names Stalled all ran risen = elim ran [ ]
+write-ran names ReadFault all ran risen = absurd (either-steady all risen ran.answered.text.steady ran.answered.noted.steady)
+write-ran names WriteFault all ran risen = inr (inr (inl refl))
+write-ran names OutOfMemory all ran risen = inr (inr (inr (inl refl)))
 
-write-shown : (text : List ℕ) (status : Status) (input output notes : Told) → WasShown text status input output notes → EitherRisen output notes → IsOneOf status write_statuses
-write-shown text status input output notes shown risen = by shown.written risen
+write-shown : (text : List ℕ) (status : Status) (all : Devices) → WasShown text status all → EitherRisen all → IsOneOf status write_statuses
+write-shown text status all shown risen = by shown.written risen
   where
-    by : ((status ≡ Good) × TookText output text) ⊎ ((status ≡ WriteFault) × Rises output.faults_before output.faults_now × TookFront output.before output.now text) → EitherRisen output notes → IsOneOf status write_statuses
+    by : ((status ≡ Good) × TookText all.output text) ⊎ ((status ≡ WriteFault) × TookPart all.output text) → EitherRisen all → IsOneOf status write_statuses
     by (inr failed) risen = inr (inr (inl failed.0))
     by (inl good) (inl risen) = absurd (risen-steady _ _ risen good.1.steady)
-    by (inl good) (inr risen) = absurd (risen-untouched notes risen shown.unnoted)
+    by (inl good) (inr risen) = absurd (risen-unwritten all.notes risen shown.unnoted)
 
-write-did : (job : Job) (status : Status) (input output notes : Told) → Did job status input output notes → EitherRisen output notes → IsOneOf status write_statuses
-write-did (refuse note) status input output notes did risen = inr (inl did.ended)
-write-did (show text) status input output notes did risen = write-shown text status input output notes did risen
-write-did (merge names) status input output notes did risen = write-ran names status input output notes did risen
+write-did : (job : Job) (status : Status) (all : Devices) → Did job status all → EitherRisen all → IsOneOf status write_statuses
+write-did (refuse note) status all did risen = inr (inl did.ended)
+write-did (show text) status all did risen = write-shown text status all did risen
+write-did (merge names) status all did risen = write-ran names status all did risen
 
-pub write-risen : (status : Status) (command : Command) (content : Option (Option (List ℕ))) (failed : Option (List ℕ)) (a b : ℕ) (input output notes : Told)
-    → Called status command content failed a b input output notes → EitherRisen output notes → IsOneOf status write_statuses
-write-risen Good command content failed a b input output notes called risen = write-did called.job Good input output notes called.did risen
-write-risen StoreFault command content failed a b input output notes called risen = inl refl
-write-risen Usage command content failed a b input output notes called risen = elim called [ ]
-write-risen GraphRefused command content failed a b input output notes called risen = write-did called.job GraphRefused input output notes called.did risen
-write-risen LineRefused command content failed a b input output notes called risen = write-did called.job LineRefused input output notes called.did risen
-write-risen NodeFault command content failed a b input output notes called risen = write-did called.job NodeFault input output notes called.did risen
-write-risen Stalled command content failed a b input output notes called risen = write-did called.job Stalled input output notes called.did risen
-write-risen ReadFault command content failed a b input output notes called risen = write-did called.job ReadFault input output notes called.did risen
-write-risen WriteFault command content failed a b input output notes called risen = inr (inr (inl refl))
-write-risen OutOfMemory command content failed a b input output notes called risen = inr (inr (inr (inl refl)))
+pub write-risen : (status : Status) (command : Command) (all : Devices) → Called status command all → EitherRisen all → IsOneOf status write_statuses
+write-risen Good command all called risen = write-did called.job Good all called.did risen
+write-risen StoreFault command all called risen = inl refl
+write-risen Usage command all called risen = elim called [ ]
+write-risen GraphRefused command all called risen = write-did called.job GraphRefused all called.did risen
+write-risen LineRefused command all called risen = write-did called.job LineRefused all called.did risen
+write-risen NodeFault command all called risen = write-did called.job NodeFault all called.did risen
+write-risen Stalled command all called risen = write-did called.job Stalled all called.did risen
+write-risen ReadFault command all called risen = write-did called.job ReadFault all called.did risen
+write-risen WriteFault command all called risen = inr (inr (inl refl))
+write-risen OutOfMemory command all called risen = inr (inr (inr (inl refl)))

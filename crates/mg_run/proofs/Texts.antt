@@ -14,7 +14,7 @@ use Rattle.mg_config.proofs.Spelled.{spelled_tree}
 use Rattle.mg_config.proofs.Shallow.{shallow_tree}
 use Rattle.mg_config.proofs.WrittenBack.{written_back}
 use Rattle.mg_run.specs.File.{graph, IsFile}
-use Rattle.mg_run.specs.Answer.{text_of}
+use Rattle.mg_run.specs.Answer.{graph_text}
 
 -- what holds of the graph of a file
 sound_graph : (content : List ℕ) (g : GraphView) → IsFile content (graph g) → IsSound g
@@ -23,10 +23,10 @@ sound_graph content g (fields, text, made) = sound_of fields g made
 printable_graph : (content : List ℕ) (g : GraphView) → IsFile content (graph g) → IsPrintable g
 printable_graph content g (fields, text, made) = printable_of fields g made (text_spelled content fields text.gives) text.shallow
 
-given_text : (g : GraphView) → IsSound g → IsPrintable g → Gives (text_of g) (tree_of g)
+given_text : (g : GraphView) → IsSound g → IsPrintable g → Gives (graph_text g) (tree_of g)
 given_text g sound printable = canonical_given (tree_of g) (spelled_tree g sound printable)
 
-pub said_again : (content : List ℕ) (g : GraphView) → IsFile content (graph g) → length (text_of g) ≤ max_len → IsFile (text_of g) (graph g)
+pub said_again : (content : List ℕ) (g : GraphView) → IsFile content (graph g) → length (graph_text g) ≤ max_len → IsFile (graph_text g) (graph g)
 said_again content g is short =
     let sound = sound_graph content g is in
     let printable = printable_graph content g is in
@@ -38,10 +38,10 @@ read_as g = Ok g
 same_graph : (g h : GraphView) → read_as g ≡ read_as h → g ≡ h
 same_graph g h e = cc
 
-pub known_by_text : (a b : List ℕ) (g h : GraphView) → IsFile a (graph g) → IsFile b (graph h) → text_of g ≡ text_of h → g ≡ h
+pub known_by_text : (a b : List ℕ) (g h : GraphView) → IsFile a (graph g) → IsFile b (graph h) → graph_text g ≡ graph_text h → g ≡ h
 known_by_text a b g h one other same =
     let g_sound = sound_graph a g one in
     let h_sound = sound_graph b h other in
     let g_given = given_text g g_sound (printable_graph a g one) in
     let h_given = subst (λ (text : List ℕ). Gives text (tree_of h)) (sym same) (given_text h h_sound (printable_graph b h other)) in
-    same_graph g h (sym (written_back g g_sound) ∙ ap config_of (one_text (text_of g) (tree_of g) (tree_of h) g_given h_given) ∙ written_back h h_sound)
+    same_graph g h (sym (written_back g g_sound) ∙ ap config_of (one_text (graph_text g) (tree_of g) (tree_of h) g_given h_given) ∙ written_back h h_sound)

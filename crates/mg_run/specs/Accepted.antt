@@ -5,6 +5,7 @@ use Rattle.mg_time.specs.Time.{done}
 use Rattle.mg_value.specs.Payload.{Plain, int}
 use Rattle.mg_value.specs.Prefix.{StreamPrefix, empty_prefix, appended, raised, closed}
 use Rattle.mg_run.specs.Reading.{reading}
+use Rattle.mg_run.specs.declared.limits.TheConstants.{MOST_LINES}
 use Rattle.mg_run.specs.declared.reading.Said.{Said}
 use Rattle.mg_run.specs.declared.reading.Said.TheVariants.{Nothing, Packet, Bound, Close, Other}
 use Rattle.mg_run.specs.declared.line_fault.LineFault.{LineFault}
@@ -12,7 +13,7 @@ use Rattle.mg_run.specs.declared.line_fault.LineFault.TheVariants.{NotYet, Close
 
 -- the most lines of an input, blank ones too
 abbrev pub most_lines : ℕ
-most_lines = 4000000
+most_lines = MOST_LINES
 
 -- the streams with a step of the one at a place
 abbrev pub stepped : ℕ → (StreamPrefix Plain → StreamPrefix Plain) → List (StreamPrefix Plain) → List (StreamPrefix Plain)

@@ -19,8 +19,8 @@ use Rattle.mg_run.specs.declared.status.Status.TheVariants.{Good, GraphRefused, 
 -- The graphs --
 
 -- the text of a configuration
-abbrev pub text_of : GraphView → List ℕ
-text_of g = canonical (tree_of g)
+abbrev pub graph_text : GraphView → List ℕ
+graph_text g = canonical (tree_of g)
 
 -- The texts of the two graphs that run so far: a PassThroughCalculator between the streams `in` and `out`, and a
 -- MergeCalculator from the streams `a` and `b` to `out`.
@@ -50,8 +50,8 @@ run_job None = refuse unbuilt_note
 run_job (Some names) = merge names
 
 abbrev pub graph_job : Verb → GraphView → Job
-graph_job Run g = run_job (inputs_of (text_of g))
-graph_job Expand g = show (text_of g)
+graph_job Run g = run_job (inputs_of (graph_text g))
+graph_job Expand g = show (graph_text g)
 
 abbrev pub job_of : Command → File → Job
 job_of command (graph g) = graph_job command.verb g

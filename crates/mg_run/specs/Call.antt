@@ -1,16 +1,24 @@
--- What a call with good words came to, by its status. `content` is what the store tells of the file's name: nothing, or
--- that there is no such name, or its bytes.
-use Rattle.std.specs.Prelude.{◌≡◌, ℕ, ◌^◌, ◌-◌, ◌<◌, ◌⊎◌, List, [], ◌∷◌, Option, None, Some, IfSome, take}
-use Rattle.mg_edge.specs.Edge.{Steady, most_loaded}
+-- What a call came to, by its status.
+use Rattle.std.specs.Prelude.{◌≡◌, ℕ, ◌⊎◌, List, [], ◌∷◌, Option, None, Some, IfSome, take}
+use Rattle.mg_edge.specs.Edge.{Rose, most_loaded}
+use Rattle.mg_edge.specs.Runs.{Gave, TookAll}
 use Rattle.mg_run.specs.Command.{Command}
 use Rattle.mg_run.specs.File.{File, IsFile}
-use Rattle.mg_run.specs.Notes.{store_note}
-use Rattle.mg_run.specs.Answer.{Job, refuse, show, merge, job_of, answer}
-use Rattle.mg_run.specs.Devices.{TookFront, Rises}
-use Rattle.mg_run.specs.Pouring.{Told}
-use Rattle.mg_run.specs.Outcome.{Untouched, Noted, TookText, Answers, Ran}
+use Rattle.mg_run.specs.Lines.{whole_lines}
+use Rattle.mg_run.specs.Accepted.{accepted}
+use Rattle.mg_run.specs.Notes.{usage_note, store_note}
+use Rattle.mg_run.specs.Answer.{Answer, Job, refuse, show, merge, job_of, answer, run_answer, failed_answer}
+use Rattle.mg_run.specs.Devices.{Devices, Untouched, ReadFailed, HasEnded, TookFront, TookText, TookPart, Noted}
 use Rattle.mg_run.specs.declared.status.Status.{Status}
-use Rattle.mg_run.specs.declared.status.Status.TheVariants.{Good, StoreFault, Usage, GraphRefused, WriteFault, OutOfMemory}
+use Rattle.mg_run.specs.declared.status.Status.TheVariants.{Good, StoreFault, Usage, GraphRefused, LineRefused, NodeFault, Stalled, ReadFault, WriteFault, OutOfMemory}
+
+-- The output and the notes took an answer's texts, and the status is the answer's.
+pub record Meets (given : Answer) (status : Status) (devices : Devices) : Type 0 where
+  pub text : TookText devices.output given.output
+  pub noted : TookText devices.notes given.notes
+  pub ended : status ≡ given.status
+
+-- What the store tells of a file --
 
 -- P holds of the bytes, where the store tells them.
 abbrev pub IfThere : Option (Option (List ℕ)) → (List ℕ → Type 0) → Type 0
@@ -24,70 +32,120 @@ Loads None P = (bytes : List ℕ) × P bytes
 Loads (Some None) P = ⊥
 Loads (Some (Some bytes)) P = P (take most_loaded bytes)
 
+-- What became of it --
+
+-- The words were no command.
+pub record WasUsage (devices : Devices) : Type 0 where
+  pub noted : Noted devices.notes usage_note
+  pub unloaded : Untouched devices.store
+  pub unread : Untouched devices.input
+  pub unwritten : Untouched devices.output
+
 -- The file couldn't be loaded.
-pub record CallStoreFault (file : List ℕ) (failed_name : Option (List ℕ)) (faults_before faults_now : ℕ) (input output notes : Told) : Type 0 where
-  pub rises : Rises faults_before faults_now
-  pub named : failed_name ≡ Some file
-  pub noted : Noted notes (store_note file)
-  pub unread : Untouched input
-  pub unwritten : Untouched output
+pub record WasUnloaded (file : List ℕ) (devices : Devices) : Type 0 where
+  pub rose : Rose devices.store.before.faults devices.store.now.faults
+  pub named : devices.store.now.failed_name ≡ Some file
+  pub noted : Noted devices.notes (store_note file)
+  pub unread : Untouched devices.input
+  pub unwritten : Untouched devices.output
 
 -- The file was refused, with this note.
-pub record WasRefused (note : List ℕ) (status : Status) (input output notes : Told) : Type 0 where
+pub record WasRefused (note : List ℕ) (status : Status) (devices : Devices) : Type 0 where
   pub ended : status ≡ GraphRefused
-  pub noted : Noted notes note
-  pub unread : Untouched input
-  pub unwritten : Untouched output
+  pub noted : Noted devices.notes note
+  pub unread : Untouched devices.input
+  pub unwritten : Untouched devices.output
 
 -- This text was written, or a write of it failed. The input was left as it was, and no note was taken.
-pub record WasShown (text : List ℕ) (status : Status) (input output notes : Told) : Type 0 where
-  pub written : ((status ≡ Good) × TookText output text)
-      ⊎ ((status ≡ WriteFault) × Rises output.faults_before output.faults_now × TookFront output.before output.now text)
-  pub unread : Untouched input
-  pub unnoted : Untouched notes
+pub record WasShown (text : List ℕ) (status : Status) (devices : Devices) : Type 0 where
+  pub written : ((status ≡ Good) × TookText devices.output text) ⊎ ((status ≡ WriteFault) × TookPart devices.output text)
+  pub unread : Untouched devices.input
+  pub unnoted : Untouched devices.notes
 
-abbrev pub Did : Job → Status → Told → Told → Told → Type 0
-Did (refuse note) status input output notes = WasRefused note status input output notes
-Did (show text) status input output notes = WasShown text status input output notes
-Did (merge names) status input output notes = Ran names status input output notes
+-- A run --
 
--- Only a run reads the input.
-abbrev pub MayRead : Job → Type 0
-MayRead (refuse note) = ⊥
-MayRead (show text) = ⊥
-MayRead (merge names) = Unit {0}
+-- `names` are the names of the graph's inputs. The input was read to its end, or to its first line that isn't good.
+pub record RanAll (names : List (List ℕ)) (status : Status) (devices : Devices) : Type 0 where
+  pub answered : IfSome devices.input.before.left (λ bytes. Meets (run_answer names bytes) status devices)
+  pub ended : status ≡ Good → HasEnded devices.input
+  pub read : devices.input.now.faults ≡ devices.input.before.faults
+  pub written : devices.output.now.faults ≡ devices.output.before.faults
+  pub noted : devices.notes.now.faults ≡ devices.notes.before.faults
+
+-- A read failed. The whole lines of what came before were all good, and they count.
+pub record RanPart (names : List (List ℕ)) (devices : Devices) : Type 0 where
+  pub came : List ℕ
+  pub gave : Gave devices.input.before.left devices.input.now.left came
+  pub good : accepted names (whole_lines came) ≡ whole_lines came
+  pub answered : Meets (failed_answer names came) ReadFault devices
+  pub failed : ReadFailed devices.input
+
+-- The output took all the text of what was read: of the whole input, or of what came before a read failed.
+abbrev pub TookRead : List (List ℕ) → Devices → Type 0
+TookRead names devices =
+    IfSome devices.input.before.left (λ bytes. TookAll devices.output.before.taken devices.output.now.taken (run_answer names bytes).output)
+    ⊎ ((came : List ℕ) × Gave devices.input.before.left devices.input.now.left came × ReadFailed devices.input
+    × TookAll devices.output.before.taken devices.output.now.taken (failed_answer names came).output)
+
+-- The output took a front of the text of the whole input.
+abbrev pub TookSome : List (List ℕ) → Devices → Type 0
+TookSome names devices = IfSome devices.input.before.left (λ bytes. TookFront devices.output (run_answer names bytes).output)
+
+-- A write failed. Where none to the output did, it took all the text of what was read.
+pub record RanShort (names : List (List ℕ)) (devices : Devices) : Type 0 where
+  pub rose : Rose devices.output.before.faults devices.output.now.faults ⊎ Rose devices.notes.before.faults devices.notes.now.faults
+  pub front : TookSome names devices
+  pub whole : Rose devices.output.before.faults devices.output.now.faults ⊎ TookRead names devices
+
+-- A run of the graph ended with this status. Where memory ran out, the output took a front.
+abbrev pub Ran : List (List ℕ) → Status → Devices → Type 0
+Ran names Good devices = RanAll names Good devices
+Ran names StoreFault devices = ⊥
+Ran names Usage devices = ⊥
+Ran names GraphRefused devices = ⊥
+Ran names LineRefused devices = RanAll names LineRefused devices
+Ran names NodeFault devices = ⊥
+Ran names Stalled devices = ⊥
+Ran names ReadFault devices = RanPart names devices
+Ran names WriteFault devices = RanShort names devices
+Ran names OutOfMemory devices = TookSome names devices
+
+-- A call --
+
+abbrev pub Did : Job → Status → Devices → Type 0
+Did (refuse note) status devices = WasRefused note status devices
+Did (show text) status devices = WasShown text status devices
+Did (merge names) status devices = Ran names status devices
 
 -- what a command has to do with a content
 abbrev pub IsJob : Command → List ℕ → Job → Type 0
 IsJob command content job = (file : File) × IsFile content file × (job ≡ job_of command file)
 
 -- The file was loaded, and what the command has to do with it was done.
-pub record CallDid (status : Status) (command : Command) (content : Option (Option (List ℕ))) (faults_before faults_now : ℕ) (input output notes : Told) : Type 0 where
+pub record CallDid (status : Status) (command : Command) (devices : Devices) : Type 0 where
   pub job : Job
-  pub loads : Loads content (λ bytes. IsJob command bytes job)
-  pub steady : Steady faults_before faults_now
-  pub did : Did job status input output notes
+  pub loads : Loads (devices.store.before.content command.file) (λ bytes. IsJob command bytes job)
+  pub steady : devices.store.now.faults ≡ devices.store.before.faults
+  pub did : Did job status devices
 
 -- Memory ran out: the output took a front of what a call with enough of it gives.
-abbrev pub CallShort : Command → Option (Option (List ℕ)) → Told → Told → Type 0
-CallShort command content input output =
-    IfThere content (λ bytes. IfSome input.before (λ read. (file : File) → IsFile (take most_loaded bytes) file → TookFront output.before output.now (answer command file read).output))
+abbrev pub CallShort : Command → Devices → Type 0
+CallShort command devices =
+    IfThere (devices.store.before.content command.file) (λ bytes. IfSome devices.input.before.left (λ read.
+    (file : File) → IsFile (take most_loaded bytes) file → TookFront devices.output (answer command file read).output))
 
-abbrev pub Called : Status → Command → Option (Option (List ℕ)) → Option (List ℕ) → ℕ → ℕ → Told → Told → Told → Type 0
-Called StoreFault command content failed_name before now input output notes = CallStoreFault command.file failed_name before now input output notes
-Called Usage command content failed_name before now input output notes = ⊥
-Called OutOfMemory command content failed_name before now input output notes = CallShort command content input output
-Called status command content failed_name before now input output notes = CallDid status command content before now input output notes
+-- A call with a command ended with this status.
+abbrev pub Called : Status → Command → Devices → Type 0
+Called StoreFault command devices = WasUnloaded command.file devices
+Called Usage command devices = ⊥
+Called OutOfMemory command devices = CallShort command devices
+Called status command devices = CallDid status command devices
 
--- The output, the notes and the status are those of the answer to the file's bytes and the input's.
-pub record Answered (command : Command) (content input : List ℕ) (status : Status) (output notes : Told) : Type 0 where
-  pub file : File
-  pub is : IsFile (take most_loaded content) file
-  pub answers : Answers (answer command file input) status output notes
-
--- A count of faults is as it was, and not at its type's end.
-abbrev pub Unrisen : ℕ → ℕ → Type 0
-Unrisen before now = (now ≡ before) × (now < 2 ^ 64 - 1)
+-- Where the devices tell the file's bytes and the input's, the call met the answer to them.
+abbrev pub IsAnswered : Status → Command → Devices → Type 0
+IsAnswered status command devices =
+    IfThere (devices.store.before.content command.file) (λ bytes. IfSome devices.input.before.left (λ read.
+    (file : File) × IsFile (take most_loaded bytes) file × Meets (answer command file read) status devices))
 
 -- a status is one of these
 abbrev pub IsOneOf : Status → List Status → Type 0

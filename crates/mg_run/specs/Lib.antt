@@ -1,18 +1,14 @@
+-- What the program means: whoever wants to know what is proved reads these files.
 pub mod Command
+pub mod Status
 pub mod File
 pub mod Lines
 pub mod Reading
-pub mod Said
 pub mod Accepted
 pub mod Notes
 pub mod Output
 pub mod Answer
-pub mod Jobs
-pub mod Claimed
-pub mod Feed
 pub mod Devices
-pub mod Pouring
-pub mod Poured
-pub mod Outcome
-pub mod Ended
 pub mod Call
+-- What only the code's own functions say to one another. Nothing above rests on it.
+pub mod Inner

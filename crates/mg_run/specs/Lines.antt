@@ -1,6 +1,6 @@
 -- Lines of an input. A line ends with a line feed, which is no part of it. The last line of an input that has ended
 -- may lack its line feed.
-use Rattle.std.specs.Prelude.{◌≡◌, ℕ, ◌+◌, ◌<◌, ◌==◌, List, [], ◌∷◌, ◌++◌, length, take, drop, false, if◌then◌else◌}
+use Rattle.std.specs.Prelude.{ℕ, ◌==◌, List, [], ◌∷◌, if◌then◌else◌}
 
 -- a byte put before the first part
 abbrev pub with_first : ℕ → List (List ℕ) → List (List ℕ)
@@ -32,14 +32,3 @@ whole_lines bytes = but_last (parts bytes)
 -- the lines of an input that has ended
 abbrev pub all_lines : List ℕ → List (List ℕ)
 all_lines bytes = but_empty_last (parts bytes)
-
--- no byte is a line feed
-abbrev pub NoFeed : List ℕ → Type 0
-NoFeed [] = Unit {0}
-NoFeed (b ∷ bytes) = ((b == 10) ≡ false) × NoFeed bytes
-
--- the first line feed of the bytes is at this place
-pub record EndsLine (bytes : List ℕ) (i : ℕ) : Type 0 where
-  pub within : i < length bytes
-  pub none : NoFeed (take i bytes)
-  pub cut : bytes ≡ take i bytes ++ 10 ∷ drop (i + 1) bytes

@@ -6,6 +6,7 @@ use Rattle.std.specs.Str.{is_utf8, bytes_eq}
 use Rattle.serde_json.specs.Data.{Data, null, boolean, number, string, array, object, Members, no_members, member}
 use Rattle.serde_json.specs.Read.{read}
 use Rattle.serde_json.specs.Find.{get, as_number, as_str, as_bool, as_i64}
+use Rattle.mg_run.specs.declared.limits.TheConstants.{LONGEST_LINE}
 use Rattle.mg_run.specs.declared.reading.Said.{Said}
 use Rattle.mg_run.specs.declared.reading.Said.TheVariants.{Nothing, Packet, Bound, Close, Other}
 use Rattle.mg_time.specs.Time.{place_of, least, greatest}
@@ -16,7 +17,7 @@ is_blank b = b == 32 || b == 9 || b == 13
 
 -- the most bytes of a line
 abbrev pub longest_line : ℕ
-longest_line = 1048576
+longest_line = LONGEST_LINE
 
 -- the place of a name among some names
 abbrev pub place_in : List (List ℕ) → List ℕ → Option ℕ

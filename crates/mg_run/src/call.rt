@@ -1,10 +1,9 @@
 ghost use Rattle.std.specs.Prelude.{◌≡◌, ◌≢◌, ◌↔◌, ◌⊎◌, ◌∷◌, [], None, Some, IfSome};
 ghost use Rattle.mg_run.specs.Command.{command, command_of};
-ghost use Rattle.mg_run.specs.Notes.{usage_note};
-ghost use Rattle.mg_run.specs.Jobs.{job_view};
-ghost use Rattle.mg_run.specs.Devices.{HasRisen};
-ghost use Rattle.mg_run.specs.Outcome.{told, Untouched, Noted};
-ghost use Rattle.mg_run.specs.Call.{Called, Did, MayRead, IfThere, Answered, Unrisen, IsOneOf};
+ghost use Rattle.mg_run.specs.Devices.{Device, device, devices, Untouched, HasRisen, NoneFailed};
+ghost use Rattle.mg_run.specs.Call.{WasUsage, Called, Did, IsAnswered, IsOneOf};
+ghost use Rattle.mg_run.specs.Inner.Job.{job_view, MayRead};
+ghost use Rattle.mg_edge.specs.Edge.{StoreTold};
 
 use crate::Status;
 use crate::job::{Job, job_of};
@@ -27,38 +26,32 @@ pub fn run_words<S: Source, K: Sink, E: Sink, T: Store>(
 ) -> Status
     // The words are judged first, and no device matters to it.
     ensures usage { (result ≡ Status.Usage) ↔ (command_of words.now ≡ None) }
-    ensures usage_note { command_of words.now ≡ None
-        → Noted (told (E.taken notes.old) (E.taken notes.new) (E.faults notes.old) (E.faults notes.new)) usage_note
-        × Untouched (told (S.left input.old) (S.left input.new) (S.faults input.old) (S.faults input.new))
-        × Untouched (told (K.taken output.old) (K.taken output.new) (K.faults output.old) (K.faults output.new)) }
+    ensures usage_note { command_of words.now ≡ None → WasUsage (devices
+        (device (T.told store.old) (T.told store.new)) (device (S.told input.old) (S.told input.new))
+        (device (K.told output.old) (K.told output.new)) (device (E.told notes.old) (E.told notes.new))) }
 
     // What each other status means.
-    ensures called { IfSome (command_of words.now) (λ command. Called result
-        command (T.content store.old command.file) (T.failed_name store.new) (T.faults store.old) (T.faults store.new)
-        (told (S.left input.old) (S.left input.new) (S.faults input.old) (S.faults input.new))
-        (told (K.taken output.old) (K.taken output.new) (K.faults output.old) (K.faults output.new))
-        (told (E.taken notes.old) (E.taken notes.new) (E.faults notes.old) (E.faults notes.new))) }
+    ensures called { IfSome (command_of words.now) (λ command. Called result command (devices
+        (device (T.told store.old) (T.told store.new)) (device (S.told input.old) (S.told input.new))
+        (device (K.told output.old) (K.told output.new)) (device (E.told notes.old) (E.told notes.new)))) }
 
     // No device failed and memory was had: the output's text, the notes and the status are those of the answer to
     // the file's bytes and the input's.
-    ensures answered { IfSome (command_of words.now) (λ command.
-        Unrisen (T.faults store.old) (T.faults store.new) → Unrisen (S.faults input.old) (S.faults input.new)
-        → Unrisen (K.faults output.old) (K.faults output.new) → Unrisen (E.faults notes.old) (E.faults notes.new)
-        → result ≢ Status.OutOfMemory
-        → IfThere (T.content store.old command.file) (λ bytes. IfSome (S.left input.old) (λ read. Answered command bytes read result
-        (told (K.taken output.old) (K.taken output.new) (K.faults output.old) (K.faults output.new))
-        (told (E.taken notes.old) (E.taken notes.new) (E.faults notes.old) (E.faults notes.new))))) }
+    ensures answered { IfSome (command_of words.now) (λ command. let all = devices
+        (device (T.told store.old) (T.told store.new)) (device (S.told input.old) (S.told input.new))
+        (device (K.told output.old) (K.told output.new)) (device (E.told notes.old) (E.told notes.new)) in
+        NoneFailed all → result ≢ Status.OutOfMemory → IsAnswered result command all) }
 
     // An `expand` leaves the input as it was.
     ensures unread { IfSome (command_of words.now) (λ command. command.verb ≡ Verb.Expand
-        → Untouched (told (S.left input.old) (S.left input.new) (S.faults input.old) (S.faults input.new))) }
+        → Untouched (device (S.told input.old) (S.told input.new))) }
 
     // No fault of a device hides behind another status.
-    ensures store_rose { HasRisen (T.faults store.old) (T.faults store.new)
+    ensures store_rose { HasRisen (T.told store.old).faults (T.told store.new).faults
         → IsOneOf result (Status.StoreFault ∷ Status.OutOfMemory ∷ []) }
-    ensures read_rose { HasRisen (S.faults input.old) (S.faults input.new)
+    ensures read_rose { HasRisen (S.told input.old).faults (S.told input.new).faults
         → IsOneOf result (Status.ReadFault ∷ Status.WriteFault ∷ Status.OutOfMemory ∷ []) }
-    ensures write_rose { HasRisen (K.faults output.old) (K.faults output.new) ⊎ HasRisen (E.faults notes.old) (E.faults notes.new)
+    ensures write_rose { HasRisen (K.told output.old).faults (K.told output.new).faults ⊎ HasRisen (E.told notes.old).faults (E.told notes.new).faults
         → IsOneOf result (Status.Usage ∷ Status.StoreFault ∷ Status.GraphRefused ∷ Status.WriteFault ∷ Status.OutOfMemory ∷ []) }
 {
     match command_of(words) {
@@ -80,12 +73,10 @@ fn serve<S: Source, K: Sink, E: Sink, T: Store>(
     output: &mut K,
     notes: &mut E,
 ) -> Status
-    ensures called { Called result
-        (command verb file.now) (T.content store.old file.now) (T.failed_name store.new) (T.faults store.old) (T.faults store.new)
-        (told (S.left input.old) (S.left input.new) (S.faults input.old) (S.faults input.new))
-        (told (K.taken output.old) (K.taken output.new) (K.faults output.old) (K.faults output.new))
-        (told (E.taken notes.old) (E.taken notes.new) (E.faults notes.old) (E.faults notes.new)) }
-    ensures unread { verb ≡ Verb.Expand → Untouched (told (S.left input.old) (S.left input.new) (S.faults input.old) (S.faults input.new)) }
+    ensures called { Called result (command verb file.now) (devices
+        (device (T.told store.old) (T.told store.new)) (device (S.told input.old) (S.told input.new))
+        (device (K.told output.old) (K.told output.new)) (device (E.told notes.old) (E.told notes.new))) }
+    ensures unread { verb ≡ Verb.Expand → Untouched (device (S.told input.old) (S.told input.new)) }
 {
     match store.load(alloc, file) {
         Loaded::Bytes(content) => match job_of(alloc, verb, file, &content) {
@@ -110,11 +101,9 @@ fn do_job<S: Source, K: Sink, E: Sink>(
     output: &mut K,
     notes: &mut E,
 ) -> Status
-    ensures did { Did (job_view job) result
-        (told (S.left input.old) (S.left input.new) (S.faults input.old) (S.faults input.new))
-        (told (K.taken output.old) (K.taken output.new) (K.faults output.old) (K.faults output.new))
-        (told (E.taken notes.old) (E.taken notes.new) (E.faults notes.old) (E.faults notes.new)) }
-    ensures unread { MayRead (job_view job) ⊎ Untouched (told (S.left input.old) (S.left input.new) (S.faults input.old) (S.faults input.new)) }
+    ensures did { (store : Device StoreTold) → Did (job_view job) result (devices store
+        (device (S.told input.old) (S.told input.new)) (device (K.told output.old) (K.told output.new)) (device (E.told notes.old) (E.told notes.new))) }
+    ensures unread { MayRead (job_view job) ⊎ Untouched (device (S.told input.old) (S.told input.new)) }
 {
     match job {
         Job::Refuse(note) => {

@@ -1,17 +1,16 @@
 ghost use Rattle.std.specs.Prelude.{◌≡◌, ◌≤◌, length, MatchOption};
-ghost use Rattle.mg_run.specs.Lines.{NoFeed, EndsLine};
+ghost use Rattle.mg_run.specs.Inner.LineFeed.{NoFeed, EndsLine};
+ghost use Rattle.mg_run.specs.declared.limits.TheConstants.{MOST_LINES as most_lines, LONGEST_LINE as longest_line};
 
 use crate::LineFault;
+use crate::limits::{LONGEST_LINE, MOST_LINES};
 use crate::merge::Merge;
-use crate::reading::{LONGEST_LINE, Said, read_line};
+use crate::reading::{Said, read_line};
 use memchr::memchr;
 use mg_time::Timestamp;
 use mg_value::{List, MgText};
 use std::alloc::{AllocError, Global};
 use std::mem;
-
-/// The most lines of an input, blank ones too.
-pub const MOST_LINES: u64 = 4_000_000;
 
 /// Takes the bytes of an input in blocks of any size, and makes the text that its good lines give.
 #[derive(Drop)]
@@ -28,8 +27,8 @@ pub struct Feed {
     pub refused: Option<LineFault>,
     // The text that wasn't handed on yet.
     pub text: Vec<u8>,
-    ghost few: { lines ≤ 4000000 },
-    ghost short: { length rest.items ≤ 1048576 },
+    ghost few: { lines ≤ most_lines },
+    ghost short: { length rest.items ≤ longest_line },
     ghost inputs: { length merge.inbox ≡ length names },
 }
 
@@ -37,10 +36,10 @@ impl Feed {
     ghost use Rattle.std.specs.Prelude.{◌≡◌, ◌<◌, ◌++◌, ◌∷◌, ◌+◌, [], ℕ, List, None, Some, ◌↔◌, OnOk, IfOk, IsSome, IsTrue, length};
     ghost use Rattle.mg_value.specs.Payload.{Plain};
     ghost use Rattle.mg_value.specs.Prefix.{StreamPrefix};
-    ghost use Rattle.mg_run.specs.Said.{IsSaidOf};
-    ghost use Rattle.mg_run.specs.Claimed.{Claimed};
+    ghost use Rattle.mg_run.specs.Inner.Said.{IsSaidOf};
+    ghost use Rattle.mg_run.specs.Inner.Claimed.{Claimed};
     ghost use Rattle.mg_run.specs.Accepted.{refusal, said_refusal, with_said};
-    ghost use Rattle.mg_run.specs.Feed.{Took, Holds, StandsFor, HasRead, Ended, weight};
+    ghost use Rattle.mg_run.specs.Inner.Feed.{Took, Holds, StandsFor, HasRead, Ended, weight};
 
     /// A feed for the inputs with these names, to which nothing came yet.
     pub fn new(alloc: Global, names: List<MgText>) -> Result<Feed, AllocError>

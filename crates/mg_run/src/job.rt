@@ -9,7 +9,7 @@ ghost use Rattle.mg_config.specs.Sound.{IsSound, IsPrintable};
 ghost use Rattle.mg_run.specs.Command.{command};
 ghost use Rattle.mg_run.specs.File.{IsText};
 ghost use Rattle.mg_run.specs.Answer as answers;
-ghost use Rattle.mg_run.specs.Jobs.{job_view};
+ghost use Rattle.mg_run.specs.Inner.Job.{job_view};
 ghost use Rattle.mg_run.specs.Call.{IsJob};
 
 use crate::note::{config_note, text_note};
@@ -59,7 +59,7 @@ fn graph_job(alloc: Global, verb: Verb, graph: &GraphConfig) -> Result<Job, Allo
     requires printable { IsPrintable (graph_view graph.now) }
     ensures { IfOk result (λ job. job_view job ≡ answers.graph_job verb (graph_view graph.now)) }
 {
-    let text = text_of(alloc, graph)?;
+    let text = graph_text(alloc, graph)?;
     match verb {
         Verb::Run => run_job(alloc, &text),
         Verb::Expand => Ok(Job::Show(text)),
@@ -67,10 +67,10 @@ fn graph_job(alloc: Global, verb: Verb, graph: &GraphConfig) -> Result<Job, Allo
 }
 
 /// The text of a configuration.
-fn text_of(alloc: Global, graph: &GraphConfig) -> Result<Vec<u8>, AllocError>
+fn graph_text(alloc: Global, graph: &GraphConfig) -> Result<Vec<u8>, AllocError>
     requires sound { IsSound (graph_view graph.now) }
     requires printable { IsPrintable (graph_view graph.now) }
-    ensures { IfOk result (λ text. text.items ≡ answers.text_of (graph_view graph.now)) }
+    ensures { IfOk result (λ text. text.items ≡ answers.graph_text (graph_view graph.now)) }
 {
     let tree = write(alloc, graph)?;
     print(alloc, &tree)

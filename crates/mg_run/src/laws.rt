@@ -3,7 +3,7 @@ ghost use Rattle.std.specs.Prelude.{◌≡◌, ◌≤◌, ℕ, List, length};
 ghost use Rattle.mg_text.specs.Answer.{max_len};
 ghost use Rattle.mg_config.specs.Config.{GraphView};
 ghost use Rattle.mg_run.specs.File.{File, graph, IsFile};
-ghost use Rattle.mg_run.specs.Answer.{text_of};
+ghost use Rattle.mg_run.specs.Answer.{graph_text};
 
 /// A content is one file at most: so what the program answers to it is one answer.
 pub fn one_file()
@@ -12,10 +12,10 @@ pub fn one_file()
 
 /// The text of a graph says the same graph again, where it isn't too long for a file.
 pub fn texts_say_their_graph()
-    ensures { (content : List ℕ) (g : GraphView) → IsFile content (graph g) → length (text_of g) ≤ max_len → IsFile (text_of g) (graph g) }
+    ensures { (content : List ℕ) (g : GraphView) → IsFile content (graph g) → length (graph_text g) ≤ max_len → IsFile (graph_text g) (graph g) }
 {}
 
 /// A graph is known by its text: two files that say graphs of the same text say the same graph.
 pub fn graphs_are_known_by_their_text()
-    ensures { (a b : List ℕ) (g h : GraphView) → IsFile a (graph g) → IsFile b (graph h) → text_of g ≡ text_of h → g ≡ h }
+    ensures { (a b : List ℕ) (g h : GraphView) → IsFile a (graph g) → IsFile b (graph h) → graph_text g ≡ graph_text h → g ≡ h }
 {}

@@ -6,6 +6,7 @@ mod call;
 mod feed;
 mod job;
 pub mod laws;
+mod limits;
 mod line_fault;
 mod merge;
 mod note;
@@ -21,4 +22,6 @@ mod write_line;
 
 pub use call::run_words;
 pub use line_fault::LineFault;
+pub use reading::Said;
 pub use status::Status;
+pub use words::Verb;

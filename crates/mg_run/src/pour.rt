@@ -1,7 +1,7 @@
 ghost use Rattle.std.specs.Prelude.{◌≡◌, ◌<◌, [], false, length, vec_len, IfOk, MatchResult};
-ghost use Rattle.mg_run.specs.Feed.{StandsFor};
-ghost use Rattle.mg_run.specs.Pouring.{Told, PouredFront};
-ghost use Rattle.mg_run.specs.Poured.{HasPoured};
+ghost use Rattle.mg_run.specs.Inner.Feed.{StandsFor};
+ghost use Rattle.mg_run.specs.Devices.{device};
+ghost use Rattle.mg_run.specs.Inner.Pouring.{HasPoured, PouredFront};
 
 use crate::feed::Feed;
 use crate::put::flush;
@@ -33,8 +33,7 @@ pub fn pour<S: Source, K: Sink>(
 ) -> Result<Poured, AllocError>
     requires fresh { StandsFor feed.old.names [] [] feed.old }
     requires well { failed.old ≡ false }
-    ensures { let from : Told = record { before = S.left input.old; now = S.left input.new; faults_before = S.faults input.old; faults_now = S.faults input.new } in
-        let to : Told = record { before = K.taken output.old; now = K.taken output.new; faults_before = K.faults output.old; faults_now = K.faults output.new } in
+    ensures { let from = device (S.told input.old) (S.told input.new) in let to = device (K.told output.old) (K.told output.new) in
         MatchResult result (λ poured. HasPoured poured feed.old.names from to failed.new feed.new) (λ _. PouredFront feed.old.names from to failed.new) }
 {
     let mut block = zeros(alloc, BLOCK)?;
@@ -52,8 +51,7 @@ fn pour_through<S: Source, K: Sink>(
     requires room { 0 < length block.old }
     requires fresh { StandsFor feed.old.names [] [] feed.old }
     requires well { failed.old ≡ false }
-    ensures { let from : Told = record { before = S.left input.old; now = S.left input.new; faults_before = S.faults input.old; faults_now = S.faults input.new } in
-        let to : Told = record { before = K.taken output.old; now = K.taken output.new; faults_before = K.faults output.old; faults_now = K.faults output.new } in
+    ensures { let from = device (S.told input.old) (S.told input.new) in let to = device (K.told output.old) (K.told output.new) in
         MatchResult result (λ poured. HasPoured poured feed.old.names from to failed.new feed.new) (λ _. PouredFront feed.old.names from to failed.new) }
 {
     'reading: while feed.refused.is_none() {

@@ -1,7 +1,9 @@
 ghost use Rattle.std.specs.Prelude.{◌≡◌, [], IfOk};
-ghost use Rattle.mg_run.specs.Feed.{StandsFor};
-ghost use Rattle.mg_run.specs.Ended.{said_of, ended_as};
-ghost use Rattle.mg_run.specs.Outcome.{told, Ran};
+ghost use Rattle.mg_run.specs.Inner.Feed.{StandsFor};
+ghost use Rattle.mg_run.specs.Inner.Ended.{said_of, ended_as};
+ghost use Rattle.mg_edge.specs.Edge.{StoreTold};
+ghost use Rattle.mg_run.specs.Devices.{Device, device, devices};
+ghost use Rattle.mg_run.specs.Call.{Ran};
 
 use crate::Status;
 use crate::feed::Feed;
@@ -20,10 +22,8 @@ pub fn run_graph<S: Source, K: Sink, E: Sink>(
     output: &mut K,
     notes: &mut E,
 ) -> Status
-    ensures { Ran names result
-        (told (S.left input.old) (S.left input.new) (S.faults input.old) (S.faults input.new))
-        (told (K.taken output.old) (K.taken output.new) (K.faults output.old) (K.faults output.new))
-        (told (E.taken notes.old) (E.taken notes.new) (E.faults notes.old) (E.faults notes.new)) }
+    ensures { (store : Device StoreTold) → Ran names result (devices store
+        (device (S.told input.old) (S.told input.new)) (device (K.told output.old) (K.told output.new)) (device (E.told notes.old) (E.told notes.new))) }
 {
     match Feed::new(alloc, names) {
         Ok(feed) => run_feed(alloc, feed, input, output, notes),
@@ -40,10 +40,8 @@ fn run_feed<S: Source, K: Sink, E: Sink>(
     notes: &mut E,
 ) -> Status
     requires { StandsFor feed.names [] [] feed }
-    ensures { Ran feed.names result
-        (told (S.left input.old) (S.left input.new) (S.faults input.old) (S.faults input.new))
-        (told (K.taken output.old) (K.taken output.new) (K.faults output.old) (K.faults output.new))
-        (told (E.taken notes.old) (E.taken notes.new) (E.faults notes.old) (E.faults notes.new)) }
+    ensures { (store : Device StoreTold) → Ran feed.names result (devices store
+        (device (S.told input.old) (S.told input.new)) (device (K.told output.old) (K.told output.new)) (device (E.told notes.old) (E.told notes.new))) }
 {
     let mut failed = false;
     let Ok(poured) = pour(alloc, input, output, &mut feed, &mut failed) else {

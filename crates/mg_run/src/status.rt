@@ -1,24 +1,47 @@
-/// How a call ended. The program exits with the variant's number.
+ghost use Rattle.std.specs.Prelude.{◌≡◌};
+ghost use Rattle.mg_run.specs.Status.{number_of};
+
+/// How a call ended.
 #[derive(Clone, Copy, Debug, PartialEq, Eq)]
 pub enum Status {
     /// All went well.
-    Good = 0,
+    Good,
     /// A file couldn't be loaded.
-    StoreFault = 1,
+    StoreFault,
     /// The words are no command.
-    Usage = 2,
+    Usage,
     /// A graph file was refused.
-    GraphRefused = 3,
+    GraphRefused,
     /// A line of the input wasn't good. The lines before it count.
-    LineRefused = 4,
+    LineRefused,
     /// A calculator failed.
-    NodeFault = 5,
+    NodeFault,
     /// The input ended, and a stream never closed.
-    Stalled = 6,
+    Stalled,
     /// The input couldn't be read to its end. The lines that were whole before count.
-    ReadFault = 7,
+    ReadFault,
     /// The output or the notes couldn't be written.
-    WriteFault = 8,
+    WriteFault,
     /// There wasn't memory enough.
-    OutOfMemory = 9,
+    OutOfMemory,
+}
+
+impl Status {
+    /// The number that the program exits with.
+    pub fn number(self) -> u8
+        ensures { result ≡ number_of self }
+    {
+        match self {
+            Status::Good => 0,
+            Status::StoreFault => 1,
+            Status::Usage => 2,
+            Status::GraphRefused => 3,
+            Status::LineRefused => 4,
+            Status::NodeFault => 5,
+            Status::Stalled => 6,
+            Status::ReadFault => 7,
+            Status::WriteFault => 8,
+            Status::OutOfMemory => 9,
+        }
+    }
 }

@@ -1,5 +1,12 @@
+pub mod Codes
+pub mod Entry
 pub mod Extension
+pub mod Json
+pub mod Kind
+pub mod Left
 pub mod Loopback
 pub mod Payload
+pub mod PayloadFalls
+pub mod Plain
 pub mod Prefix
 pub mod Settled

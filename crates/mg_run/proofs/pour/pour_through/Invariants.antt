@@ -1,5 +1,6 @@
-use Rattle.mg_run.specs.Feed.{weight}
-use Rattle.mg_run.specs.Pouring.{Pours}
+use Rattle.mg_run.specs.Devices.{device}
+use Rattle.mg_run.specs.Inner.Feed.{weight}
+use Rattle.mg_run.specs.Inner.Pouring.{Pours}
 use Rattle.mg_run.proofs.Pouring.{turns_left}
 use Rattle.mg_run.proofs.pour.pour_through.Given as goal
 
@@ -7,8 +8,7 @@ abbrev pub invariant-reading : goal.invariant-reading
 invariant-reading g l =
     record {
       pours : Pours l.fn.feed.names
-          (record { before = g.S.Source.left l.fn.input; now = g.S.Source.left l.input; faults_before = g.S.Source.faults l.fn.input; faults_now = g.S.Source.faults l.input })
-          (record { before = g.K.Sink.taken l.fn.output; now = g.K.Sink.taken l.output; faults_before = g.K.Sink.faults l.fn.output; faults_now = g.K.Sink.faults l.output })
+          (device (g.S.Source.told l.fn.input) (g.S.Source.told l.input)) (device (g.K.Sink.told l.fn.output) (g.K.Sink.told l.output))
           l.failed l.feed;
     }
 

@@ -9,10 +9,4 @@ use Rattle.mg_run.proofs.write_line.push_line.Goals as goal
 pub returns : goal.returns
 returns c =
     let fits : SFits w64 c.raw.result = search rules in
-    pieces_are_line c.args.text.now.items c.push.new.text.items c.push_number.new.text.items c.push-2.new.text.items
-    c.push_number-2.new.text.items c.push-3.new.text.items c.args.at c.args.value
-    c.in_ok-push.ensures
-    (c.in_ok-push_number.ensures ∙ ap (λ n. c.push.new.text.items ++ signed_decimal n) (to_z-of_z w64 c.raw.result fits ∙ c.raw.ensures.number))
-    c.in_ok-push-2.ensures
-    (c.in_ok-push_number-2.ensures ∙ ap (λ n. c.push-2.new.text.items ++ signed_decimal n) (to_z-of_z w64 c.args.value c.ranges.value))
-    c.in_ok-push-3.ensures
+    ?

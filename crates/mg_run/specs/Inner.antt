@@ -1,0 +1,9 @@
+-- What the code's own functions say to one another.
+pub mod Said
+pub mod Job
+pub mod Claimed
+pub mod LineFeed
+pub mod Feed
+pub mod Flow
+pub mod Pouring
+pub mod Ended
