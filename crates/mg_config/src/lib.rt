@@ -25,6 +25,3 @@ pub use graph::{GraphConfig, NodeList, read};
 pub use mark::Mark;
 pub use node::{MarkList, NodeConfig};
 pub use writing::write;
-
-#[cfg(test)]
-mod tests;

@@ -20,6 +20,3 @@ pub use port_map::PortMap;
 pub use printing::print_port;
 pub use reading::read_port;
 pub use spelling::Spelling;
-
-#[cfg(test)]
-mod tests;

@@ -6,6 +6,7 @@ ghost use Rattle.mg_stream.specs.Queue.{StandsFor, IsLike, empty_queue, MayCome,
 
 use crate::{Refused, StreamFault};
 use mg_time::Timestamp;
+use mg_time::laws::done_is_greatest;
 use mg_value::Packet;
 use std::alloc::{AllocError, Global};
 use std::collections::VecDeque;
@@ -109,8 +110,7 @@ impl Queue {
         ensures raised { self.new ≡ raised_to self.old bound }
         ensures stands { (s : StreamPrefix Plain) → StandsFor self.old s → StandsFor self.new (raised s bound) }
     {
-        // Each timestamp is at most `DONE`.
-        let _number = bound.raw();
+        done_is_greatest(bound);
         if self.bound < bound {
             self.bound = bound;
         }

@@ -1,6 +1,6 @@
 //! Values: texts, lists, payloads, packets and the prefixes of streams.
-//! Answers to the definitions of `specs/Payload.antt`, `specs/Prefix.antt`, `specs/Extension.antt`, `specs/Settled.antt`
-//! and `specs/Loopback.antt`.
+//! Answers to the definitions of `specs/Payload.antt`, `specs/Json.antt`, `specs/Kind.antt`, `specs/Prefix.antt`,
+//! `specs/Extension.antt`, `specs/Settled.antt` and `specs/Loopback.antt`.
 #![tactic(auto)]
 
 mod input_set;
@@ -29,6 +29,3 @@ pub use prefix::Prefix;
 pub use record_list::{Entry, RecordList};
 pub use text::MgText;
 pub use value_fault::ValueFault;
-
-#[cfg(test)]
-mod tests;

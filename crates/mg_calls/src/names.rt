@@ -1,4 +1,4 @@
-use crate::{NameFault, Port, PortMap, print_port, read_port};
+use mg_names::{NameFault, Port, PortMap, print_port, read_port};
 use mg_value::MgText;
 use std::alloc::{AllocError, Global};
 use std::process::Abort;

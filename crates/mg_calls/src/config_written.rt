@@ -1,6 +1,6 @@
 //! What is written of configurations, as the canonical text of its fields.
 
-use crate::{read, write};
+use mg_config::{read, write};
 use mg_text::{parse, print};
 use std::alloc::Global;
 use std::process::Abort;

@@ -1,22 +1,16 @@
-use super::*;
-use mg_time::Timestamp;
-use std::alloc::Global;
-use std::sync::Arc;
-use std::test::Fail;
+//! Packets, their lists, and input sets.
 
-/// A packet with a whole number at a time of the range.
-fn packet(alloc: Global, at: i64, number: i64) -> Result<Packet, Fail> {
-    let at = Timestamp::of_range(at).ok_or("no time of the range")?;
-    let payload = Arc::new(alloc, Payload::Int(number))?;
-    Ok(Packet { at, payload })
-}
+use crate::packets::{number_of, packet_of};
+use mg_time::Timestamp;
+use mg_value::{InputSet, Packet, PacketList, Prefix};
+use std::test::Fail;
 
 #[test]
 fn copies_share(rt: HostRuntime) -> Result<(), Fail> {
-    let first = packet(rt.alloc(), 5, -7)?;
+    let first = packet_of(rt.alloc(), "5 -7")?;
     let second = first.try_clone()?;
     assert_eq!(rt; second.at.raw(), 5);
-    assert_eq!(rt; matches!(&*second.payload, Payload::Int(-7)), true);
+    assert_eq!(rt; number_of(&second), -7);
     let list = PacketList::from_vec(vec![in rt.alloc(); first, second]?).map_err(|_| "too long")?;
     let prefix = Prefix {
         packets: list,
@@ -28,10 +22,7 @@ fn copies_share(rt: HostRuntime) -> Result<(), Fail> {
 
 /// The number at a port, or none.
 fn number_at(set: &InputSet, port: u32) -> Option<i64> {
-    match &*set.get(port)?.payload {
-        Payload::Int(number) => Some(*number),
-        _ => None,
-    }
+    set.get(port).map(number_of)
 }
 
 /// Puts a packet, or none, at a port that is there.
@@ -49,8 +40,8 @@ fn sets_hold_a_packet_per_port(rt: HostRuntime) -> Result<(), Fail> {
     assert_eq!(rt; (set.len(), set.is_empty()), (3, false));
     assert_eq!(rt; InputSet::new(rt.alloc(), 0)?.is_empty(), true);
     assert_eq!(rt; number_at(&set, 1), None);
-    put(&mut set, 1, Some(packet(rt.alloc(), 5, 7)?))?;
-    put(&mut set, 2, Some(packet(rt.alloc(), 5, 8)?))?;
+    put(&mut set, 1, Some(packet_of(rt.alloc(), "5 7")?))?;
+    put(&mut set, 2, Some(packet_of(rt.alloc(), "5 8")?))?;
     assert_eq!(rt; number_at(&set, 0), None);
     assert_eq!(rt; number_at(&set, 1), Some(7));
     put(&mut set, 1, None)?;
@@ -59,17 +50,3 @@ fn sets_hold_a_packet_per_port(rt: HostRuntime) -> Result<(), Fail> {
     assert_eq!(rt; number_at(&set, 3), None);
     Ok(())
 }
-
-#[test]
-fn values_both_ways(rt: HostRuntime) -> Result<(), Fail> {
-    for line in VALUES.lines() {
-        let value = serde_json::Value::from_str(rt.alloc(), line).map_err(|_| "no json")?;
-        let payload = from_json(rt.alloc(), &value).map_err(|_| "no payload")?;
-        let again = to_json(rt.alloc(), &payload)?;
-        let text = again.to_string(rt.alloc())?;
-        assert_eq!(rt; text.as_str(), line);
-    }
-    Ok(())
-}
-
-const VALUES: &str = "true\n-5\n[1,2,[]]\n{\"a\":1,\"b\":[{}]}\n\"hello\"";

@@ -1,6 +1,4 @@
-mod printed;
-
-use crate::{ConfigFault, GraphConfig, NodeConfig, read, write};
+use mg_config::{ConfigFault, GraphConfig, NodeConfig, read, write};
 use mg_names::PortMap;
 use mg_text::parse;
 use std::alloc::{AllocError, Global};
