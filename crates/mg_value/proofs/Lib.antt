@@ -3,8 +3,8 @@ pub mod Extending
 pub mod JsonFaults
 pub mod JsonLists
 pub mod JsonWriting
+pub mod LoopbackStream
 pub mod PrefixSteps
 pub mod RoundTrip
 pub mod SettledSets
 pub mod Times
-pub mod LoopbackStream
