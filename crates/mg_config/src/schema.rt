@@ -49,8 +49,8 @@ fn many(shape: Shape) -> Option<FieldRule>
 }
 
 /// The rule of the four lists of ports that graphs and nodes have.
-fn port_field(name: &[u8]) -> Option<FieldRule>
-    ensures { result ≡ schema.rule_in schema.port_fields name.now }
+fn port_rule(name: &[u8]) -> Option<FieldRule>
+    ensures { result ≡ schema.rule_in schema.port_rows name.now }
 {
     if is(name, b"input_stream") {
         many(Shape::Text)
@@ -65,8 +65,8 @@ fn port_field(name: &[u8]) -> Option<FieldRule>
     }
 }
 
-fn graph_field(name: &[u8]) -> Option<FieldRule>
-    ensures { result ≡ schema.rule_in schema.graph_fields name.now }
+fn graph_rule(name: &[u8]) -> Option<FieldRule>
+    ensures { result ≡ schema.rule_in schema.graph_rows name.now }
 {
     if is(name, b"type") {
         once(Shape::Text)
@@ -77,12 +77,12 @@ fn graph_field(name: &[u8]) -> Option<FieldRule>
     } else if is(name, b"node") {
         many(Shape::Inside(Message::Node))
     } else {
-        port_field(name)
+        port_rule(name)
     }
 }
 
-fn node_message_field(name: &[u8]) -> Option<FieldRule>
-    ensures { result ≡ schema.rule_in schema.node_message_fields name.now }
+fn node_message_rule(name: &[u8]) -> Option<FieldRule>
+    ensures { result ≡ schema.rule_in schema.node_message_rows name.now }
 {
     if is(name, b"input_stream_info") {
         many(Shape::Inside(Message::Info))
@@ -93,12 +93,12 @@ fn node_message_field(name: &[u8]) -> Option<FieldRule>
     } else if is(name, b"node_options") {
         many(Shape::Options)
     } else {
-        port_field(name)
+        port_rule(name)
     }
 }
 
-fn node_field(name: &[u8]) -> Option<FieldRule>
-    ensures { result ≡ schema.rule_in schema.node_fields name.now }
+fn node_rule(name: &[u8]) -> Option<FieldRule>
+    ensures { result ≡ schema.rule_in schema.node_rows name.now }
 {
     if is(name, b"name") {
         once(Shape::Text)
@@ -109,12 +109,12 @@ fn node_field(name: &[u8]) -> Option<FieldRule>
     } else if is(name, b"buffer_size_hint") {
         once(Shape::Number)
     } else {
-        node_message_field(name)
+        node_message_rule(name)
     }
 }
 
-fn info_field(name: &[u8]) -> Option<FieldRule>
-    ensures { result ≡ schema.rule_in schema.info_fields name.now }
+fn info_rule(name: &[u8]) -> Option<FieldRule>
+    ensures { result ≡ schema.rule_in schema.info_rows name.now }
 {
     if is(name, b"tag_index") {
         once(Shape::Text)
@@ -125,8 +125,8 @@ fn info_field(name: &[u8]) -> Option<FieldRule>
     }
 }
 
-fn handler_field(name: &[u8]) -> Option<FieldRule>
-    ensures { result ≡ schema.rule_in schema.handler_fields name.now }
+fn handler_rule(name: &[u8]) -> Option<FieldRule>
+    ensures { result ≡ schema.rule_in schema.handler_rows name.now }
 {
     if is(name, b"input_stream_handler") {
         once(Shape::Text)
@@ -140,9 +140,9 @@ pub fn rule_of(message: Message, name: &[u8]) -> Option<FieldRule>
     ensures { result ≡ schema.rule_of message name.now }
 {
     match message {
-        Message::Graph => graph_field(name),
-        Message::Node => node_field(name),
-        Message::Info => info_field(name),
-        Message::Handler => handler_field(name),
+        Message::Graph => graph_rule(name),
+        Message::Node => node_rule(name),
+        Message::Info => info_rule(name),
+        Message::Handler => handler_rule(name),
     }
 }

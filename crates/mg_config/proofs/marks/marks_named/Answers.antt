@@ -9,11 +9,11 @@ pub returns-in_err-mark-clause-err : goal.returns-in_err-mark-clause-err
 returns-in_err-mark-clause-err c =
     let p = err_from_is_err_and c.from_residual.result c.from_residual.ensures.1 in
     let here : has_name info_name (field_view c.field-item.result) ≡ true = cc in
-    rw (p.1, p.2) (λ ne. marked_fault c.args.fields.now c.loop-field.field-index c.loop-field.k c.field-item.result c.fields_of-info.result.now c.loop-field.marks.items c.in_err-mark.field-0.0
-    (omega arith) c.field-item.is here c.loop-field.invariant c.fields_of-info.ensures (c.in_err-mark.ensures.err ne))
+    rw (p.1, p.2) (λ ne. marked_fault c.args.fields.now c.loop-field.field-index c.loop-field.k c.field-item.result c.fields_of_value-info.result.now c.loop-field.marks.items c.in_err-mark.field-0.0
+    (omega arith) c.field-item.is here c.loop-field.invariant c.fields_of_value-info.ensures (c.in_err-mark.ensures.err ne))
 
 pub loop-field-preserved : goal.loop-field-preserved
 loop-field-preserved c =
     let here : has_name info_name (field_view c.field-item.result) ≡ true = cc in
-    marked_more c.args.fields.now c.loop-field.field-index c.loop-field.k (c.loop-field.k + 1) c.field-item.result c.fields_of-info.result.now c.loop-field.marks.items c.keep.new.marks.items c.in_ok-mark.mark c.truth_named.result
-    (omega arith) c.field-item.is here c.loop-field.invariant c.fields_of-info.ensures c.in_ok-mark.ensures.ok c.truth_named.ensures c.in_ok-keep.ensures refl
+    marked_more c.args.fields.now c.loop-field.field-index c.loop-field.k (c.loop-field.k + 1) c.field-item.result c.fields_of_value-info.result.now c.loop-field.marks.items c.keep.new.marks.items c.in_ok-mark.mark c.truth_named.result
+    (omega arith) c.field-item.is here c.loop-field.invariant c.fields_of_value-info.ensures c.in_ok-mark.ensures.ok c.truth_named.ensures c.in_ok-keep.ensures refl

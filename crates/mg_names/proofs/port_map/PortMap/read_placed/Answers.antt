@@ -1,6 +1,14 @@
-use Rattle.std.proofs.Common.{◌∙◌, sym}
+use Rattle.std.proofs.Common.{◌∙◌, ap, sym}
+use Rattle.std.proofs.lemmas.Result.{err_from_is_err_and}
+use Rattle.mg_names.specs.Ports.{after, checked}
+use Rattle.mg_names.proofs.Causes.{has_cause}
 use Rattle.mg_names.proofs.Standing.{IsChecked, read_ok, read_gap}
-use Rattle.mg_names.proofs.port_map.PortMap.read.Goals as goal
+use Rattle.mg_names.proofs.port_map.PortMap.read_placed.Goals as goal
+
+pub returns-in_err-read_ports-clause-cause : goal.returns-in_err-read_ports-clause-cause
+returns-in_err-read_ports-clause-cause c =
+    let p = err_from_is_err_and c.from_residual.result c.from_residual.ensures.1 in
+    rw (p.1, p.2) (has_cause c.args.texts.now c.in_err-read_ports.field-0.0 (λ ne. ap (λ r. after r checked) (c.in_err-read_ports.ensures.err ne)))
 
 pub returns-then-any_lacks_lower-clause-err : goal.returns-then-any_lacks_lower-clause-err
 returns-then-any_lacks_lower-clause-err c =
