@@ -4,6 +4,7 @@ use Rattle.std.specs.List.{list_any, All}
 use Rattle.std.specs.Str.{bytes_eq}
 use Rattle.mg_text.specs.Tree.{Fields, none, scalar, message, word}
 use Rattle.mg_text.specs.View.{simple, inner, Entry, fields_of}
+use Rattle.mg_names.specs.TagIndex.{text_of_tag_index}
 use Rattle.mg_names.specs.declared.port.Port.{Port}
 use Rattle.mg_config.specs.Schema.{many, rule_of}
 use Rattle.mg_config.specs.Values.{entry, has_name}

@@ -12,11 +12,7 @@ use mg_value::MgText;
 use std::alloc::{AllocError, Global};
 
 /// The fault of the fields of a name. That of one text has its number, and that of them all has none.
-fn port_fault(
-    alloc: Global,
-    name: &str,
-    fault: PlacedFault,
-) -> Result<ConfigFault, AllocError>
+fn port_fault(alloc: Global, name: &str, fault: PlacedFault) -> Result<ConfigFault, AllocError>
     ensures { IfOk result (λ made. made ≡ config.port_fault name.now fault) }
 {
     let fault = match fault {

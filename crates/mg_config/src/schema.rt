@@ -1,6 +1,7 @@
 ghost use Rattle.std.specs.Prelude.{◌≡◌};
-ghost use Rattle.std.specs.Str.{bytes_eq};
 ghost use Rattle.mg_config.specs.Schema as schema;
+
+use crate::word::is;
 
 /// What has fields of its own: a graph, a node (MediaPipe, calculator.proto: CalculatorGraphConfig and its Node), and
 /// the two messages in a node whose fields are read.
@@ -28,12 +29,6 @@ pub enum Shape {
 pub struct FieldRule {
     pub many: bool,
     pub shape: Shape,
-}
-
-fn is(name: &[u8], word: &[u8]) -> bool
-    ensures { result ≡ bytes_eq name.now word.now }
-{
-    name == word
 }
 
 fn once(shape: Shape) -> Option<FieldRule>

@@ -8,12 +8,12 @@ ghost use Rattle.mg_config.specs.Config.{node_view, graph_view, config_of};
 ghost use Rattle.mg_config.specs.Written as written;
 ghost use Rattle.mg_config.specs.Sound.{IsSound, IsPrintable};
 
+use crate::fields::{
+    put, put_handler, put_message, put_number, put_options, put_ports, put_string, put_text,
+};
 use crate::graph::GraphConfig;
 use crate::mark::Mark;
 use crate::node::NodeConfig;
-use crate::writer::{
-    put, put_handler, put_message, put_number, put_options, put_ports, put_string, put_text,
-};
 use mg_names::{PortMap, print_tag_index};
 use mg_text::{Field, Scalar, Tree, TreeValue};
 use mg_value::MgText;

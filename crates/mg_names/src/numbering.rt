@@ -63,12 +63,7 @@ fn refused_at(place: usize, cause: NameFault) -> PlacedFault
 }
 
 /// The port of the text at a place where so many untagged ports stand before it.
-fn placed_port(
-    alloc: Global,
-    place: usize,
-    number: u8,
-    text: &[u8],
-) -> Result<Port, PlacedFault>
+fn placed_port(alloc: Global, place: usize, number: u8, text: &[u8]) -> Result<Port, PlacedFault>
     ensures ok { IfOk result (λ port. ports.port_at number text.now ≡ Ok port) }
     ensures err { IfErr result (λ fault. fault ≢ PlacedFault.OutOfMemory → ports.placed_at place (ports.port_at number text.now) ≡ Err fault) }
     ensures untagged { IfOk result (λ port. bytes_eq port.tag [] ≡ is_untagged text.now) }

@@ -1,4 +1,4 @@
-//! Fields, written one after another.
+//! Fields, each put at the end of a list.
 ghost use Rattle.std.specs.Prelude.{◌≡◌, [], ◌∷◌, ◌++◌, OnOk, IfOk, map, codes};
 ghost use Rattle.mg_text.specs.Tree.{quoted};
 ghost use Rattle.mg_text.specs.View.{Value, simple, inner, field_view, value_view, fields_view, view};

@@ -5,7 +5,7 @@ use Rattle.mg_text.specs.View.{field_view, fields_of, inner}
 use Rattle.mg_config.specs.Values.{entry}
 use Rattle.mg_config.specs.Written.{text_entry}
 use Rattle.mg_config.proofs.Appended.{not_empty}
-use Rattle.mg_config.proofs.writer.put_handler.Goals as goal
+use Rattle.mg_config.proofs.fields.put_handler.Goals as goal
 
 pub returns : goal.returns
 returns c =

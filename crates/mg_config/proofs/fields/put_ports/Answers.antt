@@ -5,7 +5,7 @@ use Rattle.mg_names.specs.Ports.{text_of}
 use Rattle.mg_names.specs.declared.port.Port.{Port}
 use Rattle.mg_config.specs.Written.{text_entry}
 use Rattle.mg_config.proofs.Appended.{map_more}
-use Rattle.mg_config.proofs.writer.put_ports.Goals as goal
+use Rattle.mg_config.proofs.fields.put_ports.Goals as goal
 
 pub loop-i-preserved : goal.loop-i-preserved
 loop-i-preserved c =

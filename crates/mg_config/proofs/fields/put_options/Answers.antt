@@ -3,7 +3,7 @@ use Rattle.std.proofs.lemmas.Bool.Decides.{nat_tests}
 use Rattle.mg_text.specs.View.{field_view, fields_of, inner}
 use Rattle.mg_config.specs.Values.{entry}
 use Rattle.mg_config.proofs.Emptied.{options_some, options_none}
-use Rattle.mg_config.proofs.writer.put_options.Goals as goal
+use Rattle.mg_config.proofs.fields.put_options.Goals as goal
 
 pub returns-then-is_empty : goal.returns-then-is_empty
 returns-then-is_empty c =
