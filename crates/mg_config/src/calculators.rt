@@ -24,7 +24,7 @@ fn calculator_path(alloc: Global, k: usize) -> Result<MgText, AllocError>
 {
     let calculator = MgText::new(alloc, "calculator")?;
     let node = numbered(alloc, "node", k)?;
-    below(alloc, node.as_str(), &calculator)
+    below(alloc, node.as_str(), calculator)
 }
 
 /// Looks for the first node whose calculator is absent or empty.

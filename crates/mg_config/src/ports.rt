@@ -42,7 +42,7 @@ pub fn ports_named(alloc: Global, fields: &[Field], name: &str) -> Result<PortMa
 }
 
 /// The ports that come in and those that go out, of streams or of side packets.
-#[derive(Debug, Drop)]
+#[derive(Drop)]
 pub struct PortPair {
     pub inputs: PortMap,
     pub outputs: PortMap,

@@ -1,7 +1,7 @@
 use Rattle.std.proofs.Common.{◌∙◌, sym, ap, codes}
 use Rattle.mg_config.specs.Values.{text_in, entries}
 use Rattle.mg_config.proofs.Loops.{entries_view}
-use Rattle.mg_config.proofs.node.extra_of.Goals as goal
+use Rattle.mg_config.proofs.node.texts_of.Goals as goal
 
 pub returns-clause-handler : goal.returns-clause-handler
 returns-clause-handler c =
