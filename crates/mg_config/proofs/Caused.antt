@@ -1,5 +1,5 @@
 -- What a fault says of ports is never want of memory.
-use Rattle.std.proofs.Common.{ℕ, suc, ◌≡◌, ◌≢◌, List, [], ◌∷◌, ◌++◌, Bool, true, false, Option, None, Some, Result, Ok, Err, if◌then◌else◌, not, ◌&&◌, subst, refl, codes}
+use Rattle.std.proofs.Common.{ℕ, suc, ◌≢◌, List, [], ◌∷◌, ◌++◌, Bool, true, false, Option, None, Some, Result, Ok, Err, if◌then◌else◌, not, ◌&&◌, subst, refl, codes}
 use Rattle.std.specs.List.{list_any}
 use Rattle.std.specs.Str.{bytes_eq}
 use Rattle.mg_text.specs.Tree.{Fields, none, scalar, message}
@@ -17,11 +17,10 @@ use Rattle.mg_config.specs.Schema.{rule_of, judged_by}
 use Rattle.mg_config.specs.Values.{entry, entries, has_name, texts_in, text_in, truth_in, messages_in}
 use Rattle.mg_config.specs.Path.{step, numbered, within, result_within, then_do}
 use Rattle.mg_config.specs.Faults.{has_shape, repeated_by, shaped_by, own_fault, or_else, fault_within, inside_fault, inner_fault, fault_after, calculator_fault, calculator_path}
-use Rattle.mg_config.specs.Config.{NodeView, GraphView, ports_by, ports_in, pair_in, streams_in, sides_in, mark_by, mark_in, kept, marks_from, node_with, node_of, nodes_from, graph_with, graph_of, unless, config_of}
+use Rattle.mg_config.specs.Config.{ports_by, ports_in, pair_in, streams_in, sides_in, mark_by, mark_in, kept, marks_from, node_with, node_of, nodes_from, graph_with, graph_of, unless, config_of}
 use Rattle.mg_config.specs.declared.schema.FieldRule.{FieldRule}
 use Rattle.mg_config.specs.declared.schema.Message.{Message}
 use Rattle.mg_config.specs.declared.schema.Message.TheVariants.{Graph}
-use Rattle.mg_config.specs.declared.mark.Mark.{Mark}
 use Rattle.mg_config.specs.declared.ports.PortPair.{PortPair}
 use Rattle.mg_config.specs.declared.fault.ConfigFault.{ConfigFault}
 use Rattle.mg_config.specs.declared.fault.ConfigFault.TheVariants.{UnknownField, WrongShape, Repeated, BadPort, OutOfMemory}

@@ -1,7 +1,7 @@
 -- Numbers are read back from their texts.
-use Rattle.std.proofs.Common.{ℕ, suc, zero, ◌-◌, ◌^◌, ◌<◌, ◌≤◌, ◌≡◌, ◌⊎◌, inl, inr, List, [], ◌∷◌, ◌++◌, Bool, true, false, ◌&&◌, eqb, None, Some, Ok, get_or, nat_le, arith, refl, ap, ◌∙◌, if◌then◌else◌, ℤ, pos, negsuc, neg_ℤ}
-use Rattle.std.specs.Prelude.{IsTrue, option_map}
-use Rattle.std.specs.List.{list_all, All}
+use Rattle.std.proofs.Common.{ℕ, suc, zero, ◌-◌, ◌^◌, ◌<◌, ◌≤◌, ◌≡◌, List, [], ◌∷◌, Bool, true, false, ◌&&◌, eqb, None, Some, get_or, nat_le, arith, refl, ap, if◌then◌else◌, ℤ, pos, negsuc, neg_ℤ}
+use Rattle.std.specs.Prelude.{option_map}
+use Rattle.std.specs.List.{list_all}
 use Rattle.std.specs.Char.{is_digit}
 use Rattle.std.specs.Str.Parse.{digits_value, AllDigits, IsNumeral}
 use Rattle.std.specs.Fmt.{decimal, signed_decimal}

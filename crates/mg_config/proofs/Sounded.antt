@@ -1,6 +1,6 @@
 -- What was read is sound: it can be written, and read back.
-use Rattle.std.proofs.Common.{ℕ, suc, zero, ◌-◌, ◌^◌, ◌<◌, ◌≤◌, ◌≡◌, ◌≢◌, ◌⊎◌, inl, inr, List, [], ◌∷◌, Bool, true, false, ◌&&◌, ◌||◌, eqb, Option, None, Some, Result, Ok, Err, nat_le, arith, refl, ap, subst, if◌then◌else◌, codes, ℤ, pos, neg_ℤ}
-use Rattle.std.specs.Prelude.{IsTrue, option_map, unwrap_or}
+use Rattle.std.proofs.Common.{ℕ, suc, zero, ◌-◌, ◌^◌, ◌≤◌, ◌≡◌, ◌≢◌, List, [], ◌∷◌, Bool, true, false, ◌&&◌, ◌||◌, eqb, Option, None, Some, Result, Ok, Err, nat_le, arith, refl, ap, subst, if◌then◌else◌, codes, ℤ, pos, neg_ℤ}
+use Rattle.std.specs.Prelude.{option_map, unwrap_or}
 use Rattle.std.specs.List.{All}
 use Rattle.std.specs.Str.{bytes_eq}
 use Rattle.std.specs.Str.Parse.{digits_value}

@@ -1,5 +1,5 @@
 -- The configuration of a list of fields, or its first fault.
-use Rattle.std.specs.Prelude.{ℕ, suc, ℤ, List, [], ◌∷◌, ◌++◌, Bool, true, false, Option, None, Some, Result, Ok, Err, map, codes, ◌||◌, filter}
+use Rattle.std.specs.Prelude.{ℕ, suc, ℤ, List, [], ◌∷◌, Bool, true, false, Option, None, Some, Result, Ok, Err, map, codes, ◌||◌, filter}
 use Rattle.std.specs.Str.{bytes_eq}
 use Rattle.mg_text.specs.Tree.{Fields}
 use Rattle.mg_text.specs.View.{Entry, view}

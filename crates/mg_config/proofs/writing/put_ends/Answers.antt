@@ -1,10 +1,10 @@
 use Rattle.std.proofs.Common.{◌∙◌, ap, sym, ◌++◌, map, codes, rules, w32}
 use Rattle.std.proofs.lemmas.Int.{to_z-of_z}
 use mir.Val.{SFits}
-use Rattle.mg_text.specs.View.{field_view, fields_view, view}
+use Rattle.mg_text.specs.View.{field_view, fields_view}
 use Rattle.mg_text.proofs.Views.{view-record}
 use Rattle.mg_config.specs.Config.{node_view}
-use Rattle.mg_config.specs.Written.{mark_fields, handler_field, number_field, options_field}
+use Rattle.mg_config.specs.Written.{mark_fields, number_field, options_field}
 use Rattle.mg_config.proofs.Appended.{put_ends}
 use Rattle.mg_config.proofs.writing.put_ends.Goals as goal
 
