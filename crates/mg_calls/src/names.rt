@@ -1,4 +1,6 @@
-use mg_names::{NameFault, Port, PortMap, print_port, read_port};
+use mg_names::{
+    NameFault, PlacedFault, Port, PortMap, print_port, print_tag_index, read_port, read_tag_index,
+};
 use mg_value::MgText;
 use std::alloc::{AllocError, Global};
 use std::process::Abort;
@@ -81,6 +83,43 @@ A:64:a a:b=BadIndex
 a:b A:64:a=BadTag"
 }
 
+// The same, where a refusal has the place of its text.
+fn placed_lists() -> &'static str {
+    "a T:b c=|0|a T|0|b |1|c 
+=0 BadName
+a:b A:64:a=0 BadTag
+a b A:64:a a:b=2 BadIndex
+T:a T:b c:d=2 BadTag
+T:1:a T:1:a T:1:a:a=2 BadName
+T:a T:b=Twice
+T:5:a T:5:b=Twice
+T:0:a T:2:b=Gap"
+}
+
+// One text a row, and after `=` its tag, its index and the text that these are written as, or the fault.
+fn tag_indexes() -> &'static str {
+    "A=A|0|A
+A:0=A|0|A
+_Z9:7=_Z9|7|_Z9:7
+A:63=A|63|A:63
+:0=|0|:0
+:63=|63|:63
+=BadTag
+a=BadTag
+9=BadTag
+a:1=BadTag
+a:64=BadTag
+:=BadIndex
+A:=BadIndex
+A:01=BadIndex
+A:64=BadIndex
+:x=BadIndex
+::=BadName
+A:1:b=BadName
+:1:b=BadName
+a:64:B=BadName"
+}
+
 fn show_index(alloc: Global, index: Option<u8>) -> Result<String, AllocError> {
     match index {
         None => String::from_str(alloc, "-"),
@@ -127,6 +166,25 @@ fn show_list(alloc: Global, texts: &[MgText]) -> Result<String, AllocError> {
     }
 }
 
+fn show_placed(alloc: Global, texts: &[MgText]) -> Result<String, AllocError> {
+    match PortMap::read_placed(alloc, texts) {
+        Ok(map) => show_ports(alloc, &map),
+        Err(PlacedFault::At { place, cause }) => format!(in alloc; "{place} {cause:?}"),
+        Err(PlacedFault::Whole { cause }) => format!(in alloc; "{cause:?}"),
+        Err(PlacedFault::OutOfMemory) => format!(in alloc; "OutOfMemory"),
+    }
+}
+
+fn show_tag_index(alloc: Global, text: &str) -> Result<String, AllocError> {
+    match read_tag_index(alloc, text.as_bytes()) {
+        Ok((tag, index)) => {
+            let text = print_tag_index(alloc, &tag, index)?;
+            format!(in alloc; "{}|{index}|{}", tag.as_str(), text.as_str())
+        }
+        Err(fault) => format!(in alloc; "{fault:?}"),
+    }
+}
+
 fn texts_of(alloc: Global, spelled: &str) -> Result<Vec<MgText>, AllocError> {
     let mut texts = Vec::new(alloc);
     for text in spelled.split(' ') {
@@ -164,6 +222,23 @@ fn assert_list(rt: &impl Abort, alloc: Global, row: &str) -> Result<(), AllocErr
     if let Some((spelled, expected)) = row.split_once('=') {
         let texts = texts_of(alloc, spelled)?;
         let shown = show_list(alloc, texts.as_slice())?;
+        assert!(rt; shown.as_str() == expected, "{row}");
+    }
+    Ok(())
+}
+
+fn assert_placed(rt: &impl Abort, alloc: Global, row: &str) -> Result<(), AllocError> {
+    if let Some((spelled, expected)) = row.split_once('=') {
+        let texts = texts_of(alloc, spelled)?;
+        let shown = show_placed(alloc, texts.as_slice())?;
+        assert!(rt; shown.as_str() == expected, "{row}");
+    }
+    Ok(())
+}
+
+fn assert_tag_index(rt: &impl Abort, alloc: Global, row: &str) -> Result<(), AllocError> {
+    if let Some((text, expected)) = row.split_once('=') {
+        let shown = show_tag_index(alloc, text)?;
         assert!(rt; shown.as_str() == expected, "{row}");
     }
     Ok(())
@@ -211,6 +286,24 @@ fn ports_of_lists(rt: HostRuntime) -> Result<(), Fail> {
     let alloc = rt.alloc();
     for row in lists().split('\n') {
         assert_list(&rt, alloc, row)?;
+    }
+    Ok(())
+}
+
+#[test]
+fn places_of_refused_texts(rt: HostRuntime) -> Result<(), Fail> {
+    let alloc = rt.alloc();
+    for row in placed_lists().split('\n') {
+        assert_placed(&rt, alloc, row)?;
+    }
+    Ok(())
+}
+
+#[test]
+fn tags_and_indexes(rt: HostRuntime) -> Result<(), Fail> {
+    let alloc = rt.alloc();
+    for row in tag_indexes().split('\n') {
+        assert_tag_index(&rt, alloc, row)?;
     }
     Ok(())
 }
