@@ -1,6 +1,8 @@
 //! Ports: their spellings, the ports of lists of texts, and the texts of ports.
 
-use mg_names::{NameFault, Port, PortMap, print_port, read_port};
+use mg_names::{
+    NameFault, PlacedFault, Port, PortMap, print_port, print_tag_index, read_port, read_tag_index,
+};
 use mg_value::MgText;
 use std::alloc::{AllocError, Global};
 use std::process::Abort;
@@ -301,6 +303,93 @@ fn numbers_and_messages(rt: HostRuntime) -> Result<(), Fail> {
     for (fault, wanted) in faults.iter().zip(messages().split('\n')) {
         let shown = show_fault(rt.alloc(), *fault)?;
         assert!(rt; shown.as_str() == wanted, "{shown}");
+    }
+    Ok(())
+}
+
+// The same, where a refusal has the place of its text.
+fn placed_lists() -> &'static str {
+    "a T:b c=|0|a T|0|b |1|c 
+=0 BadName
+a:b A:64:a=0 BadTag
+a b A:64:a a:b=2 BadIndex
+T:a T:b c:d=2 BadTag
+T:1:a T:1:a T:1:a:a=2 BadName
+T:a T:b=Twice
+T:5:a T:5:b=Twice
+T:0:a T:2:b=Gap"
+}
+
+fn show_placed(alloc: Global, texts: &[MgText]) -> Result<String, AllocError> {
+    match PortMap::read_placed(alloc, texts) {
+        Ok(map) => show_ports(alloc, &map),
+        Err(PlacedFault::At { place, cause }) => format!(in alloc; "{place} {cause:?}"),
+        Err(PlacedFault::Whole { cause }) => format!(in alloc; "{cause:?}"),
+        Err(PlacedFault::OutOfMemory) => format!(in alloc; "OutOfMemory"),
+    }
+}
+
+fn assert_placed(rt: &impl Abort, alloc: Global, row: &str) -> Result<(), Fail> {
+    let (spelled, wanted) = row.split_once('=').ok_or("no `=`")?;
+    let texts = texts_of(alloc, spelled)?;
+    let shown = show_placed(alloc, texts.as_slice())?;
+    assert!(rt; shown.as_str() == wanted, "{row}: {shown}");
+    Ok(())
+}
+
+#[test]
+fn places_of_refused_texts(rt: HostRuntime) -> Result<(), Fail> {
+    for row in placed_lists().split('\n') {
+        assert_placed(&rt, rt.alloc(), row)?;
+    }
+    Ok(())
+}
+
+// One text a row, and after `=` its tag, its index and the text that these are written as, or the fault.
+fn tag_indexes() -> &'static str {
+    "A=A|0|A
+A:0=A|0|A
+_Z9:7=_Z9|7|_Z9:7
+A:63=A|63|A:63
+:0=|0|:0
+:63=|63|:63
+=BadTag
+a=BadTag
+9=BadTag
+a:1=BadTag
+a:64=BadTag
+:=BadIndex
+A:=BadIndex
+A:01=BadIndex
+A:64=BadIndex
+:x=BadIndex
+::=BadName
+A:1:b=BadName
+:1:b=BadName
+a:64:B=BadName"
+}
+
+fn show_tag_index(alloc: Global, text: &str) -> Result<String, AllocError> {
+    match read_tag_index(alloc, text.as_bytes()) {
+        Ok((tag, index)) => {
+            let text = print_tag_index(alloc, &tag, index)?;
+            format!(in alloc; "{}|{index}|{}", tag.as_str(), text.as_str())
+        }
+        Err(fault) => format!(in alloc; "{fault:?}"),
+    }
+}
+
+fn assert_tag_index(rt: &impl Abort, alloc: Global, row: &str) -> Result<(), Fail> {
+    let (text, wanted) = row.split_once('=').ok_or("no `=`")?;
+    let shown = show_tag_index(alloc, text)?;
+    assert!(rt; shown.as_str() == wanted, "{row}: {shown}");
+    Ok(())
+}
+
+#[test]
+fn tags_and_indexes(rt: HostRuntime) -> Result<(), Fail> {
+    for row in tag_indexes().split('\n') {
+        assert_tag_index(&rt, rt.alloc(), row)?;
     }
     Ok(())
 }
