@@ -19,7 +19,7 @@ mod tree;
 pub use fault::TextFault;
 pub use printer::print;
 pub use reader::parse;
-pub use tree::{Field, Scalar, Tree, TreeValue};
+pub use tree::{Field, FieldList, Scalar, Tree, TreeValue};
 
 #[cfg(test)]
 mod tests;
