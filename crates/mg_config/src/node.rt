@@ -69,7 +69,7 @@ fn texts_of(alloc: Global, fields: &[Field]) -> Result<NodeTexts, AllocError>
         name,
         calculator,
         handler,
-        options: Tree { fields: options },
+        options,
     })
 }
 

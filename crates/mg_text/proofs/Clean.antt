@@ -1,8 +1,8 @@
 -- Each step keeps the bytes of the token characters.
 use Rattle.std.proofs.Common.{arith, ◌<◌, ◌≤◌, ◌≡◌, ℕ, ◌-◌, List, [], ◌∷◌, ◌++◌, Bool, true, false, not, ◌&&◌, cond, Option, Some, None, refl, sym, ap, ◌∙◌, subst, inl, inr, append_assoc, option_and_then}
 use Rattle.std.proofs.lemmas.List.{append-nil}
-use Rattle.mg_text.specs.declared.class.Class.{Class}
-use Rattle.mg_text.specs.declared.class.Class.TheVariants.{Blank, LineFeed, Hash, DoubleQuote, SingleQuote, Backslash, Colon, Comma, Semicolon, BraceOpen, BraceClose, AngleOpen, AngleClose, BracketOpen, BracketClose, Minus, Dot, Zero, One, OctalDigit, Digit, LetterE, LetterF, HexLetter, LetterX, LetterN, LetterR, LetterT, Letter, Beyond}
+use Rattle.mg_text.specs.declared.parts.Class.{Class}
+use Rattle.mg_text.specs.declared.parts.Class.TheVariants.{Blank, LineFeed, Hash, DoubleQuote, SingleQuote, Backslash, Colon, Comma, Semicolon, BraceOpen, BraceClose, AngleOpen, AngleClose, BracketOpen, BracketClose, Minus, Dot, Zero, One, OctalDigit, Digit, LetterE, LetterF, HexLetter, LetterX, LetterN, LetterR, LetterT, Letter, Beyond}
 use Rattle.mg_text.specs.declared.parts.Mark.{Mark}
 use Rattle.mg_text.specs.declared.parts.Mark.TheVariants.{Brace, Angle}
 use Rattle.mg_text.specs.declared.parts.Quote.{Quote}
@@ -11,23 +11,23 @@ use Rattle.mg_text.specs.declared.parts.Slot.{Slot}
 use Rattle.mg_text.specs.declared.parts.Slot.TheVariants as slots
 use Rattle.mg_text.specs.declared.parts.Tail.{Tail}
 use Rattle.mg_text.specs.declared.parts.Tail.TheVariants.{Whole}
-use Rattle.mg_text.specs.declared.parts.NamePart.{NamePart}
-use Rattle.mg_text.specs.declared.parts.NamePart.TheVariants as np
-use Rattle.mg_text.specs.declared.parts.ScalarPart.{ScalarPart}
-use Rattle.mg_text.specs.declared.parts.ScalarPart.TheVariants as sp
-use Rattle.mg_text.specs.declared.parts.Inside.{Inside}
-use Rattle.mg_text.specs.declared.parts.Inside.TheVariants.{Plain, Escape, Second, Third}
+use Rattle.mg_text.specs.declared.state.NamePart.{NamePart}
+use Rattle.mg_text.specs.declared.state.NamePart.TheVariants as np
+use Rattle.mg_text.specs.declared.state.ScalarPart.{ScalarPart}
+use Rattle.mg_text.specs.declared.state.ScalarPart.TheVariants as sp
+use Rattle.mg_text.specs.declared.state.Inside.{Inside}
+use Rattle.mg_text.specs.declared.state.Inside.TheVariants.{Plain, Escape, Second, Third}
 use Rattle.mg_text.specs.Byte.{IsTail, byte, class_of, is_octal, joins, lead, follow, whole as no_tail}
 use Rattle.mg_text.specs.Tree.{Fields}
 use Rattle.mg_text.specs.Grammar as g
 use Rattle.mg_text.specs.Grammar.{Stands, Gives, Apart, Place, start, named, valued, opened, element, behind, joined, after, scalar_slot, message_slot, piece_slot, list_slot, list_ends, opening, closing, quote_class, in_line, is_separator}
-use Rattle.mg_text.specs.Machine.{Spot, at, comment, naming, token, piece, Frame, State, moves, moved, settled, settled_place, with_scalar, opens_at, closes_at, closes_with, resumed, same_mark, colon_spot, comma_spot, semicolon_spot, bracket_spot, list_end_spot, token_spot, letter_spot, quote_spot, step_settled, step_at, comment_spot, awaits, step_naming, step_token, inside_next, is_closing_quote, goes_on, piece_spot, digit_onto, plain_next, escape_next, step_spot, step, run, name_next, scalar_next, is_whole_name, is_whole_scalar, kind_of}
+use Rattle.mg_text.specs.Code.Machine.{Spot, at, comment, naming, token, piece, Frame, State, moves, moved, settled, settled_place, with_scalar, opens_at, closes_at, closes_with, resumed, same_mark, colon_spot, comma_spot, semicolon_spot, bracket_spot, list_end_spot, token_spot, letter_spot, quote_spot, step_settled, step_at, comment_spot, awaits, step_naming, step_token, inside_next, is_closing_quote, goes_on, piece_spot, digit_onto, plain_next, escape_next, step_spot, step, run, name_next, scalar_next, is_whole_name, is_whole_scalar, kind_of}
 use Rattle.mg_text.proofs.Choices.{from_if, some_same, mapped}
 use Rattle.mg_text.proofs.ByteValues.{beyond_class, octal_digit, first_octal_digit}
 use Rattle.std.proofs.lemmas.Bool.{cases_lt}
 use Rattle.std.specs.Str.{IsUtf8}
-use Rattle.mg_text.specs.Clean as k
-use Rattle.mg_text.specs.Clean.{CharsTo, IsClean, IsCleanPlace, IsCleanInside}
+use Rattle.mg_text.specs.Code.Clean as k
+use Rattle.mg_text.specs.Code.Clean.{CharsTo, IsClean, IsCleanPlace, IsCleanInside}
 use Rattle.mg_text.specs.Canonical as c
 use Rattle.mg_text.specs.Canonical.{AreCharacters}
 use Rattle.mg_text.proofs.Unicode.{utf8_of_characters}

@@ -1,8 +1,8 @@
 -- What is in the grammar is taken by the machine, which makes the same fields.
 use Rattle.std.proofs.Common.{◌≡◌, ℕ, List, [], ◌∷◌, ◌++◌, Bool, true, false, cond, Some, None, refl, sym, ap, ◌∙◌, subst, append_assoc}
 use Rattle.std.proofs.lemmas.List.{append-nil}
-use Rattle.mg_text.specs.declared.class.Class.{Class}
-use Rattle.mg_text.specs.declared.class.Class.TheVariants.{Colon, Comma, Semicolon, BracketOpen, BracketClose}
+use Rattle.mg_text.specs.declared.parts.Class.{Class}
+use Rattle.mg_text.specs.declared.parts.Class.TheVariants.{Colon, Comma, Semicolon, BracketOpen, BracketClose}
 use Rattle.mg_text.specs.declared.parts.Mark.{Mark}
 use Rattle.mg_text.specs.declared.parts.Mark.TheVariants.{Brace, Angle}
 use Rattle.mg_text.specs.declared.parts.Slot.{Slot}
@@ -11,7 +11,7 @@ use Rattle.mg_text.specs.Byte.{class_of, joins}
 use Rattle.mg_text.specs.Tree.{word, number, quoted, Fields, none, scalar, message, append}
 use Rattle.mg_text.specs.Grammar as g
 use Rattle.mg_text.specs.Grammar.{Stands, Apart, Place, start, named, valued, opened, element, behind, message_slot, list_slot, list_ends, opening, closing, is_separator}
-use Rattle.mg_text.specs.Machine.{at, Frame, moves, opens_at, resumed, same_mark, list_spot, step_at, outcome, begin}
+use Rattle.mg_text.specs.Code.Machine.{at, Frame, moves, opens_at, resumed, same_mark, list_spot, step_at, outcome, begin}
 use Rattle.mg_text.proofs.Appending.{append_none, append_fields_assoc}
 use Rattle.mg_text.proofs.Runs.{st, go, gap_run}
 use Rattle.mg_text.proofs.TokenRuns.{name_run, word_run, number_run}

@@ -1,14 +1,14 @@
 -- A step of the machine, and how it runs through blanks and comments.
 use Rattle.std.proofs.Common.{◌≡◌, ℕ, List, ◌∷◌, ◌++◌, true, Some, refl, ap, ◌∙◌, append_assoc, option_and_then}
-use Rattle.mg_text.specs.declared.class.Class.{Class}
-use Rattle.mg_text.specs.declared.class.Class.TheVariants.{Blank, LineFeed, Hash, Beyond}
+use Rattle.mg_text.specs.declared.parts.Class.{Class}
+use Rattle.mg_text.specs.declared.parts.Class.TheVariants.{Blank, LineFeed, Hash, Beyond}
 use Rattle.mg_text.specs.declared.parts.Tail.{Tail}
 use Rattle.mg_text.specs.declared.parts.Tail.TheVariants.{Whole}
 use Rattle.mg_text.specs.Byte.{IsTail, byte, class_of, is_blank, follow, whole as no_tail}
 use Rattle.mg_text.specs.Tree.{Fields}
 use Rattle.mg_text.specs.Grammar as g
 use Rattle.mg_text.specs.Grammar.{Place, in_line}
-use Rattle.mg_text.specs.Machine.{Spot, at, comment, Frame, State, moves, step_at, comment_spot, awaits, step_spot, outcome}
+use Rattle.mg_text.specs.Code.Machine.{Spot, at, comment, Frame, State, moves, step_at, comment_spot, awaits, step_spot, outcome}
 use Rattle.mg_text.proofs.ByteValues.{lead_beyond}
 
 abbrev pub st : Fields → List Frame → Spot → State

@@ -1,23 +1,23 @@
 -- A byte that the machine takes between tokens is one that the grammar has there.
 use Rattle.std.proofs.Common.{◌≡◌, ℕ, List, [], ◌∷◌, ◌++◌, Bool, true, false, cond, Option, Some, None, refl, sym, ap, ◌∙◌, subst, append_assoc}
-use Rattle.mg_text.specs.declared.class.Class.{Class}
-use Rattle.mg_text.specs.declared.class.Class.TheVariants.{Blank, LineFeed, Hash, DoubleQuote, SingleQuote, Colon, Comma, Semicolon, BraceOpen, BraceClose, AngleOpen, AngleClose, BracketOpen, BracketClose, Minus, Dot, Zero, One, OctalDigit, Digit, LetterE, LetterF, HexLetter, LetterX, LetterN, LetterR, LetterT, Letter}
+use Rattle.mg_text.specs.declared.parts.Class.{Class}
+use Rattle.mg_text.specs.declared.parts.Class.TheVariants.{Blank, LineFeed, Hash, DoubleQuote, SingleQuote, Colon, Comma, Semicolon, BraceOpen, BraceClose, AngleOpen, AngleClose, BracketOpen, BracketClose, Minus, Dot, Zero, One, OctalDigit, Digit, LetterE, LetterF, HexLetter, LetterX, LetterN, LetterR, LetterT, Letter}
 use Rattle.mg_text.specs.declared.parts.Mark.{Mark}
 use Rattle.mg_text.specs.declared.parts.Mark.TheVariants.{Brace, Angle}
 use Rattle.mg_text.specs.declared.parts.Quote.{Quote}
 use Rattle.mg_text.specs.declared.parts.Quote.TheVariants.{Single, Double}
 use Rattle.mg_text.specs.declared.parts.Slot.{Slot}
 use Rattle.mg_text.specs.declared.parts.Tail.TheVariants.{Whole}
-use Rattle.mg_text.specs.declared.parts.NamePart.{NamePart}
-use Rattle.mg_text.specs.declared.parts.NamePart.TheVariants as np
-use Rattle.mg_text.specs.declared.parts.ScalarPart.{ScalarPart}
-use Rattle.mg_text.specs.declared.parts.ScalarPart.TheVariants as sp
-use Rattle.mg_text.specs.declared.parts.Inside.TheVariants.{Plain}
+use Rattle.mg_text.specs.declared.state.NamePart.{NamePart}
+use Rattle.mg_text.specs.declared.state.NamePart.TheVariants as np
+use Rattle.mg_text.specs.declared.state.ScalarPart.{ScalarPart}
+use Rattle.mg_text.specs.declared.state.ScalarPart.TheVariants as sp
+use Rattle.mg_text.specs.declared.state.Inside.TheVariants.{Plain}
 use Rattle.mg_text.specs.Byte.{class_of, is_letter, is_digit, is_blank}
 use Rattle.mg_text.specs.Tree.{quoted, Fields, none, scalar, message, append}
 use Rattle.mg_text.specs.Grammar as g
 use Rattle.mg_text.specs.Grammar.{Stands, Apart, Place, start, named, valued, opened, element, behind, joined, after, scalar_slot, message_slot, piece_slot, list_slot, opening, closing, quote_class, is_separator}
-use Rattle.mg_text.specs.Machine.{at, comment, naming, token, piece, Frame, State, moves, settled, settled_place, opens_at, closes_at, closes_with, resumed, same_mark, colon_spot, comma_spot, semicolon_spot, bracket_spot, list_spot, list_end_spot, token_spot, letter_spot, quote_spot, step_settled, step_at, kind_of}
+use Rattle.mg_text.specs.Code.Machine.{at, comment, naming, token, piece, Frame, State, moves, settled, settled_place, opens_at, closes_at, closes_with, resumed, same_mark, colon_spot, comma_spot, semicolon_spot, bracket_spot, list_spot, list_end_spot, token_spot, letter_spot, quote_spot, step_settled, step_at, kind_of}
 use Rattle.mg_text.proofs.Appending.{append_none}
 use Rattle.mg_text.proofs.Names.{NameEnds, word_name, bracket_name}
 use Rattle.mg_text.proofs.Scalars.{ScalarEnds, word_token, zero_number, digit_number, point_number, minus_number}

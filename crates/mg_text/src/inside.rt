@@ -1,11 +1,12 @@
 ghost use Rattle.std.specs.Prelude.{◌≡◌};
 ghost use Rattle.std.specs.Option.{option_map};
-ghost use Rattle.mg_text.specs.Machine.{inside_next, is_closing_quote, plain_next, escape_next, digit_onto};
+ghost use Rattle.mg_text.specs.Code.Machine.{inside_next, is_closing_quote, plain_next, escape_next, digit_onto};
 ghost use Rattle.mg_text.specs.Grammar.{escaped, is_first_octal, in_piece};
-ghost use Rattle.mg_text.specs.Running.{spelling_of};
+ghost use Rattle.mg_text.specs.Code.Running.{spelling_of};
 
-use crate::class::{Class, follow, lead};
-use crate::parts::{Inside, Quote, Tail};
+use crate::class::{follow, lead};
+use crate::parts::{Class, Quote, Tail};
+use crate::state::Inside;
 
 /// Whether a byte stands for itself in a piece.
 fn in_piece(q: Quote, c: Class) -> bool

@@ -10,13 +10,14 @@ mod inside;
 pub mod laws;
 mod machine;
 mod next;
-mod parts;
+pub mod parts;
 mod printer;
 mod reader;
+mod state;
 mod step;
 mod tree;
 
 pub use fault::TextFault;
 pub use printer::print;
 pub use reader::parse;
-pub use tree::{Field, Scalar, Tree, TreeValue};
+pub use tree::{Field, FieldList, Scalar, Tree, TreeValue};

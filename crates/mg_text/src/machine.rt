@@ -1,21 +1,19 @@
 ghost use Rattle.std.specs.Prelude.{◌≡◌, IfOk, OnOk, length, Some, IsUtf8};
-ghost use Rattle.mg_text.specs.Clean.{IsCleanPlace};
+ghost use Rattle.mg_text.specs.Code.Clean.{IsCleanPlace};
 ghost use Rattle.std.specs.Option.{option_map};
 ghost use Rattle.mg_text.specs.Tree.{none, scalar, message};
 ghost use Rattle.mg_text.specs.View.{fields_view, value_view, simple, inner};
-ghost use Rattle.mg_text.specs.Machine.{resumed, moves, settled, settled_place, opens_at, closes_at, name_next, scalar_next, begin, with_scalar, inside_next, is_closing_quote};
+ghost use Rattle.mg_text.specs.Code.Machine.{resumed, moves, settled, settled_place, opens_at, closes_at, begin, with_scalar};
 ghost use Rattle.mg_text.specs.Grammar.{message_slot, after};
-ghost use Rattle.mg_text.specs.Running.{state_of, frames_of, place_of, spot_of, kind_view, frame_of, Took};
+ghost use Rattle.mg_text.specs.Code.Running.{state_of, frames_of, place_of, spot_of, kind_view, frame_of, Stepped};
 
-use crate::between::{comment_next, same_mark};
-use crate::class::{Class, class_of};
-use crate::inside::{inside_next, is_closing_quote};
-use crate::next::{is_whole_name, is_whole_scalar, name_next, scalar_next};
-use crate::parts::{Between, Inside, Kind, Mark, NamePart, Quote, Reading, ScalarPart, Slot, Tail};
+use crate::between::same_mark;
+use crate::parts::{Mark, Slot};
+use crate::state::{Between, Kind, Reading};
 use crate::tree::{Field, Scalar, Tree, TreeValue};
 use mg_value::MgText;
 use std::alloc::{AllocError, Global};
-use std::mem;
+use std::{mem, str};
 
 /// A message that is open: the fields before it, its name, where it stands and its mark.
 #[derive(Drop)]
@@ -38,11 +36,11 @@ pub struct Machine {
 }
 
 /// The text of bytes that are UTF-8.
-pub fn text_of(bytes: Vec<u8>) -> MgText
-    requires { IsUtf8 bytes.items }
-    ensures { result ≡ bytes.items }
+pub fn text_of(alloc: Global, bytes: &[u8]) -> Result<MgText, AllocError>
+    requires { IsUtf8 bytes.now }
+    ensures { IfOk result (λ text. text ≡ bytes.now) }
 {
-    MgText::from_string(String::from_utf8(bytes).unwrap())
+    MgText::new(alloc, str::from_utf8(bytes).unwrap())
 }
 
 fn scalar_of(kind: Kind, text: MgText) -> TreeValue
@@ -55,10 +53,11 @@ fn scalar_of(kind: Kind, text: MgText) -> TreeValue
     }
 }
 
-fn message_of(fields: Vec<Field>) -> TreeValue
-    ensures { value_view result ≡ inner (fields_view fields.items) }
+fn message_of(alloc: Global, fields: Vec<Field>) -> Result<TreeValue, AllocError>
+    ensures { IfOk result (λ value. value_view value ≡ inner (fields_view fields.items)) }
 {
-    TreeValue::Message(Tree { fields })
+    let tree = Tree::new(alloc, fields)?;
+    Ok(TreeValue::Message(tree))
 }
 
 impl Machine {
@@ -107,8 +106,7 @@ impl Machine {
         ensures place { IfOk result (λ q. place_of q self.new.name self.new.token.items ≡ after self.old.name slot) }
     {
         let name = self.take_name(alloc, slot)?;
-        let bytes = mem::replace(&mut self.token, Vec::new(alloc));
-        let value = scalar_of(kind, text_of(bytes));
+        let value = scalar_of(kind, text_of(alloc, &self.token)?);
         self.done.push(Field { name, value })?;
         let place = Between::after(slot);
         self.reading = Reading::At(place);
@@ -117,7 +115,7 @@ impl Machine {
 
     /// Goes on to what is read next, if anything may be.
     pub fn moves(&mut self, next: Option<Reading>) -> bool
-        ensures { Took (moves (state_of self.old)
+        ensures { Stepped (moves (state_of self.old)
             (option_map (λ r. spot_of r self.old.name self.old.token.items) next)) result (state_of self.new) }
     {
         match next {
@@ -148,7 +146,7 @@ impl Machine {
 
     /// Opens a message, where one may stand.
     pub fn open(&mut self, alloc: Global, p: Between, mark: Mark) -> Result<bool, AllocError>
-        ensures { IfOk result (λ taken. Took (opens_at (state_of self.old) mark
+        ensures { IfOk result (λ taken. Stepped (opens_at (state_of self.old) mark
             (message_slot (place_of p self.old.name self.old.token.items))) taken (state_of self.new)) }
     {
         match p.message_slot() {
@@ -184,7 +182,7 @@ impl Machine {
         let fields = mem::replace(&mut self.done, before);
         self.name = name;
         let name = self.take_name(alloc, slot)?;
-        let value = message_of(fields);
+        let value = message_of(alloc, fields)?;
         self.done.push(Field { name, value })?;
         self.reading = Reading::At(Between::after(slot));
         Ok(())
@@ -192,7 +190,7 @@ impl Machine {
 
     /// Closes the innermost message, where it may end, by the mark that opened it.
     pub fn close(&mut self, alloc: Global, p: Between, mark: Mark) -> Result<bool, AllocError>
-        ensures { IfOk result (λ taken. Took (closes_at (state_of self.old) mark
+        ensures { IfOk result (λ taken. Stepped (closes_at (state_of self.old) mark
             (place_of p self.old.name self.old.token.items)) taken (state_of self.new)) }
     {
         let Between::Start(_) = p else {

@@ -4,7 +4,8 @@ ghost use Rattle.mg_text.specs.Tree.{Fields, depth};
 ghost use Rattle.mg_text.specs.Grammar.{Gives};
 ghost use Rattle.mg_text.specs.View.{view, fields_view, value_view, scalar_view};
 ghost use Rattle.mg_text.specs.Answer.{max_depth};
-ghost use Rattle.mg_text.specs.Canonical.{indent, escape, short_escape, canonical, lines_of, entry_lines, entry_depth, value_text, AreSpelled};
+ghost use Rattle.mg_text.specs.Canonical.{indent, escape, short_escape, canonical, lines_of, AreSpelled};
+ghost use Rattle.mg_text.specs.Code.Printing.{entry_lines, entry_depth, value_text};
 
 use crate::tree::{Field, Scalar, Tree, TreeValue};
 use std::alloc::{AllocError, Global};
@@ -101,7 +102,7 @@ fn put_field(out: &mut Vec<u8>, field: &Field, k: usize) -> Result<(), AllocErro
         }
         TreeValue::Message(tree) => {
             out.extend_from_slice(b" {\n")?;
-            put_fields(out, &tree.fields, k + 1)?;
+            put_fields(out, tree.as_slice(), k + 1)?;
             put_indent(out, k)?;
             out.extend_from_slice(b"}\n")?;
         }
@@ -125,7 +126,7 @@ fn written(alloc: Global, tree: &Tree) -> Result<Vec<u8>, AllocError>
     ensures { IfOk result (λ text. text.items ≡ canonical (view tree.now)) }
 {
     let mut out = Vec::new(alloc);
-    put_fields(&mut out, &tree.fields, 0)?;
+    put_fields(&mut out, tree.as_slice(), 0)?;
     Ok(out)
 }
 

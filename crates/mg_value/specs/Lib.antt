@@ -1,3 +1,4 @@
+pub mod Code
 pub mod Extension
 pub mod Json
 pub mod Kind

@@ -1,7 +1,6 @@
 use Rattle.std.proofs.Common.{◌∙◌, sym, ap}
 use Rattle.std.proofs.lemmas.Result.{IfOk-weaker, MatchResult-at_err}
 use Rattle.mg_text.specs.View.{view, fields_view}
-use Rattle.mg_text.proofs.Views.{view-record}
 use Rattle.mg_config.specs.Config.{graph_view, config_of}
 use Rattle.mg_names.specs.declared.fault.NameFault.TheVariants as names
 use Rattle.mg_config.specs.declared.fault.ConfigFault.TheVariants.{BadPort}
@@ -17,7 +16,7 @@ pub returns-clause-printable : goal.returns-clause-printable
 returns-clause-printable c =
     IfOk-weaker c.read_fields.result _ _
     (λ graph made. printable_of (view c.args.tree.now) (graph_view graph)
-    (ap config_of (view-record c.args.tree.now ∙ ap fields_view (sym c.as_slice.ensures.value)) ∙ made)) c.read_fields.ensures.ok
+    (ap config_of (sym c.as_slice.ensures) ∙ made)) c.read_fields.ensures.ok
 
 pub returns-clause-cause : goal.returns-clause-cause
 returns-clause-cause c = λ path answered.
