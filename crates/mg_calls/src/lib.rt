@@ -13,6 +13,8 @@ mod names;
 #[cfg(test)]
 mod packets;
 #[cfg(test)]
+mod payload;
+#[cfg(test)]
 mod policy;
 #[cfg(test)]
 mod stream;

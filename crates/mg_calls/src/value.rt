@@ -2,8 +2,7 @@
 
 use crate::packets::{number_of, packet_of};
 use mg_time::Timestamp;
-use mg_value::{InputSet, Packet, PacketList, Prefix, from_json, to_json};
-use serde_json::Value;
+use mg_value::{InputSet, Packet, PacketList, Prefix};
 use std::test::Fail;
 
 #[test]
@@ -51,17 +50,3 @@ fn sets_hold_a_packet_per_port(rt: HostRuntime) -> Result<(), Fail> {
     assert_eq!(rt; number_at(&set, 3), None);
     Ok(())
 }
-
-#[test]
-fn values_both_ways(rt: HostRuntime) -> Result<(), Fail> {
-    for line in VALUES.lines() {
-        let value = Value::from_str(rt.alloc(), line).map_err(|_| "no json")?;
-        let payload = from_json(rt.alloc(), &value).map_err(|_| "no payload")?;
-        let again = to_json(rt.alloc(), &payload)?;
-        let text = again.to_string(rt.alloc())?;
-        assert_eq!(rt; text.as_str(), line);
-    }
-    Ok(())
-}
-
-const VALUES: &str = "true\n-5\n[1,2,[]]\n{\"a\":1,\"b\":[{}]}\n\"hello\"";

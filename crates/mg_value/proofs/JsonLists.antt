@@ -14,8 +14,7 @@ use Rattle.serde_json.specs.declared.value.Value.{Value}
 use Rattle.mg_value.specs.declared.payload.Payload.{Payload}
 use Rattle.mg_value.specs.declared.record_list.Entry.{Entry}
 use Rattle.mg_value.specs.Plain.{items_of, entries_of}
-use Rattle.mg_value.specs.Payload.{plain}
-use Rattle.mg_value.specs.Entry.{plain_entry, KeysAscend}
+use Rattle.mg_value.specs.Payload.{plain, plain_entry, KeysAscend}
 use Rattle.mg_value.specs.Json.{json_of, json_items, json_members}
 
 -- a member of an object: its name and its value

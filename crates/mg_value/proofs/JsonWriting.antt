@@ -9,8 +9,7 @@ use Rattle.serde_json.specs.Data as json
 use Rattle.mg_value.specs.declared.payload.Payload.{Payload}
 use Rattle.mg_value.specs.declared.record_list.Entry.{Entry}
 use Rattle.mg_value.specs.Plain.{depth, items_of, items_depth, entries_of, entries_depth, NumbersFit, ItemsFit, EntriesFit}
-use Rattle.mg_value.specs.Payload.{plain}
-use Rattle.mg_value.specs.Entry.{plain_entry, KeysAscend}
+use Rattle.mg_value.specs.Payload.{plain, plain_entry, KeysAscend}
 use Rattle.mg_value.specs.Json.{json_of, json_members}
 
 pub item_within : (ps : List Payload) (i : ℕ) (d : Payload) → i < length ps → depth (plain (get_or ps i d)) ≤ items_depth (items_of (map plain ps))

@@ -1,5 +1,5 @@
 -- A JSON value says one payload at most, and what says a payload has no float and no fault but for its depth.
-use Rattle.std.proofs.Common.{◌≡◌, ℕ, suc, ◌+◌, ◌<◌, ◌≤◌, ◌^◌, ℤ, pos, negsuc, max, List, [], ◌++◌, true, false, Some, nat_lt, FitsSigned, inl, inr, refl, sym, ap, ap₂, ◌∙◌, arith}
+use Rattle.std.proofs.Common.{◌≡◌, ℕ, suc, ◌+◌, ◌<◌, ◌≤◌, ◌^◌, ℤ, pos, negsuc, max, List, [], ◌∷◌, ◌++◌, true, false, if◌then◌else◌, Some, nat_lt, FitsSigned, inl, inr, refl, sym, ap, ap₂, ◌∙◌, arith}
 use Rattle.std.proofs.lemmas.Bool.{cases_lt}
 use Rattle.std.specs.Int.{w64}
 use Rattle.serde_json.specs.Data as json
@@ -97,6 +97,45 @@ mutual
   entries_at : (level : ℕ) (es : Entries) → level ≤ 17 → EntriesFit es → At level (entries_depth es) (members_faults level (json_members es))
   entries_at level no_entries h fit = scalar level [] h refl
   entries_at level (entry k p es) h fit = joined level (depth p) (entries_depth es) _ _ (payload_at level p h fit.0) (entries_at level es h fit.1)
+
+-- ---- not deeper than its faults let it
+
+open_here : (level : ℕ) (inner : List ValueFault) → depth_faults level ++ inner ≡ [] → (level ≤ 16) × (inner ≡ [])
+open_here level inner e = elim (cases_lt 16 level) [
+  | inl high ↦ (let deep : nat_lt 16 level ≡ true = grind arith in absurd (cons_is_not_nil _ _ (sym (ap (λ b. (if b then TooDeep ∷ [] else []) ++ inner) deep) ∙ e)))
+  | inr low ↦ (low, sym (not_too_deep level inner low) ∙ e)
+]
+  where
+    cons_is_not_nil : (f : ValueFault) (fs : List ValueFault) → f ∷ fs ≡ [] → ⊥
+    cons_is_not_nil f fs same = cc
+
+both_nil : (xs ys : List ValueFault) → xs ++ ys ≡ [] → (xs ≡ []) × (ys ≡ [])
+both_nil [] ys e = (refl, e)
+both_nil (x ∷ xs) ys e = absurd (cc)
+
+mutual
+  pub within_levels : (level : ℕ) (p : Plain) → level ≤ 17 → faults_at level (json_of p) ≡ [] → level + depth p ≤ 17
+  within_levels level (flag b) h e = omega arith
+  within_levels level (int n) h e = omega arith
+  within_levels level (text s) h e = omega arith
+  within_levels level (items is) h e =
+      let here = open_here level (items_faults (level + 1) (json_items is)) e in
+      omega (arith, items_within (level + 1) is (omega (arith, here.0)) here.1)
+  within_levels level (entries es) h e =
+      let here = open_here level (members_faults (level + 1) (json_members es)) e in
+      omega (arith, entries_within (level + 1) es (omega (arith, here.0)) here.1)
+
+  items_within : (level : ℕ) (is : Items) → level ≤ 17 → items_faults level (json_items is) ≡ [] → level + items_depth is ≤ 17
+  items_within level no_items h e = omega arith
+  items_within level (item p is) h e =
+      let parts = both_nil (faults_at level (json_of p)) (items_faults level (json_items is)) e in
+      omega (arith, within_levels level p h parts.0, items_within level is h parts.1)
+
+  entries_within : (level : ℕ) (es : Entries) → level ≤ 17 → members_faults level (json_members es) ≡ [] → level + entries_depth es ≤ 17
+  entries_within level no_entries h e = omega arith
+  entries_within level (entry k p es) h e =
+      let parts = both_nil (faults_at level (json_of p)) (members_faults level (json_members es)) e in
+      omega (arith, within_levels level p h parts.0, entries_within level es h parts.1)
 
 -- ---- no fraction
 

@@ -7,8 +7,7 @@ use Rattle.mg_value.specs.declared.payload.Payload.TheVariants.{Flag, Int, Text,
 use Rattle.mg_value.specs.declared.record_list.Entry.{Entry}
 use Rattle.mg_value.specs.declared.payload_list.PayloadList.TheDeep.{deep-Payload, deep-Entry}
 use Rattle.mg_value.specs.Plain.{depth, items_of, items_depth, entries_of, entries_depth}
-use Rattle.mg_value.specs.Payload.{plain}
-use Rattle.mg_value.specs.Entry.{plain_entry}
+use Rattle.mg_value.specs.Payload.{plain, plain_entry}
 
 pub deep_le-depth : (p : Payload) → deep-Payload p ≤ depth (plain p)
 deep_le-depth (Flag b) = omega arith

@@ -20,7 +20,8 @@ const MAX_DEPTH: u32 = 16;
 pub fn from_json(alloc: Global, value: &Value) -> Result<Arc<Payload>, ValueFault>
     ensures says { IfOk result (λ p. json_of (plain (arc_value p)) ≡ view value.now) }
     ensures only { IfOk result (λ p. (q : Plain) → json_of q ≡ view value.now → q ≡ plain (arc_value p)) }
-    ensures clear { IfOk result (λ p. first_fault (view value.now) ≡ None) }
+    ensures nesting { IfOk result (λ p. depth (plain (arc_value p)) ≤ 16) }
+    ensures clear { IfOk result (λ _. first_fault (view value.now) ≡ None) }
     ensures fault { IfErr result (λ fault. fault ≢ ValueFault.OutOfMemory → first_fault (view value.now) ≡ Some fault) }
 {
     let payload = read(alloc, value, 1)?;
@@ -30,9 +31,9 @@ pub fn from_json(alloc: Global, value: &Value) -> Result<Arc<Payload>, ValueFaul
 /// The JSON value that says a payload. `from_json` takes it back, unless its lists and records are too deep.
 pub fn to_json(alloc: Global, payload: &Payload) -> Result<Value, AllocError>
     ensures says { IfOk result (λ value. view value ≡ json_of (plain payload.now)) }
-    ensures whole { IfOk result (λ value. has_float (view value) ≡ false) }
-    ensures back { IfOk result (λ value. depth (plain payload.now) ≤ 16 → first_fault (view value) ≡ None) }
-    ensures deep { IfOk result (λ value. 16 < depth (plain payload.now) → first_fault (view value) ≡ Some ValueFault.TooDeep) }
+    ensures whole_numbers { IfOk result (λ value. has_float (view value) ≡ false) }
+    ensures taken_back { IfOk result (λ value. depth (plain payload.now) ≤ 16 → first_fault (view value) ≡ None) }
+    ensures too_deep { IfOk result (λ value. 16 < depth (plain payload.now) → first_fault (view value) ≡ Some ValueFault.TooDeep) }
 {
     Ok(write(alloc, payload)?)
 }

@@ -28,7 +28,7 @@ impl Model for RecordList {
 
     ghost coded = { plain_entries_code };
 
-    ghost use Rattle.mg_value.specs.Entry.{plain_entry, KeysAscend};
+    ghost use Rattle.mg_value.specs.Payload.{plain_entry, KeysAscend};
 
     ghost view = { λ l. map plain_entry l.entries.items };
 
@@ -42,7 +42,7 @@ impl Model for RecordList {
 }
 
 impl RecordList {
-    ghost use Rattle.mg_value.specs.Entry.{plain_entry, KeysAscend};
+    ghost use Rattle.mg_value.specs.Payload.{plain_entry, KeysAscend};
 
     /// The record of a vector's entries, whose keys ascend. There is no memory for 2^32 or more: the vector then comes
     /// back.

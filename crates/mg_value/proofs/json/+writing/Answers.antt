@@ -3,8 +3,7 @@ use Rattle.std.proofs.lemmas.List.{take_all}
 use Rattle.serde_json.specs.View.{members_view}
 use Rattle.serde_json.proofs.Views.{members_view-insert_entry}
 use Rattle.mg_value.specs.Plain.{depth, items_of, items_depth, entries_of, entries_depth}
-use Rattle.mg_value.specs.Payload.{plain}
-use Rattle.mg_value.specs.Entry.{KeysAscend}
+use Rattle.mg_value.specs.Payload.{plain, KeysAscend}
 use Rattle.mg_value.specs.Json.{json_items}
 use Rattle.mg_value.proofs.JsonLists.{payload_said, items_are, one_more}
 use Rattle.mg_value.proofs.JsonWriting.{item_within, entry_within, entry_written, items_fit_next, entries_fit_next}

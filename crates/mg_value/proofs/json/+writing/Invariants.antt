@@ -1,8 +1,7 @@
 use Rattle.std.proofs.Common.{◌≡◌, ◌+◌, ◌*◌, map, take}
 use Rattle.serde_json.specs.View.{view, members_view}
 use Rattle.mg_value.specs.Plain.{depth, items_of, items_depth, entries_of, entries_depth, ItemsFit, EntriesFit}
-use Rattle.mg_value.specs.Payload.{plain}
-use Rattle.mg_value.specs.Entry.{plain_entry}
+use Rattle.mg_value.specs.Payload.{plain, plain_entry}
 use Rattle.mg_value.specs.Json.{json_members}
 use Rattle.mg_value.proofs.JsonLists.{payload_said}
 use Rattle.mg_value.proofs.json.+writing.Given as goal
