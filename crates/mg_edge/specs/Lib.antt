@@ -3,3 +3,4 @@ pub mod Adapters
 pub mod InMemory
 pub mod MemoryStore
 pub mod Runs
+pub mod Inner

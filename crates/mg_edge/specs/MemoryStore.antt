@@ -1,5 +1,5 @@
 -- What contracts see of a store in memory, and what a load of it answers.
-use Rattle.std.specs.Prelude.{◌≡◌, ◌≢◌, ◌⊎◌, ℕ, Bool, true, false, List, Vec, String, take, Option, None, Some, ⊤}
+use Rattle.std.specs.Prelude.{◌≡◌, ◌≢◌, ◌⊎◌, ℕ, List, Vec, String, take, Option, None, Some, ⊤}
 use Rattle.std.specs.Option.{option_map}
 use Rattle.std.specs.String.{string_bytes}
 use Rattle.std.specs.BTreeMap.{get_by_text, BTreeMap}
@@ -55,16 +55,3 @@ AnswersLoad store name (Bytes bytes) =
     × (option_map (λ all. take most_loaded all) (stored store name) ≡ Some bytes.items)
 AnswersLoad store name Failed = NextFails store name
 AnswersLoad store name OutOfMemory = ⊤
-
--- The same by whether the load is to fail and by the content.
-abbrev pub LooksUp : Bool → Option (List ℕ) → Loaded → Type 0
-LooksUp fails content (Bytes bytes) =
-    (fails ≡ false) × (option_map (λ all. take most_loaded all) content ≡ Some bytes.items)
-LooksUp fails content Failed = (fails ≡ true) ⊎ (content ≡ None)
-LooksUp fails content OutOfMemory = ⊤
-
--- The first bytes of a content, as many as a load gives, or want of memory.
-abbrev pub IsFrontOf : List ℕ → Loaded → Type 0
-IsFrontOf content (Bytes bytes) = bytes.items ≡ take most_loaded content
-IsFrontOf content Failed = ⊥
-IsFrontOf content OutOfMemory = ⊤

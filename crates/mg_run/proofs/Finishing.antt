@@ -14,10 +14,9 @@ use Rattle.mg_run.specs.Call.{Meets, RanAll, TookRead, TookSome, RanShort, Ran}
 use Rattle.mg_run.specs.Inner.Feed.{Holds, Stopped}
 use Rattle.mg_run.specs.Inner.Flow.{Flows}
 use Rattle.mg_run.specs.Inner.Pouring.{Pours, HasPoured, PouredFront}
-use Rattle.mg_run.specs.Inner.Ended.{refused_line, said_of, ended_as}
+use Rattle.mg_run.specs.Inner.Verdict.{refused_line, said_of, ended_as}
 use Rattle.mg_run.specs.declared.line_fault.LineFault.{LineFault}
-use Rattle.mg_run.specs.declared.status.Status.{Status}
-use Rattle.mg_run.specs.declared.status.Status.TheVariants.{Good, LineRefused, ReadFault}
+use Rattle.mg_run.specs.declared.status.Status.TheVariants.{Good}
 use Rattle.mg_run.specs.declared.feed.Feed.{Feed}
 use Rattle.mg_run.specs.declared.pour.Poured.{Poured}
 use Rattle.mg_run.specs.declared.pour.Poured.TheVariants.{All, Part, Halted}

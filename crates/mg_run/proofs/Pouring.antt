@@ -10,7 +10,7 @@ use Rattle.mg_run.specs.Accepted.{most_lines, streams_of, accepted, accepted_aft
 use Rattle.mg_run.specs.Output.{output_of}
 use Rattle.mg_run.specs.Answer.{run_answer}
 use Rattle.mg_run.specs.Devices.{Device, device, IsFront}
-use Rattle.mg_run.specs.Inner.Feed.{rest_of, Holds, StandsFor, Ended}
+use Rattle.mg_run.specs.Inner.Feed.{rest_of, Holds, StandsFor, EndedAfter}
 use Rattle.mg_run.specs.Inner.Flow.{Flows}
 use Rattle.mg_run.specs.Inner.Pouring.{Pours, PouredAll, PouredPart, PouredFront}
 use Rattle.mg_run.specs.declared.line_fault.LineFault.{LineFault}
@@ -129,7 +129,7 @@ none-left (Some all) before now came buf (left, was, split) takes = let taken = 
 pub poured-all : (names : List (List ℕ)) (first before now : SourceTold) (output : Device SinkTold) (failed : Bool) (old new : Feed) (buf : List ℕ)
     → Pours names (device first before) output failed old → ReadTakes before.left now.left End buf
     → now.faults ≡ before.faults → now.ends ≡ one_more before.ends
-    → ((came sent : List ℕ) → StandsFor names came sent old → Ended names came sent new)
+    → ((came sent : List ℕ) → StandsFor names came sent old → EndedAfter names came sent new)
     → PouredAll names (device first now) output failed new
 poured-all names first before now output failed old new buf pours takes steady more ended = record {
   came = pours.came;

@@ -7,7 +7,7 @@ use Rattle.mg_run.specs.Reading.{longest_line, reading}
 use Rattle.mg_run.specs.Accepted.{refusal, said_refusal, streams_of, if_good, refused_at, accepted_after, accepted, first_refused_after, first_refused, ended_by}
 use Rattle.mg_run.specs.Output.{output_of}
 use Rattle.mg_run.specs.Inner.Claimed.{Claimed}
-use Rattle.mg_run.specs.Inner.Feed.{rest_of, AllGood, Took, Holds, Stopped, StandsFor, Broke, HasRead, Ended}
+use Rattle.mg_run.specs.Inner.Feed.{rest_of, AllGood, TookLines, Holds, Stopped, StandsFor, Broke, HasRead, EndedAfter}
 use Rattle.mg_run.specs.declared.line_fault.LineFault.{LineFault}
 use Rattle.mg_run.specs.declared.line_fault.LineFault.TheVariants.{NotYet}
 use Rattle.mg_run.specs.declared.reading.Said.TheVariants.{Other}
@@ -70,8 +70,8 @@ stands-at names came sent feed o is stands = subst (StandsBy names came sent fee
 
 -- what a feed that took these lines does with a line
 abbrev pub Judges : List (List ℕ) → List ℕ → Feed → Feed → Type 0
-Judges names line mid new = (lines : List (List ℕ)) (sent : List ℕ) → Took names lines sent mid
-    → MatchOption (refusal names lines line) (Took names (lines ++ line ∷ []) sent new)
+Judges names line mid new = (lines : List (List ℕ)) (sent : List ℕ) → TookLines names lines sent mid
+    → MatchOption (refusal names lines line) (TookLines names (lines ++ line ∷ []) sent new)
     (λ fault. (new.refused ≡ Some fault) × (new.lines ≡ mid.lines) × (new.text.items ≡ mid.text.items))
 
 -- the two feeds differ in their rest alone
@@ -88,7 +88,7 @@ claimed-same ss sent old mid same claimed = record {
   means = ap (λ t. sent ++ t) same.text ∙ claimed.means;
 }
 
-pub took-but_rest : (names lines : List (List ℕ)) (sent : List ℕ) (old mid : Feed) → SameButRest old mid → Took names lines sent old → Took names lines sent mid
+pub took-but_rest : (names lines : List (List ℕ)) (sent : List ℕ) (old mid : Feed) → SameButRest old mid → TookLines names lines sent old → TookLines names lines sent mid
 took-but_rest names lines sent old mid same took = record {
   named = same.named ∙ took.named;
   refused = same.refused ∙ took.refused;
@@ -99,7 +99,7 @@ took-but_rest names lines sent old mid same took = record {
 
 -- a line that was refused after the whole lines of what came
 pub stopped-line : (names : List (List ℕ)) (came p sent : List ℕ) (old new : Feed) (fault : LineFault)
-    → NoFeed p → Took names (whole_lines came) sent old → refusal names (whole_lines came) (rest_of came ++ p) ≡ Some fault
+    → NoFeed p → TookLines names (whole_lines came) sent old → refusal names (whole_lines came) (rest_of came ++ p) ≡ Some fault
     → new.lines ≡ old.lines → new.text.items ≡ old.text.items
     → Stopped names (came ++ (p ++ 10 ∷ [])) sent fault new
 stopped-line names came p sent old new fault none took bad number text =
@@ -115,9 +115,9 @@ stopped-line names came p sent old new fault none took bad number text =
     }
 
 stands-judged : (names : List (List ℕ)) (came p sent : List ℕ) (mid new : Feed) (o : Option LineFault)
-    → NoFeed p → Took names (whole_lines came) sent mid → new.rest.items ≡ []
+    → NoFeed p → TookLines names (whole_lines came) sent mid → new.rest.items ≡ []
     → refusal names (whole_lines came) (rest_of came ++ p) ≡ o
-    → MatchOption o (Took names (whole_lines came ++ (rest_of came ++ p) ∷ []) sent new)
+    → MatchOption o (TookLines names (whole_lines came ++ (rest_of came ++ p) ∷ []) sent new)
     (λ fault. (new.refused ≡ Some fault) × (new.lines ≡ mid.lines) × (new.text.items ≡ mid.text.items))
     → StandsFor names (came ++ (p ++ 10 ∷ [])) sent new
 stands-judged names came p sent mid new None none took empty is judged =
@@ -133,10 +133,10 @@ pub stands-line_feed : (names : List (List ℕ)) (came p sent line : List ℕ) (
     → NoFeed p → Holds names came sent old → SameButRest old mid → line ≡ old.rest.items ++ p → new.rest.items ≡ []
     → Judges names line mid new → StandsFor names (came ++ (p ++ 10 ∷ [])) sent new
 stands-line_feed names came p sent line old mid new none holds same is empty judges =
-    let took : Took names (whole_lines came) sent mid = took-but_rest names (whole_lines came) sent old mid same holds.took in
+    let took : TookLines names (whole_lines came) sent mid = took-but_rest names (whole_lines came) sent old mid same holds.took in
     let line_is : line ≡ rest_of came ++ p = is ∙ ap (λ r. r ++ p) holds.rest in
     stands-judged names came p sent mid new (refusal names (whole_lines came) (rest_of came ++ p)) none took empty refl
-    (subst (λ (l : List ℕ). MatchOption (refusal names (whole_lines came) l) (Took names (whole_lines came ++ l ∷ []) sent new)
+    (subst (λ (l : List ℕ). MatchOption (refusal names (whole_lines came) l) (TookLines names (whole_lines came ++ l ∷ []) sent new)
     (λ fault. (new.refused ≡ Some fault) × (new.lines ≡ mid.lines) × (new.text.items ≡ mid.text.items))) line_is (judges (whole_lines came) sent took))
 
 -- Bytes without a line feed --
@@ -199,7 +199,7 @@ not_empty (x ∷ l) some = omega arith
 
 -- what was read, by the reason that the feed keeps
 abbrev pub ReadBy : List (List ℕ) → List ℕ → List ℕ → Feed → Option LineFault → Type 0
-ReadBy names came sent feed o = MatchOption o (Took names (all_lines came) sent feed) (λ fault. Broke names came sent fault feed)
+ReadBy names came sent feed o = MatchOption o (TookLines names (all_lines came) sent feed) (λ fault. Broke names came sent fault feed)
 
 read-from : (names : List (List ℕ)) (came sent : List ℕ) (feed : Feed) (o : Option LineFault) → feed.refused ≡ o → ReadBy names came sent feed o → HasRead names came sent feed
 read-from names came sent feed o is read = subst (ReadBy names came sent feed) (sym is) read
@@ -224,9 +224,9 @@ read-whole names came sent feed holds empty =
     read-from names came sent feed None holds.took.refused (rw (all_lines-whole came (sym holds.rest ∙ empty)) holds.took)
 
 read-judged : (names : List (List ℕ)) (came sent : List ℕ) (mid new : Feed) (o : Option LineFault)
-    → Took names (whole_lines came) sent mid → all_lines came ≡ whole_lines came ++ rest_of came ∷ []
+    → TookLines names (whole_lines came) sent mid → all_lines came ≡ whole_lines came ++ rest_of came ∷ []
     → refusal names (whole_lines came) (rest_of came) ≡ o
-    → MatchOption o (Took names (whole_lines came ++ rest_of came ∷ []) sent new)
+    → MatchOption o (TookLines names (whole_lines came ++ rest_of came ∷ []) sent new)
     (λ fault. (new.refused ≡ Some fault) × (new.lines ≡ mid.lines) × (new.text.items ≡ mid.text.items))
     → HasRead names came sent new
 read-judged names came sent mid new None took lines is judged = read-from names came sent new None judged.refused (rw lines judged)
@@ -240,14 +240,14 @@ read-judged names came sent mid new (Some fault) took lines is judged = read-fro
 pub read-last : (names : List (List ℕ)) (came sent line : List ℕ) (old mid new : Feed)
     → Holds names came sent old → SameButRest old mid → line ≡ old.rest.items → (old.rest.items ≡ [] → ⊥) → Judges names line mid new → HasRead names came sent new
 read-last names came sent line old mid new holds same is some judges =
-    let took : Took names (whole_lines came) sent mid = took-but_rest names (whole_lines came) sent old mid same holds.took in
+    let took : TookLines names (whole_lines came) sent mid = took-but_rest names (whole_lines came) sent old mid same holds.took in
     let line_is : line ≡ rest_of came = is ∙ holds.rest in
     read-judged names came sent mid new (refusal names (whole_lines came) (rest_of came)) took (all_lines-last came (not_empty (rest_of came) (λ e. some (holds.rest ∙ e)))) refl
-    (subst (λ (l : List ℕ). MatchOption (refusal names (whole_lines came) l) (Took names (whole_lines came ++ l ∷ []) sent new)
+    (subst (λ (l : List ℕ). MatchOption (refusal names (whole_lines came) l) (TookLines names (whole_lines came ++ l ∷ []) sent new)
     (λ fault. (new.refused ≡ Some fault) × (new.lines ≡ mid.lines) × (new.text.items ≡ mid.text.items))) line_is (judges (whole_lines came) sent took))
 
 -- a line was refused: the streams stay as they are
-ended-by : (names : List (List ℕ)) (o : Option LineFault) (came sent : List ℕ) (feed : Feed) → feed.refused ≡ o → (o ≡ None → ⊥) → HasRead names came sent feed → Ended names came sent feed
+ended-by : (names : List (List ℕ)) (o : Option LineFault) (came sent : List ℕ) (feed : Feed) → feed.refused ≡ o → (o ≡ None → ⊥) → HasRead names came sent feed → EndedAfter names came sent feed
 ended-by names None came sent feed is some read = absurd (some refl)
 ended-by names (Some fault) came sent feed is some read =
     let broke : Broke names came sent fault feed = read-at names came sent feed (Some fault) is read in
@@ -256,15 +256,15 @@ ended-by names (Some fault) came sent feed is some read =
       first = broke.first ∙ ap (option_map (λ f. record { number = feed.lines + 1; fault = f })) (sym is);
     }
 
-pub ended-refused : (names : List (List ℕ)) (came sent : List ℕ) (feed : Feed) → (feed.refused ≡ None → ⊥) → HasRead names came sent feed → Ended names came sent feed
+pub ended-refused : (names : List (List ℕ)) (came sent : List ℕ) (feed : Feed) → (feed.refused ≡ None → ⊥) → HasRead names came sent feed → EndedAfter names came sent feed
 ended-refused names came sent feed some read = ended-by names feed.refused came sent feed refl some read
 
 -- no line was refused: the streams close
 pub ended-closed : (names : List (List ℕ)) (came sent : List ℕ) (mid new : Feed) → mid.refused ≡ None → HasRead names came sent mid → new.refused ≡ mid.refused
     → ((ss : List (StreamPrefix Plain)) (sent : List ℕ) → Claimed ss sent mid.merge.inbox mid.text.items → Claimed (map closed ss) sent new.merge.inbox new.text.items)
-    → Ended names came sent new
+    → EndedAfter names came sent new
 ended-closed names came sent mid new none read same closes =
-    let took : Took names (all_lines came) sent mid = read-at names came sent mid None none read in
+    let took : TookLines names (all_lines came) sent mid = read-at names came sent mid None none read in
     let first : first_refused names (all_lines came) ≡ None = first-all names (all_lines came) took.good in
     record {
       text = (closes _ sent took.claimed).means

@@ -7,7 +7,7 @@ use Rattle.mg_value.specs.Prefix.{StreamPrefix, empty_prefix}
 use Rattle.mg_run.specs.Reading.{reading}
 use Rattle.mg_run.specs.Accepted.{with_said, streams_of, said_refusal, refusal, most_lines}
 use Rattle.mg_run.specs.Inner.Claimed.{Claimed}
-use Rattle.mg_run.specs.Inner.Feed.{AllGood, Took}
+use Rattle.mg_run.specs.Inner.Feed.{AllGood, TookLines}
 use Rattle.mg_run.specs.declared.line_fault.LineFault.{LineFault}
 use Rattle.mg_run.specs.declared.reading.Said.{Said}
 use Rattle.mg_run.specs.declared.feed.Feed.{Feed}
@@ -30,11 +30,11 @@ length-push : (lines : List (List ℕ)) (line : List ℕ) → length (lines ++ l
 length-push lines line = length-append lines (line ∷ [])
 
 pub took_more : (names lines : List (List ℕ)) (line sent : List ℕ) (said : Said) (feed next : Feed) (F : LineFault → Type 0)
-    → Took names lines sent feed → feed.lines < most_lines → said ≡ reading names line
+    → TookLines names lines sent feed → feed.lines < most_lines → said ≡ reading names line
     → said_refusal (streams_of names lines) said ≡ None
     → next.names ≡ names → next.refused ≡ None → next.lines ≡ feed.lines + 1
     → Claimed (with_said (streams_of names lines) said) sent next.merge.inbox next.text.items
-    → MatchOption (refusal names lines line) (Took names (lines ++ line ∷ []) sent next) F
+    → MatchOption (refusal names lines line) (TookLines names (lines ++ line ∷ []) sent next) F
 took_more names lines line sent said feed next F took few is good named none number claimed =
     let few' : length lines < most_lines = omega (arith, took.number) in
     let all : refusal names lines line ≡ None = refusal-few names lines line said few' is ∙ good in

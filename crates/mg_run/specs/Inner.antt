@@ -6,4 +6,4 @@ pub mod LineFeed
 pub mod Feed
 pub mod Flow
 pub mod Pouring
-pub mod Ended
+pub mod Verdict

@@ -39,7 +39,7 @@ impl Feed {
     ghost use Rattle.mg_run.specs.Inner.Said.{IsSaidOf};
     ghost use Rattle.mg_run.specs.Inner.Claimed.{Claimed};
     ghost use Rattle.mg_run.specs.Accepted.{refusal, said_refusal, with_said};
-    ghost use Rattle.mg_run.specs.Inner.Feed.{Took, Holds, StandsFor, HasRead, Ended, weight};
+    ghost use Rattle.mg_run.specs.Inner.Feed.{TookLines, Holds, StandsFor, HasRead, EndedAfter, weight};
 
     /// A feed for the inputs with these names, to which nothing came yet.
     pub fn new(alloc: Global, names: List<MgText>) -> Result<Feed, AllocError>
@@ -83,7 +83,7 @@ impl Feed {
 
     /// The input has ended: bytes after the last line feed are a line, and where no line was refused, the inputs close.
     pub fn finish(&mut self) -> Result<(), AllocError>
-        ensures ended { OnOk result ((names : List (List ℕ)) (came sent : List ℕ) → StandsFor names came sent self.old → Ended names came sent self.new) }
+        ensures ended { OnOk result ((names : List (List ℕ)) (came sent : List ℕ) → StandsFor names came sent self.old → EndedAfter names came sent self.new) }
     {
         self.last_line()?;
         if self.refused.is_none() {
@@ -146,9 +146,9 @@ impl Feed {
     // Takes a line without its line feed, or refuses it.
     fn line(&mut self, line: &[u8]) -> Result<(), AllocError>
         ensures rest { OnOk result (self.new.rest.items ≡ self.old.rest.items) }
-        ensures taken { OnOk result ((names lines : List (List ℕ)) (sent : List ℕ) → Took names lines sent self.old
+        ensures taken { OnOk result ((names lines : List (List ℕ)) (sent : List ℕ) → TookLines names lines sent self.old
             → MatchOption (refusal names lines line.now)
-            (Took names (lines ++ line.now ∷ []) sent self.new)
+            (TookLines names (lines ++ line.now ∷ []) sent self.new)
             (λ fault. (self.new.refused ≡ Some fault) × (self.new.lines ≡ self.old.lines) × (self.new.text.items ≡ self.old.text.items))) }
         ensures counted { OnOk result (self.new.refused ≡ None → self.old.refused ≡ None → self.new.lines ≡ self.old.lines + 1) }
     {

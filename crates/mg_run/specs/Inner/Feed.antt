@@ -24,7 +24,7 @@ AllGood names before [] = Unit {0}
 AllGood names before (line ∷ lines) = (refusal names before line ≡ None) × AllGood names (before ++ line ∷ []) lines
 
 -- The feed took these lines, all of them good. Of the text that they make so much was handed on, and it has the rest.
-pub record Took (names lines : List (List ℕ)) (sent : List ℕ) (feed : Feed) : Type 0 where
+pub record TookLines (names lines : List (List ℕ)) (sent : List ℕ) (feed : Feed) : Type 0 where
   pub named : feed.names ≡ names
   pub refused : feed.refused ≡ None
   pub number : feed.lines ≡ length lines
@@ -33,7 +33,7 @@ pub record Took (names lines : List (List ℕ)) (sent : List ℕ) (feed : Feed) 
 
 -- The feed took the whole lines of the bytes that came, and keeps the bytes after them.
 pub record Holds (names : List (List ℕ)) (came sent : List ℕ) (feed : Feed) : Type 0 where
-  pub took : Took names (whole_lines came) sent feed
+  pub took : TookLines names (whole_lines came) sent feed
   pub rest : feed.rest.items ≡ rest_of came
 
 -- The feed refused a line. Whatever comes after these bytes, these lines are the accepted ones, and that line is the
@@ -55,10 +55,10 @@ pub record Broke (names : List (List ℕ)) (came sent : List ℕ) (fault : LineF
   pub first : first_refused names (all_lines came) ≡ Some (record { number = feed.lines + 1; fault = fault })
 
 abbrev pub HasRead : List (List ℕ) → List ℕ → List ℕ → Feed → Type 0
-HasRead names came sent feed = MatchOption feed.refused (Took names (all_lines came) sent feed) (λ fault. Broke names came sent fault feed)
+HasRead names came sent feed = MatchOption feed.refused (TookLines names (all_lines came) sent feed) (λ fault. Broke names came sent fault feed)
 
 -- The input ended after these bytes: the feed has their text, and the first line that isn't good.
-pub record Ended (names : List (List ℕ)) (came sent : List ℕ) (feed : Feed) : Type 0 where
+pub record EndedAfter (names : List (List ℕ)) (came sent : List ℕ) (feed : Feed) : Type 0 where
   pub text : sent ++ feed.text.items ≡ output_of (ended_streams names (all_lines came))
   pub first : first_refused names (all_lines came) ≡ option_map (λ fault. record { number = feed.lines + 1; fault = fault }) feed.refused
 

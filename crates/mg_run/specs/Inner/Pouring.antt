@@ -4,7 +4,7 @@ use Rattle.mg_edge.specs.Edge.{SourceTold, SinkTold}
 use Rattle.mg_edge.specs.Runs.{Gave}
 use Rattle.mg_run.specs.Answer.{run_answer}
 use Rattle.mg_run.specs.Devices.{Device, ReadFailed, HasEnded, IsFront}
-use Rattle.mg_run.specs.Inner.Feed.{Holds, StandsFor, Ended}
+use Rattle.mg_run.specs.Inner.Feed.{Holds, StandsFor, EndedAfter}
 use Rattle.mg_run.specs.Inner.Flow.{Flows}
 use Rattle.mg_run.specs.declared.feed.Feed.{Feed}
 use Rattle.mg_run.specs.declared.pour.Poured.{Poured}
@@ -29,7 +29,7 @@ pub record PouredAll (names : List (List ℕ)) (input : Device SourceTold) (outp
   pub steady : input.now.faults ≡ input.before.faults
   pub end : HasEnded input
   pub flows : Flows failed output sent
-  pub ended : Ended names came sent feed
+  pub ended : EndedAfter names came sent feed
 
 -- A read failed after these bytes.
 pub record PouredPart (names : List (List ℕ)) (input : Device SourceTold) (output : Device SinkTold) (failed : Bool) (feed : Feed) : Type 0 where
