@@ -1,5 +1,5 @@
 -- The definitions at a few small inputs.
-use Rattle.std.proofs.Common.{◌≡◌, ℕ, List, [], ◌∷◌, Some, None, refl, pos}
+use Rattle.std.proofs.Common.{◌≡◌, ℕ, List, [], ◌∷◌, Some, None, refl, pos, negsuc}
 use Rattle.mg_value.specs.Payload.{Plain, int}
 use Rattle.mg_value.specs.declared.policy.Policy.TheVariants.{Default, Mux}
 use Rattle.mg_value.specs.Prefix.{Stamped, StreamPrefix}
@@ -33,9 +33,20 @@ default_reach = refl
 mux_left : after_sets Mux 1 three ≡ pre (pk 10 51 ∷ []) 11 ∷ pre (pk 10 60 ∷ []) 20 ∷ pre (pk 10 1 ∷ pk 20 1 ∷ pk 30 0 ∷ []) 31 ∷ []
 mux_left = refl
 
--- its own number selects no port
+-- its own number selects no port, nor does a number below zero
 own_number : settled_sets Mux (pre [] 2 ∷ pre (pk 5 1 ∷ []) 6 ∷ []) ≡ record { at = 5; set = None ∷ Some (pk 5 1) ∷ [] } ∷ []
 own_number = refl
 
-loop_back : loopback (pre (pk 10 1 ∷ pk 20 2 ∷ pk 30 3 ∷ []) 31) (pre (pk 10 7 ∷ []) 20) ≡ pre (pk 20 7 ∷ []) 30
+abbrev below : Stamped Plain
+below = record { at = 5; value = int (negsuc 0) }
+
+below_zero : settled_sets Mux (pre [] 2 ∷ pre (below ∷ []) 6 ∷ []) ≡ record { at = 5; set = None ∷ Some below ∷ [] } ∷ []
+below_zero = refl
+
+-- a packet at the bound of the port that it selects waits, and those behind it
+at_the_bound : settled_sets Mux (pre [] 5 ∷ pre [] 9 ∷ pre (pk 5 0 ∷ pk 6 1 ∷ []) 7 ∷ []) ≡ []
+at_the_bound = refl
+
+-- LOOP's packet has to stand exactly at the time of the one before
+loop_back : loopback (pre (pk 10 1 ∷ pk 20 2 ∷ pk 30 3 ∷ pk 40 4 ∷ []) 41) (pre (pk 10 7 ∷ pk 25 8 ∷ []) 30) ≡ pre (pk 20 7 ∷ []) 40
 loop_back = refl
