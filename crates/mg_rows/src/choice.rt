@@ -1,5 +1,7 @@
 //! Which of a case's alternatives a call takes.
 
+ghost use Rattle.std.specs.Prelude.{◌≡◌, ◌+◌, ◌*◌, ◌<◌, max};
+
 use crate::member::{list, numbers, truth};
 use anyhow::{Result, bail, ensure};
 use serde_json::Value;
@@ -44,7 +46,10 @@ pub fn choice_of(alloc: Global, case: &Value, number: usize) -> Result<Option<Ch
 
 // The place that a number stands for in a list, as the digit of a numeral whose base is the list's length. The
 // number is left with the digits above. An empty list counts as one alternative.
-fn place(left: &mut usize, len: usize) -> usize {
+fn place(left: &mut usize, len: usize) -> usize
+    ensures below { result < max len 1 }
+    ensures digit { left.new * max len 1 + result ≡ left.old }
+{
     let base = len.max(1);
     let place = *left % base;
     *left /= base;

@@ -1,5 +1,8 @@
 //! What is wanted of a call, and where what came of it differs.
 
+ghost use Rattle.std.specs.Prelude.{◌≡◌, ◌≢◌, ◌↔◌, IsTrue, IfOk};
+ghost use Rattle.mg_rows.specs.Wanted.{IsEnough};
+
 use crate::call::{COUNTS, Outcome};
 use crate::member::{knows, number, text, truth};
 use crate::text::{Texts, bytes_of};
@@ -71,7 +74,10 @@ fn are_as_said(case: &Value, found: [bool; 5]) -> Result<bool> {
     Ok(true)
 }
 
-fn output_differs(told: &mut String, wanted: &Wanted, came: &Outcome) -> Result<bool, AllocError> {
+fn output_differs(told: &mut String, wanted: &Wanted, came: &Outcome) -> Result<bool, AllocError>
+    ensures { IfOk result (λ differs. IsTrue differs
+        ↔ ¬ (IsEnough wanted.now.output.items wanted.now.output_at_least came.now.output.items)) }
+{
     let differs = !is_enough(&wanted.output, wanted.output_at_least, &came.output);
     if differs {
         tell(told, "output", &wanted.output, &came.output)?;
@@ -79,7 +85,9 @@ fn output_differs(told: &mut String, wanted: &Wanted, came: &Outcome) -> Result<
     Ok(differs)
 }
 
-fn notes_differ(told: &mut String, wanted: &Wanted, came: &Outcome) -> Result<bool, AllocError> {
+fn notes_differ(told: &mut String, wanted: &Wanted, came: &Outcome) -> Result<bool, AllocError>
+    ensures { IfOk result (λ differs. IsTrue differs ↔ (came.now.notes.items ≢ wanted.now.notes.items)) }
+{
     let differs = wanted.notes != came.notes;
     if differs {
         tell(told, "notes", &wanted.notes, &came.notes)?;
@@ -87,7 +95,9 @@ fn notes_differ(told: &mut String, wanted: &Wanted, came: &Outcome) -> Result<bo
     Ok(differs)
 }
 
-fn status_differs(told: &mut String, wanted: &Wanted, came: &Outcome) -> Result<bool, AllocError> {
+fn status_differs(told: &mut String, wanted: &Wanted, came: &Outcome) -> Result<bool, AllocError>
+    ensures { IfOk result (λ differs. IsTrue differs ↔ (came.now.status ≢ wanted.now.status)) }
+{
     let (wanted, came) = (wanted.status, u64::from(came.status));
     if wanted != came {
         write!(told, "; status: wanted {wanted}, came {came}")?;
@@ -125,10 +135,15 @@ fn failed_name_differs(told: &mut String, case: &Value, came: &Outcome) -> Resul
 }
 
 // Whether what came is the text, or where that is enough a front of it that is long enough.
-fn is_enough(text: &[u8], at_least: Option<u64>, came: &[u8]) -> bool {
+fn is_enough(text: &[u8], at_least: Option<u64>, came: &[u8]) -> bool
+    ensures { IsTrue result ↔ IsEnough text.now at_least came.now }
+{
     match at_least {
         None => came == text,
-        Some(least) => came.len() as u64 >= least && text.starts_with(came),
+        Some(least) => {
+            let len = came.len();
+            len as u64 >= least && len <= text.len() && came == &text[..len]
+        }
     }
 }
 
