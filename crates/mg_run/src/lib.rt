@@ -15,8 +15,6 @@ mod put;
 mod reading;
 mod run;
 mod status;
-#[cfg(test)]
-mod tests;
 mod words;
 mod write_line;
 

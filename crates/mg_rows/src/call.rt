@@ -1,0 +1,140 @@
+//! A call of the program over devices in memory.
+
+use crate::choice::Choice;
+use crate::member::{list, number, numbers};
+use crate::text::{Texts, bytes_of};
+use anyhow::{Result, bail};
+use mg_edge::{MemorySink, MemorySource, MemoryStore};
+use mg_run::run_words;
+use mg_value::MgText;
+use serde_json::Value;
+use std::alloc::{AllocError, Global};
+
+// The room of a sink where a case gives none: more than most texts take.
+const ROOM: u64 = 1 << 20;
+
+/// The names of what the devices count.
+pub const COUNTS: [&str; 3] = ["load_faults", "reads", "ends"];
+
+/// What came of a call.
+#[derive(Drop)]
+pub struct Outcome {
+    pub output: Vec<u8>,
+    pub notes: Vec<u8>,
+    pub status: u8,
+    /// What the devices counted, in the order of `COUNTS`.
+    pub counts: [u64; 3],
+    /// The name of the load that failed last.
+    pub failed_name: Option<String>,
+}
+
+#[derive(Drop)]
+struct Devices {
+    store: MemoryStore,
+    input: MemorySource,
+    output: MemorySink,
+    notes: MemorySink,
+}
+
+/// Makes one of a case's calls.
+pub fn make_call(alloc: Global, texts: &Texts, case: &Value, choice: Choice) -> Result<Outcome> {
+    let words = words_of(alloc, case, choice)?;
+    let mut devices = Devices {
+        store: store_of(alloc, texts, case, choice)?,
+        input: input_of(alloc, texts, case, choice)?,
+        output: sink_of(alloc, case, "room", "failing_writes")?,
+        notes: sink_of(alloc, case, "notes_room", "failing_notes")?,
+    };
+    let status = devices.call(alloc, &words);
+    Ok(devices.outcome(alloc, status)?)
+}
+
+impl Devices {
+    // Calls the program. The status is the one to exit with.
+    fn call(&mut self, alloc: Global, words: &[MgText]) -> u8 {
+        let status = run_words(
+            alloc,
+            words,
+            &mut self.store,
+            &mut self.input,
+            &mut self.output,
+            &mut self.notes,
+        );
+        status as u8
+    }
+
+    fn outcome(&self, alloc: Global, status: u8) -> Result<Outcome, AllocError> {
+        let counts = [self.store.faults(), self.input.reads(), self.input.ends()];
+        let failed_name = match self.store.failed_name() {
+            Some(name) => Some(String::from_str(alloc, name)?),
+            None => None,
+        };
+        Ok(Outcome {
+            output: self.output.taken().to_vec(alloc)?,
+            notes: self.notes.taken().to_vec(alloc)?,
+            status,
+            counts,
+            failed_name,
+        })
+    }
+}
+
+// The words `run` and `g.pbtxt` where a case has none.
+fn words_of(alloc: Global, case: &Value, choice: Choice) -> Result<Vec<MgText>> {
+    let mut words = Vec::new(alloc);
+    match list(case, "words")?.get(choice.words) {
+        None => {
+            words.push(MgText::new(alloc, "run")?)?;
+            words.push(MgText::new(alloc, "g.pbtxt")?)?;
+        }
+        Some(Value::Array(said)) => {
+            for word in said {
+                let Some(word) = word.as_str() else {
+                    bail!("no word: {word}");
+                };
+                words.push(MgText::new(alloc, word)?)?;
+            }
+        }
+        Some(said) => bail!("no list of words: {said}"),
+    }
+    Ok(words)
+}
+
+fn store_of(alloc: Global, texts: &Texts, case: &Value, choice: Choice) -> Result<MemoryStore> {
+    let mut store = MemoryStore::new(alloc);
+    if let Some(load) = number(case, "failing_load")? {
+        store.fail_at(load);
+    }
+    if let Some(graph) = list(case, "graphs")?.get(choice.graph) {
+        store.put("g.pbtxt", &bytes_of(alloc, texts, Some(graph))?)?;
+    }
+    match case.get("files") {
+        None => {}
+        Some(Value::Object(files)) => {
+            for (name, file) in files {
+                store.put(name, &bytes_of(alloc, texts, Some(file))?)?;
+            }
+        }
+        Some(files) => bail!("files: no object: {files}"),
+    }
+    Ok(store)
+}
+
+fn input_of(alloc: Global, texts: &Texts, case: &Value, choice: Choice) -> Result<MemorySource> {
+    let mut input = bytes_of(alloc, texts, list(case, "inputs")?.get(choice.input))?;
+    if !choice.last_line_feed && input.last() == Some(&b'\n') {
+        let _ = input.pop();
+    }
+    let mut failing = numbers(alloc, case, "failing_reads")?;
+    if let Some(read) = choice.failing_read {
+        failing.push(read)?;
+    }
+    let piece = choice.piece.max(1) as usize;
+    Ok(MemorySource::new(alloc, &input, piece, &failing)?)
+}
+
+fn sink_of(alloc: Global, case: &Value, room: &str, failing: &str) -> Result<MemorySink> {
+    let room = number(case, room)?.unwrap_or(ROOM) as usize;
+    let failing = numbers(alloc, case, failing)?;
+    Ok(MemorySink::new(alloc, room, &failing)?)
+}

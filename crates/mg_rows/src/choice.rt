@@ -1,0 +1,109 @@
+//! Which of a case's alternatives a call takes.
+
+ghost use Rattle.std.specs.Prelude.{◌≡◌, ◌+◌, ◌*◌, ◌<◌, max};
+
+use crate::member::{list, numbers, truth};
+use anyhow::{Result, bail, ensure};
+use serde_json::Value;
+use std::alloc::Global;
+use std::fmt;
+use std::fmt::{Display, Formatter, Write};
+
+// The lengths of pieces that are tried where a case names none.
+const PIECES: [u64; 4] = [1, 7, 64, 4096];
+
+/// What a call takes of each list of alternatives: a place in the list, or the alternative itself.
+#[derive(Clone, Copy)]
+pub struct Choice {
+    pub words: usize,
+    pub graph: usize,
+    pub input: usize,
+    /// Whether a line feed at the input's end stays there.
+    pub last_line_feed: bool,
+    /// The most bytes that a read gives.
+    pub piece: u64,
+    /// A read that fails, beside those that fail in each call.
+    pub failing_read: Option<u64>,
+}
+
+/// What the call of a number takes, counted from 0, and nothing past the last call. There are as many calls as
+/// combinations of alternatives.
+pub fn choice_of(alloc: Global, case: &Value, number: usize) -> Result<Option<Choice>> {
+    let mut left = number;
+    let words = place(&mut left, list(case, "words")?.len());
+    let graph = place(&mut left, list(case, "graphs")?.len());
+    let input = place(&mut left, list(case, "inputs")?.len());
+    let choice = Choice {
+        words,
+        graph,
+        input,
+        last_line_feed: last_line_feed(case, &mut left)?,
+        piece: piece(alloc, case, &mut left)?,
+        failing_read: failing_read(alloc, case, &mut left)?,
+    };
+    Ok((left == 0).then_some(choice))
+}
+
+// The place that a number stands for in a list, as the digit of a numeral whose base is the list's length. The
+// number is left with the digits above. An empty list counts as one alternative.
+fn place(left: &mut usize, len: usize) -> usize
+    ensures below { result < max len 1 }
+    ensures digit { left.new * max len 1 + result ≡ left.old }
+{
+    let base = len.max(1);
+    let place = *left % base;
+    *left /= base;
+    place
+}
+
+// Where a case doesn't say it, a call with the last line feed and one without it are made.
+fn last_line_feed(case: &Value, left: &mut usize) -> Result<bool> {
+    Ok(match truth(case, "last_line_feed")? {
+        Some(said) => said,
+        None => place(left, 2) == 0,
+    })
+}
+
+fn piece(alloc: Global, case: &Value, left: &mut usize) -> Result<u64> {
+    let said = numbers(alloc, case, "pieces")?;
+    let pieces = if said.is_empty() {
+        &PIECES
+    } else {
+        said.as_slice()
+    };
+    match pieces.get(place(left, pieces.len())) {
+        Some(piece) if *piece > 0 => Ok(*piece),
+        _ => bail!("no read gives pieces of 0 bytes"),
+    }
+}
+
+// A number from the first to the last of those that are said.
+fn failing_read(alloc: Global, case: &Value, left: &mut usize) -> Result<Option<u64>> {
+    let said = numbers(alloc, case, "each_failing_read")?;
+    let (first, last) = match said.as_slice() {
+        [] => return Ok(None),
+        [first, last] => (*first, *last),
+        _ => bail!("each_failing_read: not a first and a last number"),
+    };
+    ensure!(
+        first <= last && last < 1 << 32,
+        "each_failing_read: no range"
+    );
+    Ok(Some(first + place(left, (last - first + 1) as usize) as u64))
+}
+
+impl Display for Choice {
+    fn fmt<W: Write>(&self, f: &mut Formatter<W>) -> fmt::Result {
+        let Choice {
+            words,
+            graph,
+            input,
+            piece,
+            ..
+        } = self;
+        write!(
+            f,
+            "words {words}, graph {graph}, input {input}, pieces of {piece} bytes"
+        )
+    }
+}

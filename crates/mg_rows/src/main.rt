@@ -1,0 +1,37 @@
+//! The worked rows of the program: reads a table from standard input, a JSON line each, makes the calls of its cases
+//! over devices in memory, and compares what came with what each case wants. Writes a line for each case that differs,
+//! and last how many passed and failed. `docs/ROWS.md` says what the lines of a table are.
+#![tactic(auto)]
+
+mod call;
+mod case;
+mod choice;
+mod member;
+mod report;
+mod text;
+
+use crate::case::{Verdict, judge};
+use std::collections::BTreeMap;
+use std::io;
+
+fn main(rt: HostRuntime) -> io::Result<()> {
+    let alloc = rt.alloc();
+    let mut texts = BTreeMap::new(alloc);
+    let (mut number, mut passed, mut failed) = (0u64, 0u64, 0u64);
+    for line in rt.lines(alloc) {
+        number = number.saturating_add(1);
+        match judge(alloc, &mut texts, line?.as_str()) {
+            Ok(Verdict::Said) => {}
+            Ok(Verdict::Passed) => passed = passed.saturating_add(1),
+            Ok(Verdict::Failed(how)) => {
+                failed = failed.saturating_add(1);
+                println!(rt; "line {number}: {how}")?;
+            }
+            Err(why) => {
+                failed = failed.saturating_add(1);
+                println!(rt; "line {number} is none of a table: {why}")?;
+            }
+        }
+    }
+    println!(rt; "{passed} passed, {failed} failed")
+}

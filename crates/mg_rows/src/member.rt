@@ -1,0 +1,71 @@
+//! The members of a JSON object, each of its own type. One that has another type is an error, and never passed over.
+
+use anyhow::{Result, bail, ensure};
+use serde_json::Value;
+use std::alloc::Global;
+
+/// Refuses what is no object, or has a key that isn't among the names.
+pub fn knows(object: &Value, names: &[&str]) -> Result<()> {
+    let Value::Object(members) = object else {
+        bail!("no object: {object}");
+    };
+    for key in members.keys() {
+        let is_known = names.iter().any(|name| *name == key.as_str());
+        ensure!(is_known, "no key is called {key:?}");
+    }
+    Ok(())
+}
+
+/// A number, where there is one.
+pub fn number(object: &Value, name: &str) -> Result<Option<u64>> {
+    let Some(value) = object.get(name) else {
+        return Ok(None);
+    };
+    match value.as_u64() {
+        Some(number) => Ok(Some(number)),
+        None => bail!("{name}: no number: {value}"),
+    }
+}
+
+/// A text, where there is one.
+pub fn text<'a>(object: &'a Value, name: &str) -> Result<Option<&'a str>> {
+    let Some(value) = object.get(name) else {
+        return Ok(None);
+    };
+    match value.as_str() {
+        Some(text) => Ok(Some(text)),
+        None => bail!("{name}: no text: {value}"),
+    }
+}
+
+/// A list. Where there is none it is empty.
+pub fn list<'a>(object: &'a Value, name: &str) -> Result<&'a [Value]> {
+    match object.get(name) {
+        None => Ok(&[]),
+        Some(Value::Array(items)) => Ok(items),
+        Some(value) => bail!("{name}: no list: {value}"),
+    }
+}
+
+/// A list of numbers. Where there is none it is empty.
+pub fn numbers(alloc: Global, object: &Value, name: &str) -> Result<Vec<u64>> {
+    let mut all = Vec::new(alloc);
+    for item in list(object, name)? {
+        let Some(number) = item.as_u64() else {
+            bail!("{name}: no number: {item}");
+        };
+        all.push(number)?;
+    }
+    Ok(all)
+}
+
+/// A truth value, where there is one.
+pub fn truth(object: &Value, name: &str) -> Result<Option<bool>> {
+    let Some(value) = object.get(name) else {
+        return Ok(None);
+    };
+    match value.as_bool() {
+        Some(truth) => Ok(Some(truth)),
+        None => bail!("{name}: no truth value: {value}"),
+    }
+}

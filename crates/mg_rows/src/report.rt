@@ -1,0 +1,176 @@
+//! What is wanted of a call, and where what came of it differs.
+
+ghost use Rattle.std.specs.Prelude.{◌≡◌, ◌≢◌, ◌↔◌, IsTrue, IfOk};
+ghost use Rattle.mg_rows.specs.Wanted.{IsEnough};
+
+use crate::call::{COUNTS, Outcome};
+use crate::member::{knows, number, text, truth};
+use crate::text::{Texts, bytes_of};
+use anyhow::{Result, bail};
+use serde_json::Value;
+use std::alloc::{AllocError, Global};
+use std::fmt::Write;
+
+/// What a case wants of each of its calls.
+#[derive(Drop)]
+pub struct Wanted {
+    output: Vec<u8>,
+    // Where this is said, a front of the output is enough that has so many bytes.
+    output_at_least: Option<u64>,
+    notes: Vec<u8>,
+    status: u64,
+}
+
+// The parts in which what came of a call may differ.
+const PARTS: [&str; 5] = ["output", "notes", "status", "counts", "failed_name"];
+
+/// Reads what a case wants, but for the counts.
+pub fn wanted_of(alloc: Global, texts: &Texts, case: &Value) -> Result<Wanted> {
+    let Some(status) = number(case, "status")? else {
+        bail!("no status is wanted");
+    };
+    Ok(Wanted {
+        output: bytes_of(alloc, texts, case.get("output"))?,
+        output_at_least: number(case, "output_at_least")?,
+        notes: bytes_of(alloc, texts, case.get("notes"))?,
+        status,
+    })
+}
+
+/// How what came of a call differs from what is wanted, or nothing where it doesn't. Where a case says that some parts
+/// differ, just these have to.
+pub fn difference(
+    alloc: Global,
+    case: &Value,
+    wanted: &Wanted,
+    came: &Outcome,
+) -> Result<Option<String>> {
+    let mut told = String::new(alloc);
+    let found = [
+        output_differs(&mut told, wanted, came)?,
+        notes_differ(&mut told, wanted, came)?,
+        status_differs(&mut told, wanted, came)?,
+        counts_differ(&mut told, case, came)?,
+        failed_name_differs(&mut told, case, came)?,
+    ];
+    if are_as_said(case, found)? {
+        Ok(None)
+    } else {
+        Ok(Some(told))
+    }
+}
+
+// Whether the parts that differ are those that a case says.
+fn are_as_said(case: &Value, found: [bool; 5]) -> Result<bool> {
+    let Some(said) = case.get("differs") else {
+        return Ok(found == [false; 5]);
+    };
+    knows(said, &PARTS)?;
+    for (part, differs) in PARTS.iter().zip(found) {
+        if truth(said, part)?.unwrap_or(false) != differs {
+            return Ok(false);
+        }
+    }
+    Ok(true)
+}
+
+fn output_differs(told: &mut String, wanted: &Wanted, came: &Outcome) -> Result<bool, AllocError>
+    ensures { IfOk result (λ differs. IsTrue differs
+        ↔ ¬ (IsEnough wanted.now.output.items wanted.now.output_at_least came.now.output.items)) }
+{
+    let differs = !is_enough(&wanted.output, wanted.output_at_least, &came.output);
+    if differs {
+        tell(told, "output", &wanted.output, &came.output)?;
+    }
+    Ok(differs)
+}
+
+fn notes_differ(told: &mut String, wanted: &Wanted, came: &Outcome) -> Result<bool, AllocError>
+    ensures { IfOk result (λ differs. IsTrue differs ↔ (came.now.notes.items ≢ wanted.now.notes.items)) }
+{
+    let differs = wanted.notes != came.notes;
+    if differs {
+        tell(told, "notes", &wanted.notes, &came.notes)?;
+    }
+    Ok(differs)
+}
+
+fn status_differs(told: &mut String, wanted: &Wanted, came: &Outcome) -> Result<bool, AllocError>
+    ensures { IfOk result (λ differs. IsTrue differs ↔ (came.now.status ≢ wanted.now.status)) }
+{
+    let (wanted, came) = (wanted.status, u64::from(came.status));
+    if wanted != came {
+        write!(told, "; status: wanted {wanted}, came {came}")?;
+    }
+    Ok(wanted != came)
+}
+
+// Only the counts that a case names are compared.
+fn counts_differ(told: &mut String, case: &Value, came: &Outcome) -> Result<bool> {
+    let Some(said) = case.get("counts") else {
+        return Ok(false);
+    };
+    knows(said, &COUNTS)?;
+    let mut differs = false;
+    for (name, came) in COUNTS.iter().zip(came.counts) {
+        if let Some(wanted) = number(said, name)?
+            && wanted != came
+        {
+            write!(told, "; {name}: wanted {wanted}, came {came}")?;
+            differs = true;
+        }
+    }
+    Ok(differs)
+}
+
+fn failed_name_differs(told: &mut String, case: &Value, came: &Outcome) -> Result<bool> {
+    let Some(wanted) = text(case, "failed_name")? else {
+        return Ok(false);
+    };
+    let came = came.failed_name.as_deref();
+    if came != Some(wanted) {
+        write!(told, "; failed_name: wanted {wanted:?}, came {came:?}")?;
+    }
+    Ok(came != Some(wanted))
+}
+
+// Whether what came is the text, or where that is enough a front of it that is long enough.
+fn is_enough(text: &[u8], at_least: Option<u64>, came: &[u8]) -> bool
+    ensures { IsTrue result ↔ IsEnough text.now at_least came.now }
+{
+    match at_least {
+        None => came == text,
+        Some(least) => {
+            let len = came.len();
+            len as u64 >= least && len <= text.len() && came == &text[..len]
+        }
+    }
+}
+
+// Writes two texts, from some bytes before the place where they part.
+fn tell(told: &mut String, part: &str, wanted: &[u8], came: &[u8]) -> Result<(), AllocError> {
+    let from = common_len(wanted, came).saturating_sub(40);
+    let (wanted_len, came_len) = (wanted.len(), came.len());
+    let (wanted, came) = (shown(wanted, from), shown(came, from));
+    write!(
+        told,
+        "; {part}: wanted {wanted_len} bytes, from byte {from} \"{wanted}\", came {came_len}, \"{came}\""
+    )
+}
+
+// How many bytes two texts begin with in common.
+fn common_len(a: &[u8], b: &[u8]) -> usize {
+    let len = a.len().min(b.len());
+    for i in 0..len {
+        if a[i] != b[i] {
+            return i;
+        }
+    }
+    len
+}
+
+// Bytes from a place on, a few hundred at most.
+fn shown(bytes: &[u8], from: usize) -> std::slice::EscapeAscii<'_> {
+    let rest = bytes.get(from..).unwrap_or(&[]);
+    rest.get(..300).unwrap_or(rest).escape_ascii()
+}
