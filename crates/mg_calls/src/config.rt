@@ -1,10 +1,10 @@
 //! Configurations: the refusals of files, and the spellings of numbers and truth values.
 
-use crate::config_written::assert_written;
-use mg_config::{ConfigFault, GraphConfig, read};
+use crate::config_written::written;
+use crate::table::{Calls, assert_rows};
+use mg_config::{ConfigFault, read};
 use mg_text::parse;
 use std::alloc::{AllocError, Global};
-use std::process::Abort;
 use std::test::Fail;
 
 // One file a row, and after `=` the refusal with its path.
@@ -95,35 +95,38 @@ node { executor: 1 } node: 5=UnknownField node[0].executor
 node { calculator: \"C\" buffer_size_hint: 1 buffer_size_hint: 1 } type: 1=Repeated node[0].buffer_size_hint"
 }
 
-// The spelling of a number, and after `=` the number that is written, if it isn't 0.
+// The spelling of a number, and after `=` what is written of it.
 fn numbers() -> &'static str {
     "0=
-7=7
--7=-7
+7=max_queue_size: 7
+-7=max_queue_size: -7
 -0=
-2147483647=2147483647
--2147483648=-2147483648
-0x10=16
-0XfF=255
--0x1=-1
-0x7FFFFFFF=2147483647
-0X7fffffff=2147483647
--0x80000000=-2147483648
-010=8
--017=-15
+2147483647=max_queue_size: 2147483647
+-2147483648=max_queue_size: -2147483648
+0x10=max_queue_size: 16
+0XfF=max_queue_size: 255
+-0x1=max_queue_size: -1
+0x7FFFFFFF=max_queue_size: 2147483647
+0X7fffffff=max_queue_size: 2147483647
+-0x80000000=max_queue_size: -2147483648
+010=max_queue_size: 8
+-017=max_queue_size: -15
 00=
 -00=
--020000000000=-2147483648
-017777777777=2147483647"
+-020000000000=max_queue_size: -2147483648
+017777777777=max_queue_size: 2147483647"
 }
 
-// The spellings of the truth value of a back edge, which is written, and of one that is none.
+// The spelling of a truth value, and after `=` whether a back edge of this value is written.
 fn truths() -> &'static str {
-    "true True t 1"
-}
-
-fn falsehoods() -> &'static str {
-    "false False f 0"
+    "true=true
+True=true
+t=true
+1=true
+false=false
+False=false
+f=false
+0=false"
 }
 
 fn show_fault(alloc: Global, fault: &ConfigFault) -> Result<String, AllocError> {
@@ -138,85 +141,46 @@ fn show_fault(alloc: Global, fault: &ConfigFault) -> Result<String, AllocError> 
     }
 }
 
-/// The configuration of a text, which has the text form, or its refusal.
-pub fn config_of(alloc: Global, file: &[u8]) -> Result<Result<GraphConfig, ConfigFault>, Fail> {
-    Ok(read(alloc, &parse(alloc, file)?))
-}
+#[derive(Drop)]
+struct Reading;
 
-fn assert_refusal(rt: &impl Abort, alloc: Global, row: &str) -> Result<(), Fail> {
-    let (file, wanted) = row.split_once('=').ok_or("no `=`")?;
-    match config_of(alloc, file.as_bytes())? {
-        Ok(_) => assert!(rt; false, "{row}"),
-        Err(fault) => {
-            let shown = show_fault(alloc, &fault)?;
-            assert!(rt; shown.as_str() == wanted, "{row}: {shown}");
+impl Calls for Reading {
+    fn answer(&mut self, alloc: Global, call: &str) -> Result<String, Fail> {
+        match read(alloc, &parse(alloc, call.as_bytes())?) {
+            Ok(_) => Ok(String::from_str(alloc, "a configuration")?),
+            Err(fault) => Ok(show_fault(alloc, &fault)?),
         }
     }
-    Ok(())
+}
+
+#[derive(Drop)]
+struct NumberField;
+
+impl Calls for NumberField {
+    fn answer(&mut self, alloc: Global, call: &str) -> Result<String, Fail> {
+        let file = format!(in alloc; "max_queue_size: {call}")?;
+        let written = written(alloc, file.as_bytes())?;
+        Ok(String::from_str(alloc, written.as_str().trim_end())?)
+    }
+}
+
+#[derive(Drop)]
+struct BackEdge;
+
+impl Calls for BackEdge {
+    fn answer(&mut self, alloc: Global, call: &str) -> Result<String, Fail> {
+        let file = format!(in alloc;
+            "node {{ calculator: \"C\" input_stream_info {{ tag_index: \":3\" back_edge: {call} }} }}"
+        )?;
+        let is_back = written(alloc, file.as_bytes())?.contains("back_edge: true");
+        Ok(format!(in alloc; "{is_back}")?)
+    }
 }
 
 #[test]
-fn files_that_are_refused(rt: HostRuntime) -> Result<(), Fail> {
-    for row in refusals().split('\n') {
-        assert_refusal(&rt, rt.alloc(), row)?;
-    }
-    Ok(())
-}
-
-// The field of a number, or nothing where there is none.
-fn number_field(alloc: Global, number: &str) -> Result<String, AllocError> {
-    if number.is_empty() {
-        return Ok(String::new(alloc));
-    }
-    format!(in alloc; "max_queue_size: {number}\n")
-}
-
-#[test]
-fn spellings_of_numbers(rt: HostRuntime) -> Result<(), Fail> {
+fn files_are_read_up_to_their_first_fault(rt: HostRuntime) -> Result<(), Fail> {
     let alloc = rt.alloc();
-    for row in numbers().split('\n') {
-        let (spelled, number) = row.split_once('=').ok_or("no `=`")?;
-        let file = number_field(alloc, spelled)?;
-        let wanted = number_field(alloc, number)?;
-        assert_written(&rt, alloc, file.as_str(), wanted.as_str())?;
-    }
-    Ok(())
-}
-
-fn back_edge(alloc: Global, spelled: &str) -> Result<String, AllocError> {
-    format!(in alloc;
-        "node {{ calculator: \"C\" input_stream_info {{ tag_index: \":3\" back_edge: {spelled} }} }}"
-    )
-}
-
-#[test]
-fn spellings_of_truth_values(rt: HostRuntime) -> Result<(), Fail> {
-    let alloc = rt.alloc();
-    for spelled in truths().split(' ') {
-        let file = back_edge(alloc, spelled)?;
-        assert_written(&rt, alloc, file.as_str(), node_with_back_edge())?;
-    }
-    for spelled in falsehoods().split(' ') {
-        let file = back_edge(alloc, spelled)?;
-        assert_written(&rt, alloc, file.as_str(), node())?;
-    }
-    Ok(())
-}
-
-fn node() -> &'static str {
-    r#"node {
-  calculator: "C"
-}
-"#
-}
-
-fn node_with_back_edge() -> &'static str {
-    r#"node {
-  calculator: "C"
-  input_stream_info {
-    tag_index: ":3"
-    back_edge: true
-  }
-}
-"#
+    assert_rows(&rt, alloc, &mut Reading, refusals())?;
+    assert_rows(&rt, alloc, &mut NumberField, numbers())?;
+    assert_rows(&rt, alloc, &mut BackEdge, truths())
 }

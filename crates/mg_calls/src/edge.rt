@@ -2,13 +2,13 @@
 
 ghost use Rattle.std.specs.Prelude.{IfOk, ◌≤◌};
 
+use crate::table::{Calls, assert_rows};
 use mg_edge::{
     FolderStore, Got, Loaded, MemorySink, MemorySource, MemoryStore, Put, ReaderSource, Sink,
     Source, Store, WriterSink,
 };
 use std::alloc::Global;
 use std::io::{Cursor, ErrorKind, Read, Write};
-use std::process::Abort;
 use std::test::Fail;
 use std::{fs, io};
 
@@ -81,147 +81,125 @@ fn show_load(alloc: Global, store: &mut impl Store, name: &str) -> Result<String
     }
 }
 
-// Rows of calls: a room, a piece or a name, and after `=` the answer.
+// The calls of a source, a sink or a store: the room of a read, the piece of a write, the name of a load.
 
-fn assert_reads(
-    rt: &impl Abort,
-    alloc: Global,
-    source: &mut impl Source,
-    calls: &str,
-) -> Result<(), Fail> {
-    for call in calls.split(' ') {
-        let (room, wanted) = call.split_once('=').ok_or("no `=`")?;
-        let shown = show_read(alloc, source, room.parse::<usize>()?)?;
-        assert!(rt; shown.as_str() == wanted, "{calls} at {call}");
+#[derive(Drop)]
+struct Reads<S>(S);
+
+impl<S: Source + Drop> Calls for Reads<S> {
+    fn answer(&mut self, alloc: Global, call: &str) -> Result<String, Fail> {
+        show_read(alloc, &mut self.0, call.parse::<usize>()?)
     }
-    Ok(())
 }
 
-fn assert_writes(
-    rt: &impl Abort,
-    alloc: Global,
-    sink: &mut impl Sink,
-    calls: &str,
-) -> Result<(), Fail> {
-    for call in calls.split(' ') {
-        let (piece, wanted) = call.split_once('=').ok_or("no `=`")?;
-        let shown = show_write(alloc, sink, piece)?;
-        assert!(rt; shown.as_str() == wanted, "{calls} at {call}");
+#[derive(Drop)]
+struct Writes<S>(S);
+
+impl<S: Sink + Drop> Calls for Writes<S> {
+    fn answer(&mut self, alloc: Global, call: &str) -> Result<String, Fail> {
+        show_write(alloc, &mut self.0, call)
     }
-    Ok(())
 }
 
-fn assert_loads(
-    rt: &impl Abort,
-    alloc: Global,
-    store: &mut impl Store,
-    calls: &str,
-) -> Result<(), Fail> {
-    for call in calls.split(' ') {
-        let (name, wanted) = call.split_once('=').ok_or("no `=`")?;
-        let shown = show_load(alloc, store, name)?;
-        assert!(rt; shown.as_str() == wanted, "{calls} at {call}");
+#[derive(Drop)]
+struct Loads<S>(S);
+
+impl<S: Store + Drop> Calls for Loads<S> {
+    fn answer(&mut self, alloc: Global, call: &str) -> Result<String, Fail> {
+        show_load(alloc, &mut self.0, call)
     }
-    Ok(())
 }
 
 #[test]
 fn a_source_in_memory_gives_pieces_and_fails_where_it_is_told_to(
     rt: HostRuntime,
 ) -> Result<(), Fail> {
-    let mut source = MemorySource::new(rt.alloc(), b"abcdef", 4, &[1])?;
-    assert_reads(
+    let mut source = Reads(MemorySource::new(rt.alloc(), b"abcdef", 4, &[1])?);
+    assert_rows(
         &rt,
         rt.alloc(),
         &mut source,
-        "3=abc 8=Failed 8=def 8=End 8=End",
+        "3=abc\n8=Failed\n8=def\n8=End\n8=End",
     )?;
-    assert_eq!(rt; (source.reads(), source.ends()), (5, 2));
-    let mut source = MemorySource::new(rt.alloc(), b"abc", 2, &[])?;
-    assert_reads(&rt, rt.alloc(), &mut source, "8=ab 8=c 8=End")
+    assert_eq!(rt; (source.0.reads(), source.0.ends()), (5, 2));
+    let mut source = Reads(MemorySource::new(rt.alloc(), b"abc", 2, &[])?);
+    assert_rows(&rt, rt.alloc(), &mut source, "8=ab\n8=c\n8=End")
 }
 
 #[test]
 fn a_sink_in_memory_fails_where_it_is_told_to_and_where_its_room_ends(
     rt: HostRuntime,
 ) -> Result<(), Fail> {
-    let mut sink = MemorySink::new(rt.alloc(), 4, &[1])?;
-    assert_writes(&rt, rt.alloc(), &mut sink, "ab=2 ab=Failed cde=2 e=Failed")?;
-    assert_eq!(rt; sink.taken(), b"abcd".as_slice());
-    let mut full = MemorySink::new(rt.alloc(), 0, &[])?;
-    assert_writes(&rt, rt.alloc(), &mut full, "a=Failed")
+    let mut sink = Writes(MemorySink::new(rt.alloc(), 4, &[1])?);
+    assert_rows(
+        &rt,
+        rt.alloc(),
+        &mut sink,
+        "ab=2\nab=Failed\ncde=2\ne=Failed",
+    )?;
+    assert_eq!(rt; sink.0.taken(), b"abcd".as_slice());
+    let mut full = Writes(MemorySink::new(rt.alloc(), 0, &[])?);
+    assert_rows(&rt, rt.alloc(), &mut full, "a=Failed")
+}
+
+// A store with a name whose content was replaced, an empty one, and one of so many bytes.
+fn store_of(alloc: Global, long: usize) -> Result<MemoryStore, Fail> {
+    let mut store = MemoryStore::new(alloc);
+    store.put("x", b"earlier")?;
+    store.put("x", b"bytes")?;
+    store.put("empty", b"")?;
+    store.put("long", vec![in alloc; 7u8; long]?.as_slice())?;
+    Ok(store)
 }
 
 #[test]
 fn a_store_in_memory_fails_where_it_is_told_to_and_at_other_names(
     rt: HostRuntime,
 ) -> Result<(), Fail> {
-    let mut store = MemoryStore::new(rt.alloc());
-    store.put("x", b"earlier")?;
-    store.put("x", b"bytes")?;
-    store.put("empty", b"")?;
+    let mut store = store_of(rt.alloc(), 4_194_306)?;
     store.fail_at(0);
     store.fail_at(1);
     assert_eq!(rt; store.failed_name(), None);
-    assert_loads(
-        &rt,
-        rt.alloc(),
-        &mut store,
-        "x=bytes x=Failed empty= y=Failed x=bytes",
-    )?;
-    assert_eq!(rt; store.faults(), 2);
-    assert_eq!(rt; store.failed_name(), Some("y"));
+    let mut loads = Loads(store);
+    let calls = "x=bytes\nx=Failed\nempty=\nlong=4194305\ny=Failed\nx=bytes";
+    assert_rows(&rt, rt.alloc(), &mut loads, calls)?;
+    assert_eq!(rt; loads.0.faults(), 2);
+    assert_eq!(rt; loads.0.failed_name(), Some("y"));
     Ok(())
 }
 
-// So many bytes. A length that stands at the call would stand as a list in each goal behind it.
-fn filled(alloc: Global, count: usize) -> Result<Vec<u8>, Fail> {
-    Ok(vec![in alloc; 7u8; count]?)
-}
-
-#[test]
-fn a_load_gives_the_front_of_a_long_content(rt: HostRuntime) -> Result<(), Fail> {
-    let long = filled(rt.alloc(), 4_194_306)?;
-    let mut store = MemoryStore::new(rt.alloc());
-    store.put("long", &long)?;
-    assert_loads(&rt, rt.alloc(), &mut store, "long=4194305")?;
-    fs::write(&rt, "long", long.as_slice())?;
-    assert_loads(
-        &rt,
-        rt.alloc(),
-        &mut FolderStore::new(rt.clone()?),
-        "long=4194305",
-    )?;
-    fs::remove_file(&rt, "long")?;
-    Ok(())
+fn write_long(rt: &impl fs::Files, alloc: Global, long: usize) -> Result<(), Fail> {
+    Ok(fs::write(rt, "long", vec![in alloc; 7u8; long]?.as_slice())?)
 }
 
 #[test]
 fn a_folder_gives_its_files(rt: HostRuntime) -> Result<(), Fail> {
     fs::write(&rt, "graph", "bytes")?;
-    let mut folder = FolderStore::new(rt.clone()?);
-    assert_loads(
+    write_long(&rt, rt.alloc(), 4_194_306)?;
+    let calls = "graph=bytes\nlong=4194305\nmissing=Failed\n.=Failed";
+    assert_rows(
         &rt,
         rt.alloc(),
-        &mut folder,
-        "graph=bytes missing=Failed .=Failed",
+        &mut Loads(FolderStore::new(rt.clone()?)),
+        calls,
     )?;
     fs::remove_file(&rt, "graph")?;
+    fs::remove_file(&rt, "long")?;
     Ok(())
 }
 
 #[test]
 fn a_reader_is_a_source(rt: HostRuntime) -> Result<(), Fail> {
-    let mut source = ReaderSource::new(Cursor::new(b"abc".as_slice()));
-    assert_reads(&rt, rt.alloc(), &mut source, "2=ab 8=c 8=End")?;
-    let mut moody = ReaderSource::new(Moody { calls: 0 });
-    assert_reads(&rt, rt.alloc(), &mut moody, "1=\0 8=End 8=Failed")
+    let mut source = Reads(ReaderSource::new(Cursor::new(b"abc".as_slice())));
+    assert_rows(&rt, rt.alloc(), &mut source, "2=ab\n8=c\n8=End")?;
+    let mut moody = Reads(ReaderSource::new(Moody { calls: 0 }));
+    assert_rows(&rt, rt.alloc(), &mut moody, "1=\0\n8=End\n8=Failed")
 }
 
 #[test]
 fn a_writer_is_a_sink(rt: HostRuntime) -> Result<(), Fail> {
-    let mut sink = WriterSink::new(Vec::new(rt.alloc()));
-    assert_writes(&rt, rt.alloc(), &mut sink, "abc=3")?;
-    let mut moody = WriterSink::new(Moody { calls: 0 });
-    assert_writes(&rt, rt.alloc(), &mut moody, "abc=1 abc=Failed abc=Failed")
+    let mut sink = Writes(WriterSink::new(Vec::new(rt.alloc())));
+    assert_rows(&rt, rt.alloc(), &mut sink, "abc=3")?;
+    let mut moody = Writes(WriterSink::new(Moody { calls: 0 }));
+    assert_rows(&rt, rt.alloc(), &mut moody, "abc=1\nabc=Failed\nabc=Failed")
 }

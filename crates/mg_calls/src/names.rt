@@ -1,11 +1,11 @@
 //! Ports: their spellings, the ports of lists of texts, and the texts of ports.
 
+use crate::table::{Calls, assert_rows};
 use mg_names::{
     NameFault, PlacedFault, Port, PortMap, print_port, print_tag_index, read_port, read_tag_index,
 };
 use mg_value::MgText;
 use std::alloc::{AllocError, Global};
-use std::process::Abort;
 use std::test::Fail;
 
 // One text a row, and after `=` its tag, its index or `-`, and its name, or the fault.
@@ -121,7 +121,8 @@ fn messages() -> &'static str {
 3 the index of a port is faulty
 4 the indexes of a tag have a gap
 5 a tag and index stand twice
-6 out of memory"
+6 out of memory
+"
 }
 
 fn show_spelling(alloc: Global, text: &str) -> Result<String, AllocError> {
@@ -138,19 +139,13 @@ fn show_spelling(alloc: Global, text: &str) -> Result<String, AllocError> {
     }
 }
 
-fn assert_spelling(rt: &impl Abort, alloc: Global, row: &str) -> Result<(), Fail> {
-    let (text, wanted) = row.split_once('=').ok_or("no `=`")?;
-    let shown = show_spelling(alloc, text)?;
-    assert!(rt; shown.as_str() == wanted, "{row}: {shown}");
-    Ok(())
-}
+#[derive(Drop)]
+struct OneText;
 
-#[test]
-fn spellings_of_texts(rt: HostRuntime) -> Result<(), Fail> {
-    for row in spellings().split('\n') {
-        assert_spelling(&rt, rt.alloc(), row)?;
+impl Calls for OneText {
+    fn answer(&mut self, alloc: Global, call: &str) -> Result<String, Fail> {
+        Ok(show_spelling(alloc, call)?)
     }
-    Ok(())
 }
 
 fn show_port(shown: &mut String, port: &Port) -> Result<(), AllocError> {
@@ -185,12 +180,13 @@ fn texts_of(alloc: Global, spelled: &str) -> Result<Vec<MgText>, AllocError> {
     Ok(texts)
 }
 
-fn assert_list(rt: &impl Abort, alloc: Global, row: &str) -> Result<(), Fail> {
-    let (spelled, wanted) = row.split_once('=').ok_or("no `=`")?;
-    let texts = texts_of(alloc, spelled)?;
-    let shown = show_list(alloc, texts.as_slice())?;
-    assert!(rt; shown.as_str() == wanted, "{row}: {shown}");
-    Ok(())
+#[derive(Drop)]
+struct ManyTexts;
+
+impl Calls for ManyTexts {
+    fn answer(&mut self, alloc: Global, call: &str) -> Result<String, Fail> {
+        Ok(show_list(alloc, texts_of(alloc, call)?.as_slice())?)
+    }
 }
 
 // So many copies of `a`, and then another text.
@@ -201,19 +197,6 @@ fn untagged_and(alloc: Global, count: u32, last: &str) -> Result<String, AllocEr
     }
     spelled.push_str(last)?;
     Ok(spelled)
-}
-
-#[test]
-fn ports_of_lists(rt: HostRuntime) -> Result<(), Fail> {
-    let alloc = rt.alloc();
-    for row in lists().split('\n') {
-        assert_list(&rt, alloc, row)?;
-    }
-    // The 65th untagged port has no index, whatever its name.
-    for last in ["a=BadIndex", "A=BadIndex"] {
-        assert_list(&rt, alloc, untagged_and(alloc, 64, last)?.as_str())?;
-    }
-    Ok(())
 }
 
 fn falling(alloc: Global, count: u8) -> Result<Vec<MgText>, AllocError> {
@@ -232,33 +215,11 @@ fn show_place(alloc: Global, map: &PortMap, tag: &str, index: u8) -> Result<Stri
     }
 }
 
-fn assert_places(rt: &impl Abort, alloc: Global, map: &PortMap, rows: &str) -> Result<(), Fail> {
-    for row in rows.split('\n') {
-        let (port, wanted) = row.split_once('=').ok_or("no `=`")?;
-        let (tag, index) = port.split_once(' ').ok_or("no index")?;
-        let shown = show_place(alloc, map, tag, index.parse::<u8>()?)?;
-        assert!(rt; shown.as_str() == wanted, "{row}: {shown}");
+impl Calls for PortMap {
+    fn answer(&mut self, alloc: Global, call: &str) -> Result<String, Fail> {
+        let (tag, index) = call.split_once(' ').ok_or("no index")?;
+        Ok(show_place(alloc, self, tag, index.parse::<u8>()?)?)
     }
-    Ok(())
-}
-
-fn assert_read_places(
-    rt: &impl Abort,
-    alloc: Global,
-    texts: &[MgText],
-    rows: &str,
-) -> Result<(), Fail> {
-    assert_places(rt, alloc, &PortMap::read(alloc, texts)?, rows)
-}
-
-#[test]
-fn places_of_ports(rt: HostRuntime) -> Result<(), Fail> {
-    let alloc = rt.alloc();
-    let untagged = texts_of(alloc, untagged_and(alloc, 63, "a")?.as_str())?;
-    assert_read_places(&rt, alloc, untagged.as_slice(), places_of_untagged())?;
-    let falling = falling(alloc, 64)?;
-    assert_read_places(&rt, alloc, falling.as_slice(), places_of_falling())?;
-    assert_places(&rt, alloc, &PortMap::new(alloc), places_of_none())
 }
 
 fn show_text(alloc: Global, tag: &str, index: u8) -> Result<MgText, AllocError> {
@@ -270,40 +231,55 @@ fn show_text(alloc: Global, tag: &str, index: u8) -> Result<MgText, AllocError> 
     print_port(alloc, &port)
 }
 
-fn assert_text(rt: &impl Abort, alloc: Global, row: &str) -> Result<(), Fail> {
-    let (port, wanted) = row.split_once('=').ok_or("no `=`")?;
-    let (tag, index) = port.split_once(' ').ok_or("no index")?;
-    let text = show_text(alloc, tag, index.parse::<u8>()?)?;
-    assert!(rt; text.as_str() == wanted, "{row}");
-    Ok(())
-}
+#[derive(Drop)]
+struct Printing;
 
-#[test]
-fn texts_of_ports(rt: HostRuntime) -> Result<(), Fail> {
-    for row in ports().split('\n') {
-        assert_text(&rt, rt.alloc(), row)?;
+impl Calls for Printing {
+    fn answer(&mut self, alloc: Global, call: &str) -> Result<String, Fail> {
+        let (tag, index) = call.split_once(' ').ok_or("no index")?;
+        let text = show_text(alloc, tag, index.parse::<u8>()?)?;
+        Ok(String::from_str(alloc, text.as_str())?)
     }
-    Ok(())
-}
-
-fn show_fault(alloc: Global, fault: NameFault) -> Result<String, AllocError> {
-    format!(in alloc; "{} {fault}", fault as u8)
 }
 
 #[test]
-fn numbers_and_messages(rt: HostRuntime) -> Result<(), Fail> {
-    let faults = [
+fn texts_are_read_and_printed(rt: HostRuntime) -> Result<(), Fail> {
+    let alloc = rt.alloc();
+    assert_rows(&rt, alloc, &mut OneText, spellings())?;
+    assert_rows(&rt, alloc, &mut ManyTexts, lists())?;
+    assert_rows(&rt, alloc, &mut Printing, ports())?;
+    // The 65th untagged port has no index, whatever its name.
+    let longer = untagged_and(alloc, 64, "a=BadIndex")?;
+    assert_rows(&rt, alloc, &mut ManyTexts, longer.as_str())?;
+    let longer = untagged_and(alloc, 64, "A=BadIndex")?;
+    assert_rows(&rt, alloc, &mut ManyTexts, longer.as_str())
+}
+
+#[test]
+fn ports_have_places(rt: HostRuntime) -> Result<(), Fail> {
+    let alloc = rt.alloc();
+    let untagged = texts_of(alloc, untagged_and(alloc, 63, "a")?.as_str())?;
+    let mut map = PortMap::read(alloc, untagged.as_slice())?;
+    assert_rows(&rt, alloc, &mut map, places_of_untagged())?;
+    let mut map = PortMap::read(alloc, falling(alloc, 64)?.as_slice())?;
+    assert_rows(&rt, alloc, &mut map, places_of_falling())?;
+    assert_rows(&rt, alloc, &mut PortMap::new(alloc), places_of_none())
+}
+
+#[test]
+fn faults_have_numbers_and_messages(rt: HostRuntime) -> Result<(), Fail> {
+    let mut shown = String::new(rt.alloc());
+    for fault in [
         NameFault::BadName,
         NameFault::BadTag,
         NameFault::BadIndex,
         NameFault::Gap,
         NameFault::Twice,
         NameFault::OutOfMemory,
-    ];
-    for (fault, wanted) in faults.iter().zip(messages().split('\n')) {
-        let shown = show_fault(rt.alloc(), *fault)?;
-        assert!(rt; shown.as_str() == wanted, "{shown}");
+    ] {
+        writeln!(shown, "{} {fault}", fault as u8)?;
     }
+    assert!(rt; shown.as_str() == messages(), "{shown}");
     Ok(())
 }
 
@@ -327,22 +303,6 @@ fn show_placed(alloc: Global, texts: &[MgText]) -> Result<String, AllocError> {
         Err(PlacedFault::Whole { cause }) => format!(in alloc; "{cause:?}"),
         Err(PlacedFault::OutOfMemory) => format!(in alloc; "OutOfMemory"),
     }
-}
-
-fn assert_placed(rt: &impl Abort, alloc: Global, row: &str) -> Result<(), Fail> {
-    let (spelled, wanted) = row.split_once('=').ok_or("no `=`")?;
-    let texts = texts_of(alloc, spelled)?;
-    let shown = show_placed(alloc, texts.as_slice())?;
-    assert!(rt; shown.as_str() == wanted, "{row}: {shown}");
-    Ok(())
-}
-
-#[test]
-fn places_of_refused_texts(rt: HostRuntime) -> Result<(), Fail> {
-    for row in placed_lists().split('\n') {
-        assert_placed(&rt, rt.alloc(), row)?;
-    }
-    Ok(())
 }
 
 // One text a row, and after `=` its tag, its index and the text that these are written as, or the fault.
@@ -379,17 +339,26 @@ fn show_tag_index(alloc: Global, text: &str) -> Result<String, AllocError> {
     }
 }
 
-fn assert_tag_index(rt: &impl Abort, alloc: Global, row: &str) -> Result<(), Fail> {
-    let (text, wanted) = row.split_once('=').ok_or("no `=`")?;
-    let shown = show_tag_index(alloc, text)?;
-    assert!(rt; shown.as_str() == wanted, "{row}: {shown}");
-    Ok(())
+// What reads a list of texts, and says which is refused.
+struct PlacedTexts;
+
+impl Calls for PlacedTexts {
+    fn answer(&mut self, alloc: Global, call: &str) -> Result<String, Fail> {
+        Ok(show_placed(alloc, texts_of(alloc, call)?.as_slice())?)
+    }
+}
+
+// What reads a tag and an index, and writes them.
+struct OneTagIndex;
+
+impl Calls for OneTagIndex {
+    fn answer(&mut self, alloc: Global, call: &str) -> Result<String, Fail> {
+        Ok(show_tag_index(alloc, call)?)
+    }
 }
 
 #[test]
-fn tags_and_indexes(rt: HostRuntime) -> Result<(), Fail> {
-    for row in tag_indexes().split('\n') {
-        assert_tag_index(&rt, rt.alloc(), row)?;
-    }
-    Ok(())
+fn refused_texts_have_places(rt: HostRuntime) -> Result<(), Fail> {
+    assert_rows(&rt, rt.alloc(), &mut PlacedTexts, placed_lists())?;
+    assert_rows(&rt, rt.alloc(), &mut OneTagIndex, tag_indexes())
 }

@@ -1,10 +1,10 @@
 //! Inboxes: the next settled set, or why there is none.
 
 use crate::packets::{packet_of, show_set, text_of, time_of};
+use crate::table::{Calls, assert_rows};
 use mg_policy::{Inbox, Readiness};
 use mg_value::InputSet;
 use std::alloc::Global;
-use std::process::Abort;
 use std::test::Fail;
 
 // The calls of one inbox of two ports, a row each, and after `=` the readiness and the least bound then. A packet that
@@ -93,27 +93,18 @@ fn show(alloc: Global, inbox: &Inbox) -> Result<String, Fail> {
     }
 }
 
-fn assert_call(rt: &impl Abort, alloc: Global, inbox: &mut Inbox, row: &str) -> Result<(), Fail> {
-    let (call, wanted) = row.split_once('=').ok_or("no `=`")?;
-    let answer = answer(alloc, inbox, call)?;
-    let shown = show(alloc, inbox)?;
-    let came = format!(in alloc; "{}{}", answer.as_str(), shown.as_str())?;
-    assert!(rt; came.as_str() == wanted, "{row}: {came}");
-    Ok(())
-}
-
-fn assert_calls(rt: &impl Abort, alloc: Global, ports: u32, rows: &str) -> Result<(), Fail> {
-    let mut inbox = Inbox::new(alloc, ports)?;
-    for row in rows.split('\n') {
-        assert_call(rt, alloc, &mut inbox, row)?;
+impl Calls for Inbox {
+    fn answer(&mut self, alloc: Global, call: &str) -> Result<String, Fail> {
+        let answer = answer(alloc, self, call)?;
+        let shown = show(alloc, self)?;
+        Ok(format!(in alloc; "{}{}", answer.as_str(), shown.as_str())?)
     }
-    Ok(())
 }
 
 #[test]
 fn inboxes_answer_and_show(rt: HostRuntime) -> Result<(), Fail> {
     let alloc = rt.alloc();
-    assert_calls(&rt, alloc, 2, a_time_at_a_bound())?;
-    assert_calls(&rt, alloc, 2, sets_in_order())?;
-    assert_calls(&rt, alloc, 0, without_ports())
+    assert_rows(&rt, alloc, &mut Inbox::new(alloc, 2)?, a_time_at_a_bound())?;
+    assert_rows(&rt, alloc, &mut Inbox::new(alloc, 2)?, sets_in_order())?;
+    assert_rows(&rt, alloc, &mut Inbox::new(alloc, 0)?, without_ports())
 }

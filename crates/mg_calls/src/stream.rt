@@ -1,9 +1,9 @@
 //! Queues: what each call answers, and what the queue shows then.
 
 use crate::packets::{packet_of, show_packet, text_of, time_of};
+use crate::table::{Calls, assert_rows};
 use mg_stream::Queue;
 use std::alloc::Global;
-use std::process::Abort;
 use std::test::Fail;
 
 // The calls of one queue, a row each, and after `=` the answer, and what the queue shows then: the first timestamp, the
@@ -103,29 +103,25 @@ fn show(alloc: Global, queue: &Queue) -> Result<String, Fail> {
     Ok(format!(in alloc; "{} {} {waiting} {count}", first.as_str(), bound.as_str())?)
 }
 
-fn assert_call(rt: &impl Abort, alloc: Global, queue: &mut Queue, row: &str) -> Result<(), Fail> {
-    let (call, wanted) = row.split_once('=').ok_or("no `=`")?;
-    let answer = answer(alloc, queue, call)?;
-    let shown = show(alloc, queue)?;
-    let came = format!(in alloc; "{} {}", answer.as_str(), shown.as_str())?;
-    assert!(rt; came.as_str() == wanted, "{row}: {came}");
-    Ok(())
-}
-
-fn assert_calls(rt: &impl Abort, alloc: Global, rows: &str) -> Result<(), Fail> {
-    let mut queue = Queue::new(alloc);
-    for row in rows.split('\n') {
-        assert_call(rt, alloc, &mut queue, row)?;
+impl Calls for Queue {
+    fn answer(&mut self, alloc: Global, call: &str) -> Result<String, Fail> {
+        let answer = answer(alloc, self, call)?;
+        let shown = show(alloc, self)?;
+        Ok(format!(in alloc; "{} {}", answer.as_str(), shown.as_str())?)
     }
-    Ok(())
 }
 
 #[test]
 fn queues_answer_and_show(rt: HostRuntime) -> Result<(), Fail> {
     let alloc = rt.alloc();
-    assert_calls(&rt, alloc, appends())?;
-    assert_calls(&rt, alloc, alone())?;
-    assert_calls(&rt, alloc, alone_also_after_what_is_gone())?;
-    assert_calls(&rt, alloc, pops())?;
-    assert_calls(&rt, alloc, bounds())
+    assert_rows(&rt, alloc, &mut Queue::new(alloc), appends())?;
+    assert_rows(&rt, alloc, &mut Queue::new(alloc), alone())?;
+    assert_rows(
+        &rt,
+        alloc,
+        &mut Queue::new(alloc),
+        alone_also_after_what_is_gone(),
+    )?;
+    assert_rows(&rt, alloc, &mut Queue::new(alloc), pops())?;
+    assert_rows(&rt, alloc, &mut Queue::new(alloc), bounds())
 }

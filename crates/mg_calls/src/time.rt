@@ -1,33 +1,36 @@
 //! Timestamps: their numbers and texts, what may follow a packet at each, and shifts.
 
-use crate::packets::text_of;
+use crate::packets::{text_of, time_of};
+use crate::table::{Calls, assert_rows};
 use mg_time::Timestamp;
 use std::alloc::Global;
-use std::process::Abort;
 use std::test::Fail;
 
-// The special values, ascending, as the framework's page on timestamps has them: text, number, the number of what may
-// follow a packet there, whether it is in the range, and whether a packet may stand there.
+// The special values, as the framework's page on timestamps has them: the number, the number of what may follow a packet
+// there, whether it is in the range, and whether a packet may stand there.
 fn special_values() -> &'static str {
-    "Unset -9223372036854775808 -9223372036854775807 false false
-Unstarted -9223372036854775807 -9223372036854775806 false false
-PreStream -9223372036854775806 9223372036854775806 false true
--9223372036854775805 -9223372036854775805 -9223372036854775804 true true
-9223372036854775804 9223372036854775804 9223372036854775806 true true
-PostStream 9223372036854775805 9223372036854775806 false true
-OneOverPostStream 9223372036854775806 9223372036854775806 false false
-Done 9223372036854775807 9223372036854775806 false false"
+    "Unset=-9223372036854775808 -9223372036854775807 false false
+Unstarted=-9223372036854775807 -9223372036854775806 false false
+PreStream=-9223372036854775806 9223372036854775806 false true
+-9223372036854775805=-9223372036854775805 -9223372036854775804 true true
+9223372036854775804=9223372036854775804 9223372036854775806 true true
+PostStream=9223372036854775805 9223372036854775806 false true
+OneOverPostStream=9223372036854775806 9223372036854775806 false false
+Done=9223372036854775807 9223372036854775806 false false"
 }
 
-// A number of the range, an offset, and the number that the shift gives.
+// A timestamp, an offset, and the timestamp that the shift gives.
 fn shifts() -> &'static str {
-    "10 -5 5
--3 3 0
--9223372036854775805 -1 -9223372036854775805
--9223372036854775803 -5 -9223372036854775805
-9223372036854775802 5 9223372036854775804
-0 -9223372036854775808 -9223372036854775805
-0 9223372036854775807 9223372036854775804"
+    "10 -5=5
+-3 3=0
+-9223372036854775805 -1=-9223372036854775805
+-9223372036854775803 -5=-9223372036854775805
+9223372036854775802 5=9223372036854775804
+0 -9223372036854775808=-9223372036854775805
+0 9223372036854775807=9223372036854775804
+PreStream 7=PreStream
+PostStream -7=PostStream
+Done -7=Done"
 }
 
 // A text, and after `=` the number of the timestamp that it is read as, if there is one.
@@ -90,85 +93,52 @@ PostStream1=
 Timestamp::PreStream()="
 }
 
-fn assert_special_value(
-    rt: &impl Abort,
-    alloc: Global,
-    time: Timestamp,
-    row: &str,
-) -> Result<(), Fail> {
-    let text = text_of(alloc, time)?;
-    let shown = format!(in alloc;
-        "{} {} {} {} {}",
-        text.as_str(),
-        time.raw(),
-        time.next_allowed().raw(),
-        time.is_range(),
-        time.is_allowed()
-    )?;
-    assert!(rt; shown.as_str() == row, "{shown}");
-    Ok(())
-}
+#[derive(Drop)]
+struct SpecialValue;
 
-#[test]
-fn special_values_are_the_frameworks(rt: HostRuntime) -> Result<(), Fail> {
-    for (time, row) in Timestamp::constants()
-        .iter()
-        .zip(special_values().split('\n'))
-    {
-        assert_special_value(&rt, rt.alloc(), *time, row)?;
+impl Calls for SpecialValue {
+    fn answer(&mut self, alloc: Global, call: &str) -> Result<String, Fail> {
+        let time = time_of(alloc, call)?;
+        let (number, next) = (time.raw(), time.next_allowed().raw());
+        let (is_range, is_allowed) = (time.is_range(), time.is_allowed());
+        Ok(format!(in alloc; "{number} {next} {is_range} {is_allowed}")?)
     }
-    Ok(())
 }
 
-// The number at the start of a row, and the rest.
-fn number_of(row: &str) -> Result<(i64, &str), Fail> {
-    let (number, rest) = row.split_once(' ').unwrap_or((row, ""));
-    Ok((number.parse::<i64>()?, rest))
-}
+#[derive(Drop)]
+struct Shift;
 
-fn assert_shift(rt: &impl Abort, row: &str) -> Result<(), Fail> {
-    let (number, rest) = number_of(row)?;
-    let (offset, rest) = number_of(rest)?;
-    let (wanted, _) = number_of(rest)?;
-    let time = Timestamp::of_range(number).ok_or("no timestamp of the range")?;
-    assert_eq!(rt; time.shift(offset).raw(), wanted, "{row}");
-    Ok(())
-}
-
-#[test]
-fn shifts_stay_in_the_range(rt: HostRuntime) -> Result<(), Fail> {
-    for row in shifts().split('\n') {
-        assert_shift(&rt, row)?;
+impl Calls for Shift {
+    fn answer(&mut self, alloc: Global, call: &str) -> Result<String, Fail> {
+        let (time, offset) = call.split_once(' ').ok_or("no offset")?;
+        text_of(alloc, time_of(alloc, time)?.shift(offset.parse::<i64>()?))
     }
-    assert!(rt; Timestamp::PRE_STREAM.shift(7) == Timestamp::PRE_STREAM);
-    assert!(rt; Timestamp::DONE.shift(-7) == Timestamp::DONE);
-    Ok(())
 }
 
-fn assert_text(rt: &impl Abort, alloc: Global, row: &str) -> Result<(), Fail> {
-    let (text, number) = row.split_once('=').ok_or("no `=`")?;
-    match Timestamp::read_text(text.as_bytes()) {
-        None => assert!(rt; number.is_empty(), "{row}"),
-        Some(time) => {
-            let read = format!(in alloc; "{}", time.raw())?;
-            assert!(rt; read.as_str() == number, "{row}");
-            assert!(rt; text_of(alloc, time)?.as_str() == text, "{row}");
+#[derive(Drop)]
+struct Reading;
+
+impl Calls for Reading {
+    fn answer(&mut self, alloc: Global, call: &str) -> Result<String, Fail> {
+        match Timestamp::read_text(call.as_bytes()) {
+            None => Ok(String::new(alloc)),
+            Some(time) if text_of(alloc, time)?.as_str() != call => Err(Fail::from("another text")),
+            Some(time) => Ok(format!(in alloc; "{}", time.raw())?),
         }
     }
-    Ok(())
 }
 
 #[test]
-fn texts_are_read_and_printed(rt: HostRuntime) -> Result<(), Fail> {
-    for row in texts().split('\n') {
-        assert_text(&rt, rt.alloc(), row)?;
-    }
-    Ok(())
+fn timestamps_answer(rt: HostRuntime) -> Result<(), Fail> {
+    let alloc = rt.alloc();
+    assert_rows(&rt, alloc, &mut SpecialValue, special_values())?;
+    assert_rows(&rt, alloc, &mut Shift, shifts())?;
+    assert_rows(&rt, alloc, &mut Reading, texts())
 }
 
 #[test]
 fn the_debug_text_has_the_number(rt: HostRuntime) -> Result<(), Fail> {
-    let shown = format!(in rt.alloc(); "{:?} {:?}", Timestamp::MIN, Timestamp::DONE)?;
-    assert!(rt; shown.as_str() == "Timestamp(-9223372036854775805) Timestamp(9223372036854775807)");
+    let shown = format!(in rt.alloc(); "{:?}", Timestamp::MIN)?;
+    assert!(rt; shown.as_str() == "Timestamp(-9223372036854775805)");
     Ok(())
 }
