@@ -7,7 +7,7 @@ use Rattle.std.proofs.lemmas.List.Elements.{All-head, All-tail}
 use Rattle.mg_text.specs.Tree.{number, Fields, none, scalar, message, depth}
 use Rattle.mg_text.specs.View.{Value, simple, inner, Entry, put, fields_of}
 use Rattle.mg_text.specs.Answer.{max_depth}
-use Rattle.mg_text.specs.Canonical.{entry_depth}
+use Rattle.mg_text.specs.Code.Printing.{entry_depth}
 use Rattle.mg_names.specs.declared.port.Port.{Port}
 use Rattle.mg_config.specs.Values.{entry}
 use Rattle.mg_config.specs.Config.{NodeView, GraphView}

@@ -5,7 +5,7 @@ use Rattle.mg_text.specs.declared.class.Class.TheVariants.{Beyond}
 use Rattle.mg_text.specs.declared.parts.Tail.{Tail}
 use Rattle.mg_text.specs.Byte.{below_digits, digit_class, upper_class, lower_class, class_of, is_octal, lead}
 use Rattle.mg_text.specs.Grammar.{is_first_octal, octal}
-use Rattle.mg_text.specs.Machine.{digit_onto}
+use Rattle.mg_text.specs.Code.Machine.{digit_onto}
 
 pub beyond_class : (b : ℕ) → 128 ≤ b → class_of b ≡ Beyond
 unfolding class_of

@@ -21,13 +21,13 @@ use Rattle.mg_text.specs.Byte.{IsTail, byte, class_of, is_octal, joins, lead, fo
 use Rattle.mg_text.specs.Tree.{Fields}
 use Rattle.mg_text.specs.Grammar as g
 use Rattle.mg_text.specs.Grammar.{Stands, Gives, Apart, Place, start, named, valued, opened, element, behind, joined, after, scalar_slot, message_slot, piece_slot, list_slot, list_ends, opening, closing, quote_class, in_line, is_separator}
-use Rattle.mg_text.specs.Machine.{Spot, at, comment, naming, token, piece, Frame, State, moves, moved, settled, settled_place, with_scalar, opens_at, closes_at, closes_with, resumed, same_mark, colon_spot, comma_spot, semicolon_spot, bracket_spot, list_end_spot, token_spot, letter_spot, quote_spot, step_settled, step_at, comment_spot, awaits, step_naming, step_token, inside_next, is_closing_quote, goes_on, piece_spot, digit_onto, plain_next, escape_next, step_spot, step, run, name_next, scalar_next, is_whole_name, is_whole_scalar, kind_of}
+use Rattle.mg_text.specs.Code.Machine.{Spot, at, comment, naming, token, piece, Frame, State, moves, moved, settled, settled_place, with_scalar, opens_at, closes_at, closes_with, resumed, same_mark, colon_spot, comma_spot, semicolon_spot, bracket_spot, list_end_spot, token_spot, letter_spot, quote_spot, step_settled, step_at, comment_spot, awaits, step_naming, step_token, inside_next, is_closing_quote, goes_on, piece_spot, digit_onto, plain_next, escape_next, step_spot, step, run, name_next, scalar_next, is_whole_name, is_whole_scalar, kind_of}
 use Rattle.mg_text.proofs.Choices.{from_if, some_same, mapped}
 use Rattle.mg_text.proofs.ByteValues.{beyond_class, octal_digit, first_octal_digit}
 use Rattle.std.proofs.lemmas.Bool.{cases_lt}
 use Rattle.std.specs.Str.{IsUtf8}
-use Rattle.mg_text.specs.Clean as k
-use Rattle.mg_text.specs.Clean.{CharsTo, IsClean, IsCleanPlace, IsCleanInside}
+use Rattle.mg_text.specs.Code.Clean as k
+use Rattle.mg_text.specs.Code.Clean.{CharsTo, IsClean, IsCleanPlace, IsCleanInside}
 use Rattle.mg_text.specs.Canonical as c
 use Rattle.mg_text.specs.Canonical.{AreCharacters}
 use Rattle.mg_text.proofs.Unicode.{utf8_of_characters}

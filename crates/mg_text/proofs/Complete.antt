@@ -11,7 +11,7 @@ use Rattle.mg_text.specs.Byte.{class_of, joins}
 use Rattle.mg_text.specs.Tree.{word, number, quoted, Fields, none, scalar, message, append}
 use Rattle.mg_text.specs.Grammar as g
 use Rattle.mg_text.specs.Grammar.{Stands, Apart, Place, start, named, valued, opened, element, behind, message_slot, list_slot, list_ends, opening, closing, is_separator}
-use Rattle.mg_text.specs.Machine.{at, Frame, moves, opens_at, resumed, same_mark, list_spot, step_at, outcome, begin}
+use Rattle.mg_text.specs.Code.Machine.{at, Frame, moves, opens_at, resumed, same_mark, list_spot, step_at, outcome, begin}
 use Rattle.mg_text.proofs.Appending.{append_none, append_fields_assoc}
 use Rattle.mg_text.proofs.Runs.{st, go, gap_run}
 use Rattle.mg_text.proofs.TokenRuns.{name_run, word_run, number_run}

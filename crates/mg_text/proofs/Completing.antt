@@ -4,7 +4,7 @@ use Rattle.std.proofs.lemmas.List.{append-nil}
 use Rattle.mg_text.specs.Byte.{class_of}
 use Rattle.mg_text.specs.Tree.{Fields, none, scalar, message, append}
 use Rattle.mg_text.specs.Grammar.{Stands, Apart, named, joined, after, closing}
-use Rattle.mg_text.specs.Machine.{Spot, at, comment, naming, token, piece, Frame, State, kind_of}
+use Rattle.mg_text.specs.Code.Machine.{Spot, at, comment, naming, token, piece, Frame, State, kind_of}
 use Rattle.mg_text.proofs.Appending.{append_none, append_fields_assoc}
 use Rattle.mg_text.proofs.Names.{NameEnds}
 use Rattle.mg_text.proofs.Scalars.{ScalarEnds}

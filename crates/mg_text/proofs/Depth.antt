@@ -17,7 +17,7 @@ use Rattle.mg_text.specs.declared.parts.Inside.{Inside}
 use Rattle.mg_text.specs.Byte.{class_of, joins, lead, follow}
 use Rattle.mg_text.specs.Tree.{Kind, quoted, Fields, none, scalar, message, append, depth}
 use Rattle.mg_text.specs.Grammar.{Place, start, named, valued, opened, element, behind, joined, after, scalar_slot, message_slot, piece_slot}
-use Rattle.mg_text.specs.Machine.{Spot, at, comment, naming, token, piece, Frame, State, moves, moved, settled, settled_place, with_scalar, opens_at, closes_at, closes_with, resumed, same_mark, colon_spot, comma_spot, semicolon_spot, bracket_spot, list_end_spot, token_spot, letter_spot, quote_spot, step_settled, step_at, comment_spot, awaits, step_naming, step_token, inside_next, is_closing_quote, goes_on, piece_spot, step_spot, step, outcome, name_next, scalar_next, is_whole_name, kind_of}
+use Rattle.mg_text.specs.Code.Machine.{Spot, at, comment, naming, token, piece, Frame, State, moves, moved, settled, settled_place, with_scalar, opens_at, closes_at, closes_with, resumed, same_mark, colon_spot, comma_spot, semicolon_spot, bracket_spot, list_end_spot, token_spot, letter_spot, quote_spot, step_settled, step_at, comment_spot, awaits, step_naming, step_token, inside_next, is_closing_quote, goes_on, piece_spot, step_spot, step, outcome, name_next, scalar_next, is_whole_name, kind_of}
 use Rattle.mg_text.proofs.Choices.{some_same}
 use Rattle.mg_text.proofs.Completing.{Completes}
 use Rattle.mg_text.proofs.Sound.{sound}

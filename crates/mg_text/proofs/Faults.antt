@@ -4,7 +4,7 @@ use Rattle.std.proofs.lemmas.List.{take-take, take-append-drop, take_more}
 use Rattle.std.proofs.Math.Seq.{take-length}
 use Rattle.mg_text.specs.Tree.{quoted, Fields, none, scalar, append, depth}
 use Rattle.mg_text.specs.Grammar.{Gives, Place, start, named, valued, opened, element, behind, joined, after}
-use Rattle.mg_text.specs.Machine.{Spot, at, comment, naming, token, piece, Frame, State, settled, settled_place, step, final, accepts_spot, accepts, run, outcome, begin, is_whole_scalar, kind_of}
+use Rattle.mg_text.specs.Code.Machine.{Spot, at, comment, naming, token, piece, Frame, State, settled, settled_place, step, final, accepts_spot, accepts, run, outcome, begin, is_whole_scalar, kind_of}
 use Rattle.mg_text.proofs.Choices.{some_same}
 use Rattle.mg_text.proofs.Sound.{sound_text}
 use Rattle.mg_text.proofs.Complete.{complete_text}
@@ -16,7 +16,7 @@ use Rattle.mg_text.specs.Canonical.{AreSpelled, canonical}
 use Rattle.mg_text.proofs.Finish.{Completion, finish}
 use Rattle.mg_text.proofs.Depth.{Shallow, deep, step_shallow, spot_deep, place_deep, depth-scalar}
 use Rattle.mg_text.specs.Answer.{max_depth, BeginsText, BeginsShallowText, IsSyntaxFault, IsTooDeep, IsFault, IsTree, IsFailed}
-use Rattle.mg_text.specs.Running.{IsAnswered, Ended, Took}
+use Rattle.mg_text.specs.Code.Running.{IsAnswered, Ended, Took}
 use Rattle.std.proofs.lemmas.Bool.{cases_lt}
 use Rattle.mg_text.specs.View.{view}
 use Rattle.mg_text.specs.declared.tree.Tree.{Tree}

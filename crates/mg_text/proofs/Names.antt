@@ -8,7 +8,7 @@ use Rattle.mg_text.specs.declared.parts.NamePart.TheVariants as np
 use Rattle.mg_text.specs.Byte.{class_of, is_letter, is_word_byte}
 use Rattle.mg_text.specs.Grammar as g
 use Rattle.mg_text.specs.Grammar.{AllOf, IsWord, IsPath, IsName}
-use Rattle.mg_text.specs.Machine.{name_next, is_whole_name}
+use Rattle.mg_text.specs.Code.Machine.{name_next, is_whole_name}
 use Rattle.mg_text.proofs.Choices.{from_if}
 
 -- these bytes end a name of which a part is read

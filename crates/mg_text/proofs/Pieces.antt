@@ -11,7 +11,7 @@ use Rattle.mg_text.specs.declared.parts.Inside.TheVariants.{Plain, Escape, Secon
 use Rattle.mg_text.specs.Byte.{class_of, is_octal, lead, follow, IsTail, whole as no_tail, byte}
 use Rattle.mg_text.specs.Grammar as g
 use Rattle.mg_text.specs.Grammar.{IsLine, IsContent, in_line, in_piece, escaped, is_first_octal, octal}
-use Rattle.mg_text.specs.Machine.{plain_next, escape_next, inside_next, digit_onto}
+use Rattle.mg_text.specs.Code.Machine.{plain_next, escape_next, inside_next, digit_onto}
 use Rattle.mg_text.proofs.Choices.{some_same, from_if, mapped}
 use Rattle.mg_text.proofs.ByteValues.{octal_digit, first_octal_digit, octal_value}
 

@@ -8,7 +8,7 @@ use Rattle.mg_text.specs.Byte.{IsTail, byte, class_of, is_blank, follow, whole a
 use Rattle.mg_text.specs.Tree.{Fields}
 use Rattle.mg_text.specs.Grammar as g
 use Rattle.mg_text.specs.Grammar.{Place, in_line}
-use Rattle.mg_text.specs.Machine.{Spot, at, comment, Frame, State, moves, step_at, comment_spot, awaits, step_spot, outcome}
+use Rattle.mg_text.specs.Code.Machine.{Spot, at, comment, Frame, State, moves, step_at, comment_spot, awaits, step_spot, outcome}
 use Rattle.mg_text.proofs.ByteValues.{lead_beyond}
 
 abbrev pub st : Fields → List Frame → Spot → State

@@ -7,7 +7,7 @@ use Rattle.mg_text.specs.declared.parts.ScalarPart.TheVariants as sp
 use Rattle.mg_text.specs.Byte.{class_of, is_letter, is_digit, is_hex, is_word_byte}
 use Rattle.mg_text.specs.Grammar as g
 use Rattle.mg_text.specs.Grammar.{AllOf, Some1, IsWord, IsNumber, IsUnsigned, IsEnd, IsSuffix}
-use Rattle.mg_text.specs.Machine.{scalar_next, is_whole_scalar, kind_of}
+use Rattle.mg_text.specs.Code.Machine.{scalar_next, is_whole_scalar, kind_of}
 use Rattle.mg_text.proofs.Choices.{some_same, from_if}
 
 -- these bytes end a word or a number of which a part is read

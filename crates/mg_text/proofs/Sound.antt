@@ -17,7 +17,7 @@ use Rattle.mg_text.specs.Byte.{class_of, joins, lead, follow, whole as no_tail}
 use Rattle.mg_text.specs.Tree.{Fields, none, scalar, append}
 use Rattle.mg_text.specs.Grammar as g
 use Rattle.mg_text.specs.Grammar.{Stands, Apart, Place, start, named, joined, after, quote_class, in_line}
-use Rattle.mg_text.specs.Machine.{Spot, at, comment, naming, token, piece, Frame, State, moves, moved, settled, settled_place, with_scalar, step_at, comment_spot, awaits, step_naming, step_token, inside_next, is_closing_quote, goes_on, piece_spot, step_spot, step, final, accepts_spot, outcome, begin, name_next, scalar_next, is_whole_name, is_whole_scalar, kind_of}
+use Rattle.mg_text.specs.Code.Machine.{Spot, at, comment, naming, token, piece, Frame, State, moves, moved, settled, settled_place, with_scalar, step_at, comment_spot, awaits, step_naming, step_token, inside_next, is_closing_quote, goes_on, piece_spot, step_spot, step, final, accepts_spot, outcome, begin, name_next, scalar_next, is_whole_name, is_whole_scalar, kind_of}
 use Rattle.mg_text.proofs.Choices.{some_same, and_true, not_true}
 use Rattle.mg_text.proofs.Appending.{append_none}
 use Rattle.mg_text.proofs.Scalars.{same_kind}

@@ -17,7 +17,7 @@ use Rattle.mg_text.specs.Byte.{class_of, is_letter, is_digit, is_blank}
 use Rattle.mg_text.specs.Tree.{quoted, Fields, none, scalar, message, append}
 use Rattle.mg_text.specs.Grammar as g
 use Rattle.mg_text.specs.Grammar.{Stands, Apart, Place, start, named, valued, opened, element, behind, joined, after, scalar_slot, message_slot, piece_slot, list_slot, opening, closing, quote_class, is_separator}
-use Rattle.mg_text.specs.Machine.{at, comment, naming, token, piece, Frame, State, moves, settled, settled_place, opens_at, closes_at, closes_with, resumed, same_mark, colon_spot, comma_spot, semicolon_spot, bracket_spot, list_spot, list_end_spot, token_spot, letter_spot, quote_spot, step_settled, step_at, kind_of}
+use Rattle.mg_text.specs.Code.Machine.{at, comment, naming, token, piece, Frame, State, moves, settled, settled_place, opens_at, closes_at, closes_with, resumed, same_mark, colon_spot, comma_spot, semicolon_spot, bracket_spot, list_spot, list_end_spot, token_spot, letter_spot, quote_spot, step_settled, step_at, kind_of}
 use Rattle.mg_text.proofs.Appending.{append_none}
 use Rattle.mg_text.proofs.Names.{NameEnds, word_name, bracket_name}
 use Rattle.mg_text.proofs.Scalars.{ScalarEnds, word_token, zero_number, digit_number, point_number, minus_number}

@@ -8,7 +8,7 @@ use Rattle.mg_text.specs.declared.parts.ScalarPart.TheVariants as sp
 use Rattle.mg_text.specs.Byte.{class_of, is_letter, is_digit, is_hex, is_word_byte}
 use Rattle.mg_text.specs.Grammar as g
 use Rattle.mg_text.specs.Grammar.{AllOf, Begins, Some1, IsWord, IsPath, IsName, IsNumber, IsUnsigned, IsEnd, IsSign, IsSuffix}
-use Rattle.mg_text.specs.Machine.{name_next, scalar_next, is_whole_scalar}
+use Rattle.mg_text.specs.Code.Machine.{name_next, scalar_next, is_whole_scalar}
 use Rattle.mg_text.proofs.Names.{NameEnds}
 use Rattle.mg_text.proofs.Scalars.{ScalarEnds}
 

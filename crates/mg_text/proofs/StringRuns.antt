@@ -16,7 +16,7 @@ use Rattle.mg_text.specs.Byte.{IsTail, byte, class_of, is_octal, lead, follow, w
 use Rattle.mg_text.specs.Tree.{quoted, Fields, none, scalar, append}
 use Rattle.mg_text.specs.Grammar as g
 use Rattle.mg_text.specs.Grammar.{Place, joined, after, piece_slot, quote_class}
-use Rattle.mg_text.specs.Machine.{Spot, at, comment, piece, Frame, State, moves, settled, settled_place, quote_spot, step_settled, step_at, comment_spot, awaits, inside_next, is_closing_quote, goes_on, piece_spot, digit_onto, escape_next, accepts_spot, outcome}
+use Rattle.mg_text.specs.Code.Machine.{Spot, at, comment, piece, Frame, State, moves, settled, settled_place, quote_spot, step_settled, step_at, comment_spot, awaits, inside_next, is_closing_quote, goes_on, piece_spot, digit_onto, escape_next, accepts_spot, outcome}
 use Rattle.mg_text.proofs.Choices.{if_so}
 use Rattle.mg_text.proofs.ByteValues.{lead_beyond, octal_digit, first_octal_digit, octal_value}
 use Rattle.mg_text.proofs.Runs.{st, go}

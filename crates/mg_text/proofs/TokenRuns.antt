@@ -14,7 +14,7 @@ use Rattle.mg_text.specs.Byte.{class_of, is_letter, is_digit, is_hex, is_word_by
 use Rattle.mg_text.specs.Tree.{word, number, Fields, none, scalar, append}
 use Rattle.mg_text.specs.Grammar as g
 use Rattle.mg_text.specs.Grammar.{Apart, Place, start, named, valued, opened, element, after, scalar_slot}
-use Rattle.mg_text.specs.Machine.{at, naming, token, Frame, State, moves, settled, settled_place, token_spot, letter_spot, step_at, step_naming, step_token, final, accepts, outcome, name_next, scalar_next, is_whole_name, is_whole_scalar, kind_of}
+use Rattle.mg_text.specs.Code.Machine.{at, naming, token, Frame, State, moves, settled, settled_place, token_spot, letter_spot, step_at, step_naming, step_token, final, accepts, outcome, name_next, scalar_next, is_whole_name, is_whole_scalar, kind_of}
 use Rattle.mg_text.proofs.Choices.{some_same, if_so, both}
 use Rattle.mg_text.proofs.Names.{NameEnds}
 use Rattle.mg_text.proofs.Scalars.{ScalarEnds, same_kind}

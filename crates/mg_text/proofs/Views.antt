@@ -7,11 +7,12 @@ use Rattle.mg_text.specs.declared.tree.Tree.{Tree, out-Tree}
 use Rattle.mg_text.specs.declared.tree.TreeValue as values
 use Rattle.mg_text.specs.declared.tree.TreeValue.{TreeValue, the_lemmas}
 use Rattle.mg_text.specs.Tree.{Fields, none, scalar, message, append, depth}
-use Rattle.mg_text.specs.Canonical.{lines_of, scalar_line, message_lines, entry_lines, entry_depth}
+use Rattle.mg_text.specs.Canonical.{lines_of, scalar_line, message_lines}
+use Rattle.mg_text.specs.Code.Printing.{entry_lines, entry_depth}
 use Rattle.mg_text.specs.View.{Value, simple, inner, Entry, put, fields_of, fields_view, field_view, value_view, view, scalar_view}
 use Rattle.mg_text.specs.declared.machine.Frame.{Frame}
-use Rattle.mg_text.specs.Machine as model
-use Rattle.mg_text.specs.Running.{frames_of, frame_of}
+use Rattle.mg_text.specs.Code.Machine as model
+use Rattle.mg_text.specs.Code.Running.{frames_of, frame_of}
 
 put-append : (n : List ℕ) (v : Value) (a b : Fields) → append (put n v a) b ≡ put n v (append a b)
 put-append n (simple k bytes) a b = refl

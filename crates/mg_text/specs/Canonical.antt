@@ -1,10 +1,9 @@
 -- The canonical text of fields: what `print` writes.
 use Rattle.std.specs.Prelude.{◌≡◌, ℕ, suc, ◌+◌, ◌*◌, ◌/◌, ◌%◌, ◌<◌, List, [], ◌∷◌, ◌++◌, ◌||◌, ◌==◌, nat_lt, if◌then◌else◌, replicate, Option, Some, None}
 use Rattle.std.specs.List.{flat_map}
-use Rattle.mg_text.specs.Tree.{Kind, word, number, quoted, Fields, none, scalar, message, depth}
+use Rattle.mg_text.specs.Tree.{Kind, word, number, quoted, Fields, none, scalar, message}
 use Rattle.mg_text.specs.Byte.{lead, IsTail}
 use Rattle.mg_text.specs.Grammar.{IsName, IsWord, IsNumber}
-use Rattle.mg_text.specs.View.{Value, simple, inner}
 use Rattle.mg_text.specs.declared.parts.Tail.{Tail}
 
 -- two spaces for each open message
@@ -68,16 +67,3 @@ abbrev pub AreSpelled : Fields → Type 0
 AreSpelled none = Unit {0}
 AreSpelled (scalar name kind bytes rest) = IsName name × IsSpelled kind bytes × AreSpelled rest
 AreSpelled (message name within rest) = IsName name × AreSpelled within × AreSpelled rest
-
--- the lines of one field, and how deep it nests
-abbrev pub entry_lines : ℕ → List ℕ → Value → List ℕ
-entry_lines k name (simple kind bytes) = scalar_line k name kind bytes
-entry_lines k name (inner fields) = message_lines k name (lines_of (suc k) fields)
-
-abbrev pub entry_depth : Value → ℕ
-entry_depth (simple kind bytes) = 0
-entry_depth (inner fields) = suc (depth fields)
-
-abbrev pub value_text : Value → List ℕ
-value_text (simple kind bytes) = spelling kind bytes
-value_text (inner fields) = []

@@ -1,9 +1,7 @@
 pub mod Answer
 pub mod Byte
 pub mod Canonical
-pub mod Clean
+pub mod Code
 pub mod Grammar
-pub mod Machine
-pub mod Running
 pub mod Tree
 pub mod View

@@ -1,8 +1,8 @@
 ghost use Rattle.std.specs.Prelude.{◌≡◌, ℕ, List};
 ghost use Rattle.std.specs.Option.{option_map};
-ghost use Rattle.mg_text.specs.Machine.{comment_spot, colon_spot, comma_spot, semicolon_spot, list_end_spot, same_mark};
+ghost use Rattle.mg_text.specs.Code.Machine.{comment_spot, colon_spot, comma_spot, semicolon_spot, list_end_spot, same_mark};
 ghost use Rattle.mg_text.specs.Grammar.{scalar_slot, message_slot, list_slot, after};
-ghost use Rattle.mg_text.specs.Running.{place_of, spot_of, named_slot, named_list};
+ghost use Rattle.mg_text.specs.Code.Running.{place_of, spot_of, named_slot, named_list};
 
 use crate::class::{Class, follow, lead};
 use crate::parts::{Between, Mark, Reading, Slot, Tail};

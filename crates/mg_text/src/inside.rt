@@ -1,8 +1,8 @@
 ghost use Rattle.std.specs.Prelude.{◌≡◌};
 ghost use Rattle.std.specs.Option.{option_map};
-ghost use Rattle.mg_text.specs.Machine.{inside_next, is_closing_quote, plain_next, escape_next, digit_onto};
+ghost use Rattle.mg_text.specs.Code.Machine.{inside_next, is_closing_quote, plain_next, escape_next, digit_onto};
 ghost use Rattle.mg_text.specs.Grammar.{escaped, is_first_octal, in_piece};
-ghost use Rattle.mg_text.specs.Running.{spelling_of};
+ghost use Rattle.mg_text.specs.Code.Running.{spelling_of};
 
 use crate::class::{Class, follow, lead};
 use crate::parts::{Inside, Quote, Tail};

@@ -1,17 +1,14 @@
 ghost use Rattle.std.specs.Prelude.{◌≡◌, IfOk, OnOk, length, Some, IsUtf8};
-ghost use Rattle.mg_text.specs.Clean.{IsCleanPlace};
+ghost use Rattle.mg_text.specs.Code.Clean.{IsCleanPlace};
 ghost use Rattle.std.specs.Option.{option_map};
 ghost use Rattle.mg_text.specs.Tree.{none, scalar, message};
 ghost use Rattle.mg_text.specs.View.{fields_view, value_view, simple, inner};
-ghost use Rattle.mg_text.specs.Machine.{resumed, moves, settled, settled_place, opens_at, closes_at, name_next, scalar_next, begin, with_scalar, inside_next, is_closing_quote};
+ghost use Rattle.mg_text.specs.Code.Machine.{resumed, moves, settled, settled_place, opens_at, closes_at, begin, with_scalar};
 ghost use Rattle.mg_text.specs.Grammar.{message_slot, after};
-ghost use Rattle.mg_text.specs.Running.{state_of, frames_of, place_of, spot_of, kind_view, frame_of, Took};
+ghost use Rattle.mg_text.specs.Code.Running.{state_of, frames_of, place_of, spot_of, kind_view, frame_of, Took};
 
-use crate::between::{comment_next, same_mark};
-use crate::class::{Class, class_of};
-use crate::inside::{inside_next, is_closing_quote};
-use crate::next::{is_whole_name, is_whole_scalar, name_next, scalar_next};
-use crate::parts::{Between, Inside, Kind, Mark, NamePart, Quote, Reading, ScalarPart, Slot, Tail};
+use crate::between::same_mark;
+use crate::parts::{Between, Kind, Mark, Reading, Slot};
 use crate::tree::{Field, Scalar, Tree, TreeValue};
 use mg_value::MgText;
 use std::alloc::{AllocError, Global};

@@ -1,5 +1,5 @@
 ghost use Rattle.std.specs.Prelude.{◌≡◌, if◌then◌else◌};
-ghost use Rattle.mg_text.specs.Machine.{name_next, is_whole_name, scalar_next, is_whole_scalar};
+ghost use Rattle.mg_text.specs.Code.Machine.{name_next, is_whole_name, scalar_next, is_whole_scalar};
 
 use crate::class::Class;
 use crate::parts::{NamePart, ScalarPart};

@@ -4,7 +4,8 @@ ghost use Rattle.mg_text.specs.Tree.{Fields, depth};
 ghost use Rattle.mg_text.specs.Grammar.{Gives};
 ghost use Rattle.mg_text.specs.View.{view, fields_view, value_view, scalar_view};
 ghost use Rattle.mg_text.specs.Answer.{max_depth};
-ghost use Rattle.mg_text.specs.Canonical.{indent, escape, short_escape, canonical, lines_of, entry_lines, entry_depth, value_text, AreSpelled};
+ghost use Rattle.mg_text.specs.Canonical.{indent, escape, short_escape, canonical, lines_of, AreSpelled};
+ghost use Rattle.mg_text.specs.Code.Printing.{entry_lines, entry_depth, value_text};
 
 use crate::tree::{Field, Scalar, Tree, TreeValue};
 use std::alloc::{AllocError, Global};

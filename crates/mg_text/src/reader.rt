@@ -4,8 +4,8 @@ ghost use Rattle.mg_text.specs.Grammar.{Gives};
 ghost use Rattle.mg_text.specs.View.{view};
 ghost use Rattle.mg_text.specs.Canonical.{AreSpelled};
 ghost use Rattle.mg_text.specs.Answer.{max_len, max_depth, IsSyntaxFault, IsTooDeep, IsFault, IsTree, IsFailed};
-ghost use Rattle.mg_text.specs.Running.{state_of, spot_of, Ended, IsAnswered};
-ghost use Rattle.mg_text.specs.Clean.{IsClean};
+ghost use Rattle.mg_text.specs.Code.Running.{state_of, spot_of, Ended, IsAnswered};
+ghost use Rattle.mg_text.specs.Code.Clean.{IsClean};
 
 use crate::fault::TextFault;
 use crate::machine::Machine;

@@ -1,10 +1,10 @@
 ghost use Rattle.std.specs.Prelude.{◌≡◌, ◌++◌, ◌∷◌, [], IfOk, OnOk, is_some, IsUtf8};
-ghost use Rattle.mg_text.specs.Clean.{CharsTo, IsClean, IsCleanPlace};
+ghost use Rattle.mg_text.specs.Code.Clean.{CharsTo, IsClean, IsCleanPlace};
 ghost use Rattle.std.specs.Option.{option_map};
 ghost use Rattle.mg_text.specs.Byte.{class_of};
-ghost use Rattle.mg_text.specs.Machine.{step, step_at, step_settled, step_naming, step_token, moves, bracket_spot, token_spot, letter_spot, quote_spot, piece_spot, accepts, name_next, scalar_next, moved, kind_of, final};
+ghost use Rattle.mg_text.specs.Code.Machine.{step, step_at, step_settled, step_naming, step_token, moves, bracket_spot, token_spot, letter_spot, quote_spot, piece_spot, accepts, name_next, scalar_next, moved, kind_of, final};
 ghost use Rattle.mg_text.specs.Grammar.{scalar_slot, piece_slot, named};
-ghost use Rattle.mg_text.specs.Running.{state_of, place_of, spot_of, frames_of, kind_view, spelled, Took};
+ghost use Rattle.mg_text.specs.Code.Running.{state_of, place_of, spot_of, frames_of, kind_view, spelled, Took};
 ghost use Rattle.mg_text.specs.View.{view, fields_view};
 
 use crate::between::comment_next;

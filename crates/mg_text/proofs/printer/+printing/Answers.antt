@@ -1,5 +1,5 @@
 use Rattle.std.proofs.Common.{◌++◌, arith, ap, sym, ◌∙◌, append_assoc}
-use Rattle.mg_text.specs.Canonical.{entry_depth, entry_lines}
+use Rattle.mg_text.specs.Code.Printing.{entry_depth, entry_lines}
 use Rattle.mg_text.specs.View.{value_view}
 use Rattle.mg_text.proofs.Views.{lines_more, entry_within}
 use Rattle.mg_text.proofs.printer.+printing.Goals as goal

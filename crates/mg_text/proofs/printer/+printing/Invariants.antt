@@ -1,6 +1,7 @@
 use Rattle.std.proofs.Common.{◌≡◌, ◌++◌, ◌+◌, ◌*◌, take}
 use Rattle.mg_text.specs.Tree.{depth}
-use Rattle.mg_text.specs.Canonical.{lines_of, entry_depth}
+use Rattle.mg_text.specs.Canonical.{lines_of}
+use Rattle.mg_text.specs.Code.Printing.{entry_depth}
 use Rattle.mg_text.specs.View.{fields_view, value_view}
 use Rattle.mg_text.proofs.printer.+printing.Given as goal
 

@@ -1,4 +1,4 @@
-use Rattle.mg_text.specs.Running.{state_of}
+use Rattle.mg_text.specs.Code.Running.{state_of}
 use Rattle.mg_text.proofs.Clean.{step_clean}
 use Rattle.mg_text.proofs.Faults.{took_some}
 use Rattle.mg_text.proofs.reader.end.Goals as goal

@@ -1,8 +1,8 @@
 use Rattle.std.proofs.Common.{arith, subst, refl}
-use Rattle.mg_text.specs.Running.{state_of, Ended}
+use Rattle.mg_text.specs.Code.Running.{state_of, Ended}
 use Rattle.mg_text.proofs.Faults.{syntax_at, too_deep_at, reached_more, answered_end, reached_end, took_none, took_some}
 use Rattle.mg_text.proofs.Clean.{run_clean}
-use Rattle.mg_text.specs.Machine.{begin}
+use Rattle.mg_text.specs.Code.Machine.{begin}
 use Rattle.mg_text.proofs.reader.read.Goals as goal
 
 pub returns-then-not-branch : goal.returns-then-not-branch

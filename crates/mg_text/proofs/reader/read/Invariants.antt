@@ -1,5 +1,5 @@
 use Rattle.std.proofs.Common.{take}
-use Rattle.mg_text.specs.Running.{state_of}
+use Rattle.mg_text.specs.Code.Running.{state_of}
 use Rattle.mg_text.proofs.Faults.{Reached}
 use Rattle.mg_text.proofs.reader.read.Given as goal
 

@@ -1,5 +1,5 @@
 use Rattle.std.proofs.Common.{◌∙◌, ap, arith}
-use Rattle.mg_text.specs.Machine.{at}
+use Rattle.mg_text.specs.Code.Machine.{at}
 use Rattle.mg_text.proofs.Views.{pushed, same_state}
 use Rattle.mg_text.proofs.machine.Machine.emit.Goals as goal
 

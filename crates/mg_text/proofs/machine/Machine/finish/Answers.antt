@@ -1,6 +1,6 @@
 use Rattle.std.proofs.Common.{subst}
-use Rattle.mg_text.specs.Clean.{IsClean}
-use Rattle.mg_text.specs.Running.{spot_of}
+use Rattle.mg_text.specs.Code.Clean.{IsClean}
+use Rattle.mg_text.specs.Code.Running.{spot_of}
 use Rattle.mg_text.proofs.Clean.{clean_utf8}
 use Rattle.mg_text.proofs.machine.Machine.finish.Goals as goal
 

@@ -1,6 +1,6 @@
 use Rattle.std.proofs.Common.{subst}
-use Rattle.mg_text.specs.Clean.{IsCleanPlace}
-use Rattle.mg_text.specs.Running.{place_of}
+use Rattle.mg_text.specs.Code.Clean.{IsCleanPlace}
+use Rattle.mg_text.specs.Code.Running.{place_of}
 use Rattle.mg_text.proofs.Clean.{clean_utf8}
 use Rattle.mg_text.proofs.machine.Machine.settle.Goals as goal
 

@@ -11,8 +11,8 @@ use Rattle.mg_text.specs.declared.parts.Reading.{Reading}
 use Rattle.mg_text.specs.declared.parts.Reading.TheVariants as reading
 use Rattle.mg_text.specs.declared.parts.Inside.{Inside}
 use Rattle.mg_text.specs.Grammar.{Gives, Place, start, named, valued, opened, element, behind, joined}
-use Rattle.mg_text.specs.Machine as model
-use Rattle.mg_text.specs.Machine.{Spot, at, comment, naming, token, piece, State}
+use Rattle.mg_text.specs.Code.Machine as model
+use Rattle.mg_text.specs.Code.Machine.{Spot, at, comment, naming, token, piece, State}
 use Rattle.mg_text.specs.Tree as tree
 use Rattle.mg_text.specs.Tree.{depth}
 use Rattle.mg_text.specs.View.{view, fields_view}
