@@ -103,7 +103,7 @@ pub fn check(alloc: Global, kind: Message, fields: &[Field]) -> Result<(), Confi
         let Some((many, message)) = judged(rule) else {
             continue;
         };
-        if let Err(fault) = check(alloc, message, tree.fields.as_slice()) {
+        if let Err(fault) = check(alloc, message, tree.as_slice()) {
             return Err(inside(alloc, many, before, &field.name, fault));
         }
     }

@@ -96,5 +96,5 @@ pub fn read(alloc: Global, tree: &Tree) -> Result<GraphConfig, ConfigFault>
     ensures sound { IfOk result (λ graph. IsSound (config.graph_view graph)) }
     ensures printable { IfOk result (λ graph. AreSpelled (view tree.now) → depth (view tree.now) ≤ max_depth → IsPrintable (config.graph_view graph)) }
 {
-    read_fields(alloc, tree.fields.as_slice())
+    read_fields(alloc, tree.as_slice())
 }

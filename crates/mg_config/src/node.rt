@@ -58,10 +58,7 @@ fn extra_of(alloc: Global, fields: &[Field]) -> Result<NodeExtra, AllocError>
     let options = options_of(alloc, fields)?;
     let handler = message_named(fields, b"input_stream_handler");
     let handler = text_named(alloc, handler, b"input_stream_handler")?;
-    Ok(NodeExtra {
-        options: Tree { fields: options },
-        handler,
-    })
+    Ok(NodeExtra { options, handler })
 }
 
 fn node_with(

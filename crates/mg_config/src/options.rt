@@ -1,10 +1,11 @@
 //! The options of a node: what is in its `options` and `node_options`, in the order of the text.
-ghost use Rattle.std.specs.Prelude.{◌≡◌, ◌++◌, IfOk, OnOk, map};
-ghost use Rattle.mg_text.specs.View.{field_view, fields_view};
+ghost use Rattle.std.specs.Prelude.{◌≡◌, ◌++◌, IfOk, IfSome, OnOk, map};
+ghost use Rattle.std.specs.List.{list_any};
+ghost use Rattle.mg_text.specs.View.{field_view, fields_view, view};
 ghost use Rattle.mg_config.specs.Config as config;
 
 use crate::value::{fields_of, has_name};
-use mg_text::Field;
+use mg_text::{Field, Tree, TreeValue};
 use std::alloc::{AllocError, Global};
 
 fn is_option(field: &Field) -> bool
@@ -13,8 +14,14 @@ fn is_option(field: &Field) -> bool
     has_name(field, b"options") || has_name(field, b"node_options")
 }
 
+fn has_options(fields: &[Field]) -> bool
+    ensures { result ≡ list_any (λ field. config.is_option (field_view field)) fields.now }
+{
+    fields.iter().any(|field| is_option(field))
+}
+
 /// Copies fields to the end of a list.
-pub fn append_copies(
+fn append_copies(
     alloc: Global,
     out: &mut Vec<Field>,
     fields: &[Field],
@@ -27,8 +34,8 @@ pub fn append_copies(
     Ok(())
 }
 
-/// The options of a node.
-pub fn options_of(alloc: Global, fields: &[Field]) -> Result<Vec<Field>, AllocError>
+/// The options of a node that has them in several fields.
+fn joined_options(alloc: Global, fields: &[Field]) -> Result<Vec<Field>, AllocError>
     ensures { IfOk result (λ options. fields_view options.items ≡ config.options_in (map field_view fields.now)) }
 {
     let mut options = Vec::new(alloc);
@@ -39,4 +46,33 @@ pub fn options_of(alloc: Global, fields: &[Field]) -> Result<Vec<Field>, AllocEr
         append_copies(alloc, &mut options, fields_of(&field.value))?;
     }
     Ok(options)
+}
+
+/// The message that has all options of a node, if there is one.
+fn only_options(fields: &[Field]) -> Option<&Tree>
+    ensures { IfSome result (λ tree. view tree.now ≡ config.options_in (map field_view fields.now)) }
+{
+    for (i, field) in fields.iter().enumerate() {
+        if !is_option(field) {
+            continue;
+        }
+        let TreeValue::Message(tree) = &field.value else {
+            return None;
+        };
+        if has_options(fields.split_at(i + 1).1) {
+            return None;
+        }
+        return Some(tree);
+    }
+    None
+}
+
+/// The options of a node. They are shared with the message that has them all, and copied only where several have them.
+pub fn options_of(alloc: Global, fields: &[Field]) -> Result<Tree, AllocError>
+    ensures { IfOk result (λ options. view options ≡ config.options_in (map field_view fields.now)) }
+{
+    match only_options(fields) {
+        Some(tree) => tree.try_clone(),
+        None => Tree::new(alloc, joined_options(alloc, fields)?),
+    }
 }

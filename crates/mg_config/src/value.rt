@@ -56,7 +56,7 @@ pub fn fields_of(value: &TreeValue) -> &[Field]
     ensures { fields_view result.now ≡ values.fields_of_value (value_view value.now) }
 {
     match value {
-        TreeValue::Message(tree) => tree.fields.as_slice(),
+        TreeValue::Message(tree) => tree.as_slice(),
         _ => &[],
     }
 }

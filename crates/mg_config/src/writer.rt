@@ -5,7 +5,6 @@ ghost use Rattle.mg_text.specs.View.{Value, simple, inner, field_view, value_vie
 ghost use Rattle.mg_config.specs.Values.{entry};
 ghost use Rattle.mg_config.specs.Written as written;
 
-use crate::options::append_copies;
 use mg_names::{Port, PortMap, print_port};
 use mg_text::{Field, Scalar, Tree, TreeValue};
 use mg_value::MgText;
@@ -43,7 +42,8 @@ pub fn put_message(
 ) -> Result<(), AllocError>
     ensures { OnOk result (map field_view out.new.items ≡ map field_view out.old.items ++ entry name.now (inner (fields_view fields.items)) ∷ []) }
 {
-    put(alloc, out, name, TreeValue::Message(Tree { fields }))
+    let tree = Tree::new(alloc, fields)?;
+    put(alloc, out, name, TreeValue::Message(tree))
 }
 
 pub fn put_text(
@@ -93,16 +93,14 @@ pub fn put_ports(
     Ok(())
 }
 
-pub fn put_options(alloc: Global, out: &mut Vec<Field>, options: &[Field]) -> Result<(), AllocError>
-    ensures { OnOk result (map field_view out.new.items ≡ map field_view out.old.items ++ written.options_field (fields_view options.now)) }
+pub fn put_options(alloc: Global, out: &mut Vec<Field>, options: &Tree) -> Result<(), AllocError>
+    ensures { OnOk result (map field_view out.new.items ≡ map field_view out.old.items ++ written.options_field (view options.now)) }
 {
-    if options.is_empty() {
+    if options.as_slice().is_empty() {
         return Ok(());
     }
-    let mut fields = Vec::new(alloc);
-    append_copies(alloc, &mut fields, options)?;
-    put_message(alloc, out, "options", fields)?;
-    Ok(())
+    let options = options.try_clone()?;
+    put(alloc, out, "options", TreeValue::Message(options))
 }
 
 pub fn put_handler(alloc: Global, out: &mut Vec<Field>, handler: &MgText) -> Result<(), AllocError>

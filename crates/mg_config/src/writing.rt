@@ -81,7 +81,7 @@ fn put_ends(alloc: Global, out: &mut Vec<Field>, node: &NodeConfig) -> Result<()
     put_handler(alloc, out, &node.handler)?;
     put_number(alloc, out, "max_in_flight", node.max_in_flight)?;
     put_number(alloc, out, "buffer_size_hint", node.buffer_size_hint)?;
-    put_options(alloc, out, node.options.fields.as_slice())?;
+    put_options(alloc, out, &node.options)?;
     Ok(())
 }
 
@@ -150,5 +150,5 @@ pub fn write(alloc: Global, config: &GraphConfig) -> Result<Tree, AllocError>
     ensures shallow { IfOk result (λ tree. IsPrintable (graph_view config.now) → depth (view tree) ≤ max_depth) }
 {
     let fields = graph_fields(alloc, config)?;
-    Ok(Tree { fields })
+    Tree::new(alloc, fields)
 }

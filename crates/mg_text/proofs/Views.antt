@@ -34,7 +34,7 @@ value-message t = search (rules, the_lemmas)
 pub field-record : (f : Field) → field_view f ≡ record { name = f.name; value = value_view f.value }
 field-record f = search (rules, the_lemmas)
 
-pub view-record : (t : Tree) → view t ≡ fields_view (out-Tree t).fields.items
+pub view-record : (t : Tree) → view t ≡ fields_view (out-Tree t).fields.value.items
 view-record t = search (rules, the_lemmas)
 
 pub frames_of-push : (fs : List Frame) (f : Frame) → frames_of (fs ++ f ∷ []) ≡ frame_of f ∷ frames_of fs

@@ -40,7 +40,7 @@ abbrev pub field_step : Field-F Value Entry Fields → Entry
 field_step f = record { name = f.name; value = f.value }
 
 abbrev pub tree_step : Tree-F Value Entry Fields → Fields
-tree_step t = fields_of t.fields.items
+tree_step t = fields_of t.fields.value.items
 
 abbrev pub view : Tree → Fields
 view = fold-Tree Value Entry Fields value_step field_step tree_step

@@ -19,4 +19,4 @@ mod tree;
 pub use fault::TextFault;
 pub use printer::print;
 pub use reader::parse;
-pub use tree::{Field, Scalar, Tree, TreeValue};
+pub use tree::{Field, FieldList, Scalar, Tree, TreeValue};

@@ -52,10 +52,11 @@ fn scalar_of(kind: Kind, text: MgText) -> TreeValue
     }
 }
 
-fn message_of(fields: Vec<Field>) -> TreeValue
-    ensures { value_view result ≡ inner (fields_view fields.items) }
+fn message_of(alloc: Global, fields: Vec<Field>) -> Result<TreeValue, AllocError>
+    ensures { IfOk result (λ value. value_view value ≡ inner (fields_view fields.items)) }
 {
-    TreeValue::Message(Tree { fields })
+    let tree = Tree::new(alloc, fields)?;
+    Ok(TreeValue::Message(tree))
 }
 
 impl Machine {
@@ -181,7 +182,7 @@ impl Machine {
         let fields = mem::replace(&mut self.done, before);
         self.name = name;
         let name = self.take_name(alloc, slot)?;
-        let value = message_of(fields);
+        let value = message_of(alloc, fields)?;
         self.done.push(Field { name, value })?;
         self.reading = Reading::At(Between::after(slot));
         Ok(())

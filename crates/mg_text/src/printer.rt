@@ -102,7 +102,7 @@ fn put_field(out: &mut Vec<u8>, field: &Field, k: usize) -> Result<(), AllocErro
         }
         TreeValue::Message(tree) => {
             out.extend_from_slice(b" {\n")?;
-            put_fields(out, &tree.fields, k + 1)?;
+            put_fields(out, tree.as_slice(), k + 1)?;
             put_indent(out, k)?;
             out.extend_from_slice(b"}\n")?;
         }
@@ -126,7 +126,7 @@ fn written(alloc: Global, tree: &Tree) -> Result<Vec<u8>, AllocError>
     ensures { IfOk result (λ text. text.items ≡ canonical (view tree.now)) }
 {
     let mut out = Vec::new(alloc);
-    put_fields(&mut out, &tree.fields, 0)?;
+    put_fields(&mut out, tree.as_slice(), 0)?;
     Ok(out)
 }
 

@@ -315,11 +315,11 @@ impl Machine {
         if !self.may_end(p) {
             return Ok(None);
         }
-        Ok(Some(self.into_tree()))
+        Ok(Some(self.into_tree(alloc)?))
     }
 
-    fn into_tree(self) -> Tree
-        ensures { view result ≡ fields_view self.done.items }
+    fn into_tree(self, alloc: Global) -> Result<Tree, AllocError>
+        ensures { IfOk result (λ tree. view tree ≡ fields_view self.done.items) }
     {
         let Machine {
             done,
@@ -328,7 +328,7 @@ impl Machine {
             name: _,
             token: _,
         } = self;
-        Tree { fields: done }
+        Tree::new(alloc, done)
     }
 }
 

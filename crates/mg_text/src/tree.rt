@@ -1,10 +1,18 @@
-use mg_value::MgText;
+ghost use Rattle.std.specs.Prelude.{◌≡◌, IfOk};
+ghost use Rattle.mg_text.specs.View.{view, fields_view};
 
-/// The fields of a file or of a message, in the order of the text.
+use mg_value::MgText;
+use std::alloc::{AllocError, Global};
+use std::sync::Arc;
+
+/// Fields, in the order of the text. They don't change once they are made, so their owners share them.
+pub type FieldList = Arc<Vec<Field>>;
+
+/// The fields of a file or of a message.
 #[cycle(tree)]
 #[derive(Debug, Drop)]
 pub struct Tree {
-    pub fields: Vec<Field>,
+    pub fields: FieldList,
 }
 
 /// A field: its name, and one value. A list stands for fields of one name.
@@ -29,4 +37,22 @@ pub enum Scalar {
     Word(MgText),
     Number(MgText),
     Quoted(MgText),
+}
+
+impl Tree {
+    /// The tree of fields, in a block with no room for more.
+    pub fn new(alloc: Global, mut fields: Vec<Field>) -> Result<Tree, AllocError>
+        ensures { IfOk result (λ tree. view tree ≡ fields_view fields.items) }
+    {
+        fields.shrink_to_fit();
+        let fields = Arc::new(alloc, fields)?;
+        Ok(Tree { fields })
+    }
+
+    /// The fields.
+    pub fn as_slice(&self) -> &[Field]
+        ensures { fields_view result.now ≡ view self.now }
+    {
+        self.fields.as_slice()
+    }
 }

@@ -14,4 +14,4 @@ pub returns-clause-printable : goal.returns-clause-printable
 returns-clause-printable c =
     IfOk-weaker c.read_fields.result _ _
     (λ graph made. printable_of (view c.args.tree.now) (graph_view graph)
-    (ap config_of (view-record c.args.tree.now ∙ ap fields_view (sym c.as_slice.ensures.value)) ∙ made)) c.read_fields.ensures.ok
+    (ap config_of (sym c.as_slice.ensures) ∙ made)) c.read_fields.ensures.ok
