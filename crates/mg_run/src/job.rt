@@ -38,26 +38,30 @@ pub fn job_of(alloc: Global, verb: Verb, file: &str, content: &[u8]) -> Result<J
     ensures { IfOk result (λ job. IsJob (command verb file.now) content.now (job_view job)) }
 {
     match parse(alloc, content) {
-        Ok(tree) => tree_job(alloc, verb, file, &tree),
+        Ok(tree) => tree_job(alloc, verb, file, tree),
         Err(fault) => Ok(Job::Refuse(text_note(alloc, file, &fault)?)),
     }
 }
 
-fn tree_job(alloc: Global, verb: Verb, file: &str, tree: &Tree) -> Result<Job, AllocError>
-    requires spelled { AreSpelled (view tree.now) }
-    requires shallow { depth (view tree.now) ≤ max_depth }
-    ensures { IfOk result (λ job. (content : List ℕ) → IsText content (view tree.now) → IsJob (command verb file.now) content (job_view job)) }
+// Each thing is let go once the next is made of it: a tree, its configuration, the tree that is written.
+fn tree_job(alloc: Global, verb: Verb, file: &str, tree: Tree) -> Result<Job, AllocError>
+    requires spelled { AreSpelled (view tree) }
+    requires shallow { depth (view tree) ≤ max_depth }
+    ensures { IfOk result (λ job. (content : List ℕ) → IsText content (view tree) → IsJob (command verb file.now) content (job_view job)) }
 {
-    match read(alloc, tree) {
-        Ok(graph) => graph_job(alloc, verb, &graph),
+    match read(alloc, &tree) {
+        Ok(graph) => {
+            drop(tree);
+            graph_job(alloc, verb, graph)
+        }
         Err(fault) => Ok(Job::Refuse(config_note(alloc, file, &fault)?)),
     }
 }
 
-fn graph_job(alloc: Global, verb: Verb, graph: &GraphConfig) -> Result<Job, AllocError>
-    requires sound { IsSound (graph_view graph.now) }
-    requires printable { IsPrintable (graph_view graph.now) }
-    ensures { IfOk result (λ job. job_view job ≡ answers.graph_job verb (graph_view graph.now)) }
+fn graph_job(alloc: Global, verb: Verb, graph: GraphConfig) -> Result<Job, AllocError>
+    requires sound { IsSound (graph_view graph) }
+    requires printable { IsPrintable (graph_view graph) }
+    ensures { IfOk result (λ job. job_view job ≡ answers.graph_job verb (graph_view graph)) }
 {
     let text = text_of(alloc, graph)?;
     match verb {
@@ -67,12 +71,13 @@ fn graph_job(alloc: Global, verb: Verb, graph: &GraphConfig) -> Result<Job, Allo
 }
 
 /// The text of a configuration.
-fn text_of(alloc: Global, graph: &GraphConfig) -> Result<Vec<u8>, AllocError>
-    requires sound { IsSound (graph_view graph.now) }
-    requires printable { IsPrintable (graph_view graph.now) }
-    ensures { IfOk result (λ text. text.items ≡ answers.text_of (graph_view graph.now)) }
+fn text_of(alloc: Global, graph: GraphConfig) -> Result<Vec<u8>, AllocError>
+    requires sound { IsSound (graph_view graph) }
+    requires printable { IsPrintable (graph_view graph) }
+    ensures { IfOk result (λ text. text.items ≡ answers.text_of (graph_view graph)) }
 {
-    let tree = write(alloc, graph)?;
+    let tree = write(alloc, &graph)?;
+    drop(graph);
     print(alloc, &tree)
 }
 
