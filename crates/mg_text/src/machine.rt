@@ -12,7 +12,7 @@ use crate::parts::{Between, Kind, Mark, Reading, Slot};
 use crate::tree::{Field, Scalar, Tree, TreeValue};
 use mg_value::MgText;
 use std::alloc::{AllocError, Global};
-use std::mem;
+use std::{mem, str};
 
 /// A message that is open: the fields before it, its name, where it stands and its mark.
 #[derive(Drop)]
@@ -35,11 +35,11 @@ pub struct Machine {
 }
 
 /// The text of bytes that are UTF-8.
-pub fn text_of(bytes: Vec<u8>) -> MgText
-    requires { IsUtf8 bytes.items }
-    ensures { result ≡ bytes.items }
+pub fn text_of(alloc: Global, bytes: &[u8]) -> Result<MgText, AllocError>
+    requires { IsUtf8 bytes.now }
+    ensures { IfOk result (λ text. text ≡ bytes.now) }
 {
-    MgText::from_string(String::from_utf8(bytes).unwrap())
+    MgText::new(alloc, str::from_utf8(bytes).unwrap())
 }
 
 fn scalar_of(kind: Kind, text: MgText) -> TreeValue
@@ -105,8 +105,7 @@ impl Machine {
         ensures place { IfOk result (λ q. place_of q self.new.name self.new.token.items ≡ after self.old.name slot) }
     {
         let name = self.take_name(alloc, slot)?;
-        let bytes = mem::replace(&mut self.token, Vec::new(alloc));
-        let value = scalar_of(kind, text_of(bytes));
+        let value = scalar_of(kind, text_of(alloc, &self.token)?);
         self.done.push(Field { name, value })?;
         let place = Between::after(slot);
         self.reading = Reading::At(place);

@@ -15,7 +15,6 @@ use crate::next::{is_whole_name, is_whole_scalar, name_next, scalar_next};
 use crate::parts::{Between, Inside, Kind, Mark, NamePart, Quote, Reading, ScalarPart, Slot, Tail};
 use crate::tree::Tree;
 use std::alloc::{AllocError, Global};
-use std::mem;
 
 impl Machine {
     /// Begins a token with its first byte.
@@ -188,7 +187,7 @@ impl Machine {
             }
             None => {
                 if is_whole_name(part) && !c.joins() {
-                    self.end_name(alloc);
+                    self.end_name(alloc)?;
                     self.step_at(alloc, Between::Named, c, b)
                 } else {
                     Ok(false)
@@ -198,14 +197,14 @@ impl Machine {
     }
 
     /// Takes the name that has been read.
-    fn end_name(&mut self, alloc: Global)
+    fn end_name(&mut self, alloc: Global) -> Result<(), AllocError>
         requires { IsUtf8 self.old.token.items }
-        ensures state { state_of self.new ≡ moved (state_of self.old) (named self.old.token.items) }
-        ensures name { self.new.name ≡ self.old.token.items }
+        ensures state { OnOk result (state_of self.new ≡ moved (state_of self.old) (named self.old.token.items)) }
+        ensures name { OnOk result (self.new.name ≡ self.old.token.items) }
     {
-        let bytes = mem::replace(&mut self.token, Vec::new(alloc));
-        self.name = text_of(bytes);
+        self.name = text_of(alloc, &self.token)?;
         self.reading = Reading::At(Between::Named);
+        Ok(())
     }
 
     fn step_scalar(

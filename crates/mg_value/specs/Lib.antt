@@ -1,3 +1,4 @@
+pub mod Code
 pub mod Extension
 pub mod Loopback
 pub mod Payload

@@ -1,20 +1,31 @@
 ghost use Rattle.std.specs.Prelude.{◌≡◌, ◌↔◌, IsTrue, IfOk, string_bytes, IsUtf8};
 
+use arrayvec::ArrayString;
 use std::alloc::{AllocError, Global};
 use std::marker::Model;
 
-/// A name or another text, UTF-8. Contracts see it as the list of its bytes.
+/// A name or another text, UTF-8. Contracts see it as the list of its bytes. One of at most 16 bytes takes no memory
+/// beside itself.
 #[derive(Debug, Drop)]
 pub struct MgText {
-    text: String,
+    kept: Kept,
+}
+
+/// Where the bytes of a text are: in it, or in a block of their own.
+#[derive(Debug, Drop)]
+enum Kept {
+    Short(ArrayString<16>),
+    Long(String),
 }
 
 impl Model for MgText {
-    ghost use Rattle.std.specs.Prelude.{ℕ, List, string_bytes};
+    ghost use Rattle.std.specs.Prelude.{ℕ, List};
 
     ghost Value = { List ℕ };
 
-    ghost view = { λ t. string_bytes t.text };
+    ghost use Rattle.mg_value.specs.Code.Text.{bytes_of};
+
+    ghost view = { λ t. bytes_of t.kept };
 }
 
 impl MgText {
@@ -22,23 +33,32 @@ impl MgText {
     pub fn new(alloc: Global, text: &str) -> Result<MgText, AllocError>
         ensures { IfOk result (λ t. t ≡ text.now) }
     {
-        Ok(MgText {
-            text: String::from_str(alloc, text)?,
-        })
+        let kept = match ArrayString::from(text) {
+            Ok(short) => Kept::Short(short),
+            Err(_) => Kept::Long(String::from_str(alloc, text)?),
+        };
+        Ok(MgText { kept })
     }
 
     /// The text of a string.
     pub fn from_string(text: String) -> MgText
         ensures { result ≡ string_bytes text }
     {
-        MgText { text }
+        let kept = match ArrayString::from(text.as_str()).ok() {
+            Some(short) => Kept::Short(short),
+            None => Kept::Long(text),
+        };
+        MgText { kept }
     }
 
     /// The text.
     pub fn as_str(&self) -> &str
         ensures { result.now ≡ self.now }
     {
-        self.text.as_str()
+        match &self.kept {
+            Kept::Short(text) => text.as_str(),
+            Kept::Long(text) => text.as_str(),
+        }
     }
 
     /// The bytes, which are UTF-8.
@@ -46,7 +66,7 @@ impl MgText {
         ensures bytes { result.now ≡ self.now }
         ensures utf8 { IsUtf8 result.now }
     {
-        self.text.as_str().as_bytes()
+        self.as_str().as_bytes()
     }
 
     /// Whether these are its bytes.
