@@ -1,7 +1,7 @@
 -- Bytes beyond ASCII, and octal digits: their classes and their values.
 use Rattle.std.proofs.Common.{arith, ◌≤◌, ◌≡◌, ℕ, ◌-◌, true, Some}
 use Rattle.std.proofs.lemmas.Bool.Decides.{nat_tests}
-use Rattle.mg_text.specs.declared.class.Class.TheVariants.{Beyond}
+use Rattle.mg_text.specs.declared.parts.Class.TheVariants.{Beyond}
 use Rattle.mg_text.specs.declared.parts.Tail.{Tail}
 use Rattle.mg_text.specs.Byte.{below_digits, digit_class, upper_class, lower_class, class_of, is_octal, lead}
 use Rattle.mg_text.specs.Grammar.{is_first_octal, octal}

@@ -1,7 +1,7 @@
 -- How deep the messages nest that a state has read.
 use Rattle.std.proofs.Common.{max, length, suc, arith, ◌≤◌, ◌≡◌, ℕ, List, [], ◌∷◌, Bool, true, false, not, ◌&&◌, cond, Option, Some, None, refl, subst}
-use Rattle.mg_text.specs.declared.class.Class.{Class}
-use Rattle.mg_text.specs.declared.class.Class.TheVariants.{Blank, LineFeed, Hash, DoubleQuote, SingleQuote, Colon, Comma, Semicolon, BraceOpen, BraceClose, AngleOpen, AngleClose, BracketOpen, BracketClose, Minus, Dot, Zero, One, OctalDigit, Digit, LetterE, LetterF, HexLetter, LetterX, LetterN, LetterR, LetterT, Letter, Beyond}
+use Rattle.mg_text.specs.declared.parts.Class.{Class}
+use Rattle.mg_text.specs.declared.parts.Class.TheVariants.{Blank, LineFeed, Hash, DoubleQuote, SingleQuote, Colon, Comma, Semicolon, BraceOpen, BraceClose, AngleOpen, AngleClose, BracketOpen, BracketClose, Minus, Dot, Zero, One, OctalDigit, Digit, LetterE, LetterF, HexLetter, LetterX, LetterN, LetterR, LetterT, Letter, Beyond}
 use Rattle.mg_text.specs.declared.parts.Mark.{Mark}
 use Rattle.mg_text.specs.declared.parts.Mark.TheVariants.{Brace, Angle}
 use Rattle.mg_text.specs.declared.parts.Quote.{Quote}
@@ -10,10 +10,10 @@ use Rattle.mg_text.specs.declared.parts.Slot.{Slot}
 use Rattle.mg_text.specs.declared.parts.Slot.TheVariants as slots
 use Rattle.mg_text.specs.declared.parts.Tail.{Tail}
 use Rattle.mg_text.specs.declared.parts.Tail.TheVariants.{Whole}
-use Rattle.mg_text.specs.declared.parts.NamePart.{NamePart}
-use Rattle.mg_text.specs.declared.parts.ScalarPart.{ScalarPart}
-use Rattle.mg_text.specs.declared.parts.ScalarPart.TheVariants as sp
-use Rattle.mg_text.specs.declared.parts.Inside.{Inside}
+use Rattle.mg_text.specs.declared.state.NamePart.{NamePart}
+use Rattle.mg_text.specs.declared.state.ScalarPart.{ScalarPart}
+use Rattle.mg_text.specs.declared.state.ScalarPart.TheVariants as sp
+use Rattle.mg_text.specs.declared.state.Inside.{Inside}
 use Rattle.mg_text.specs.Byte.{class_of, joins, lead, follow}
 use Rattle.mg_text.specs.Tree.{Kind, quoted, Fields, none, scalar, message, append, depth}
 use Rattle.mg_text.specs.Grammar.{Place, start, named, valued, opened, element, behind, joined, after, scalar_slot, message_slot, piece_slot}

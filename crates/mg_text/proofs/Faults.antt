@@ -16,7 +16,7 @@ use Rattle.mg_text.specs.Canonical.{AreSpelled, canonical}
 use Rattle.mg_text.proofs.Finish.{Completion, finish}
 use Rattle.mg_text.proofs.Depth.{Shallow, deep, step_shallow, spot_deep, place_deep, depth-scalar}
 use Rattle.mg_text.specs.Answer.{max_depth, BeginsText, BeginsShallowText, IsSyntaxFault, IsTooDeep, IsFault, IsTree, IsFailed}
-use Rattle.mg_text.specs.Code.Running.{IsAnswered, Ended, Took}
+use Rattle.mg_text.specs.Code.Running.{IsAnswered, FileEnds, Stepped}
 use Rattle.std.proofs.lemmas.Bool.{cases_lt}
 use Rattle.mg_text.specs.View.{view}
 use Rattle.mg_text.specs.declared.tree.Tree.{Tree}
@@ -310,18 +310,18 @@ answers_too_deep file (Err (TooDeep there)) place h k = ap TooDeep (one_too_deep
 answers_too_deep file (Err TooLong) place h k = absurd h
 answers_too_deep file (Err OutOfMemory) place h k = tt
 
-pub answered_end : (file : List ℕ) (s : State) (r : Result Tree TextFault) → Reached file s → Ended s (length file) r → IsAnswered file r
+pub answered_end : (file : List ℕ) (s : State) (r : Result Tree TextFault) → Reached file s → FileEnds s (length file) r → IsAnswered file r
 answered_end file s (Ok tree) h e = read_at_end file s (view tree) h e
 answered_end file s (Err (Syntax there)) h e = subst (IsSyntaxFault file) (sym e.0) (syntax_at_end file s h e.1)
 answered_end file s (Err (TooDeep there)) h e = absurd e
 answered_end file s (Err TooLong) h e = e
 answered_end file s (Err OutOfMemory) h e = tt
 
-pub took_none : (o : Option State) (b : Bool) (s : State) → Took o b s → b ≡ false → o ≡ None
+pub took_none : (o : Option State) (b : Bool) (s : State) → Stepped o b s → b ≡ false → o ≡ None
 took_none o true s h e = cc
 took_none o false s h e = h
 
-pub took_some : (o : Option State) (b : Bool) (s : State) → Took o b s → b ≡ true → o ≡ Some s
+pub took_some : (o : Option State) (b : Bool) (s : State) → Stepped o b s → b ≡ true → o ≡ Some s
 took_some o true s h e = h
 took_some o false s h e = cc
 

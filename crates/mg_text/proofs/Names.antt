@@ -1,10 +1,10 @@
 -- What completes a name of which a part is read, and how such a rest makes a name of the grammar.
 use Rattle.std.proofs.Common.{◌≡◌, ℕ, List, [], ◌∷◌, ◌++◌, Bool, true, false, Some, refl, sym, ap, subst, ◌⊎◌, inl, inr, append_assoc}
 use Rattle.std.proofs.lemmas.List.{append-nil}
-use Rattle.mg_text.specs.declared.class.Class.{Class}
-use Rattle.mg_text.specs.declared.class.Class.TheVariants.{BracketOpen, BracketClose, Dot, Slash}
-use Rattle.mg_text.specs.declared.parts.NamePart.{NamePart}
-use Rattle.mg_text.specs.declared.parts.NamePart.TheVariants as np
+use Rattle.mg_text.specs.declared.parts.Class.{Class}
+use Rattle.mg_text.specs.declared.parts.Class.TheVariants.{BracketOpen, BracketClose, Dot, Slash}
+use Rattle.mg_text.specs.declared.state.NamePart.{NamePart}
+use Rattle.mg_text.specs.declared.state.NamePart.TheVariants as np
 use Rattle.mg_text.specs.Byte.{class_of, is_letter, is_word_byte}
 use Rattle.mg_text.specs.Grammar as g
 use Rattle.mg_text.specs.Grammar.{AllOf, IsWord, IsPath, IsName}

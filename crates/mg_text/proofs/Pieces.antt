@@ -1,13 +1,13 @@
 -- What completes a comment or a piece of a string of which a part is read, and how such a rest makes one of the grammar.
 use Rattle.std.proofs.Common.{◌≡◌, ℕ, ◌-◌, List, [], ◌∷◌, ◌++◌, true, Option, Some, None, refl, sym, ap, ◌∙◌, subst}
 use Rattle.std.specs.Option.{option_map}
-use Rattle.mg_text.specs.declared.class.Class.{Class}
-use Rattle.mg_text.specs.declared.class.Class.TheVariants.{Backslash, Beyond}
+use Rattle.mg_text.specs.declared.parts.Class.{Class}
+use Rattle.mg_text.specs.declared.parts.Class.TheVariants.{Backslash, Beyond}
 use Rattle.mg_text.specs.declared.parts.Quote.{Quote}
 use Rattle.mg_text.specs.declared.parts.Tail.{Tail}
 use Rattle.mg_text.specs.declared.parts.Tail.TheVariants.{Whole}
-use Rattle.mg_text.specs.declared.parts.Inside.{Inside}
-use Rattle.mg_text.specs.declared.parts.Inside.TheVariants.{Plain, Escape, Second, Third}
+use Rattle.mg_text.specs.declared.state.Inside.{Inside}
+use Rattle.mg_text.specs.declared.state.Inside.TheVariants.{Plain, Escape, Second, Third}
 use Rattle.mg_text.specs.Byte.{class_of, is_octal, lead, follow, IsTail, whole as no_tail, byte}
 use Rattle.mg_text.specs.Grammar as g
 use Rattle.mg_text.specs.Grammar.{IsLine, IsContent, in_line, in_piece, escaped, is_first_octal, octal}

@@ -3,8 +3,8 @@ use Rattle.std.proofs.Common.{arith, zero, suc, ◌≡◌, ℕ, ◌+◌, ◌*◌
 use Rattle.std.proofs.lemmas.List.{append-nil}
 use Rattle.std.proofs.lemmas.Bool.Decides.{nat_tests}
 use Rattle.std.specs.List.{flat_map}
-use Rattle.mg_text.specs.declared.class.Class.{Class}
-use Rattle.mg_text.specs.declared.class.Class.TheVariants.{DoubleQuote, SingleQuote, Backslash, Beyond, LetterN, LetterR, LetterT}
+use Rattle.mg_text.specs.declared.parts.Class.{Class}
+use Rattle.mg_text.specs.declared.parts.Class.TheVariants.{DoubleQuote, SingleQuote, Backslash, Beyond, LetterN, LetterR, LetterT}
 use Rattle.mg_text.specs.declared.parts.Quote.{Quote}
 use Rattle.mg_text.specs.declared.parts.Quote.TheVariants.{Single, Double}
 use Rattle.mg_text.specs.declared.parts.Mark.TheVariants.{Brace}

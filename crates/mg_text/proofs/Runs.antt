@@ -1,7 +1,7 @@
 -- A step of the machine, and how it runs through blanks and comments.
 use Rattle.std.proofs.Common.{◌≡◌, ℕ, List, ◌∷◌, ◌++◌, true, Some, refl, ap, ◌∙◌, append_assoc, option_and_then}
-use Rattle.mg_text.specs.declared.class.Class.{Class}
-use Rattle.mg_text.specs.declared.class.Class.TheVariants.{Blank, LineFeed, Hash, Beyond}
+use Rattle.mg_text.specs.declared.parts.Class.{Class}
+use Rattle.mg_text.specs.declared.parts.Class.TheVariants.{Blank, LineFeed, Hash, Beyond}
 use Rattle.mg_text.specs.declared.parts.Tail.{Tail}
 use Rattle.mg_text.specs.declared.parts.Tail.TheVariants.{Whole}
 use Rattle.mg_text.specs.Byte.{IsTail, byte, class_of, is_blank, follow, whole as no_tail}

@@ -1,9 +1,9 @@
 -- Words and numbers of which a part is read: they keep their kind, and what completes one makes one of the grammar.
 use Rattle.std.proofs.Common.{◌≡◌, ℕ, List, [], ◌∷◌, ◌++◌, Bool, true, false, cond, Some, None, refl, sym, ap, subst, ◌⊎◌, inl, inr}
-use Rattle.mg_text.specs.declared.class.Class.{Class}
-use Rattle.mg_text.specs.declared.class.Class.TheVariants.{Minus, Plus, Dot, Zero, LetterE, LetterF, LetterX}
-use Rattle.mg_text.specs.declared.parts.ScalarPart.{ScalarPart}
-use Rattle.mg_text.specs.declared.parts.ScalarPart.TheVariants as sp
+use Rattle.mg_text.specs.declared.parts.Class.{Class}
+use Rattle.mg_text.specs.declared.parts.Class.TheVariants.{Minus, Plus, Dot, Zero, LetterE, LetterF, LetterX}
+use Rattle.mg_text.specs.declared.state.ScalarPart.{ScalarPart}
+use Rattle.mg_text.specs.declared.state.ScalarPart.TheVariants as sp
 use Rattle.mg_text.specs.Byte.{class_of, is_letter, is_digit, is_hex, is_word_byte}
 use Rattle.mg_text.specs.Grammar as g
 use Rattle.mg_text.specs.Grammar.{AllOf, Some1, IsWord, IsNumber, IsUnsigned, IsEnd, IsSuffix}

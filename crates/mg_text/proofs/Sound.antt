@@ -2,17 +2,17 @@
 -- grammar's rules.
 use Rattle.std.proofs.Common.{◌≡◌, ℕ, List, [], ◌∷◌, ◌++◌, Bool, true, false, not, ◌&&◌, cond, Option, Some, None, refl, sym, ap, ◌∙◌, subst, ◌⊎◌, inl, inr, append_assoc, option_and_then}
 use Rattle.std.proofs.lemmas.List.{append-nil}
-use Rattle.mg_text.specs.declared.class.Class.{Class}
-use Rattle.mg_text.specs.declared.class.Class.TheVariants.{LineFeed, DoubleQuote, SingleQuote, Beyond}
+use Rattle.mg_text.specs.declared.parts.Class.{Class}
+use Rattle.mg_text.specs.declared.parts.Class.TheVariants.{LineFeed, DoubleQuote, SingleQuote, Beyond}
 use Rattle.mg_text.specs.declared.parts.Quote.{Quote}
 use Rattle.mg_text.specs.declared.parts.Quote.TheVariants.{Single, Double}
 use Rattle.mg_text.specs.declared.parts.Slot.{Slot}
 use Rattle.mg_text.specs.declared.parts.Tail.{Tail}
 use Rattle.mg_text.specs.declared.parts.Tail.TheVariants.{Whole}
-use Rattle.mg_text.specs.declared.parts.NamePart.{NamePart}
-use Rattle.mg_text.specs.declared.parts.ScalarPart.{ScalarPart}
-use Rattle.mg_text.specs.declared.parts.Inside.{Inside}
-use Rattle.mg_text.specs.declared.parts.Inside.TheVariants.{Plain}
+use Rattle.mg_text.specs.declared.state.NamePart.{NamePart}
+use Rattle.mg_text.specs.declared.state.ScalarPart.{ScalarPart}
+use Rattle.mg_text.specs.declared.state.Inside.{Inside}
+use Rattle.mg_text.specs.declared.state.Inside.TheVariants.{Plain}
 use Rattle.mg_text.specs.Byte.{class_of, joins, lead, follow, whole as no_tail}
 use Rattle.mg_text.specs.Tree.{Fields, none, scalar, append}
 use Rattle.mg_text.specs.Grammar as g

@@ -1,10 +1,10 @@
 -- Names, words and numbers of the grammar, part by part.
 use Rattle.std.proofs.Common.{◌≡◌, ℕ, List, [], ◌∷◌, ◌++◌, Bool, true, false, cond, Some, None, refl, sym, ap, ◌∙◌, subst, append_assoc}
-use Rattle.mg_text.specs.declared.class.Class.{Class}
-use Rattle.mg_text.specs.declared.class.Class.TheVariants.{BracketOpen, BracketClose, Minus, Plus, Dot, Slash, Zero, LetterE, LetterF, LetterX}
-use Rattle.mg_text.specs.declared.parts.NamePart.TheVariants as np
-use Rattle.mg_text.specs.declared.parts.ScalarPart.{ScalarPart}
-use Rattle.mg_text.specs.declared.parts.ScalarPart.TheVariants as sp
+use Rattle.mg_text.specs.declared.parts.Class.{Class}
+use Rattle.mg_text.specs.declared.parts.Class.TheVariants.{BracketOpen, BracketClose, Minus, Plus, Dot, Slash, Zero, LetterE, LetterF, LetterX}
+use Rattle.mg_text.specs.declared.state.NamePart.TheVariants as np
+use Rattle.mg_text.specs.declared.state.ScalarPart.{ScalarPart}
+use Rattle.mg_text.specs.declared.state.ScalarPart.TheVariants as sp
 use Rattle.mg_text.specs.Byte.{class_of, is_letter, is_digit, is_hex, is_word_byte}
 use Rattle.mg_text.specs.Grammar as g
 use Rattle.mg_text.specs.Grammar.{AllOf, Begins, Some1, IsWord, IsPath, IsName, IsNumber, IsUnsigned, IsEnd, IsSign, IsSuffix}

@@ -2,16 +2,16 @@
 use Rattle.std.proofs.Common.{◌≡◌, ℕ, ◌-◌, List, [], ◌∷◌, ◌++◌, true, false, cond, Option, Some, None, refl, sym, ap, ◌∙◌, append_assoc, option_and_then}
 use Rattle.std.proofs.lemmas.List.{append-nil}
 use Rattle.std.specs.Option.{option_map}
-use Rattle.mg_text.specs.declared.class.Class.{Class}
-use Rattle.mg_text.specs.declared.class.Class.TheVariants.{Blank, LineFeed, Hash, DoubleQuote, SingleQuote, Backslash, Zero, One, Beyond}
+use Rattle.mg_text.specs.declared.parts.Class.{Class}
+use Rattle.mg_text.specs.declared.parts.Class.TheVariants.{Blank, LineFeed, Hash, DoubleQuote, SingleQuote, Backslash, Zero, One, Beyond}
 use Rattle.mg_text.specs.declared.parts.Quote.{Quote}
 use Rattle.mg_text.specs.declared.parts.Quote.TheVariants.{Single, Double}
 use Rattle.mg_text.specs.declared.parts.Slot.{Slot}
 use Rattle.mg_text.specs.declared.parts.Slot.TheVariants as slots
 use Rattle.mg_text.specs.declared.parts.Tail.{Tail}
 use Rattle.mg_text.specs.declared.parts.Tail.TheVariants.{Whole}
-use Rattle.mg_text.specs.declared.parts.Inside.{Inside}
-use Rattle.mg_text.specs.declared.parts.Inside.TheVariants.{Plain, Escape, Second, Third}
+use Rattle.mg_text.specs.declared.state.Inside.{Inside}
+use Rattle.mg_text.specs.declared.state.Inside.TheVariants.{Plain, Escape, Second, Third}
 use Rattle.mg_text.specs.Byte.{IsTail, byte, class_of, is_octal, lead, follow, whole as no_tail}
 use Rattle.mg_text.specs.Tree.{quoted, Fields, none, scalar, append}
 use Rattle.mg_text.specs.Grammar as g

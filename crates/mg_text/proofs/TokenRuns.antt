@@ -1,15 +1,15 @@
 -- How the machine runs through names, words and numbers.
 use Rattle.std.proofs.Common.{◌≡◌, ℕ, List, [], ◌∷◌, ◌++◌, Bool, true, false, not, ◌&&◌, cond, Some, None, refl, sym, ap, ◌∙◌, append_assoc, option_and_then}
 use Rattle.std.proofs.lemmas.List.{append-nil}
-use Rattle.mg_text.specs.declared.class.Class.{Class}
-use Rattle.mg_text.specs.declared.class.Class.TheVariants.{BracketOpen, Minus, Dot, Zero, One, OctalDigit, Digit, LetterE, LetterF, HexLetter, LetterX, LetterN, LetterR, LetterT, Letter}
+use Rattle.mg_text.specs.declared.parts.Class.{Class}
+use Rattle.mg_text.specs.declared.parts.Class.TheVariants.{BracketOpen, Minus, Dot, Zero, One, OctalDigit, Digit, LetterE, LetterF, HexLetter, LetterX, LetterN, LetterR, LetterT, Letter}
 use Rattle.mg_text.specs.declared.parts.Slot.{Slot}
 use Rattle.mg_text.specs.declared.parts.Slot.TheVariants as slots
 use Rattle.mg_text.proofs.Spelled.{NameBegins, by_letter, by_bracket, NumberBegins, by_minus, with_no_sign, UnsignedBegins, by_point, by_digit, first_part, word_scalar}
-use Rattle.mg_text.specs.declared.parts.NamePart.{NamePart}
-use Rattle.mg_text.specs.declared.parts.NamePart.TheVariants as np
-use Rattle.mg_text.specs.declared.parts.ScalarPart.{ScalarPart}
-use Rattle.mg_text.specs.declared.parts.ScalarPart.TheVariants as sp
+use Rattle.mg_text.specs.declared.state.NamePart.{NamePart}
+use Rattle.mg_text.specs.declared.state.NamePart.TheVariants as np
+use Rattle.mg_text.specs.declared.state.ScalarPart.{ScalarPart}
+use Rattle.mg_text.specs.declared.state.ScalarPart.TheVariants as sp
 use Rattle.mg_text.specs.Byte.{class_of, is_letter, is_digit, is_hex, is_word_byte, joins}
 use Rattle.mg_text.specs.Tree.{word, number, Fields, none, scalar, append}
 use Rattle.mg_text.specs.Grammar as g

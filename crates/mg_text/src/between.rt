@@ -4,8 +4,9 @@ ghost use Rattle.mg_text.specs.Code.Machine.{comment_spot, colon_spot, comma_spo
 ghost use Rattle.mg_text.specs.Grammar.{scalar_slot, message_slot, list_slot, after};
 ghost use Rattle.mg_text.specs.Code.Running.{place_of, spot_of, named_slot, named_list};
 
-use crate::class::{Class, follow, lead};
-use crate::parts::{Between, Mark, Reading, Slot, Tail};
+use crate::class::{follow, lead};
+use crate::parts::{Class, Mark, Slot, Tail};
+use crate::state::{Between, Reading};
 
 impl Between {
     /// The place after a value.

@@ -1,45 +1,7 @@
 ghost use Rattle.std.specs.Prelude.{◌≡◌, if◌then◌else◌};
 ghost use Rattle.mg_text.specs.Byte.{class_of, below_digits, digit_class, upper_class, lower_class, is_letter, is_digit, is_octal, is_hex, is_word_byte, joins, lead, follow, is_within};
 
-use crate::parts::Tail;
-
-/// The classes of bytes that the grammar tells apart.
-#[derive(Clone, Copy, Debug)]
-pub enum Class {
-    Blank,
-    LineFeed,
-    Hash,
-    DoubleQuote,
-    SingleQuote,
-    Backslash,
-    Colon,
-    Comma,
-    Semicolon,
-    BraceOpen,
-    BraceClose,
-    AngleOpen,
-    AngleClose,
-    BracketOpen,
-    BracketClose,
-    Minus,
-    Plus,
-    Dot,
-    Slash,
-    Zero,
-    One,
-    OctalDigit,
-    Digit,
-    LetterE,
-    LetterF,
-    HexLetter,
-    LetterX,
-    LetterN,
-    LetterR,
-    LetterT,
-    Letter,
-    Other,
-    Beyond,
-}
+use crate::parts::{Class, Tail};
 
 #[tactic(auto, unfolding(crate::specs::Byte::below_digits))]
 fn below_digits(b: u8) -> Class
@@ -166,7 +128,7 @@ pub fn class_of(b: u8) -> Class
 }
 
 impl Class {
-    pub fn is_letter(self) -> bool
+    pub(crate) fn is_letter(self) -> bool
         ensures { result ≡ is_letter self }
     {
         matches!(
@@ -182,7 +144,7 @@ impl Class {
         )
     }
 
-    pub fn is_digit(self) -> bool
+    pub(crate) fn is_digit(self) -> bool
         ensures { result ≡ is_digit self }
     {
         matches!(
@@ -191,13 +153,13 @@ impl Class {
         )
     }
 
-    pub fn is_octal(self) -> bool
+    pub(crate) fn is_octal(self) -> bool
         ensures { result ≡ is_octal self }
     {
         matches!(self, Class::Zero | Class::One | Class::OctalDigit)
     }
 
-    pub fn is_hex(self) -> bool
+    pub(crate) fn is_hex(self) -> bool
         ensures { result ≡ is_hex self }
     {
         matches!(
@@ -212,14 +174,14 @@ impl Class {
         )
     }
 
-    pub fn is_word_byte(self) -> bool
+    pub(crate) fn is_word_byte(self) -> bool
         ensures { result ≡ is_word_byte self }
     {
         self.is_letter() || self.is_digit()
     }
 
     /// Whether a byte would join a word or a number before it.
-    pub fn joins(self) -> bool
+    pub(crate) fn joins(self) -> bool
         ensures { result ≡ joins self }
     {
         match self {

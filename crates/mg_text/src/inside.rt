@@ -4,8 +4,9 @@ ghost use Rattle.mg_text.specs.Code.Machine.{inside_next, is_closing_quote, plai
 ghost use Rattle.mg_text.specs.Grammar.{escaped, is_first_octal, in_piece};
 ghost use Rattle.mg_text.specs.Code.Running.{spelling_of};
 
-use crate::class::{Class, follow, lead};
-use crate::parts::{Inside, Quote, Tail};
+use crate::class::{follow, lead};
+use crate::parts::{Class, Quote, Tail};
+use crate::state::Inside;
 
 /// Whether a byte stands for itself in a piece.
 fn in_piece(q: Quote, c: Class) -> bool

@@ -10,9 +10,10 @@ mod inside;
 pub mod laws;
 mod machine;
 mod next;
-mod parts;
+pub mod parts;
 mod printer;
 mod reader;
+mod state;
 mod step;
 mod tree;
 

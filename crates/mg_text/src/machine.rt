@@ -5,10 +5,11 @@ ghost use Rattle.mg_text.specs.Tree.{none, scalar, message};
 ghost use Rattle.mg_text.specs.View.{fields_view, value_view, simple, inner};
 ghost use Rattle.mg_text.specs.Code.Machine.{resumed, moves, settled, settled_place, opens_at, closes_at, begin, with_scalar};
 ghost use Rattle.mg_text.specs.Grammar.{message_slot, after};
-ghost use Rattle.mg_text.specs.Code.Running.{state_of, frames_of, place_of, spot_of, kind_view, frame_of, Took};
+ghost use Rattle.mg_text.specs.Code.Running.{state_of, frames_of, place_of, spot_of, kind_view, frame_of, Stepped};
 
 use crate::between::same_mark;
-use crate::parts::{Between, Kind, Mark, Reading, Slot};
+use crate::parts::{Mark, Slot};
+use crate::state::{Between, Kind, Reading};
 use crate::tree::{Field, Scalar, Tree, TreeValue};
 use mg_value::MgText;
 use std::alloc::{AllocError, Global};
@@ -114,7 +115,7 @@ impl Machine {
 
     /// Goes on to what is read next, if anything may be.
     pub fn moves(&mut self, next: Option<Reading>) -> bool
-        ensures { Took (moves (state_of self.old)
+        ensures { Stepped (moves (state_of self.old)
             (option_map (λ r. spot_of r self.old.name self.old.token.items) next)) result (state_of self.new) }
     {
         match next {
@@ -145,7 +146,7 @@ impl Machine {
 
     /// Opens a message, where one may stand.
     pub fn open(&mut self, alloc: Global, p: Between, mark: Mark) -> Result<bool, AllocError>
-        ensures { IfOk result (λ taken. Took (opens_at (state_of self.old) mark
+        ensures { IfOk result (λ taken. Stepped (opens_at (state_of self.old) mark
             (message_slot (place_of p self.old.name self.old.token.items))) taken (state_of self.new)) }
     {
         match p.message_slot() {
@@ -189,7 +190,7 @@ impl Machine {
 
     /// Closes the innermost message, where it may end, by the mark that opened it.
     pub fn close(&mut self, alloc: Global, p: Between, mark: Mark) -> Result<bool, AllocError>
-        ensures { IfOk result (λ taken. Took (closes_at (state_of self.old) mark
+        ensures { IfOk result (λ taken. Stepped (closes_at (state_of self.old) mark
             (place_of p self.old.name self.old.token.items)) taken (state_of self.new)) }
     {
         let Between::Start(_) = p else {

@@ -1,8 +1,8 @@
 ghost use Rattle.std.specs.Prelude.{◌≡◌, if◌then◌else◌};
 ghost use Rattle.mg_text.specs.Code.Machine.{name_next, is_whole_name, scalar_next, is_whole_scalar};
 
-use crate::class::Class;
-use crate::parts::{NamePart, ScalarPart};
+use crate::parts::Class;
+use crate::state::{NamePart, ScalarPart};
 
 fn name_if(holds: bool, next: NamePart) -> Option<NamePart>
     ensures { result ≡ (if holds then Some next else None) }

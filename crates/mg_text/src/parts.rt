@@ -1,3 +1,44 @@
+//! What the grammar of specs/Grammar.antt tells apart: classes of bytes, parts of characters, marks, quotes, and where
+//! a value stands. No call takes or gives one of these; they are here for who reads that page.
+
+/// The classes of bytes that the grammar tells apart.
+#[derive(Clone, Copy, Debug)]
+pub enum Class {
+    Blank,
+    LineFeed,
+    Hash,
+    DoubleQuote,
+    SingleQuote,
+    Backslash,
+    Colon,
+    Comma,
+    Semicolon,
+    BraceOpen,
+    BraceClose,
+    AngleOpen,
+    AngleClose,
+    BracketOpen,
+    BracketClose,
+    Minus,
+    Plus,
+    Dot,
+    Slash,
+    Zero,
+    One,
+    OctalDigit,
+    Digit,
+    LetterE,
+    LetterF,
+    HexLetter,
+    LetterX,
+    LetterN,
+    LetterR,
+    LetterT,
+    Letter,
+    Other,
+    Beyond,
+}
+
 /// What is awaited of a character past ASCII: nothing, so many bytes from 128 to 191, or a first one of the
 /// narrower range that its lead byte asks for.
 #[derive(Clone, Copy, Debug)]
@@ -32,73 +73,4 @@ pub enum Slot {
     One,
     Scalars,
     Messages,
-}
-
-/// A part of a name: in a word; or in brackets, where a word begins or goes on, before the `/` or after it; or
-/// behind the bracket.
-#[derive(Clone, Copy, Debug)]
-pub enum NamePart {
-    Word,
-    Begins,
-    Inner,
-    SlashBegins,
-    SlashInner,
-    Closed,
-}
-
-/// A part of a word or a number.
-#[derive(Clone, Copy, Debug)]
-pub enum ScalarPart {
-    Word,
-    Minus,
-    Zero,
-    Whole,
-    Point,
-    Fraction,
-    Exponent,
-    Sign,
-    Power,
-    HexStart,
-    Hex,
-    Suffix,
-}
-
-/// A part of a string's piece: between characters or in one, after the backslash, or in an octal escape after its
-/// first or second digit, with their value.
-#[derive(Clone, Copy, Debug)]
-pub enum Inside {
-    Plain(Tail),
-    Escape,
-    Second(u8),
-    Third(u8),
-}
-
-/// A place between tokens.
-#[derive(Clone, Copy, Debug)]
-pub enum Between {
-    Start(bool),
-    Named,
-    Valued,
-    Opened(bool),
-    Element(bool),
-    Behind(bool),
-    Joined(Slot),
-}
-
-/// What is being read: nothing, a comment, a name, a word or a number, or a piece of a string.
-#[derive(Clone, Copy, Debug)]
-pub enum Reading {
-    At(Between),
-    Comment(Between, Tail),
-    Name(NamePart),
-    Scalar(Slot, ScalarPart),
-    Piece(Slot, Quote, Inside),
-}
-
-/// The kind of a scalar.
-#[derive(Clone, Copy, Debug)]
-pub enum Kind {
-    Word,
-    Number,
-    Quoted,
 }

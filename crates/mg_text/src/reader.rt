@@ -4,7 +4,7 @@ ghost use Rattle.mg_text.specs.Grammar.{Gives};
 ghost use Rattle.mg_text.specs.View.{view};
 ghost use Rattle.mg_text.specs.Canonical.{AreSpelled};
 ghost use Rattle.mg_text.specs.Answer.{max_len, max_depth, IsSyntaxFault, IsTooDeep, IsFault, IsTree, IsFailed};
-ghost use Rattle.mg_text.specs.Code.Running.{state_of, spot_of, Ended, IsAnswered};
+ghost use Rattle.mg_text.specs.Code.Running.{state_of, spot_of, FileEnds, IsAnswered};
 ghost use Rattle.mg_text.specs.Code.Clean.{IsClean};
 
 use crate::fault::TextFault;
@@ -22,7 +22,7 @@ const LINE_FEED: u8 = 10;
 /// Ends the file.
 fn end(alloc: Global, mut machine: Machine, at: u32) -> Result<Tree, TextFault>
     requires { IsClean (spot_of machine.reading machine.name machine.token.items) }
-    ensures { Ended (state_of machine) at result }
+    ensures { FileEnds (state_of machine) at result }
 {
     if !machine.step(alloc, LINE_FEED)? {
         return Err(TextFault::Syntax { at });

@@ -4,15 +4,16 @@ ghost use Rattle.std.specs.Option.{option_map};
 ghost use Rattle.mg_text.specs.Byte.{class_of};
 ghost use Rattle.mg_text.specs.Code.Machine.{step, step_at, step_settled, step_naming, step_token, moves, bracket_spot, token_spot, letter_spot, quote_spot, piece_spot, accepts, name_next, scalar_next, moved, kind_of, final};
 ghost use Rattle.mg_text.specs.Grammar.{scalar_slot, piece_slot, named};
-ghost use Rattle.mg_text.specs.Code.Running.{state_of, place_of, spot_of, frames_of, kind_view, spelled, Took};
+ghost use Rattle.mg_text.specs.Code.Running.{state_of, place_of, spot_of, frames_of, kind_view, spelled, Stepped};
 ghost use Rattle.mg_text.specs.View.{view, fields_view};
 
 use crate::between::comment_next;
-use crate::class::{Class, class_of};
+use crate::class::class_of;
 use crate::inside::{inside_next, is_closing_quote};
 use crate::machine::{Machine, text_of};
 use crate::next::{is_whole_name, is_whole_scalar, name_next, scalar_next};
-use crate::parts::{Between, Inside, Kind, Mark, NamePart, Quote, Reading, ScalarPart, Slot, Tail};
+use crate::parts::{Class, Mark, Quote, Slot, Tail};
+use crate::state::{Between, Inside, Kind, NamePart, Reading, ScalarPart};
 use crate::tree::Tree;
 use std::alloc::{AllocError, Global};
 
@@ -45,7 +46,7 @@ impl Machine {
     }
 
     fn scalar(&mut self, p: Between, part: ScalarPart, b: u8) -> Result<bool, AllocError>
-        ensures { IfOk result (λ taken. Took (moves (state_of self.old)
+        ensures { IfOk result (λ taken. Stepped (moves (state_of self.old)
             (token_spot part b (scalar_slot (place_of p self.old.name self.old.token.items)))) taken (state_of self.new)) }
     {
         match p.scalar_slot() {
@@ -58,7 +59,7 @@ impl Machine {
     }
 
     fn letter(&mut self, p: Between, b: u8) -> Result<bool, AllocError>
-        ensures { IfOk result (λ taken. Took (moves (state_of self.old)
+        ensures { IfOk result (λ taken. Stepped (moves (state_of self.old)
             (letter_spot (place_of p self.old.name self.old.token.items) b)) taken (state_of self.new)) }
     {
         match p {
@@ -71,7 +72,7 @@ impl Machine {
     }
 
     fn bracket(&mut self, p: Between, b: u8) -> Result<bool, AllocError>
-        ensures { IfOk result (λ taken. Took (moves (state_of self.old)
+        ensures { IfOk result (λ taken. Stepped (moves (state_of self.old)
             (bracket_spot (place_of p self.old.name self.old.token.items) b)) taken (state_of self.new)) }
     {
         match p {
@@ -90,7 +91,7 @@ impl Machine {
     }
 
     fn quote(&mut self, p: Between, q: Quote) -> bool
-        ensures { Took (moves (state_of self.old)
+        ensures { Stepped (moves (state_of self.old)
             (quote_spot q (piece_slot (place_of p self.old.name self.old.token.items)))) result (state_of self.new) }
     {
         let plain = Inside::Plain(Tail::Whole);
@@ -117,7 +118,7 @@ impl Machine {
         c: Class,
         b: u8,
     ) -> Result<bool, AllocError>
-        ensures { IfOk result (λ taken. Took (step_settled (state_of self.old)
+        ensures { IfOk result (λ taken. Stepped (step_settled (state_of self.old)
             (place_of p self.old.name self.old.token.items) c b) taken (state_of self.new)) }
     {
         match c {
@@ -148,7 +149,7 @@ impl Machine {
 
     fn step_at(&mut self, alloc: Global, p: Between, c: Class, b: u8) -> Result<bool, AllocError>
         requires { IsCleanPlace (place_of p self.old.name self.old.token.items) }
-        ensures { IfOk result (λ taken. Took (step_at (state_of self.old)
+        ensures { IfOk result (λ taken. Stepped (step_at (state_of self.old)
             (place_of p self.old.name self.old.token.items) c b) taken (state_of self.new)) }
     {
         match c {
@@ -177,7 +178,7 @@ impl Machine {
         b: u8,
     ) -> Result<bool, AllocError>
         requires { CharsTo Tail.Whole self.old.token.items }
-        ensures { IfOk result (λ taken. Took (step_naming (state_of self.old) part self.old.token.items c b
+        ensures { IfOk result (λ taken. Stepped (step_naming (state_of self.old) part self.old.token.items c b
             (name_next part c)) taken (state_of self.new)) }
     {
         match name_next(part, c) {
@@ -216,7 +217,7 @@ impl Machine {
         b: u8,
     ) -> Result<bool, AllocError>
         requires { CharsTo Tail.Whole self.old.token.items }
-        ensures { IfOk result (λ taken. Took (step_token (state_of self.old) self.old.name slot part self.old.token.items c b
+        ensures { IfOk result (λ taken. Stepped (step_token (state_of self.old) self.old.name slot part self.old.token.items c b
             (scalar_next part c)) taken (state_of self.new)) }
     {
         match scalar_next(part, c) {
@@ -253,7 +254,7 @@ impl Machine {
         c: Class,
         b: u8,
     ) -> Result<bool, AllocError>
-        ensures { IfOk result (λ taken. Took (moves (state_of self.old)
+        ensures { IfOk result (λ taken. Stepped (moves (state_of self.old)
             (piece_spot self.old.name slot self.old.token.items q i c b)) taken (state_of self.new)) }
     {
         if is_closing_quote(q, i, c) {
@@ -273,7 +274,7 @@ impl Machine {
     /// Reads one byte more: whether a text may go on so.
     pub fn step(&mut self, alloc: Global, b: u8) -> Result<bool, AllocError>
         requires { IsClean (spot_of self.old.reading self.old.name self.old.token.items) }
-        ensures { IfOk result (λ taken. Took (step (state_of self.old) b) taken (state_of self.new)) }
+        ensures { IfOk result (λ taken. Stepped (step (state_of self.old) b) taken (state_of self.new)) }
     {
         let c = class_of(b);
         match self.reading {

@@ -6,7 +6,7 @@ use std::marker::Model;
 
 /// A name or another text, UTF-8. Contracts see it as the list of its bytes. One of at most 16 bytes takes no memory
 /// beside itself.
-#[derive(Debug, Drop)]
+#[derive(Debug)]
 pub struct MgText {
     kept: Kept,
 }
@@ -26,6 +26,14 @@ impl Model for MgText {
     ghost use Rattle.mg_value.specs.Code.Text.{bytes_of};
 
     ghost view = { λ t. bytes_of t.kept };
+}
+
+// Written out, so that the proof of whoever lets a text go needn't ask where its bytes are.
+impl Drop for MgText {
+    fn drop(self) {
+        let MgText { kept } = self;
+        drop(kept);
+    }
 }
 
 impl MgText {

@@ -3,8 +3,8 @@ use Rattle.std.specs.Prelude.{◌≡◌, ℕ, ◌<◌, ◌≤◌, List, [], ◌�
 use Rattle.mg_text.specs.Byte.{lead, follow}
 use Rattle.mg_text.specs.Grammar.{Place, joined}
 use Rattle.mg_text.specs.Code.Machine.{Spot, at, comment, naming, token, piece}
-use Rattle.mg_text.specs.declared.parts.Inside.{Inside}
-use Rattle.mg_text.specs.declared.parts.Inside.TheVariants.{Plain, Escape, Second, Third}
+use Rattle.mg_text.specs.declared.state.Inside.{Inside}
+use Rattle.mg_text.specs.declared.state.Inside.TheVariants.{Plain, Escape, Second, Third}
 use Rattle.mg_text.specs.declared.parts.Tail.{Tail}
 use Rattle.mg_text.specs.declared.parts.Tail.TheVariants.{Whole}
 

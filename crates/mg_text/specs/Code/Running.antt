@@ -2,14 +2,14 @@
 use Rattle.std.specs.Prelude.{ℕ, List, [], ◌∷◌, Bool, true, false, Option, Some, None, ◌≡◌, ◌≤◌, map, reverse, Result, Ok, Err}
 use Rattle.mg_text.specs.declared.machine.Frame.{Frame}
 use Rattle.mg_text.specs.declared.machine.Machine.{Machine}
-use Rattle.mg_text.specs.declared.parts.Kind.{Kind}
-use Rattle.mg_text.specs.declared.parts.Kind.TheVariants as kinds
+use Rattle.mg_text.specs.declared.state.Kind.{Kind}
+use Rattle.mg_text.specs.declared.state.Kind.TheVariants as kinds
 use Rattle.mg_text.specs.declared.parts.Slot.{Slot}
-use Rattle.mg_text.specs.declared.parts.Between.{Between}
-use Rattle.mg_text.specs.declared.parts.Between.TheVariants as between
-use Rattle.mg_text.specs.declared.parts.Reading.{Reading}
-use Rattle.mg_text.specs.declared.parts.Reading.TheVariants as reading
-use Rattle.mg_text.specs.declared.parts.Inside.{Inside}
+use Rattle.mg_text.specs.declared.state.Between.{Between}
+use Rattle.mg_text.specs.declared.state.Between.TheVariants as between
+use Rattle.mg_text.specs.declared.state.Reading.{Reading}
+use Rattle.mg_text.specs.declared.state.Reading.TheVariants as reading
+use Rattle.mg_text.specs.declared.state.Inside.{Inside}
 use Rattle.mg_text.specs.Grammar.{Gives, Place, start, named, valued, opened, element, behind, joined}
 use Rattle.mg_text.specs.Code.Machine as model
 use Rattle.mg_text.specs.Code.Machine.{Spot, at, comment, naming, token, piece, State}
@@ -71,16 +71,16 @@ abbrev pub state_of : Machine → State
 state_of m = record { done = fields_view m.done.items; frames = frames_of m.frames.items; spot = spot_of m.reading m.name m.token.items }
 
 -- whether a step was taken, and to which state
-abbrev pub Took : Option State → Bool → State → Type 0
-Took o true s = o ≡ Some s
-Took o false s = o ≡ None
+abbrev pub Stepped : Option State → Bool → State → Type 0
+Stepped o true s = o ≡ Some s
+Stepped o false s = o ≡ None
 
 -- what the end of a file at this place leads to
-abbrev pub Ended : State → ℕ → Result Tree TextFault → Type 0
-Ended s place (Ok tree) = model.outcome s (10 ∷ []) ≡ Some (view tree)
-Ended s place (Err (Syntax where_is)) = (where_is ≡ place) × (model.outcome s (10 ∷ []) ≡ None)
-Ended s place (Err OutOfMemory) = Unit {0}
-Ended s place (Err fault) = ⊥
+abbrev pub FileEnds : State → ℕ → Result Tree TextFault → Type 0
+FileEnds s place (Ok tree) = model.outcome s (10 ∷ []) ≡ Some (view tree)
+FileEnds s place (Err (Syntax where_is)) = (where_is ≡ place) × (model.outcome s (10 ∷ []) ≡ None)
+FileEnds s place (Err OutOfMemory) = Unit {0}
+FileEnds s place (Err fault) = ⊥
 
 -- the answer for a file that isn't too long
 abbrev pub IsAnswered : List ℕ → Result Tree TextFault → Type 0

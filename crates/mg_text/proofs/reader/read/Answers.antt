@@ -1,5 +1,5 @@
 use Rattle.std.proofs.Common.{arith, subst, refl}
-use Rattle.mg_text.specs.Code.Running.{state_of, Ended}
+use Rattle.mg_text.specs.Code.Running.{state_of, FileEnds}
 use Rattle.mg_text.proofs.Faults.{syntax_at, too_deep_at, reached_more, answered_end, reached_end, took_none, took_some}
 use Rattle.mg_text.proofs.Clean.{run_clean}
 use Rattle.mg_text.specs.Code.Machine.{begin}
@@ -20,7 +20,7 @@ loop-i-preserved c =
     (took_some _ _ _ c.in_ok-step.ensures c.if-not-branch.false) (omega arith)
 
 pub returns : goal.returns
-returns c = answered_end c.args.bytes.now (state_of c.loop-i.machine) _ (reached_end _ c.loop-i.i _ (omega arith) c.loop-i.invariant) (subst (λ n. Ended (state_of c.loop-i.machine) n c.end.result) (omega arith) c.end.ensures)
+returns c = answered_end c.args.bytes.now (state_of c.loop-i.machine) _ (reached_end _ c.loop-i.i _ (omega arith) c.loop-i.invariant) (subst (λ n. FileEnds (state_of c.loop-i.machine) n c.end.result) (omega arith) c.end.ensures)
 
 pub step-requires : goal.step-requires
 step-requires c = run_clean _ begin (state_of c.loop-i.machine) c.loop-i.invariant.ran tt
