@@ -7,7 +7,7 @@ use Rattle.std.specs.Fmt.{decimal, signed_decimal}
 use Rattle.std.proofs.lemmas.Bool.Decides.{nat_tests}
 use Rattle.std.proofs.lemmas.Fmt.{decimal_is_IsNumeral}
 use Rattle.std.proofs.lemmas.Str.Parse.{digit_from_value}
-use Rattle.mg_text.specs.declared.class.Class.TheVariants.{Minus}
+use Rattle.mg_text.specs.declared.parts.Class.TheVariants.{Minus}
 use Rattle.mg_text.specs.Byte.{class_of, below_digits, digit_class, upper_class, lower_class, is_letter, is_digit, is_word_byte}
 use Rattle.mg_text.specs.Grammar as grammar
 use Rattle.mg_text.specs.Grammar.{AllOf, Some1, IsWord, IsName, IsUnsigned, IsNumber}

@@ -1,7 +1,6 @@
 use Rattle.std.proofs.Common.{◌∙◌, sym, ap}
 use Rattle.std.proofs.lemmas.Result.{IfOk-weaker}
 use Rattle.mg_text.specs.View.{view, fields_view}
-use Rattle.mg_text.proofs.Views.{view-record}
 use Rattle.mg_config.specs.Config.{graph_view, config_of}
 use Rattle.mg_config.proofs.Printed.{printable_of}
 use Rattle.mg_config.proofs.Sounded.{sound_of}

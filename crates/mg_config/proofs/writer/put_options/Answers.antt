@@ -1,7 +1,7 @@
 use Rattle.std.proofs.Common.{◌≡◌, ◌∙◌, sym, ap, ◌++◌, ◌<◌, ◌∷◌, [], length, map, arith, append-nil, codes}
 use Rattle.std.proofs.lemmas.Bool.Decides.{nat_tests}
 use Rattle.std.proofs.lemmas.Result.{on_ok_weaker}
-use Rattle.mg_text.specs.View.{field_view, inner, view}
+use Rattle.mg_text.specs.View.{field_view, inner}
 use Rattle.mg_text.proofs.Views.{value-message}
 use Rattle.mg_config.specs.Values.{entry}
 use Rattle.mg_config.specs.Written.{options_field}
