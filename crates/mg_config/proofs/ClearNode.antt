@@ -4,12 +4,12 @@ use Rattle.std.specs.List.{list_any, All}
 use Rattle.std.specs.Str.{bytes_eq}
 use Rattle.mg_text.specs.Tree.{Fields, none, scalar, message, word}
 use Rattle.mg_text.specs.View.{simple, inner, Entry, fields_of}
+use Rattle.mg_names.specs.TagIndex.{text_of_tag_index}
 use Rattle.mg_names.specs.declared.port.Port.{Port}
 use Rattle.mg_config.specs.Schema.{many, rule_of}
 use Rattle.mg_config.specs.Values.{entry, has_name}
 use Rattle.mg_config.specs.Config.{NodeView, GraphView}
 use Rattle.mg_config.specs.Faults.{field_fault}
-use Rattle.mg_config.specs.Marks.{text_of_mark}
 use Rattle.mg_config.specs.Written.{text_entry, text_field, number_field, port_fields, mark_entry, mark_fields, handler_field, options_field, list_fields, node_fields, node_entry, graph_fields, tree_of}
 use Rattle.mg_config.specs.Sound.{IsSoundNode, IsSound}
 use Rattle.mg_config.specs.declared.mark.Mark.{Mark}
@@ -42,14 +42,14 @@ chain_lists kind names fields inputs outputs input_sides output_sides r1 r2 r3 r
     subst (λ es. IsChain kind (with_lists names) es) (lists_regroup fields a b c d) all
 
 -- back edges
-mark_judged : (mark : Mark) → field_fault Info (fields_of (text_entry (codes "tag_index") (text_of_mark mark) ∷ entry (codes "back_edge") (simple word (codes "true")) ∷ [])) ≡ None
+mark_judged : (mark : Mark) → field_fault Info (fields_of (text_entry (codes "tag_index") (text_of_tag_index mark.tag mark.index) ∷ entry (codes "back_edge") (simple word (codes "true")) ∷ [])) ≡ None
 mark_judged mark = refl
 
 marks_clear : (before : List Entry) (marks : List Mark) → AreClear Node before (mark_fields marks)
 marks_clear before [] = none_clear Node before
 marks_clear before (mark ∷ marks) =
     let name = codes "input_stream_info" in
-    let fields = fields_of (text_entry (codes "tag_index") (text_of_mark mark) ∷ entry (codes "back_edge") (simple word (codes "true")) ∷ []) in
+    let fields = fields_of (text_entry (codes "tag_index") (text_of_tag_index mark.tag mark.index) ∷ entry (codes "back_edge") (simple word (codes "true")) ∷ []) in
     first_clear Node before name (inner fields) (mark_fields marks) (own_many Node before name (inner fields) (Inside Info) refl refl)
     (inside_clear Node Info true before name fields refl (mark_judged mark)) (marks_clear (before ++ mark_entry mark ∷ []) marks)
 

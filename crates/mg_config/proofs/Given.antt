@@ -6,11 +6,12 @@ use Rattle.std.specs.Fmt.{signed_decimal}
 use Rattle.std.proofs.lemmas.List.Elements.{All-head, All-tail}
 use Rattle.mg_text.specs.Tree.{Fields}
 use Rattle.mg_text.specs.View.{Entry}
-use Rattle.mg_names.specs.Ports.{ports_of, text_of}
+use Rattle.mg_names.specs.Ports.{placed_ports_of, text_of}
+use Rattle.mg_names.proofs.Again.{placed_ports}
 use Rattle.mg_names.specs.declared.port.Port.{Port}
 use Rattle.mg_config.specs.Values.{entries, first, values_of, text_of_value, text_of_first, number_of_first, texts_in, text_in, number_in, fields_of_value, message_of_first, messages_in, joined}
 use Rattle.mg_config.specs.Number.{number_of}
-use Rattle.mg_config.specs.Path.{numbered, placed, then_do}
+use Rattle.mg_config.specs.Path.{numbered, result_within, then_do}
 use Rattle.mg_config.specs.Config.{NodeView, GraphView, ports_by, ports_in, pair_in, streams_in, sides_in, marks_from, options_in, handler_in, node_with, node_of, nodes_from, graph_with, graph_of}
 use Rattle.mg_config.specs.Sound.{AreReadBack, IsSoundNode, IsSound}
 use Rattle.mg_config.specs.Written.{text_field, number_field, port_fields, mark_fields, handler_field, options_field, node_fields, node_entry, graph_fields, tree_of}
@@ -30,7 +31,7 @@ values_in name ps fields are = ap (values_of name) are ∙ spread_passing (λ ot
 ports_back : (name : List ℕ) (fields : List Entry) (ports : List Port) → values_of name fields ≡ values (port_fields name ports) → AreReadBack ports → ports_in name fields ≡ Ok ports
 ports_back name fields ports have read =
     let texts : texts_in name fields ≡ map text_of ports = ap (map text_of_value) have ∙ texts_back name ports in
-    ap (λ ts. ports_by name ts (ports_of ts)) texts ∙ ap (ports_by name (map text_of ports)) read
+    ap (λ ts. ports_by name (placed_ports_of ts)) texts ∙ ap (ports_by name) (placed_ports (map text_of ports) ports read)
 
 pair_back : (input output : List ℕ) (fields : List Entry) (inputs outputs : List Port) → ports_in input fields ≡ Ok inputs → ports_in output fields ≡ Ok outputs
     → pair_in input output fields ≡ Ok (record { inputs = inputs; outputs = outputs })
@@ -159,8 +160,8 @@ nodes_back : ((node : NodeView) → IsSoundNode node → node_of (node_fields no
 nodes_back read [] k good = refl
 nodes_back read (node ∷ nodes) k good =
     let later : Result (List NodeView) ConfigFault = nodes_from (suc k) (map fields_of_value (values (map node_entry nodes))) in
-    ap (λ es. then_do (placed (numbered (codes "node") k) (node_of es)) (λ n. then_do later (λ more. Ok (n ∷ more)))) (entries-of (node_fields node))
-    ∙ ap (λ r. then_do (placed (numbered (codes "node") k) r) (λ n. then_do later (λ more. Ok (n ∷ more)))) (read node (All-head IsSoundNode node nodes good))
+    ap (λ es. then_do (result_within (numbered (codes "node") k) (node_of es)) (λ n. then_do later (λ more. Ok (n ∷ more)))) (entries-of (node_fields node))
+    ∙ ap (λ r. then_do (result_within (numbered (codes "node") k) r) (λ n. then_do later (λ more. Ok (n ∷ more)))) (read node (All-head IsSoundNode node nodes good))
     ∙ ap (λ r. then_do r (λ more. Ok (node ∷ more))) (nodes_back read nodes (suc k) (All-tail IsSoundNode node nodes good))
 
 -- a graph of what its fields say

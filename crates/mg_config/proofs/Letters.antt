@@ -15,9 +15,9 @@ use Rattle.mg_text.specs.Canonical as canonical
 use Rattle.mg_text.specs.Canonical.{AreCharacters}
 use Rattle.mg_names.specs.Grammar.{is_name, is_tag, index_count, continues_name, continues_tag}
 use Rattle.mg_names.specs.Ports.{text_of, tagged_text, IsSpelled}
+use Rattle.mg_names.specs.TagIndex.{text_of_tag_index}
 use Rattle.mg_names.specs.declared.port.Port.{Port}
 use Rattle.mg_names.proofs.Parts.{name_continues, tag_continues}
-use Rattle.mg_config.specs.Marks.{text_of_mark}
 use Rattle.mg_config.specs.Sound.{FitsI32, IsMark}
 use Rattle.mg_config.specs.declared.mark.Mark.{Mark}
 
@@ -143,5 +143,5 @@ mark_small tag index first last = by ((index == 0) && not (bytes_eq tag []))
     by true = first
     by false = small_append tag (58 ∷ decimal index) first colon
 
-pub mark_characters : (mark : Mark) → IsMark mark → AreCharacters (text_of_mark mark)
-mark_characters mark known = small_characters (text_of_mark mark) (mark_small mark.tag mark.index (tag_small mark.tag known.tag) (index_small mark.index known.index))
+pub mark_characters : (mark : Mark) → IsMark mark → AreCharacters (text_of_tag_index mark.tag mark.index)
+mark_characters mark known = small_characters (text_of_tag_index mark.tag mark.index) (mark_small mark.tag mark.index (tag_small mark.tag known.tag) (index_small mark.index known.index))

@@ -2,8 +2,6 @@ pub mod Digits
 pub mod Lists
 pub mod Checked
 pub mod Loops
-pub mod Refused
-pub mod AsPort
 pub mod Marked
 pub mod Joined
 pub mod Named
@@ -24,3 +22,4 @@ pub mod Letters
 pub mod Spelled
 pub mod Shallow
 pub mod WrittenBack
+pub mod Caused

@@ -3,7 +3,7 @@ use Rattle.std.proofs.Common.{ℕ, List, ◌≡◌, refl, ap, map, codes, Option
 use Rattle.mg_text.specs.View.{field_view, fields_view}
 use Rattle.mg_text.specs.declared.tree.Field.{Field}
 use Rattle.mg_config.specs.Values.{messages_in}
-use Rattle.mg_config.specs.Path.{placed, then_do}
+use Rattle.mg_config.specs.Path.{result_within, then_do}
 use Rattle.mg_config.specs.Faults.{field_fault, calculator_fault}
 use Rattle.mg_config.specs.Config.{graph_of, config_of, unless}
 use Rattle.mg_config.specs.declared.schema.Message.TheVariants.{Graph}
@@ -18,9 +18,9 @@ pub then_ok : {A B : Type 0} (result : Result A ConfigFault) (next : A → Resul
 then_ok (Ok first) next value made = (first, refl, made)
 then_ok (Err fault) next value made = cc
 
-pub placed_ok : {A : Type 0} (place : List ℕ) (result : Result A ConfigFault) (value : A) → placed place result ≡ Ok value → result ≡ Ok value
-placed_ok place (Ok first) value made = made
-placed_ok place (Err fault) value made = cc
+pub within_ok : {A : Type 0} (place : List ℕ) (result : Result A ConfigFault) (value : A) → result_within place result ≡ Ok value → result ≡ Ok value
+within_ok place (Ok first) value made = made
+within_ok place (Err fault) value made = cc
 
 pub unless_ok : {A : Type 0} (fault : Option ConfigFault) (result : Result A ConfigFault) (value : A) → unless fault result ≡ Ok value → (fault ≡ None) × (result ≡ Ok value)
 unless_ok None result value made = (refl, made)

@@ -8,7 +8,7 @@ use Rattle.mg_text.specs.Answer.{max_depth}
 use Rattle.mg_text.specs.Canonical as canonical
 use Rattle.mg_text.specs.Canonical.{AreCharacters, IsSpelled, AreSpelled}
 use Rattle.mg_config.specs.Values.{entries, has_name, values_of, first, text_of_value, text_of_first, text_in, fields_of_value, message_of_first, message_in, messages_in, joined}
-use Rattle.mg_config.specs.Path.{numbered, placed, then_do}
+use Rattle.mg_config.specs.Path.{numbered, result_within, then_do}
 use Rattle.mg_config.specs.Faults.{field_fault, calculator_fault}
 use Rattle.mg_config.specs.Config.{NodeView, GraphView, is_option, options_in, handler_in, streams_in, sides_in, marks_from, node_with, node_of, nodes_from, graph_with, graph_of, config_of, unless}
 use Rattle.mg_config.specs.Sound.{IsPrintableNode, IsPrintable}
@@ -16,7 +16,7 @@ use Rattle.mg_config.specs.declared.schema.Message.TheVariants.{Graph}
 use Rattle.mg_config.specs.declared.mark.Mark.{Mark}
 use Rattle.mg_config.specs.declared.ports.PortPair.{PortPair}
 use Rattle.mg_config.specs.declared.fault.ConfigFault.{ConfigFault}
-use Rattle.mg_config.proofs.Made.{then_ok, placed_ok, unless_ok}
+use Rattle.mg_config.proofs.Made.{then_ok, within_ok, unless_ok}
 
 -- fields that are spelled, and nest at most so many messages
 pub record AreWithin (n : ℕ) (fields : Fields) : Type 0 where
@@ -159,10 +159,10 @@ node_printable n es node small made within =
 pub nodes_printable : (n k : ℕ) (messages : List Fields) (nodes : List NodeView) → suc n + 2 ≤ max_depth → nodes_from k messages ≡ Ok nodes → AllFields (suc (suc n)) messages → All IsPrintableNode nodes
 nodes_printable n k [] nodes small made within = subst (All IsPrintableNode) (same_nodes [] nodes made) (All-nil IsPrintableNode)
 nodes_printable n k (fields ∷ more) nodes small made within =
-    let one = then_ok (placed (numbered (codes "node") k) (node_of (entries fields))) (λ node. then_do (nodes_from (suc k) more) (λ nodes. Ok (node ∷ nodes))) nodes made in
+    let one = then_ok (result_within (numbered (codes "node") k) (node_of (entries fields))) (λ node. then_do (nodes_from (suc k) more) (λ nodes. Ok (node ∷ nodes))) nodes made in
     let others = then_ok (nodes_from (suc k) more) (λ nodes. Ok (one.0 ∷ nodes)) nodes one.2 in
     let node : IsPrintableNode one.0 =
-    node_printable n (entries fields) one.0 small (placed_ok (numbered (codes "node") k) (node_of (entries fields)) one.0 one.1)
+    node_printable n (entries fields) one.0 small (within_ok (numbered (codes "node") k) (node_of (entries fields)) one.0 one.1)
     (values_within (suc n) fields within.0.spelled within.0.shallow) in
     subst (All IsPrintableNode) (same_nodes (one.0 ∷ others.0) nodes others.2)
     (All-cons IsPrintableNode one.0 others.0 node (nodes_printable n (suc k) more others.0 small others.1 within.1))

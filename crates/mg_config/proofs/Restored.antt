@@ -7,15 +7,15 @@ use Rattle.std.proofs.lemmas.List.Elements.{All-head, All-tail}
 use Rattle.mg_text.specs.Tree.{number, quoted, Fields, none, scalar, message}
 use Rattle.mg_text.specs.View.{simple}
 use Rattle.mg_names.specs.Ports.{text_of}
+use Rattle.mg_names.proofs.TagIndexes.{tag_index_back}
 use Rattle.mg_names.specs.declared.port.Port.{Port}
 use Rattle.mg_config.specs.Values.{entry, entries, first, text_of_value, text_of_first, number_of_first, text_in, fields_of_value, message_of_first, joined}
 use Rattle.mg_config.specs.Number.{number_of}
-use Rattle.mg_config.specs.Path.{numbered, placed, then_do}
+use Rattle.mg_config.specs.Path.{numbered, result_within, then_do}
 use Rattle.mg_config.specs.Config.{mark_by, marks_from}
 use Rattle.mg_config.specs.Sound.{IsMark}
 use Rattle.mg_config.specs.Written.{text_field, number_field, port_fields, mark_entry, mark_fields, handler_field, options_field}
 use Rattle.mg_config.specs.declared.mark.Mark.{Mark}
-use Rattle.mg_config.proofs.Numbers.{mark_of-text}
 use Rattle.mg_text.proofs.Appending.{append_none}
 use Rattle.mg_config.proofs.Pieces.{values, all_named}
 
@@ -80,5 +80,5 @@ pub marks_back : (marks : List Mark) (k : ℕ) → All IsMark marks
 marks_back [] k good = refl
 marks_back (mark ∷ marks) k good =
     let later = marks_from (suc k) (map fields_of_value (values (mark_fields marks))) in
-    ap (λ r. then_do (placed (numbered (codes "input_stream_info") k) (mark_by r)) (λ m. then_do later (λ more. Ok (m ∷ more)))) (mark_of-text mark (All-head IsMark mark marks good))
+    ap (λ r. then_do (result_within (numbered (codes "input_stream_info") k) (mark_by r)) (λ m. then_do later (λ more. Ok (m ∷ more)))) (tag_index_back mark.tag mark.index (All-head IsMark mark marks good))
     ∙ ap (λ r. then_do r (λ more. Ok (mark ∷ more))) (marks_back marks (suc k) (All-tail IsMark mark marks good))

@@ -1,6 +1,6 @@
 -- What was read is sound: it can be written, and read back.
-use Rattle.std.proofs.Common.{ℕ, suc, zero, ◌-◌, ◌^◌, ◌<◌, ◌≤◌, ◌≡◌, ◌≢◌, ◌⊎◌, inl, inr, List, [], ◌∷◌, Bool, true, false, ◌&&◌, ◌||◌, eqb, Option, None, Some, Result, Ok, Err, nat_le, arith, refl, ap, subst, if◌then◌else◌, codes, ℤ, pos, neg_ℤ}
-use Rattle.std.specs.Prelude.{IsTrue, option_map, unwrap_or}
+use Rattle.std.proofs.Common.{ℕ, suc, zero, ◌-◌, ◌^◌, ◌≤◌, ◌≡◌, ◌≢◌, List, [], ◌∷◌, Bool, true, false, ◌&&◌, ◌||◌, eqb, Option, None, Some, Result, Ok, Err, nat_le, arith, refl, ap, subst, if◌then◌else◌, codes, ℤ, pos, neg_ℤ}
+use Rattle.std.specs.Prelude.{option_map, unwrap_or}
 use Rattle.std.specs.List.{All}
 use Rattle.std.specs.Str.{bytes_eq}
 use Rattle.std.specs.Str.Parse.{digits_value}
@@ -8,18 +8,16 @@ use Rattle.std.proofs.lemmas.Bool.Decides.{nat_tests}
 use Rattle.std.proofs.lemmas.List.Elements.{All-nil, All-cons}
 use Rattle.mg_text.specs.Tree.{word, number, quoted, Fields}
 use Rattle.mg_text.specs.View.{Value, simple, inner, Entry}
-use Rattle.mg_names.specs.Grammar.{is_tag, index_of}
-use Rattle.mg_names.specs.Spelling.{parts_of}
-use Rattle.mg_names.specs.Ports.{ports_of}
+use Rattle.mg_names.specs.Ports.{placed_ports_of, without_place}
+use Rattle.mg_names.specs.TagIndex.{tag_index_of, IsTagIndex}
 use Rattle.mg_names.specs.declared.port.Port.{Port}
 use Rattle.mg_names.specs.declared.fault.NameFault.{NameFault}
-use Rattle.mg_names.specs.declared.fault.NameFault.TheVariants.{BadTag}
-use Rattle.mg_names.proofs.Counting.{if_ok}
-use Rattle.mg_names.proofs.Again.{index_below, read_again}
+use Rattle.mg_names.specs.declared.placed_fault.PlacedFault.{PlacedFault}
+use Rattle.mg_names.proofs.Again.{read_again}
+use Rattle.mg_names.proofs.TagIndexes.{tag_index_passes}
 use Rattle.mg_config.specs.Values.{entries, values_of, first, number_in_value, number_of_first, number_in, text_in, texts_in, truth_in, messages_in}
 use Rattle.mg_config.specs.Number.{is_numeral, value_in, after_zero, magnitude, number_of}
-use Rattle.mg_config.specs.Marks.{mark_at, mark_of_parts, mark_of}
-use Rattle.mg_config.specs.Path.{numbered, placed, then_do}
+use Rattle.mg_config.specs.Path.{numbered, result_within, then_do}
 use Rattle.mg_config.specs.Faults.{field_fault, calculator_fault, calculator_path}
 use Rattle.mg_config.specs.Config.{NodeView, GraphView, ports_by, ports_in, pair_in, streams_in, sides_in, mark_by, mark_in, kept, marks_from, node_with, node_of, nodes_from, graph_with, graph_of, unless, config_of}
 use Rattle.mg_config.specs.Sound.{FitsI32, AreReadBack, IsMark, IsSoundNode, IsSound}
@@ -28,7 +26,7 @@ use Rattle.mg_config.specs.declared.mark.Mark.{Mark}
 use Rattle.mg_config.specs.declared.ports.PortPair.{PortPair}
 use Rattle.mg_config.specs.declared.fault.ConfigFault.{ConfigFault}
 use Rattle.mg_config.specs.declared.fault.ConfigFault.TheVariants.{WrongShape}
-use Rattle.mg_config.proofs.Made.{then_ok, placed_ok, unless_ok}
+use Rattle.mg_config.proofs.Made.{then_ok, within_ok, unless_ok}
 
 -- a number without a sign is at most the bound
 value_bound : (base most : ℕ) (digits : List ℕ) (n : ℕ) → value_in base most digits ≡ Some n → n ≤ most
@@ -94,47 +92,18 @@ first_fits (Some value) = or_zero_fits (number_in_value value) (value_fits value
 number_in_fits : (name : List ℕ) (fields : List Entry) → FitsI32 (number_in name fields)
 number_in_fits name fields = first_fits (first (values_of name fields))
 
--- a back edge
-at_is_mark : (tag : List ℕ) (o : Option ℕ) (mark : Mark) → mark_at tag o ≡ Ok mark → (tag ≡ []) ⊎ IsTrue (is_tag tag) → ((k : ℕ) → o ≡ Some k → k < 64) → IsMark mark
-at_is_mark tag None mark read kind below = cc
-at_is_mark tag (Some index) mark read kind below =
-    let same : record { tag = tag; index = index } ≡ mark = cc in
-    subst IsMark same (record { tag = kind; index = below index refl })
-
-empty_or_tag : (tag : List ℕ) → (bytes_eq tag [] || is_tag tag) ≡ true → (tag ≡ []) ⊎ IsTrue (is_tag tag)
-empty_or_tag [] passed = inl refl
-empty_or_tag (letter ∷ rest) passed = inr passed
-
-parts_are_mark : (parts : List (List ℕ)) (mark : Mark) → mark_of_parts parts ≡ Ok mark → IsMark mark
-parts_are_mark [] mark read = cc
-parts_are_mark (tag ∷ []) mark read =
-    let passed = if_ok (is_tag tag) (mark_at tag (Some 0)) BadTag mark read in
-    at_is_mark tag (Some 0) mark passed.1 (inr passed.0) (zero_below)
-  where
-    zero_below : (k : ℕ) → Some 0 ≡ Some k → k < 64
-    zero_below k e =
-        let same : 0 ≡ k = cc in
-        omega arith
-parts_are_mark (tag ∷ index ∷ []) mark read =
-    let passed = if_ok (bytes_eq tag [] || is_tag tag) (mark_at tag (index_of index)) BadTag mark read in
-    at_is_mark tag (index_of index) mark passed.1 (empty_or_tag tag passed.0) (index_below index)
-parts_are_mark (tag ∷ index ∷ other ∷ more) mark read = cc
-
-mark_read : (text : List ℕ) (mark : Mark) → mark_of text ≡ Ok mark → IsMark mark
-mark_read text mark read = parts_are_mark (parts_of text) mark read
-
 abbrev made_as : {A : Type 0} → A → Result A ConfigFault
 made_as value = Ok value
 
 -- the ports of texts
-ports_by_ok : (name : List ℕ) (texts : List (List ℕ)) (result : Result (List Port) NameFault) (ports : List Port) → ports_by name texts result ≡ Ok ports → result ≡ Ok ports
-ports_by_ok name texts (Ok first) ports made =
+ports_by_ok : (name : List ℕ) (result : Result (List Port) PlacedFault) (ports : List Port) → ports_by name result ≡ Ok ports → result ≡ Ok ports
+ports_by_ok name (Ok first) ports made =
     let same : first ≡ ports = cc in
     ap Ok same
-ports_by_ok name texts (Err cause) ports made = cc
+ports_by_ok name (Err fault) ports made = cc
 
 ports_read : (name : List ℕ) (fields : List Entry) (ports : List Port) → ports_in name fields ≡ Ok ports → AreReadBack ports
-ports_read name fields ports made = read_again (texts_in name fields) ports (ports_by_ok name (texts_in name fields) (ports_of (texts_in name fields)) ports made)
+ports_read name fields ports made = read_again (texts_in name fields) ports (ap without_place (ports_by_ok name (placed_ports_of (texts_in name fields)) ports made))
 
 record IsPair (pair : PortPair) : Type 0 where
   pub inputs : AreReadBack pair.inputs
@@ -151,16 +120,17 @@ pair_read input output fields pair made =
     (record { inputs = ports_read input fields ins.0 ins.1; outputs = ports_read output fields outs.0 outs.1 })
 
 -- the back edges of messages
-mark_by_ok : (result : Result Mark NameFault) (mark : Mark) → mark_by result ≡ Ok mark → result ≡ Ok mark
-mark_by_ok (Ok first) mark made =
-    let same : first ≡ mark = cc in
-    ap Ok same
-mark_by_ok (Err cause) mark made = cc
+same_mark : (one other : Mark) → made_as one ≡ Ok other → one ≡ other
+same_mark one other made = cc
+
+mark_by_ok : (result : Result (List ℕ × ℕ) NameFault) (mark : Mark) → ((tag : List ℕ) (index : ℕ) → result ≡ Ok (tag, index) → IsTagIndex tag index) → mark_by result ≡ Ok mark → IsMark mark
+mark_by_ok (Ok read) mark passes made = subst IsMark (same_mark (record { tag = read.0; index = read.1 }) mark made) (passes read.0 read.1 refl)
+mark_by_ok (Err cause) mark passes made = cc
 
 mark_in_read : (fields : List Entry) (mark : Mark) → mark_in fields ≡ Ok mark → IsMark mark
 mark_in_read fields mark made =
     let text = text_in (codes "tag_index") fields in
-    mark_read text mark (mark_by_ok (mark_of text) mark made)
+    mark_by_ok (tag_index_of text) mark (tag_index_passes text) made
 
 kept_are : (back : Bool) (mark : Mark) (marks : List Mark) → IsMark mark → All IsMark marks → All IsMark (kept back mark marks)
 kept_are true mark marks one all = All-cons IsMark mark marks one all
@@ -174,10 +144,10 @@ marks_read k [] marks made = subst (All IsMark) (same_marks [] marks made) (All-
 marks_read k (fields ∷ more) marks made =
     let back = truth_in (codes "back_edge") (entries fields) in
     let place = numbered (codes "input_stream_info") k in
-    let one = then_ok (placed place (mark_in (entries fields))) (λ mark. then_do (marks_from (suc k) more) (λ marks. Ok (kept back mark marks))) marks made in
+    let one = then_ok (result_within place (mark_in (entries fields))) (λ mark. then_do (marks_from (suc k) more) (λ marks. Ok (kept back mark marks))) marks made in
     let others = then_ok (marks_from (suc k) more) (λ marks. Ok (kept back one.0 marks)) marks one.2 in
     subst (All IsMark) (same_marks (kept back one.0 others.0) marks others.2)
-    (kept_are back one.0 others.0 (mark_in_read (entries fields) one.0 (placed_ok place (mark_in (entries fields)) one.0 one.1)) (marks_read (suc k) more others.0 others.1))
+    (kept_are back one.0 others.0 (mark_in_read (entries fields) one.0 (within_ok place (mark_in (entries fields)) one.0 one.1)) (marks_read (suc k) more others.0 others.1))
 
 -- a node with a calculator
 some_bytes : (bytes : List ℕ) → bytes_eq bytes [] ≡ false → bytes ≢ []
@@ -219,10 +189,10 @@ nodes_read k [] nodes made clear = subst (All IsSoundNode) (same_nodes [] nodes 
 nodes_read k (fields ∷ more) nodes made clear =
     let place = numbered (codes "node") k in
     let named = named_by (bytes_eq (text_in (codes "calculator") (entries fields)) []) (WrongShape (calculator_path k)) (calculator_fault (suc k) more) clear in
-    let one = then_ok (placed place (node_of (entries fields))) (λ node. then_do (nodes_from (suc k) more) (λ nodes. Ok (node ∷ nodes))) nodes made in
+    let one = then_ok (result_within place (node_of (entries fields))) (λ node. then_do (nodes_from (suc k) more) (λ nodes. Ok (node ∷ nodes))) nodes made in
     let others = then_ok (nodes_from (suc k) more) (λ nodes. Ok (one.0 ∷ nodes)) nodes one.2 in
     subst (All IsSoundNode) (same_nodes (one.0 ∷ others.0) nodes others.2)
-    (All-cons IsSoundNode one.0 others.0 (node_read (entries fields) one.0 (placed_ok place (node_of (entries fields)) one.0 one.1) named.0) (nodes_read (suc k) more others.0 others.1 named.1))
+    (All-cons IsSoundNode one.0 others.0 (node_read (entries fields) one.0 (within_ok place (node_of (entries fields)) one.0 one.1) named.0) (nodes_read (suc k) more others.0 others.1 named.1))
 
 same_graph : (one other : GraphView) → made_as one ≡ Ok other → one ≡ other
 same_graph one other made = cc

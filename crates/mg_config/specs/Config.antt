@@ -1,23 +1,25 @@
 -- The configuration of a list of fields, or its first fault.
-use Rattle.std.specs.Prelude.{ℕ, suc, ℤ, List, [], ◌∷◌, ◌++◌, Bool, true, false, Option, None, Some, Result, Ok, Err, map, codes, is_err, ◌||◌, filter}
+use Rattle.std.specs.Prelude.{ℕ, suc, ℤ, List, [], ◌∷◌, Bool, true, false, Option, None, Some, Result, Ok, Err, map, codes, ◌||◌, filter}
 use Rattle.std.specs.Str.{bytes_eq}
 use Rattle.mg_text.specs.Tree.{Fields}
 use Rattle.mg_text.specs.View.{Entry, view}
-use Rattle.mg_names.specs.Ports.{ports_of, port_after}
+use Rattle.mg_names.specs.Ports.{placed_ports_of}
+use Rattle.mg_names.specs.TagIndex.{tag_index_of}
 use Rattle.mg_names.specs.declared.port.Port.{Port}
 use Rattle.mg_names.specs.declared.fault.NameFault.{NameFault}
-use Rattle.mg_names.specs.declared.fault.NameFault.TheVariants.{Gap, Twice}
+use Rattle.mg_names.specs.declared.placed_fault.PlacedFault.{PlacedFault}
+use Rattle.mg_names.specs.declared.placed_fault.PlacedFault.TheVariants.{At, Whole}
+use Rattle.mg_names.specs.declared.placed_fault.PlacedFault.TheVariants as placed
 use Rattle.mg_config.specs.Values.{entries, texts_in, text_in, number_in, truth_in, message_in, messages_in, joined, fields_of_value}
-use Rattle.mg_config.specs.Path.{numbered, placed, then_do}
+use Rattle.mg_config.specs.Path.{numbered, result_within, then_do}
 use Rattle.mg_config.specs.Faults.{field_fault, calculator_fault}
-use Rattle.mg_config.specs.Marks.{mark_of}
 use Rattle.mg_config.specs.declared.schema.Message.TheVariants.{Graph}
 use Rattle.mg_config.specs.declared.mark.Mark.{Mark}
 use Rattle.mg_config.specs.declared.ports.PortPair.{PortPair}
 use Rattle.mg_config.specs.declared.node.NodeConfig.{NodeConfig}
 use Rattle.mg_config.specs.declared.graph.GraphConfig.{GraphConfig}
 use Rattle.mg_config.specs.declared.fault.ConfigFault.{ConfigFault}
-use Rattle.mg_config.specs.declared.fault.ConfigFault.TheVariants.{BadPort}
+use Rattle.mg_config.specs.declared.fault.ConfigFault.TheVariants.{BadPort, OutOfMemory}
 
 -- a node, whose options are fields
 pub record NodeView : Type 0 where
@@ -71,28 +73,20 @@ graph_view graph = record {
   num_threads = graph.num_threads;
 }
 
--- the number of the first text that spells no port after those before it
-abbrev pub refused_by : Bool → ℕ → ℕ
-refused_by true later = 0
-refused_by false later = suc later
+-- A refusal of one of the texts of a starred field has the path of that text; a tag and index that stand twice, and a
+-- gap, have the path of the list.
+abbrev pub port_fault : List ℕ → PlacedFault → ConfigFault
+port_fault name (At place cause) = BadPort (numbered name place) cause
+port_fault name (Whole cause) = BadPort name cause
+port_fault name placed.OutOfMemory = OutOfMemory
 
-abbrev pub refused_after : List (List ℕ) → List (List ℕ) → ℕ
-refused_after before [] = 0
-refused_after before (text ∷ texts) = refused_by (is_err (port_after before text)) (refused_after (before ++ text ∷ []) texts)
-
--- A tag and index that stand twice, and a gap, are faults of the list; every other one is of a text in it.
-abbrev pub port_path : NameFault → List ℕ → List (List ℕ) → List ℕ
-port_path Twice name texts = name
-port_path Gap name texts = name
-port_path cause name texts = numbered name (refused_after [] texts)
-
-abbrev pub ports_by : List ℕ → List (List ℕ) → Result (List Port) NameFault → Result (List Port) ConfigFault
-ports_by name texts (Ok ports) = Ok ports
-ports_by name texts (Err cause) = Err (BadPort (port_path cause name texts) cause)
+abbrev pub ports_by : List ℕ → Result (List Port) PlacedFault → Result (List Port) ConfigFault
+ports_by name (Ok ports) = Ok ports
+ports_by name (Err fault) = Err (port_fault name fault)
 
 -- the ports of the starred field of a name
 abbrev pub ports_in : List ℕ → List Entry → Result (List Port) ConfigFault
-ports_in name fields = ports_by name (texts_in name fields) (ports_of (texts_in name fields))
+ports_in name fields = ports_by name (placed_ports_of (texts_in name fields))
 
 -- the ports that come in and then those that go out
 abbrev pub pair_in : List ℕ → List ℕ → List Entry → Result PortPair ConfigFault
@@ -105,13 +99,13 @@ streams_in fields = pair_in (codes "input_stream") (codes "output_stream") field
 abbrev pub sides_in : List Entry → Result PortPair ConfigFault
 sides_in fields = pair_in (codes "input_side_packet") (codes "output_side_packet") fields
 
-abbrev pub mark_by : Result Mark NameFault → Result Mark ConfigFault
-mark_by (Ok mark) = Ok mark
+abbrev pub mark_by : Result (List ℕ × ℕ) NameFault → Result Mark ConfigFault
+mark_by (Ok read) = Ok (record { tag = read.0; index = read.1 })
 mark_by (Err cause) = Err (BadPort (codes "tag_index") cause)
 
 -- the input that a message tells of
 abbrev pub mark_in : List Entry → Result Mark ConfigFault
-mark_in fields = mark_by (mark_of (text_in (codes "tag_index") fields))
+mark_in fields = mark_by (tag_index_of (text_in (codes "tag_index") fields))
 
 -- an input is kept where it is a back edge
 abbrev pub kept : Bool → Mark → List Mark → List Mark
@@ -122,7 +116,7 @@ kept false mark marks = marks
 abbrev pub marks_from : ℕ → List Fields → Result (List Mark) ConfigFault
 marks_from k [] = Ok []
 marks_from k (fields ∷ more) =
-    then_do (placed (numbered (codes "input_stream_info") k) (mark_in (entries fields)))
+    then_do (result_within (numbered (codes "input_stream_info") k) (mark_in (entries fields)))
     (λ mark. then_do (marks_from (suc k) more) (λ marks. Ok (kept (truth_in (codes "back_edge") (entries fields)) mark marks)))
 
 -- `options` and `node_options` are one list of fields, in the order of the text
@@ -162,7 +156,7 @@ node_of fields =
 abbrev pub nodes_from : ℕ → List Fields → Result (List NodeView) ConfigFault
 nodes_from k [] = Ok []
 nodes_from k (fields ∷ more) =
-    then_do (placed (numbered (codes "node") k) (node_of (entries fields)))
+    then_do (result_within (numbered (codes "node") k) (node_of (entries fields)))
     (λ node. then_do (nodes_from (suc k) more) (λ nodes. Ok (node ∷ nodes)))
 
 -- a graph of the ports and nodes that its fields tell of

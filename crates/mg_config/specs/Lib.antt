@@ -3,7 +3,6 @@ pub mod Number
 pub mod Values
 pub mod Path
 pub mod Faults
-pub mod Marks
 pub mod Config
 pub mod Written
 pub mod Sound

@@ -40,13 +40,13 @@ abbrev pub is_one_of : List (List ℕ) → List ℕ → Bool
 is_one_of [] text = false
 is_one_of (word ∷ words) text = bytes_eq text word || is_one_of words text
 
-abbrev pub truth_in : List (List ℕ) → List (List ℕ) → List ℕ → Option Bool
-truth_in truths lies text = if is_one_of truths text then Some true else (if is_one_of lies text then Some false else None)
+abbrev pub truth_among : List (List ℕ) → List (List ℕ) → List ℕ → Option Bool
+truth_among truths lies text = if is_one_of truths text then Some true else (if is_one_of lies text then Some false else None)
 
 -- `true`, `True`, `t`, `false`, `False` and `f`
 abbrev pub truth_of_word : List ℕ → Option Bool
-truth_of_word text = truth_in (codes "true" ∷ codes "True" ∷ codes "t" ∷ []) (codes "false" ∷ codes "False" ∷ codes "f" ∷ []) text
+truth_of_word text = truth_among (codes "true" ∷ codes "True" ∷ codes "t" ∷ []) (codes "false" ∷ codes "False" ∷ codes "f" ∷ []) text
 
 -- `1` and `0`
 abbrev pub truth_of_number : List ℕ → Option Bool
-truth_of_number text = truth_in (codes "1" ∷ []) (codes "0" ∷ []) text
+truth_of_number text = truth_among (codes "1" ∷ []) (codes "0" ∷ []) text

@@ -30,9 +30,9 @@ within place (Repeated path) = Repeated (below place path)
 within place (BadPort path cause) = BadPort (below place path) cause
 within place OutOfMemory = OutOfMemory
 
-abbrev pub placed : {A : Type 0} → List ℕ → Result A ConfigFault → Result A ConfigFault
-placed place (Ok value) = Ok value
-placed place (Err fault) = Err (within place fault)
+abbrev pub result_within : {A : Type 0} → List ℕ → Result A ConfigFault → Result A ConfigFault
+result_within place (Ok value) = Ok value
+result_within place (Err fault) = Err (within place fault)
 
 -- what follows a result, unless that is a fault
 abbrev pub then_do : {A B : Type 0} → Result A ConfigFault → (A → Result B ConfigFault) → Result B ConfigFault

@@ -22,35 +22,35 @@ abbrev pub row : List ℕ → FieldRule → Row
 row name rule = record { name = name; rule = rule }
 
 -- the lists of ports that graphs and nodes have
-abbrev pub port_fields : List Row
-port_fields = row (codes "input_stream") (many Text) ∷ row (codes "output_stream") (many Text)
+abbrev pub port_rows : List Row
+port_rows = row (codes "input_stream") (many Text) ∷ row (codes "output_stream") (many Text)
     ∷ row (codes "input_side_packet") (many Text) ∷ row (codes "output_side_packet") (many Text) ∷ []
 
-abbrev pub graph_fields : List Row
-graph_fields = row (codes "type") (once Text) ∷ row (codes "max_queue_size") (once Number) ∷ row (codes "num_threads") (once Number)
-    ∷ row (codes "node") (many (Inside Node)) ∷ port_fields
+abbrev pub graph_rows : List Row
+graph_rows = row (codes "type") (once Text) ∷ row (codes "max_queue_size") (once Number) ∷ row (codes "num_threads") (once Number)
+    ∷ row (codes "node") (many (Inside Node)) ∷ port_rows
 
-abbrev pub node_message_fields : List Row
-node_message_fields = row (codes "input_stream_info") (many (Inside Info)) ∷ row (codes "input_stream_handler") (once (Inside Handler))
-    ∷ row (codes "options") (once Options) ∷ row (codes "node_options") (many Options) ∷ port_fields
+abbrev pub node_message_rows : List Row
+node_message_rows = row (codes "input_stream_info") (many (Inside Info)) ∷ row (codes "input_stream_handler") (once (Inside Handler))
+    ∷ row (codes "options") (once Options) ∷ row (codes "node_options") (many Options) ∷ port_rows
 
-abbrev pub node_fields : List Row
-node_fields = row (codes "name") (once Text) ∷ row (codes "calculator") (once Text) ∷ row (codes "max_in_flight") (once Number)
-    ∷ row (codes "buffer_size_hint") (once Number) ∷ node_message_fields
+abbrev pub node_rows : List Row
+node_rows = row (codes "name") (once Text) ∷ row (codes "calculator") (once Text) ∷ row (codes "max_in_flight") (once Number)
+    ∷ row (codes "buffer_size_hint") (once Number) ∷ node_message_rows
 
 -- an input stream's tag and index, and whether it is a back edge
-abbrev pub info_fields : List Row
-info_fields = row (codes "tag_index") (once Text) ∷ row (codes "back_edge") (once Truth) ∷ []
+abbrev pub info_rows : List Row
+info_rows = row (codes "tag_index") (once Text) ∷ row (codes "back_edge") (once Truth) ∷ []
 
 -- the name of an input policy
-abbrev pub handler_fields : List Row
-handler_fields = row (codes "input_stream_handler") (once Text) ∷ []
+abbrev pub handler_rows : List Row
+handler_rows = row (codes "input_stream_handler") (once Text) ∷ []
 
-abbrev pub fields_in : Message → List Row
-fields_in Graph = graph_fields
-fields_in Node = node_fields
-fields_in Info = info_fields
-fields_in Handler = handler_fields
+abbrev pub rows_of : Message → List Row
+rows_of Graph = graph_rows
+rows_of Node = node_rows
+rows_of Info = info_rows
+rows_of Handler = handler_rows
 
 -- the rule of a name, if a row has it
 abbrev pub rule_in : List Row → List ℕ → Option FieldRule
@@ -58,7 +58,7 @@ rule_in [] name = None
 rule_in (r ∷ rows) name = if bytes_eq name r.name then Some r.rule else rule_in rows name
 
 abbrev pub rule_of : Message → List ℕ → Option FieldRule
-rule_of message name = rule_in (fields_in message) name
+rule_of message name = rule_in (rows_of message) name
 
 -- where the fields inside a field are judged: whether it is starred, and what they are
 abbrev pub judged_as : Bool → Shape → Option (Bool × Message)

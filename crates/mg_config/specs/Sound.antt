@@ -1,10 +1,10 @@
 -- What every configuration has that was read, and what the text form asks of one: both are kept by whoever makes a
 -- configuration of others, and they are what `write` needs for its fields to be read back, and to be printed.
-use Rattle.std.specs.Prelude.{◌+◌, ◌^◌, ◌<◌, ◌≤◌, ◌≡◌, ◌≢◌, ◌⊎◌, ℤ, pos, negsuc, List, [], map, Ok, IsTrue, All}
+use Rattle.std.specs.Prelude.{◌+◌, ◌^◌, ◌<◌, ◌≤◌, ◌≡◌, ◌≢◌, ℤ, pos, negsuc, List, [], map, Ok, All}
 use Rattle.mg_text.specs.Tree.{depth}
 use Rattle.mg_text.specs.Answer.{max_depth}
 use Rattle.mg_text.specs.Canonical.{AreCharacters, AreSpelled}
-use Rattle.mg_names.specs.Grammar.{is_tag, index_count}
+use Rattle.mg_names.specs.TagIndex.{IsTagIndex}
 use Rattle.mg_names.specs.Ports.{ports_of, text_of}
 use Rattle.mg_names.specs.declared.port.Port.{Port}
 use Rattle.mg_config.specs.Config.{NodeView, GraphView}
@@ -19,10 +19,9 @@ FitsI32 (negsuc n) = n < 2 ^ 31
 abbrev pub AreReadBack : List Port → Type 0
 AreReadBack ports = ports_of (map text_of ports) ≡ Ok ports
 
--- a tag, which may be empty, and an index
-pub record IsMark (mark : Mark) : Type 0 where
-  pub tag : (mark.tag ≡ []) ⊎ IsTrue (is_tag mark.tag)
-  pub index : mark.index < index_count
+-- a back edge whose tag and index can be spelled
+abbrev pub IsMark : Mark → Type 0
+IsMark mark = IsTagIndex mark.tag mark.index
 
 pub record IsSoundNode (node : NodeView) : Type 0 where
   pub calculator : node.calculator ≢ []

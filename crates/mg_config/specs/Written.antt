@@ -5,9 +5,9 @@ use Rattle.std.specs.Fmt.{signed_decimal}
 use Rattle.mg_text.specs.Tree.{word, number, quoted, Fields, none, scalar, message}
 use Rattle.mg_text.specs.View.{simple, inner, Entry, fields_of}
 use Rattle.mg_names.specs.Ports.{text_of}
+use Rattle.mg_names.specs.TagIndex.{text_of_tag_index}
 use Rattle.mg_names.specs.declared.port.Port.{Port}
 use Rattle.mg_config.specs.Values.{entry}
-use Rattle.mg_config.specs.Marks.{text_of_mark}
 use Rattle.mg_config.specs.Config.{NodeView, GraphView}
 use Rattle.mg_config.specs.declared.mark.Mark.{Mark}
 
@@ -27,7 +27,7 @@ port_fields name ports = map (λ port. text_entry name (text_of port)) ports
 -- a back edge: its tag and index, and that it is one
 abbrev pub mark_entry : Mark → Entry
 mark_entry mark = entry (codes "input_stream_info")
-    (inner (fields_of (text_entry (codes "tag_index") (text_of_mark mark) ∷ entry (codes "back_edge") (simple word (codes "true")) ∷ [])))
+    (inner (fields_of (text_entry (codes "tag_index") (text_of_tag_index mark.tag mark.index) ∷ entry (codes "back_edge") (simple word (codes "true")) ∷ [])))
 
 abbrev pub mark_fields : List Mark → List Entry
 mark_fields marks = map mark_entry marks

@@ -7,7 +7,7 @@ ghost use Rattle.mg_config.specs.Faults as faults;
 
 use crate::fault::ConfigFault;
 use crate::path::{below, numbered};
-use crate::value::{fields_of, has_name, text_named};
+use crate::value::{fields_of_value, has_name, text_named};
 use mg_text::Field;
 use mg_value::MgText;
 use std::alloc::{AllocError, Global};
@@ -24,7 +24,7 @@ fn calculator_path(alloc: Global, k: usize) -> Result<MgText, AllocError>
 {
     let calculator = MgText::new(alloc, "calculator")?;
     let node = numbered(alloc, "node", k)?;
-    below(alloc, node.as_str(), &calculator)
+    below(alloc, node.as_str(), calculator)
 }
 
 /// Looks for the first node whose calculator is absent or empty.
@@ -37,7 +37,7 @@ pub fn check_calculators(alloc: Global, fields: &[Field]) -> Result<(), ConfigFa
         if !has_name(field, b"node") {
             continue;
         }
-        if lacks_calculator(alloc, fields_of(&field.value))? {
+        if lacks_calculator(alloc, fields_of_value(&field.value))? {
             return Err(ConfigFault::WrongShape {
                 path: calculator_path(alloc, k)?,
             });

@@ -1,8 +1,9 @@
-ghost use Rattle.std.specs.Prelude.{◌≡◌, ◌≢◌, ◌≤◌, Ok, Err, IfOk, IfErr, map};
+ghost use Rattle.std.specs.Prelude.{◌≡◌, ◌≢◌, ◌≤◌, ℕ, List, Ok, Err, IfOk, IfErr, map};
 ghost use Rattle.mg_text.specs.Tree.{depth};
 ghost use Rattle.mg_text.specs.View.{field_view, fields_view, view};
 ghost use Rattle.mg_text.specs.Answer.{max_depth};
 ghost use Rattle.mg_text.specs.Canonical.{AreSpelled};
+ghost use Rattle.mg_names.specs.declared.fault.NameFault.TheVariants as NameFault;
 ghost use Rattle.mg_config.specs.Config as config;
 ghost use Rattle.mg_config.specs.Sound.{IsSound, IsPrintable};
 
@@ -92,7 +93,10 @@ pub fn read(alloc: Global, tree: &Tree) -> Result<GraphConfig, ConfigFault>
     ensures ok { IfOk result (λ graph. config.config_of (view tree.now) ≡ Ok (config.graph_view graph)) }
     ensures err { IfErr result (λ fault. fault ≢ ConfigFault.OutOfMemory → config.config_of (view tree.now) ≡ Err fault) }
 
-    // So it can be written and read back, and if the fields can be printed, printed.
+    // Want of memory is a fault of its own, and never what ports are refused for.
+    ensures cause { (path : List ℕ) → result ≢ Err (ConfigFault.BadPort path NameFault.OutOfMemory) }
+
+    // What is read can be written and read back, and if the fields can be printed, printed.
     ensures sound { IfOk result (λ graph. IsSound (config.graph_view graph)) }
     ensures printable { IfOk result (λ graph. AreSpelled (view tree.now) → depth (view tree.now) ≤ max_depth → IsPrintable (config.graph_view graph)) }
 {

@@ -5,6 +5,7 @@
 mod calculators;
 mod check;
 mod fault;
+mod fields;
 mod graph;
 mod mark;
 mod marks;
@@ -17,7 +18,7 @@ mod ports;
 mod schema;
 mod texts;
 mod value;
-mod writer;
+mod word;
 mod writing;
 
 pub use fault::ConfigFault;
@@ -25,6 +26,3 @@ pub use graph::{GraphConfig, NodeList, read};
 pub use mark::Mark;
 pub use node::{MarkList, NodeConfig};
 pub use writing::write;
-
-#[cfg(test)]
-mod tests;

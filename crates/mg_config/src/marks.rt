@@ -9,15 +9,15 @@ use crate::fault::ConfigFault;
 use crate::mark::{Mark, mark_named};
 use crate::node::MarkList;
 use crate::path::within_numbered;
-use crate::value::{fields_of, has_name, truth_named};
+use crate::value::{fields_of_value, has_name, truth_named};
 use mg_text::Field;
 use mg_value::List;
 use std::alloc::{AllocError, Global};
 
 /// The input that a message tells of, where k others of the name stand before it.
 fn mark_at(alloc: Global, k: usize, info: &[Field]) -> Result<Mark, ConfigFault>
-    ensures ok { IfOk result (λ mark. paths.placed (paths.numbered (codes "input_stream_info") k) (config.mark_in (map field_view info.now)) ≡ Ok mark) }
-    ensures err { IfErr result (λ fault. fault ≢ ConfigFault.OutOfMemory → paths.placed (paths.numbered (codes "input_stream_info") k) (config.mark_in (map field_view info.now)) ≡ Err fault) }
+    ensures ok { IfOk result (λ mark. paths.result_within (paths.numbered (codes "input_stream_info") k) (config.mark_in (map field_view info.now)) ≡ Ok mark) }
+    ensures err { IfErr result (λ fault. fault ≢ ConfigFault.OutOfMemory → paths.result_within (paths.numbered (codes "input_stream_info") k) (config.mark_in (map field_view info.now)) ≡ Err fault) }
 {
     match mark_named(alloc, info) {
         Ok(mark) => Ok(mark),
@@ -45,7 +45,7 @@ pub fn marks_named(alloc: Global, fields: &[Field]) -> Result<MarkList, ConfigFa
         if !has_name(field, b"input_stream_info") {
             continue;
         }
-        let info = fields_of(&field.value);
+        let info = fields_of_value(&field.value);
         let mark = mark_at(alloc, k, info)?;
         keep(&mut marks, truth_named(info, b"back_edge"), mark)?;
         k += 1;

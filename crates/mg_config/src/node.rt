@@ -1,5 +1,6 @@
-ghost use Rattle.std.specs.Prelude.{◌≡◌, ◌≢◌, Ok, Err, IfOk, IfErr, map};
+ghost use Rattle.std.specs.Prelude.{◌≡◌, ◌≢◌, Ok, Err, IfOk, IfErr, map, codes};
 ghost use Rattle.mg_text.specs.View.{field_view, view};
+ghost use Rattle.mg_config.specs.Values.{text_in};
 ghost use Rattle.mg_config.specs.Config as config;
 
 use crate::fault::ConfigFault;
@@ -44,23 +45,31 @@ pub struct NodeConfig {
     pub buffer_size_hint: i32,
 }
 
-/// A node's options, and its handler's name.
-#[derive(Debug, Drop)]
-pub struct NodeExtra {
-    pub options: Tree,
+/// The texts and the options of a node.
+#[derive(Drop)]
+pub struct NodeTexts {
+    pub name: MgText,
+    pub calculator: MgText,
     pub handler: MgText,
+    pub options: Tree,
 }
 
-fn extra_of(alloc: Global, fields: &[Field]) -> Result<NodeExtra, AllocError>
-    ensures options { IfOk result (λ extra. view extra.options ≡ config.options_in (map field_view fields.now)) }
-    ensures handler { IfOk result (λ extra. extra.handler ≡ config.handler_in (map field_view fields.now)) }
+fn texts_of(alloc: Global, fields: &[Field]) -> Result<NodeTexts, AllocError>
+    ensures name { IfOk result (λ texts. texts.name ≡ text_in (codes "name") (map field_view fields.now)) }
+    ensures calculator { IfOk result (λ texts. texts.calculator ≡ text_in (codes "calculator") (map field_view fields.now)) }
+    ensures handler { IfOk result (λ texts. texts.handler ≡ config.handler_in (map field_view fields.now)) }
+    ensures options { IfOk result (λ texts. view texts.options ≡ config.options_in (map field_view fields.now)) }
 {
-    let options = options_of(alloc, fields)?;
+    let name = text_named(alloc, fields, b"name")?;
+    let calculator = text_named(alloc, fields, b"calculator")?;
     let handler = message_named(fields, b"input_stream_handler");
     let handler = text_named(alloc, handler, b"input_stream_handler")?;
-    Ok(NodeExtra {
-        options: Tree { fields: options },
+    let options = options_of(alloc, fields)?;
+    Ok(NodeTexts {
+        name,
+        calculator,
         handler,
+        options: Tree { fields: options },
     })
 }
 
@@ -73,19 +82,17 @@ fn node_with(
 ) -> Result<NodeConfig, AllocError>
     ensures { IfOk result (λ node. config.node_view node ≡ config.node_with (map field_view fields.now) streams sides back_marks) }
 {
-    let name = text_named(alloc, fields, b"name")?;
-    let calculator = text_named(alloc, fields, b"calculator")?;
-    let NodeExtra { options, handler } = extra_of(alloc, fields)?;
+    let texts = texts_of(alloc, fields)?;
     Ok(NodeConfig {
-        name,
-        calculator,
+        name: texts.name,
+        calculator: texts.calculator,
         inputs: streams.inputs,
         outputs: streams.outputs,
         input_sides: sides.inputs,
         output_sides: sides.outputs,
-        options,
+        options: texts.options,
         back_marks,
-        handler,
+        handler: texts.handler,
         max_in_flight: number_named(fields, b"max_in_flight"),
         buffer_size_hint: number_named(fields, b"buffer_size_hint"),
     })

@@ -9,15 +9,15 @@ use crate::fault::ConfigFault;
 use crate::graph::NodeList;
 use crate::node::{NodeConfig, node_of};
 use crate::path::within_numbered;
-use crate::value::{fields_of, has_name};
+use crate::value::{fields_of_value, has_name};
 use mg_text::Field;
 use mg_value::List;
 use std::alloc::Global;
 
 /// The node of a message, where k others of the name stand before it.
 fn node_at(alloc: Global, k: usize, fields: &[Field]) -> Result<NodeConfig, ConfigFault>
-    ensures ok { IfOk result (λ node. paths.placed (paths.numbered (codes "node") k) (config.node_of (map field_view fields.now)) ≡ Ok (config.node_view node)) }
-    ensures err { IfErr result (λ fault. fault ≢ ConfigFault.OutOfMemory → paths.placed (paths.numbered (codes "node") k) (config.node_of (map field_view fields.now)) ≡ Err fault) }
+    ensures ok { IfOk result (λ node. paths.result_within (paths.numbered (codes "node") k) (config.node_of (map field_view fields.now)) ≡ Ok (config.node_view node)) }
+    ensures err { IfErr result (λ fault. fault ≢ ConfigFault.OutOfMemory → paths.result_within (paths.numbered (codes "node") k) (config.node_of (map field_view fields.now)) ≡ Err fault) }
 {
     match node_of(alloc, fields) {
         Ok(node) => Ok(node),
@@ -36,7 +36,7 @@ pub fn nodes_named(alloc: Global, fields: &[Field]) -> Result<NodeList, ConfigFa
         if !has_name(field, b"node") {
             continue;
         }
-        let node = node_at(alloc, k, fields_of(&field.value))?;
+        let node = node_at(alloc, k, fields_of_value(&field.value))?;
         nodes.push(node)?;
         k += 1;
     }

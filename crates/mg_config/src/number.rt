@@ -1,8 +1,9 @@
 //! Numbers and truth values by their spelling (Protocol Buffers text format, language specification: numeric
 //! literals, and the values of Boolean fields).
 ghost use Rattle.std.specs.Prelude.{◌≡◌, ◌<◌, ◌≤◌, ◌^◌, ◌*◌, ◌+◌, IfSome};
-ghost use Rattle.std.specs.Str.{bytes_eq};
 ghost use Rattle.mg_config.specs.Number as number;
+
+use crate::word::is;
 
 /// The value of a digit, of hexadecimal ones too.
 fn digit_of(byte: u8, base: u32) -> Option<u32>
@@ -79,13 +80,6 @@ pub fn number_of(text: &[u8]) -> Option<i32>
             Some(size as i32)
         }
     }
-}
-
-/// Whether a text is a word.
-fn is(text: &[u8], word: &[u8]) -> bool
-    ensures { result ≡ bytes_eq text.now word.now }
-{
-    text == word
 }
 
 /// The truth value that a word spells.

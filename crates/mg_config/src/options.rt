@@ -3,7 +3,7 @@ ghost use Rattle.std.specs.Prelude.{◌≡◌, ◌++◌, IfOk, OnOk, map};
 ghost use Rattle.mg_text.specs.View.{field_view, fields_view};
 ghost use Rattle.mg_config.specs.Config as config;
 
-use crate::value::{fields_of, has_name};
+use crate::value::{fields_of_value, has_name};
 use mg_text::Field;
 use std::alloc::{AllocError, Global};
 
@@ -36,7 +36,7 @@ pub fn options_of(alloc: Global, fields: &[Field]) -> Result<Vec<Field>, AllocEr
         if !is_option(field) {
             continue;
         }
-        append_copies(alloc, &mut options, fields_of(&field.value))?;
+        append_copies(alloc, &mut options, fields_of_value(&field.value))?;
     }
     Ok(options)
 }

@@ -40,8 +40,8 @@ pub fn step(
 }
 
 /// A path from further up.
-pub fn below(alloc: Global, place: &str, path: &MgText) -> Result<MgText, AllocError>
-    ensures { IfOk result (λ text. text ≡ paths.below place.now path.now) }
+pub fn below(alloc: Global, place: &str, path: MgText) -> Result<MgText, AllocError>
+    ensures { IfOk result (λ text. text ≡ paths.below place.now path) }
 {
     Ok(MgText::from_string(format!(in alloc; "{place}.{}", path.as_str())?))
 }
@@ -51,16 +51,16 @@ fn moved(alloc: Global, place: &str, fault: ConfigFault) -> Result<ConfigFault, 
 {
     let moved = match fault {
         ConfigFault::UnknownField { path } => ConfigFault::UnknownField {
-            path: below(alloc, place, &path)?,
+            path: below(alloc, place, path)?,
         },
         ConfigFault::WrongShape { path } => ConfigFault::WrongShape {
-            path: below(alloc, place, &path)?,
+            path: below(alloc, place, path)?,
         },
         ConfigFault::Repeated { path } => ConfigFault::Repeated {
-            path: below(alloc, place, &path)?,
+            path: below(alloc, place, path)?,
         },
         ConfigFault::BadPort { path, cause } => ConfigFault::BadPort {
-            path: below(alloc, place, &path)?,
+            path: below(alloc, place, path)?,
             cause,
         },
         ConfigFault::OutOfMemory => ConfigFault::OutOfMemory,

@@ -1,6 +1,7 @@
 ghost use Rattle.std.specs.Prelude.{◌≡◌};
-ghost use Rattle.std.specs.Str.{bytes_eq};
 ghost use Rattle.mg_config.specs.Schema as schema;
+
+use crate::word::is;
 
 /// What has fields of its own: a graph, a node (MediaPipe, calculator.proto: CalculatorGraphConfig and its Node), and
 /// the two messages in a node whose fields are read.
@@ -30,12 +31,6 @@ pub struct FieldRule {
     pub shape: Shape,
 }
 
-fn is(name: &[u8], word: &[u8]) -> bool
-    ensures { result ≡ bytes_eq name.now word.now }
-{
-    name == word
-}
-
 fn once(shape: Shape) -> Option<FieldRule>
     ensures { result ≡ Some (schema.once shape) }
 {
@@ -49,8 +44,8 @@ fn many(shape: Shape) -> Option<FieldRule>
 }
 
 /// The rule of the four lists of ports that graphs and nodes have.
-fn port_field(name: &[u8]) -> Option<FieldRule>
-    ensures { result ≡ schema.rule_in schema.port_fields name.now }
+fn port_rule(name: &[u8]) -> Option<FieldRule>
+    ensures { result ≡ schema.rule_in schema.port_rows name.now }
 {
     if is(name, b"input_stream") {
         many(Shape::Text)
@@ -65,8 +60,8 @@ fn port_field(name: &[u8]) -> Option<FieldRule>
     }
 }
 
-fn graph_field(name: &[u8]) -> Option<FieldRule>
-    ensures { result ≡ schema.rule_in schema.graph_fields name.now }
+fn graph_rule(name: &[u8]) -> Option<FieldRule>
+    ensures { result ≡ schema.rule_in schema.graph_rows name.now }
 {
     if is(name, b"type") {
         once(Shape::Text)
@@ -77,12 +72,12 @@ fn graph_field(name: &[u8]) -> Option<FieldRule>
     } else if is(name, b"node") {
         many(Shape::Inside(Message::Node))
     } else {
-        port_field(name)
+        port_rule(name)
     }
 }
 
-fn node_message_field(name: &[u8]) -> Option<FieldRule>
-    ensures { result ≡ schema.rule_in schema.node_message_fields name.now }
+fn node_message_rule(name: &[u8]) -> Option<FieldRule>
+    ensures { result ≡ schema.rule_in schema.node_message_rows name.now }
 {
     if is(name, b"input_stream_info") {
         many(Shape::Inside(Message::Info))
@@ -93,12 +88,12 @@ fn node_message_field(name: &[u8]) -> Option<FieldRule>
     } else if is(name, b"node_options") {
         many(Shape::Options)
     } else {
-        port_field(name)
+        port_rule(name)
     }
 }
 
-fn node_field(name: &[u8]) -> Option<FieldRule>
-    ensures { result ≡ schema.rule_in schema.node_fields name.now }
+fn node_rule(name: &[u8]) -> Option<FieldRule>
+    ensures { result ≡ schema.rule_in schema.node_rows name.now }
 {
     if is(name, b"name") {
         once(Shape::Text)
@@ -109,12 +104,12 @@ fn node_field(name: &[u8]) -> Option<FieldRule>
     } else if is(name, b"buffer_size_hint") {
         once(Shape::Number)
     } else {
-        node_message_field(name)
+        node_message_rule(name)
     }
 }
 
-fn info_field(name: &[u8]) -> Option<FieldRule>
-    ensures { result ≡ schema.rule_in schema.info_fields name.now }
+fn info_rule(name: &[u8]) -> Option<FieldRule>
+    ensures { result ≡ schema.rule_in schema.info_rows name.now }
 {
     if is(name, b"tag_index") {
         once(Shape::Text)
@@ -125,8 +120,8 @@ fn info_field(name: &[u8]) -> Option<FieldRule>
     }
 }
 
-fn handler_field(name: &[u8]) -> Option<FieldRule>
-    ensures { result ≡ schema.rule_in schema.handler_fields name.now }
+fn handler_rule(name: &[u8]) -> Option<FieldRule>
+    ensures { result ≡ schema.rule_in schema.handler_rows name.now }
 {
     if is(name, b"input_stream_handler") {
         once(Shape::Text)
@@ -140,9 +135,9 @@ pub fn rule_of(message: Message, name: &[u8]) -> Option<FieldRule>
     ensures { result ≡ schema.rule_of message name.now }
 {
     match message {
-        Message::Graph => graph_field(name),
-        Message::Node => node_field(name),
-        Message::Info => info_field(name),
-        Message::Handler => handler_field(name),
+        Message::Graph => graph_rule(name),
+        Message::Node => node_rule(name),
+        Message::Info => info_rule(name),
+        Message::Handler => handler_rule(name),
     }
 }

@@ -2,7 +2,7 @@ ghost use Rattle.std.specs.Prelude.{◌≡◌, IfOk, map};
 ghost use Rattle.mg_text.specs.View.{field_view};
 ghost use Rattle.mg_config.specs.Values as values;
 
-use crate::value::{has_name, text_of};
+use crate::value::{has_name, text_of_value};
 use mg_text::Field;
 use mg_value::MgText;
 use std::alloc::{AllocError, Global};
@@ -15,7 +15,7 @@ pub fn texts_named(alloc: Global, fields: &[Field], name: &[u8]) -> Result<Vec<M
     let mut texts = Vec::new(alloc);
     for field in fields {
         if has_name(field, name) {
-            texts.push(text_of(alloc, &field.value)?)?;
+            texts.push(text_of_value(alloc, &field.value)?)?;
         }
     }
     Ok(texts)

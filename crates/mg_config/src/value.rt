@@ -16,13 +16,13 @@ pub fn has_shape(shape: Shape, value: &TreeValue) -> bool
 {
     match shape {
         Shape::Text => matches!(value, TreeValue::Scalar(Scalar::Quoted(_))),
-        Shape::Number => number_in(value).is_some(),
-        Shape::Truth => truth_in(value).is_some(),
+        Shape::Number => number_in_value(value).is_some(),
+        Shape::Truth => truth_in_value(value).is_some(),
         Shape::Options | Shape::Inside(_) => matches!(value, TreeValue::Message(_)),
     }
 }
 
-fn number_in(value: &TreeValue) -> Option<i32>
+fn number_in_value(value: &TreeValue) -> Option<i32>
     ensures { result ≡ values.number_in_value (value_view value.now) }
 {
     match value {
@@ -31,7 +31,7 @@ fn number_in(value: &TreeValue) -> Option<i32>
     }
 }
 
-fn truth_in(value: &TreeValue) -> Option<bool>
+fn truth_in_value(value: &TreeValue) -> Option<bool>
     ensures { result ≡ values.truth_in_value (value_view value.now) }
 {
     match value {
@@ -42,7 +42,7 @@ fn truth_in(value: &TreeValue) -> Option<bool>
 }
 
 /// The text of a value, which is empty where it is none.
-pub fn text_of(alloc: Global, value: &TreeValue) -> Result<MgText, AllocError>
+pub fn text_of_value(alloc: Global, value: &TreeValue) -> Result<MgText, AllocError>
     ensures { IfOk result (λ text. text ≡ values.text_of_value (value_view value.now)) }
 {
     match value {
@@ -52,7 +52,7 @@ pub fn text_of(alloc: Global, value: &TreeValue) -> Result<MgText, AllocError>
 }
 
 /// The fields of a message, of which there are none where it is none.
-pub fn fields_of(value: &TreeValue) -> &[Field]
+pub fn fields_of_value(value: &TreeValue) -> &[Field]
     ensures { fields_view result.now ≡ values.fields_of_value (value_view value.now) }
 {
     match value {
@@ -86,7 +86,7 @@ pub fn text_named(alloc: Global, fields: &[Field], name: &[u8]) -> Result<MgText
     ensures { IfOk result (λ text. text ≡ values.text_in name.now (map field_view fields.now)) }
 {
     match first_of(fields, name) {
-        Some(value) => text_of(alloc, value),
+        Some(value) => text_of_value(alloc, value),
         None => MgText::new(alloc, ""),
     }
 }
@@ -96,7 +96,7 @@ pub fn number_named(fields: &[Field], name: &[u8]) -> i32
     ensures { result ≡ values.number_in name.now (map field_view fields.now) }
 {
     match first_of(fields, name) {
-        Some(value) => number_in(value).unwrap_or(0),
+        Some(value) => number_in_value(value).unwrap_or(0),
         None => 0,
     }
 }
@@ -106,7 +106,7 @@ pub fn truth_named(fields: &[Field], name: &[u8]) -> bool
     ensures { result ≡ values.truth_in name.now (map field_view fields.now) }
 {
     match first_of(fields, name) {
-        Some(value) => truth_in(value).unwrap_or(false),
+        Some(value) => truth_in_value(value).unwrap_or(false),
         None => false,
     }
 }
@@ -116,7 +116,7 @@ pub fn message_named<'a>(fields: &'a [Field], name: &[u8]) -> &'a [Field]
     ensures { fields_view result.now ≡ values.message_in name.now (map field_view fields.now) }
 {
     match first_of(fields, name) {
-        Some(value) => fields_of(value),
+        Some(value) => fields_of_value(value),
         None => &[],
     }
 }

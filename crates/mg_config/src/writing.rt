@@ -1,41 +1,29 @@
 //! The fields that a configuration is written as.
-ghost use Rattle.std.specs.Prelude.{◌≡◌, ◌≤◌, [], ◌∷◌, ◌++◌, Ok, OnOk, IfOk, map, string_bytes, codes};
+ghost use Rattle.std.specs.Prelude.{◌≡◌, ◌≤◌, [], ◌∷◌, ◌++◌, Ok, OnOk, IfOk, map, codes};
 ghost use Rattle.mg_text.specs.Tree.{depth};
 ghost use Rattle.mg_text.specs.View.{field_view, fields_view, view};
 ghost use Rattle.mg_text.specs.Answer.{max_depth};
 ghost use Rattle.mg_text.specs.Canonical.{AreSpelled};
 ghost use Rattle.mg_config.specs.Config.{node_view, graph_view, config_of};
-ghost use Rattle.mg_config.specs.Marks.{text_of_mark};
 ghost use Rattle.mg_config.specs.Written as written;
 ghost use Rattle.mg_config.specs.Sound.{IsSound, IsPrintable};
 
+use crate::fields::{
+    put, put_handler, put_message, put_number, put_options, put_ports, put_string, put_text,
+};
 use crate::graph::GraphConfig;
 use crate::mark::Mark;
 use crate::node::NodeConfig;
-use crate::writer::{
-    put, put_handler, put_message, put_number, put_options, put_ports, put_string, put_text,
-};
-use mg_names::PortMap;
+use mg_names::{PortMap, print_tag_index};
 use mg_text::{Field, Scalar, Tree, TreeValue};
 use mg_value::MgText;
 use std::alloc::{AllocError, Global};
-
-fn mark_text(alloc: Global, mark: &Mark) -> Result<String, AllocError>
-    ensures { IfOk result (λ text. string_bytes text ≡ text_of_mark mark.now) }
-{
-    let mut text = String::new(alloc);
-    text.push_str(mark.tag.as_str())?;
-    if mark.index != 0 || mark.tag.as_bytes().is_empty() {
-        write!(text, ":{}", mark.index)?;
-    }
-    Ok(text)
-}
 
 fn put_mark(alloc: Global, out: &mut Vec<Field>, mark: &Mark) -> Result<(), AllocError>
     ensures { OnOk result (map field_view out.new.items ≡ map field_view out.old.items ++ written.mark_entry mark.now ∷ []) }
 {
     let mut fields = Vec::new(alloc);
-    let text = MgText::from_string(mark_text(alloc, mark)?);
+    let text = print_tag_index(alloc, &mark.tag, mark.index)?;
     put_string(alloc, &mut fields, "tag_index", text)?;
     let yes = MgText::new(alloc, "true")?;
     put(

@@ -26,6 +26,3 @@ pub use writer_sink::WriterSink;
 
 /// How often a call that a signal interrupted is tried again before it counts as failed.
 const MOST_INTERRUPTIONS: u32 = 1000;
-
-#[cfg(test)]
-mod tests;

@@ -1,5 +1,5 @@
 -- The ports of texts, and those of their own texts.
-use Rattle.std.proofs.Common.{Bool, Err, List, None, Ok, Option, Result, Some, [], ap, arith, count_by, false, if◌then◌else◌, inl, inr, map, refl, subst, suc, sym, true, unwrap_or, zero, zero-add, ℕ, ◌++◌, ◌+◌, ◌<◌, ◌∙◌, ◌∷◌, ◌≡◌, ◌⊎◌}
+use Rattle.std.proofs.Common.{Bool, Err, List, None, Ok, Option, Result, Some, [], ap, arith, count_by, false, if◌then◌else◌, inl, inr, length, map, refl, subst, suc, sym, true, unwrap_or, zero, zero-add, ℕ, ◌++◌, ◌+◌, ◌<◌, ◌∙◌, ◌∷◌, ◌≡◌, ◌⊎◌}
 use Rattle.std.specs.Prelude.{IsTrue}
 use Rattle.std.specs.List.{All}
 use Rattle.std.specs.Str.{bytes_eq}
@@ -8,12 +8,14 @@ use Rattle.std.proofs.lemmas.Bool.Decides.{nat_tests}
 use Rattle.std.proofs.lemmas.List.Sums.{sum_by-append}
 use Rattle.mg_names.specs.Grammar.{is_name, is_tag, index_of}
 use Rattle.mg_names.specs.Spelling.{parts_of, spelling_of_parts, named, named_at, is_untagged}
-use Rattle.mg_names.specs.Ports.{after, port_at, port_after, ports_after, stands_twice, has_gap, checked, ports_of, text_of, IsSpelled}
+use Rattle.mg_names.specs.Ports.{after, port_at, port_after, placed_at, ports_after, stands_twice, has_gap, checked, placed_ports_of, without_place, ports_of, text_of, IsSpelled}
 use Rattle.mg_names.specs.declared.spelling.Spelling.{Spelling}
 use Rattle.mg_names.specs.declared.fault.NameFault.{NameFault}
 use Rattle.mg_names.specs.declared.fault.NameFault.TheVariants.{BadName, BadTag, Gap, Twice}
+use Rattle.mg_names.specs.declared.placed_fault.PlacedFault.{PlacedFault}
+use Rattle.mg_names.specs.declared.placed_fault.PlacedFault.TheVariants.{Whole}
 use Rattle.mg_names.specs.declared.port.Port.{Port}
-use Rattle.mg_names.proofs.Counting.{if_ok, after_ok, comes_from, untagged_is_empty, untagged_has_room}
+use Rattle.mg_names.proofs.Counting.{if_ok, after_ok, placed_ok, comes_from, untagged_is_empty, untagged_has_room}
 use Rattle.mg_names.proofs.ReadBack.{port_read_back}
 
 -- an index is below 64
@@ -85,7 +87,7 @@ port_is_made number text port made =
 counted_push : (before : List (List ℕ)) (text : List ℕ) → count_by is_untagged (before ++ text ∷ []) ≡ count_by is_untagged before + (if is_untagged text then 1 else 0)
 counted_push before text = sum_by-append (λ t. if is_untagged t then 1 else 0) before (text ∷ []) ∙ ap (λ n. count_by is_untagged before + n) (zero-add (if is_untagged text then 1 else 0))
 
-abbrev listed : List Port → Result (List Port) NameFault
+abbrev listed : List Port → Result (List Port) PlacedFault
 listed ports = Ok ports
 
 same_ports : (first second : List Port) → listed first ≡ listed second → first ≡ second
@@ -95,9 +97,9 @@ same_ports first second same = cc
 first_port : (before : List (List ℕ)) (text : List ℕ) (texts : List (List ℕ)) (ports : List Port) → ports_after before (text ∷ texts) ≡ Ok ports
     → (port : Port) × (others : List Port) × (port_after before text ≡ Ok port) × (ports_after (before ++ text ∷ []) texts ≡ Ok others) × (port ∷ others ≡ ports)
 first_port before text texts ports made =
-    let one = after_ok (port_after before text) (λ port. after (ports_after (before ++ text ∷ []) texts) (λ more. Ok (port ∷ more))) ports made in
+    let one = after_ok (placed_at (length before) (port_after before text)) (λ port. after (ports_after (before ++ text ∷ []) texts) (λ more. Ok (port ∷ more))) ports made in
     let rest = after_ok (ports_after (before ++ text ∷ []) texts) (λ more. Ok (one.0 ∷ more)) ports one.2 in
-    (one.0, rest.0, one.1, rest.1, same_ports (one.0 ∷ rest.0) ports rest.2)
+    (one.0, rest.0, placed_ok (length before) (port_after before text) one.0 one.1, rest.1, same_ports (one.0 ∷ rest.0) ports rest.2)
 
 -- a port's text is read as that port after as many untagged ones
 again_one : (before again : List (List ℕ)) (text : List ℕ) (port : Port) → count_by is_untagged before ≡ count_by is_untagged again → port_after before text ≡ Ok port
@@ -126,7 +128,7 @@ made_again (text ∷ texts) before again ports same made =
     let others : ports_after (again ++ text_of first.0 ∷ []) (map text_of first.1) ≡ Ok first.1 =
     made_again texts (before ++ text ∷ []) (again ++ text_of first.0 ∷ []) first.1 (again_count before again text first.0 same first.2) first.3 in
     subst P first.4
-    (ap (λ r. after r (λ port. after (ports_after (again ++ text_of first.0 ∷ []) (map text_of first.1)) (λ more. Ok (port ∷ more)))) (again_one before again text first.0 same first.2)
+    (ap (λ r. after (placed_at (length again) r) (λ port. after (ports_after (again ++ text_of first.0 ∷ []) (map text_of first.1)) (λ more. Ok (port ∷ more)))) (again_one before again text first.0 same first.2)
     ∙ ap (λ r. after r (λ more. Ok (first.0 ∷ more))) others)
 
 made_spelled : (texts before : List (List ℕ)) (ports : List Port) → ports_after before texts ≡ Ok ports → All IsSpelled ports
@@ -140,7 +142,7 @@ made_spelled (text ∷ texts) before ports made =
     all_cons port others here more zero d inside = here
     all_cons port others here more (suc k) d inside = more k d (omega arith)
 
-checked_by : (twice gap : Bool) (made ports : List Port) → (if twice then Err Twice else (if gap then Err Gap else Ok made)) ≡ Ok ports → (twice ≡ false) × (gap ≡ false) × (made ≡ ports)
+checked_by : (twice gap : Bool) (made ports : List Port) → (if twice then Err (Whole Twice) else (if gap then Err (Whole Gap) else Ok made)) ≡ Ok ports → (twice ≡ false) × (gap ≡ false) × (made ≡ ports)
 checked_by true gap made ports passed = cc
 checked_by false true made ports passed = cc
 checked_by false false made ports passed = (refl, refl, same_ports made ports passed)
@@ -149,10 +151,20 @@ checked_by false false made ports passed = (refl, refl, same_ports made ports pa
 checked_same : (made ports : List Port) → checked made ≡ Ok ports → (stands_twice made ≡ false) × (has_gap made ≡ false) × (made ≡ ports)
 checked_same made ports passed = checked_by (stands_twice made) (has_gap made) made ports passed
 
+-- what is no refusal without its place is none with it
+unplaced : (result : Result (List Port) PlacedFault) (ports : List Port) → without_place result ≡ Ok ports → result ≡ Ok ports
+unplaced (Ok made) ports passed =
+    let same : made ≡ ports = cc in
+    ap Ok same
+unplaced (Err fault) ports passed = cc
+
+pub placed_ports : (texts : List (List ℕ)) (ports : List Port) → ports_of texts ≡ Ok ports → placed_ports_of texts ≡ Ok ports
+placed_ports texts ports passed = unplaced (placed_ports_of texts) ports passed
+
 -- the ports of texts, before they were checked
 pub made_of : (texts : List (List ℕ)) (ports : List Port) → ports_of texts ≡ Ok ports → (ports_after [] texts ≡ Ok ports) × (stands_twice ports ≡ false) × (has_gap ports ≡ false)
 made_of texts ports passed =
-    let from = after_ok (ports_after [] texts) checked ports passed in
+    let from = after_ok (ports_after [] texts) checked ports (placed_ports texts ports passed) in
     let known = checked_same from.0 ports from.2 in
     let P : List Port → Type 0 = λ all. (ports_after [] texts ≡ Ok all) × (stands_twice all ≡ false) × (has_gap all ≡ false) in
     subst P known.2 (from.1, known.0, known.1)
@@ -162,7 +174,7 @@ pub read_again : (texts : List (List ℕ)) (ports : List Port) → ports_of text
 read_again texts ports made =
     let known = made_of texts ports made in
     let same : checked ports ≡ Ok ports = rw (known.1, known.2) refl in
-    ap (λ r. after r checked) (made_again texts [] [] ports refl known.0) ∙ same
+    ap without_place (ap (λ r. after r checked) (made_again texts [] [] ports refl known.0) ∙ same)
 
 pub all_spelled : (texts : List (List ℕ)) (ports : List Port) → ports_of texts ≡ Ok ports → All IsSpelled ports
 all_spelled texts ports made = made_spelled texts [] ports (made_of texts ports made).0

@@ -3,14 +3,15 @@ use Rattle.std.proofs.Common.{Bool, Err, List, None, Ok, Option, Result, Some, [
 use Rattle.std.specs.Str.{bytes_eq}
 use Rattle.std.proofs.lemmas.Bool.Decides.{nat_tests}
 use Rattle.std.proofs.lemmas.Bool.{false≢true}
-use Rattle.std.proofs.lemmas.List.{take_more}
+use Rattle.std.proofs.lemmas.List.{take_more, length-take-le}
 use Rattle.std.proofs.lemmas.List.Sums.{count_by_more_yes, count_by_more_no}
 use Rattle.std.proofs.Math.ListN.{drop_of_length-le}
 use Rattle.mg_names.specs.Grammar.{is_tag, index_of}
 use Rattle.mg_names.specs.Spelling.{parts_of, spelling_of, spelling_of_parts, named, tagged, named_at, indexed, is_untagged, is_one}
-use Rattle.mg_names.specs.Ports.{after, port_of, lacks_index, port_at, port_after, ports_after}
+use Rattle.mg_names.specs.Ports.{after, port_of, lacks_index, port_at, port_after, placed_at, ports_after}
 use Rattle.mg_names.specs.declared.spelling.Spelling.{Spelling}
 use Rattle.mg_names.specs.declared.fault.NameFault.{NameFault}
+use Rattle.mg_names.specs.declared.placed_fault.PlacedFault.{PlacedFault}
 use Rattle.mg_names.specs.declared.fault.NameFault.TheVariants.{BadTag, BadIndex}
 use Rattle.mg_names.specs.declared.port.Port.{Port}
 use Rattle.mg_names.proofs.ReadBack.{tag_is_some}
@@ -57,7 +58,7 @@ pub same_port : (first second : Port) → okay first ≡ okay second → first �
 same_port first second same = cc
 
 -- what follows a result that is no refusal
-pub after_ok : {A B : Type 0} (result : Result A NameFault) (next : A → Result B NameFault) (value : B) → after result next ≡ Ok value → (first : A) × (result ≡ Ok first) × (next first ≡ Ok value)
+pub after_ok : {A B E : Type 0} (result : Result A E) (next : A → Result B E) (value : B) → after result next ≡ Ok value → (first : A) × (result ≡ Ok first) × (next first ≡ Ok value)
 after_ok (Ok first) next value made = (first, refl, made)
 after_ok (Err fault) next value made = cc
 
@@ -92,18 +93,25 @@ untagged_has_room number text port made empty =
     let from = comes_from number text port made in
     room_of (is_untagged text) number from.1.room (sym (untagged_is_empty number text port made) ∙ empty)
 
+-- what is placed and no refusal
+pub placed_ok : {A : Type 0} (place : ℕ) (result : Result A NameFault) (value : A) → placed_at place result ≡ Ok value → result ≡ Ok value
+placed_ok place (Ok first) value made =
+    let same : first ≡ value = cc in
+    ap Ok same
+placed_ok place (Err cause) value made = cc
+
 -- one text more
 ports_cons : (before : List (List ℕ)) (text : List ℕ) (rest : List (List ℕ)) (port : Port) (made : List Port) → port_after before text ≡ Ok port
     → after (ports_after before (text ∷ rest)) (λ more. Ok (made ++ more)) ≡ after (ports_after (before ++ text ∷ []) rest) (λ more. Ok ((made ++ port ∷ []) ++ more))
 ports_cons before text rest port made read =
-    ap (λ r. after (after r (λ p. after (ports_after (before ++ text ∷ []) rest) (λ ports. Ok (p ∷ ports)))) (λ more. Ok (made ++ more))) read
+    ap (λ r. after (after (placed_at (length before) r) (λ p. after (ports_after (before ++ text ∷ []) rest) (λ ports. Ok (p ∷ ports)))) (λ more. Ok (made ++ more))) read
     ∙ joined (ports_after (before ++ text ∷ []) rest) port made
   where
-    joined : (others : Result (List Port) NameFault) (p : Port) (m : List Port) → after (after others (λ ports. Ok (p ∷ ports))) (λ more. Ok (m ++ more)) ≡ after others (λ more. Ok ((m ++ p ∷ []) ++ more))
+    joined : (others : Result (List Port) PlacedFault) (p : Port) (m : List Port) → after (after others (λ ports. Ok (p ∷ ports))) (λ more. Ok (m ++ more)) ≡ after others (λ more. Ok ((m ++ p ∷ []) ++ more))
     joined (Ok ports) p m = ap Ok (sym (append_assoc m (p ∷ []) ports))
     joined (Err fault) p m = refl
 
-ports_cons_refused : (before : List (List ℕ)) (text : List ℕ) (rest : List (List ℕ)) (fault : NameFault) (made : List Port) → port_after before text ≡ Err fault
+ports_cons_refused : (before : List (List ℕ)) (text : List ℕ) (rest : List (List ℕ)) (fault : PlacedFault) (made : List Port) → placed_at (length before) (port_after before text) ≡ Err fault
     → after (ports_after before (text ∷ rest)) (λ more. Ok (made ++ more)) ≡ Err fault
 ports_cons_refused before text rest fault made read =
     ap (λ r. after (after r (λ p. after (ports_after (before ++ text ∷ []) rest) (λ ports. Ok (p ∷ ports)))) (λ more. Ok (made ++ more))) read
@@ -119,14 +127,15 @@ ports_step texts i d port made inside read whole =
     ∙ (ports_cons (take i texts) (get_or texts i d) (drop (i + 1) texts) port made read
     ∙ ap (λ f. after (ports_after f (drop (i + 1) texts)) (λ more. Ok ((made ++ port ∷ []) ++ more))) front))
 
-pub ports_refused : (texts : List (List ℕ)) (i : ℕ) (d : List ℕ) (fault : NameFault) (made : List Port) → i < length texts
-    → port_after (take i texts) (get_or texts i d) ≡ Err fault
+pub ports_refused : (texts : List (List ℕ)) (i : ℕ) (d : List ℕ) (fault : PlacedFault) (made : List Port) → i < length texts
+    → placed_at i (port_after (take i texts) (get_or texts i d)) ≡ Err fault
     → ports_after [] texts ≡ after (ports_after (take i texts) (drop i texts)) (λ more. Ok (made ++ more))
     → ports_after [] texts ≡ Err fault
 ports_refused texts i d fault made inside read whole =
     let rest : drop i texts ≡ get_or texts i d ∷ drop (i + 1) texts = rw (add-one, drop-cons texts i d) refl in
+    let place : length (take i texts) ≡ i = length-take-le i texts (omega arith) in
     whole ∙ (ap (λ r. after (ports_after (take i texts) r) (λ more. Ok (made ++ more))) rest
-    ∙ ports_cons_refused (take i texts) (get_or texts i d) (drop (i + 1) texts) fault made read)
+    ∙ ports_cons_refused (take i texts) (get_or texts i d) (drop (i + 1) texts) fault made (ap (λ n. placed_at n (port_after (take i texts) (get_or texts i d))) place ∙ read))
 
 pub ports_end : (texts : List (List ℕ)) (i : ℕ) (made : List Port) → length texts ≤ i
     → ports_after [] texts ≡ after (ports_after (take i texts) (drop i texts)) (λ more. Ok (made ++ more))
@@ -146,3 +155,29 @@ pub record IsRead (texts : List (List ℕ)) (i : ℕ) (made : List Port) (untagg
   pub whole : ports_after [] texts ≡ after (ports_after (take i texts) (drop i texts)) (λ more. Ok (made ++ more))
   pub count : untagged ≡ count_by is_untagged (take i texts)
   pub room : untagged ≤ 64
+
+-- the text at i spells a port
+pub read_more : (texts : List (List ℕ)) (i untagged count : ℕ) (text : List ℕ) (port : Port) (made all : List Port) → i < length texts → text ≡ get_or texts i text
+    → IsRead texts i made untagged → port_at untagged text ≡ Ok port → bytes_eq port.tag [] ≡ is_untagged text → (bytes_eq port.tag [] ≡ true → untagged < 64)
+    → all ≡ made ++ port ∷ [] → count ≡ untagged + (if bytes_eq port.tag [] then 1 else 0) → IsRead texts (i + 1) all count
+read_more texts i untagged count text port made all inside same so_far read empty few are counted =
+    let after_front : port_after (take i texts) (get_or texts i text) ≡ Ok port = ap (λ n. port_at n (get_or texts i text)) (sym so_far.count) ∙ ap (port_at untagged) (sym same) ∙ read in
+    record {
+      whole = ports_step texts i text port made inside after_front so_far.whole
+          ∙ ap (λ ports. after (ports_after (take (i + 1) texts) (drop (i + 1) texts)) (λ more. Ok (ports ++ more))) (sym are);
+      count = counted ∙ ap (λ n. n + (if bytes_eq port.tag [] then 1 else 0)) so_far.count ∙ count_step texts i text (bytes_eq port.tag []) inside (empty ∙ ap is_untagged same);
+      room = at_most (bytes_eq port.tag []) few so_far.room counted;
+    }
+  where
+    at_most : (test : Bool) → (test ≡ true → untagged < 64) → untagged ≤ 64 → count ≡ untagged + (if test then 1 else 0) → count ≤ 64
+    at_most true few room counted =
+        let below : untagged < 64 = few refl in
+        omega arith
+    at_most false few room counted = omega arith
+
+-- it spells none
+pub read_refused : (texts : List (List ℕ)) (i untagged : ℕ) (text : List ℕ) (refusal : PlacedFault) (made : List Port) → i < length texts → text ≡ get_or texts i text
+    → IsRead texts i made untagged → placed_at i (port_at untagged text) ≡ Err refusal → ports_after [] texts ≡ Err refusal
+read_refused texts i untagged text refusal made inside same so_far read =
+    ports_refused texts i text refusal made inside
+    (ap (λ n. placed_at i (port_at n (get_or texts i text))) (sym so_far.count) ∙ ap (λ t. placed_at i (port_at untagged t)) (sym same) ∙ read) so_far.whole

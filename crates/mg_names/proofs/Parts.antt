@@ -10,6 +10,7 @@ use Rattle.std.proofs.lemmas.List.Sums.{fails_before_first}
 use Rattle.std.proofs.lemmas.List.{take_rest, length-drop, drop-drop}
 use Rattle.mg_names.specs.Grammar.{is_name, is_tag, continues_name, continues_tag}
 use Rattle.mg_names.specs.Spelling.{is_colon, parts_of, spelling_of_parts, is_one}
+use Rattle.mg_names.specs.TagIndex.{is_tag_or_empty, tag_index_of_parts}
 use Rattle.mg_names.specs.declared.fault.NameFault.TheVariants.{BadName}
 
 pub no_colon : (text : List ℕ) → position is_colon text ≡ None → length text ≤ position_or_len is_colon text
@@ -84,3 +85,15 @@ more_than_one part (other ∷ more) some = refl
 -- a text with a colon has more than one part
 pub parts_past_one : (part rest : List ℕ) → is_one (part ∷ parts_of rest) ≡ false
 parts_past_one part rest = more_than_one part (parts_of rest) (omega (arith, length-slice_split is_colon rest))
+
+tag_refused_past_two : (tag index : List ℕ) (more : List (List ℕ)) → 1 ≤ length more → tag_index_of_parts (tag ∷ index ∷ more) ≡ Err BadName
+tag_refused_past_two tag index [] some = absurd (omega arith)
+tag_refused_past_two tag index (part ∷ parts) some = refl
+
+-- a second colon in a text that is to have no name
+pub second_colon_refused : (tag index rest : List ℕ) → tag_index_of_parts (tag ∷ index ∷ parts_of rest) ≡ Err BadName
+second_colon_refused tag index rest = tag_refused_past_two tag index (parts_of rest) (omega (arith, length-slice_split is_colon rest))
+
+pub tag_or_empty_is_ascii : (bs : List ℕ) → is_tag_or_empty bs ≡ true → IsAscii bs
+tag_or_empty_is_ascii [] passed = all_ascii continues_tag tag_byte_is_ascii [] refl
+tag_or_empty_is_ascii (b ∷ bs) passed = tag_is_ascii (b ∷ bs) passed

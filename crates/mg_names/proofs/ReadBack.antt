@@ -64,6 +64,9 @@ digits_of_index index small =
     (λ high. ap (list_all is_digit) (decimal_two index high small) ∙ two_are_digits (index / 10) (index % 10) (omega arith) (omega arith))
     (cases_lt index 10)
 
+pub no_colon_in_index : (index : ℕ) → index < 64 → All (λ byte. is_colon byte ≡ false) (decimal index)
+no_colon_in_index index small = no_colon_in_digits (decimal index) (digits_of_index index small)
+
 -- the parts of the three forms of text
 pub parts_of_name : (name : List ℕ) → is_name name ≡ true → parts_of name ≡ name ∷ []
 parts_of_name name good = slice_split_none is_colon name (no_colon_in_name name good)
@@ -76,7 +79,7 @@ pub parts_of_indexed : (tag : List ℕ) (index : ℕ) (name : List ℕ) → is_t
     → parts_of ((tag ++ (58 ∷ decimal index)) ++ (58 ∷ name)) ≡ tag ∷ decimal index ∷ name ∷ []
 parts_of_indexed tag index name good_tag small good =
     let tail : parts_of (decimal index ++ (58 ∷ name)) ≡ decimal index ∷ name ∷ [] =
-    slice_split_at is_colon (decimal index) 58 name (no_colon_in_digits (decimal index) (digits_of_index index small)) refl
+    slice_split_at is_colon (decimal index) 58 name (no_colon_in_index index small) refl
     ∙ ap (λ parts. decimal index ∷ parts) (parts_of_name name good) in
     let head : parts_of (tag ++ (58 ∷ (decimal index ++ (58 ∷ name)))) ≡ tag ∷ parts_of (decimal index ++ (58 ∷ name)) =
     slice_split_at is_colon tag 58 (decimal index ++ (58 ∷ name)) (no_colon_in_tag tag good_tag) refl in

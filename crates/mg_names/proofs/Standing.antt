@@ -10,8 +10,9 @@ use Rattle.std.proofs.lemmas.Slice.Eq.{bytes_eq-Decides}
 use Rattle.std.proofs.lemmas.List.{take_more, take-append-drop, length-take-le, length-append}
 use Rattle.std.proofs.lemmas.List.Folds.{position_or_len_push, list_any-append}
 use Rattle.std.proofs.lemmas.List.Sums.{prefix_len-le-length}
-use Rattle.mg_names.specs.Ports.{is_at, has_port, stands_twice, has_gap, place_of, after, ports_after, checked, ports_of}
+use Rattle.mg_names.specs.Ports.{is_at, has_port, stands_twice, has_gap, place_of, after, ports_after, checked, placed_ports_of}
 use Rattle.mg_names.specs.declared.fault.NameFault.TheVariants.{Gap}
+use Rattle.mg_names.specs.declared.placed_fault.PlacedFault.TheVariants.{Whole}
 use Rattle.mg_names.specs.Places.{kept_place, lacks_lower}
 use Rattle.mg_names.specs.declared.places.Places.{Places}
 use Rattle.mg_names.specs.declared.port.Port.{Port}
@@ -166,20 +167,20 @@ pub record IsChecked (texts : List (List ℕ)) (made ports slice : List Port) (p
   pub kept : (tag : List ℕ) (index : ℕ) → kept_place places tag index ≡ place_of tag index slice
 
 checked_ports : (texts : List (List ℕ)) (made ports slice : List Port) (places : Places) → IsChecked texts made ports slice places
-    → ports_of texts ≡ (if list_any (lacks_lower places) slice then Err Gap else Ok ports)
+    → placed_ports_of texts ≡ (if list_any (lacks_lower places) slice then Err (Whole Gap) else Ok ports)
 checked_ports texts made ports slice places known =
-    let all : ports_of texts ≡ checked slice = ap (λ r. after r checked) known.spelled ∙ ap checked (sym known.same ∙ sym known.sliced) in
-    let gap : checked slice ≡ (if has_gap slice then Err Gap else Ok slice) = rw known.once refl in
+    let all : placed_ports_of texts ≡ checked slice = ap (λ r. after r checked) known.spelled ∙ ap checked (sym known.same ∙ sym known.sliced) in
+    let gap : checked slice ≡ (if has_gap slice then Err (Whole Gap) else Ok slice) = rw known.once refl in
     all ∙ (gap
-    ∙ (ap (λ b. if b then Err Gap else Ok slice) (sym (gap_by_places slice places known.kept))
-    ∙ ap (λ l. if list_any (lacks_lower places) slice then Err Gap else Ok l) known.sliced))
+    ∙ (ap (λ b. if b then Err (Whole Gap) else Ok slice) (sym (gap_by_places slice places known.kept))
+    ∙ ap (λ l. if list_any (lacks_lower places) slice then Err (Whole Gap) else Ok l) known.sliced))
 
 pub read_ok : (texts : List (List ℕ)) (made ports slice : List Port) (places : Places) → IsChecked texts made ports slice places
-    → list_any (lacks_lower places) slice ≡ false → ports_of texts ≡ Ok ports
+    → list_any (lacks_lower places) slice ≡ false → placed_ports_of texts ≡ Ok ports
 read_ok texts made ports slice places known filled =
-    checked_ports texts made ports slice places known ∙ ap (λ b. if b then Err Gap else Ok ports) filled
+    checked_ports texts made ports slice places known ∙ ap (λ b. if b then Err (Whole Gap) else Ok ports) filled
 
 pub read_gap : (texts : List (List ℕ)) (made ports slice : List Port) (places : Places) → IsChecked texts made ports slice places
-    → list_any (lacks_lower places) slice ≡ true → ports_of texts ≡ Err Gap
+    → list_any (lacks_lower places) slice ≡ true → placed_ports_of texts ≡ Err (Whole Gap)
 read_gap texts made ports slice places known gap =
-    checked_ports texts made ports slice places known ∙ ap (λ b. if b then Err Gap else Ok ports) gap
+    checked_ports texts made ports slice places known ∙ ap (λ b. if b then Err (Whole Gap) else Ok ports) gap

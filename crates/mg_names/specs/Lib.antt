@@ -1,4 +1,5 @@
 pub mod Grammar
 pub mod Spelling
 pub mod Ports
+pub mod TagIndex
 pub mod Places

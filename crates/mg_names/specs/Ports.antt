@@ -1,5 +1,5 @@
 -- The ports of a list of texts, and the text of a port.
-use Rattle.std.specs.Prelude.{ℕ, ◌-◌, ◌≡◌, ◌<◌, ◌⊎◌, List, [], ◌∷◌, ◌++◌, Bool, false, ◌&&◌, ◌||◌, not, ◌==◌, nat_le, Option, unwrap_or, Result, Ok, Err, if◌then◌else◌, count_by, position, IsTrue}
+use Rattle.std.specs.Prelude.{ℕ, ◌-◌, ◌≡◌, ◌<◌, ◌⊎◌, List, [], ◌∷◌, ◌++◌, Bool, false, ◌&&◌, ◌||◌, not, ◌==◌, nat_le, Option, unwrap_or, Result, Ok, Err, if◌then◌else◌, count_by, length, position, IsTrue, ◌≢◌}
 use Rattle.std.specs.List.{list_any}
 use Rattle.std.specs.Str.{bytes_eq}
 use Rattle.std.specs.Fmt.{decimal}
@@ -8,12 +8,15 @@ use Rattle.mg_names.specs.Spelling.{spelling_of, is_untagged}
 use Rattle.mg_names.specs.declared.spelling.Spelling.{Spelling}
 use Rattle.mg_names.specs.declared.port.Port.{Port}
 use Rattle.mg_names.specs.declared.fault.NameFault.{NameFault}
+use Rattle.mg_names.specs.declared.fault.NameFault.TheVariants as fault
 use Rattle.mg_names.specs.declared.fault.NameFault.TheVariants.{BadIndex, Gap, Twice}
+use Rattle.mg_names.specs.declared.placed_fault.PlacedFault.{PlacedFault}
+use Rattle.mg_names.specs.declared.placed_fault.PlacedFault.TheVariants.{At, Whole, OutOfMemory}
 
 -- what follows a result, unless that is a refusal
-abbrev pub after : {A B : Type 0} → Result A NameFault → (A → Result B NameFault) → Result B NameFault
+abbrev pub after : {A B E : Type 0} → Result A E → (A → Result B E) → Result B E
 after (Ok value) next = next value
-after (Err fault) next = Err fault
+after (Err refusal) next = Err refusal
 
 -- an untagged port's index is its running number, and a tagged one's is 0 if none is spelled
 abbrev pub index_in : ℕ → Spelling → ℕ
@@ -35,11 +38,17 @@ port_at number text = if lacks_index number text then Err BadIndex else after (s
 abbrev pub port_after : List (List ℕ) → List ℕ → Result Port NameFault
 port_after before text = port_at (count_by is_untagged before) text
 
--- the ports of texts that stand after others, in the order of spelling, or the first text's refusal
-abbrev pub ports_after : List (List ℕ) → List (List ℕ) → Result (List Port) NameFault
+-- a text's refusal, with the text's place
+abbrev pub placed_at : {A : Type 0} → ℕ → Result A NameFault → Result A PlacedFault
+placed_at place (Ok value) = Ok value
+placed_at place (Err cause) = Err (At place cause)
+
+-- the ports of texts that stand after others, in the order of spelling, or the first refusal of a text, whose place is
+-- the number of texts before it
+abbrev pub ports_after : List (List ℕ) → List (List ℕ) → Result (List Port) PlacedFault
 ports_after before [] = Ok []
 ports_after before (text ∷ texts) =
-    after (port_after before text) (λ port. after (ports_after (before ++ text ∷ []) texts) (λ ports. Ok (port ∷ ports)))
+    after (placed_at (length before) (port_after before text)) (λ port. after (ports_after (before ++ text ∷ []) texts) (λ ports. Ok (port ∷ ports)))
 
 -- whether a port has this tag and index
 abbrev pub is_at : List ℕ → ℕ → Port → Bool
@@ -58,12 +67,33 @@ stands_twice (port ∷ ports) = has_port port.tag port.index ports || stands_twi
 abbrev pub has_gap : List Port → Bool
 has_gap ports = list_any (λ port. not (port.index == 0) && not (has_port port.tag (port.index - 1) ports)) ports
 
--- the ports of a list of texts: the texts in order, then the tags and indexes that stand twice, then the gaps
-abbrev pub checked : List Port → Result (List Port) NameFault
-checked ports = if stands_twice ports then Err Twice else (if has_gap ports then Err Gap else Ok ports)
+-- a tag and index that stand twice are refused before a gap, and both are faults of the whole list
+abbrev pub checked : List Port → Result (List Port) PlacedFault
+checked ports = if stands_twice ports then Err (Whole Twice) else (if has_gap ports then Err (Whole Gap) else Ok ports)
 
+-- the ports of a list of texts, or the first refusal with its place: the texts in order, and then the whole list
+abbrev pub placed_ports_of : List (List ℕ) → Result (List Port) PlacedFault
+placed_ports_of texts = after (ports_after [] texts) checked
+
+-- a refusal without its place
+abbrev pub cause_of : PlacedFault → NameFault
+cause_of (At place cause) = cause
+cause_of (Whole cause) = cause
+cause_of OutOfMemory = fault.OutOfMemory
+
+abbrev pub without_place : {A : Type 0} → Result A PlacedFault → Result A NameFault
+without_place (Ok value) = Ok value
+without_place (Err refusal) = Err (cause_of refusal)
+
+-- the ports of a list of texts, or the first refusal
 abbrev pub ports_of : List (List ℕ) → Result (List Port) NameFault
-ports_of texts = after (ports_after [] texts) checked
+ports_of texts = without_place (placed_ports_of texts)
+
+-- a refusal's cause is one of texts, and never want of memory
+abbrev pub HasCause : PlacedFault → Type 0
+HasCause (At place cause) = cause ≢ fault.OutOfMemory
+HasCause (Whole cause) = cause ≢ fault.OutOfMemory
+HasCause OutOfMemory = Unit {0}
 
 -- the place of the port with a tag and index
 abbrev pub place_of : List ℕ → ℕ → List Port → Option ℕ

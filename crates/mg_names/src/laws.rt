@@ -3,6 +3,7 @@ ghost use Rattle.std.specs.Prelude.{◌≡◌, ◌<◌, ◌↔◌, ℕ, List, fa
 ghost use Rattle.std.specs.Fmt.{decimal};
 ghost use Rattle.mg_names.specs.declared.port.Port.{Port};
 ghost use Rattle.mg_names.specs.Grammar.{index_of, index_count};
+ghost use Rattle.mg_names.specs.TagIndex.{tag_index_of, text_of_tag_index, IsTagIndex};
 ghost use Rattle.mg_names.specs.Ports.{has_port, is_at, stands_twice, has_gap, ports_of, place_of, text_of, IsSpelled};
 
 /// An index is spelled in decimal, in one way.
@@ -18,6 +19,16 @@ pub fn ports_are_read_back()
 /// Each port of texts can be spelled.
 pub fn ports_are_spelled()
     ensures { (texts : List (List ℕ)) (ports : List Port) → ports_of texts ≡ Ok ports → All IsSpelled ports }
+{}
+
+/// A tag and an index are read back from their text.
+pub fn tag_indexes_are_read_back()
+    ensures { (tag : List ℕ) (index : ℕ) → IsTagIndex tag index → tag_index_of (text_of_tag_index tag index) ≡ Ok (tag, index) }
+{}
+
+/// The tag and index of a text can be spelled.
+pub fn tag_indexes_are_spelled()
+    ensures { (text tag : List ℕ) (index : ℕ) → tag_index_of text ≡ Ok (tag, index) → IsTagIndex tag index }
 {}
 
 /// Nothing stands twice where each two ports differ in tag or index.

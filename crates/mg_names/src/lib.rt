@@ -7,19 +7,20 @@ mod grammar;
 mod indexing;
 pub mod laws;
 mod numbering;
+mod placed_fault;
 mod places;
 mod port;
 mod port_map;
 mod printing;
 mod reading;
 mod spelling;
+mod tag_index;
 
 pub use fault::NameFault;
+pub use placed_fault::PlacedFault;
 pub use port::Port;
 pub use port_map::PortMap;
 pub use printing::print_port;
 pub use reading::read_port;
 pub use spelling::Spelling;
-
-#[cfg(test)]
-mod tests;
+pub use tag_index::{print_tag_index, read_tag_index};

@@ -5,6 +5,7 @@ ghost use Rattle.mg_names.specs.Ports as ports;
 
 use crate::fault::NameFault;
 use crate::grammar::is_untagged;
+use crate::placed_fault::PlacedFault;
 use crate::port::Port;
 use crate::reading::read_port;
 use crate::spelling::Spelling;
@@ -51,15 +52,38 @@ fn count_after(untagged: u8, port: &Port) -> u8
     }
 }
 
+/// The refusal of the text at a place, or want of memory.
+fn refused_at(place: usize, cause: NameFault) -> PlacedFault
+    ensures { result ≢ PlacedFault.OutOfMemory → (cause ≢ NameFault.OutOfMemory) × (result ≡ PlacedFault.At place cause) }
+{
+    match cause {
+        NameFault::OutOfMemory => PlacedFault::OutOfMemory,
+        cause => PlacedFault::At { place, cause },
+    }
+}
+
+/// The port of the text at a place where so many untagged ports stand before it.
+fn placed_port(alloc: Global, place: usize, number: u8, text: &[u8]) -> Result<Port, PlacedFault>
+    ensures ok { IfOk result (λ port. ports.port_at number text.now ≡ Ok port) }
+    ensures err { IfErr result (λ fault. fault ≢ PlacedFault.OutOfMemory → ports.placed_at place (ports.port_at number text.now) ≡ Err fault) }
+    ensures untagged { IfOk result (λ port. bytes_eq port.tag [] ≡ is_untagged text.now) }
+    ensures room { IfOk result (λ port. bytes_eq port.tag [] ≡ true → number < 64) }
+{
+    match port_at(alloc, number, text) {
+        Ok(port) => Ok(port),
+        Err(cause) => Err(refused_at(place, cause)),
+    }
+}
+
 /// The ports of texts, with the indexes that they leave out, or the refusal of the first text that spells none.
-pub(crate) fn read_ports(alloc: Global, texts: &[MgText]) -> Result<Vec<Port>, NameFault>
+pub(crate) fn read_ports(alloc: Global, texts: &[MgText]) -> Result<Vec<Port>, PlacedFault>
     ensures ok { IfOk result (λ made. ports.ports_after [] texts.now ≡ Ok made.items) }
-    ensures err { IfErr result (λ fault. fault ≢ NameFault.OutOfMemory → ports.ports_after [] texts.now ≡ Err fault) }
+    ensures err { IfErr result (λ fault. fault ≢ PlacedFault.OutOfMemory → ports.ports_after [] texts.now ≡ Err fault) }
 {
     let mut made = Vec::new(alloc);
     let mut untagged = 0;
-    for text in texts {
-        let port = port_at(alloc, untagged, text.as_bytes())?;
+    for (place, text) in texts.iter().enumerate() {
+        let port = placed_port(alloc, place, untagged, text.as_bytes())?;
         let count = count_after(untagged, &port);
         made.push(port)?;
         untagged = count;

@@ -3,6 +3,7 @@ ghost use Rattle.std.specs.Prelude.{◌≡◌, ◌≢◌, [], IfOk, IfErr, lengt
 use crate::fault::NameFault;
 use crate::indexing::{any_lacks_lower, places_of};
 use crate::numbering::read_ports;
+use crate::placed_fault::PlacedFault;
 use crate::places::Places;
 use crate::port::Port;
 use mg_value::{List, MgText};
@@ -32,7 +33,7 @@ impl Model for PortMap {
 }
 
 impl PortMap {
-    ghost use Rattle.mg_names.specs.Ports.{ports_of, place_of};
+    ghost use Rattle.mg_names.specs.Ports.{ports_of, placed_ports_of, HasCause, place_of};
 
     /// No ports.
     pub fn new(alloc: Global) -> PortMap
@@ -51,11 +52,24 @@ impl PortMap {
         ensures ok { IfOk result (λ map. ports_of texts.now ≡ Ok map) }
         ensures err { IfErr result (λ fault. fault ≢ NameFault.OutOfMemory → ports_of texts.now ≡ Err fault) }
     {
+        Ok(PortMap::read_placed(alloc, texts)?)
+    }
+
+    /// The same, where a refusal tells the place of the text that is refused.
+    pub fn read_placed(alloc: Global, texts: &[MgText]) -> Result<PortMap, PlacedFault>
+        ensures ok { IfOk result (λ map. placed_ports_of texts.now ≡ Ok map) }
+        ensures err { IfErr result (λ fault. fault ≢ PlacedFault.OutOfMemory → placed_ports_of texts.now ≡ Err fault) }
+
+        // Want of memory is no cause: it is a fault of its own.
+        ensures cause { IfErr result HasCause }
+    {
         let ports = List::from_vec(read_ports(alloc, texts)?)?;
         let slice = ports.as_slice();
         let places = places_of(alloc, slice)?;
         if any_lacks_lower(&places, slice) {
-            return Err(NameFault::Gap);
+            return Err(PlacedFault::Whole {
+                cause: NameFault::Gap,
+            });
         }
         Ok(PortMap { ports, places })
     }

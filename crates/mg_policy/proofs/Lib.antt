@@ -1,5 +1,5 @@
-pub mod Arrivals
 pub mod Claims
 pub mod NextSet
 pub mod Pushes
 pub mod Readinesses
+pub mod Standing

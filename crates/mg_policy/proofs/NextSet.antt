@@ -4,13 +4,17 @@ use Rattle.std.specs.List.{AllByRecursion}
 use Rattle.std.proofs.lemmas.Bool.{cases_Bool, cases_lt, ne_eqb, eqb-false}
 use Rattle.std.proofs.lemmas.List.Elements.{recursion_from_All}
 use Rattle.mg_time.specs.Time.{done, IsAllowed}
+use Rattle.mg_value.specs.Payload.{Plain}
+use Rattle.mg_value.specs.declared.policy.Policy.TheVariants.{Default}
 use Rattle.mg_value.specs.Prefix.{Stamped, StreamPrefix, IsPrefix, first_time}
-use Rattle.mg_value.specs.Settled.{low, times_of, all_times, settled_times, settled_sets, packet_at, set_at, TimedSet, without, after_sets}
+use Rattle.mg_value.specs.Settled.{low, times_of, all_times, settled_times, settled_sets, packet_at, set_at, is_among, TimedSet}
+use Rattle.mg_value.specs.Left.{without, after_sets}
 use Rattle.mg_value.proofs.Times.{In, Rises, Rises-least, In-append_from, In-append_left, In-append_right}
-use Rattle.mg_value.proofs.PrefixSteps.{Ascends-rises}
-use Rattle.mg_value.proofs.SettledSets.{settled_from, settled_to, settled_rises, packet_at-none}
-use Rattle.mg_value.proofs.AfterSets.{left_of}
-use Rattle.mg_stream.specs.Queue.{Waiting, rest_of, first_at, popped_at}
+use Rattle.mg_value.proofs.Climbs.{Climbs-rises, prefix-climbs}
+use Rattle.mg_value.proofs.SettledTimes.{settled_from, settled_to, settled_rises, packet_at-none}
+use Rattle.mg_value.proofs.Leaving.{left_of}
+use Rattle.mg_value.proofs.DefaultSets.{low_most, default_times}
+use Rattle.mg_stream.specs.Queue.{Waiting, rest_of, front_at, popped_at}
 use Rattle.mg_policy.specs.Inbox.{rests, next_set}
 use Rattle.mg_policy.specs.Looks.{earliest}
 
@@ -21,7 +25,7 @@ AreRests qs = AllByRecursion (λ q. IsPrefix (rest_of q)) qs
 -- the times that wait in a queue rise from the first
 rest_rises : {X : Type 0} (ps : List (Stamped X)) (b c : ℕ) → IsPrefix (record { packets = ps; bound = b }) → Rises (first_time ps c) (times_of ps)
 rest_rises [] b c h = tt
-rest_rises {X} (p ∷ ps) b c h = Ascends-rises p.at b (p ∷ ps) (recursion_from_All (λ (r : Stamped X). IsAllowed r.at) (p ∷ ps) h.allowed) h.ascending (omega arith)
+rest_rises {X} (p ∷ ps) b c h = (omega arith, Climbs-rises (p.at + 1) b ps (prefix-climbs (record { packets = p ∷ ps; bound = b }) h).1)
 
 -- no time that waits is before the earliest
 pub earliest_least : {X : Type 0} (qs : List (Waiting X)) → AreRests qs → (t : ℕ) → In t (all_times (rests qs)) → earliest qs ≤ t
@@ -44,10 +48,6 @@ earliest_waits (q ∷ qs) below = elim (cases_lt (earliest qs) (first_time q.pac
   | inr first ↦ (let is : min (first_time q.packets done) (earliest qs) ≡ first_time q.packets done = omega (arith, first) in
       rw is (In-append_left (first_time q.packets done) (times_of q.packets) (all_times (rests qs)) (first_waits q.packets (omega (arith, below, is)))))
 ]
-
-pub low_most : {X : Type 0} (ss : List (StreamPrefix X)) → low ss ≤ done
-low_most [] = omega arith
-low_most (s ∷ ss) = let rest = low_most ss in omega (arith, rest)
 
 -- a rising list begins with its least member
 begins : (a e : ℕ) (xs : List ℕ) → Rises a xs → In e xs → ((t : ℕ) → In t xs → e ≤ t) → xs ≡ e ∷ drop 1 xs
@@ -76,16 +76,16 @@ settled_none qs h above = no_members (settled_times (rests qs)) (λ t i. (
     let least = earliest_least qs h t is.1 in
     omega (arith, least, is.0, above)))
 
-sets_first : {X : Type 0} (ss : List (StreamPrefix X)) (t : ℕ) (ts : List ℕ) → settled_times ss ≡ t ∷ ts → slice_get (settled_sets ss) 0 ≡ Some (record { at = t; set = set_at t ss })
-sets_first {X} ss t ts e = ap (λ (us : List ℕ). slice_get (map (λ u. (let it : TimedSet X = record { at = u; set = set_at u ss } in it)) us) 0) e
+sets_first : (ss : List (StreamPrefix Plain)) (t : ℕ) (ts : List ℕ) → settled_times ss ≡ t ∷ ts → slice_get (settled_sets Default ss) 0 ≡ Some (record { at = t; set = set_at t ss })
+sets_first ss t ts e = ap (λ (us : List ℕ). slice_get (map (λ u. (let it : TimedSet Plain = record { at = u; set = set_at u ss } in it)) us) 0) e
 
-sets_none : {X : Type 0} (ss : List (StreamPrefix X)) → settled_times ss ≡ [] → settled_sets ss ≡ []
-sets_none {X} ss e = ap (λ (us : List ℕ). map (λ u. (let it : TimedSet X = record { at = u; set = set_at u ss } in it)) us) e
+sets_none : (ss : List (StreamPrefix Plain)) → settled_times ss ≡ [] → settled_sets Default ss ≡ []
+sets_none ss e = ap (λ (us : List ℕ). map (λ u. (let it : TimedSet Plain = record { at = u; set = set_at u ss } in it)) us) e
 
-pub next_set-some : {X : Type 0} (qs : List (Waiting X)) → AreRests qs → earliest qs < low (rests qs) → next_set qs ≡ Some (record { at = earliest qs; set = set_at (earliest qs) (rests qs) })
+pub next_set-some : (qs : List (Waiting Plain)) → AreRests qs → earliest qs < low (rests qs) → next_set Default qs ≡ Some (record { at = earliest qs; set = set_at (earliest qs) (rests qs) })
 next_set-some qs h below = sets_first (rests qs) (earliest qs) (drop 1 (settled_times (rests qs))) (settled_first qs h below)
 
-pub settled_sets-none : {X : Type 0} (qs : List (Waiting X)) → AreRests qs → low (rests qs) ≤ earliest qs → settled_sets (rests qs) ≡ []
+pub settled_sets-none : (qs : List (Waiting Plain)) → AreRests qs → low (rests qs) ≤ earliest qs → settled_sets Default (rests qs) ≡ []
 settled_sets-none qs h above = sets_none (rests qs) (settled_none qs h above)
 
 -- all is over exactly where both ends are Done
@@ -102,9 +102,9 @@ earliest_from_empty [] e = refl
 earliest_from_empty (q ∷ qs) e = rw (e.0, earliest_from_empty qs e.1) (omega arith)
 
 -- the first packets at a time that none comes before are the set at that time
-first_at-is : {X : Type 0} (t : ℕ) (ps : List (Stamped X)) → Rises t (times_of ps) → first_at t ps ≡ packet_at t ps
-first_at-is t [] r = refl
-first_at-is t (p ∷ ps) r = elim (cases_Bool (eqb p.at t)) [
+front_at-is : {X : Type 0} (t : ℕ) (ps : List (Stamped X)) → Rises t (times_of ps) → front_at t ps ≡ packet_at t ps
+front_at-is t [] r = refl
+front_at-is t (p ∷ ps) r = elim (cases_Bool (eqb p.at t)) [
   | inl here ↦ rw here refl
   | inr differs ↦ rw differs (sym (packet_at-none t ps (λ i. (let above = Rises-least (p.at + 1) t (times_of ps) r.1 i in omega (arith, above, r.0)))))
 ]
@@ -121,16 +121,16 @@ AreFrom-earliest (q ∷ qs) t h le = (from q.packets q.bound h.0 (omega (arith, 
     from [] b h le = tt
     from (p ∷ ps) b h le = (le, (rest_rises (p ∷ ps) b done h).1)
 
-pub set_at-first : {X : Type 0} (t : ℕ) (qs : List (Waiting X)) → AreFrom t qs → map (λ q. first_at t q.packets) qs ≡ set_at t (rests qs)
+pub set_at-first : {X : Type 0} (t : ℕ) (qs : List (Waiting X)) → AreFrom t qs → map (λ q. front_at t q.packets) qs ≡ set_at t (rests qs)
 set_at-first t [] h = refl
-set_at-first {X} t (q ∷ qs) h = ap₂ (λ (first : Option (Stamped X)) (rest : List (Option (Stamped X))). first ∷ rest) (first_at-is t q.packets h.0) (set_at-first t qs h.1)
+set_at-first {X} t (q ∷ qs) h = ap₂ (λ (first : Option (Stamped X)) (rest : List (Option (Stamped X))). first ∷ rest) (front_at-is t q.packets h.0) (set_at-first t qs h.1)
 
 -- when the first packets at that time are gone, the others are left
-left_of-all : {X : Type 0} (t a : ℕ) (ps : List (Stamped X)) → t < a → Rises a (times_of ps) → left_of (t ∷ []) ps ≡ ps
+left_of-all : {X : Type 0} (t a : ℕ) (ps : List (Stamped X)) → t < a → Rises a (times_of ps) → left_of (is_among (t ∷ [])) ps ≡ ps
 left_of-all t a [] below r = refl
 left_of-all {X} t a (p ∷ ps) below r = rw (ne_eqb t p.at (λ e. omega (arith, e, below, r.0))) (ap (λ (rest : List (Stamped X)). p ∷ rest) (left_of-all t (p.at + 1) ps (omega (arith, below, r.0)) r.1))
 
-popped-left : {X : Type 0} (t : ℕ) (q : Waiting X) (ps : List (Stamped X)) → q.packets ≡ ps → Rises t (times_of ps) → rest_of (popped_at t q) ≡ without (t ∷ []) (rest_of q)
+popped-left : {X : Type 0} (t : ℕ) (q : Waiting X) (ps : List (Stamped X)) → q.packets ≡ ps → Rises t (times_of ps) → rest_of (popped_at t q) ≡ without (is_among (t ∷ [])) (rest_of q)
 popped-left t q [] e r = rw e refl
 popped-left {X} t q (p ∷ ps) e r = elim (cases_Bool (eqb p.at t)) [
   | inl here ↦ (let same = eqb-true p.at t here in
@@ -139,11 +139,11 @@ popped-left {X} t q (p ∷ ps) e r = elim (cases_Bool (eqb p.at t)) [
       rw (e, differs, ne_eqb t p.at (λ same. apart (sym same))) (ap (λ (l : List (Stamped X)). (let it : StreamPrefix X = record { packets = p ∷ l; bound = q.bound } in it)) (sym (left_of-all t (p.at + 1) ps (omega (arith, r.0)) r.1))))
 ]
 
-pub rests-popped : {X : Type 0} (t : ℕ) (qs : List (Waiting X)) → AreFrom t qs → rests (map (popped_at t) qs) ≡ map (without (t ∷ [])) (rests qs)
+pub rests-popped : {X : Type 0} (t : ℕ) (qs : List (Waiting X)) → AreFrom t qs → rests (map (popped_at t) qs) ≡ map (without (is_among (t ∷ []))) (rests qs)
 rests-popped t [] h = refl
 rests-popped {X} t (q ∷ qs) h = ap₂ (λ (first : StreamPrefix X) (rest : List (StreamPrefix X)). first ∷ rest) (popped-left t q q.packets refl h.0) (rests-popped t qs h.1)
 
-pub rests-claimed : {X : Type 0} (qs : List (Waiting X)) → AreRests qs → earliest qs < low (rests qs) → rests (map (popped_at (earliest qs)) qs) ≡ after_sets 1 (rests qs)
+pub rests-claimed : (qs : List (Waiting Plain)) → AreRests qs → earliest qs < low (rests qs) → rests (map (popped_at (earliest qs)) qs) ≡ after_sets Default 1 (rests qs)
 rests-claimed qs h below =
     rests-popped (earliest qs) qs (AreFrom-earliest qs (earliest qs) h (omega arith))
-    ∙ ap (λ (ts : List ℕ). map (without (take 1 ts)) (rests qs)) (sym (settled_first qs h below))
+    ∙ ap (λ (ts : List ℕ). map (without (is_among (take 1 ts))) (rests qs)) (sym (default_times (rests qs) ∙ settled_first qs h below))

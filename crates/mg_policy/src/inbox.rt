@@ -2,6 +2,7 @@ ghost use Rattle.std.specs.Prelude.{◌≡◌, ◌<◌, ◌+◌, ◌↔◌, ℕ,
 ghost use Rattle.std.specs.Bool.{OnTrue, OnFalse};
 ghost use Rattle.std.specs.Borrow.{sem};
 ghost use Rattle.mg_value.specs.Payload.{Plain};
+ghost use Rattle.mg_value.specs.declared.policy.Policy.TheVariants.{Default};
 ghost use Rattle.mg_value.specs.Prefix.{StreamPrefix, empty_prefix};
 ghost use Rattle.mg_value.specs.Settled.{low, settled_sets};
 ghost use Rattle.mg_stream.specs.Queue.{IsLike, empty_queue, popped_at};
@@ -28,8 +29,12 @@ impl Model for Inbox {
     ghost use Rattle.std.specs.Prelude.{List, ◌<◌, ◌^◌, vec_len};
     ghost use Rattle.mg_value.specs.Payload.{Plain};
     ghost use Rattle.mg_stream.specs.Queue.{Waiting};
+    ghost use Rattle.mg_stream.specs.Codes.{waiting_code};
+    ghost use Rattle.std.specs.Coded.{coded_list};
 
     ghost Value = { List (Waiting Plain) };
+
+    ghost coded = { coded_list waiting_code };
 
     ghost view = { λ i. i.queues.items };
 
@@ -41,7 +46,7 @@ impl Inbox {
     pub fn new(alloc: Global, ports: u32) -> Result<Inbox, AllocError>
         ensures ports { IfOk result (λ qs. length qs ≡ ports) }
         ensures empty { IfOk result (λ qs. All (λ q. IsLike q empty_queue) qs) }
-        ensures stand { IfOk result (λ qs. StandAfter 0 qs (replicate ports empty_prefix)) }
+        ensures stand { IfOk result (λ qs. StandAfter Default 0 qs (replicate ports empty_prefix)) }
     {
         let mut queues = Vec::with_capacity(alloc, ports as usize)?;
         for _ in 0..ports {
@@ -75,7 +80,7 @@ impl Inbox {
 
     /// Whether there is a next input set, and at which timestamp, or why there is none.
     pub fn readiness(&self) -> Readiness
-        ensures { Tells result self.now }
+        ensures { Tells Default result self.now }
     {
         readiness_of(self.queues.as_slice())
     }
@@ -83,14 +88,14 @@ impl Inbox {
     /// Takes the next input set, where there is one: its packets leave the queues. Otherwise nothing changes.
     pub fn claim(&mut self, into: &mut InputSet) -> bool
         requires { length into.old ≡ length self.old }
-        ensures claimed { IsTrue result ↔ IsSome (next_set self.old) }
-        ensures shown { IfSome (next_set self.old) (λ e. into.new ≡ e.set) }
-        ensures gone { IfSome (next_set self.old) (λ e. self.new ≡ map (popped_at e.at) self.old) }
-        ensures left { settled_sets (rests self.new) ≡ drop 1 (settled_sets (rests self.old)) }
+        ensures claimed { IsTrue result ↔ IsSome (next_set Default self.old) }
+        ensures shown { IfSome (next_set Default self.old) (λ e. into.new ≡ e.set) }
+        ensures taken { IfSome (next_set Default self.old) (λ e. self.new ≡ map (popped_at e.at) self.old) }
+        ensures left { settled_sets Default (rests self.new) ≡ drop 1 (settled_sets Default (rests self.old)) }
         ensures ports { length self.new ≡ length self.old }
         ensures places { length into.new ≡ length into.old }
         ensures unchanged { OnFalse result ((self.new ≡ self.old) × (into.new ≡ into.old)) }
-        ensures stand { (k : ℕ) (ss : List (StreamPrefix Plain)) → StandAfter k self.old ss → OnTrue result (StandAfter (k + 1) self.new ss) }
+        ensures stand { (k : ℕ) (ss : List (StreamPrefix Plain)) → StandAfter Default k self.old ss → OnTrue result (StandAfter Default (k + 1) self.new ss) }
     {
         claim_next(self.queues.as_mut_slice(), into)
     }

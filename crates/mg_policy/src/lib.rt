@@ -10,6 +10,3 @@ mod readiness;
 
 pub use inbox::Inbox;
 pub use readiness::Readiness;
-
-#[cfg(test)]
-mod tests;

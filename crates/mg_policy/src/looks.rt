@@ -1,7 +1,7 @@
 ghost use Rattle.std.specs.Prelude.{◌≡◌, ◌<◌, ◌^◌, All, length, map, min};
 ghost use Rattle.mg_value.specs.Prefix.{IsPrefix};
 ghost use Rattle.mg_value.specs.Settled.{low};
-ghost use Rattle.mg_stream.specs.Queue.{rest_of, first_at, popped_at};
+ghost use Rattle.mg_stream.specs.Queue.{rest_of, front_at, popped_at};
 ghost use Rattle.mg_policy.specs.Inbox.{rests};
 ghost use Rattle.mg_policy.specs.Looks.{earliest};
 
@@ -46,7 +46,7 @@ pub(crate) fn look_at(queues: &[Queue]) -> Look
 pub(crate) fn take_at(queues: &mut [Queue], at: Timestamp, into: &mut InputSet)
     requires places { length into.old ≡ length queues.old }
     requires few { length queues.old < 2 ^ 32 }
-    ensures set { into.new ≡ map (λ q. first_at at q.packets) queues.old }
+    ensures set { into.new ≡ map (λ q. front_at at q.packets) queues.old }
     ensures queues { queues.new ≡ map (popped_at at) queues.old }
 {
     for i in 0..queues.len() {

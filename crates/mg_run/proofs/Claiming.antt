@@ -1,8 +1,9 @@
 -- What a node has claimed, as its input streams go on.
-use Rattle.std.proofs.Common.{◌≡◌, ℕ, zero, suc, ◌+◌, ◌<◌, ◌≤◌, List, [], ◌∷◌, ◌++◌, length, map, take, drop, replicate, Bool, true, false, Option, None, Some, slice_get, slice_set, unwrap_or, IsSome, IfSome, IsTrue, inl, inr, refl, sym, ap, ap₂, ◌∙◌, subst, arith, append_assoc, take-append-drop, add-one}
+use Rattle.std.proofs.Common.{◌≡◌, ℕ, zero, suc, ◌+◌, ◌<◌, ◌≤◌, List, [], ◌∷◌, ◌++◌, length, map, take, drop, replicate, Bool, true, false, Option, None, Some, slice_get, slice_set, unwrap_or, IsSome, IfSome, IsTrue, inl, inr, refl, sym, ap, ap₂, ◌∙◌, subst, arith, All, length-drop, append_assoc, take-append-drop, add-one}
 use Rattle.std.proofs.Math.Seq.{take-length}
 use Rattle.std.proofs.lemmas.List.{length-map, length-take}
 use Rattle.std.specs.List.{AllZip}
+use Rattle.std.proofs.lemmas.List.Elements.{All-head}
 use Rattle.std.proofs.lemmas.Grind.{flat_map-append}
 use Rattle.std.proofs.lemmas.Bool.{cases_Bool, false≢true}
 use Rattle.std.specs.Bool.{OnFalse}
@@ -10,63 +11,46 @@ use Rattle.mg_time.specs.Time.{done}
 use Rattle.mg_value.specs.Payload.{Plain}
 use Rattle.mg_value.specs.Prefix.{Stamped, StreamPrefix, empty_prefix, appended, raised, closed}
 use Rattle.mg_value.specs.Extension.{IsExtendedBy, AreExtendedBy}
-use Rattle.mg_value.specs.Settled.{low, all_times, settled_times, settled_sets, set_at, packet_at, without, is_among, TimedSet}
-use Rattle.mg_value.proofs.Times.{In, is_among-false}
-use Rattle.mg_value.proofs.Extending.{extended_by_itself, appended_extends, raised_extends, closed_extends}
-use Rattle.mg_value.proofs.SettledSets.{settled_from, settled_times_first, settled_sets_first, take-length_append}
-use Rattle.mg_value.proofs.AfterSets.{left_of, settled_sets-after_sets}
+use Rattle.mg_value.specs.declared.policy.Policy.TheVariants.{Default}
+use Rattle.mg_value.specs.Settled.{all_times, settled_sets, TimedSet}
+use Rattle.mg_value.proofs.Extending.{extended_by_itself, all_by_themselves, appended_extends, raised_extends, closed_extends}
+use Rattle.mg_value.proofs.PolicySets.{sets-stay, sets-places}
+use Rattle.mg_stream.proofs.QueueSteps.{may_follow}
+use Rattle.mg_policy.proofs.Standing.{arrivals_keep, what_is_next}
 use Rattle.mg_stream.specs.Queue.{Waiting, rest_of, StandsFor, MayCome, IsLike, with_packet, raised_to, popped_at}
 use Rattle.mg_policy.specs.Inbox.{rests, next_set, StandAfter}
 use Rattle.mg_run.specs.Accepted.{stepped, bound_at}
 use Rattle.mg_run.specs.Output.{line_text, set_text, sets_text, output_of}
 use Rattle.mg_run.specs.Inner.Claimed.{Claimed}
 
--- A step of a queue that stands for a stream steps the stream too: it extends it, and leaves what is settled.
+-- A step of a queue that stands for a stream steps the stream too, and extends it; no packet goes.
 pub record IsStep (q after : Waiting Plain) (step : StreamPrefix Plain → StreamPrefix Plain) : Type 0 where
   pub stand : (s : StreamPrefix Plain) → StandsFor q s → StandsFor after (step s)
-  pub rest : rest_of after ≡ step (rest_of q)
   pub extends : (s : StreamPrefix Plain) → StandsFor q s → IsExtendedBy s (step s)
-  pub kept : (ts : List ℕ) (s : StreamPrefix Plain) → StandsFor q s → ((t : ℕ) → In t ts → t < s.bound) → without ts (step s) ≡ step (without ts s)
-
-left_of-push : (ts : List ℕ) (ps : List (Stamped Plain)) (p : Stamped Plain) → is_among ts p.at ≡ false → left_of ts (ps ++ p ∷ []) ≡ left_of ts ps ++ p ∷ []
-left_of-push ts [] p out = rw out refl
-left_of-push ts (q ∷ ps) p out = elim (cases_Bool (is_among ts q.at)) [
-  | inl gone ↦ rw gone (left_of-push ts ps p out)
-  | inr stays ↦ rw stays (ap (λ (rest : List (Stamped Plain)). q ∷ rest) (left_of-push ts ps p out))
-]
-
-prefix-same : (ps rs : List (Stamped Plain)) (b c : ℕ) → ps ≡ rs → b ≡ c
-    → (let s : StreamPrefix Plain = record { packets = ps; bound = b } in s) ≡ (let s : StreamPrefix Plain = record { packets = rs; bound = c } in s)
-prefix-same ps rs b c same bounds = ap₂ (λ (l : List (Stamped Plain)) (n : ℕ). (let s : StreamPrefix Plain = record { packets = l; bound = n } in s)) same bounds
+  pub gone : after.gone ≡ q.gone
 
 pub step-appended : (q after : Waiting Plain) (p : Stamped Plain) → MayCome q p.at → IsLike after (with_packet q p)
     → ((s : StreamPrefix Plain) → StandsFor q s → StandsFor after (appended s p)) → IsStep q after (λ s. appended s p)
 step-appended q after p may like stand = record {
   stand = stand;
-  rest = prefix-same _ _ _ _ like.packets like.bound;
-  extends = λ s stands. appended_extends s p may.allowed (let above = may.above in let b = stands.bound in omega (arith, above, b));
-  kept = λ ts s stands below.
-      let out : is_among ts p.at ≡ false =
-      is_among-false p.at ts (λ i. let lt = below p.at i in let above = may.above in let b = stands.bound in omega (arith, lt, above, b)) in
-      prefix-same _ _ _ _ (left_of-push ts s.packets p out) refl;
+  extends = λ s stands. appended_extends s p (may_follow q p s may stands);
+  gone = like.gone;
 }
 
 pub step-raised : (q after : Waiting Plain) (b : ℕ) → after ≡ raised_to q b
     → ((s : StreamPrefix Plain) → StandsFor q s → StandsFor after (raised s b)) → IsStep q after (λ s. raised s b)
 step-raised q after b is stand = record {
   stand = stand;
-  rest = ap (λ (w : Waiting Plain). rest_of w) is;
   extends = λ s stands. raised_extends s b;
-  kept = λ ts s stands below. refl;
+  gone = ap (λ (w : Waiting Plain). w.gone) is;
 }
 
 pub step-closed : (q after : Waiting Plain) → after ≡ record q { bound = done }
     → ((s : StreamPrefix Plain) → StandsFor q s → StandsFor after (closed s)) → IsStep q after closed
 step-closed q after is stand = record {
   stand = stand;
-  rest = ap (λ (w : Waiting Plain). rest_of w) is;
   extends = λ s stands. closed_extends s stands.prefix;
-  kept = λ ts s stands below. refl;
+  gone = ap (λ (w : Waiting Plain). w.gone) is;
 }
 
 -- The streams with a step --
@@ -78,73 +62,28 @@ each-stepped port step (p ∷ qs) [] q after is one each = absurd each
 each-stepped zero step (p ∷ qs) (s ∷ ss) q after is one each = let e : p ≡ q = cc in (one.stand s (subst (λ (w : Waiting Plain). StandsFor w s) e each.0), each.1)
 each-stepped (suc port) step (p ∷ qs) (s ∷ ss) q after is one each = (each.0, each-stepped port step qs ss q after is one each.1)
 
-pub extended-same : (ss : List (StreamPrefix Plain)) → AreExtendedBy ss ss
-extended-same [] = tt
-extended-same (s ∷ ss) = (extended_by_itself s, extended-same ss)
-
 extends-stepped : (port : ℕ) (step : StreamPrefix Plain → StreamPrefix Plain) (qs : List (Waiting Plain)) (ss : List (StreamPrefix Plain)) (q after : Waiting Plain)
     → slice_get qs port ≡ Some q → IsStep q after step → AllZip StandsFor qs ss → AreExtendedBy ss (stepped port step ss)
 extends-stepped port step [] ss q after is one each = cc
 extends-stepped port step (p ∷ qs) [] q after is one each = absurd each
 extends-stepped zero step (p ∷ qs) (s ∷ ss) q after is one each =
-    let e : p ≡ q = cc in (one.extends s (subst (λ (w : Waiting Plain). StandsFor w s) e each.0), extended-same ss)
+    let e : p ≡ q = cc in (one.extends s (subst (λ (w : Waiting Plain). StandsFor w s) e each.0), all_by_themselves ss)
 extends-stepped (suc port) step (p ∷ qs) (s ∷ ss) q after is one each = (extended_by_itself s, extends-stepped port step qs ss q after is one each.1)
 
-rests-stepped : (port : ℕ) (step : StreamPrefix Plain → StreamPrefix Plain) (qs : List (Waiting Plain)) (q after : Waiting Plain)
-    → slice_get qs port ≡ Some q → rest_of after ≡ step (rest_of q) → rests (slice_set qs port after) ≡ stepped port step (rests qs)
-rests-stepped port step [] q after is one = cc
-rests-stepped zero step (p ∷ qs) q after is one =
-    let e : p ≡ q = cc in ap (λ (s : StreamPrefix Plain). s ∷ rests qs) (one ∙ ap (λ (w : Waiting Plain). step (rest_of w)) (sym e))
-rests-stepped (suc port) step (p ∷ qs) q after is one = ap (λ (ss : List (StreamPrefix Plain)). rest_of p ∷ ss) (rests-stepped port step qs q after is one)
+gone-stepped : (port : ℕ) (qs : List (Waiting Plain)) (q after : Waiting Plain) → slice_get qs port ≡ Some q → after.gone ≡ q.gone → map (λ w. w.gone) (slice_set qs port after) ≡ map (λ w. w.gone) qs
+gone-stepped port [] q after is same = cc
+gone-stepped zero (p ∷ qs) q after is same =
+    let e : p ≡ q = cc in ap (λ (n : ℕ). n ∷ map (λ (w : Waiting Plain). w.gone) qs) (same ∙ ap (λ (w : Waiting Plain). w.gone) (sym e))
+gone-stepped (suc port) (p ∷ qs) q after is same = ap (λ (ns : List ℕ). p.gone ∷ ns) (gone-stepped port qs q after is same)
 
-kept-stepped : (port : ℕ) (step : StreamPrefix Plain → StreamPrefix Plain) (ts : List ℕ) (qs : List (Waiting Plain)) (ss : List (StreamPrefix Plain)) (q after : Waiting Plain)
-    → slice_get qs port ≡ Some q → IsStep q after step → AllZip StandsFor qs ss → ((t : ℕ) → In t ts → t < low ss)
-    → map (without ts) (stepped port step ss) ≡ stepped port step (map (without ts) ss)
-kept-stepped port step ts [] ss q after is one each below = cc
-kept-stepped port step ts (p ∷ qs) [] q after is one each below = refl
-kept-stepped zero step ts (p ∷ qs) (s ∷ ss) q after is one each below =
-    let e : p ≡ q = cc in
-    ap (λ (first : StreamPrefix Plain). first ∷ map (without ts) ss)
-    (one.kept ts s (subst (λ (w : Waiting Plain). StandsFor w s) e each.0) (λ t i. let lt = below t i in omega (arith, lt)))
-kept-stepped (suc port) step ts (p ∷ qs) (s ∷ ss) q after is one each below =
-    ap (λ (rest : List (StreamPrefix Plain)). without ts s ∷ rest)
-    (kept-stepped port step ts qs ss q after is one each.1 (λ t i. let lt = below t i in omega (arith, lt)))
-
--- as many times as sets
-pub sets-times : (ss : List (StreamPrefix Plain)) → length (settled_sets ss) ≡ length (settled_times ss)
-sets-times ss = length-map (settled_times ss) _
-
-all-gone : (ss : List (StreamPrefix Plain)) → take (length (settled_sets ss)) (settled_times ss) ≡ settled_times ss
-all-gone ss = ap (λ n. take n (settled_times ss)) (sets-times ss) ∙ take-length (settled_times ss)
-
-still-gone : (ss more : List (StreamPrefix Plain)) → AreExtendedBy ss more → take (length (settled_sets ss)) (settled_times more) ≡ settled_times ss
-still-gone ss more extended =
-    ap (λ n. take n (settled_times more)) (sets-times ss)
-    ∙ ap (λ (ts : List ℕ). take (length (settled_times ss)) ts) (settled_times_first ss more extended)
-    ∙ take-length_append (settled_times ss) (drop (length (settled_times ss)) (settled_times more))
-
--- no fewer sets are settled as streams go on
-sets-grow : (ss more : List (StreamPrefix Plain)) → AreExtendedBy ss more → length (settled_sets ss) ≤ length (settled_sets more)
-sets-grow ss more extended =
-    let long : length (take (length (settled_sets ss)) (settled_sets more)) ≡ length (settled_sets ss) = ap length (settled_sets_first ss more extended) in
-    let least = length-take (length (settled_sets ss)) (settled_sets more) in
-    omega (arith, long, least)
-
--- The queues still stand for the streams, of which as many sets are gone as before the step.
+-- The queues still stand for the streams, of which as many sets are claimed as before the step.
 pub stand-stepped : (port : ℕ) (step : StreamPrefix Plain → StreamPrefix Plain) (qs : List (Waiting Plain)) (ss : List (StreamPrefix Plain)) (q after : Waiting Plain)
-    → slice_get qs port ≡ Some q → IsStep q after step → StandAfter (length (settled_sets ss)) qs ss
-    → StandAfter (length (settled_sets ss)) (slice_set qs port after) (stepped port step ss) × AreExtendedBy ss (stepped port step ss)
+    → slice_get qs port ≡ Some q → IsStep q after step → StandAfter Default (length (settled_sets Default ss)) qs ss
+    → StandAfter Default (length (settled_sets Default ss)) (slice_set qs port after) (stepped port step ss) × AreExtendedBy ss (stepped port step ss)
 stand-stepped port step qs ss q after is one stand =
-    let extended : AreExtendedBy ss (stepped port step ss) = extends-stepped port step qs ss q after is one stand.each in
-    let ts = settled_times ss in (
-      record {
-        each = each-stepped port step qs ss q after is one stand.each;
-        gone = sets-grow ss (stepped port step ss) extended;
-        left = rests-stepped port step qs q after is one.rest
-            ∙ ap (stepped port step) (stand.left ∙ ap (λ (us : List ℕ). map (without us) ss) (all-gone ss))
-            ∙ sym (kept-stepped port step ts qs ss q after is one stand.each (λ t i. (settled_from ss t i).0))
-            ∙ ap (λ (us : List ℕ). map (without us) (stepped port step ss)) (sym (still-gone ss (stepped port step ss) extended));
-      },
+    let extended : AreExtendedBy ss (stepped port step ss) = extends-stepped port step qs ss q after is one stand.each in (
+      arrivals_keep Default (length (settled_sets Default ss)) qs (slice_set qs port after) ss (stepped port step ss) stand (each-stepped port step qs ss q after is one stand.each) extended
+          (gone-stepped port qs q after is one.gone),
       extended,
     )
 
@@ -153,30 +92,30 @@ text-append : (xs ys : List (TimedSet Plain)) → sets_text (xs ++ ys) ≡ sets_
 text-append xs ys = flat_map-append _ xs ys
 
 pub output-more : (ss more : List (StreamPrefix Plain)) → AreExtendedBy ss more
-    → output_of more ≡ output_of ss ++ sets_text (drop (length (settled_sets ss)) (settled_sets more))
+    → output_of more ≡ output_of ss ++ sets_text (drop (length (settled_sets Default ss)) (settled_sets Default more))
 output-more ss more extended =
-    let n = length (settled_sets ss) in
-    ap sets_text (sym (take-append-drop n (settled_sets more)))
-    ∙ text-append (take n (settled_sets more)) (drop n (settled_sets more))
-    ∙ ap (λ (sets : List (TimedSet Plain)). sets_text sets ++ sets_text (drop n (settled_sets more))) (settled_sets_first ss more extended)
+    let n = length (settled_sets Default ss) in
+    ap sets_text (sym (take-append-drop n (settled_sets Default more)))
+    ∙ text-append (take n (settled_sets Default more)) (drop n (settled_sets Default more))
+    ∙ ap (λ (sets : List (TimedSet Plain)). sets_text sets ++ sets_text (drop n (settled_sets Default more))) (sets-stay Default ss more extended)
 
 -- All is claimed again after a step of the queue at a port and a claim of all sets that are ready.
 pub claimed-stepped : (port : ℕ) (step : StreamPrefix Plain → StreamPrefix Plain) (qs mid last : List (Waiting Plain)) (ss : List (StreamPrefix Plain)) (q after : Waiting Plain) (sent text new : List ℕ)
     → slice_get qs port ≡ Some q → IsStep q after step → mid ≡ slice_set qs port after
-    → new ≡ text ++ sets_text (settled_sets (rests mid))
-    → ((k : ℕ) (ss : List (StreamPrefix Plain)) → StandAfter k mid ss → StandAfter (length (settled_sets ss)) last ss)
+    → new ≡ text ++ sets_text (settled_sets Default (rests mid))
+    → ((k : ℕ) (ss : List (StreamPrefix Plain)) → StandAfter Default k mid ss → StandAfter Default (length (settled_sets Default ss)) last ss)
     → Claimed ss sent qs text → Claimed (stepped port step ss) sent last new
 claimed-stepped port step qs mid last ss q after sent text new is one mid_is new_is stands claimed =
     let both = stand-stepped port step qs ss q after is one claimed.stand in
-    let n = length (settled_sets ss) in
-    let now : StandAfter n mid (stepped port step ss) = subst (λ (w : List (Waiting Plain)). StandAfter n w (stepped port step ss)) (sym mid_is) both.0 in
-    let sets : settled_sets (rests mid) ≡ drop n (settled_sets (stepped port step ss)) =
-    ap settled_sets now.left ∙ settled_sets-after_sets n (stepped port step ss) in
+    let n = length (settled_sets Default ss) in
+    let now : StandAfter Default n mid (stepped port step ss) = subst (λ (w : List (Waiting Plain)). StandAfter Default n w (stepped port step ss)) (sym mid_is) both.0 in
+    let sets : settled_sets Default (rests mid) ≡ drop n (settled_sets Default (stepped port step ss)) =
+    what_is_next Default n mid (stepped port step ss) now in
     record {
       stand = stands n (stepped port step ss) now;
       means = ap (λ t. sent ++ t) (new_is ∙ ap (λ (w : List (TimedSet Plain)). text ++ sets_text w) sets)
-          ∙ sym (append_assoc sent text (sets_text (drop n (settled_sets (stepped port step ss)))))
-          ∙ ap (λ t. t ++ sets_text (drop n (settled_sets (stepped port step ss)))) claimed.means
+          ∙ sym (append_assoc sent text (sets_text (drop n (settled_sets Default (stepped port step ss)))))
+          ∙ ap (λ t. t ++ sets_text (drop n (settled_sets Default (stepped port step ss)))) claimed.means
           ∙ sym (output-more ss (stepped port step ss) both.1);
     }
 
@@ -192,12 +131,12 @@ no-times : (n : ℕ) → all_times (replicate n (empty_prefix {X = Plain})) ≡ 
 no-times zero = refl
 no-times (suc n) = no-times n
 
-no-sets : (n : ℕ) → settled_sets (replicate n (empty_prefix {X = Plain})) ≡ []
+no-sets : (n : ℕ) → settled_sets Default (replicate n (empty_prefix {X = Plain})) ≡ []
 no-sets n = rw (no-times n) refl
 
-pub claimed-nothing : (n : ℕ) (qs : List (Waiting Plain)) → StandAfter 0 qs (replicate n empty_prefix) → Claimed (replicate n empty_prefix) [] qs []
+pub claimed-nothing : (n : ℕ) (qs : List (Waiting Plain)) → StandAfter Default 0 qs (replicate n empty_prefix) → Claimed (replicate n empty_prefix) [] qs []
 claimed-nothing n qs stand = record {
-  stand = subst (λ (sets : List (TimedSet Plain)). StandAfter (length sets) qs (replicate n empty_prefix)) (sym (no-sets n)) stand;
+  stand = subst (λ (sets : List (TimedSet Plain)). StandAfter Default (length sets) qs (replicate n empty_prefix)) (sym (no-sets n)) stand;
   means = ap sets_text (sym (no-sets n));
 }
 
@@ -273,43 +212,27 @@ shown-more text shown before (f ∷ all) left e is left_is shown_is was =
     ∙ was
 
 -- Queues of which no set is left stand after all sets.
-pub stand-all : (j : ℕ) (qs : List (Waiting Plain)) (ss : List (StreamPrefix Plain)) → settled_sets (rests qs) ≡ [] → StandAfter j qs ss
-    → StandAfter (length (settled_sets ss)) qs ss
+pub stand-all : (j : ℕ) (qs : List (Waiting Plain)) (ss : List (StreamPrefix Plain)) → settled_sets Default (rests qs) ≡ [] → StandAfter Default j qs ss
+    → StandAfter Default (length (settled_sets Default ss)) qs ss
 stand-all j qs ss none stand =
-    let left : drop j (settled_sets ss) ≡ [] = sym (ap settled_sets stand.left ∙ settled_sets-after_sets j ss) ∙ none in
-    let most : length (settled_sets ss) ≤ j = short j (settled_sets ss) left in
-    record {
-      each = stand.each;
-      gone = omega arith;
-      left = stand.left ∙ ap (λ (ts : List ℕ). map (without ts) ss)
-          (take-most j (settled_times ss) (let n = sets-times ss in omega (arith, most, n)) ∙ sym (all-gone ss));
-    }
-  where
-    short : (j : ℕ) (sets : List (TimedSet Plain)) → drop j sets ≡ [] → length sets ≤ j
-    short j [] is = omega arith
-    short zero (e ∷ sets) is = cc
-    short (suc j) (e ∷ sets) is = let le = short j sets is in omega (arith, le)
-
-    take-most : (j : ℕ) (ts : List ℕ) → length ts ≤ j → take j ts ≡ ts
-    take-most zero [] le = refl
-    take-most (suc j) [] le = refl
-    take-most zero (t ∷ ts) le = absurd (omega (arith, le))
-    take-most (suc j) (t ∷ ts) le = ap (λ (l : List ℕ). t ∷ l) (take-most j ts (omega (arith, le)))
+    let few = stand.gone.claimed in
+    let most : length (settled_sets Default ss) ≤ j = omega (arith, length-drop j (settled_sets Default ss), ap length (sym (what_is_next Default j qs ss stand) ∙ none)) in
+    subst (λ (k : ℕ). StandAfter Default k qs ss) (omega (arith, few, most)) stand
 
 -- A claimed set has a place for each queue.
-next-long : (ts : List ℕ) (rs : List (StreamPrefix Plain)) (e : TimedSet Plain)
-    → slice_get (map (λ t. (let it : TimedSet Plain = record { at = t; set = set_at t rs } in it)) ts) 0 ≡ Some e → length e.set ≡ length rs
-next-long [] rs e is = cc
-next-long (t ∷ ts) rs e is =
-    let same : (let it : TimedSet Plain = record { at = t; set = set_at t rs } in it) ≡ e = cc in
-    ap (λ (f : TimedSet Plain). length f.set) (sym same) ∙ length-map rs (λ s. packet_at t s.packets)
+next-long : (qs : List (Waiting Plain)) (e : TimedSet Plain) → next_set Default qs ≡ Some e → length e.set ≡ length qs
+next-long qs e is = first (settled_sets Default (rests qs)) (sets-places Default (rests qs)) is ∙ length-map qs rest_of
+  where
+    first : (es : List (TimedSet Plain)) → All (λ f. length f.set ≡ length (rests qs)) es → slice_get es 0 ≡ Some e → length e.set ≡ length (rests qs)
+    first [] all is = cc
+    first (f ∷ es) all is = let same : f ≡ e = cc in ap (λ (g : TimedSet Plain). length g.set) (sym same) ∙ All-head (λ (g : TimedSet Plain). length g.set ≡ length (rests qs)) f es all
 
 places-by : (o : Option (TimedSet Plain)) (r : Bool) (qs qs' : List (Waiting Plain)) (set set' : List (Option (Stamped Plain)))
-    → next_set qs ≡ o → length set ≡ length qs → (IsTrue r → IsSome o)
+    → next_set Default qs ≡ o → length set ≡ length qs → (IsTrue r → IsSome o)
     → IfSome o (λ e. set' ≡ e.set) → IfSome o (λ e. qs' ≡ map (popped_at e.at) qs) → OnFalse r ((qs' ≡ qs) × (set' ≡ set))
     → (length set' ≡ length qs') × (length qs' ≡ length qs)
 places-by (Some e) r qs qs' set set' is long some shown gone same =
-    let n : length e.set ≡ length qs = next-long (settled_times (rests qs)) (rests qs) e is ∙ length-map qs rest_of in
+    let n : length e.set ≡ length qs = next-long qs e is in
     let m : length qs' ≡ length qs = ap length gone ∙ length-map qs (popped_at e.at) in
     (ap length shown ∙ n ∙ sym m, m)
 places-by None true qs qs' set set' is long some shown gone same = absurd (false≢true (some refl))
@@ -318,10 +241,10 @@ places-by None false qs qs' set set' is long some shown gone same =
     (ap length both.1 ∙ long ∙ sym (ap length both.0), ap length both.0)
 
 pub claim-places : (r : Bool) (qs qs' : List (Waiting Plain)) (set set' : List (Option (Stamped Plain)))
-    → length set ≡ length qs → (IsTrue r → IsSome (next_set qs))
-    → IfSome (next_set qs) (λ e. set' ≡ e.set) → IfSome (next_set qs) (λ e. qs' ≡ map (popped_at e.at) qs) → OnFalse r ((qs' ≡ qs) × (set' ≡ set))
+    → length set ≡ length qs → (IsTrue r → IsSome (next_set Default qs))
+    → IfSome (next_set Default qs) (λ e. set' ≡ e.set) → IfSome (next_set Default qs) (λ e. qs' ≡ map (popped_at e.at) qs) → OnFalse r ((qs' ≡ qs) × (set' ≡ set))
     → (length set' ≡ length qs') × (length qs' ≡ length qs)
-claim-places r qs qs' set set' long some shown gone same = places-by (next_set qs) r qs qs' set set' refl long some shown gone same
+claim-places r qs qs' set set' long some shown gone same = places-by (next_set Default qs) r qs qs' set set' refl long some shown gone same
 
 some-by : (o : Option (TimedSet Plain)) (P : TimedSet Plain → Type 0) → IsSome o → IfSome o P → (e : TimedSet Plain) × (o ≡ Some e) × P e
 some-by None P some all = absurd (false≢true some)
@@ -329,15 +252,15 @@ some-by (Some e) P some all = (e, refl, all)
 
 -- the set that was claimed, shown
 pub claim-shown : (qs : List (Waiting Plain)) (set : List (Option (Stamped Plain))) (left : List (TimedSet Plain)) (text shown before : List ℕ)
-    → IsSome (next_set qs) → IfSome (next_set qs) (λ e. set ≡ e.set) → left ≡ drop 1 (settled_sets (rests qs)) → shown ≡ text ++ set_text set
-    → text ++ sets_text (settled_sets (rests qs)) ≡ before → shown ++ sets_text left ≡ before
+    → IsSome (next_set Default qs) → IfSome (next_set Default qs) (λ e. set ≡ e.set) → left ≡ drop 1 (settled_sets Default (rests qs)) → shown ≡ text ++ set_text set
+    → text ++ sets_text (settled_sets Default (rests qs)) ≡ before → shown ++ sets_text left ≡ before
 claim-shown qs set left text shown before some is left_is shown_is was =
-    let e = some-by (next_set qs) (λ e. set ≡ e.set) some is in
-    shown-more text shown before (settled_sets (rests qs)) left e.0 e.1 left_is (shown_is ∙ ap (λ (l : List (Option (Stamped Plain))). text ++ set_text l) e.2) was
+    let e = some-by (next_set Default qs) (λ e. set ≡ e.set) some is in
+    shown-more text shown before (settled_sets Default (rests qs)) left e.0 e.1 left_is (shown_is ∙ ap (λ (l : List (Option (Stamped Plain))). text ++ set_text l) e.2) was
 
 -- no set is left where none can be claimed
-pub none-left : (r : Bool) (qs : List (Waiting Plain)) → r ≡ false → (IsSome (next_set qs) → IsTrue r) → settled_sets (rests qs) ≡ []
-none-left r qs failed all = none (settled_sets (rests qs)) (λ some. false≢true (sym failed ∙ all some))
+pub none-left : (r : Bool) (qs : List (Waiting Plain)) → r ≡ false → (IsSome (next_set Default qs) → IsTrue r) → settled_sets Default (rests qs) ≡ []
+none-left r qs failed all = none (settled_sets Default (rests qs)) (λ some. false≢true (sym failed ∙ all some))
   where
     none : (sets : List (TimedSet Plain)) → (IsSome (slice_get sets 0) → ⊥) → sets ≡ []
     none [] out = refl

@@ -5,18 +5,16 @@ use Rattle.serde_json.specs.Data.{Data, number, string, object, no_members, memb
 use Rattle.serde_json.specs.Find.{of_integer}
 use Rattle.serde_json.specs.Written.{compact_text}
 use Rattle.mg_time.specs.Time.{raw_of}
-use Rattle.mg_value.specs.Payload.{Plain, int}
+use Rattle.mg_value.specs.Payload.{Plain}
+use Rattle.mg_value.specs.declared.policy.Policy.TheVariants.{Default}
+use Rattle.mg_value.specs.Json.{json_of}
 use Rattle.mg_value.specs.Prefix.{Stamped, StreamPrefix}
 use Rattle.mg_value.specs.Settled.{TimedSet, settled_sets}
-
--- a payload as JSON
-abbrev pub data_of : Plain → Data
-data_of (int value) = number (of_integer value)
 
 -- a packet of a stream as JSON: its stream, its timestamp and its value
 abbrev pub packet_data : List ℕ → Stamped Plain → Data
 packet_data stream p =
-    object (member (codes "stream") (string stream) (member (codes "ts") (number (of_integer (raw_of p.at))) (member (codes "value") (data_of p.value) no_members)))
+    object (member (codes "stream") (string stream) (member (codes "ts") (number (of_integer (raw_of p.at))) (member (codes "value") (json_of p.value) no_members)))
 
 -- the line of a packet of the stream `out`
 unfoldable pub line_text : Stamped Plain → List ℕ
@@ -34,4 +32,4 @@ sets_text sets = flat_map (λ timed. set_text timed.set) sets
 
 -- the output text that some input streams make: at each settled time the packet of the first input that has one
 abbrev pub output_of : List (StreamPrefix Plain) → List ℕ
-output_of ss = sets_text (settled_sets ss)
+output_of ss = sets_text (settled_sets Default ss)

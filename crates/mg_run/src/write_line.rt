@@ -1,23 +1,37 @@
 ghost use Rattle.std.specs.Prelude.{◌≡◌, ◌++◌, OnOk};
 ghost use Rattle.std.specs.Fmt.{signed_decimal};
-ghost use Rattle.mg_value.specs.Payload.{int};
+ghost use Rattle.serde_json.specs.Written.{compact_text};
+ghost use Rattle.mg_value.specs.Payload.{plain};
+ghost use Rattle.mg_value.specs.Json.{json_of};
 ghost use Rattle.mg_run.specs.Output.{line_text};
 
 use itoa::Buffer;
-use mg_time::Timestamp;
+use mg_value::{to_json, Packet, Payload};
 use std::alloc::AllocError;
 
 /// Writes the line of a packet of the stream `out` at the end of a text. After an `Err` the text may end with a part
 /// of the line.
-pub fn push_line(text: &mut Vec<u8>, at: Timestamp, value: i64) -> Result<(), AllocError>
-    ensures { OnOk result (text.new.items ≡ text.old.items ++ line_text (record { at = at; value = int value })) }
+pub fn push_line(text: &mut Vec<u8>, packet: &Packet) -> Result<(), AllocError>
+    ensures { OnOk result (text.new.items ≡ text.old.items ++ line_text packet.now) }
 {
     push(text, b"{\"stream\":\"out\",\"ts\":")?;
-    push_number(text, at.raw())?;
+    push_number(text, packet.at.raw())?;
     push(text, b",\"value\":")?;
-    push_number(text, value)?;
+    push_payload(text, &packet.payload)?;
     push(text, b"}\n")?;
     Ok(())
+}
+
+/// Puts a payload as JSON at the end of a text.
+fn push_payload(text: &mut Vec<u8>, payload: &Payload) -> Result<(), AllocError>
+    ensures { OnOk result (text.new.items ≡ text.old.items ++ compact_text (json_of (plain payload.now))) }
+{
+    if let Payload::Int(number) = payload {
+        return push_number(text, *number);
+    }
+    let alloc = *text.allocator();
+    let value = to_json(alloc, payload)?;
+    push(text, value.to_string(alloc)?.as_bytes())
 }
 
 /// Puts bytes at the end of a text.

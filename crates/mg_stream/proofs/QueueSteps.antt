@@ -2,9 +2,9 @@
 use Rattle.std.proofs.Common.{◌≡◌, ℕ, zero, suc, ◌+◌, ◌<◌, ◌≤◌, max, List, [], ◌∷◌, ◌++◌, length, length-append, length-drop, drop, ap, sym, refl, ◌∙◌, arith, drop-drop, is_some, true, inl, inr}
 use Rattle.std.proofs.lemmas.Bool.{cases_Bool}
 use Rattle.mg_time.specs.Time.{next, done}
-use Rattle.mg_value.specs.Prefix.{Stamped, StreamPrefix, appended, raised, closed}
+use Rattle.mg_value.specs.Prefix.{Stamped, StreamPrefix, MayFollow, appended, raised, closed}
 use Rattle.mg_value.proofs.PrefixSteps.{next_above, appended_is_prefix, raised_is_prefix, closed_is_prefix}
-use Rattle.mg_stream.specs.Queue.{Waiting, IsQueue, StandsFor, MayCome, IsLike, rest_of, with_packet, raised_to, popped, popped_at, first_at}
+use Rattle.mg_stream.specs.Queue.{Waiting, IsQueue, StandsFor, MayCome, IsLike, rest_of, with_packet, raised_to, popped, popped_at, front_at}
 
 pub closed_queue : {X : Type 0} (q : Waiting X) → IsQueue q → IsQueue (record q { bound = done })
 closed_queue q h = record { rest = closed_is_prefix (rest_of q) h.rest; counted = (let most = h.rest.within in let counted = h.counted in omega (arith, most, counted)) }
@@ -14,17 +14,27 @@ raised_queue q b le h = record { rest = raised_is_prefix (rest_of q) b h.rest le
 
 pub appended_queue : {X : Type 0} (q : Waiting X) (p : Stamped X) → MayCome q p.at → IsQueue q → IsQueue (with_packet q p)
 appended_queue q p may h = record {
-  rest = appended_is_prefix (rest_of q) p h.rest may.allowed may.above (λ e. (let none = may.alone e in omega (arith, none)));
+  rest = appended_is_prefix (rest_of q) p h.rest (record { allowed = may.allowed; above = may.above; alone = λ e. (let none = may.alone e in omega (arith, none)) });
   counted = (let counted = h.counted in let up = next_above p.at may.allowed in let above = may.above in omega (arith, counted, up, above, length-append q.packets (p ∷ [])));
 }
+
+-- what may come at a queue may follow the prefix that it stands for
+pub may_follow : {X : Type 0} (q : Waiting X) (p : Stamped X) (s : StreamPrefix X) → MayCome q p.at → StandsFor q s → MayFollow s p
+may_follow q p s may h =
+    let gone = h.gone in
+    let all : length q.packets + q.gone ≡ length s.packets = omega (arith, gone, ap length h.waiting, length-drop q.gone s.packets) in
+    record {
+      allowed = may.allowed;
+      above = (let above = may.above in let bound = h.bound in omega (arith, above, bound));
+      alone = λ e. (let none = may.alone e in omega (arith, none, all));
+    }
 
 -- stands for
 pub stands_appended : {X : Type 0} (q : Waiting X) (p : Stamped X) (s : StreamPrefix X) → MayCome q p.at → StandsFor q s → StandsFor (with_packet q p) (appended s p)
 stands_appended {X} q p s may h =
     let gone = h.gone in
-    let all : length q.packets + q.gone ≡ length s.packets = omega (arith, gone, ap length h.waiting, length-drop q.gone s.packets) in
     record {
-      prefix = appended_is_prefix s p h.prefix may.allowed (let above = may.above in let bound = h.bound in omega (arith, above, bound)) (λ e. (let none = may.alone e in omega (arith, none, all)));
+      prefix = appended_is_prefix s p h.prefix (may_follow q p s may h);
       gone = omega (arith, gone, length-append s.packets (p ∷ []));
       waiting = ap (λ (ps : List (Stamped X)). ps ++ p ∷ []) h.waiting ∙ sym (drop-push q.gone s.packets p gone);
       bound = refl;
@@ -60,12 +70,12 @@ stands_appended_fields q r p s gone packets bound may h =
     stands_like (with_packet q p) r (appended s p) (record { gone = gone; packets = packets; bound = bound }) (stands_appended q p s may h)
 
 -- where a first packet is found, one waits
-first_waits : {X : Type 0} (t : ℕ) (ps : List (Stamped X)) → is_some (first_at t ps) ≡ true → 0 < length ps
+first_waits : {X : Type 0} (t : ℕ) (ps : List (Stamped X)) → is_some (front_at t ps) ≡ true → 0 < length ps
 first_waits t [] found = absurd cc
 first_waits t (p ∷ ps) found = omega arith
 
 pub stands_popped : {X : Type 0} (t : ℕ) (q : Waiting X) (s : StreamPrefix X) → StandsFor q s → StandsFor (popped_at t q) s
-stands_popped {X} t q s h = elim (cases_Bool (is_some (first_at t q.packets))) [
+stands_popped {X} t q s h = elim (cases_Bool (is_some (front_at t q.packets))) [
   | inl found ↦ rw found (one_gone (first_waits t q.packets found))
   | inr none ↦ rw none h
 ]

@@ -53,9 +53,9 @@ abbrev pub raised_to : {X : Type 0} → Waiting X → ℕ → Waiting X
 raised_to q b = record q { bound = max q.bound b }
 
 -- the first of some packets, where it stands at a time
-abbrev pub first_at : {X : Type 0} → ℕ → List (Stamped X) → Option (Stamped X)
-first_at t [] = None
-first_at t (p ∷ ps) = if p.at == t then Some p else None
+abbrev pub front_at : {X : Type 0} → ℕ → List (Stamped X) → Option (Stamped X)
+front_at t [] = None
+front_at t (p ∷ ps) = if p.at == t then Some p else None
 
 -- a queue whose first packet is gone, which leaves room for another
 abbrev pub popped : {X : Type 0} → Waiting X → Waiting X
@@ -63,7 +63,7 @@ popped q = record { gone = q.gone + 1; packets = drop 1 q.packets; bound = q.bou
 
 -- a queue whose first packet is gone where it stands at a time, and the queue itself otherwise
 abbrev pub popped_at : {X : Type 0} → ℕ → Waiting X → Waiting X
-popped_at t q = if is_some (first_at t q.packets) then popped q else q
+popped_at t q = if is_some (front_at t q.packets) then popped q else q
 
 -- what holds of every queue: what waits is itself a prefix of a stream, and no more packets came than there are times
 -- below the bound

@@ -7,6 +7,3 @@ mod queue;
 
 pub use fault::{Refused, StreamFault};
 pub use queue::Queue;
-
-#[cfg(test)]
-mod tests;

@@ -2,10 +2,11 @@ ghost use Rattle.std.specs.Prelude.{◌≡◌, ◌≢◌, Some, IfNone, ◌<◌,
 ghost use Rattle.mg_time.specs.Time.{pre_stream, post_stream, done, IsAllowed};
 ghost use Rattle.mg_value.specs.Payload.{Plain};
 ghost use Rattle.mg_value.specs.Prefix.{StreamPrefix, IsPrefix, empty_prefix, appended, raised, closed};
-ghost use Rattle.mg_stream.specs.Queue.{StandsFor, IsLike, empty_queue, MayCome, count_of, rest_of, with_packet, raised_to, first_at, popped_at};
+ghost use Rattle.mg_stream.specs.Queue.{StandsFor, IsLike, empty_queue, MayCome, count_of, rest_of, with_packet, raised_to, front_at, popped_at};
 
 use crate::{Refused, StreamFault};
 use mg_time::Timestamp;
+use mg_time::laws::done_is_greatest;
 use mg_value::Packet;
 use std::alloc::{AllocError, Global};
 use std::collections::VecDeque;
@@ -23,8 +24,11 @@ pub struct Queue {
 impl Model for Queue {
     ghost use Rattle.mg_value.specs.Payload.{Plain};
     ghost use Rattle.mg_stream.specs.Queue.{Waiting, IsQueue};
+    ghost use Rattle.mg_stream.specs.Codes.{waiting_code};
 
     ghost Value = { Waiting Plain };
+
+    ghost coded = { waiting_code };
 
     ghost use Rattle.mg_stream.specs.QueueView.{queue_view};
 
@@ -106,8 +110,7 @@ impl Queue {
         ensures raised { self.new ≡ raised_to self.old bound }
         ensures stands { (s : StreamPrefix Plain) → StandsFor self.old s → StandsFor self.new (raised s bound) }
     {
-        // Each timestamp is at most `DONE`.
-        let _number = bound.raw();
+        done_is_greatest(bound);
         if self.bound < bound {
             self.bound = bound;
         }
@@ -153,7 +156,7 @@ impl Queue {
 
     /// Takes the first packet, where it stands at this timestamp.
     pub fn pop_at(&mut self, at: Timestamp) -> Option<Packet>
-        ensures packet { result ≡ first_at at self.old.packets }
+        ensures packet { result ≡ front_at at self.old.packets }
         ensures popped { self.new ≡ popped_at at self.old }
         ensures stands { (s : StreamPrefix Plain) → StandsFor self.old s → StandsFor self.new s }
     {

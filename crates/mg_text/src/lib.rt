@@ -20,6 +20,3 @@ pub use fault::TextFault;
 pub use printer::print;
 pub use reader::parse;
 pub use tree::{Field, Scalar, Tree, TreeValue};
-
-#[cfg(test)]
-mod tests;

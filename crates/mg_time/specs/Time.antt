@@ -1,7 +1,7 @@
 -- Timestamps, after the pages Packets and Synchronization of the MediaPipe framework.
 -- A timestamp is a signed 64-bit number. Definitions see it as its place: how far it stands above Unset, the
 -- lowest. So a time is a natural number from 0 to 2^64 - 1, in the same order.
-use Rattle.std.specs.Prelude.{ℕ, suc, List, [], ◌∷◌, ◌+◌, ◌-◌, ◌^◌, ◌<◌, ◌≤◌, min, max, ◌||◌, ◌==◌, nat_le, if◌then◌else◌, ℤ, pos, negsuc, ◌-ℤ◌}
+use Rattle.std.specs.Prelude.{ℕ, suc, List, [], ◌∷◌, ◌+◌, ◌-◌, ◌^◌, ◌≤◌, min, max, ◌||◌, ◌==◌, nat_le, if◌then◌else◌, ℤ, pos, negsuc, ◌-ℤ◌}
 
 -- the signed number of the time at a place
 abbrev pub raw_of : ℕ → ℤ

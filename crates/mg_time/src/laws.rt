@@ -1,6 +1,10 @@
 //! Laws of the definitions: each function does nothing, and its contract is the law.
-ghost use Rattle.std.specs.Prelude.{◌≡◌, ◌<◌, ◌≤◌, ◌⊎◌, ◌↔◌, ℕ, ℤ, ◌≤ℤ◌};
-ghost use Rattle.mg_time.specs.Time.{raw_of, place_of, IsAllowed, next, shift};
+ghost use Rattle.std.specs.Prelude.{◌≡◌, ◌<◌, ◌≤◌, ◌⊎◌, ◌↔◌, ℕ, ℤ, ◌≤ℤ◌, List, FitsSigned};
+ghost use Rattle.std.specs.Int.{w64};
+ghost use Rattle.mg_time.specs.Time.{raw_of, place_of, done, IsAllowed, next, shift};
+ghost use Rattle.mg_time.specs.Text.{Spells, text_of};
+
+use crate::Timestamp;
 
 /// Times are in the order of their numbers.
 pub fn order_is_of_numbers()
@@ -8,13 +12,23 @@ pub fn order_is_of_numbers()
 {}
 
 /// A number of 64 signed bits is the number of its place.
-pub fn places_have_their_numbers()
+pub fn numbers_are_of_their_places()
+    ensures { (n : ℤ) → FitsSigned w64 n → raw_of (place_of n) ≡ n }
+{}
+
+/// A place is the place of its number.
+pub fn places_are_of_their_numbers()
     ensures { (t : ℕ) → place_of (raw_of t) ≡ t }
 {}
 
 /// Of two times one isn't above the other.
 pub fn order_is_total()
     ensures { (t u : ℕ) → (t ≤ u) ⊎ (u ≤ t) }
+{}
+
+/// No timestamp stands above `DONE`.
+pub fn done_is_greatest(time: Timestamp)
+    ensures { time ≤ done }
 {}
 
 /// What may follow a packet stands above it.
@@ -25,4 +39,10 @@ pub fn next_is_above()
 /// A shift keeps the order of bounds.
 pub fn shift_keeps_order()
     ensures { (t u : ℕ) (offset : ℤ) → t ≤ u → shift t offset ≤ shift u offset }
+{}
+
+/// What a packet may carry is read back from its text, and a text that is read is the text of what it was read as.
+pub fn texts_are_read_back()
+    ensures printed { (t : ℕ) → IsAllowed t → Spells (text_of t) t }
+    ensures read { (text : List ℕ) (t : ℕ) → Spells text t → IsAllowed t × (text ≡ text_of t) }
 {}

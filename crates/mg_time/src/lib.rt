@@ -6,6 +6,3 @@ pub mod laws;
 mod timestamp;
 
 pub use timestamp::Timestamp;
-
-#[cfg(test)]
-mod tests;

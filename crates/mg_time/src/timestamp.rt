@@ -1,12 +1,18 @@
-ghost use Rattle.std.specs.Prelude.{◌≡◌, ◌<◌, ◌^◌, ◌≤ℤ◌, ◌↔◌, map, IsTrue, IsSome, IfSome};
+ghost use Rattle.std.specs.Prelude.{◌≡◌, ◌<◌, ◌≤◌, ◌≤ℤ◌, ◌↔◌, ℕ, ℤ, map, IsTrue, IsSome, IsNone, IfSome, IfOk, Some, FitsSigned};
+ghost use Rattle.std.specs.Int.{w64};
+ghost use Rattle.std.specs.Fmt.{signed_decimal};
 ghost use Rattle.mg_time.specs.Time.{raw_of, constant_places, constant_numbers, place_of, least, greatest, IsRange, IsAllowed, next, shift};
+ghost use Rattle.mg_time.specs.Text.{Spells, text_of};
 
+use itoa::Buffer;
+use std::alloc::{AllocError, Global};
+use std::fmt;
 use std::marker::Model;
 
 /// A point on the one clock that orders all packets of a graph: a signed 64-bit number in a unit that the
 /// graph's author picks (microseconds by custom). Eight values are set apart (MediaPipe, Packets); `MIN` to
 /// `MAX` are the range, in which ordinary packets stand.
-#[derive(Clone, Copy, Debug, PartialEq, Eq, PartialOrd, Ord, Hash)]
+#[derive(Clone, Copy, PartialEq, Eq, PartialOrd, Ord, Hash)]
 pub struct Timestamp {
     place: u64,
 }
@@ -87,8 +93,6 @@ impl Timestamp {
     /// The signed number.
     pub fn raw(self) -> i64
         ensures number { result ≡ raw_of self }
-        // Each timestamp is one of 2^64.
-        ensures within { self < 2 ^ 64 }
     {
         if self.place < 1 << 63 {
             self.place as i64 + i64::MIN
@@ -143,5 +147,60 @@ impl Timestamp {
                 place: self.place.saturating_add(by).min(Timestamp::MAX.place),
             }
         }
+    }
+
+    /// The timestamp that a packet may carry which a text spells, as its number in the range, `PreStream` or
+    /// `PostStream`. A number has no zero before its digits, and 0 no sign.
+    pub fn read_text(text: &[u8]) -> Option<Timestamp>
+        ensures read { (t : ℕ) → (result ≡ Some t) ↔ Spells text.now t }
+        ensures none { IsNone result ↔ ((t : ℕ) → ¬ (Spells text.now t)) }
+    {
+        if text == b"PreStream".as_slice() {
+            Some(Timestamp::PRE_STREAM)
+        } else if text == b"PostStream".as_slice() {
+            Some(Timestamp::POST_STREAM)
+        } else {
+            Timestamp::of_range(number_of(text)?)
+        }
+    }
+
+    /// The number of a timestamp of the range, and the name of every other.
+    pub fn print_text(self, alloc: Global) -> Result<Vec<u8>, AllocError>
+        ensures { IfOk result (λ text. text.items ≡ text_of self) }
+    {
+        let mut buffer = Buffer::new();
+        let text = match self {
+            Timestamp::UNSET => "Unset",
+            Timestamp::UNSTARTED => "Unstarted",
+            Timestamp::PRE_STREAM => "PreStream",
+            Timestamp::POST_STREAM => "PostStream",
+            Timestamp::ONE_OVER_POST_STREAM => "OneOverPostStream",
+            Timestamp::DONE => "Done",
+            _ => buffer.format(self.raw()),
+        };
+        Vec::from_slice(alloc, text.as_bytes())
+    }
+}
+
+impl fmt::Debug for Timestamp {
+    fn fmt<W: fmt::Write>(&self, f: &mut fmt::Formatter<W>) -> fmt::Result {
+        f.debug_tuple("Timestamp").field(&self.raw()).finish()
+    }
+}
+
+// The number that a text is the decimal text of.
+fn number_of(text: &[u8]) -> Option<i64>
+    ensures { (z : ℤ) → (result ≡ Some z) ↔ (FitsSigned w64 z × (text.now ≡ signed_decimal z)) }
+{
+    let Ok(digits) = str::from_utf8(text) else {
+        return None;
+    };
+    let Ok(number) = digits.parse::<i64>() else {
+        return None;
+    };
+    if Buffer::new().format(number).as_bytes() == text {
+        Some(number)
+    } else {
+        None
     }
 }

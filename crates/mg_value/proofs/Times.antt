@@ -1,7 +1,7 @@
--- Lists of times: membership, strictly ascending lists, and `ascending` of the definitions.
+-- Lists of times: membership, strictly ascending lists, and `in_order` of the definitions.
 use Rattle.std.proofs.Common.{◌≡◌, ℕ, zero, suc, ◌+◌, ◌<◌, ◌≤◌, Bool, true, false, ◌⊎◌, inl, inr, List, [], ◌∷◌, ◌++◌, map, take, drop, length, filter, ap₂, sym, refl, ◌∙◌, arith, eqb, eqb-true, eq-eqb, lt-ltb}
 use Rattle.std.proofs.lemmas.Bool.{cases_order, cases_Bool, ne_eqb, le-ltb}
-use Rattle.mg_value.specs.Settled.{with_time, ascending, is_among}
+use Rattle.mg_value.specs.Settled.{with_time, in_order, is_among}
 
 -- a time stands in a list
 abbrev pub In : ℕ → List ℕ → Type 0
@@ -50,7 +50,7 @@ first_members a b m (x ∷ xs) (y ∷ ys) rx ry f g =
     let back : (t : ℕ) → t < m → In t ys → In t xs = λ t below i. elim (g t below (inr i)) [ inl e ↦ (let above = Rises-least (y + 1) t ys ry.1 i in absurd (omega (arith, above, e, heads))) | inr j ↦ j ] in
     ap₂ (λ (h : ℕ) (rest : List ℕ). h ∷ rest) heads (first_members (x + 1) (y + 1) m xs ys rx.1 ry.1 there back)
 
--- where a time goes among ascending times
+-- where a time goes among in_order times
 with_time-cases : (t u : ℕ) (us : List ℕ) → ((t < u) × (with_time t (u ∷ us) ≡ t ∷ u ∷ us)) ⊎ (((t ≡ u) × (with_time t (u ∷ us) ≡ u ∷ us)) ⊎ ((u < t) × (with_time t (u ∷ us) ≡ u ∷ with_time t us)))
 with_time-cases t u us = elim (cases_order t u) [
   | inl same ↦ inr (inl (same, rw (le-ltb t u (omega (arith, same)), eq-eqb t u same) refl))
@@ -91,17 +91,17 @@ Rises-with_time a t (u ∷ us) le r = elim (with_time-cases t u us) [
   ]
 ]
 
-pub In-ascending_from : (v : ℕ) (ts : List ℕ) → In v (ascending ts) → In v ts
-In-ascending_from v [] i = i
-In-ascending_from v (t ∷ ts) i = elim (In-with_time_from v t (ascending ts) i) [ inl e ↦ inl e | inr j ↦ inr (In-ascending_from v ts j) ]
+pub In-in_order_from : (v : ℕ) (ts : List ℕ) → In v (in_order ts) → In v ts
+In-in_order_from v [] i = i
+In-in_order_from v (t ∷ ts) i = elim (In-with_time_from v t (in_order ts) i) [ inl e ↦ inl e | inr j ↦ inr (In-in_order_from v ts j) ]
 
-pub In-ascending_to : (v : ℕ) (ts : List ℕ) → In v ts → In v (ascending ts)
-In-ascending_to v [] i = i
-In-ascending_to v (t ∷ ts) i = In-with_time_to v t (ascending ts) (elim i [ inl e ↦ inl e | inr j ↦ inr (In-ascending_to v ts j) ])
+pub In-in_order_to : (v : ℕ) (ts : List ℕ) → In v ts → In v (in_order ts)
+In-in_order_to v [] i = i
+In-in_order_to v (t ∷ ts) i = In-with_time_to v t (in_order ts) (elim i [ inl e ↦ inl e | inr j ↦ inr (In-in_order_to v ts j) ])
 
-pub Rises-ascending : (ts : List ℕ) → Rises 0 (ascending ts)
-Rises-ascending [] = tt
-Rises-ascending (t ∷ ts) = Rises-with_time 0 t (ascending ts) (omega arith) (Rises-ascending ts)
+pub Rises-in_order : (ts : List ℕ) → Rises 0 (in_order ts)
+Rises-in_order [] = tt
+Rises-in_order (t ∷ ts) = Rises-with_time 0 t (in_order ts) (omega arith) (Rises-in_order ts)
 
 -- a filter keeps the members that pass
 pub In-filter_from : (p : ℕ → Bool) (t : ℕ) (ts : List ℕ) → In t (filter p ts) → (p t ≡ true) × In t ts
@@ -185,3 +185,12 @@ pub In-take : (t k : ℕ) (ts : List ℕ) → In t (take k ts) → In t ts
 In-take t zero ts i = absurd i
 In-take t (suc k) [] i = i
 In-take t (suc k) (u ∷ us) i = elim i [ inl e ↦ inl e | inr j ↦ inr (In-take t k us j) ]
+
+-- the first times of a rising list stand below the others
+pub take-below-drop : (a k u t : ℕ) (ts : List ℕ) → Rises a ts → In u (take k ts) → In t (drop k ts) → u < t
+take-below-drop a zero u t ts r i j = absurd i
+take-below-drop a (suc k) u t [] r i j = absurd i
+take-below-drop a (suc k) u t (v ∷ vs) r i j = elim i [
+  | inl e ↦ (let above = Rises-least (v + 1) t vs r.1 (In-drop t k vs j) in omega (arith, e, above))
+  | inr m ↦ take-below-drop (v + 1) k u t vs r.1 m j
+]

@@ -1,5 +1,12 @@
 pub mod Extension
+pub mod Json
+pub mod Kind
+pub mod Left
 pub mod Loopback
 pub mod Payload
+pub mod Plain
 pub mod Prefix
 pub mod Settled
+-- What the prover wants of the types beside their meaning. Nothing above rests on it.
+pub mod Codes
+pub mod PayloadFalls

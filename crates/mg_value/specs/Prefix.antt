@@ -33,7 +33,7 @@ pub record IsPrefix {X : Type 0} (s : StreamPrefix X) : Type 0 where
   pub opened : pre_stream ≤ s.bound
   pub within : s.bound ≤ done
   pub allowed : All (λ p. IsAllowed p.at) s.packets
-  pub ascending : Ascends s.packets s.bound
+  pub ascends : Ascends s.packets s.bound
   pub alone : StandsAlone s.packets
 
 -- a stream of which nothing is known yet
@@ -43,6 +43,22 @@ empty_prefix = record { packets = []; bound = pre_stream }
 -- the prefix with a further packet, whose time moves the bound to what may follow it
 abbrev pub appended : {X : Type 0} → StreamPrefix X → Stamped X → StreamPrefix X
 appended s p = record { packets = s.packets ++ p ∷ []; bound = next p.at }
+
+-- a packet may follow a prefix: its time is allowed and not below the bound, and at PostStream it is the first of all
+pub record MayFollow {X : Type 0} (s : StreamPrefix X) (p : Stamped X) : Type 0 where
+  pub allowed : IsAllowed p.at
+  pub above : s.bound ≤ p.at
+  pub alone : p.at ≡ post_stream → length s.packets ≡ 0
+
+-- the prefix with further packets, one behind the other
+abbrev pub all_appended : {X : Type 0} → StreamPrefix X → List (Stamped X) → StreamPrefix X
+all_appended s [] = s
+all_appended s (p ∷ ps) = all_appended (appended s p) ps
+
+-- some packets may follow a prefix, one behind the other
+abbrev pub MayAllFollow : {X : Type 0} → StreamPrefix X → List (Stamped X) → Type 0
+MayAllFollow s [] = Unit {0}
+MayAllFollow s (p ∷ ps) = MayFollow s p × MayAllFollow (appended s p) ps
 
 -- the prefix raised to a bound: the greater of the two bounds stands
 abbrev pub raised : {X : Type 0} → StreamPrefix X → ℕ → StreamPrefix X

@@ -14,9 +14,12 @@ pub struct InputSet {
 impl Model for InputSet {
     ghost use Rattle.std.specs.Prelude.{List, Option, ◌<◌, ◌^◌, vec_len};
     ghost use Rattle.mg_value.specs.Payload.{Plain};
+    ghost use Rattle.mg_value.specs.Codes.{set_code};
     ghost use Rattle.mg_value.specs.Prefix.{Stamped};
 
     ghost Value = { List (Option (Stamped Plain)) };
+
+    ghost coded = { set_code };
 
     ghost view = { λ s. s.places.items };
 

@@ -1,41 +1,55 @@
 //! Laws of the definitions of streams: each function does nothing, and its contract is the law.
-ghost use Rattle.std.specs.Prelude.{◌≡◌, ℕ, ◌<◌, ◌≤◌, ◌↔◌, List, map, take, drop, length, All, IsTrue, is_some};
-ghost use Rattle.std.specs.List.{list_any};
+ghost use Rattle.std.specs.Prelude.{◌≡◌, ℕ, ◌+◌, ◌-◌, ◌++◌, slice_index_or, ◌<◌, ◌≤◌, ◌↔◌, List, take, drop, length, replicate, All, IsTrue, is_some};
+ghost use Rattle.std.specs.List.{AllZip, list_any};
 ghost use Rattle.std.specs.List.Sorted.{IsStrictlyIncreasing};
-ghost use Rattle.mg_time.specs.Time.{IsAllowed, done, post_stream};
+ghost use Rattle.mg_time.specs.Time.{pre_stream, done};
 ghost use Rattle.mg_value.specs.Payload.{Plain};
-ghost use Rattle.mg_value.specs.Prefix.{Stamped, StreamPrefix, IsPrefix, empty_prefix, appended, raised, closed};
+ghost use Rattle.mg_value.specs.declared.policy.Policy.{Policy};
+ghost use Rattle.mg_value.specs.declared.policy.Policy.TheVariants.{Mux};
+ghost use Rattle.mg_value.specs.Prefix.{Stamped, StreamPrefix, IsPrefix, MayFollow, MayAllFollow, empty_prefix, appended, all_appended, raised, closed};
 ghost use Rattle.mg_value.specs.Extension.{IsExtendedBy, AreExtendedBy};
-ghost use Rattle.mg_value.specs.Loopback.{loopback};
-ghost use Rattle.mg_value.specs.Settled.{low, times_of, all_times, is_among, settled_times, settled_sets, after_sets};
+ghost use Rattle.mg_value.specs.Loopback.{loopback, replies};
+ghost use Rattle.mg_value.specs.Settled.{low, times_of, all_times, is_among, settled_times, settled_sets, reach, IsBelowBounds};
+ghost use Rattle.mg_value.specs.Left.{set_times, after_sets, without_first, HasLeadingPacket, AreGone};
 
-/// A prefix extends itself.
+/// A prefix is extended by itself.
 pub fn extension_is_reflexive()
-    ensures { (s : StreamPrefix Plain) → IsExtendedBy s s }
+    ensures one { (s : StreamPrefix Plain) → IsExtendedBy s s }
+    ensures list { (ss : List (StreamPrefix Plain)) → AreExtendedBy ss ss }
 {}
 
 /// What extends an extension extends the prefix.
 pub fn extension_is_transitive()
-    ensures { (s t u : StreamPrefix Plain) → IsExtendedBy s t → IsExtendedBy t u → IsExtendedBy s u }
+    ensures one { (s t u : StreamPrefix Plain) → IsExtendedBy s t → IsExtendedBy t u → IsExtendedBy s u }
+    ensures list { (ss tt uu : List (StreamPrefix Plain)) → AreExtendedBy ss tt → AreExtendedBy tt uu → AreExtendedBy ss uu }
 {}
 
 /// Prefixes that extend each other are equal.
 pub fn extension_is_antisymmetric()
-    ensures { (s t : StreamPrefix Plain) → IsExtendedBy s t → IsExtendedBy t s → s ≡ t }
+    ensures one { (s t : StreamPrefix Plain) → IsExtendedBy s t → IsExtendedBy t s → s ≡ t }
+    ensures list { (ss tt : List (StreamPrefix Plain)) → AreExtendedBy ss tt → AreExtendedBy tt ss → ss ≡ tt }
 {}
 
-/// Nothing, a packet that may follow, a higher bound and a close each make a prefix.
+/// A prefix whose stream has ended is extended by itself alone.
+pub fn an_ended_prefix_stays()
+    ensures one { (s t : StreamPrefix Plain) → s.bound ≡ done → IsPrefix t → IsExtendedBy s t → s ≡ t }
+    ensures list { (ss tt : List (StreamPrefix Plain)) → All (λ s. s.bound ≡ done) ss → All IsPrefix tt → AreExtendedBy ss tt → ss ≡ tt }
+{}
+
+/// Nothing, packets that may follow, a higher bound and a close each make a prefix.
 pub fn steps_make_prefixes()
     ensures empty { IsPrefix (empty_prefix {X = Plain}) }
-    ensures appended { (s : StreamPrefix Plain) (p : Stamped Plain) → IsPrefix s → IsAllowed p.at → s.bound ≤ p.at
-        → (p.at ≡ post_stream → length s.packets ≡ 0) → IsPrefix (appended s p) }
+    ensures appended { (s : StreamPrefix Plain) (p : Stamped Plain) → IsPrefix s → MayFollow s p → IsPrefix (appended s p) }
+    ensures all_appended { (s : StreamPrefix Plain) (ps : List (Stamped Plain)) → IsPrefix s → MayAllFollow s ps → IsPrefix (all_appended s ps) }
     ensures raised { (s : StreamPrefix Plain) (b : ℕ) → IsPrefix s → b ≤ done → IsPrefix (raised s b) }
     ensures closed { (s : StreamPrefix Plain) → IsPrefix s → IsPrefix (closed s) }
 {}
 
-/// Each of these steps extends the prefix.
+/// Each of these steps extends the prefix; packets go behind its own, in order.
 pub fn steps_extend()
-    ensures appended { (s : StreamPrefix Plain) (p : Stamped Plain) → IsAllowed p.at → s.bound ≤ p.at → IsExtendedBy s (appended s p) }
+    ensures appended { (s : StreamPrefix Plain) (p : Stamped Plain) → MayFollow s p → IsExtendedBy s (appended s p) }
+    ensures all_appended { (s : StreamPrefix Plain) (ps : List (Stamped Plain)) → MayAllFollow s ps → IsExtendedBy s (all_appended s ps) }
+    ensures behind { (s : StreamPrefix Plain) (ps : List (Stamped Plain)) → (all_appended s ps).packets ≡ s.packets ++ ps }
     ensures raised { (s : StreamPrefix Plain) (b : ℕ) → IsExtendedBy s (raised s b) }
     ensures closed { (s : StreamPrefix Plain) → IsPrefix s → IsExtendedBy s (closed s) }
 {}
@@ -46,28 +60,79 @@ pub fn times_ascend()
     ensures below { (s : StreamPrefix Plain) → IsPrefix s → All (λ p. p.at < s.bound) s.packets }
 {}
 
-/// The settled times are those at which a packet stands below the least bound.
+/// By default the settled times are those at which a packet stands below the least bound.
 pub fn settled_times_are_below_low()
     ensures { (ss : List (StreamPrefix Plain)) (t : ℕ)
         → IsTrue (is_among (settled_times ss) t) ↔ ((t < low ss) × IsTrue (is_among (all_times ss) t)) }
 {}
 
-/// The settled sets come at distinct times, ascending, each below the least bound, and none is empty.
+/// The settled sets come at distinct times, ascending, each below the bounds that its policy asks for and below the
+/// reach. Each has one place per port, and none is empty.
 pub fn settled_sets_ascend()
-    ensures ascend { (ss : List (StreamPrefix Plain)) → IsStrictlyIncreasing (map (λ e. e.at) (settled_sets ss)) }
-    ensures below { (ss : List (StreamPrefix Plain)) → All (λ e. e.at < low ss) (settled_sets ss) }
-    ensures shown { (ss : List (StreamPrefix Plain)) → All (λ e. IsTrue (list_any is_some e.set)) (settled_sets ss) }
+    ensures ascend { (policy : Policy) (ss : List (StreamPrefix Plain)) → All IsPrefix ss → IsStrictlyIncreasing (set_times policy ss) }
+    ensures bounds { (policy : Policy) (ss : List (StreamPrefix Plain)) → All IsPrefix ss → All (λ e. IsBelowBounds policy ss e.at) (settled_sets policy ss) }
+    ensures reach { (policy : Policy) (ss : List (StreamPrefix Plain)) → All IsPrefix ss → All (λ e. e.at < reach policy ss) (settled_sets policy ss) }
+    ensures places { (policy : Policy) (ss : List (StreamPrefix Plain)) → All (λ e. length e.set ≡ length ss) (settled_sets policy ss) }
+    ensures shown { (policy : Policy) (ss : List (StreamPrefix Plain)) → All (λ e. IsTrue (list_any is_some e.set)) (settled_sets policy ss) }
 {}
 
-/// Where prefixes are extended, their settled sets stay, and others come only behind them.
+/// Each settled set stands at the time of a packet of a port that leads, and each such packet below the reach has its set.
+pub fn settled_sets_are_of_leading_packets()
+    ensures of { (policy : Policy) (ss : List (StreamPrefix Plain)) → All (λ e. HasLeadingPacket policy ss e.at) (settled_sets policy ss) }
+    ensures all { (policy : Policy) (ss : List (StreamPrefix Plain)) (t : ℕ) → All IsPrefix ss → HasLeadingPacket policy ss t → t < reach policy ss
+        → IsTrue (is_among (set_times policy ss) t) }
+{}
+
+/// Where prefixes are extended, their settled sets stay, and others come only behind them, at the reach or above; where
+/// the reach is the end of all times, none comes.
 pub fn settled_sets_stay()
-    ensures { (ss tt : List (StreamPrefix Plain)) → AreExtendedBy ss tt
-        → take (length (settled_sets ss)) (settled_sets tt) ≡ settled_sets ss }
+    ensures stay { (policy : Policy) (ss tt : List (StreamPrefix Plain)) → AreExtendedBy ss tt
+        → take (length (settled_sets policy ss)) (settled_sets policy tt) ≡ settled_sets policy ss }
+    ensures further { (policy : Policy) (ss tt : List (StreamPrefix Plain)) → All IsPrefix tt → AreExtendedBy ss tt
+        → All (λ e. reach policy ss ≤ e.at) (drop (length (settled_sets policy ss)) (settled_sets policy tt)) }
+    ensures end { (policy : Policy) (ss tt : List (StreamPrefix Plain)) → All IsPrefix tt → AreExtendedBy ss tt → reach policy ss ≡ done
+        → settled_sets policy tt ≡ settled_sets policy ss }
 {}
 
-/// When the first settled sets are gone, the others are the settled sets of what is left.
+/// The reach is a bound, and never falls where prefixes are extended.
+pub fn the_reach_rises()
+    ensures opened { (policy : Policy) (ss : List (StreamPrefix Plain)) → All IsPrefix ss → pre_stream ≤ reach policy ss }
+    ensures within { (policy : Policy) (ss : List (StreamPrefix Plain)) → All IsPrefix ss → reach policy ss ≤ done }
+    ensures rises { (policy : Policy) (ss tt : List (StreamPrefix Plain)) → All IsPrefix tt → AreExtendedBy ss tt
+        → reach policy ss ≤ reach policy tt }
+{}
+
+/// When the first settled sets are claimed, the others are the settled sets of what is left, and the reach stays.
 pub fn after_sets_leaves_the_others()
-    ensures { (k : ℕ) (ss : List (StreamPrefix Plain)) → settled_sets (after_sets k ss) ≡ drop k (settled_sets ss) }
+    ensures sets { (policy : Policy) (k : ℕ) (ss : List (StreamPrefix Plain)) → All IsPrefix ss
+        → settled_sets policy (after_sets policy k ss) ≡ drop k (settled_sets policy ss) }
+    ensures reach { (policy : Policy) (k : ℕ) (ss : List (StreamPrefix Plain)) → All IsPrefix ss
+        → reach policy (after_sets policy k ss) ≡ reach policy ss }
+{}
+
+/// The same where only the numbers of packets are known that are gone.
+pub fn what_is_left_has_the_others()
+    ensures sets { (policy : Policy) (k : ℕ) (ss : List (StreamPrefix Plain)) (gone : List ℕ) → All IsPrefix ss → AreGone policy k ss gone
+        → settled_sets policy (without_first gone ss) ≡ drop k (settled_sets policy ss) }
+    ensures reach { (policy : Policy) (k : ℕ) (ss : List (StreamPrefix Plain)) (gone : List ℕ) → All IsPrefix ss → AreGone policy k ss gone
+        → reach policy (without_first gone ss) ≡ reach policy ss }
+{}
+
+/// The numbers of packets that are gone: none at first; the same where prefixes are extended; and with a further claim
+/// those that leave what is left without its first set.
+pub fn what_is_gone_is_kept()
+    ensures none { (policy : Policy) (ss : List (StreamPrefix Plain)) → AreGone policy 0 ss (replicate (length ss) 0) }
+    ensures extended { (policy : Policy) (k : ℕ) (ss tt : List (StreamPrefix Plain)) (gone : List ℕ) → All IsPrefix ss → AreExtendedBy ss tt
+        → AreGone policy k ss gone → AreGone policy k tt gone }
+    ensures claimed { (policy : Policy) (k : ℕ) (ss : List (StreamPrefix Plain)) (gone more : List ℕ) → All IsPrefix ss → AreGone policy k ss gone
+        → k < length (settled_sets policy ss) → AllZip (λ s n. n ≤ length s.packets) ss more
+        → without_first more ss ≡ after_sets policy 1 (without_first gone ss) → AreGone policy (k + 1) ss more }
+{}
+
+/// Under Mux as many packets of SELECT are gone as sets are claimed.
+pub fn a_set_takes_a_packet_of_select()
+    ensures { (k : ℕ) (ss : List (StreamPrefix Plain)) (gone : List ℕ) → All IsPrefix ss → AreGone Mux k ss gone
+        → slice_index_or gone (length ss - 1) 0 ≡ k }
 {}
 
 /// The loopback's output stream is a prefix.
@@ -79,4 +144,14 @@ pub fn loopback_is_a_prefix()
 pub fn loopback_follows_its_inputs()
     ensures { (main wider loop more : StreamPrefix Plain) → IsPrefix wider → IsExtendedBy main wider → IsExtendedBy loop more
         → IsExtendedBy (loopback main loop) (loopback wider more) }
+{}
+
+/// The loopback's answers: at most one per packet of MAIN. Where the inputs are extended they stay, and others come only
+/// behind them; and where LOOP alone is extended and as many are answered, the output stream stays.
+pub fn replies_stay()
+    ensures most { (main loop : StreamPrefix Plain) → length (replies main loop) ≤ length main.packets }
+    ensures stay { (main wider loop more : StreamPrefix Plain) → IsExtendedBy main wider → IsExtendedBy loop more
+        → take (length (replies main loop)) (replies wider more) ≡ replies main loop }
+    ensures same { (main loop more : StreamPrefix Plain) → IsExtendedBy loop more
+        → length (replies main more) ≡ length (replies main loop) → loopback main more ≡ loopback main loop }
 {}

@@ -1,22 +1,31 @@
 //! Values: texts, lists, payloads, packets and the prefixes of streams.
-//! Answers to the definitions of `specs/Payload.antt`, `specs/Prefix.antt`, `specs/Extension.antt`, `specs/Settled.antt`
-//! and `specs/Loopback.antt`.
+//! Answers to the definitions of `specs/Payload.antt`, `specs/Json.antt`, `specs/Kind.antt`, `specs/Prefix.antt`,
+//! `specs/Extension.antt`, `specs/Settled.antt`, `specs/Left.antt` and `specs/Loopback.antt`.
 #![tactic(auto)]
 
 mod input_set;
+mod json;
+mod kind;
 pub mod laws;
 mod list;
 mod packet;
 mod payload;
+mod payload_list;
+mod policy;
 mod prefix;
+mod record_list;
 mod text;
+mod value_fault;
 
 pub use input_set::InputSet;
+pub use json::{from_json, to_json};
+pub use kind::{Kind, has_kind};
 pub use list::List;
 pub use packet::{Packet, PacketList};
 pub use payload::Payload;
+pub use payload_list::PayloadList;
+pub use policy::Policy;
 pub use prefix::Prefix;
+pub use record_list::{Entry, RecordList};
 pub use text::MgText;
-
-#[cfg(test)]
-mod tests;
+pub use value_fault::ValueFault;

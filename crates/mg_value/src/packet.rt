@@ -17,8 +17,11 @@ impl Model for Packet {
     ghost use Rattle.std.specs.Arc.{arc_value};
     ghost use Rattle.mg_value.specs.Payload.{Plain, plain};
     ghost use Rattle.mg_value.specs.Prefix.{Stamped};
+    ghost use Rattle.mg_value.specs.Codes.{packet_code};
 
     ghost Value = { Stamped Plain };
+
+    ghost coded = { packet_code };
 
     ghost view = { λ p. record { at = p.at; value = plain (arc_value p.payload) } };
 }

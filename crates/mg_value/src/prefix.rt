@@ -13,8 +13,11 @@ pub struct Prefix {
 impl Model for Prefix {
     ghost use Rattle.mg_value.specs.Prefix.{StreamPrefix};
     ghost use Rattle.mg_value.specs.Payload.{Plain};
+    ghost use Rattle.mg_value.specs.Codes.{plain_prefix_code};
 
     ghost Value = { StreamPrefix Plain };
+
+    ghost coded = { plain_prefix_code };
 
     ghost view = { λ p. record { packets = p.packets; bound = p.bound } };
 }

@@ -2,4 +2,4 @@ use Rattle.mg_policy.proofs.Readinesses.{one_readiness}
 use Rattle.mg_policy.proofs.laws.one_readiness_fits.Goals as goal
 
 pub returns : goal.returns
-returns c = λ a b qs h k. one_readiness a b qs h k
+returns c = λ policy a b qs h k. one_readiness policy a b qs h k

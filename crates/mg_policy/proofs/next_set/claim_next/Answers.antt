@@ -16,8 +16,8 @@ returns-then-ge-clause-shown c =
     let is = IsLook-from c.args.queues.now look.result.earliest look.result.low look.ensures.earliest look.ensures.low look.ensures.rest in
     rw (next_none c.args.queues.now look.result.earliest look.result.low is above) tt
 
-pub returns-then-ge-clause-gone : goal.returns-then-ge-clause-gone
-returns-then-ge-clause-gone c =
+pub returns-then-ge-clause-taken : goal.returns-then-ge-clause-taken
+returns-then-ge-clause-taken c =
     let look = c.look_at-look in
     let above : look.result.low ≤ look.result.earliest = search rules in
     let is = IsLook-from c.args.queues.now look.result.earliest look.result.low look.ensures.earliest look.ensures.low look.ensures.rest in
@@ -44,8 +44,8 @@ returns-clause-shown c =
     let is = IsLook-from c.args.queues.now look.result.earliest look.result.low look.ensures.earliest look.ensures.low look.ensures.rest in
     rw (look_some c.args.queues.now look.result.earliest look.result.low is below) (c.take_at.ensures.set ∙ claim_shown c.args.queues.now look.result.earliest look.result.low is below)
 
-pub returns-clause-gone : goal.returns-clause-gone
-returns-clause-gone c =
+pub returns-clause-taken : goal.returns-clause-taken
+returns-clause-taken c =
     let look = c.look_at-look in
     let below : look.result.earliest < look.result.low = search rules in
     let is = IsLook-from c.args.queues.now look.result.earliest look.result.low look.ensures.earliest look.ensures.low look.ensures.rest in

@@ -1,5 +1,8 @@
-use Rattle.mg_value.proofs.AfterSets.{settled_sets-after_sets}
+use Rattle.mg_value.proofs.AfterSets.{sets-after, reach-after}
 use Rattle.mg_value.proofs.laws.after_sets_leaves_the_others.Goals as goal
 
-pub returns : goal.returns
-returns c = λ k ss. settled_sets-after_sets k ss
+pub returns-clause-sets : goal.returns-clause-sets
+returns-clause-sets c = λ policy k ss h. sets-after policy k ss h
+
+pub returns-clause-reach : goal.returns-clause-reach
+returns-clause-reach c = λ policy k ss h. reach-after policy k ss h

@@ -1,14 +1,19 @@
-use Rattle.std.proofs.Common.{IsTrue, ◌<◌, is_some}
-use Rattle.std.specs.List.{list_any}
-use Rattle.mg_value.specs.Settled.{low, settled_times}
-use Rattle.mg_value.proofs.SettledSets.{settled_from, settled_rises, times_of_sets, All-sets, set_at-shows, Rises-increasing}
+use Rattle.mg_value.specs.Left.{set_times}
+use Rattle.mg_value.proofs.SettledTimes.{Rises-increasing}
+use Rattle.mg_value.proofs.PolicySets.{times-rise, below-bounds, below-reach, sets-places, sets-shown}
 use Rattle.mg_value.proofs.laws.settled_sets_ascend.Goals as goal
 
 pub returns-clause-ascend : goal.returns-clause-ascend
-returns-clause-ascend c = λ ss. rw (times_of_sets ss) (Rises-increasing 0 (settled_times ss) (settled_rises ss))
+returns-clause-ascend c = λ policy ss h. Rises-increasing 0 (set_times policy ss) (times-rise policy ss h)
 
-pub returns-clause-below : goal.returns-clause-below
-returns-clause-below c = λ ss. All-sets (λ e. e.at < low ss) ss (λ t i. (settled_from ss t i).0)
+pub returns-clause-bounds : goal.returns-clause-bounds
+returns-clause-bounds c = λ policy ss h. below-bounds policy ss h
+
+pub returns-clause-reach : goal.returns-clause-reach
+returns-clause-reach c = λ policy ss h. below-reach policy ss h
+
+pub returns-clause-places : goal.returns-clause-places
+returns-clause-places c = λ policy ss. sets-places policy ss
 
 pub returns-clause-shown : goal.returns-clause-shown
-returns-clause-shown c = λ ss. All-sets (λ e. IsTrue (list_any is_some e.set)) ss (λ t i. set_at-shows t ss (settled_from ss t i).1)
+returns-clause-shown c = λ policy ss. sets-shown policy ss

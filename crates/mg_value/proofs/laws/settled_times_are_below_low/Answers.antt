@@ -1,5 +1,5 @@
 use Rattle.mg_value.proofs.Times.{In-is_among, is_among-In}
-use Rattle.mg_value.proofs.SettledSets.{settled_from, settled_to}
+use Rattle.mg_value.proofs.SettledTimes.{settled_from, settled_to}
 use Rattle.mg_value.proofs.laws.settled_times_are_below_low.Goals as goal
 
 pub returns : goal.returns

@@ -2,7 +2,8 @@ use Rattle.std.proofs.Common.{◌≡◌, length, arith}
 use Rattle.std.proofs.lemmas.List.Elements.{All-push}
 use Rattle.mg_value.specs.Payload.{Plain}
 use Rattle.mg_stream.specs.Queue.{Waiting, IsLike, empty_queue}
-use Rattle.mg_policy.proofs.Claims.{fresh_stands}
+use Rattle.mg_value.specs.declared.policy.Policy.TheVariants.{Default}
+use Rattle.mg_policy.proofs.Standing.{fresh_stands}
 use Rattle.mg_policy.proofs.inbox.Inbox.new.Goals as goal
 
 pub loop-preserved : goal.loop-preserved
@@ -14,4 +15,4 @@ loop-preserved c = record {
 pub returns-clause-stand : goal.returns-clause-stand
 returns-clause-stand c =
     let count : length c.loop.queues.items ≡ c.args.ports = omega arith in
-    fresh_stands c.args.ports c.loop.queues.items count c.loop.invariant.empty
+    fresh_stands Default c.args.ports c.loop.queues.items count c.loop.invariant.empty

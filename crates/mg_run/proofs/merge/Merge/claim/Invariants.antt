@@ -1,6 +1,7 @@
 use Rattle.std.proofs.Common.{◌≡◌, ◌++◌, length, ℕ, List}
 use Rattle.mg_value.specs.Payload.{Plain}
 use Rattle.mg_value.specs.Prefix.{StreamPrefix}
+use Rattle.mg_value.specs.declared.policy.Policy.TheVariants.{Default}
 use Rattle.mg_value.specs.Settled.{settled_sets}
 use Rattle.mg_policy.specs.Inbox.{rests, StandAfter}
 use Rattle.mg_run.specs.Output.{sets_text}
@@ -11,9 +12,9 @@ abbrev pub invariant-loop-self : goal.invariant-loop-self
 invariant-loop-self l = record {
   inputs : length l.self.inbox ≡ length l.fn.self.inbox;
   places : length l.self.set ≡ length l.self.inbox;
-  text : l.text.items ++ sets_text (settled_sets (rests l.self.inbox)) ≡ l.fn.text.items ++ sets_text (settled_sets (rests l.fn.self.inbox));
-  stand : (k : ℕ) (ss : List (StreamPrefix Plain)) → StandAfter k l.fn.self.inbox ss → (j : ℕ) × StandAfter j l.self.inbox ss;
+  text : l.text.items ++ sets_text (settled_sets Default (rests l.self.inbox)) ≡ l.fn.text.items ++ sets_text (settled_sets Default (rests l.fn.self.inbox));
+  stand : (k : ℕ) (ss : List (StreamPrefix Plain)) → StandAfter Default k l.fn.self.inbox ss → (j : ℕ) × StandAfter Default j l.self.inbox ss;
 }
 
 abbrev pub decreases-loop-self : goal.decreases-loop-self
-decreases-loop-self l = length (settled_sets (rests l.self.inbox))
+decreases-loop-self l = length (settled_sets Default (rests l.self.inbox))

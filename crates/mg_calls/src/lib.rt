@@ -1,0 +1,26 @@
+//! The tests of single calls, a module for each crate that is tried. There is nothing else here, so that no other
+//! crate is proved a second time with its tests.
+#![tactic(auto)]
+
+#[cfg(test)]
+mod config;
+#[cfg(test)]
+mod config_written;
+#[cfg(test)]
+mod edge;
+#[cfg(test)]
+mod names;
+#[cfg(test)]
+mod packets;
+#[cfg(test)]
+mod payload;
+#[cfg(test)]
+mod policy;
+#[cfg(test)]
+mod stream;
+#[cfg(test)]
+mod text;
+#[cfg(test)]
+mod time;
+#[cfg(test)]
+mod value;

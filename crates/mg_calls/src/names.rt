@@ -1,0 +1,395 @@
+//! Ports: their spellings, the ports of lists of texts, and the texts of ports.
+
+use mg_names::{
+    NameFault, PlacedFault, Port, PortMap, print_port, print_tag_index, read_port, read_tag_index,
+};
+use mg_value::MgText;
+use std::alloc::{AllocError, Global};
+use std::process::Abort;
+use std::test::Fail;
+
+// One text a row, and after `=` its tag, its index or `-`, and its name, or the fault.
+fn spellings() -> &'static str {
+    "a=|-|a
+_=|-|_
+z9_=|-|z9_
+__0=|-|__0
+A:a=A|-|a
+_:_=_|-|_
+Z_9:x=Z_9|-|x
+_9:x=_9|-|x
+A:0:a=A|0|a
+A:9:a=A|9|a
+A:10:a=A|10|a
+A:63:a=A|63|a
+INPUT:1:x=INPUT|1|x
+=BadName
+A=BadName
+aB=BadName
+9a=BadName
+a b=BadName
+ a=BadName
+a-b=BadName
+A:=BadName
+A:B=BadName
+A:1:B=BadName
+A:1:=BadName
+A:1:a:=BadName
+A:1:a:b=BadName
+a:x:B:c=BadName
+:::=BadName
+:=BadTag
+:a=BadTag
+::a=BadTag
+a:b=BadTag
+In:x=BadTag
+9:a=BadTag
+A :a=BadTag
+a:99:B=BadTag
+a:B=BadTag
+A::a=BadIndex
+A:00:a=BadIndex
+A:01:a=BadIndex
+A:64:a=BadIndex
+A:99:a=BadIndex
+A:100:a=BadIndex
+A:-1:a=BadIndex
+A:+1:a=BadIndex
+A:1 :a=BadIndex
+A:x:a=BadIndex
+A:6a:a=BadIndex
+A:64:B=BadIndex
+A::=BadIndex"
+}
+
+// The texts of a row have blanks between them, and after `=` stand the ports, or the fault.
+fn lists() -> &'static str {
+    "a T:b c=|0|a T|0|b |1|c 
+T:1:a T:0:b=T|1|a T|0|b 
+T:a T:1:b T:2:c=T|0|a T|1|b T|2|c 
+A:x B:x x=A|0|x B|0|x |0|x 
+U:2:c a U:0:a V:b U:1:b=U|2|c |0|a U|0|a V|0|b U|1|b 
+T:0:a T:2:b=Gap
+T:1:a=Gap
+T:1:a T:2:b=Gap
+T:63:a=Gap
+A:0:a B:1:b=Gap
+T:a T:b=Twice
+T:a T:0:b=Twice
+T:5:a T:5:b=Twice
+U:7:x T:a T:b=Twice
+T:a T:b c:d=BadTag
+T:1:a T:64:b=BadIndex
+T:1:a T:1:a T:1:a:a=BadName
+A:64:a a:b=BadIndex
+a:b A:64:a=BadTag"
+}
+
+// A tag, an index, and the place of that port, if there is one: of 64 texts without tags, of 64 with the tag T whose
+// indexes fall, and of none.
+fn places_of_untagged() -> &'static str {
+    " 0=0
+ 63=63
+ 64=-
+T 0=-"
+}
+
+fn places_of_falling() -> &'static str {
+    "T 63=0
+T 0=63
+T 64=-
+ 0=-
+U 0=-"
+}
+
+fn places_of_none() -> &'static str {
+    " 0=-"
+}
+
+// A tag, an index, and the text of the port of that tag and index with the name `b`.
+fn ports() -> &'static str {
+    " 7=b
+T 0=T:b
+T 1=T:1:b
+T 63=T:63:b
+T 255=T:255:b"
+}
+
+fn messages() -> &'static str {
+    "1 the name of a port is faulty
+2 the tag of a port is faulty
+3 the index of a port is faulty
+4 the indexes of a tag have a gap
+5 a tag and index stand twice
+6 out of memory"
+}
+
+fn show_spelling(alloc: Global, text: &str) -> Result<String, AllocError> {
+    match read_port(alloc, text.as_bytes()) {
+        Err(fault) => format!(in alloc; "{fault:?}"),
+        Ok(port) => match port.index {
+            None => format!(in alloc; "{}|-|{}", port.tag.as_str(), port.name.as_str()),
+            Some(index) => format!(in alloc;
+                "{}|{index}|{}",
+                port.tag.as_str(),
+                port.name.as_str()
+            ),
+        },
+    }
+}
+
+fn assert_spelling(rt: &impl Abort, alloc: Global, row: &str) -> Result<(), Fail> {
+    let (text, wanted) = row.split_once('=').ok_or("no `=`")?;
+    let shown = show_spelling(alloc, text)?;
+    assert!(rt; shown.as_str() == wanted, "{row}: {shown}");
+    Ok(())
+}
+
+#[test]
+fn spellings_of_texts(rt: HostRuntime) -> Result<(), Fail> {
+    for row in spellings().split('\n') {
+        assert_spelling(&rt, rt.alloc(), row)?;
+    }
+    Ok(())
+}
+
+fn show_port(shown: &mut String, port: &Port) -> Result<(), AllocError> {
+    shown.push_str(port.tag.as_str())?;
+    write!(shown, "|{}|", port.index)?;
+    shown.push_str(port.name.as_str())?;
+    shown.push_str(" ")
+}
+
+fn show_ports(alloc: Global, map: &PortMap) -> Result<String, AllocError> {
+    let mut shown = String::new(alloc);
+    for i in 0..map.len() {
+        if let Some(port) = map.get(i) {
+            show_port(&mut shown, port)?;
+        }
+    }
+    Ok(shown)
+}
+
+fn show_list(alloc: Global, texts: &[MgText]) -> Result<String, AllocError> {
+    match PortMap::read(alloc, texts) {
+        Ok(map) => show_ports(alloc, &map),
+        Err(fault) => format!(in alloc; "{fault:?}"),
+    }
+}
+
+fn texts_of(alloc: Global, spelled: &str) -> Result<Vec<MgText>, AllocError> {
+    let mut texts = Vec::new(alloc);
+    for text in spelled.split(' ') {
+        texts.push(MgText::new(alloc, text)?)?;
+    }
+    Ok(texts)
+}
+
+fn assert_list(rt: &impl Abort, alloc: Global, row: &str) -> Result<(), Fail> {
+    let (spelled, wanted) = row.split_once('=').ok_or("no `=`")?;
+    let texts = texts_of(alloc, spelled)?;
+    let shown = show_list(alloc, texts.as_slice())?;
+    assert!(rt; shown.as_str() == wanted, "{row}: {shown}");
+    Ok(())
+}
+
+// So many copies of `a`, and then another text.
+fn untagged_and(alloc: Global, count: u32, last: &str) -> Result<String, AllocError> {
+    let mut spelled = String::new(alloc);
+    for _ in 0..count {
+        spelled.push_str("a ")?;
+    }
+    spelled.push_str(last)?;
+    Ok(spelled)
+}
+
+#[test]
+fn ports_of_lists(rt: HostRuntime) -> Result<(), Fail> {
+    let alloc = rt.alloc();
+    for row in lists().split('\n') {
+        assert_list(&rt, alloc, row)?;
+    }
+    // The 65th untagged port has no index, whatever its name.
+    for last in ["a=BadIndex", "A=BadIndex"] {
+        assert_list(&rt, alloc, untagged_and(alloc, 64, last)?.as_str())?;
+    }
+    Ok(())
+}
+
+fn falling(alloc: Global, count: u8) -> Result<Vec<MgText>, AllocError> {
+    let mut texts = Vec::new(alloc);
+    for index in (0..count).rev() {
+        let text = format!(in alloc; "T:{index}:a")?;
+        texts.push(MgText::from_string(text))?;
+    }
+    Ok(texts)
+}
+
+fn show_place(alloc: Global, map: &PortMap, tag: &str, index: u8) -> Result<String, AllocError> {
+    match map.find(tag.as_bytes(), index) {
+        None => String::from_str(alloc, "-"),
+        Some(place) => format!(in alloc; "{place}"),
+    }
+}
+
+fn assert_places(rt: &impl Abort, alloc: Global, map: &PortMap, rows: &str) -> Result<(), Fail> {
+    for row in rows.split('\n') {
+        let (port, wanted) = row.split_once('=').ok_or("no `=`")?;
+        let (tag, index) = port.split_once(' ').ok_or("no index")?;
+        let shown = show_place(alloc, map, tag, index.parse::<u8>()?)?;
+        assert!(rt; shown.as_str() == wanted, "{row}: {shown}");
+    }
+    Ok(())
+}
+
+fn assert_read_places(
+    rt: &impl Abort,
+    alloc: Global,
+    texts: &[MgText],
+    rows: &str,
+) -> Result<(), Fail> {
+    assert_places(rt, alloc, &PortMap::read(alloc, texts)?, rows)
+}
+
+#[test]
+fn places_of_ports(rt: HostRuntime) -> Result<(), Fail> {
+    let alloc = rt.alloc();
+    let untagged = texts_of(alloc, untagged_and(alloc, 63, "a")?.as_str())?;
+    assert_read_places(&rt, alloc, untagged.as_slice(), places_of_untagged())?;
+    let falling = falling(alloc, 64)?;
+    assert_read_places(&rt, alloc, falling.as_slice(), places_of_falling())?;
+    assert_places(&rt, alloc, &PortMap::new(alloc), places_of_none())
+}
+
+fn show_text(alloc: Global, tag: &str, index: u8) -> Result<MgText, AllocError> {
+    let port = Port {
+        tag: MgText::new(alloc, tag)?,
+        index,
+        name: MgText::new(alloc, "b")?,
+    };
+    print_port(alloc, &port)
+}
+
+fn assert_text(rt: &impl Abort, alloc: Global, row: &str) -> Result<(), Fail> {
+    let (port, wanted) = row.split_once('=').ok_or("no `=`")?;
+    let (tag, index) = port.split_once(' ').ok_or("no index")?;
+    let text = show_text(alloc, tag, index.parse::<u8>()?)?;
+    assert!(rt; text.as_str() == wanted, "{row}");
+    Ok(())
+}
+
+#[test]
+fn texts_of_ports(rt: HostRuntime) -> Result<(), Fail> {
+    for row in ports().split('\n') {
+        assert_text(&rt, rt.alloc(), row)?;
+    }
+    Ok(())
+}
+
+fn show_fault(alloc: Global, fault: NameFault) -> Result<String, AllocError> {
+    format!(in alloc; "{} {fault}", fault as u8)
+}
+
+#[test]
+fn numbers_and_messages(rt: HostRuntime) -> Result<(), Fail> {
+    let faults = [
+        NameFault::BadName,
+        NameFault::BadTag,
+        NameFault::BadIndex,
+        NameFault::Gap,
+        NameFault::Twice,
+        NameFault::OutOfMemory,
+    ];
+    for (fault, wanted) in faults.iter().zip(messages().split('\n')) {
+        let shown = show_fault(rt.alloc(), *fault)?;
+        assert!(rt; shown.as_str() == wanted, "{shown}");
+    }
+    Ok(())
+}
+
+// The same, where a refusal has the place of its text.
+fn placed_lists() -> &'static str {
+    "a T:b c=|0|a T|0|b |1|c 
+=0 BadName
+a:b A:64:a=0 BadTag
+a b A:64:a a:b=2 BadIndex
+T:a T:b c:d=2 BadTag
+T:1:a T:1:a T:1:a:a=2 BadName
+T:a T:b=Twice
+T:5:a T:5:b=Twice
+T:0:a T:2:b=Gap"
+}
+
+fn show_placed(alloc: Global, texts: &[MgText]) -> Result<String, AllocError> {
+    match PortMap::read_placed(alloc, texts) {
+        Ok(map) => show_ports(alloc, &map),
+        Err(PlacedFault::At { place, cause }) => format!(in alloc; "{place} {cause:?}"),
+        Err(PlacedFault::Whole { cause }) => format!(in alloc; "{cause:?}"),
+        Err(PlacedFault::OutOfMemory) => format!(in alloc; "OutOfMemory"),
+    }
+}
+
+fn assert_placed(rt: &impl Abort, alloc: Global, row: &str) -> Result<(), Fail> {
+    let (spelled, wanted) = row.split_once('=').ok_or("no `=`")?;
+    let texts = texts_of(alloc, spelled)?;
+    let shown = show_placed(alloc, texts.as_slice())?;
+    assert!(rt; shown.as_str() == wanted, "{row}: {shown}");
+    Ok(())
+}
+
+#[test]
+fn places_of_refused_texts(rt: HostRuntime) -> Result<(), Fail> {
+    for row in placed_lists().split('\n') {
+        assert_placed(&rt, rt.alloc(), row)?;
+    }
+    Ok(())
+}
+
+// One text a row, and after `=` its tag, its index and the text that these are written as, or the fault.
+fn tag_indexes() -> &'static str {
+    "A=A|0|A
+A:0=A|0|A
+_Z9:7=_Z9|7|_Z9:7
+A:63=A|63|A:63
+:0=|0|:0
+:63=|63|:63
+=BadTag
+a=BadTag
+9=BadTag
+a:1=BadTag
+a:64=BadTag
+:=BadIndex
+A:=BadIndex
+A:01=BadIndex
+A:64=BadIndex
+:x=BadIndex
+::=BadName
+A:1:b=BadName
+:1:b=BadName
+a:64:B=BadName"
+}
+
+fn show_tag_index(alloc: Global, text: &str) -> Result<String, AllocError> {
+    match read_tag_index(alloc, text.as_bytes()) {
+        Ok((tag, index)) => {
+            let text = print_tag_index(alloc, &tag, index)?;
+            format!(in alloc; "{}|{index}|{}", tag.as_str(), text.as_str())
+        }
+        Err(fault) => format!(in alloc; "{fault:?}"),
+    }
+}
+
+fn assert_tag_index(rt: &impl Abort, alloc: Global, row: &str) -> Result<(), Fail> {
+    let (text, wanted) = row.split_once('=').ok_or("no `=`")?;
+    let shown = show_tag_index(alloc, text)?;
+    assert!(rt; shown.as_str() == wanted, "{row}: {shown}");
+    Ok(())
+}
+
+#[test]
+fn tags_and_indexes(rt: HostRuntime) -> Result<(), Fail> {
+    for row in tag_indexes().split('\n') {
+        assert_tag_index(&rt, rt.alloc(), row)?;
+    }
+    Ok(())
+}

@@ -1,0 +1,69 @@
+-- Plain payloads: what a payload says, as a tree. A record's entries stand in the order of their keys.
+use Rattle.std.specs.Prelude.{ℕ, suc, ℤ, Bool, max, List, [], ◌∷◌, FitsSigned}
+use Rattle.std.specs.Int.{w64}
+
+mutual
+  -- a truth value, a whole number, a text by its bytes, a list, or a record
+  pub data Plain : Type 0 where
+    flag : Bool → Plain
+    int : ℤ → Plain
+    text : List ℕ → Plain
+    items : Items → Plain
+    entries : Entries → Plain
+
+  pub data Items : Type 0 where
+    no_items : Items
+    item : Plain → Items → Items
+
+  pub data Entries : Type 0 where
+    no_entries : Entries
+    entry : List ℕ → Plain → Entries → Entries
+
+-- an entry of a record
+pub record PlainEntry : Type 0 where
+  pub key : List ℕ
+  pub value : Plain
+
+-- the items of a list
+abbrev pub items_of : List Plain → Items
+items_of [] = no_items
+items_of (p ∷ ps) = item p (items_of ps)
+
+-- the entries of a list
+abbrev pub entries_of : List PlainEntry → Entries
+entries_of [] = no_entries
+entries_of (e ∷ es) = entry e.key e.value (entries_of es)
+
+-- how deep lists and records nest
+abbrev mutual
+  pub depth : Plain → ℕ
+  depth (flag b) = 0
+  depth (int n) = 0
+  depth (text s) = 0
+  depth (items is) = suc (items_depth is)
+  depth (entries es) = suc (entries_depth es)
+
+  pub items_depth : Items → ℕ
+  items_depth no_items = 0
+  items_depth (item p ps) = max (depth p) (items_depth ps)
+
+  pub entries_depth : Entries → ℕ
+  entries_depth no_entries = 0
+  entries_depth (entry k p es) = max (depth p) (entries_depth es)
+
+-- its whole numbers have 64 signed bits
+abbrev mutual
+  pub NumbersFit : Plain → Type 0
+  NumbersFit (flag b) = Unit {0}
+  NumbersFit (int n) = FitsSigned w64 n
+  NumbersFit (text s) = Unit {0}
+  NumbersFit (items is) = ItemsFit is
+  NumbersFit (entries es) = EntriesFit es
+
+  pub ItemsFit : Items → Type 0
+  ItemsFit no_items = Unit {0}
+  ItemsFit (item p ps) = NumbersFit p × ItemsFit ps
+
+  pub EntriesFit : Entries → Type 0
+  EntriesFit no_entries = Unit {0}
+  EntriesFit (entry k p es) = NumbersFit p × EntriesFit es

@@ -1,0 +1,41 @@
+ghost use Rattle.std.specs.Prelude.{◌≡◌};
+ghost use Rattle.mg_value.specs.declared.value_fault.ValueFault.TheVariants.{OutOfMemory};
+
+use std::alloc::{AllocError, AllocFailed};
+use thiserror::Error;
+
+/// Why a JSON value is no payload.
+#[derive(Clone, Copy, Debug, PartialEq, Eq, Error)]
+pub enum ValueFault {
+    /// A number isn't whole, is `-0`, or has an exponent.
+    #[error("a number isn't a whole number of 64 signed bits")]
+    Fraction = 1,
+    /// A `null`.
+    #[error("null is no value")]
+    Null = 2,
+    /// A list or a record lies inside 16 others.
+    #[error("lists and records are more than 16 deep")]
+    TooDeep = 4,
+    /// A whole number of 2^63 or more.
+    #[error("a whole number is more than 9223372036854775807")]
+    TooWide = 5,
+    /// Want of memory.
+    #[error("out of memory")]
+    OutOfMemory = 6,
+}
+
+impl From<AllocError> for ValueFault {
+    ghost from_gives = { λ _ e. e ≡ OutOfMemory };
+
+    fn from(_error: AllocError) -> ValueFault {
+        ValueFault::OutOfMemory
+    }
+}
+
+impl<T: Drop> From<AllocFailed<T>> for ValueFault {
+    ghost from_gives = { λ _ e. e ≡ OutOfMemory };
+
+    fn from(_error: AllocFailed<T>) -> ValueFault {
+        ValueFault::OutOfMemory
+    }
+}
