@@ -56,6 +56,13 @@ impl MemorySink {
         &self.taken
     }
 
+    /// How many writes there were. It stays at 2^64 - 1 once it is there.
+    pub fn writes(&self) -> u64
+        ensures { result ≡ self.now.writes }
+    {
+        self.writes
+    }
+
     /// How many writes failed. It stays at 2^64 - 1 once it is there.
     pub fn faults(&self) -> u64
         ensures { result ≡ self.now.faults }

@@ -63,6 +63,13 @@ impl MemoryStore {
         self.failing = Some(call);
     }
 
+    /// How many loads there were. It stays at 2^64 - 1 once it is there.
+    pub fn loads(&self) -> u64
+        ensures { result ≡ loads_made self.now }
+    {
+        self.loads
+    }
+
     /// How many loads failed. It stays at 2^64 - 1 once it is there.
     pub fn faults(&self) -> u64
         ensures { result ≡ store_faults self.now }

@@ -14,7 +14,17 @@ use std::alloc::{AllocError, Global};
 const ROOM: u64 = 1 << 20;
 
 /// The names of what the devices count.
-pub const COUNTS: [&str; 3] = ["load_faults", "reads", "ends"];
+pub const COUNTS: [&str; 9] = [
+    "loads",
+    "load_faults",
+    "reads",
+    "ends",
+    "read_faults",
+    "writes",
+    "write_faults",
+    "note_writes",
+    "note_faults",
+];
 
 /// What came of a call.
 #[derive(Drop)]
@@ -23,7 +33,7 @@ pub struct Outcome {
     pub notes: Vec<u8>,
     pub status: u8,
     /// What the devices counted, in the order of `COUNTS`.
-    pub counts: [u64; 3],
+    pub counts: [u64; 9],
     /// The name of the load that failed last.
     pub failed_name: Option<String>,
 }
@@ -60,11 +70,21 @@ impl Devices {
             &mut self.output,
             &mut self.notes,
         );
-        status as u8
+        status.number()
     }
 
     fn outcome(&self, alloc: Global, status: u8) -> Result<Outcome, AllocError> {
-        let counts = [self.store.faults(), self.input.reads(), self.input.ends()];
+        let counts = [
+            self.store.loads(),
+            self.store.faults(),
+            self.input.reads(),
+            self.input.ends(),
+            self.input.faults(),
+            self.output.writes(),
+            self.output.faults(),
+            self.notes.writes(),
+            self.notes.faults(),
+        ];
         let failed_name = match self.store.failed_name() {
             Some(name) => Some(String::from_str(alloc, name)?),
             None => None,

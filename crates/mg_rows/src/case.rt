@@ -5,7 +5,7 @@ use crate::choice::choice_of;
 use crate::member::{knows, text};
 use crate::report::{difference, wanted_of};
 use crate::text::{Texts, bytes_of};
-use anyhow::{Result, bail, ensure};
+use anyhow::{Result, ensure};
 use serde_json::Value;
 use std::alloc::Global;
 
@@ -46,25 +46,37 @@ pub enum Verdict {
 }
 
 /// Reads a line, keeps the text that it names, and makes the calls of its case. An error says why it is no line of a
-/// table.
+/// table. A line that says so of a text passes where that text is refused.
 pub fn judge(alloc: Global, texts: &mut Texts, line: &str) -> Result<Verdict> {
     let said = read(alloc, line)?;
-    if said.get("case").is_some() {
-        return judge_case(alloc, texts, &said);
+    let Some(refused) = text(&said, "refused")? else {
+        return act(alloc, texts, &said);
+    };
+    knows(&said, &["refused"])?;
+    let is_refused = match read(alloc, refused) {
+        Ok(said) => act(alloc, texts, &said).is_err(),
+        Err(_) => true,
+    };
+    ensure!(is_refused, "taken for a line of a table: {refused}");
+    Ok(Verdict::Passed)
+}
+
+// Does what a line says: a case's calls, or a text's naming.
+fn act(alloc: Global, texts: &mut Texts, said: &Value) -> Result<Verdict> {
+    if let Some(name) = text(said, "case")? {
+        knows(said, &KEYS)?;
+        return judge_case(alloc, texts, name, said);
     }
-    if let Some(refused) = text(&said, "refused")? {
-        knows(&said, &["refused"])?;
-        return judge_refused(alloc, texts, refused);
-    }
-    if let Some(name) = text(&said, "text")? {
-        name_text(alloc, texts, name, &said)?;
+    if let Some(name) = text(said, "text")? {
+        knows(said, &["text", "is"])?;
+        name_text(alloc, texts, name, said)?;
         return Ok(Verdict::Said);
     }
     ensure!(
-        text(&said, "section")?.is_some(),
+        text(said, "section")?.is_some(),
         "neither a case nor a text"
     );
-    knows(&said, &["section"])?;
+    knows(said, &["section"])?;
     Ok(Verdict::Said)
 }
 
@@ -80,18 +92,15 @@ fn read(alloc: Global, line: &str) -> Result<Value> {
 }
 
 fn name_text(alloc: Global, texts: &mut Texts, name: &str, said: &Value) -> Result<()> {
-    knows(said, &["text", "is"])?;
+    let is = said.get("is");
+    ensure!(is.is_some(), "{name:?} names nothing");
     ensure!(!texts.contains_key(name), "{name:?} is named twice");
-    let bytes = bytes_of(alloc, texts, said.get("is"))?;
+    let bytes = bytes_of(alloc, texts, is)?;
     texts.insert(String::from_str(alloc, name)?, bytes)?;
     Ok(())
 }
 
-fn judge_case(alloc: Global, texts: &Texts, case: &Value) -> Result<Verdict> {
-    knows(case, &KEYS)?;
-    let Some(name) = text(case, "case")? else {
-        bail!("a case wants a name");
-    };
+fn judge_case(alloc: Global, texts: &Texts, name: &str, case: &Value) -> Result<Verdict> {
     let wanted = wanted_of(alloc, texts, case)?;
     for number in 0..usize::MAX {
         let Some(choice) = choice_of(alloc, case, number)? else {
@@ -99,20 +108,9 @@ fn judge_case(alloc: Global, texts: &Texts, case: &Value) -> Result<Verdict> {
         };
         let came = make_call(alloc, texts, case, choice)?;
         if let Some(how) = difference(alloc, case, &wanted, &came)? {
-            let how = format!(in alloc; "{name}: call {number}, {choice}{how}")?;
+            let how = format!(in alloc; "{name}: call {number}: {choice}{how}")?;
             return Ok(Verdict::Failed(how));
         }
     }
     Ok(Verdict::Passed)
-}
-
-// Passes where the text is no line of a table.
-fn judge_refused(alloc: Global, texts: &Texts, line: &str) -> Result<Verdict> {
-    let Ok(said) = read(alloc, line) else {
-        return Ok(Verdict::Passed);
-    };
-    match judge_case(alloc, texts, &said) {
-        Err(_) => Ok(Verdict::Passed),
-        Ok(_) => bail!("taken for a case: {line}"),
-    }
 }

@@ -54,10 +54,12 @@ pub fn difference(
         failed_name_differs(&mut told, case, came)?,
     ];
     if are_as_said(case, found)? {
-        Ok(None)
-    } else {
-        Ok(Some(told))
+        return Ok(None);
     }
+    if let Some(said) = case.get("differs") {
+        write!(told, "; these had to differ: {said}")?;
+    }
+    Ok(Some(told))
 }
 
 // Whether the parts that differ are those that a case says.
