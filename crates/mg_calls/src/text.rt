@@ -287,7 +287,7 @@ fn a_file_is_too_long_past_the_limit(rt: HostRuntime) -> Result<(), Fail> {
 /// What is written of a text, by a copy of its tree.
 fn written(alloc: Global, text: &[u8]) -> Result<Vec<u8>, TextFault> {
     let tree = parse(alloc, text)?;
-    Ok(print(alloc, &tree.try_clone(alloc)?)?)
+    Ok(print(alloc, &tree.try_clone()?)?)
 }
 
 // What is written is written the same when it has been read.

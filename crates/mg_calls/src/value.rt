@@ -2,7 +2,9 @@
 
 use crate::packets::{number_of, packet_of};
 use mg_time::Timestamp;
-use mg_value::{InputSet, Packet, PacketList, Prefix};
+use mg_value::{InputSet, MgText, Packet, PacketList, Prefix};
+use std::alloc::Global;
+use std::process::Abort;
 use std::test::Fail;
 
 #[test]
@@ -48,5 +50,26 @@ fn sets_hold_a_packet_per_port(rt: HostRuntime) -> Result<(), Fail> {
     assert_eq!(rt; number_at(&set, 1), None);
     assert_eq!(rt; number_at(&set, 2), Some(8));
     assert_eq!(rt; number_at(&set, 3), None);
+    Ok(())
+}
+
+/// A text, made in both ways, and their copies have the same bytes.
+fn assert_kept(rt: &impl Abort, alloc: Global, text: &str) -> Result<(), Fail> {
+    let first = MgText::new(alloc, text)?;
+    let second = MgText::from_string(String::from_str(alloc, text)?);
+    for kept in [&first, &second] {
+        assert!(rt; kept.as_str() == text);
+        let copy = kept.try_clone(alloc)?;
+        assert!(rt; copy.is(text.as_bytes()));
+    }
+    Ok(())
+}
+
+#[test]
+fn texts_keep_their_bytes(rt: HostRuntime) -> Result<(), Fail> {
+    // The last three have 15, 16 and 17 bytes.
+    for text in "|a|€|option_numbers_|sixteen here €|seventeen_bytes__".split('|') {
+        assert_kept(&rt, rt.alloc(), text)?;
+    }
     Ok(())
 }
