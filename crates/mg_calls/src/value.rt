@@ -1,9 +1,10 @@
-//! Packets, their lists, and input sets.
+//! Packets, their lists, input sets, and texts.
 
 use crate::packets::{packet_of, show_packet, show_set};
 use crate::table::{Calls, assert_rows};
-use mg_value::{InputSet, Packet, PacketList};
+use mg_value::{InputSet, MgText, Packet, PacketList};
 use std::alloc::Global;
+use std::process::Abort;
 use std::test::Fail;
 
 // The calls of one set of three ports: a port and the packet that is put there, or none. After `=` stand the numbers at
@@ -58,5 +59,26 @@ fn copies_are_the_same(rt: HostRuntime) -> Result<(), Fail> {
         assert!(rt; shown.as_str() == "5 -7", "{shown}");
     }
     assert_eq!(rt; packets.len(), 2);
+    Ok(())
+}
+
+// A text, made in both ways, and their copies have the same bytes.
+fn assert_kept(rt: &impl Abort, alloc: Global, text: &str) -> Result<(), Fail> {
+    let first = MgText::new(alloc, text)?;
+    let second = MgText::from_string(String::from_str(alloc, text)?);
+    for kept in [&first, &second] {
+        assert!(rt; kept.as_str() == text);
+        let copy = kept.try_clone(alloc)?;
+        assert!(rt; copy.is(text.as_bytes()));
+    }
+    Ok(())
+}
+
+#[test]
+fn texts_keep_their_bytes(rt: HostRuntime) -> Result<(), Fail> {
+    // The last three have 15, 16 and 17 bytes.
+    for text in "|a|€|option_numbers_|sixteen here €|seventeen_bytes__".split('|') {
+        assert_kept(&rt, rt.alloc(), text)?;
+    }
     Ok(())
 }
