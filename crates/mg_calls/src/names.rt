@@ -340,6 +340,7 @@ fn show_tag_index(alloc: Global, text: &str) -> Result<String, AllocError> {
 }
 
 // What reads a list of texts, and says which is refused.
+#[derive(Drop)]
 struct PlacedTexts;
 
 impl Calls for PlacedTexts {
@@ -349,6 +350,7 @@ impl Calls for PlacedTexts {
 }
 
 // What reads a tag and an index, and writes them.
+#[derive(Drop)]
 struct OneTagIndex;
 
 impl Calls for OneTagIndex {
