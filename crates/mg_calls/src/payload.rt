@@ -1,6 +1,6 @@
 //! Payloads: from JSON values and back, and their kinds.
 
-use mg_value::{from_json, has_kind, to_json, Kind, Payload, PayloadList};
+use mg_value::{Kind, Payload, PayloadList, from_json, has_kind, to_json};
 use serde_json::Value;
 use std::alloc::{AllocError, Global};
 use std::process::Abort;
@@ -113,7 +113,8 @@ fn payload_of(alloc: Global, text: &str) -> Result<Arc<Payload>, Fail> {
 
 // Whether the items are the flag true, the number -3, the text `a` and an empty list.
 fn are_one_of_each(items: &PayloadList) -> bool {
-    items.len() == 4 && matches!(items.get(0), Some(Payload::Flag(true)))
+    items.len() == 4
+        && matches!(items.get(0), Some(Payload::Flag(true)))
         && matches!(items.get(1), Some(Payload::Int(-3)))
         && matches!(items.get(2), Some(Payload::Text(text)) if text.is(b"a"))
         && matches!(items.get(3), Some(Payload::Items(none)) if none.is_empty())

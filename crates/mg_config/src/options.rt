@@ -21,11 +21,7 @@ fn has_options(fields: &[Field]) -> bool
 }
 
 /// Copies fields to the end of a list.
-fn append_copies(
-    alloc: Global,
-    out: &mut Vec<Field>,
-    fields: &[Field],
-) -> Result<(), AllocError>
+fn append_copies(alloc: Global, out: &mut Vec<Field>, fields: &[Field]) -> Result<(), AllocError>
     ensures { OnOk result (map field_view out.new.items ≡ map field_view out.old.items ++ map field_view fields.now) }
 {
     for field in fields {

@@ -6,7 +6,7 @@ ghost use Rattle.mg_value.specs.Json.{json_of};
 ghost use Rattle.mg_run.specs.Output.{line_text};
 
 use itoa::Buffer;
-use mg_value::{to_json, Packet, Payload};
+use mg_value::{Packet, Payload, to_json};
 use std::alloc::AllocError;
 
 /// Writes the line of a packet of the stream `out` at the end of a text. After an `Err` the text may end with a part
