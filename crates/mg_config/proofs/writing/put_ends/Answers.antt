@@ -1,10 +1,9 @@
 use Rattle.std.proofs.Common.{◌∙◌, ap, sym, ◌++◌, map, codes, rules, w32}
 use Rattle.std.proofs.lemmas.Int.{to_z-of_z}
 use mir.Val.{SFits}
-use Rattle.mg_text.specs.View.{field_view, fields_view}
-use Rattle.mg_text.proofs.Views.{view-record}
+use Rattle.mg_text.specs.View.{field_view}
 use Rattle.mg_config.specs.Config.{node_view}
-use Rattle.mg_config.specs.Written.{mark_fields, number_field, options_field}
+use Rattle.mg_config.specs.Written.{mark_fields, number_field}
 use Rattle.mg_config.proofs.Appended.{put_ends}
 use Rattle.mg_config.proofs.writing.put_ends.Goals as goal
 
@@ -19,4 +18,4 @@ returns c =
     c.in_ok-put_handler.ensures
     (c.in_ok-put_number.ensures ∙ ap (λ z. map field_view c.put_handler.new.out.items ++ number_field (codes "max_in_flight") z) (to_z-of_z w32 node.max_in_flight flight_fits))
     (c.in_ok-put_number-2.ensures ∙ ap (λ z. map field_view c.put_number.new.out.items ++ number_field (codes "buffer_size_hint") z) (to_z-of_z w32 node.buffer_size_hint hint_fits))
-    (c.in_ok-put_options.ensures ∙ ap (λ fields. map field_view c.put_number-2.new.out.items ++ options_field fields) (ap fields_view c.as_slice-2.ensures.value ∙ sym (view-record node.options)))
+    c.in_ok-put_options.ensures
