@@ -3,4 +3,4 @@ pub mod Adapters
 pub mod InMemory
 pub mod MemoryStore
 pub mod Runs
-pub mod Inner
+pub mod Code

@@ -3,7 +3,7 @@ ghost use Rattle.std.specs.Option.{option_map};
 ghost use Rattle.mg_edge.specs.Edge.{LoadsWithin, LoadGives, LoadFaultCounts, KeepsFailedName, one_more};
 ghost use Rattle.mg_edge.specs.MemoryStore.{stored, failing_load, loads_made, last_failed, store_faults, store_told, content_at};
 ghost use Rattle.mg_edge.specs.MemoryStore.{KeepsCalls, AnswersLoad};
-ghost use Rattle.mg_edge.specs.Inner.{LooksUp, IsFrontOf};
+ghost use Rattle.mg_edge.specs.Code.{LooksUp, IsFrontOf};
 
 use crate::{Loaded, MOST_LOADED, Store};
 use std::alloc::{AllocError, Global};

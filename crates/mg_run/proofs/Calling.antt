@@ -10,7 +10,7 @@ use Rattle.mg_run.specs.File.{File, IsFile}
 use Rattle.mg_run.specs.Answer.{Job, refuse, show, merge, job_of, answer_of, answer, run_answer}
 use Rattle.mg_run.specs.Devices.{Device, device, Devices, devices, Untouched, Unrisen, NoneFailed, TookFront, TookText, TookPart, Noted}
 use Rattle.mg_run.specs.Call.{Meets, IfThere, Loads, WasShown, Ran, Did, IsJob, CallDid, CallShort, Called, IsAnswered}
-use Rattle.mg_run.specs.Inner.Flow.{Flows}
+use Rattle.mg_run.specs.Code.Flow.{Flows}
 use Rattle.mg_run.specs.declared.status.Status.{Status}
 use Rattle.mg_run.specs.declared.status.Status.TheVariants.{Good, StoreFault, Usage, GraphRefused, LineRefused, NodeFault, Stalled, ReadFault, WriteFault, OutOfMemory}
 

@@ -21,7 +21,7 @@ use Rattle.mg_stream.specs.Queue.{Waiting, rest_of, StandsFor, MayCome, IsLike, 
 use Rattle.mg_policy.specs.Inbox.{rests, next_set, StandAfter}
 use Rattle.mg_run.specs.Accepted.{stepped, bound_at}
 use Rattle.mg_run.specs.Output.{line_text, set_text, sets_text, output_of}
-use Rattle.mg_run.specs.Inner.Claimed.{Claimed}
+use Rattle.mg_run.specs.Code.Claimed.{Claimed}
 
 -- A step of a queue that stands for a stream steps the stream too, and extends it; no packet goes.
 pub record IsStep (q after : Waiting Plain) (step : StreamPrefix Plain → StreamPrefix Plain) : Type 0 where

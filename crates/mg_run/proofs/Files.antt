@@ -13,7 +13,7 @@ use Rattle.mg_run.specs.Command.{command}
 use Rattle.mg_run.specs.File.{File, graph, no_text, no_graph, IsText, IsNoText, IsFile}
 use Rattle.mg_run.specs.Answer.{Job, job_of}
 use Rattle.mg_run.specs.Call.{IsJob}
-use Rattle.mg_run.specs.Inner.Job.{MayRead}
+use Rattle.mg_run.specs.Code.Job.{MayRead}
 use Rattle.mg_run.specs.declared.words.Verb.TheVariants.{Expand}
 
 abbrev read_as : GraphView → Result GraphView ConfigFault

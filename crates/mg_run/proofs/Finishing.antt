@@ -11,10 +11,10 @@ use Rattle.mg_run.specs.Notes.{line_note, read_note}
 use Rattle.mg_run.specs.Answer.{line_status, run_answer, failed_answer}
 use Rattle.mg_run.specs.Devices.{Device, device, Devices, ReadFailed, HasEnded, IsFront, TookFront, TookText, TookPart}
 use Rattle.mg_run.specs.Call.{Meets, RanAll, TookRead, TookSome, RanShort, Ran}
-use Rattle.mg_run.specs.Inner.Feed.{Holds, Stopped}
-use Rattle.mg_run.specs.Inner.Flow.{Flows}
-use Rattle.mg_run.specs.Inner.Pouring.{Pours, HasPoured, PouredFront}
-use Rattle.mg_run.specs.Inner.Verdict.{refused_line, said_of, ended_as}
+use Rattle.mg_run.specs.Code.Feed.{Holds, Stopped}
+use Rattle.mg_run.specs.Code.Flow.{Flows}
+use Rattle.mg_run.specs.Code.Pouring.{Pours, HasPoured, PouredFront}
+use Rattle.mg_run.specs.Code.Verdict.{refused_line, said_of, ended_as}
 use Rattle.mg_run.specs.declared.line_fault.LineFault.{LineFault}
 use Rattle.mg_run.specs.declared.status.Status.TheVariants.{Good}
 use Rattle.mg_run.specs.declared.feed.Feed.{Feed}

@@ -5,7 +5,7 @@ use Rattle.mg_edge.specs.declared.sink.Put.TheVariants.{Took, Failed as PutFaile
 use Rattle.mg_edge.specs.Runs.{TookAll}
 use Rattle.mg_edge.proofs.Runs.{TookAll-start, TookAll-write}
 use Rattle.mg_run.specs.Devices.{Device, device, TookFront, TookText, TookPart}
-use Rattle.mg_run.specs.Inner.Flow.{Flows}
+use Rattle.mg_run.specs.Code.Flow.{Flows}
 
 -- a call that fails, after others that don't
 pub rose-after : (a b c : ℕ) → b ≡ a → c ≡ one_more b → Rose a c

@@ -11,8 +11,8 @@ use Rattle.mg_value.proofs.PrefixSteps.{empty_is_prefix, appended_is_prefix, rai
 use Rattle.mg_run.specs.Reading.{reading}
 use Rattle.mg_run.specs.Accepted.{stepped, bound_at, with_said, streams_of, said_refusal, refusal, if_good, accepted_after, Refused, ended_by}
 use Rattle.mg_run.specs.Output.{sets_text, output_of}
-use Rattle.mg_run.specs.Inner.Said.{IsSaidOf}
-use Rattle.mg_run.specs.Inner.Feed.{AllGood}
+use Rattle.mg_run.specs.Code.Said.{IsSaidOf}
+use Rattle.mg_run.specs.Code.Feed.{AllGood}
 use Rattle.mg_run.specs.declared.line_fault.LineFault.{LineFault}
 use Rattle.mg_run.specs.declared.line_fault.LineFault.TheVariants.{NotYet, Closed, NotAscending}
 use Rattle.mg_run.specs.declared.reading.Said.{Said}

@@ -3,8 +3,8 @@ use Rattle.std.proofs.Common.{◌≡◌, ℕ, zero, suc, ◌<◌, ◌≤◌, Lis
 use Rattle.std.proofs.lemmas.Bool.{eqb-true}
 use Rattle.memchr.specs.Find.{is_byte, IsFirstByte}
 use Rattle.mg_run.specs.Lines.{with_first, parts, but_last, but_empty_last, whole_lines, all_lines}
-use Rattle.mg_run.specs.Inner.LineFeed.{NoFeed, EndsLine}
-use Rattle.mg_run.specs.Inner.Feed.{last_part, rest_of}
+use Rattle.mg_run.specs.Code.LineFeed.{NoFeed, EndsLine}
+use Rattle.mg_run.specs.Code.Feed.{last_part, rest_of}
 
 -- bytes put before the first part
 abbrev pub glued : List ℕ → List (List ℕ) → List (List ℕ)

@@ -10,9 +10,9 @@ use Rattle.mg_run.specs.Accepted.{most_lines, streams_of, accepted, accepted_aft
 use Rattle.mg_run.specs.Output.{output_of}
 use Rattle.mg_run.specs.Answer.{run_answer}
 use Rattle.mg_run.specs.Devices.{Device, device, IsFront}
-use Rattle.mg_run.specs.Inner.Feed.{rest_of, Holds, StandsFor, EndedAfter}
-use Rattle.mg_run.specs.Inner.Flow.{Flows}
-use Rattle.mg_run.specs.Inner.Pouring.{Pours, PouredAll, PouredPart, PouredFront}
+use Rattle.mg_run.specs.Code.Feed.{rest_of, Holds, StandsFor, EndedAfter}
+use Rattle.mg_run.specs.Code.Flow.{Flows}
+use Rattle.mg_run.specs.Code.Pouring.{Pours, PouredAll, PouredPart, PouredFront}
 use Rattle.mg_run.specs.declared.line_fault.LineFault.{LineFault}
 use Rattle.mg_run.specs.declared.feed.Feed.{Feed}
 use Rattle.mg_run.proofs.Parts.{glued, all_lines-append}

@@ -9,7 +9,7 @@ use Rattle.mg_time.specs.Time.{IsRange, place_of, least, greatest}
 use Rattle.mg_run.specs.declared.reading.Said.{Said}
 use Rattle.mg_run.specs.declared.reading.Said.TheVariants.{Nothing, Packet, Bound, Other}
 use Rattle.mg_run.specs.Reading.{place_in, port_at, text_at, is_of_range, packet_of, mark_of, member_count, number_at, flag_at, value_says, json_says, reading, longest_line, is_blank}
-use Rattle.mg_run.specs.Inner.Said.{IsSaidOf}
+use Rattle.mg_run.specs.Code.Said.{IsSaidOf}
 
 more_than : (n : ℕ) (o : Option ℕ) → IfSome o (λ p. p < n) → IfSome (option_map (λ p. p + 1) o) (λ p. p < n + 1)
 more_than n None lt = tt

@@ -2,12 +2,12 @@
 use Rattle.std.proofs.Common.{◌≡◌, ℕ, ◌+◌, ◌<◌, List, [], ◌∷◌, ◌++◌, length, map, Bool, true, false, Option, None, Some, MatchOption, option_map, is_some, if◌then◌else◌, refl, sym, ap, ◌∙◌, subst, arith, append_assoc, append-nil, length-append}
 use Rattle.std.proofs.lemmas.Bool.{lt-ltb, false≢true, true≢false}
 use Rattle.mg_run.specs.Lines.{whole_lines, all_lines}
-use Rattle.mg_run.specs.Inner.LineFeed.{NoFeed}
+use Rattle.mg_run.specs.Code.LineFeed.{NoFeed}
 use Rattle.mg_run.specs.Reading.{longest_line, reading}
 use Rattle.mg_run.specs.Accepted.{refusal, said_refusal, streams_of, if_good, refused_at, accepted_after, accepted, first_refused_after, first_refused, ended_by}
 use Rattle.mg_run.specs.Output.{output_of}
-use Rattle.mg_run.specs.Inner.Claimed.{Claimed}
-use Rattle.mg_run.specs.Inner.Feed.{rest_of, AllGood, TookLines, Holds, Stopped, StandsFor, Broke, HasRead, EndedAfter}
+use Rattle.mg_run.specs.Code.Claimed.{Claimed}
+use Rattle.mg_run.specs.Code.Feed.{rest_of, AllGood, TookLines, Holds, Stopped, StandsFor, Broke, HasRead, EndedAfter}
 use Rattle.mg_run.specs.declared.line_fault.LineFault.{LineFault}
 use Rattle.mg_run.specs.declared.line_fault.LineFault.TheVariants.{NotYet}
 use Rattle.mg_run.specs.declared.reading.Said.TheVariants.{Other}

@@ -6,8 +6,8 @@ use Rattle.mg_value.specs.Payload.{Plain}
 use Rattle.mg_value.specs.Prefix.{StreamPrefix, empty_prefix}
 use Rattle.mg_run.specs.Reading.{reading}
 use Rattle.mg_run.specs.Accepted.{with_said, streams_of, said_refusal, refusal, most_lines}
-use Rattle.mg_run.specs.Inner.Claimed.{Claimed}
-use Rattle.mg_run.specs.Inner.Feed.{AllGood, TookLines}
+use Rattle.mg_run.specs.Code.Claimed.{Claimed}
+use Rattle.mg_run.specs.Code.Feed.{AllGood, TookLines}
 use Rattle.mg_run.specs.declared.line_fault.LineFault.{LineFault}
 use Rattle.mg_run.specs.declared.reading.Said.{Said}
 use Rattle.mg_run.specs.declared.feed.Feed.{Feed}

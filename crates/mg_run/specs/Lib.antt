@@ -11,4 +11,4 @@ pub mod Answer
 pub mod Devices
 pub mod Call
 -- What only the code's own functions say to one another. Nothing above rests on it.
-pub mod Inner
+pub mod Code

@@ -2,7 +2,7 @@ ghost use Rattle.std.specs.Prelude.{◌≡◌, ◌≢◌, ◌↔◌, ◌⊎◌, 
 ghost use Rattle.mg_run.specs.Command.{command, command_of};
 ghost use Rattle.mg_run.specs.Devices.{Device, device, devices, Untouched, HasRisen, NoneFailed};
 ghost use Rattle.mg_run.specs.Call.{WasUsage, Called, Did, IsAnswered, IsOneOf};
-ghost use Rattle.mg_run.specs.Inner.Job.{job_view, MayRead};
+ghost use Rattle.mg_run.specs.Code.Job.{job_view, MayRead};
 ghost use Rattle.mg_edge.specs.Edge.{StoreTold};
 
 use crate::Status;

@@ -1,5 +1,5 @@
 ghost use Rattle.std.specs.Prelude.{◌≡◌, ◌≤◌, length, MatchOption};
-ghost use Rattle.mg_run.specs.Inner.LineFeed.{NoFeed, EndsLine};
+ghost use Rattle.mg_run.specs.Code.LineFeed.{NoFeed, EndsLine};
 ghost use Rattle.mg_run.specs.declared.limits.TheConstants.{MOST_LINES as most_lines, LONGEST_LINE as longest_line};
 
 use crate::LineFault;
@@ -36,10 +36,10 @@ impl Feed {
     ghost use Rattle.std.specs.Prelude.{◌≡◌, ◌<◌, ◌++◌, ◌∷◌, ◌+◌, [], ℕ, List, None, Some, ◌↔◌, OnOk, IfOk, IsSome, IsTrue, length};
     ghost use Rattle.mg_value.specs.Payload.{Plain};
     ghost use Rattle.mg_value.specs.Prefix.{StreamPrefix};
-    ghost use Rattle.mg_run.specs.Inner.Said.{IsSaidOf};
-    ghost use Rattle.mg_run.specs.Inner.Claimed.{Claimed};
+    ghost use Rattle.mg_run.specs.Code.Said.{IsSaidOf};
+    ghost use Rattle.mg_run.specs.Code.Claimed.{Claimed};
     ghost use Rattle.mg_run.specs.Accepted.{refusal, said_refusal, with_said};
-    ghost use Rattle.mg_run.specs.Inner.Feed.{TookLines, Holds, StandsFor, HasRead, EndedAfter, weight};
+    ghost use Rattle.mg_run.specs.Code.Feed.{TookLines, Holds, StandsFor, HasRead, EndedAfter, weight};
 
     /// A feed for the inputs with these names, to which nothing came yet.
     pub fn new(alloc: Global, names: List<MgText>) -> Result<Feed, AllocError>

@@ -9,7 +9,7 @@ ghost use Rattle.mg_config.specs.Sound.{IsSound, IsPrintable};
 ghost use Rattle.mg_run.specs.Command.{command};
 ghost use Rattle.mg_run.specs.File.{IsText};
 ghost use Rattle.mg_run.specs.Answer as answers;
-ghost use Rattle.mg_run.specs.Inner.Job.{job_view};
+ghost use Rattle.mg_run.specs.Code.Job.{job_view};
 ghost use Rattle.mg_run.specs.Call.{IsJob};
 
 use crate::note::{config_note, text_note};

@@ -33,7 +33,7 @@ impl Merge {
     ghost use Rattle.mg_policy.specs.Inbox.{rests, StandAfter};
     ghost use Rattle.mg_run.specs.Accepted.{stepped, bound_at};
     ghost use Rattle.mg_run.specs.Output.{sets_text};
-    ghost use Rattle.mg_run.specs.Inner.Claimed.{Claimed};
+    ghost use Rattle.mg_run.specs.Code.Claimed.{Claimed};
 
     /// A node of as many inputs, to which nothing came yet.
     pub fn new(alloc: Global, inputs: u32) -> Result<Merge, AllocError>

@@ -1,7 +1,7 @@
 ghost use Rattle.std.specs.Prelude.{◌≡◌, ◌<◌, [], false, length, vec_len, IfOk, MatchResult};
-ghost use Rattle.mg_run.specs.Inner.Feed.{StandsFor};
+ghost use Rattle.mg_run.specs.Code.Feed.{StandsFor};
 ghost use Rattle.mg_run.specs.Devices.{device};
-ghost use Rattle.mg_run.specs.Inner.Pouring.{HasPoured, PouredFront};
+ghost use Rattle.mg_run.specs.Code.Pouring.{HasPoured, PouredFront};
 
 use crate::feed::Feed;
 use crate::put::flush;

@@ -1,7 +1,7 @@
 ghost use Rattle.std.specs.Prelude.{◌≡◌, ◌++◌, ℕ, List, [], not};
 ghost use Rattle.mg_edge.specs.Edge.{SinkTold};
 ghost use Rattle.mg_run.specs.Devices.{device};
-ghost use Rattle.mg_run.specs.Inner.Flow.{Flows};
+ghost use Rattle.mg_run.specs.Code.Flow.{Flows};
 
 use mg_edge::{Put, Sink};
 

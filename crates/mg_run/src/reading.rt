@@ -2,7 +2,7 @@ ghost use Rattle.std.specs.Prelude.{◌≡◌, ◌↔◌, IsTrue, IfOk, Some, co
 ghost use Rattle.std.specs.List.{list_all};
 ghost use Rattle.serde_json.specs.View.{view};
 ghost use Rattle.mg_run.specs.Reading.{is_blank, place_in, member_count, value_says, json_says, reading, number_at, flag_at, port_at, packet_of, mark_of};
-ghost use Rattle.mg_run.specs.Inner.Said.{IsSaidOf};
+ghost use Rattle.mg_run.specs.Code.Said.{IsSaidOf};
 
 use crate::limits::LONGEST_LINE;
 use mg_time::Timestamp;

@@ -1,6 +1,6 @@
 ghost use Rattle.std.specs.Prelude.{◌≡◌, [], IfOk};
-ghost use Rattle.mg_run.specs.Inner.Feed.{StandsFor};
-ghost use Rattle.mg_run.specs.Inner.Verdict.{said_of, ended_as};
+ghost use Rattle.mg_run.specs.Code.Feed.{StandsFor};
+ghost use Rattle.mg_run.specs.Code.Verdict.{said_of, ended_as};
 ghost use Rattle.mg_edge.specs.Edge.{StoreTold};
 ghost use Rattle.mg_run.specs.Devices.{Device, device, devices};
 ghost use Rattle.mg_run.specs.Call.{Ran};

@@ -1,6 +1,6 @@
 use Rattle.std.proofs.Common.{List, ℕ, subst}
 use Rattle.mg_run.specs.Command.{command}
-use Rattle.mg_run.specs.Inner.Job.{job_view}
+use Rattle.mg_run.specs.Code.Job.{job_view}
 use Rattle.mg_run.specs.Call.{IsJob}
 use Rattle.mg_run.proofs.Calling.{called-did, loads-from}
 use Rattle.mg_run.proofs.call.serve.Goals as goal

@@ -1,6 +1,6 @@
 use Rattle.std.proofs.Common.{refl, ◌∙◌, ap, not, arith}
 use Rattle.std.proofs.lemmas.Result.{err_from_is_err_and}
-use Rattle.mg_run.specs.Inner.Feed.{weight}
+use Rattle.mg_run.specs.Code.Feed.{weight}
 use Rattle.mg_run.proofs.Standing.{none-from}
 use Rattle.mg_run.proofs.Pouring.{pours-start, pours-read, pours-flush, poured-all, poured-part, poured-front, turns_fall}
 use Rattle.mg_run.proofs.pour.pour_through.Goals as goal

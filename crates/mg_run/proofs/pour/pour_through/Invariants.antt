@@ -1,6 +1,6 @@
 use Rattle.mg_run.specs.Devices.{device}
-use Rattle.mg_run.specs.Inner.Feed.{weight}
-use Rattle.mg_run.specs.Inner.Pouring.{Pours}
+use Rattle.mg_run.specs.Code.Feed.{weight}
+use Rattle.mg_run.specs.Code.Pouring.{Pours}
 use Rattle.mg_run.proofs.Pouring.{turns_left}
 use Rattle.mg_run.proofs.pour.pour_through.Given as goal
 

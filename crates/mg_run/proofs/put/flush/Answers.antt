@@ -1,6 +1,6 @@
 use Rattle.std.proofs.Common.{subst, Bool, List, ℕ, not}
 use Rattle.mg_run.specs.Devices.{device}
-use Rattle.mg_run.specs.Inner.Flow.{Flows}
+use Rattle.mg_run.specs.Code.Flow.{Flows}
 use Rattle.mg_run.proofs.Flowing.{flows-on}
 use Rattle.mg_run.proofs.put.flush.Goals as goal
 

@@ -1,7 +1,7 @@
 use Rattle.std.proofs.Common.{refl, sym, ◌∙◌, ap, not, subst, Bool}
 use Rattle.mg_run.specs.Devices.{device, devices}
 use Rattle.mg_run.specs.Call.{Ran}
-use Rattle.mg_run.specs.Inner.Flow.{Flows}
+use Rattle.mg_run.specs.Code.Flow.{Flows}
 use Rattle.mg_run.specs.declared.status.Status.{Status}
 use Rattle.mg_run.proofs.Finishing.{written, front-poured, front-written, short-notes, short-output, ran-written, said-same, ended-same}
 use Rattle.mg_run.proofs.run.run_feed.Goals as goal

@@ -1,5 +1,5 @@
 use Rattle.std.proofs.Common.{take, ◌++◌, ◌∷◌, [], sym, ap, not, ◌∙◌, arith, subst}
-use Rattle.mg_run.specs.Inner.LineFeed.{NoFeed}
+use Rattle.mg_run.specs.Code.LineFeed.{NoFeed}
 use Rattle.mg_run.proofs.Standing.{none-from, holds-stands, regrouped, stands-on}
 use Rattle.mg_run.proofs.feed.Feed.bytes.Goals as goal
 

@@ -1,5 +1,5 @@
 use Rattle.std.proofs.Common.{◌≡◌, ℕ, ◌+◌, ◌-◌, ◌≤◌, min, List, ◌++◌, None, length}
-use Rattle.mg_run.specs.Inner.Feed.{StandsFor, weight}
+use Rattle.mg_run.specs.Code.Feed.{StandsFor, weight}
 use Rattle.mg_run.proofs.feed.Feed.bytes.Given as goal
 
 -- what was taken of the block stands before what is left of it

@@ -7,7 +7,7 @@ use Rattle.mg_stream.specs.Queue.{Waiting}
 use Rattle.mg_run.specs.declared.reading.Said.{Said}
 use Rattle.mg_run.specs.declared.reading.Said.TheVariants.{Packet}
 use Rattle.mg_run.specs.Accepted.{with_said}
-use Rattle.mg_run.specs.Inner.Claimed.{Claimed}
+use Rattle.mg_run.specs.Code.Claimed.{Claimed}
 use Rattle.mg_run.proofs.feed.Feed.hear.Goals as goal
 
 pub returns-in_ok-packet-in-Packet-clause-good : goal.returns-in_ok-packet-in-Packet-clause-good

@@ -2,7 +2,7 @@ use Rattle.std.proofs.Common.{◌≡◌, ◌∙◌, ◌+◌, ap, sym, subst, len
 use Rattle.mg_run.specs.declared.reading.Said.{Said}
 use Rattle.mg_run.specs.Accepted.{streams_of}
 use Rattle.mg_run.specs.Reading.{reading}
-use Rattle.mg_run.specs.Inner.Said.{IsSaidOf}
+use Rattle.mg_run.specs.Code.Said.{IsSaidOf}
 use Rattle.mg_run.proofs.Saying.{reading-said}
 use Rattle.mg_run.proofs.Taking.{took_more}
 use Rattle.mg_run.proofs.feed.Feed.line.Goals as goal

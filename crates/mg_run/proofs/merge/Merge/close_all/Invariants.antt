@@ -1,7 +1,7 @@
 use Rattle.std.proofs.Common.{◌≡◌, length, ℕ, List}
 use Rattle.mg_value.specs.Payload.{Plain}
 use Rattle.mg_value.specs.Prefix.{StreamPrefix}
-use Rattle.mg_run.specs.Inner.Claimed.{Claimed}
+use Rattle.mg_run.specs.Code.Claimed.{Claimed}
 use Rattle.mg_run.proofs.Claiming.{first_closed}
 use Rattle.mg_run.proofs.merge.Merge.close_all.Given as goal
 

@@ -4,7 +4,7 @@ use mir.Syntax.{w64}
 use Rattle.mg_value.specs.Payload.{Plain, int, plain}
 use Rattle.mg_value.specs.Prefix.{Stamped, appended}
 use Rattle.mg_run.specs.Accepted.{stepped}
-use Rattle.mg_run.specs.Inner.Claimed.{Claimed}
+use Rattle.mg_run.specs.Code.Claimed.{Claimed}
 use Rattle.mg_run.proofs.Claiming.{step-appended, claimed-stepped}
 use Rattle.mg_run.proofs.merge.Merge.packet.Goals as goal
 

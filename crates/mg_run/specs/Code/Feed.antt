@@ -4,7 +4,7 @@ use Rattle.std.specs.Prelude.{◌≡◌, ℕ, ◌+◌, ◌*◌, List, [], ◌∷
 use Rattle.mg_run.specs.Lines.{parts, whole_lines, all_lines}
 use Rattle.mg_run.specs.Output.{output_of}
 use Rattle.mg_run.specs.Accepted.{refusal, accepted, first_refused, streams_of, ended_streams}
-use Rattle.mg_run.specs.Inner.Claimed.{Claimed}
+use Rattle.mg_run.specs.Code.Claimed.{Claimed}
 use Rattle.mg_run.specs.Reading.{longest_line}
 use Rattle.mg_run.specs.declared.line_fault.LineFault.{LineFault}
 use Rattle.mg_run.specs.declared.feed.Feed.{Feed}

@@ -4,8 +4,8 @@ use Rattle.mg_edge.specs.Edge.{SourceTold, SinkTold}
 use Rattle.mg_edge.specs.Runs.{Gave}
 use Rattle.mg_run.specs.Answer.{run_answer}
 use Rattle.mg_run.specs.Devices.{Device, ReadFailed, HasEnded, IsFront}
-use Rattle.mg_run.specs.Inner.Feed.{Holds, StandsFor, EndedAfter}
-use Rattle.mg_run.specs.Inner.Flow.{Flows}
+use Rattle.mg_run.specs.Code.Feed.{Holds, StandsFor, EndedAfter}
+use Rattle.mg_run.specs.Code.Flow.{Flows}
 use Rattle.mg_run.specs.declared.feed.Feed.{Feed}
 use Rattle.mg_run.specs.declared.pour.Poured.{Poured}
 use Rattle.mg_run.specs.declared.pour.Poured.TheVariants.{All, Part, Halted}
