@@ -23,7 +23,8 @@ abbrev mutual
   json_members no_entries = json.no_members
   json_members (entry k p es) = json.member k (json_of p) (json_members es)
 
--- the fault of a number: a whole number of 2^63 and more is too wide, and a number that is held as a float is a fraction
+-- the fault of a number: a whole number from 2^63 to 2^64 - 1 is too wide, and a number that is held as a float is a
+-- fraction, so also a whole number beyond these
 abbrev pub number_faults : json.Num → List ValueFault
 number_faults (json.unsigned n) = if nat_lt n (2 ^ 63) then [] else TooWide ∷ []
 number_faults (json.negative z) = []

@@ -8,6 +8,6 @@ pub mod Payload
 pub mod Plain
 pub mod Prefix
 pub mod Settled
--- What the prover wants of the types beside their meaning. Nothing above rests on it.
+-- What the prover wants of the types beside their meaning. No meaning rests on it.
 pub mod Codes
 pub mod PayloadFalls

@@ -1,4 +1,4 @@
--- Plain payloads: what a payload says, as a tree. A record's entries stand in the order of their keys.
+-- Plain payloads: what a payload says, as a tree. That a record's keys ascend is kept by its type (`KeysAscend`).
 use Rattle.std.specs.Prelude.{ℕ, suc, ℤ, Bool, max, List, [], ◌∷◌, FitsSigned}
 use Rattle.std.specs.Int.{w64}
 

@@ -1,6 +1,6 @@
 //! Values: texts, lists, payloads, packets and the prefixes of streams.
-//! Answers to the definitions of `specs/Payload.antt`, `specs/Json.antt`, `specs/Kind.antt`, `specs/Prefix.antt`,
-//! `specs/Extension.antt`, `specs/Settled.antt`, `specs/Left.antt` and `specs/Loopback.antt`.
+//! Answers to the definitions of `specs/Plain.antt`, `specs/Payload.antt`, `specs/Json.antt`, `specs/Kind.antt`,
+//! `specs/Prefix.antt`, `specs/Extension.antt`, `specs/Settled.antt`, `specs/Left.antt` and `specs/Loopback.antt`.
 #![tactic(auto)]
 
 mod input_set;

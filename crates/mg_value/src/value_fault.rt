@@ -7,7 +7,8 @@ use thiserror::Error;
 /// Why a JSON value is no payload.
 #[derive(Clone, Copy, Debug, PartialEq, Eq, Error)]
 pub enum ValueFault {
-    /// A number isn't whole, is `-0`, or has an exponent.
+    /// A number that `serde_json` holds as a float: one with a fraction or an exponent, `-0`, and a whole number of 2^64
+    /// or more, or below -2^63.
     #[error("a number isn't a whole number of 64 signed bits")]
     Fraction = 1,
     /// A `null`.
@@ -16,7 +17,7 @@ pub enum ValueFault {
     /// A list or a record lies inside 16 others.
     #[error("lists and records are more than 16 deep")]
     TooDeep = 4,
-    /// A whole number of 2^63 or more.
+    /// A whole number from 2^63 to 2^64 - 1.
     #[error("a whole number is more than 9223372036854775807")]
     TooWide = 5,
     /// Want of memory.
