@@ -13,7 +13,7 @@ use Rattle.std.proofs.lemmas.List.Sums.{prefix_len-le-length}
 use Rattle.mg_names.specs.Ports.{is_at, has_port, stands_twice, has_gap, place_of, after, ports_after, checked, placed_ports_of}
 use Rattle.mg_names.specs.declared.fault.NameFault.TheVariants.{Gap}
 use Rattle.mg_names.specs.declared.placed_fault.PlacedFault.TheVariants.{Whole}
-use Rattle.mg_names.specs.Places.{kept_place, lacks_lower}
+use Rattle.mg_names.specs.Code.Places.{kept_place, lacks_lower}
 use Rattle.mg_names.specs.declared.places.Places.{Places}
 use Rattle.mg_names.specs.declared.port.Port.{Port}
 

@@ -2,4 +2,4 @@ pub mod Grammar
 pub mod Spelling
 pub mod Ports
 pub mod TagIndex
-pub mod Places
+pub mod Code

@@ -1,8 +1,8 @@
 ghost use Rattle.std.specs.Prelude.{◌≡◌, ◌≢◌, ◌<◌, ◌^◌, ℕ, List, true, false, IfOk, OnOk, OnErr, IfErr, length};
 ghost use Rattle.std.specs.List.{list_any};
-ghost use Rattle.mg_names.specs.Places.{kept_place};
+ghost use Rattle.mg_names.specs.Code.Places.{kept_place};
 ghost use Rattle.mg_names.specs.Ports.{stands_twice, place_of};
-ghost use Rattle.mg_names.specs.Places as table;
+ghost use Rattle.mg_names.specs.Code.Places as table;
 
 use crate::fault::NameFault;
 use crate::placed_fault::PlacedFault;

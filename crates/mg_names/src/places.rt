@@ -1,6 +1,6 @@
 ghost use Rattle.std.specs.Prelude.{◌≡◌, ◌&&◌, ◌==◌, ℕ, List, [], None, Some, OnOk, if◌then◌else◌};
 ghost use Rattle.std.specs.Str.{bytes_eq};
-ghost use Rattle.mg_names.specs.Places.{kept_place, slot_at};
+ghost use Rattle.mg_names.specs.Code.Places.{kept_place, slot_at};
 
 use std::alloc::{AllocError, Global};
 use std::collections::BTreeMap;

@@ -24,7 +24,7 @@ impl Model for PortMap {
 
     ghost Value = { List Port };
 
-    ghost use Rattle.mg_names.specs.Places.{kept_place};
+    ghost use Rattle.mg_names.specs.Code.Places.{kept_place};
     ghost use Rattle.mg_names.specs.Ports.{place_of};
 
     ghost view = { λ m. m.ports };

@@ -13,7 +13,7 @@ use Rattle.mg_value.proofs.AfterSets.{sets-after}
 use Rattle.mg_stream.specs.Queue.{Waiting, rest_of, front_at, popped_at, StandsFor, empty_queue}
 use Rattle.mg_stream.proofs.QueueSteps.{stands_popped}
 use Rattle.mg_policy.specs.Inbox.{rests, next_set, IsOver, Tells, StandAfter}
-use Rattle.mg_policy.specs.Looks.{earliest}
+use Rattle.mg_policy.specs.Code.Looks.{earliest}
 use Rattle.mg_policy.specs.declared.readiness.Readiness.TheVariants.{Ready, Close, NotReady}
 use Rattle.mg_policy.proofs.NextSet.{AreRests, next_set-some, settled_sets-none, empty_from_earliest, earliest_from_empty, AreFrom-earliest, set_at-first, rests-claimed}
 use Rattle.mg_policy.proofs.Standing.{claim_counts}

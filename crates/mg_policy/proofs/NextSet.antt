@@ -16,7 +16,7 @@ use Rattle.mg_value.proofs.Leaving.{left_of}
 use Rattle.mg_value.proofs.DefaultSets.{low_most, default_times}
 use Rattle.mg_stream.specs.Queue.{Waiting, rest_of, front_at, popped_at}
 use Rattle.mg_policy.specs.Inbox.{rests, next_set}
-use Rattle.mg_policy.specs.Looks.{earliest}
+use Rattle.mg_policy.specs.Code.Looks.{earliest}
 
 -- what waits in each queue is a prefix
 abbrev pub AreRests : {X : Type 0} → List (Waiting X) → Type 0

@@ -6,7 +6,7 @@ use Rattle.mg_value.specs.Prefix.{Stamped, first_time}
 use Rattle.mg_value.specs.Settled.{low}
 use Rattle.mg_stream.specs.Queue.{Waiting}
 use Rattle.mg_policy.specs.Inbox.{rests}
-use Rattle.mg_policy.specs.Looks.{earliest}
+use Rattle.mg_policy.specs.Code.Looks.{earliest}
 
 pub earliest-push : {X : Type 0} (qs : List (Waiting X)) (q : Waiting X) → earliest (qs ++ q ∷ []) ≡ min (earliest qs) (first_time q.packets done)
 earliest-push [] q = omega arith

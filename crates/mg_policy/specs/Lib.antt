@@ -1,3 +1,3 @@
 pub mod Inbox
 pub mod Lending
-pub mod Looks
+pub mod Code

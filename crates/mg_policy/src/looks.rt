@@ -3,7 +3,7 @@ ghost use Rattle.mg_value.specs.Prefix.{IsPrefix};
 ghost use Rattle.mg_value.specs.Settled.{low};
 ghost use Rattle.mg_stream.specs.Queue.{rest_of, front_at, popped_at};
 ghost use Rattle.mg_policy.specs.Inbox.{rests};
-ghost use Rattle.mg_policy.specs.Looks.{earliest};
+ghost use Rattle.mg_policy.specs.Code.Looks.{earliest};
 
 use mg_stream::Queue;
 use mg_time::Timestamp;

@@ -5,6 +5,7 @@ use Rattle.mg_edge.specs.declared.store.Loaded.TheVariants.{Bytes}
 use Rattle.mg_edge.proofs.Runs.{TookAll-start}
 use Rattle.mg_run.proofs.Finishing.{front-nothing}
 use Rattle.mg_run.proofs.Files.{one_file}
+use Rattle.mg_run.proofs.Flowing.{rose-after}
 use Rattle.mg_run.specs.Command.{Command}
 use Rattle.mg_run.specs.File.{File, IsFile}
 use Rattle.mg_run.specs.Answer.{Job, refuse, show, merge, job_of, answer_of, answer, run_answer}
@@ -131,7 +132,7 @@ ran-answer names GraphRefused all ran none some = elim ran [ ]
 ran-answer names LineRefused all ran none some = ran.answered
 ran-answer names NodeFault all ran none some = elim ran [ ]
 ran-answer names Stalled all ran none some = elim ran [ ]
-ran-answer names ReadFault all ran none some = absurd (unrisen-rose all.input.before.faults all.input.now.faults none.input ran.failed.rose)
+ran-answer names ReadFault all ran none some = absurd (unrisen-rose all.input.before.faults all.input.now.faults none.input (rose-after all.input.before.faults all.input.before.faults all.input.now.faults refl ran.failed.once))
 ran-answer names WriteFault all ran none some = absurd (neither ran.rose)
   where
     neither : Rose all.output.before.faults all.output.now.faults ⊎ Rose all.notes.before.faults all.notes.now.faults → ⊥

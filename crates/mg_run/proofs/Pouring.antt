@@ -161,7 +161,7 @@ poured-part names first before now output failed feed buf pours takes more at no
   sent = pours.sent;
   gave = Gave-failed first.left before.left now.left pours.came buf pours.gave takes;
   fault = record {
-    rose = rose-after first.faults before.faults now.faults pours.steady more;
+    once = more ∙ ap one_more pours.steady;
     last = left-now first.left before.left now.left first.left_at_fault before.left_at_fault now.left_at_fault pours.came buf pours.gave takes pours.unfailed at;
   };
   flows = pours.flows;

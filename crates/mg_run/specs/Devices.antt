@@ -1,6 +1,6 @@
 -- The devices of a call, and what the call did to each: what each told of itself before the call, and tells now.
 use Rattle.std.specs.Prelude.{◌≡◌, ℕ, ◌^◌, ◌-◌, ◌<◌, ◌⊎◌, List, [], ◌++◌, Some, IfSome, option_map}
-use Rattle.mg_edge.specs.Edge.{SourceTold, SinkTold, StoreTold, Rose}
+use Rattle.mg_edge.specs.Edge.{SourceTold, SinkTold, StoreTold, Rose, one_more}
 use Rattle.mg_edge.specs.Runs.{TookAll}
 
 pub record Device (T : Type 0) : Type 0 where
@@ -42,10 +42,10 @@ pub record NoneFailed (devices : Devices) : Type 0 where
 
 -- Sources --
 
--- A read failed, and nothing was read after it: where the source tells its bytes, and what was left at the read that
+-- One read failed, and nothing was read after it: where the source tells its bytes, and what was left at the read that
 -- failed last, the two are the same.
 pub record ReadFailed (input : Device SourceTold) : Type 0 where
-  pub rose : Rose input.before.faults input.now.faults
+  pub once : input.now.faults ≡ one_more input.before.faults
   pub last : IfSome input.before.left (λ bytes. input.now.left_at_fault ≡ option_map (λ last. input.now.left) input.before.left_at_fault)
 
 -- The source answered `End`, and where it tells its bytes none is left.

@@ -13,8 +13,8 @@ Spells text t =
     ⊎ (IsRange t × (text ≡ signed_decimal (raw_of t)))
 
 -- The text of any time: the number of a time of the range, and the name of every other.
-abbrev pub text_of : ℕ → List ℕ
-text_of t =
+abbrev pub time_text : ℕ → List ℕ
+time_text t =
     if t == unset then codes "Unset"
     else (if t == unstarted then codes "Unstarted"
     else (if t == pre_stream then codes "PreStream"

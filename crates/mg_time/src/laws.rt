@@ -2,7 +2,7 @@
 ghost use Rattle.std.specs.Prelude.{◌≡◌, ◌<◌, ◌≤◌, ◌⊎◌, ◌↔◌, ℕ, ℤ, ◌≤ℤ◌, List, FitsSigned};
 ghost use Rattle.std.specs.Int.{w64};
 ghost use Rattle.mg_time.specs.Time.{raw_of, place_of, done, IsAllowed, next, shift};
-ghost use Rattle.mg_time.specs.Text.{Spells, text_of};
+ghost use Rattle.mg_time.specs.Text.{Spells, time_text};
 
 use crate::Timestamp;
 
@@ -43,6 +43,6 @@ pub fn shift_keeps_order()
 
 /// What a packet may carry is read back from its text, and a text that is read is the text of what it was read as.
 pub fn texts_are_read_back()
-    ensures printed { (t : ℕ) → IsAllowed t → Spells (text_of t) t }
-    ensures read { (text : List ℕ) (t : ℕ) → Spells text t → IsAllowed t × (text ≡ text_of t) }
+    ensures printed { (t : ℕ) → IsAllowed t → Spells (time_text t) t }
+    ensures read { (text : List ℕ) (t : ℕ) → Spells text t → IsAllowed t × (text ≡ time_text t) }
 {}

@@ -2,7 +2,7 @@ ghost use Rattle.std.specs.Prelude.{◌≡◌, ◌<◌, ◌≤◌, ◌≤ℤ◌,
 ghost use Rattle.std.specs.Int.{w64};
 ghost use Rattle.std.specs.Fmt.{signed_decimal};
 ghost use Rattle.mg_time.specs.Time.{raw_of, constant_places, constant_numbers, place_of, least, greatest, IsRange, IsAllowed, next, shift};
-ghost use Rattle.mg_time.specs.Text.{Spells, text_of};
+ghost use Rattle.mg_time.specs.Text.{Spells, time_text};
 
 use itoa::Buffer;
 use std::alloc::{AllocError, Global};
@@ -166,7 +166,7 @@ impl Timestamp {
 
     /// The number of a timestamp of the range, and the name of every other.
     pub fn print_text(self, alloc: Global) -> Result<Vec<u8>, AllocError>
-        ensures { IfOk result (λ text. text.items ≡ text_of self) }
+        ensures { IfOk result (λ text. text.items ≡ time_text self) }
     {
         let mut buffer = Buffer::new();
         let text = match self {

@@ -1,6 +1,6 @@
 use Rattle.std.proofs.Common.{◌≡◌, ◌∙◌, sym, ap, arith, is_some, true, false, refl, ℕ, List, Some, if◌then◌else◌, ◌&&◌, ◌==◌}
 use Rattle.std.specs.Str.{bytes_eq}
-use Rattle.mg_names.specs.Places.{kept_place}
+use Rattle.mg_names.specs.Code.Places.{kept_place}
 use Rattle.mg_names.proofs.Standing.{table_more, table_twice}
 use Rattle.mg_names.proofs.indexing.places_of.Goals as goal
 

@@ -3,7 +3,7 @@ use Rattle.mg_value.specs.Prefix.{IsPrefix}
 use Rattle.mg_value.specs.Settled.{low}
 use Rattle.mg_stream.specs.Queue.{rest_of}
 use Rattle.mg_policy.specs.Inbox.{rests}
-use Rattle.mg_policy.specs.Looks.{earliest}
+use Rattle.mg_policy.specs.Code.Looks.{earliest}
 use Rattle.mg_policy.proofs.looks.look_at.Given as goal
 
 abbrev pub invariant-loop-queue : goal.invariant-loop-queue

@@ -1,6 +1,6 @@
 use Rattle.std.proofs.Common.{rules, ◌==◌, ◌∙◌, ap, Some, if◌then◌else◌}
 use Rattle.std.specs.Prelude.{option_map}
-use Rattle.mg_names.specs.Places.{slot_of}
+use Rattle.mg_names.specs.Code.Places.{slot_of}
 use Rattle.mg_names.proofs.Keys.{slots_put, slots_put_first, on_ok}
 use Rattle.mg_names.proofs.places.Places.put.Goals as goal
 

@@ -1,4 +1,4 @@
--- What one look over some queues finds. Only private functions cite this.
+-- What one look over some queues finds.
 use Rattle.std.specs.Prelude.{ℕ, List, [], ◌∷◌, min}
 use Rattle.mg_time.specs.Time.{done}
 use Rattle.mg_value.specs.Prefix.{first_time}
