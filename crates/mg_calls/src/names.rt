@@ -1,4 +1,4 @@
-//! Printing: their spellings, the ports of lists of texts, and the texts of ports.
+//! Ports: their spellings, the ports of lists of texts, and the texts of ports.
 
 use crate::table::{Calls, assert_rows};
 use mg_names::{NameFault, Port, PortMap, print_port, read_port};
