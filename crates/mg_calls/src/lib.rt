@@ -19,6 +19,8 @@ mod policy;
 #[cfg(test)]
 mod stream;
 #[cfg(test)]
+mod subgraph;
+#[cfg(test)]
 mod table;
 #[cfg(test)]
 mod text;

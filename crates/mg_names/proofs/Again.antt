@@ -1,14 +1,15 @@
 -- The ports of texts, and those of their own texts.
-use Rattle.std.proofs.Common.{Bool, Err, List, None, Ok, Option, Result, Some, [], ap, arith, count_by, false, if◌then◌else◌, inl, inr, length, map, refl, subst, suc, sym, true, unwrap_or, zero, zero-add, ℕ, ◌++◌, ◌+◌, ◌<◌, ◌∙◌, ◌∷◌, ◌≡◌, ◌⊎◌}
+use Rattle.std.proofs.Common.{not, ◌&&◌, ◌-◌, ◌==◌, ◌||◌, Bool, Err, List, None, Ok, Option, Result, Some, [], ap, arith, count_by, false, if◌then◌else◌, inl, inr, length, map, refl, subst, suc, sym, true, unwrap_or, zero, zero-add, ℕ, ◌++◌, ◌+◌, ◌<◌, ◌∙◌, ◌∷◌, ◌≡◌, ◌⊎◌}
 use Rattle.std.specs.Prelude.{IsTrue}
-use Rattle.std.specs.List.{All}
+use Rattle.std.specs.List.{All, list_all, list_any}
 use Rattle.std.specs.Str.{bytes_eq}
 use Rattle.std.proofs.lemmas.Bool.{false≢true}
 use Rattle.std.proofs.lemmas.Bool.Decides.{nat_tests}
 use Rattle.std.proofs.lemmas.List.Sums.{sum_by-append}
 use Rattle.mg_names.specs.Grammar.{is_name, is_tag, index_of}
 use Rattle.mg_names.specs.Spelling.{parts_of, spelling_of_parts, named, named_at, is_untagged}
-use Rattle.mg_names.specs.Ports.{after, port_at, port_after, placed_at, ports_after, stands_twice, has_gap, checked, placed_ports_of, without_place, ports_of, text_of, IsSpelled}
+use Rattle.mg_names.specs.Ports.{after, port_at, port_after, placed_at, ports_after, has_port, stands_twice, has_gap, checked, placed_ports_of, without_place, ports_of, text_of, IsSpelled}
+use Rattle.mg_names.specs.Renaming.{with_names}
 use Rattle.mg_names.specs.declared.spelling.Spelling.{Spelling}
 use Rattle.mg_names.specs.declared.fault.NameFault.{NameFault}
 use Rattle.mg_names.specs.declared.fault.NameFault.TheVariants.{BadName, BadTag, Gap, Twice}
@@ -178,3 +179,78 @@ read_again texts ports made =
 
 pub all_spelled : (texts : List (List ℕ)) (ports : List Port) → ports_of texts ≡ Ok ports → All IsSpelled ports
 all_spelled texts ports made = made_spelled texts [] ports (made_of texts ports made).0
+
+-- a port under another name is read back from its own text after as many untagged ones
+named_one : (before again : List (List ℕ)) (text : List ℕ) (port : Port) (name : List ℕ) → count_by is_untagged before ≡ count_by is_untagged again → port_after before text ≡ Ok port → is_name name ≡ true
+    → port_after again (text_of (record port { name = name })) ≡ Ok (record port { name = name })
+named_one before again text port name same read good =
+    let known = port_is_made (count_by is_untagged before) text port read in
+    port_read_back (record port { name = name }) (text_of (record port { name = name })) refl (record { tag = known.spelled.tag; index = known.spelled.index; name = good }) again (λ empty. sym same ∙ known.numbered empty)
+
+named_count : (before again : List (List ℕ)) (text : List ℕ) (port : Port) (name : List ℕ) → count_by is_untagged before ≡ count_by is_untagged again → port_after before text ≡ Ok port → is_name name ≡ true
+    → count_by is_untagged (before ++ text ∷ []) ≡ count_by is_untagged (again ++ text_of (record port { name = name }) ∷ [])
+named_count before again text port name same read good =
+    let other : Port = record port { name = name } in
+    let here : bytes_eq port.tag [] ≡ is_untagged text = untagged_is_empty (count_by is_untagged before) text port read in
+    let there : bytes_eq port.tag [] ≡ is_untagged (text_of other) = untagged_is_empty (count_by is_untagged again) (text_of other) other (named_one before again text port name same read good) in
+    counted_push before text
+    ∙ (ap (λ n. n + (if is_untagged text then 1 else 0)) same
+    ∙ (ap (λ b. count_by is_untagged again + (if b then 1 else 0)) (sym here ∙ there) ∙ sym (counted_push again (text_of other))))
+
+-- so are all of them
+pub named_again : (texts before again : List (List ℕ)) (ports : List Port) (names : List (List ℕ)) → count_by is_untagged before ≡ count_by is_untagged again
+    → ports_after before texts ≡ Ok ports → list_all is_name names ≡ true → ports_after again (map text_of (with_names ports names)) ≡ Ok (with_names ports names)
+named_again [] before again [] names same made good = refl
+named_again [] before again (port ∷ ports) names same made good = cc
+named_again (text ∷ texts) before again ports [] same made good =
+    let first = first_port before text texts ports made in
+    let P : List Port → Type 0 = λ all. ports_after again (map text_of (with_names all [])) ≡ Ok (with_names all []) in
+    subst P first.4 (subst (λ all. ports_after again (map text_of all) ≡ Ok all) (sym first.4) (made_again (text ∷ texts) before again ports same made))
+named_again (text ∷ texts) before again ports (name ∷ names) same made good =
+    let first = first_port before text texts ports made in
+    let goods = both_good (is_name name) (list_all is_name names) good in
+    let other : Port = record first.0 { name = name } in
+    let rest = with_names first.1 names in
+    let P : List Port → Type 0 = λ all. ports_after again (map text_of (with_names all (name ∷ names))) ≡ Ok (with_names all (name ∷ names)) in
+    let others : ports_after (again ++ text_of other ∷ []) (map text_of rest) ≡ Ok rest =
+    named_again texts (before ++ text ∷ []) (again ++ text_of other ∷ []) first.1 names (named_count before again text first.0 name same first.2 goods.0) first.3 goods.1 in
+    subst P first.4
+    (ap (λ r. after (placed_at (length again) r) (λ port. after (ports_after (again ++ text_of other ∷ []) (map text_of rest)) (λ more. Ok (port ∷ more)))) (named_one before again text first.0 name same first.2 goods.0)
+    ∙ ap (λ r. after r (λ more. Ok (other ∷ more))) others)
+  where
+    both_good : (a b : Bool) → (a && b) ≡ true → (a ≡ true) × (b ≡ true)
+    both_good true b good = (refl, good)
+    both_good false b good = absurd (false≢true good)
+
+-- whether a tag and index stand twice, and whether there is a gap, doesn't depend on the names
+any_named : (test : List ℕ → ℕ → Bool) (ports : List Port) (names : List (List ℕ)) → list_any (λ port. test port.tag port.index) (with_names ports names) ≡ list_any (λ port. test port.tag port.index) ports
+any_named test [] names = refl
+any_named test (port ∷ ports) [] = refl
+any_named test (port ∷ ports) (name ∷ names) = ap (λ b. test port.tag port.index || b) (any_named test ports names)
+
+twice_named : (ports : List Port) (names : List (List ℕ)) → stands_twice (with_names ports names) ≡ stands_twice ports
+twice_named [] names = refl
+twice_named (port ∷ ports) [] = refl
+twice_named (port ∷ ports) (name ∷ names) =
+    ap (λ b. b || stands_twice (with_names ports names)) (any_named (λ tag index. bytes_eq port.tag tag && (port.index == index)) ports names)
+    ∙ ap (λ b. has_port port.tag port.index ports || b) (twice_named ports names)
+
+lower_same : (first second all : List Port) → ((tag : List ℕ) (index : ℕ) → has_port tag index first ≡ has_port tag index second)
+    → list_any (λ port. not (port.index == 0) && not (has_port port.tag (port.index - 1) first)) all ≡ list_any (λ port. not (port.index == 0) && not (has_port port.tag (port.index - 1) second)) all
+lower_same first second [] same = refl
+lower_same first second (port ∷ all) same =
+    ap (λ b. (not (port.index == 0) && not b) || list_any (λ p. not (p.index == 0) && not (has_port p.tag (p.index - 1) first)) all) (same port.tag (port.index - 1))
+    ∙ ap (λ b. (not (port.index == 0) && not (has_port port.tag (port.index - 1) second)) || b) (lower_same first second all same)
+
+gap_named : (ports : List Port) (names : List (List ℕ)) → has_gap (with_names ports names) ≡ has_gap ports
+gap_named ports names =
+    any_named (λ tag index. not (index == 0) && not (has_port tag (index - 1) (with_names ports names))) ports names
+    ∙ lower_same (with_names ports names) ports ports (λ tag index. any_named (λ t i. bytes_eq tag t && (index == i)) ports names)
+
+-- where the texts are read, so are those of their ports under other names
+pub read_named : (texts : List (List ℕ)) (ports : List Port) (names : List (List ℕ)) → ports_of texts ≡ Ok ports → list_all is_name names ≡ true → ports_of (map text_of (with_names ports names)) ≡ Ok (with_names ports names)
+read_named texts ports names made good =
+    let known = made_of texts ports made in
+    let other = with_names ports names in
+    let same : checked other ≡ Ok other = rw (twice_named ports names ∙ known.1, gap_named ports names ∙ known.2) refl in
+    ap without_place (ap (λ r. after r checked) (named_again texts [] [] ports names refl known.0 good) ∙ same)

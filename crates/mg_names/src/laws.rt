@@ -2,7 +2,9 @@
 ghost use Rattle.std.specs.Prelude.{◌≡◌, ◌<◌, ◌↔◌, ℕ, List, false, true, Ok, Some, map, slice_get, All, AllPairs};
 ghost use Rattle.std.specs.Fmt.{decimal};
 ghost use Rattle.mg_names.specs.declared.port.Port.{Port};
-ghost use Rattle.mg_names.specs.Grammar.{index_of, index_count};
+ghost use Rattle.std.specs.List.{list_all};
+ghost use Rattle.mg_names.specs.Grammar.{is_name, index_of, index_count};
+ghost use Rattle.mg_names.specs.Renaming.{with_names};
 ghost use Rattle.mg_names.specs.TagIndex.{tag_index_of, text_of_tag_index, IsTagIndex};
 ghost use Rattle.mg_names.specs.Ports.{has_port, is_at, stands_twice, has_gap, ports_of, place_of, text_of, IsSpelled};
 
@@ -44,4 +46,10 @@ pub fn filled_is_downward()
 /// Each port of texts is found at its own place.
 pub fn ports_are_found()
     ensures { (texts : List (List ℕ)) (ports : List Port) (i : ℕ) (port : Port) → ports_of texts ≡ Ok ports → slice_get ports i ≡ Some port → place_of port.tag port.index ports ≡ Some i }
+{}
+
+/// Ports stay readable under other names.
+pub fn names_are_free()
+    ensures { (texts : List (List ℕ)) (ports : List Port) (names : List (List ℕ)) → ports_of texts ≡ Ok ports → list_all is_name names ≡ true
+        → ports_of (map text_of (with_names ports names)) ≡ Ok (with_names ports names) }
 {}

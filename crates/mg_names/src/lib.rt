@@ -13,6 +13,7 @@ mod port;
 mod port_map;
 mod printing;
 mod reading;
+mod renaming;
 mod spelling;
 mod tag_index;
 

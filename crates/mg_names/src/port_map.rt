@@ -6,6 +6,7 @@ use crate::numbering::read_ports;
 use crate::placed_fault::PlacedFault;
 use crate::places::Places;
 use crate::port::Port;
+use crate::renaming::{copies_of, named};
 use mg_value::{List, MgText};
 use std::alloc::{AllocError, Global};
 use std::marker::Model;
@@ -34,6 +35,7 @@ impl Model for PortMap {
 
 impl PortMap {
     ghost use Rattle.mg_names.specs.Ports.{ports_of, placed_ports_of, HasCause, place_of};
+    ghost use Rattle.mg_names.specs.Renaming as renaming;
 
     /// No ports.
     pub fn new(alloc: Global) -> PortMap
@@ -101,5 +103,26 @@ impl PortMap {
         ensures { result ≡ place_of tag.now index self.now }
     {
         self.places.get(tag, index)
+    }
+
+    /// A second copy.
+    pub fn try_clone(&self, alloc: Global) -> Result<PortMap, AllocError>
+        ensures { IfOk result (λ map. map ≡ self.now) }
+    {
+        let ports = List::from_vec(copies_of(alloc, self.ports.as_slice())?)?;
+        // No tag and index stands twice in a map that was read, so nothing but memory can want.
+        match places_of(alloc, ports.as_slice()) {
+            Ok(places) => Ok(PortMap { ports, places }),
+            Err(_) => Err(AllocError),
+        }
+    }
+
+    /// The ports under other names, in their order. Ports past the last name keep theirs.
+    pub fn with_names(self, names: Vec<MgText>) -> PortMap
+        ensures { result ≡ renaming.with_names self names.items }
+    {
+        let PortMap { ports, places } = self;
+        let ports = named(ports, names);
+        PortMap { ports, places }
     }
 }

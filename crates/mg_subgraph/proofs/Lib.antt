@@ -1,0 +1,15 @@
+pub mod Joins
+pub mod Indexed
+pub mod Reaching
+pub mod Grounded
+pub mod Flags
+pub mod Reached
+pub mod Linked
+pub mod Steps
+pub mod Sized
+pub mod Looked
+pub mod Meeting
+pub mod Prefixes
+pub mod Kept
+pub mod Apartness
+pub mod Again

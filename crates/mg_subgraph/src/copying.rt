@@ -1,0 +1,105 @@
+//! Second copies of nodes and of what graphs and nodes have.
+ghost use Rattle.std.specs.Prelude.{◌≡◌, IfOk};
+ghost use Rattle.mg_config.specs.Config.{node_view};
+
+use mg_config::{Mark, MarkList, NodeConfig};
+use mg_names::PortMap;
+use mg_value::{List, MgText};
+use std::alloc::{AllocError, Global};
+
+/// The lists of ports of a graph or a node.
+#[derive(Debug, Drop)]
+pub struct PortLists {
+    pub inputs: PortMap,
+    pub outputs: PortMap,
+    pub input_sides: PortMap,
+    pub output_sides: PortMap,
+}
+
+/// Second copies of lists of ports.
+pub fn lists_of(
+    alloc: Global,
+    inputs: &PortMap,
+    outputs: &PortMap,
+    input_sides: &PortMap,
+    output_sides: &PortMap,
+) -> Result<PortLists, AllocError>
+    ensures { IfOk result (λ lists. lists ≡ record { inputs = inputs.now; outputs = outputs.now; input_sides = input_sides.now; output_sides = output_sides.now }) }
+{
+    Ok(PortLists {
+        inputs: inputs.try_clone(alloc)?,
+        outputs: outputs.try_clone(alloc)?,
+        input_sides: input_sides.try_clone(alloc)?,
+        output_sides: output_sides.try_clone(alloc)?,
+    })
+}
+
+fn marks_of(alloc: Global, marks: &[Mark]) -> Result<MarkList, AllocError>
+    ensures { IfOk result (λ copies. copies ≡ marks.now) }
+{
+    let mut copies = Vec::new(alloc);
+    for mark in marks {
+        let tag = mark.tag.try_clone(alloc)?;
+        copies.push(Mark {
+            tag,
+            index: mark.index,
+        })?;
+    }
+    Ok(List::from_vec(copies)?)
+}
+
+/// The texts of a node.
+#[derive(Debug, Drop)]
+struct Texts {
+    name: MgText,
+    calculator: MgText,
+    handler: MgText,
+}
+
+fn texts_of(alloc: Global, node: &NodeConfig) -> Result<Texts, AllocError>
+    ensures { IfOk result (λ texts. texts ≡ record { name = node.now.name; calculator = node.now.calculator; handler = node.now.handler }) }
+{
+    Ok(Texts {
+        name: node.name.try_clone(alloc)?,
+        calculator: node.calculator.try_clone(alloc)?,
+        handler: node.handler.try_clone(alloc)?,
+    })
+}
+
+/// A second copy of a node.
+pub fn copy_of(alloc: Global, node: &NodeConfig) -> Result<NodeConfig, AllocError>
+    ensures { IfOk result (λ copy. node_view copy ≡ node_view node.now) }
+{
+    let Texts {
+        name,
+        calculator,
+        handler,
+    } = texts_of(alloc, node)?;
+    let PortLists {
+        inputs,
+        outputs,
+        input_sides,
+        output_sides,
+    } = lists_of(
+        alloc,
+        &node.inputs,
+        &node.outputs,
+        &node.input_sides,
+        &node.output_sides,
+    )?;
+    let options = node.options.try_clone()?;
+    let back_marks = marks_of(alloc, node.back_marks.as_slice())?;
+    Ok(NodeConfig {
+        name,
+        calculator,
+        inputs,
+        outputs,
+        input_sides,
+        output_sides,
+        options,
+        back_marks,
+        handler,
+        max_in_flight: node.max_in_flight,
+        buffer_size_hint: node.buffer_size_hint,
+    })
+}

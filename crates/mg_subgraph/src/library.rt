@@ -1,0 +1,52 @@
+ghost use Rattle.std.specs.Prelude.{◌≡◌, ◌≢◌, ◌<◌, None, Some, IfOk, IfErr, OnOk, map, position, length};
+ghost use Rattle.mg_config.specs.Config.{graph_view};
+ghost use Rattle.mg_subgraph.specs.Code.Index.{IsIndex};
+ghost use Rattle.mg_subgraph.specs.Library.{is_of};
+ghost use Rattle.mg_subgraph.specs.Refusals.{types_of, type_twice, first_twice};
+
+use crate::fault::ExpandFault;
+use crate::index::Index;
+use mg_config::GraphConfig;
+use std::alloc::{AllocError, Global};
+
+/// The files of a library, of which no two have the same type, with the place of each type.
+#[derive(Drop)]
+pub struct Library<'a> {
+    pub files: &'a [GraphConfig],
+    types: Index,
+    ghost placed: { IsIndex types 0 (types_of (map graph_view files.now)) },
+    ghost once: { type_twice (map graph_view files.now) ≡ None },
+}
+
+fn index_of(alloc: Global, files: &[GraphConfig]) -> Result<Index, AllocError>
+    ensures { IfOk result (λ types. IsIndex types 0 (types_of (map graph_view files.now))) }
+{
+    let mut types = Index::new(alloc);
+    for i in (0..files.len()).rev() {
+        types.add(alloc, files[i].type_name.as_bytes(), i)?;
+    }
+    Ok(types)
+}
+
+impl<'a> Library<'a> {
+    /// The library of files, unless two have the same type.
+    pub fn new(alloc: Global, files: &'a [GraphConfig]) -> Result<Library<'a>, ExpandFault>
+        ensures files { IfOk result (λ library. library.files.now ≡ files.now) }
+        ensures err { IfErr result (λ fault. fault ≢ ExpandFault.OutOfMemory → type_twice (map graph_view files.now) ≡ Some fault) }
+    {
+        let types = index_of(alloc, files)?;
+        match types.twice() {
+            None => Ok(Library { files, types }),
+            Some(i) => Err(ExpandFault::TypeTwice {
+                name: files[i].type_name.try_clone(alloc)?,
+            }),
+        }
+    }
+
+    /// The place of the file that a calculator names, if it names one.
+    pub fn find(&self, calculator: &[u8]) -> Option<usize>
+        ensures { result ≡ position (is_of calculator.now) (map graph_view self.now.files.now) }
+    {
+        self.types.get(calculator)
+    }
+}

@@ -1,0 +1,118 @@
+//! The names at the ports of files, and those that stand at two.
+ghost use Rattle.std.specs.Prelude.{◌≡◌, ◌≢◌, ℕ, ◌+◌, ◌<◌, ◌^◌, ◌++◌, List, None, Some, IfOk, IfErr, OnOk, map, option_map, option_copied, length, slice_get};
+ghost use Rattle.mg_config.specs.Config.{graph_view};
+ghost use Rattle.mg_subgraph.specs.Code.Index.{IsIndex};
+ghost use Rattle.mg_subgraph.specs.Code.Judged.{flagged, AreNames, AreFileNames};
+ghost use Rattle.mg_subgraph.specs.Refusals.{port_names, shared_name, first_some, port_shared_in};
+
+use crate::fault::ExpandFault;
+use crate::index::Index;
+use mg_config::GraphConfig;
+use mg_names::{Port, PortMap};
+use mg_value::MgText;
+use std::alloc::{AllocError, Global};
+
+/// The places of the names at the ports of a file: those of streams, and those of side packets. The ports that come in
+/// stand before those that go out.
+#[derive(Debug, Drop)]
+pub struct FileNames {
+    pub streams: Index,
+    pub sides: Index,
+}
+
+fn add_ports(
+    alloc: Global,
+    index: &mut Index,
+    ports: &PortMap,
+    from: usize,
+) -> Result<(), AllocError>
+    requires { from < 2 ^ 32 }
+    ensures { OnOk result ((texts : List (List ℕ)) → IsIndex index.old (from + length ports.now) texts → IsIndex index.new from (port_names ports.now ++ texts)) }
+{
+    for i in (0..ports.len()).rev() {
+        let Some(port) = ports.get(i) else {
+            unreachable!()
+        };
+        index.add(alloc, port.name.as_bytes(), from + i as usize)?;
+    }
+    Ok(())
+}
+
+fn index_ports(alloc: Global, inputs: &PortMap, outputs: &PortMap) -> Result<Index, AllocError>
+    ensures { IfOk result (λ index. IsIndex index 0 (port_names inputs.now ++ port_names outputs.now)) }
+{
+    let mut index = Index::new(alloc);
+    add_ports(alloc, &mut index, outputs, inputs.len() as usize)?;
+    add_ports(alloc, &mut index, inputs, 0)?;
+    Ok(index)
+}
+
+fn names_in(alloc: Global, file: &GraphConfig) -> Result<FileNames, AllocError>
+    ensures { IfOk result (λ names. AreNames names (graph_view file.now)) }
+{
+    let streams = index_ports(alloc, &file.inputs, &file.outputs)?;
+    let sides = index_ports(alloc, &file.input_sides, &file.output_sides)?;
+    Ok(FileNames { streams, sides })
+}
+
+/// The names at the ports of each file.
+pub fn names_of(alloc: Global, files: &[GraphConfig]) -> Result<Vec<FileNames>, AllocError>
+    ensures { IfOk result (λ names. AreFileNames (map graph_view files.now) names.items) }
+{
+    let mut names = Vec::new(alloc);
+    for file in files {
+        names.push(names_in(alloc, file)?)?;
+    }
+    Ok(names)
+}
+
+/// The port at a place, where those that come in stand before those that go out.
+pub fn port_at<'a>(inputs: &'a PortMap, outputs: &'a PortMap, place: usize) -> Option<&'a Port>
+    ensures { option_copied result ≡ slice_get (inputs.now ++ outputs.now) place }
+{
+    let count = inputs.len() as usize;
+    if place < count {
+        return inputs.get(place as u32);
+    }
+    if place - count < outputs.len() as usize {
+        return outputs.get((place - count) as u32);
+    }
+    None
+}
+
+fn shared_port<'a>(file: &'a GraphConfig, names: &FileNames) -> Option<&'a Port>
+    requires { AreNames names.now (graph_view file.now) }
+    ensures { option_map (λ port. port.name) (option_copied result) ≡ shared_name (graph_view file.now) }
+{
+    match (names.streams.twice(), names.sides.twice()) {
+        (Some(place), _) => port_at(&file.inputs, &file.outputs, place),
+        (None, Some(place)) => port_at(&file.input_sides, &file.output_sides, place),
+        (None, None) => None,
+    }
+}
+
+/// Looks for a name that stands at two ports of a file that is used.
+pub fn check_shared(
+    alloc: Global,
+    files: &[GraphConfig],
+    used: &[bool],
+    names: &[FileNames],
+) -> Result<(), ExpandFault>
+    requires len { length used.now ≡ length files.now }
+    requires names { AreFileNames (map graph_view files.now) names.now }
+    ensures ok { OnOk result (first_some port_shared_in (flagged used.now (map graph_view files.now)) ≡ None) }
+    ensures err { IfErr result (λ fault. fault ≢ ExpandFault.OutOfMemory → first_some port_shared_in (flagged used.now (map graph_view files.now)) ≡ Some fault) }
+{
+    for (place, file) in files.iter().enumerate() {
+        if !used[place] {
+            continue;
+        }
+        if let Some(port) = shared_port(file, &names[place]) {
+            return Err(ExpandFault::PortShared {
+                owner: file.type_name.try_clone(alloc)?,
+                name: port.name.try_clone(alloc)?,
+            });
+        }
+    }
+    Ok(())
+}
