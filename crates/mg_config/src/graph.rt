@@ -17,11 +17,11 @@ use crate::schema::Message;
 use crate::value::{number_named, text_named};
 use mg_names::PortMap;
 use mg_text::{Field, Tree};
-use mg_value::{List, MgText};
+use mg_value::{BlockList, MgText};
 use std::alloc::{AllocError, Global};
 
 /// The nodes of a graph, in the order of the text.
-pub type NodeList = List<NodeConfig>;
+pub type NodeList = BlockList<NodeConfig>;
 
 /// A graph (MediaPipe, calculator.proto: CalculatorGraphConfig). A text that is absent is empty, and a number that is
 /// absent is 0.

@@ -11,7 +11,7 @@ use crate::node::MarkList;
 use crate::path::within_numbered;
 use crate::value::{fields_of_value, has_name, truth_named};
 use mg_text::Field;
-use mg_value::List;
+use mg_value::BlockList;
 use std::alloc::{AllocError, Global};
 
 /// The input that a message tells of, where k others of the name stand before it.
@@ -50,5 +50,5 @@ pub fn marks_named(alloc: Global, fields: &[Field]) -> Result<MarkList, ConfigFa
         keep(&mut marks, truth_named(info, b"back_edge"), mark)?;
         k += 1;
     }
-    Ok(List::from_vec(marks)?)
+    Ok(BlockList::from_vec(marks)?)
 }

@@ -11,11 +11,11 @@ use crate::ports::{PortPair, pair_named};
 use crate::value::{message_named, number_named, text_named};
 use mg_names::PortMap;
 use mg_text::{Field, Tree};
-use mg_value::{List, MgText};
+use mg_value::{BlockList, MgText};
 use std::alloc::{AllocError, Global};
 
 /// The back edges among a node's inputs, in the order of the text.
-pub type MarkList = List<Mark>;
+pub type MarkList = BlockList<Mark>;
 
 /// A node of a graph (MediaPipe, calculator.proto: CalculatorGraphConfig.Node). A text that is absent is empty, and a
 /// number that is absent is 0.

@@ -11,7 +11,7 @@ use crate::node::{NodeConfig, node_of};
 use crate::path::within_numbered;
 use crate::value::{fields_of_value, has_name};
 use mg_text::Field;
-use mg_value::List;
+use mg_value::BlockList;
 use std::alloc::Global;
 
 /// The node of a message, where k others of the name stand before it.
@@ -40,5 +40,5 @@ pub fn nodes_named(alloc: Global, fields: &[Field]) -> Result<NodeList, ConfigFa
         nodes.push(node)?;
         k += 1;
     }
-    Ok(List::from_vec(nodes)?)
+    Ok(BlockList::from_vec(nodes)?)
 }

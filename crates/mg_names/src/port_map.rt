@@ -7,7 +7,7 @@ use crate::placed_fault::PlacedFault;
 use crate::places::Places;
 use crate::port::Port;
 use crate::renaming::{copies_of, named};
-use mg_value::{List, MgText};
+use mg_value::{BlockList, MgText};
 use std::alloc::{AllocError, Global};
 use std::marker::Model;
 
@@ -15,7 +15,7 @@ use std::marker::Model;
 /// list of its ports.
 #[derive(Debug, Drop)]
 pub struct PortMap {
-    ports: List<Port>,
+    ports: BlockList<Port>,
     places: Places,
 }
 
@@ -42,7 +42,7 @@ impl PortMap {
         ensures { result ≡ [] }
     {
         PortMap {
-            ports: List::from_vec(Vec::new(alloc)).unwrap(),
+            ports: BlockList::from_vec(Vec::new(alloc)).unwrap(),
             places: Places::new(alloc),
         }
     }
@@ -65,7 +65,7 @@ impl PortMap {
         // Want of memory is no cause: it is a fault of its own.
         ensures cause { IfErr result HasCause }
     {
-        let ports = List::from_vec(read_ports(alloc, texts)?)?;
+        let ports = BlockList::from_vec(read_ports(alloc, texts)?)?;
         let slice = ports.as_slice();
         let places = places_of(alloc, slice)?;
         if any_lacks_lower(&places, slice) {
@@ -109,7 +109,7 @@ impl PortMap {
     pub fn try_clone(&self, alloc: Global) -> Result<PortMap, AllocError>
         ensures { IfOk result (λ map. map ≡ self.now) }
     {
-        let ports = List::from_vec(copies_of(alloc, self.ports.as_slice())?)?;
+        let ports = BlockList::from_vec(copies_of(alloc, self.ports.as_slice())?)?;
         // No tag and index stands twice in a map that was read, so nothing but memory can want.
         match places_of(alloc, ports.as_slice()) {
             Ok(places) => Ok(PortMap { ports, places }),

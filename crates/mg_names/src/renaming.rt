@@ -3,7 +3,7 @@ ghost use Rattle.std.specs.Prelude.{◌≡◌, IfOk};
 ghost use Rattle.mg_names.specs.Renaming as renaming;
 
 use crate::port::Port;
-use mg_value::{List, MgText};
+use mg_value::{BlockList, MgText};
 use std::alloc::{AllocError, Global};
 
 fn copy_of(alloc: Global, port: &Port) -> Result<Port, AllocError>
@@ -43,10 +43,10 @@ fn name_all(ports: &mut [Port], names: Vec<MgText>)
 }
 
 /// Ports under other names, in order.
-pub(crate) fn named(ports: List<Port>, names: Vec<MgText>) -> List<Port>
+pub(crate) fn named(ports: BlockList<Port>, names: Vec<MgText>) -> BlockList<Port>
     ensures { result ≡ renaming.with_names ports names.items }
 {
     let mut ports = ports.into_vec();
     name_all(&mut ports, names);
-    List::from_vec(ports).unwrap()
+    BlockList::from_vec(ports).unwrap()
 }

@@ -8,7 +8,7 @@ use crate::merge::Merge;
 use crate::reading::{Said, read_line};
 use memchr::memchr;
 use mg_time::Timestamp;
-use mg_value::{List, MgText};
+use mg_value::{BlockList, MgText};
 use std::alloc::{AllocError, Global};
 use std::mem;
 
@@ -17,7 +17,7 @@ use std::mem;
 pub struct Feed {
     pub alloc: Global,
     // The names of the graph's inputs, and its node.
-    pub names: List<MgText>,
+    pub names: BlockList<MgText>,
     pub merge: Merge,
     // How many lines were taken.
     pub lines: u64,
@@ -42,7 +42,7 @@ impl Feed {
     ghost use Rattle.mg_run.specs.Code.Feed.{TookLines, Holds, StandsFor, HasRead, EndedAfter, weight};
 
     /// A feed for the inputs with these names, to which nothing came yet.
-    pub fn new(alloc: Global, names: List<MgText>) -> Result<Feed, AllocError>
+    pub fn new(alloc: Global, names: BlockList<MgText>) -> Result<Feed, AllocError>
         ensures named { IfOk result (λ feed. feed.names ≡ names) }
         ensures stands { IfOk result (λ feed. StandsFor feed.names [] [] feed) }
     {

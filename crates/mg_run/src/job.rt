@@ -16,7 +16,7 @@ use crate::note::{config_note, text_note};
 use crate::words::Verb;
 use mg_config::{GraphConfig, read, write};
 use mg_text::{Tree, parse, print};
-use mg_value::{List, MgText};
+use mg_value::{BlockList, MgText};
 use std::alloc::{AllocError, Global};
 
 /// What there is to do.
@@ -27,7 +27,7 @@ pub enum Job {
     /// This text is written.
     Show(Vec<u8>),
     /// The graph is run whose inputs have these names.
-    Merge(List<MgText>),
+    Merge(BlockList<MgText>),
 }
 
 /// The note for a graph that isn't run so far.
@@ -98,7 +98,7 @@ const MERGE: &[u8] =
     b"input_stream: \"a\"\ninput_stream: \"b\"\noutput_stream: \"out\"\nnode {\n  calculator: \"MergeCalculator\"\n  input_stream: \"a\"\n  input_stream: \"b\"\n  output_stream: \"out\"\n}\n";
 
 /// The names of the inputs of the graph that a text says, where it is one that runs so far.
-fn inputs_of(alloc: Global, text: &[u8]) -> Result<Option<List<MgText>>, AllocError>
+fn inputs_of(alloc: Global, text: &[u8]) -> Result<Option<BlockList<MgText>>, AllocError>
     ensures { IfOk result (λ names. names ≡ answers.inputs_of text.now) }
 {
     if text == PASS_THROUGH {
@@ -114,10 +114,10 @@ fn inputs_of(alloc: Global, text: &[u8]) -> Result<Option<List<MgText>>, AllocEr
 }
 
 // Names as a list.
-fn listed(names: Vec<MgText>) -> Result<Option<List<MgText>>, AllocError>
+fn listed(names: Vec<MgText>) -> Result<Option<BlockList<MgText>>, AllocError>
     ensures { IfOk result (λ list. list ≡ Some names.items) }
 {
-    match List::from_vec(names) {
+    match BlockList::from_vec(names) {
         Ok(names) => Ok(Some(names)),
         Err(_) => Err(AllocError),
     }

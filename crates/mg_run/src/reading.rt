@@ -6,7 +6,7 @@ ghost use Rattle.mg_run.specs.Code.Said.{IsSaidOf};
 
 use crate::limits::LONGEST_LINE;
 use mg_time::Timestamp;
-use mg_value::{List, MgText};
+use mg_value::{BlockList, MgText};
 use serde_json::Value;
 use std::alloc::{AllocError, Global};
 
@@ -27,7 +27,7 @@ pub enum Said {
 
 /// What a line says, without its line feed, of the inputs with these names.
 #[tactic(auto, unfolding(crate::specs::Reading::reading))]
-pub fn read_line(alloc: Global, names: &List<MgText>, line: &[u8]) -> Result<Said, AllocError>
+pub fn read_line(alloc: Global, names: &BlockList<MgText>, line: &[u8]) -> Result<Said, AllocError>
     ensures { IfOk result (λ said. said ≡ reading names.now line.now) }
 {
     if line.len() > LONGEST_LINE {
@@ -48,7 +48,7 @@ fn is_blank_line(line: &[u8]) -> bool
 }
 
 // What a line says that is JSON.
-fn read_json(alloc: Global, names: &List<MgText>, line: &[u8]) -> Result<Said, AllocError>
+fn read_json(alloc: Global, names: &BlockList<MgText>, line: &[u8]) -> Result<Said, AllocError>
     ensures { IfOk result (λ said. said ≡ json_says names.now line.now) }
 {
     match Value::from_slice(alloc, line) {
@@ -59,7 +59,7 @@ fn read_json(alloc: Global, names: &List<MgText>, line: &[u8]) -> Result<Said, A
 }
 
 // What a JSON value says.
-fn said_by(names: &List<MgText>, value: &Value) -> Said
+fn said_by(names: &BlockList<MgText>, value: &Value) -> Said
     ensures { result ≡ value_says names.now (Some (view value.now)) }
 {
     match count_of(value) {
@@ -70,7 +70,7 @@ fn said_by(names: &List<MgText>, value: &Value) -> Said
 }
 
 // The packet that an object of three members is.
-fn packet_by(names: &List<MgText>, value: &Value) -> Said
+fn packet_by(names: &BlockList<MgText>, value: &Value) -> Said
     ensures { result ≡ packet_of (port_at names.now (view value.now)) (number_at (codes "ts") (view value.now)) (number_at (codes "value") (view value.now)) }
 {
     let port = port_by(names, value);
@@ -86,7 +86,7 @@ fn packet_by(names: &List<MgText>, value: &Value) -> Said
 }
 
 // The bound or the close that an object of two members is.
-fn mark_by(names: &List<MgText>, value: &Value) -> Said
+fn mark_by(names: &BlockList<MgText>, value: &Value) -> Said
     ensures { result ≡ mark_of (port_at names.now (view value.now)) (number_at (codes "bound") (view value.now)) (flag_at (codes "close") (view value.now)) }
 {
     let Some(port) = port_by(names, value) else {
@@ -105,7 +105,7 @@ fn mark_by(names: &List<MgText>, value: &Value) -> Said
 }
 
 // The place of the stream that an object names.
-fn port_by(names: &List<MgText>, value: &Value) -> Option<u32>
+fn port_by(names: &BlockList<MgText>, value: &Value) -> Option<u32>
     ensures { result ≡ port_at names.now (view value.now) }
 {
     let stream = value.get("stream").and_then(Value::as_str)?;
@@ -113,7 +113,7 @@ fn port_by(names: &List<MgText>, value: &Value) -> Option<u32>
 }
 
 // The place of a name.
-fn port_of(names: &List<MgText>, stream: &str) -> Option<u32>
+fn port_of(names: &BlockList<MgText>, stream: &str) -> Option<u32>
     ensures { result ≡ place_in names.now stream.now }
 {
     for port in 0..names.len() {

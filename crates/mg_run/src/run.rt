@@ -11,13 +11,13 @@ use crate::note::{line_note, read_note};
 use crate::pour::{Poured, pour};
 use crate::put::{flush, put_all};
 use mg_edge::{Sink, Source};
-use mg_value::{List, MgText};
+use mg_value::{BlockList, MgText};
 use std::alloc::{AllocError, Global};
 
 /// Runs the graph whose inputs have these names over the input.
 pub fn run_graph<S: Source, K: Sink, E: Sink>(
     alloc: Global,
-    names: List<MgText>,
+    names: BlockList<MgText>,
     input: &mut S,
     output: &mut K,
     notes: &mut E,

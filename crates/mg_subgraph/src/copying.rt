@@ -4,7 +4,7 @@ ghost use Rattle.mg_config.specs.Config.{node_view};
 
 use mg_config::{Mark, MarkList, NodeConfig};
 use mg_names::PortMap;
-use mg_value::{List, MgText};
+use mg_value::{BlockList, MgText};
 use std::alloc::{AllocError, Global};
 
 /// The lists of ports of a graph or a node.
@@ -45,7 +45,7 @@ fn marks_of(alloc: Global, marks: &[Mark]) -> Result<MarkList, AllocError>
             index: mark.index,
         })?;
     }
-    Ok(List::from_vec(copies)?)
+    Ok(BlockList::from_vec(copies)?)
 }
 
 /// The texts of a node.

@@ -20,7 +20,7 @@ use crate::shared::{FileNames, check_shared, names_of};
 use crate::size::sizes_of;
 use crate::used::used_by;
 use mg_config::GraphConfig;
-use mg_value::List;
+use mg_value::BlockList;
 use std::alloc::{AllocError, Global};
 
 /// Which files are used, and how many nodes each of them comes to.
@@ -100,7 +100,7 @@ fn build(alloc: Global, main: &GraphConfig, judged: &Judged) -> Result<GraphConf
     let nodes = expanded(alloc, judged, main.nodes.as_slice())?;
     Ok(GraphConfig {
         type_name,
-        nodes: List::from_vec(nodes)?,
+        nodes: BlockList::from_vec(nodes)?,
         inputs,
         outputs,
         input_sides,

@@ -3,11 +3,11 @@
 //! `specs/Prefix.antt`, `specs/Extension.antt`, `specs/Settled.antt`, `specs/Left.antt` and `specs/Loopback.antt`.
 #![tactic(auto)]
 
+mod block_list;
 mod input_set;
 mod json;
 mod kind;
 pub mod laws;
-mod list;
 mod packet;
 mod payload;
 mod payload_list;
@@ -17,10 +17,10 @@ mod record_list;
 mod text;
 mod value_fault;
 
+pub use block_list::BlockList;
 pub use input_set::InputSet;
 pub use json::{from_json, to_json};
 pub use kind::{Kind, has_kind};
-pub use list::List;
 pub use packet::{Packet, PacketList};
 pub use payload::Payload;
 pub use payload_list::PayloadList;

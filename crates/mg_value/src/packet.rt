@@ -1,6 +1,6 @@
 ghost use Rattle.std.specs.Prelude.{◌≡◌, IfOk};
 
-use crate::{List, Payload};
+use crate::{BlockList, Payload};
 use mg_time::Timestamp;
 use std::alloc::AllocError;
 use std::marker::Model;
@@ -27,7 +27,7 @@ impl Model for Packet {
 }
 
 /// Packets in order.
-pub type PacketList = List<Packet>;
+pub type PacketList = BlockList<Packet>;
 
 impl Packet {
     /// A second packet that shares the payload. The refusal to share counts as want of memory.

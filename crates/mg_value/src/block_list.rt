@@ -6,11 +6,11 @@ use std::marker::Model;
 /// A list that is made once and then read: its entries lie in one block. It is made from a `Vec` and gives it
 /// back without taking memory.
 #[derive(Debug, Drop)]
-pub struct List<T> {
+pub struct BlockList<T> {
     entries: Vec<T>,
 }
 
-impl<T> Model for List<T> {
+impl<T> Model for BlockList<T> {
     ghost use Rattle.std.specs.Prelude.{List, ◌<◌, ◌^◌, vec_len};
 
     ghost Value = { List T };
@@ -20,16 +20,16 @@ impl<T> Model for List<T> {
     ghost invariant = { λ l. vec_len l.entries < 2 ^ 32 };
 }
 
-impl<T> List<T> {
+impl<T> BlockList<T> {
     /// The list of a vector's entries. There is no memory for a block of 2^32 entries or more: the vector then
     /// comes back.
-    pub fn from_vec(entries: Vec<T>) -> Result<List<T>, AllocFailed<Vec<T>>>
+    pub fn from_vec(entries: Vec<T>) -> Result<BlockList<T>, AllocFailed<Vec<T>>>
         ensures ok { IsOk result ↔ (length entries.items < 2 ^ 32) }
         ensures entries { IfOk result (λ l. l ≡ entries.items) }
         ensures value_returned { IfErr result (λ e. e.value ≡ entries) }
     {
         if entries.len() < 1 << 32 {
-            Ok(List { entries })
+            Ok(BlockList { entries })
         } else {
             Err(AllocFailed { value: entries })
         }
@@ -39,7 +39,7 @@ impl<T> List<T> {
     pub fn into_vec(self) -> Vec<T>
         ensures { result.items ≡ self }
     {
-        let List { entries } = self;
+        let BlockList { entries } = self;
         entries
     }
 
