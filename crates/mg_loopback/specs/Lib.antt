@@ -1,0 +1,3 @@
+pub mod Loopback
+pub mod Standing
+pub mod Codes

@@ -1,0 +1,91 @@
+-- What waits at a loopback, after the page of PreviousLoopbackCalculator in the MediaPipe framework, and how the next
+-- packet of MAIN is answered. Definitions see the two queues, and the time of the packet of MAIN that was answered last.
+use Rattle.std.specs.Prelude.{◌≡◌, ℕ, zero, suc, Bool, true, List, [], ◌∷◌, length, filter, drop, Option, Some, None, option_map, unwrap_or, is_some, slice_get, ◌+◌, ◌-◌, ◌==◌, nat_lt, nat_le, if◌then◌else◌}
+use Rattle.mg_value.specs.Payload.{Plain}
+use Rattle.mg_value.specs.Prefix.{Stamped, first_time}
+use Rattle.mg_value.specs.Settled.{packet_at}
+use Rattle.mg_value.specs.Loopback.{Reply}
+use Rattle.mg_stream.specs.Queue.{Waiting, IsLike, empty_queue, popped}
+use Rattle.mg_loopback.specs.declared.answered.Answered.{Answered}
+use Rattle.mg_loopback.specs.declared.answered.Answered.TheVariants.{Packet, Silent, NotYet}
+
+-- what a loopback holds: the queues of LOOP and MAIN, and the time of the last answered packet of MAIN, the predecessor of
+-- the next one
+pub record Held (X : Type 0) : Type 0 where
+  pub loop : Waiting X
+  pub main : Waiting X
+  pub previous : Option ℕ
+
+-- the queue of a port: 0 is LOOP, and 1 is MAIN
+abbrev pub queue_at : {X : Type 0} → ℕ → Held X → Waiting X
+queue_at port held = if port == 0 then held.loop else held.main
+
+-- nothing differs but the queue of a port: the other port has the same queue, and the predecessor is the same
+pub record DifferOnlyAt {X : Type 0} (port : ℕ) (held other : Held X) : Type 0 where
+  pub queue : queue_at (1 - port) held ≡ queue_at (1 - port) other
+  pub previous : held.previous ≡ other.previous
+
+-- whether the next packet of MAIN may be answered: it has no predecessor, or its predecessor's time is below LOOP's bound
+abbrev pub is_settled : {X : Type 0} → Held X → Bool
+is_settled held = unwrap_or (option_map (λ t. nat_lt t held.loop.bound) held.previous) true
+
+-- the value of the packet exactly at a time, if there are both
+abbrev pub value_at : {X : Type 0} → Option ℕ → List (Stamped X) → Option X
+value_at None ps = None
+value_at (Some t) ps = option_map (λ p. p.value) (packet_at t ps)
+
+-- the answer to the first packet of MAIN, where one waits that may be answered: at its time, what LOOP has exactly at the
+-- predecessor's time, or nothing
+abbrev pub next_reply : {X : Type 0} → Held X → Option (Reply X)
+next_reply held =
+    if is_settled held
+    then option_map (λ p. record { at = p.at; value = value_at held.previous held.loop.packets }) (slice_get held.main.packets 0)
+    else None
+
+-- a queue without the packets at or below a time, which leave room for as many others
+abbrev pub without : {X : Type 0} → Option ℕ → Waiting X → Waiting X
+without None q = q
+without (Some t) q = record {
+  gone = q.gone + length (filter (λ p. nat_le p.at t) q.packets);
+  packets = filter (λ p. nat_lt t p.at) q.packets;
+  bound = q.bound;
+  spare = q.spare + length (filter (λ p. nat_le p.at t) q.packets);
+}
+
+-- what is held once the first packet of MAIN is answered: it is gone, and with it the packets of LOOP at or below its
+-- predecessor's time; and it is the predecessor of the next one
+abbrev pub replied : {X : Type 0} → Held X → Held X
+replied held = record {
+  loop = without held.previous held.loop;
+  main = popped held.main;
+  previous = option_map (λ p. p.at) (slice_get held.main.packets 0);
+}
+
+-- what is held after an answer, and after none
+abbrev pub after_answer : {X : Type 0} → Held X → Held X
+after_answer held = if is_some (next_reply held) then replied held else held
+
+-- how an answer is told: a packet, or the time alone where there is nothing, or that it can't be told yet
+abbrev pub told_at : ℕ → Option Plain → Answered
+told_at t None = Silent t
+told_at t (Some v) = Packet (record { at = t; value = v })
+
+abbrev pub told : Option (Reply Plain) → Answered
+told None = NotYet
+told (Some r) = told_at r.at r.value
+
+-- the time up to which the output stream is told: that of the first packet of MAIN that waits, or else MAIN's bound
+abbrev pub reached : {X : Type 0} → Held X → ℕ
+reached held = first_time held.main.packets held.main.bound
+
+-- a loopback to which nothing came yet
+pub record IsFresh {X : Type 0} (held : Held X) : Type 0 where
+  pub loop : IsLike held.loop empty_queue
+  pub main : IsLike held.main empty_queue
+  pub previous : held.previous ≡ None
+
+-- two loopbacks have as many packets gone on both ports, and the same predecessor
+pub record IsAsFar {X : Type 0} (held other : Held X) : Type 0 where
+  pub main : held.main.gone ≡ other.main.gone
+  pub loop : held.loop.gone ≡ other.loop.gone
+  pub previous : held.previous ≡ other.previous

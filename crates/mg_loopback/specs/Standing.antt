@@ -1,0 +1,38 @@
+-- What a loopback stands for, in whole streams: the prefixes of MAIN and LOOP, with their first answers given.
+use Rattle.std.specs.Prelude.{◌≡◌, ℕ, zero, suc, ◌≤◌, ◌<◌, List, take, drop, length, All, Option, Some, None, IsSomeAnd, option_map, slice_get, ◌==◌, if◌then◌else◌}
+use Rattle.std.specs.List.{filter_map}
+use Rattle.mg_value.specs.Prefix.{Stamped, StreamPrefix, first_time}
+use Rattle.mg_value.specs.Loopback.{replies, packet_of}
+use Rattle.mg_stream.specs.Queue.{StandsFor}
+use Rattle.mg_loopback.specs.Loopback.{Held}
+
+-- the time of the last of the first k packets, and none where k is 0
+abbrev pub time_before : {X : Type 0} → ℕ → List (Stamped X) → Option ℕ
+time_before zero ps = None
+time_before (suc k) ps = option_map (λ p. p.at) (slice_get ps k)
+
+-- a loopback stands for the prefixes of MAIN and LOOP with k answers given: each queue stands for its prefix; k packets of
+-- MAIN are gone, each of them answered; the time that is kept is that of the last of them; and a packet of LOOP is gone only
+-- where it stands below that time
+pub record StandsAfter {X : Type 0} (k : ℕ) (held : Held X) (main loop : StreamPrefix X) : Type 0 where
+  pub at_main : StandsFor held.main main
+  pub at_loop : StandsFor held.loop loop
+  pub gone : held.main.gone ≡ k
+  pub answered : k ≤ length (replies main loop)
+  pub previous : held.previous ≡ time_before k main.packets
+  pub below : All (λ p. IsSomeAnd held.previous (λ t. p.at < t)) (take held.loop.gone loop.packets)
+
+-- the prefixes of MAIN and LOOP where the stream of one port goes a step
+abbrev pub main_stepped : {X : Type 0} → ℕ → StreamPrefix X → StreamPrefix X → StreamPrefix X
+main_stepped port stepped main = if port == 0 then main else stepped
+
+abbrev pub loop_stepped : {X : Type 0} → ℕ → StreamPrefix X → StreamPrefix X → StreamPrefix X
+loop_stepped port stepped loop = if port == 0 then stepped else loop
+
+-- the output stream as far as its first k answers tell it: the answers that aren't nothing, up to the time of the packet of
+-- MAIN behind them, or to MAIN's bound
+abbrev pub after_replies : {X : Type 0} → ℕ → StreamPrefix X → StreamPrefix X → StreamPrefix X
+after_replies k main loop = record {
+  packets = filter_map packet_of (take k (replies main loop));
+  bound = first_time (drop k main.packets) main.bound;
+}

@@ -1,0 +1,45 @@
+//! Laws of the answers: each function does nothing, and its contract is the law.
+ghost use Rattle.std.specs.Prelude.{◌≡◌, ℕ, None, [], length, take, slice_get};
+ghost use Rattle.mg_time.specs.Time.{done};
+ghost use Rattle.mg_value.specs.Payload.{Plain};
+ghost use Rattle.mg_value.specs.Prefix.{StreamPrefix};
+ghost use Rattle.mg_value.specs.Extension.{IsExtendedBy};
+ghost use Rattle.mg_value.specs.Loopback.{replies, loopback};
+ghost use Rattle.mg_stream.specs.Queue.{StandsFor};
+ghost use Rattle.mg_loopback.specs.Loopback.{Held, IsAsFar, next_reply};
+ghost use Rattle.mg_loopback.specs.Standing.{StandsAfter, after_replies};
+
+/// The next answer is that of the whole streams, behind those that were given.
+pub fn the_next_answer_is_the_streams()
+    ensures { (k : ℕ) (held : Held Plain) (main loop : StreamPrefix Plain) → StandsAfter k held main loop → next_reply held ≡ slice_get (replies main loop) k }
+{}
+
+/// Where prefixes are extended, and the loopback comes to stand for the extended ones with as many packets gone, it has
+/// given as many answers; and the answers that were given are the first of the extended ones.
+pub fn arrivals_keep_the_answers()
+    ensures stands { (k : ℕ) (held now : Held Plain) (main wider loop more : StreamPrefix Plain)
+        → StandsAfter k held main loop → IsExtendedBy main wider → IsExtendedBy loop more
+        → StandsFor now.main wider → StandsFor now.loop more → IsAsFar now held → StandsAfter k now wider more }
+    ensures answers { (k : ℕ) (held : Held Plain) (main wider loop more : StreamPrefix Plain)
+        → StandsAfter k held main loop → IsExtendedBy main wider → IsExtendedBy loop more
+        → take k (replies wider more) ≡ take k (replies main loop) }
+{}
+
+/// Where no answer can be told yet, all of them are given, and make up the output stream. Where MAIN has ended too, and
+/// nothing waits on it, each of its packets has its answer, and the output stream has ended.
+pub fn all_answers_make_the_stream()
+    ensures all { (k : ℕ) (held : Held Plain) (main loop : StreamPrefix Plain) → StandsAfter k held main loop → next_reply held ≡ None
+        → k ≡ length (replies main loop) }
+    ensures stream { (k : ℕ) (held : Held Plain) (main loop : StreamPrefix Plain) → StandsAfter k held main loop → next_reply held ≡ None
+        → after_replies k main loop ≡ loopback main loop }
+    ensures each { (k : ℕ) (held : Held Plain) (main loop : StreamPrefix Plain) → StandsAfter k held main loop → held.main.packets ≡ []
+        → length (replies main loop) ≡ length main.packets }
+    ensures end { (k : ℕ) (held : Held Plain) (main loop : StreamPrefix Plain) → StandsAfter k held main loop → held.main.packets ≡ [] → held.main.bound ≡ done
+        → (loopback main loop).bound ≡ done }
+{}
+
+/// What the answers so far tell of the output stream is a prefix that the output stream extends.
+pub fn the_stream_extends_what_is_told()
+    ensures { (k : ℕ) (held : Held Plain) (main loop : StreamPrefix Plain) → StandsAfter k held main loop
+        → IsExtendedBy (after_replies k main loop) (loopback main loop) }
+{}

@@ -1,0 +1,48 @@
+//! The parts of an answer.
+ghost use Rattle.std.specs.Prelude.{◌≡◌, IsTrue, option_map};
+ghost use Rattle.mg_value.specs.Settled.{packet_at};
+ghost use Rattle.mg_loopback.specs.Loopback.{value_at, without, told_at};
+
+use crate::Answered;
+use mg_stream::Queue;
+use mg_time::Timestamp;
+use mg_value::Packet;
+
+/// Takes the packets at or below a timestamp, and answers the one exactly at it.
+fn take_up_to(queue: &mut Queue, at: Timestamp) -> Option<Packet>
+    ensures packet { result ≡ packet_at at queue.old.packets }
+    ensures left { queue.new ≡ without (Some at) queue.old }
+{
+    while let Some(first) = queue.first() {
+        if at <= first {
+            break;
+        }
+        drop(queue.pop_at(first));
+    }
+    queue.pop_at(at)
+}
+
+/// Takes the packets of LOOP at or below the predecessor's timestamp, where there is one, and answers the one exactly
+/// at it.
+pub(crate) fn take_previous(queue: &mut Queue, previous: Option<Timestamp>) -> Option<Packet>
+    ensures value { option_map (λ p. p.value) result ≡ value_at previous queue.old.packets }
+    ensures left { queue.new ≡ without previous queue.old }
+{
+    match previous {
+        None => None,
+        Some(previous) => take_up_to(queue, previous),
+    }
+}
+
+/// The answer at a timestamp: the packet, stamped anew, or nothing. The payload is the packet's own.
+pub(crate) fn told_at(at: Timestamp, packet: Option<Packet>) -> Answered
+    ensures { result ≡ told_at at (option_map (λ p. p.value) packet) }
+{
+    match packet {
+        None => Answered::Silent { at },
+        Some(packet) => Answered::Packet(Packet {
+            at,
+            payload: packet.payload,
+        }),
+    }
+}
