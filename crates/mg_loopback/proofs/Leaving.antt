@@ -7,7 +7,7 @@ use Rattle.std.proofs.lemmas.List.Elements.{All-from_recursion, All-append, All-
 use Rattle.mg_value.specs.Prefix.{Stamped, StreamPrefix, IsPrefix}
 use Rattle.mg_value.specs.Settled.{packet_at}
 use Rattle.mg_value.proofs.Climbs.{Climbs, prefix-climbs, Climbs-drop}
-use Rattle.mg_stream.specs.Queue.{Waiting, StandsFor, rest_of, front_at, popped, popped_at}
+use Rattle.mg_stream.specs.Queue.{Waiting, StandsFor, rest_of, front_at, popped_at}
 use Rattle.mg_loopback.specs.Loopback.{without}
 
 -- of packets that climb from above a time, none is at or below it
@@ -76,13 +76,13 @@ ends_by {X} t g b s (p ∷ ps) h far =
     let later = above t (p.at + 1) b ps (omega (arith, at)) h.1 in
     elim (cases t p.at at) [
       | inl same ↦ record {
-          left = rw (eq-eqb p.at t same, le-leb p.at t (omega (arith, same)), le-ltb t p.at (omega (arith, same)), later.gone, later.left) (same_queue (g + 1) (g + 1) ps b (s + 1) (s + 1) refl refl);
-          found = rw (eq-eqb p.at t same) refl;
-        }
+        left = rw (eq-eqb p.at t same, le-leb p.at t (omega (arith, same)), le-ltb t p.at (omega (arith, same)), later.gone, later.left) (same_queue (g + 1) (g + 1) ps b (s + 1) (s + 1) refl refl);
+        found = rw (eq-eqb p.at t same) refl;
+      }
       | inr up ↦ record {
-          left = rw (ne_eqb p.at t (λ e. omega (arith, e, up)), lt-leb p.at t up, lt-ltb t p.at up, later.gone, later.left) (same_queue g (g + 0) (p ∷ ps) b s (s + 0) (omega arith) (omega arith));
-          found = rw (ne_eqb p.at t (λ e. omega (arith, e, up))) (sym later.found);
-        }
+        left = rw (ne_eqb p.at t (λ e. omega (arith, e, up)), lt-leb p.at t up, lt-ltb t p.at up, later.gone, later.left) (same_queue g (g + 0) (p ∷ ps) b s (s + 0) (omega arith) (omega arith));
+        found = rw (ne_eqb p.at t (λ e. omega (arith, e, up))) (sym later.found);
+      }
     ]
   where
     cases : (a c : ℕ) → a ≤ c → (c ≡ a) ⊎ (a < c)

@@ -1,21 +1,20 @@
 -- Loopbacks that stand for prefixes of MAIN and LOOP with a number of answers given.
-use Rattle.std.proofs.Common.{◌≡◌, ℕ, zero, suc, ◌+◌, ◌<◌, ◌≤◌, true, false, inl, inr, List, [], ◌∷◌, ◌++◌, take, drop, length, length-drop, length-take, drop-drop, All, Option, Some, None, is_some, option_map, unwrap_or, slice_get, IsSomeAnd, ltb, ap, subst, sym, refl, ◌∙◌, arith, add-one}
+use Rattle.std.proofs.Common.{◌≡◌, ℕ, zero, suc, ◌+◌, ◌<◌, ◌≤◌, true, false, inl, inr, List, [], ◌∷◌, ◌++◌, take, drop, length, length-drop, length-take, drop-drop, All, Option, Some, None, is_some, option_map, unwrap_or, slice_get, IsSomeAnd, ltb, ap, subst, sym, refl, ◌∙◌, arith}
 use Rattle.std.specs.Prelude.{if◌then◌else◌}
 use Rattle.std.specs.List.{prefix_len, filter_map}
 use Rattle.std.proofs.lemmas.Bool.{cases_Bool, le-ltb, lt-ltb}
 use Rattle.std.proofs.lemmas.List.{take_all, take-append-le}
 use Rattle.std.proofs.lemmas.List.Elements.{All-nil, All-weaker, recursion_from_All}
-use Rattle.mg_value.specs.Prefix.{Stamped, StreamPrefix, IsPrefix, first_time, empty_prefix}
+use Rattle.mg_value.specs.Prefix.{Stamped, StreamPrefix, first_time, empty_prefix}
 use Rattle.mg_value.specs.Extension.{IsExtendedBy}
-use Rattle.mg_value.specs.Settled.{packet_at}
 use Rattle.mg_value.specs.Loopback.{is_answered, with_previous, found, Reply, replies, packet_of, loopback}
 use Rattle.mg_value.proofs.PrefixSteps.{empty_is_prefix}
 use Rattle.mg_value.proofs.Climbs.{Climbs, prefix-climbs}
 use Rattle.mg_value.proofs.Leaving.{packet_at-drop}
 use Rattle.mg_value.proofs.LoopbackStream.{length-replies, replies-stay, replies-most}
-use Rattle.mg_stream.specs.Queue.{Waiting, StandsFor, IsLike, empty_queue, popped}
+use Rattle.mg_stream.specs.Queue.{Waiting, StandsFor, empty_queue, popped}
 use Rattle.mg_stream.proofs.QueueSteps.{stands_like}
-use Rattle.mg_loopback.specs.Loopback.{Held, value_at, next_reply, without, replied, after_answer, reached, IsFresh, IsAsFar}
+use Rattle.mg_loopback.specs.Loopback.{Held, value_at, next_reply, without, replied, reached, IsFresh, IsAsFar}
 use Rattle.mg_loopback.specs.Standing.{time_before, StandsAfter, after_replies}
 use Rattle.mg_loopback.proofs.Turns.{before, first_reply, get-reply, before-time}
 use Rattle.mg_loopback.proofs.Leaving.{stands_without, gone_without}

@@ -1,14 +1,16 @@
 -- Each call on a port keeps what a loopback stands for, and an answer tells the next one.
-use Rattle.std.proofs.Common.{◌≡◌, ◌⊎◌, ℕ, ◌+◌, ◌<◌, ◌≤◌, true, false, inl, inr, List, [], ◌∷◌, Option, Some, None, Ok, Err, Result, option_map, unwrap_or, slice_get, is_some, IsSomeAnd, ◌↔◌, eq-eqb, MatchResult, OnOk, OnErr, ltb, ap, subst, sym, refl, ◌∙◌, arith}
+use Rattle.std.proofs.Common.{◌≡◌, ◌⊎◌, ℕ, ◌+◌, ◌≤◌, true, false, inl, inr, List, [], ◌∷◌, Option, Some, None, Ok, Err, Result, option_map, unwrap_or, slice_get, is_some, IsSomeAnd, ◌↔◌, eq-eqb, MatchResult, OnOk, OnErr, ap, sym, refl, ◌∙◌}
 use Rattle.std.proofs.lemmas.Bool.{cases_Bool}
 use Rattle.mg_value.specs.Payload.{Plain}
-use Rattle.mg_value.specs.Prefix.{Stamped, StreamPrefix, first_time, appended, raised, closed}
+use Rattle.mg_value.specs.Prefix.{Stamped, StreamPrefix, first_time, appended}
 use Rattle.mg_value.specs.Extension.{IsExtendedBy}
-use Rattle.mg_value.specs.Loopback.{Reply, replies}
-use Rattle.mg_value.proofs.Extending.{extended_by_itself, appended_extends, raised_extends, closed_extends}
+use Rattle.mg_value.specs.Loopback.{Reply}
+use Rattle.mg_value.proofs.Extending.{extended_by_itself, appended_extends}
 use Rattle.mg_stream.specs.Queue.{Waiting, StandsFor, IsLike, MayCome, with_packet, popped, popped_at, front_at}
 use Rattle.mg_stream.proofs.QueueSteps.{may_follow}
 use Rattle.mg_loopback.specs.Loopback.{Held, is_settled, next_reply, value_at, without, told_at, told, reached}
+use Rattle.mg_loopback.specs.declared.answered.Answered.{Answered}
+use Rattle.mg_loopback.specs.declared.answered.Answered.TheVariants.{Packet, Silent, NotYet}
 use Rattle.mg_loopback.specs.Standing.{StandsAfter}
 use Rattle.mg_loopback.proofs.Standing.{arrivals_keep, answer_counts}
 
@@ -92,3 +94,23 @@ first_reached {X} held first bound result is at answer = answer ∙ ap (λ (o : 
     by : (ps : List (Stamped X)) → unwrap_or (option_map (λ p. p.at) (slice_get ps 0)) held.main.bound ≡ first_time ps held.main.bound
     by [] = refl
     by (p ∷ ps) = refl
+
+-- an answer is silent exactly where the next one is nothing
+abbrev time_told : Answered → ℕ → ℕ
+time_told (Packet p) d = d
+time_told (Silent t) d = t
+time_told NotYet d = d
+
+abbrev some_reply : ℕ → Option Plain → Option (Reply Plain)
+some_reply n v = Some (record { at = n; value = v })
+
+pub silent_exactly : (o : Option (Reply Plain)) (a : Answered) → a ≡ told o → (t : ℕ) → (a ≡ Silent t) ↔ (o ≡ Some (record { at = t; value = None }))
+silent_exactly o a e t = (λ s. by o (sym e ∙ s), λ s. e ∙ ap (λ (r : Option (Reply Plain)). told r) s)
+  where
+    by : (r : Option (Reply Plain)) → told r ≡ Silent t → r ≡ Some (record { at = t; value = None })
+    by None s = absurd cc
+    by (Some r) s = valued r.at r.value s
+      where
+        valued : (n : ℕ) (v : Option Plain) → told_at n v ≡ Silent t → some_reply n v ≡ some_reply t None
+        valued n None s = ap (λ (m : ℕ). some_reply m None) (ap (λ (b : Answered). time_told b t) s)
+        valued n (Some v) s = absurd cc

@@ -1,6 +1,6 @@
 -- What the answers tell of the output stream.
-use Rattle.std.proofs.Common.{◌≡◌, ℕ, zero, suc, ◌+◌, ◌≤◌, inl, inr, List, [], ◌∷◌, ◌++◌, take, drop, length, length-drop, length-take, All, Option, Some, None, ap, ap₂, subst, sym, refl, ◌∙◌, arith}
-use Rattle.std.specs.List.{filter_map, prefix_len, AllByRecursion}
+use Rattle.std.proofs.Common.{◌≡◌, ℕ, zero, suc, ◌+◌, ◌≤◌, inl, inr, List, [], ◌∷◌, ◌++◌, take, drop, length, length-drop, Option, Some, None, ap, subst, sym, refl, ◌∙◌, arith}
+use Rattle.std.specs.List.{filter_map, prefix_len}
 use Rattle.std.proofs.lemmas.Bool.{cases_Bool}
 use Rattle.std.proofs.lemmas.List.{take-append-drop, take-append-le}
 use Rattle.std.proofs.lemmas.List.Elements.{All-from_recursion}
@@ -9,10 +9,9 @@ use Rattle.mg_value.specs.Prefix.{Stamped, StreamPrefix, IsPrefix, first_time}
 use Rattle.mg_value.specs.Extension.{IsExtendedBy}
 use Rattle.mg_value.specs.Loopback.{is_answered, Reply, replies, packet_of, loopback}
 use Rattle.mg_value.proofs.Extending.{extended_by_itself, same_prefix}
-use Rattle.mg_value.proofs.Fronts.{one_more}
 use Rattle.mg_value.proofs.Climbs.{Climbs, prefix-climbs, Climbs-drop, Climbs-most, Climbs-from}
 use Rattle.mg_value.proofs.LoopbackStream.{length-replies, replies-stay, replies-most, loopback_extends}
-use Rattle.mg_loopback.specs.Loopback.{Held, reached}
+use Rattle.mg_loopback.specs.Loopback.{Held}
 use Rattle.mg_loopback.specs.Standing.{StandsAfter, after_replies}
 use Rattle.mg_loopback.proofs.Turns.{turns}
 use Rattle.mg_loopback.proofs.Standing.{all_told, told_stream, reached_is}

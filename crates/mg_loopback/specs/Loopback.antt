@@ -1,6 +1,6 @@
 -- What waits at a loopback, after the page of PreviousLoopbackCalculator in the MediaPipe framework, and how the next
 -- packet of MAIN is answered. Definitions see the two queues, and the time of the packet of MAIN that was answered last.
-use Rattle.std.specs.Prelude.{◌≡◌, ℕ, zero, suc, Bool, true, List, [], ◌∷◌, length, filter, drop, Option, Some, None, option_map, unwrap_or, is_some, slice_get, ◌+◌, ◌-◌, ◌==◌, nat_lt, nat_le, if◌then◌else◌}
+use Rattle.std.specs.Prelude.{◌≡◌, ℕ, Bool, true, List, length, filter, Option, Some, None, option_map, unwrap_or, is_some, slice_get, ◌+◌, ◌-◌, ◌==◌, nat_lt, nat_le, if◌then◌else◌}
 use Rattle.mg_value.specs.Payload.{Plain}
 use Rattle.mg_value.specs.Prefix.{Stamped, first_time}
 use Rattle.mg_value.specs.Settled.{packet_at}

@@ -1,4 +1,4 @@
-ghost use Rattle.std.specs.Prelude.{◌≡◌, ◌≢◌, ◌⊎◌, ℕ, Some, ◌<◌, ◌≤◌, ◌+◌, ◌↔◌, [], length, slice_get, option_map, OnOk, OnErr, IfErr, IsErrAnd, IsOk, IsSomeAnd, MatchResult};
+ghost use Rattle.std.specs.Prelude.{◌≡◌, ◌≢◌, ◌⊎◌, ℕ, Some, None, ◌<◌, ◌≤◌, ◌+◌, ◌↔◌, [], length, slice_get, option_map, OnOk, OnErr, IfErr, IsErrAnd, IsOk, IsSomeAnd, MatchResult};
 ghost use Rattle.mg_time.specs.Time.{post_stream, done, IsAllowed};
 ghost use Rattle.mg_value.specs.Payload.{Plain};
 ghost use Rattle.mg_value.specs.Prefix.{StreamPrefix, empty_prefix, appended, raised, closed};
@@ -92,7 +92,7 @@ impl Loopback {
 
         ensures stands { (k : ℕ) (main loop : StreamPrefix Plain) → StandsAfter k self.old main loop
             → MatchResult result (λ _. StandsAfter k self.new (main_stepped port (appended main packet) main) (loop_stepped port (appended loop packet) loop))
-                (λ _. StandsAfter k self.new main loop) }
+            (λ _. StandsAfter k self.new main loop) }
     {
         if port == 0 {
             self.looped.append(packet)
@@ -181,6 +181,7 @@ impl Loopback {
         // Each other answer than a packet comes exactly here.
         ensures not_yet { (result ≡ Answered.NotYet)
             ↔ ((self.old.main.packets ≡ []) ⊎ IsSomeAnd self.old.previous (λ t. self.old.loop.bound ≤ t)) }
+        ensures silent { (t : ℕ) → (result ≡ Answered.Silent t) ↔ (next_reply self.old ≡ Some (record { at = t; value = None })) }
         ensures unchanged { result ≡ Answered.NotYet → self.new ≡ self.old }
 
         // In whole streams: the next of their answers, one for each packet of MAIN that is gone.

@@ -1,5 +1,4 @@
-use Rattle.std.proofs.Common.{◌≡◌, ◌∙◌, sym}
-use Rattle.mg_loopback.specs.Loopback.{reached}
+use Rattle.std.proofs.Common.{◌∙◌}
 use Rattle.mg_loopback.specs.Standing.{StandsAfter}
 use Rattle.mg_loopback.specs.contracts.loopback.Loopback.{the_view}
 use Rattle.mg_loopback.proofs.Standing.{reached_is}
