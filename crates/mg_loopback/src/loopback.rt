@@ -1,11 +1,11 @@
 ghost use Rattle.std.specs.Prelude.{◌≡◌, ◌≢◌, ◌⊎◌, ℕ, Some, None, ◌<◌, ◌≤◌, ◌+◌, ◌↔◌, [], length, slice_get, option_map, OnOk, OnErr, IfErr, IsErrAnd, IsOk, IsSomeAnd, MatchResult};
 ghost use Rattle.mg_time.specs.Time.{post_stream, done, IsAllowed};
 ghost use Rattle.mg_value.specs.Payload.{Plain};
-ghost use Rattle.mg_value.specs.Prefix.{StreamPrefix, empty_prefix, appended, raised, closed};
+ghost use Rattle.mg_value.specs.Prefix.{StreamPrefix, IsPrefix, empty_prefix, appended, raised, closed};
 ghost use Rattle.mg_value.specs.Loopback.{replies};
 ghost use Rattle.mg_loopback.specs.declared.answered.Answered.{Answered};
 ghost use Rattle.mg_stream.specs.declared.fault.StreamFault.{StreamFault};
-ghost use Rattle.mg_stream.specs.Queue.{IsLike, MayCome, count_of, with_packet, raised_to};
+ghost use Rattle.mg_stream.specs.Queue.{StandsFor, IsLike, MayCome, count_of, rest_of, with_packet, raised_to};
 ghost use Rattle.mg_loopback.specs.Loopback.{queue_at, DifferOnlyAt, IsFresh, is_settled, next_reply, after_answer, told, reached};
 ghost use Rattle.mg_loopback.specs.Standing.{StandsAfter, after_replies, main_stepped, loop_stepped};
 
@@ -42,7 +42,7 @@ impl Loopback {
     /// A loopback to which nothing came yet. It takes no memory.
     pub fn new(alloc: Global) -> Loopback
         ensures empty { IsFresh result }
-        ensures stands { StandsAfter 0 result empty_prefix empty_prefix }
+        ensures stands_after { StandsAfter 0 result empty_prefix empty_prefix }
     {
         Loopback {
             looped: Queue::new(alloc),
@@ -59,7 +59,8 @@ impl Loopback {
         ensures kept { (queue_at port self.old).spare ≤ (queue_at port self.new).spare }
         ensures unchanged { IsLike (queue_at port self.new) (queue_at port self.old) }
         ensures only { DifferOnlyAt port self.new self.old }
-        ensures stands { (k : ℕ) (main loop : StreamPrefix Plain) → StandsAfter k self.old main loop → StandsAfter k self.new main loop }
+        ensures stands { (s : StreamPrefix Plain) → StandsFor (queue_at port self.old) s → StandsFor (queue_at port self.new) s }
+        ensures stands_after { (k : ℕ) (main loop : StreamPrefix Plain) → StandsAfter k self.old main loop → StandsAfter k self.new main loop }
     {
         if port == 0 {
             self.looped.reserve(more)
@@ -90,7 +91,9 @@ impl Loopback {
         ensures room { (queue_at port self.old).spare ≤ (queue_at port self.new).spare + 1 }
         ensures only { DifferOnlyAt port self.new self.old }
 
-        ensures stands { (k : ℕ) (main loop : StreamPrefix Plain) → StandsAfter k self.old main loop
+        ensures stands { (s : StreamPrefix Plain) → StandsFor (queue_at port self.old) s
+            → MatchResult result (λ _. StandsFor (queue_at port self.new) (appended s packet)) (λ _. StandsFor (queue_at port self.new) s) }
+        ensures stands_after { (k : ℕ) (main loop : StreamPrefix Plain) → StandsAfter k self.old main loop
             → MatchResult result (λ _. StandsAfter k self.new (main_stepped port (appended main packet) main) (loop_stepped port (appended loop packet) loop))
             (λ _. StandsAfter k self.new main loop) }
     {
@@ -106,7 +109,8 @@ impl Loopback {
         requires { port < 2 }
         ensures raised { queue_at port self.new ≡ raised_to (queue_at port self.old) bound }
         ensures only { DifferOnlyAt port self.new self.old }
-        ensures stands { (k : ℕ) (main loop : StreamPrefix Plain) → StandsAfter k self.old main loop
+        ensures stands { (s : StreamPrefix Plain) → StandsFor (queue_at port self.old) s → StandsFor (queue_at port self.new) (raised s bound) }
+        ensures stands_after { (k : ℕ) (main loop : StreamPrefix Plain) → StandsAfter k self.old main loop
             → StandsAfter k self.new (main_stepped port (raised main bound) main) (loop_stepped port (raised loop bound) loop) }
     {
         if port == 0 {
@@ -121,7 +125,8 @@ impl Loopback {
         requires { port < 2 }
         ensures closed { queue_at port self.new ≡ record (queue_at port self.old) { bound = done } }
         ensures only { DifferOnlyAt port self.new self.old }
-        ensures stands { (k : ℕ) (main loop : StreamPrefix Plain) → StandsAfter k self.old main loop
+        ensures stands { (s : StreamPrefix Plain) → StandsFor (queue_at port self.old) s → StandsFor (queue_at port self.new) (closed s) }
+        ensures stands_after { (k : ℕ) (main loop : StreamPrefix Plain) → StandsAfter k self.old main loop
             → StandsAfter k self.new (main_stepped port (closed main) main) (loop_stepped port (closed loop) loop) }
     {
         if port == 0 {
@@ -134,7 +139,9 @@ impl Loopback {
     /// The timestamp of the first packet that waits at a port.
     pub fn first(&self, port: u32) -> Option<Timestamp>
         requires { port < 2 }
-        ensures { result ≡ option_map (λ p. p.at) (slice_get (queue_at port self.now).packets 0) }
+        ensures first { result ≡ option_map (λ p. p.at) (slice_get (queue_at port self.now).packets 0) }
+        // Of every port: what waits, with the bound, is a prefix.
+        ensures rest { IsPrefix (rest_of (queue_at port self.now)) }
     {
         self.queue(port).first()
     }
@@ -186,7 +193,7 @@ impl Loopback {
 
         // In whole streams: the next of their answers, one for each packet of MAIN that is gone.
         ensures next { (k : ℕ) (main loop : StreamPrefix Plain) → StandsAfter k self.old main loop → result ≡ told (slice_get (replies main loop) k) }
-        ensures stands { (k : ℕ) (main loop : StreamPrefix Plain) → StandsAfter k self.old main loop → result ≢ Answered.NotYet → StandsAfter (k + 1) self.new main loop }
+        ensures stands_after { (k : ℕ) (main loop : StreamPrefix Plain) → StandsAfter k self.old main loop → result ≢ Answered.NotYet → StandsAfter (k + 1) self.new main loop }
     {
         let Some(at) = self.main.first() else {
             return Answered::NotYet;

@@ -1,5 +1,5 @@
 //! The parts of an answer.
-ghost use Rattle.std.specs.Prelude.{◌≡◌, IsTrue, option_map};
+ghost use Rattle.std.specs.Prelude.{◌≡◌, option_map};
 ghost use Rattle.mg_value.specs.Settled.{packet_at};
 ghost use Rattle.mg_loopback.specs.Loopback.{value_at, without, told_at};
 

@@ -34,8 +34,8 @@ returns-clause-next c = λ k main loop h.
     let due : IsDue held c.in-Some.at = record { settled = settled; first = sym c.first.ensures.first ∙ c.in-Some.is } in
     c.told_at.ensures ∙ told_next held c.in-Some.at _ due c.take_previous-packet.ensures.value ∙ ap (λ (r : Option (Reply Plain)). told r) (next_is k held main loop before)
 
-pub returns-clause-stands : goal.returns-clause-stands
-returns-clause-stands c = λ k main loop h _.
+pub returns-clause-stands_after : goal.returns-clause-stands_after
+returns-clause-stands_after c = λ k main loop h _.
     let held = the_view c.self.inside in
     let before : StandsAfter k held main loop = rw c.self.view_is h in
     let settled : is_settled held ≡ true = subst (λ (v : Held Plain). is_settled v ≡ true) (sym c.self.view_is) (sym c.is_settled.ensures ∙ c.if-not-is_settled.false) in

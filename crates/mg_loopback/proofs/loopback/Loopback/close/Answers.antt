@@ -8,14 +8,14 @@ use Rattle.mg_loopback.specs.contracts.loopback.Loopback.{the_view}
 use Rattle.mg_loopback.proofs.Steps.{loop_steps, main_steps}
 use Rattle.mg_loopback.proofs.loopback.Loopback.close.Goals as goal
 
-pub returns-then-port-eq0-clause-stands : goal.returns-then-port-eq0-clause-stands
-returns-then-port-eq0-clause-stands c = λ k main loop h.
+pub returns-then-port-eq0-clause-stands_after : goal.returns-then-port-eq0-clause-stands_after
+returns-then-port-eq0-clause-stands_after c = λ k main loop h.
     let before : StandsAfter k (the_view c.self.inside) main loop = rw c.self.view_is h in
     rw (eq-eqb c.args.port 0 c.if-port-eq0.true)
     (loop_steps k (the_view c.self.inside) main loop (closed loop) c.close.new.self before (closed_extends loop before.at_loop.prefix) (c.close.ensures.stands loop before.at_loop) (ap (λ (q : Waiting Plain). q.gone) c.close.ensures.closed))
 
-pub returns-else-port-eq0-clause-stands : goal.returns-else-port-eq0-clause-stands
-returns-else-port-eq0-clause-stands c = λ k main loop h.
+pub returns-else-port-eq0-clause-stands_after : goal.returns-else-port-eq0-clause-stands_after
+returns-else-port-eq0-clause-stands_after c = λ k main loop h.
     let before : StandsAfter k (the_view c.self.inside) main loop = rw c.self.view_is h in
     let call = c.close-else-port-eq0 in
     rw (ne_eqb c.args.port 0 c.if-port-eq0.false)
