@@ -148,12 +148,7 @@ fn show_refused(alloc: Global, refused: Refused) -> Result<String, Fail> {
     Ok(format!(in alloc; "{:?} {}", refused.cause, packet.as_str())?)
 }
 
-fn append(
-    alloc: Global,
-    loopback: &mut Loopback,
-    port: u32,
-    packet: &str,
-) -> Result<String, Fail> {
+fn append(alloc: Global, loopback: &mut Loopback, port: u32, packet: &str) -> Result<String, Fail> {
     if port > 1 {
         return Err(Fail::from("no such port"));
     }
@@ -231,7 +226,12 @@ fn show(alloc: Global, loopback: &Loopback) -> Result<String, Fail> {
     let told = text_of(alloc, loopback.out_bound())?;
     let looped = show_port(alloc, loopback, 0)?;
     let main = show_port(alloc, loopback, 1)?;
-    Ok(format!(in alloc; "{} | {} | {}", told.as_str(), looped.as_str(), main.as_str())?)
+    Ok(format!(in alloc;
+        "{} | {} | {}",
+        told.as_str(),
+        looped.as_str(),
+        main.as_str()
+    )?)
 }
 
 impl Calls for Loopback {
