@@ -10,6 +10,9 @@ pub struct BlockList<T> {
     entries: Vec<T>,
 }
 
+/// Numbers in order, as those of streams or ports.
+pub type NumberList = BlockList<u32>;
+
 impl<T> Model for BlockList<T> {
     ghost use Rattle.std.specs.Prelude.{List, ◌<◌, ◌^◌, vec_len};
 
