@@ -29,4 +29,5 @@ pub mod RoundTrip
 pub mod SetSteps
 pub mod SettledTimes
 pub mod ShownSets
+pub mod Standing
 pub mod Times

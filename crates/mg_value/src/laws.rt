@@ -11,7 +11,7 @@ ghost use Rattle.mg_value.specs.declared.policy.Policy.TheVariants.{Mux};
 ghost use Rattle.mg_value.specs.Prefix.{Stamped, StreamPrefix, IsPrefix, MayFollow, MayAllFollow, empty_prefix, appended, all_appended, raised, closed};
 ghost use Rattle.mg_value.specs.Extension.{IsExtendedBy, AreExtendedBy};
 ghost use Rattle.mg_value.specs.Loopback.{loopback, replies};
-ghost use Rattle.mg_value.specs.Settled.{low, times_of, all_times, is_among, settled_times, settled_sets, reach, packet_at, port_of, shows, IsBelowBounds};
+ghost use Rattle.mg_value.specs.Settled.{low, times_of, all_times, is_among, settled_times, settled_sets, reach, packet_at, port_of, inputs_of, shows, IsBelowBounds};
 ghost use Rattle.mg_value.specs.FirstSet.{first_set_time, front_at, from, behind};
 ghost use Rattle.mg_value.specs.Left.{set_times, after_sets, without_first, sums, leads, HasLeadingPacket, AreGone};
 
@@ -67,6 +67,13 @@ pub fn times_ascend()
 pub fn settled_times_are_below_low()
     ensures { (ss : List (StreamPrefix Plain)) (t : ℕ)
         → IsTrue (is_among (settled_times ss) t) ↔ ((t < low ss) × IsTrue (is_among (all_times ss) t)) }
+{}
+
+/// The inputs of a node are prefixes where the streams are, one per port, and are extended with them.
+pub fn inputs_follow_their_streams()
+    ensures prefixes { (ss : List (StreamPrefix Plain)) (ports : List ℕ) → All IsPrefix ss → All IsPrefix (inputs_of ss ports) }
+    ensures extended { (ss tt : List (StreamPrefix Plain)) (ports : List ℕ) → AreExtendedBy ss tt → AreExtendedBy (inputs_of ss ports) (inputs_of tt ports) }
+    ensures places { (ss : List (StreamPrefix Plain)) (ports : List ℕ) → length (inputs_of ss ports) ≡ length ports }
 {}
 
 /// The settled sets come at distinct times, ascending, each below the bounds that its policy asks for and below the

@@ -32,7 +32,7 @@ pub use packet::{Packet, PacketList};
 pub use payload::Payload;
 pub use payload_list::PayloadList;
 pub use policy::Policy;
-pub use prefix::{Prefix, PrefixList};
+pub use prefix::{Prefix, PrefixList, are_prefixes};
 pub use reaching::reach;
 pub use record_list::{Entry, RecordList};
 pub use sets::settled_sets;

@@ -1,7 +1,10 @@
-ghost use Rattle.std.specs.Prelude.{◌≡◌, IfOk};
+ghost use Rattle.std.specs.Prelude.{◌≡◌, ◌↔◌, All, IsTrue, IfOk};
+ghost use Rattle.mg_value.specs.Prefix.{IsPrefix};
+ghost use Rattle.mg_value.specs.Code.Standing.{MayStand};
 
 use crate::{BlockList, PacketList};
 use mg_time::Timestamp;
+use mg_time::laws::done_is_greatest;
 use std::alloc::{AllocError, Global};
 use std::marker::Model;
 
@@ -42,4 +45,35 @@ impl Prefix {
             bound: self.bound,
         })
     }
+
+    /// Whether it is a prefix by the rule of streams: its times are allowed and ascend up to its bound, and a packet at
+    /// PostStream is the only one.
+    pub fn is_prefix(&self) -> bool
+        ensures { IsTrue result ↔ IsPrefix self.now }
+    {
+        done_is_greatest(self.bound);
+        let packets = self.packets.as_slice();
+        let mut lowest = Timestamp::PRE_STREAM;
+        for packet in packets {
+            if !may_stand(packet.at, lowest, packets.len()) {
+                return false;
+            }
+            lowest = packet.at.next_allowed();
+        }
+        lowest <= self.bound
+    }
+}
+
+/// Whether a packet may stand at a time, no lower than another, among so many of its stream.
+fn may_stand(at: Timestamp, lowest: Timestamp, count: usize) -> bool
+    ensures { IsTrue result ↔ MayStand count lowest at }
+{
+    at.is_allowed() && lowest <= at && (at != Timestamp::POST_STREAM || count == 1)
+}
+
+/// Whether each is a prefix by the rule of streams.
+pub fn are_prefixes(prefixes: &PrefixList) -> bool
+    ensures { IsTrue result ↔ All IsPrefix prefixes.now }
+{
+    prefixes.as_slice().iter().all(|prefix| prefix.is_prefix())
 }
