@@ -1,9 +1,9 @@
-use Rattle.std.proofs.Common.{rules, tests, IsTrue, ℕ, ◌≡◌, ◌≤◌, ◌∙◌, List, length, ap, sym, subst, arith, leb-true, le-leb}
+use Rattle.std.proofs.Common.{rules, tests, IsTrue, ℕ, ◌≤◌, ◌∙◌, length, ap, sym, subst, arith}
 use Rattle.std.proofs.lemmas.Bool.{false≢true}
 use Rattle.mg_time.specs.Time.{done}
 use Rattle.mg_value.specs.Payload.{Plain}
-use Rattle.mg_value.specs.Prefix.{Stamped, StreamPrefix, IsPrefix}
-use Rattle.mg_value.specs.Code.Standing.{MayStand, Stand}
+use Rattle.mg_value.specs.Prefix.{Stamped, StreamPrefix}
+use Rattle.mg_value.specs.Code.Standing.{MayStand}
 use Rattle.mg_value.proofs.Standing.{to_stand, from_stand, checked-stops, checked-all}
 use Rattle.mg_value.proofs.prefix.Prefix.is_prefix.Goals as goal
 
