@@ -17,6 +17,7 @@ pub mod JsonWriting
 pub mod LeadingPackets
 pub mod Leaves
 pub mod Leaving
+pub mod Lemmas
 pub mod LoopbackStream
 pub mod LoopbackSteps
 pub mod Looking

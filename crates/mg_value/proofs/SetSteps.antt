@@ -9,8 +9,7 @@ use Rattle.mg_value.specs.declared.policy.Policy.{Policy}
 use Rattle.mg_value.specs.declared.policy.Policy.TheVariants.{Default, Mux}
 use Rattle.mg_value.specs.Prefix.{Stamped, StreamPrefix, IsPrefix}
 use Rattle.mg_value.specs.Settled.{TimedSet, settled_sets, packet_at, port_of, select_of, is_settled, selected, inputs_of, shows}
-use Rattle.mg_value.specs.FirstSet.{first_set_time, behind}
-use Rattle.mg_value.specs.Code.Shown.{chosen_port, is_shown}
+use Rattle.mg_value.specs.FirstSet.{first_set_time, chosen_port, is_shown, behind}
 use Rattle.mg_value.proofs.AfterSets.{sets-after}
 use Rattle.mg_value.proofs.Behind.{all_behind}
 use Rattle.mg_value.proofs.Ports.{port-prefix}

@@ -1,5 +1,5 @@
 //! Laws of the definitions: each function does nothing, and its contract is the law.
-ghost use Rattle.std.specs.Prelude.{◌≡◌, ℕ, ◌+◌, ◌-◌, ◌++◌, slice_index_or, ◌<◌, ◌≤◌, ◌↔◌, List, [], take, drop, length, replicate, map, All, IsTrue, is_some, option_map, slice_get, Some, None, if◌then◌else◌};
+ghost use Rattle.std.specs.Prelude.{◌≡◌, ℕ, ◌+◌, ◌-◌, ◌++◌, slice_index_or, ◌<◌, ◌≤◌, ◌↔◌, List, [], take, drop, length, replicate, map, All, IsTrue, is_some, option_map, slice_get, Option, Some, None, if◌then◌else◌};
 ghost use Rattle.std.specs.List.{AllZip, list_any};
 ghost use Rattle.std.specs.List.Sorted.{IsStrictlyIncreasing};
 ghost use Rattle.mg_time.specs.Time.{pre_stream, done};
@@ -12,7 +12,7 @@ ghost use Rattle.mg_value.specs.Prefix.{Stamped, StreamPrefix, IsPrefix, MayFoll
 ghost use Rattle.mg_value.specs.Extension.{IsExtendedBy, AreExtendedBy};
 ghost use Rattle.mg_value.specs.Loopback.{loopback, replies};
 ghost use Rattle.mg_value.specs.Settled.{low, times_of, all_times, is_among, settled_times, settled_sets, reach, packet_at, port_of, inputs_of, shows, IsBelowBounds};
-ghost use Rattle.mg_value.specs.FirstSet.{first_set_time, front_at, from, behind};
+ghost use Rattle.mg_value.specs.FirstSet.{first_set_time, chosen_port, is_shown, front_at, from, behind};
 ghost use Rattle.mg_value.specs.Left.{set_times, after_sets, without_first, sums, leads, HasLeadingPacket, AreGone};
 
 /// A prefix is extended by itself.
@@ -168,11 +168,18 @@ pub fn settled_sets_show_packets()
         → slice_index_or e.set i None ≡ (if shows policy ss e.at i then packet_at e.at (port_of ss i).packets else None)) (settled_sets policy ss) }
 {}
 
-/// First packets and bounds tell the first settled set: its time; where what it shows stands; and what its claim leaves.
-/// Before its time nothing stands at a port that leads.
+/// First packets and bounds tell the first settled set: its time, and which ports it shows. What shows at each of these what
+/// the port has at the time is the set. Before its time nothing stands at a port that leads, and its claim leaves what stands
+/// behind it.
 pub fn first_packets_tell_the_first_set()
     ensures time { (policy : Policy) (ss : List (StreamPrefix Plain)) → All IsPrefix ss
         → option_map (λ e. e.at) (slice_get (settled_sets policy ss) 0) ≡ first_set_time policy ss }
+    ensures shown { (policy : Policy) (ss : List (StreamPrefix Plain)) (t i : ℕ) → first_set_time policy ss ≡ Some t
+        → is_shown policy (length ss) (chosen_port policy ss) i ≡ shows policy ss t i }
+    ensures set { (policy : Policy) (ss : List (StreamPrefix Plain)) (t : ℕ) (set : List (Option (Stamped Plain))) → All IsPrefix ss
+        → first_set_time policy ss ≡ Some t → length set ≡ length ss
+        → ((i : ℕ) → i < length ss → slice_index_or set i None ≡ (if shows policy ss t i then packet_at t (port_of ss i).packets else None))
+        → slice_get (settled_sets policy ss) 0 ≡ Some (record { at = t; set = set }) }
     ensures leading { (policy : Policy) (ss : List (StreamPrefix Plain)) (t i : ℕ) → All IsPrefix ss → first_set_time policy ss ≡ Some t
         → i < length ss → IsTrue (leads policy (length ss) i) → from t (port_of ss i) ≡ port_of ss i }
     ensures left { (policy : Policy) (ss : List (StreamPrefix Plain)) (t : ℕ) → All IsPrefix ss → first_set_time policy ss ≡ Some t

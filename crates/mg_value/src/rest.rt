@@ -131,9 +131,9 @@ pub(crate) fn rests_of<'a>(
     ensures rests { IfOk result (λ rests. rests.items ≡ inputs_of prefixes.now ports.now) }
     ensures few { IfOk result (λ rests. length rests.items < 2 ^ 32) }
 {
-    let ports_len = ports.len() as usize;
-    let mut rests = Vec::with_capacity(alloc, ports_len)?;
-    for port in 0..ports_len {
+    let count = ports.len() as usize;
+    let mut rests = Vec::with_capacity(alloc, count)?;
+    for port in 0..count {
         rests.push(Rest::of(prefix_at(prefixes, ports, port)))?;
     }
     Ok(rests)

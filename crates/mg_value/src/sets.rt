@@ -1,10 +1,8 @@
 //! The settled sets of whole prefixes, and how far they reach, as a plain program.
 ghost use Rattle.std.specs.Prelude.{◌≡◌, ◌<◌, ◌^◌, All, length, map, Some, if◌then◌else◌, slice_get, None, IfOk, OnOk};
-ghost use Rattle.mg_value.specs.Payload.{plain};
 ghost use Rattle.mg_value.specs.Prefix.{IsPrefix};
 ghost use Rattle.mg_value.specs.Settled.{packet_at, selected, inputs_of, settled_sets};
-ghost use Rattle.mg_value.specs.FirstSet.{first_set_time, behind};
-ghost use Rattle.mg_value.specs.Code.Shown.{chosen_port, is_shown};
+ghost use Rattle.mg_value.specs.FirstSet.{first_set_time, chosen_port, is_shown, behind};
 
 use crate::look::look_at;
 use crate::reaching::selected;

@@ -1,4 +1,5 @@
 use Rattle.mg_value.proofs.FirstSets.{first-time, leading-stays, after-first}
+use Rattle.mg_value.proofs.SetSteps.{shown-set, shown-is}
 use Rattle.mg_value.proofs.laws.first_packets_tell_the_first_set.Goals as goal
 
 pub returns-clause-time : goal.returns-clause-time
@@ -9,3 +10,9 @@ returns-clause-leading c = λ policy ss t i h is there lead. leading-stays polic
 
 pub returns-clause-left : goal.returns-clause-left
 returns-clause-left c = λ policy ss t h is. after-first policy ss t h is
+
+pub returns-clause-shown : goal.returns-clause-shown
+returns-clause-shown c = λ policy ss t i is. shown-is policy ss t i is
+
+pub returns-clause-set : goal.returns-clause-set
+returns-clause-set c = λ policy ss t set h is many at. shown-set policy ss t set h is many at
