@@ -19,6 +19,8 @@ mod payload;
 #[cfg(test)]
 mod policy;
 #[cfg(test)]
+mod sets;
+#[cfg(test)]
 mod stream;
 #[cfg(test)]
 mod subgraph;

@@ -40,7 +40,7 @@ packet_at-left_of test t (p ∷ ps) out = elim (cases_Bool (test p.at)) [
 ]
 
 -- where the first packets go and no other does, the others are left
-left_of-all : {X : Type 0} (test : ℕ → Bool) (ps : List (Stamped X)) → AllByRecursion (λ p. test p.at ≡ false) ps → left_of test ps ≡ ps
+pub left_of-all : {X : Type 0} (test : ℕ → Bool) (ps : List (Stamped X)) → AllByRecursion (λ p. test p.at ≡ false) ps → left_of test ps ≡ ps
 left_of-all test [] stay = refl
 left_of-all {X} test (p ∷ ps) stay = rw stay.0 (ap (λ (rest : List (Stamped X)). p ∷ rest) (left_of-all test ps stay.1))
 

@@ -16,10 +16,10 @@ use Rattle.mg_value.proofs.Fronts.{one_more, take_while_grows, map_while_agree}
 use Rattle.mg_value.proofs.MuxSets.{packet_at-extended}
 
 -- the packets of a list, each behind the one before it, and the first behind another
-abbrev turns : {X : Type 0} → Option (Stamped X) → List (Stamped X) → List (Option (Stamped X) × Stamped X)
+abbrev pub turns : {X : Type 0} → Option (Stamped X) → List (Stamped X) → List (Option (Stamped X) × Stamped X)
 turns o ps = zip (o ∷ map (λ p. Some p) ps) ps
 
-abbrev number : {X : Type 0} → StreamPrefix X → Option (Stamped X) → List (Stamped X) → ℕ
+abbrev pub number : {X : Type 0} → StreamPrefix X → Option (Stamped X) → List (Stamped X) → ℕ
 number loop o ps = prefix_len (is_answered loop) (turns o ps)
 
 -- the answers to these packets, as packets, and the time up to which they are told

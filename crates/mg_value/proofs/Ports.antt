@@ -1,11 +1,11 @@
 -- The prefix of a port by its number.
-use Rattle.std.proofs.Common.{◌≡◌, ℕ, ◌≤◌, ◌-◌, inl, inr, List, length, All, Option, Some, None, option_map, unwrap_or, true, Bool, refl, arith, subst}
+use Rattle.std.proofs.Common.{◌≡◌, ℕ, ◌≤◌, ◌-◌, inl, inr, List, [], ◌∷◌, length, All, Option, Some, None, option_map, unwrap_or, true, Bool, refl, arith, subst}
 use Rattle.std.proofs.lemmas.Bool.{cases_lt}
 use Rattle.std.proofs.lemmas.List.{get_or_past}
 use Rattle.std.proofs.lemmas.List.Elements.{AllZip-get_or, length_all_zip}
 use Rattle.mg_value.specs.Prefix.{StreamPrefix, IsPrefix, closed, empty_prefix}
 use Rattle.mg_value.specs.Extension.{IsExtendedBy, AreExtendedBy}
-use Rattle.mg_value.specs.Settled.{port_of, select_of}
+use Rattle.mg_value.specs.Settled.{port_of, select_of, inputs_of}
 use Rattle.mg_value.proofs.PrefixSteps.{empty_is_prefix, closed_is_prefix}
 use Rattle.mg_value.proofs.Extending.{extended_by_itself}
 
@@ -25,6 +25,10 @@ port-extended {X} ss ts e i = elim (cases_lt i (length ss)) [
       (let past' : length ts ≤ i = omega (arith, past, same_ports ss ts e) in
       rw (get_or_past ss i (closed empty_prefix) past, get_or_past ts i (closed empty_prefix) past') (extended_by_itself (closed (empty_prefix {X = X}))))
 ]
+
+pub inputs-extended : {X : Type 0} (ss ts : List (StreamPrefix X)) (ports : List ℕ) → AreExtendedBy ss ts → AreExtendedBy (inputs_of ss ports) (inputs_of ts ports)
+inputs-extended ss ts [] e = tt
+inputs-extended ss ts (i ∷ ports) e = (port-extended ss ts e i, inputs-extended ss ts ports e)
 
 pub select-prefix : {X : Type 0} (ss : List (StreamPrefix X)) → All IsPrefix ss → IsPrefix (select_of ss)
 select-prefix ss h = port-prefix ss h (length ss - 1)

@@ -30,6 +30,10 @@ after_sets policy k ss = map (without (goes policy (take k (set_times policy ss)
 abbrev pub without_first : {X : Type 0} → List ℕ → List (StreamPrefix X) → List (StreamPrefix X)
 without_first gone ss = map (λ e. record { packets = drop e.0 e.1.packets; bound = e.1.bound }) (zip gone ss)
 
+-- the sums of numbers of packets that are gone, and of further ones that go of what is left
+abbrev pub sums : List ℕ → List ℕ → List ℕ
+sums gone more = map (λ e. e.0 + e.1) (zip gone more)
+
 -- whether a port leads, of so many ports: by default each does, and under Mux SELECT alone. What comes at a port that
 -- doesn't lead may come too late for the sets that are claimed
 abbrev pub leads : Policy → ℕ → ℕ → Bool

@@ -1,5 +1,6 @@
 pub mod Code
 pub mod Extension
+pub mod FirstSet
 pub mod Json
 pub mod Kind
 pub mod Left
@@ -10,4 +11,5 @@ pub mod Prefix
 pub mod Settled
 -- What the prover wants of the types beside their meaning. No meaning rests on it.
 pub mod Codes
+pub mod SetCodes
 pub mod PayloadFalls

@@ -1,7 +1,7 @@
 -- Settled sets, after the page Synchronization of the MediaPipe framework. A node is shown its input sets one after the
 -- other, each once nothing can change it any more; its input policy says when that is, and what is in a set. Definitions
 -- speak of the whole prefixes of a node's input streams, one per port.
-use Rattle.std.specs.Prelude.{ℕ, Bool, true, List, map, length, drop, replicate, min, Option, Some, None, IsTrue, IsSomeAnd, option_map, unwrap_or, slice_index_or, slice_set, All, pos, [], ◌∷◌, ◌++◌, ◌+◌, ◌-◌, ◌<◌, ◌==◌, nat_lt, filter, find, if◌then◌else◌}
+use Rattle.std.specs.Prelude.{ℕ, Bool, true, false, List, map, length, drop, replicate, min, Option, Some, None, IsTrue, IsSomeAnd, option_map, unwrap_or, slice_index_or, slice_set, All, pos, [], ◌∷◌, ◌++◌, ◌+◌, ◌-◌, ◌<◌, ◌==◌, ◌||◌, nat_lt, filter, find, if◌then◌else◌}
 use Rattle.std.specs.List.{take_while, list_any}
 use Rattle.mg_time.specs.Time.{done}
 use Rattle.mg_value.specs.Payload.{Plain, int}
@@ -63,6 +63,10 @@ set_at t ss = map (λ s. packet_at t s.packets) ss
 abbrev pub port_of : {X : Type 0} → List (StreamPrefix X) → ℕ → StreamPrefix X
 port_of ss i = slice_index_or ss i (closed empty_prefix)
 
+-- the prefixes of a node's inputs, one per port, where streams are numbered and the ports have these numbers
+abbrev pub inputs_of : {X : Type 0} → List (StreamPrefix X) → List ℕ → List (StreamPrefix X)
+inputs_of streams ports = map (port_of streams) ports
+
 -- the prefix of SELECT, the last port
 abbrev pub select_of : {X : Type 0} → List (StreamPrefix X) → StreamPrefix X
 select_of ss = port_of ss (length ss - 1)
@@ -97,6 +101,18 @@ select_set ss p = unwrap_or
 abbrev pub settled_sets : Policy → List (StreamPrefix Plain) → List (TimedSet Plain)
 settled_sets Default ss = map (λ t. record { at = t; set = set_at t ss }) (settled_times ss)
 settled_sets Mux ss = map (λ p. record { at = p.at; set = select_set ss p }) (settled_selects ss)
+
+-- whether the packet of SELECT at a time selects a port
+abbrev pub is_selected : List (StreamPrefix Plain) → ℕ → ℕ → Bool
+is_selected ss t i = unwrap_or
+    (option_map (λ p. unwrap_or (option_map (λ j. j == i) (selected (length ss) p.value)) false) (packet_at t (select_of ss).packets))
+    false
+
+-- whether the set at a time shows what a port has then: by default it shows that of each port, and under Mux that of
+-- SELECT and of the port that is selected
+abbrev pub shows : Policy → List (StreamPrefix Plain) → ℕ → ℕ → Bool
+shows Default ss t i = true
+shows Mux ss t i = (i + 1 == length ss) || is_selected ss t i
 
 -- how far the settled sets reach: each further set stands there or above. By default that is the least bound, and under
 -- Mux the time of the first packet of SELECT that isn't settled, or else SELECT's bound

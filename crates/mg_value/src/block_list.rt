@@ -1,4 +1,4 @@
-ghost use Rattle.std.specs.Prelude.{◌≡◌, ◌<◌, ◌^◌, ◌==◌, ◌↔◌, length, slice_get, IsOk, IfOk, IfErr, option_copied};
+ghost use Rattle.std.specs.Prelude.{◌≡◌, ◌<◌, ◌^◌, ◌==◌, ◌↔◌, All, length, slice_get, IsTrue, IsOk, IfOk, IfErr, option_copied};
 
 use std::alloc::AllocFailed;
 use std::marker::Model;
@@ -9,6 +9,9 @@ use std::marker::Model;
 pub struct BlockList<T> {
     entries: Vec<T>,
 }
+
+/// Numbers in order, as those of streams or ports.
+pub type NumberList = BlockList<u32>;
 
 impl<T> Model for BlockList<T> {
     ghost use Rattle.std.specs.Prelude.{List, ◌<◌, ◌^◌, vec_len};
@@ -69,5 +72,14 @@ impl<T> BlockList<T> {
         ensures { result.now ≡ self.now }
     {
         self.entries.as_slice()
+    }
+}
+
+impl BlockList<u32> {
+    /// Whether each number is below another, as the numbers of so many streams.
+    pub fn all_below(&self, count: u32) -> bool
+        ensures { IsTrue result ↔ All (λ i. i < count) self.now }
+    {
+        self.as_slice().iter().all(|number| *number < count)
     }
 }

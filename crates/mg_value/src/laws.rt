@@ -1,16 +1,19 @@
-//! Laws of the definitions of streams: each function does nothing, and its contract is the law.
-ghost use Rattle.std.specs.Prelude.{◌≡◌, ℕ, ◌+◌, ◌-◌, ◌++◌, slice_index_or, ◌<◌, ◌≤◌, ◌↔◌, List, take, drop, length, replicate, All, IsTrue, is_some};
+//! Laws of the definitions: each function does nothing, and its contract is the law.
+ghost use Rattle.std.specs.Prelude.{◌≡◌, ℕ, ◌+◌, ◌-◌, ◌++◌, slice_index_or, ◌<◌, ◌≤◌, ◌↔◌, List, [], take, drop, length, replicate, map, All, IsTrue, is_some, option_map, slice_get, Option, Some, None, if◌then◌else◌};
 ghost use Rattle.std.specs.List.{AllZip, list_any};
 ghost use Rattle.std.specs.List.Sorted.{IsStrictlyIncreasing};
 ghost use Rattle.mg_time.specs.Time.{pre_stream, done};
 ghost use Rattle.mg_value.specs.Payload.{Plain};
+ghost use Rattle.mg_value.specs.Plain.{depth, NumbersFit};
+ghost use Rattle.mg_value.specs.Json.{json_of, first_fault};
 ghost use Rattle.mg_value.specs.declared.policy.Policy.{Policy};
 ghost use Rattle.mg_value.specs.declared.policy.Policy.TheVariants.{Mux};
 ghost use Rattle.mg_value.specs.Prefix.{Stamped, StreamPrefix, IsPrefix, MayFollow, MayAllFollow, empty_prefix, appended, all_appended, raised, closed};
 ghost use Rattle.mg_value.specs.Extension.{IsExtendedBy, AreExtendedBy};
 ghost use Rattle.mg_value.specs.Loopback.{loopback, replies};
-ghost use Rattle.mg_value.specs.Settled.{low, times_of, all_times, is_among, settled_times, settled_sets, reach, IsBelowBounds};
-ghost use Rattle.mg_value.specs.Left.{set_times, after_sets, without_first, HasLeadingPacket, AreGone};
+ghost use Rattle.mg_value.specs.Settled.{low, times_of, all_times, is_among, settled_times, settled_sets, reach, packet_at, port_of, inputs_of, shows, IsBelowBounds};
+ghost use Rattle.mg_value.specs.FirstSet.{first_set_time, chosen_port, is_shown, front_at, from, behind};
+ghost use Rattle.mg_value.specs.Left.{set_times, after_sets, without_first, sums, leads, HasLeadingPacket, AreGone};
 
 /// A prefix is extended by itself.
 pub fn extension_is_reflexive()
@@ -66,6 +69,13 @@ pub fn settled_times_are_below_low()
         → IsTrue (is_among (settled_times ss) t) ↔ ((t < low ss) × IsTrue (is_among (all_times ss) t)) }
 {}
 
+/// The inputs of a node are prefixes where the streams are, one per port, and are extended with them.
+pub fn inputs_follow_their_streams()
+    ensures prefixes { (ss : List (StreamPrefix Plain)) (ports : List ℕ) → All IsPrefix ss → All IsPrefix (inputs_of ss ports) }
+    ensures extended { (ss tt : List (StreamPrefix Plain)) (ports : List ℕ) → AreExtendedBy ss tt → AreExtendedBy (inputs_of ss ports) (inputs_of tt ports) }
+    ensures places { (ss : List (StreamPrefix Plain)) (ports : List ℕ) → length (inputs_of ss ports) ≡ length ports }
+{}
+
 /// The settled sets come at distinct times, ascending, each below the bounds that its policy asks for and below the
 /// reach. Each has one place per port, and none is empty.
 pub fn settled_sets_ascend()
@@ -77,10 +87,13 @@ pub fn settled_sets_ascend()
 {}
 
 /// Each settled set stands at the time of a packet of a port that leads, and each such packet below the reach has its set.
+/// So without packets at these ports there is no set.
 pub fn settled_sets_are_of_leading_packets()
     ensures of { (policy : Policy) (ss : List (StreamPrefix Plain)) → All (λ e. HasLeadingPacket policy ss e.at) (settled_sets policy ss) }
     ensures all { (policy : Policy) (ss : List (StreamPrefix Plain)) (t : ℕ) → All IsPrefix ss → HasLeadingPacket policy ss t → t < reach policy ss
         → IsTrue (is_among (set_times policy ss) t) }
+    ensures none { (policy : Policy) (ss : List (StreamPrefix Plain))
+        → ((i : ℕ) → i < length ss → IsTrue (leads policy (length ss) i) → (port_of ss i).packets ≡ []) → settled_sets policy ss ≡ [] }
 {}
 
 /// Where prefixes are extended, their settled sets stay, and others come only behind them, at the reach or above; where
@@ -129,6 +142,58 @@ pub fn what_is_gone_is_kept()
         → without_first more ss ≡ after_sets policy 1 (without_first gone ss) → AreGone policy (k + 1) ss more }
 {}
 
+/// What is left are prefixes again: when the first settled sets are claimed, without first packets, and behind a time.
+pub fn what_is_left_are_prefixes()
+    ensures after_sets { (policy : Policy) (k : ℕ) (ss : List (StreamPrefix Plain)) → All IsPrefix ss → All IsPrefix (after_sets policy k ss) }
+    ensures without_first { (ss : List (StreamPrefix Plain)) (gone : List ℕ) → All IsPrefix ss → All IsPrefix (without_first gone ss) }
+    ensures from { (t : ℕ) (s : StreamPrefix Plain) → IsPrefix s → IsPrefix (from t s) }
+    ensures behind { (t : ℕ) (s : StreamPrefix Plain) → IsPrefix s → IsPrefix (behind t s) }
+{}
+
+/// To claim some sets, and then others of what is left, is to claim them together; and the numbers of packets that are gone
+/// add up.
+pub fn claims_add_up()
+    ensures after_sets { (policy : Policy) (k j : ℕ) (ss : List (StreamPrefix Plain)) → All IsPrefix ss
+        → after_sets policy j (after_sets policy k ss) ≡ after_sets policy (k + j) ss }
+    ensures gone { (policy : Policy) (k j : ℕ) (ss : List (StreamPrefix Plain)) (gone more : List ℕ) → All IsPrefix ss
+        → AreGone policy k ss gone → AreGone policy j (without_first gone ss) more → AreGone policy (k + j) ss (sums gone more) }
+    ensures left { (ss : List (StreamPrefix Plain)) (gone more : List ℕ) → length gone ≡ length ss → length more ≡ length ss
+        → without_first more (without_first gone ss) ≡ without_first (sums gone more) ss }
+{}
+
+/// A settled set shows at each port what the port has at its time, or nothing, as its policy says.
+pub fn settled_sets_show_packets()
+    ensures { (policy : Policy) (ss : List (StreamPrefix Plain)) → All IsPrefix ss
+        → All (λ e. (i : ℕ) → i < length ss
+        → slice_index_or e.set i None ≡ (if shows policy ss e.at i then packet_at e.at (port_of ss i).packets else None)) (settled_sets policy ss) }
+{}
+
+/// First packets and bounds tell the first settled set: its time, and which ports it shows. What shows at each of these what
+/// the port has at the time is the set. Before its time nothing stands at a port that leads, and its claim leaves what stands
+/// behind it.
+pub fn first_packets_tell_the_first_set()
+    ensures time { (policy : Policy) (ss : List (StreamPrefix Plain)) → All IsPrefix ss
+        → option_map (λ e. e.at) (slice_get (settled_sets policy ss) 0) ≡ first_set_time policy ss }
+    ensures shown { (policy : Policy) (ss : List (StreamPrefix Plain)) (t i : ℕ) → first_set_time policy ss ≡ Some t
+        → is_shown policy (length ss) (chosen_port policy ss) i ≡ shows policy ss t i }
+    ensures set { (policy : Policy) (ss : List (StreamPrefix Plain)) (t : ℕ) (set : List (Option (Stamped Plain))) → All IsPrefix ss
+        → first_set_time policy ss ≡ Some t → length set ≡ length ss
+        → ((i : ℕ) → i < length ss → slice_index_or set i None ≡ (if shows policy ss t i then packet_at t (port_of ss i).packets else None))
+        → slice_get (settled_sets policy ss) 0 ≡ Some (record { at = t; set = set }) }
+    ensures leading { (policy : Policy) (ss : List (StreamPrefix Plain)) (t i : ℕ) → All IsPrefix ss → first_set_time policy ss ≡ Some t
+        → i < length ss → IsTrue (leads policy (length ss) i) → from t (port_of ss i) ≡ port_of ss i }
+    ensures left { (policy : Policy) (ss : List (StreamPrefix Plain)) (t : ℕ) → All IsPrefix ss → first_set_time policy ss ≡ Some t
+        → after_sets policy 1 ss ≡ map (behind t) ss }
+{}
+
+/// What a prefix has at a time stands first once all before it is gone; and once that is gone too, the rest stands behind
+/// the time.
+pub fn a_packet_stands_first_at_its_time()
+    ensures found { (t : ℕ) (s : StreamPrefix Plain) → IsPrefix s → packet_at t s.packets ≡ front_at t (from t s).packets }
+    ensures left { (t : ℕ) (s : StreamPrefix Plain) → IsPrefix s
+        → (behind t s).packets ≡ (if is_some (packet_at t s.packets) then drop 1 (from t s).packets else (from t s).packets) }
+{}
+
 /// Under Mux as many packets of SELECT are gone as sets are claimed.
 pub fn a_set_takes_a_packet_of_select()
     ensures { (k : ℕ) (ss : List (StreamPrefix Plain)) (gone : List ℕ) → All IsPrefix ss → AreGone Mux k ss gone
@@ -154,4 +219,11 @@ pub fn replies_stay()
         → take (length (replies main loop)) (replies wider more) ≡ replies main loop }
     ensures same { (main loop more : StreamPrefix Plain) → IsExtendedBy loop more
         → length (replies main more) ≡ length (replies main loop) → loopback main more ≡ loopback main loop }
+{}
+
+/// What is written of a payload is read back as that payload, if no list or record lies inside 16 others: its JSON value has
+/// no fault, and says no other payload.
+pub fn payloads_are_read_back()
+    ensures faultless { (p : Plain) → NumbersFit p → depth p ≤ 16 → first_fault (json_of p) ≡ None }
+    ensures one { (p q : Plain) → json_of q ≡ json_of p → q ≡ p }
 {}

@@ -1,0 +1,119 @@
+//! The settled sets of whole prefixes, and how far they reach, as a plain program.
+ghost use Rattle.std.specs.Prelude.{◌≡◌, ◌<◌, ◌^◌, All, length, map, Some, if◌then◌else◌, slice_get, None, IfOk, OnOk};
+ghost use Rattle.mg_value.specs.Prefix.{IsPrefix};
+ghost use Rattle.mg_value.specs.Settled.{packet_at, selected, inputs_of, settled_sets};
+ghost use Rattle.mg_value.specs.FirstSet.{first_set_time, chosen_port, is_shown, behind};
+
+use crate::look::look_at;
+use crate::reaching::selected;
+use crate::rest::{Rest, rests_of};
+use crate::{BlockList, InputSet, NumberList, Packet, Policy, PrefixList, TimedSet, TimedSetList};
+use mg_time::Timestamp;
+use std::alloc::{AllocError, Global};
+
+/// The settled sets of a node whose ports have the streams with these numbers, under an input policy (MediaPipe,
+/// Synchronization). Their packets share the payloads of the prefixes'. Each packet is passed once, and each set looks
+/// once at each port.
+pub fn settled_sets(
+    alloc: Global,
+    policy: Policy,
+    prefixes: &PrefixList,
+    ports: &NumberList,
+) -> Result<TimedSetList, AllocError>
+    requires streams { All IsPrefix prefixes.now }
+    requires known { All (λ i. i < length prefixes.now) ports.now }
+    ensures { IfOk result (λ sets. sets ≡ settled_sets policy (inputs_of prefixes.now ports.now)) }
+{
+    let mut rests = rests_of(alloc, prefixes, ports)?;
+    let mut sets = Vec::new(alloc);
+    while let Some(at) = first_set_time(policy, rests.as_slice()) {
+        let set = take_set(alloc, policy, rests.as_mut_slice(), at)?;
+        sets.push(TimedSet { at, set })?;
+    }
+    Ok(BlockList::from_vec(sets)?)
+}
+
+/// The time of the first settled set.
+fn first_set_time(policy: Policy, rests: &[Rest<'_>]) -> Option<Timestamp>
+    requires { length rests.now < 2 ^ 32 }
+    ensures { result ≡ first_set_time policy rests.now }
+{
+    match policy {
+        Policy::Default => {
+            let look = look_at(rests);
+            if look.earliest < look.low {
+                Some(look.earliest)
+            } else {
+                None
+            }
+        }
+        Policy::Mux => {
+            let first = rests.last()?.first()?;
+            match selected(rests.len() as u32, &first.payload) {
+                Some(port) if rests[port as usize].bound() <= first.at => None,
+                _ => Some(first.at),
+            }
+        }
+    }
+}
+
+/// The port that SELECT's first packet selects.
+fn chosen_port(policy: Policy, rests: &[Rest<'_>]) -> Option<u32>
+    requires { length rests.now < 2 ^ 32 }
+    ensures { result ≡ chosen_port policy rests.now }
+{
+    match policy {
+        Policy::Default => None,
+        Policy::Mux => {
+            let first = rests.last()?.first()?;
+            selected(rests.len() as u32, &first.payload)
+        }
+    }
+}
+
+/// Whether a port is shown.
+fn is_shown(policy: Policy, ports: u32, chosen: Option<u32>, port: u32) -> bool
+    requires { port < ports }
+    ensures { result ≡ is_shown policy ports chosen port }
+{
+    match policy {
+        Policy::Default => true,
+        Policy::Mux => port + 1 == ports || chosen == Some(port),
+    }
+}
+
+/// Reads on behind a time: the packet there, where it is shown.
+fn read_port(rest: &mut Rest<'_>, at: Timestamp, shown: bool) -> Result<Option<Packet>, AllocError>
+    requires { IsPrefix rest.old }
+    ensures packet { IfOk result (λ packet. packet ≡ (if shown then packet_at at rest.old.packets else None)) }
+    ensures left { rest.new ≡ behind at rest.old }
+{
+    match rest.read_at(at) {
+        Some(packet) if shown => Ok(Some(packet.try_clone()?)),
+        _ => Ok(None),
+    }
+}
+
+/// The first settled set, and reads on behind its time at each port.
+fn take_set(
+    alloc: Global,
+    policy: Policy,
+    rests: &mut [Rest<'_>],
+    at: Timestamp,
+) -> Result<InputSet, AllocError>
+    requires few { length rests.old < 2 ^ 32 }
+    requires streams { All IsPrefix rests.old }
+    requires first { first_set_time policy rests.old ≡ Some at }
+    ensures set { IfOk result (λ set. slice_get (settled_sets policy rests.old) 0 ≡ Some (record { at = at; set = set })) }
+    ensures left { OnOk result (rests.new ≡ map (behind at) rests.old) }
+{
+    let ports = rests.len() as u32;
+    let chosen = chosen_port(policy, rests);
+    let mut set = InputSet::new(alloc, ports)?;
+    for port in 0..ports {
+        let shown = is_shown(policy, ports, chosen, port);
+        let packet = read_port(&mut rests[port as usize], at, shown)?;
+        set.put(port, packet);
+    }
+    Ok(set)
+}

@@ -1,0 +1,25 @@
+use crate::{BlockList, InputSet};
+use mg_time::Timestamp;
+use std::marker::Model;
+
+/// An input set at its time.
+#[derive(Debug, Drop)]
+pub struct TimedSet {
+    pub at: Timestamp,
+    pub set: InputSet,
+}
+
+impl Model for TimedSet {
+    ghost use Rattle.mg_value.specs.Payload.{Plain};
+    ghost use Rattle.mg_value.specs.Settled.{TimedSet as SetAtTime};
+    ghost use Rattle.mg_value.specs.SetCodes.{timed_set_code};
+
+    ghost Value = { SetAtTime Plain };
+
+    ghost coded = { timed_set_code };
+
+    ghost view = { λ e. record { at = e.at; set = e.set } };
+}
+
+/// Input sets in the order of their times.
+pub type TimedSetList = BlockList<TimedSet>;
