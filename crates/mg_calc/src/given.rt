@@ -30,7 +30,9 @@ impl Model for GivenList {
 
 impl GivenList {
     /// The list of a vector's places. There is no memory for 2^32 or more: the vector then comes back.
-    pub fn from_vec(places: Vec<Option<Arc<Payload>>>) -> Result<GivenList, AllocFailed<Vec<Option<Arc<Payload>>>>>
+    pub fn from_vec(
+        places: Vec<Option<Arc<Payload>>>,
+    ) -> Result<GivenList, AllocFailed<Vec<Option<Arc<Payload>>>>>
         ensures ok { IsOk result ↔ (length places.items < 2 ^ 32) }
         ensures places { IfOk result (λ l. l ≡ map given places.items) }
         ensures value_returned { IfErr result (λ e. e.value ≡ places) }

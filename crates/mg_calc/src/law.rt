@@ -34,27 +34,51 @@ pub enum Law {
         empty_as_allow: bool,
     },
     /// The packet of the port goes on that the last port selects.
-    Mux { lanes: u32 },
+    Mux {
+        lanes: u32,
+    },
     /// At each packet of the last port the newest packets of the others are repeated.
-    Cloner { lanes: u32 },
+    Cloner {
+        lanes: u32,
+    },
     /// The first packet of all goes on.
-    Merge { lanes: u32 },
+    Merge {
+        lanes: u32,
+    },
     /// A packet goes on if the period since the last one that did is over.
-    Thin { period: i64 },
+    Thin {
+        period: i64,
+    },
     /// The sum of all numbers.
-    Sum { lanes: u32 },
+    Sum {
+        lanes: u32,
+    },
     /// A number and an operand.
-    Map { op: MapOp, operand: i64 },
+    Map {
+        op: MapOp,
+        operand: i64,
+    },
     /// The numbers that are kept. Where `raise` is set, the output's bound moves on at those that aren't as well.
-    Filter { keep: Keep, raise: bool },
+    Filter {
+        keep: Keep,
+        raise: bool,
+    },
     /// The sum of all numbers so far.
     Running,
     /// Packets go on at a timestamp moved by the offset.
-    Shift { offset: i64 },
+    Shift {
+        offset: i64,
+    },
     /// A source of `count` numbers, the first at `start`, and `step` apart.
-    Count { count: u32, start: i64, step: i64 },
+    Count {
+        count: u32,
+        start: i64,
+        step: i64,
+    },
     /// A source of one packet, whose payload is a side packet.
-    SideOnce { at: Timestamp },
+    SideOnce {
+        at: Timestamp,
+    },
     /// Side packets that stand in the graph.
     Constants,
     /// Each packet of MAIN goes with the packet that LOOP had at the time of the one before it.

@@ -19,6 +19,7 @@ mod port_kind;
 mod shape;
 mod side;
 mod state;
+mod try_clone;
 
 pub use call::{Call, CallList};
 pub use cause::{CalcFault, Cause};
@@ -37,3 +38,4 @@ pub use port_kind::{PortKind, PortKindList};
 pub use shape::{OuterShape, Shape};
 pub use side::{Side, SideList, SideValue};
 pub use state::State;
+pub use try_clone::TryClone;
