@@ -1,12 +1,12 @@
 -- The laws at a few small inputs.
-use Rattle.std.proofs.Common.{◌≡◌, ℕ, ◌+◌, ◌-◌, ◌^◌, ℤ, Bool, true, false, List, [], ◌∷◌, Option, Some, None, Ok, Err, refl, pos, negsuc}
+use Rattle.std.proofs.Common.{◌≡◌, ℕ, ◌-◌, ◌^◌, ℤ, true, false, [], ◌∷◌, Some, None, Ok, Err, refl, pos, negsuc}
 use Rattle.mg_time.specs.Time.{place_of, pre_stream, greatest, least, post_stream, one_over_post_stream, raw_of}
 use Rattle.mg_value.specs.Plain.{Plain, flag, int, text, items, item, no_items}
 use Rattle.mg_value.specs.Prefix.{Stamped}
 use Rattle.mg_calc.specs.declared.law.Law.{Law}
-use Rattle.mg_calc.specs.declared.law.Law.TheVariants.{Pass, Gate, Mux, Cloner, Merge, Thin, Sum, Map, Filter, Running, Shift, Count, SideOnce, Constants, Loopback, Tally, Scripted}
-use Rattle.mg_calc.specs.declared.law.MapOp.TheVariants.{Add, Subtract, Multiply}
-use Rattle.mg_calc.specs.declared.law.Keep.TheVariants.{Even, Odd, Negative, NonNegative}
+use Rattle.mg_calc.specs.declared.law.Law.TheVariants.{Gate, Mux, Cloner, Merge, Thin, Sum, Map, Filter, Running, Shift, Count, SideOnce, Tally, Scripted}
+use Rattle.mg_calc.specs.declared.law.MapOp.TheVariants.{Subtract, Multiply}
+use Rattle.mg_calc.specs.declared.law.Keep.TheVariants.{Even, Odd}
 use Rattle.mg_calc.specs.declared.cause.Cause.TheVariants.{Overflow, BadSelect, WrongKind, NoSide}
 use Rattle.mg_calc.specs.declared.emission.Laid.{Laid}
 use Rattle.mg_calc.specs.Law.{opening, step, call, finish}

@@ -1,7 +1,7 @@
 -- The table of laws, after the pages of the MediaPipe framework on its calculators. A calculator is opened once, then shown its
 -- input sets, each at its time, or, if it is a source, called a number of times, and then closed. Each of these gives a new state
 -- with an emission, or a cause.
-use Rattle.std.specs.Prelude.{ℕ, ℤ, pos, ◌+ℤ◌, ◌*ℤ◌, List, [], ◌∷◌, Option, Some, None, option_map, slice_get, unwrap_or, Result, Ok, Err, if◌then◌else◌}
+use Rattle.std.specs.Prelude.{ℕ, pos, ◌+ℤ◌, ◌*ℤ◌, List, [], ◌∷◌, Option, Some, None, slice_get, unwrap_or, Ok, Err, if◌then◌else◌}
 use Rattle.mg_value.specs.Plain.{Plain, int}
 use Rattle.mg_value.specs.Prefix.{Stamped}
 use Rattle.mg_calc.specs.declared.law.Law.{Law}

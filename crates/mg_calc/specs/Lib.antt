@@ -13,3 +13,4 @@ pub mod Told
 pub mod Values
 -- What the prover wants of the types beside their meaning. No meaning rests on it.
 pub mod Codes
+pub mod ToldCodes

@@ -1,5 +1,5 @@
 -- The laws of the calculators that compute: what each gives for its state and the set at a time t.
-use Rattle.std.specs.Prelude.{ℕ, ℤ, pos, negsuc, ◌+◌, ◌+ℤ◌, ◌-ℤ◌, ◌*ℤ◌, ◌%◌, ◌==◌, Bool, true, false, not, ◌||◌, List, [], ◌∷◌, Option, Some, None, option_map, unwrap_or, slice_get, Result, Ok, Err, if◌then◌else◌}
+use Rattle.std.specs.Prelude.{ℕ, ℤ, pos, negsuc, ◌+◌, ◌+ℤ◌, ◌-ℤ◌, ◌*ℤ◌, ◌%◌, ◌==◌, Bool, true, false, not, ◌||◌, List, [], ◌∷◌, Option, Some, None, option_map, unwrap_or, slice_get, Ok, Err, if◌then◌else◌}
 use Rattle.mg_time.specs.Time.{next}
 use Rattle.mg_value.specs.Plain.{Plain, int}
 use Rattle.mg_value.specs.Prefix.{Stamped}

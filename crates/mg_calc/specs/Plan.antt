@@ -1,25 +1,24 @@
 -- Plans. Streams are numbered: the graph inputs in order, and then the outputs of each node, by node and by port. Edges are numbered
 -- by their consumers and then by port; after the nodes comes one more consumer, the collector, whose ports are the graph's outputs
 -- and whose number is the number of nodes.
-use Rattle.std.specs.Prelude.{◌≡◌, ◌≢◌, ℕ, ℤ, pos, ◌+◌, ◌<◌, ◌≤◌, Bool, true, false, List, [], ◌∷◌, ◌++◌, map, length, filter, All, AllPairs, Contains, Option, Some, None, IfSome, IsSome, IsSomeAnd, unwrap_or, slice_get, ⊤, ◌==◌}
+use Rattle.std.specs.Prelude.{◌≡◌, ◌≢◌, ℕ, pos, ◌<◌, ◌≤◌, true, false, List, ◌++◌, map, length, filter, All, AllPairs, Contains, Option, Some, None, IfSome, IsSome, IsSomeAnd, unwrap_or, slice_get, ⊤, ◌==◌}
 use Rattle.std.specs.List.{range_with_len, enumerate_from, flat_map, filter_map}
 use Rattle.std.specs.Option.{option_and_then}
 use Rattle.mg_value.specs.Plain.{Plain}
 use Rattle.mg_value.specs.Prefix.{IsPrefix}
 use Rattle.mg_value.specs.declared.policy.Policy.{Policy}
-use Rattle.mg_value.specs.declared.policy.Policy.TheVariants.{Default, Mux}
+use Rattle.mg_value.specs.declared.policy.Policy.TheVariants.{Default}
 use Rattle.mg_calc.specs.declared.law.Law.{Law}
 use Rattle.mg_calc.specs.declared.law.Law.TheVariants.{Loopback, Mux as MuxLaw}
 use Rattle.mg_calc.specs.declared.shape.Shape.{Shape}
 use Rattle.mg_calc.specs.declared.shape.OuterShape.{OuterShape}
 use Rattle.mg_calc.specs.declared.plan_node.PlanNode.{PlanNode}
-use Rattle.mg_calc.specs.declared.plan_stream.PlanStream.{PlanStream}
 use Rattle.mg_calc.specs.declared.plan_stream.Producer.{Producer}
 use Rattle.mg_calc.specs.declared.plan_stream.Producer.TheVariants.{Input, Node}
 use Rattle.mg_calc.specs.declared.edge.Edge.{Edge}
 use Rattle.mg_calc.specs.declared.plan.Plan.{Plan}
 use Rattle.mg_calc.specs.declared.inputs.Inputs.{Inputs}
-use Rattle.mg_calc.specs.Side.{PlainSide, PlainSideValue, given_at, fixed}
+use Rattle.mg_calc.specs.Side.{PlainSideValue, given_at, fixed}
 use Rattle.mg_calc.specs.Shape.{ParametersFit, IsShapeOf}
 
 -- the numbers from 0 on, so many

@@ -1,11 +1,10 @@
 -- The laws of the calculators that hand packets on: what each gives for its state and the set at a time t.
-use Rattle.std.specs.Prelude.{ℕ, ℤ, ◌+◌, ◌+ℤ◌, Bool, true, false, not, List, [], ◌∷◌, map, take, length, Option, Some, None, is_some, option_map, unwrap_or, find, Result, Ok, Err, nat_le, if◌then◌else◌}
+use Rattle.std.specs.Prelude.{ℕ, ℤ, ◌+◌, ◌+ℤ◌, Bool, false, not, List, [], ◌∷◌, map, take, Option, Some, None, is_some, option_map, unwrap_or, Ok, Err, nat_le, if◌then◌else◌}
 use Rattle.std.specs.List.{zip}
 use Rattle.mg_time.specs.Time.{raw_of, one_over_post_stream}
 use Rattle.mg_value.specs.Plain.{Plain, flag}
 use Rattle.mg_value.specs.Prefix.{Stamped}
 use Rattle.mg_value.specs.Settled.{selected}
-use Rattle.mg_calc.specs.declared.emission.Laid.{Laid}
 use Rattle.mg_calc.specs.declared.cause.Cause.TheVariants.{BadSelect}
 use Rattle.mg_calc.specs.Answer.{Answer, emission_of}
 use Rattle.mg_calc.specs.Values.{place_at, is_in_range, time_of, stored}

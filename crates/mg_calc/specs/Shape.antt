@@ -1,6 +1,6 @@
 -- What each law may be given, and what a calculator of it looks like from outside. Ports go by tag, in byte order and the empty tag
 -- first, and then by index.
-use Rattle.std.specs.Prelude.{◌≡◌, ℕ, ℤ, pos, negsuc, ◌+◌, ◌≤◌, ◌^◌, ◌≤ℤ◌, ◌⊎◌, Bool, true, false, List, [], ◌∷◌, ◌++◌, map, length, All, codes, Option, Some, None, if◌then◌else◌, IsTrue, ⊤}
+use Rattle.std.specs.Prelude.{◌≡◌, ℕ, ℤ, pos, ◌≤◌, ◌≤ℤ◌, ◌⊎◌, Bool, true, false, List, [], ◌++◌, map, length, All, codes, Option, Some, None, if◌then◌else◌, IsTrue, ⊤}
 use Rattle.std.specs.List.{range_with_len}
 use Rattle.std.specs.List.Sorted.{IsStrictlySortedBy}
 use Rattle.std.specs.Ordering.{ordering_then, nat_cmp}
@@ -14,7 +14,7 @@ use Rattle.mg_calc.specs.declared.law.Law.TheVariants.{Pass, Gate, Mux, Cloner, 
 use Rattle.mg_calc.specs.declared.emission.Laid.{Laid}
 use Rattle.mg_calc.specs.declared.port_kind.PortKind.{PortKind}
 use Rattle.mg_calc.specs.declared.shape.Shape.{Shape}
-use Rattle.mg_calc.specs.Values.{time_of, is_in_range}
+use Rattle.mg_calc.specs.Values.{is_in_range}
 
 -- The laws by who computes them.
 

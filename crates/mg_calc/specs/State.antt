@@ -1,5 +1,5 @@
 -- What a calculator keeps between its calls, as a list of payloads. The empty list is the state of one that has seen nothing.
-use Rattle.std.specs.Prelude.{◌≡◌, ℕ, ℤ, pos, negsuc, ◌-◌, ◌≤◌, ◌^◌, List, [], ◌∷◌, ◌++◌, map, take, length, replicate, All, Option, Some, None, slice_get, unwrap_or, FitsSigned, IsTrue, ⊤}
+use Rattle.std.specs.Prelude.{◌≡◌, ℕ, ℤ, pos, negsuc, ◌-◌, ◌≤◌, ◌^◌, List, [], ◌∷◌, ◌++◌, map, take, length, replicate, All, Option, Some, None, slice_get, unwrap_or, IsTrue, ⊤}
 use Rattle.std.specs.Option.{option_and_then}
 use Rattle.mg_time.specs.Time.{raw_of, pre_stream, one_over_post_stream}
 use Rattle.mg_value.specs.Plain.{Plain, int}

@@ -1,5 +1,5 @@
 -- What a calculator tells of itself, and what a call does to it.
-use Rattle.std.specs.Prelude.{◌≡◌, List, [], ◌∷◌, ◌++◌, Option, Some, None, option_map, unwrap_or, Result, Ok, Err}
+use Rattle.std.specs.Prelude.{◌≡◌, List, [], ◌∷◌, ◌++◌, Option, option_map, unwrap_or, Result, Ok, Err}
 use Rattle.mg_value.specs.Plain.{Plain}
 use Rattle.mg_calc.specs.declared.law.Law.{Law}
 use Rattle.mg_calc.specs.declared.shape.Shape.{Shape}

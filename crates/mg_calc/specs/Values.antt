@@ -1,5 +1,5 @@
 -- Numbers, times and places that the laws speak of.
-use Rattle.std.specs.Prelude.{ℕ, ℤ, pos, negsuc, ◌+ℤ◌, ◌^◌, Bool, ◌&&◌, nat_lt, nat_le, List, [], ◌∷◌, replicate, take, map, ◌++◌, Option, Some, None, option_map, slice_get, unwrap_or, if◌then◌else◌}
+use Rattle.std.specs.Prelude.{ℕ, ℤ, pos, negsuc, ◌+ℤ◌, ◌^◌, Bool, ◌&&◌, nat_lt, nat_le, List, [], ◌∷◌, Option, Some, None, slice_get, unwrap_or, if◌then◌else◌}
 use Rattle.mg_time.specs.Time.{raw_of, place_of, least, greatest}
 use Rattle.mg_value.specs.Plain.{Plain, int, items, no_items, item}
 use Rattle.mg_value.specs.Prefix.{Stamped}
