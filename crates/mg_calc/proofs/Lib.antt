@@ -1,1 +1,8 @@
 mod Examples
+pub mod LaidBehind
+pub mod Outcomes
+pub mod NodeStreams
+pub mod Rounds
+pub mod Solutions
+pub mod Positions
+pub mod Earlier

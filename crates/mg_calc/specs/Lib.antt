@@ -1,7 +1,11 @@
 pub mod Answer
+pub mod Equations
 pub mod Given
 pub mod Kinds
 pub mod Law
+pub mod Laying
+pub mod Meaning
+pub mod Outcome
 pub mod Own
 pub mod Plan
 pub mod Routing
