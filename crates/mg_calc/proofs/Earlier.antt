@@ -57,7 +57,7 @@ nodes_come plan k (node ∷ nodes) a =
     subst (AllByRecursion (Comes plan)) (flat_map-cons (λ e. ends_at e.0 e.1.inputs) (k, node) (enumerate_from (k + 1) nodes)) a in
     (all_front (Comes plan) (ends_at k node.inputs) _ b, nodes_come plan (k + 1) nodes (all_back (Comes plan) (ends_at k node.inputs) _ b))
 
-some_same : {X : Type 0} (x y : X) → Some x ≡ Some y → x ≡ y
+pub some_same : {X : Type 0} (x y : X) → Some x ≡ Some y → x ≡ y
 some_same x y e = ap (λ o. (elim o [ Some z ↦ z | None ↦ x ])) e
 
 come_at : (plan : Plan) (k w : ℕ) (nodes : List PlanNode) (node : PlanNode) → NodesCome plan k nodes → slice_get nodes w ≡ Some node → AllByRecursion (Comes plan) (ends_at (k + w) node.inputs)
@@ -77,7 +77,7 @@ inputs_come plan w node valid e =
     subst (λ (i : ℕ). AllByRecursion (Comes plan) (ends_at i node.inputs)) (zero-add w) (come_at plan 0 w plan.nodes node nodes e)
 
 -- the nodes that give streams are there
-abbrev GivenBelow : ℕ → Producer → Type 0
+abbrev pub GivenBelow : ℕ → Producer → Type 0
 GivenBelow n (Input i) = Unit {0}
 GivenBelow n (Node node port) = node < n
 
@@ -105,7 +105,7 @@ producers_below plan =
     all_both (GivenBelow (length plan.nodes)) (map Input (numbers (length plan.inputs))) (givers 0 plan.nodes)
     (inputs_below (length plan.nodes) 0 (length plan.inputs)) (givers_below (length plan.nodes) 0 plan.nodes (omega arith))
 
-at_place : {X : Type 0} (P : X → Type 0) (xs : List X) (i : ℕ) (x : X) → AllByRecursion P xs → slice_get xs i ≡ Some x → P x
+pub at_place : {X : Type 0} (P : X → Type 0) (xs : List X) (i : ℕ) (x : X) → AllByRecursion P xs → slice_get xs i ≡ Some x → P x
 at_place P [] i x a e = absurd cc
 at_place P (y ∷ ys) zero x a e = subst P (some_same y x e) a.0
 at_place P (y ∷ ys) (suc i) x a e = at_place P ys i x a.1 e
@@ -116,7 +116,7 @@ KnownBy Held (Input i) = Unit {0}
 KnownBy Held (Node node port) = Held node
 
 -- where a list stands behind others
-behind : {X : Type 0} (xs ys : List X) (x : X) → slice_get (xs ++ x ∷ ys) (length xs) ≡ Some x
+pub behind : {X : Type 0} (xs ys : List X) (x : X) → slice_get (xs ++ x ∷ ys) (length xs) ≡ Some x
 behind [] ys x = refl
 behind (z ∷ xs) ys x = behind xs ys x
 
@@ -125,12 +125,12 @@ in_front [] ys i x e le = absurd (omega (arith, le))
 in_front (z ∷ xs) ys zero x e le = e
 in_front (z ∷ xs) ys (suc i) x e le = in_front xs ys i x e (omega (arith, le))
 
-get_or_some : {X : Type 0} (xs : List X) (i : ℕ) (x : X) → i < length xs → get_or xs i x ≡ x → slice_get xs i ≡ Some x
+pub get_or_some : {X : Type 0} (xs : List X) (i : ℕ) (x : X) → i < length xs → get_or xs i x ≡ x → slice_get xs i ≡ Some x
 get_or_some [] i x le e = absurd (omega (arith, le))
 get_or_some (y ∷ ys) zero x le e = ap (λ z. Some z) e
 get_or_some (y ∷ ys) (suc i) x le e = get_or_some ys i x (omega (arith, le)) e
 
-there : {X : Type 0} (xs : List X) (i : ℕ) → i < length xs → (x : X) × (slice_get xs i ≡ Some x)
+pub there : {X : Type 0} (xs : List X) (i : ℕ) → i < length xs → (x : X) × (slice_get xs i ≡ Some x)
 there [] i le = absurd (omega (arith, le))
 there (x ∷ xs) zero le = (x, refl)
 there (x ∷ xs) (suc i) le = there xs i (omega (arith, le))

@@ -6,3 +6,5 @@ pub mod Rounds
 pub mod Solutions
 pub mod Positions
 pub mod Earlier
+pub mod Holding
+pub mod Settling

@@ -33,7 +33,7 @@ stream_is_prefix [] i k = empty_is_prefix
 stream_is_prefix (x ∷ xs) zero k = k.0
 stream_is_prefix (x ∷ xs) (suc i) k = stream_is_prefix xs i k.1
 
-streams_extend : (xs ys : List (StreamPrefix Plain)) (numbers : List ℕ) → AreExtendedBy xs ys → AreExtendedBy (map (stream_of xs) numbers) (map (stream_of ys) numbers)
+pub streams_extend : (xs ys : List (StreamPrefix Plain)) (numbers : List ℕ) → AreExtendedBy xs ys → AreExtendedBy (map (stream_of xs) numbers) (map (stream_of ys) numbers)
 streams_extend xs ys [] e = tt
 streams_extend xs ys (n ∷ ns) e = (stream_extends xs ys n e, streams_extend xs ys ns e)
 
