@@ -77,8 +77,8 @@ laid_extends offset phase output longer laid h =
     (extended_further output good.0 (raised_to laid.bound good.0) (packets_extend offset phase output good.0 laid.packets good.1) (raised_to_extends laid.bound good.0))
 
 -- the bounds of an emission are times
-abbrev pub BoundsAreTimes : List Laid → Type 0
-BoundsAreTimes emission = AllByRecursion (λ laid. IfSome laid.bound (λ b. b ≤ done)) emission
+abbrev pub TimesByRecursion : List Laid → Type 0
+TimesByRecursion emission = AllByRecursion (λ laid. IfSome laid.bound (λ b. b ≤ done)) emission
 
 laid_keeps : (offset : Option ℤ) (phase : Phase) (output longer : StreamPrefix Plain) (laid : Laid) → with_laid offset phase output laid ≡ Ok longer → IfSome laid.bound (λ b. b ≤ done) → IsPrefix output → IsPrefix longer
 laid_keeps offset phase output longer laid h le k =
@@ -96,7 +96,7 @@ emission_extends offset phase (output ∷ outputs) longer (laid ∷ emission) h 
     subst (AreExtendedBy (output ∷ outputs)) (good_same (here.0 ∷ rest.0) longer rest.2)
     (laid_extends offset phase output here.0 laid here.1, emission_extends offset phase outputs rest.0 emission rest.1)
 
-pub emission_keeps : (offset : Option ℤ) (phase : Phase) (outputs longer : List (StreamPrefix Plain)) (emission : List Laid) → laid_behind offset phase outputs emission ≡ Ok longer → BoundsAreTimes emission → AllByRecursion IsPrefix outputs → AllByRecursion IsPrefix longer
+pub emission_keeps : (offset : Option ℤ) (phase : Phase) (outputs longer : List (StreamPrefix Plain)) (emission : List Laid) → laid_behind offset phase outputs emission ≡ Ok longer → TimesByRecursion emission → AllByRecursion IsPrefix outputs → AllByRecursion IsPrefix longer
 emission_keeps offset phase outputs longer [] h times k = subst (AllByRecursion IsPrefix) (good_same outputs longer h) k
 emission_keeps offset phase [] longer (laid ∷ emission) h times k = subst (AllByRecursion IsPrefix) (good_same [] longer h) tt
 emission_keeps offset phase (output ∷ outputs) longer (laid ∷ emission) h times k =

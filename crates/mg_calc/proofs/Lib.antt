@@ -8,3 +8,4 @@ pub mod Positions
 pub mod Earlier
 pub mod Holding
 pub mod Settling
+pub mod LawTimes

@@ -18,7 +18,7 @@ use Rattle.mg_calc.specs.Answer.{Answer}
 use Rattle.mg_calc.specs.Law.{opening, step, call, finish}
 use Rattle.mg_calc.specs.Laying.{after, laid_behind, all_raised}
 use Rattle.mg_calc.specs.Outcome.{Failure, Outcome, failed, after_laying, after_call, unopened, opened, unless_failed, shown, shown_all, after_close, finished, with_reach, ended, called, with_last_call, source_outcome}
-use Rattle.mg_calc.proofs.LaidBehind.{BoundsAreTimes, after_good, emission_extends, emission_keeps, raise_extends, raise_higher, raise_keeps, close_extends, close_keeps}
+use Rattle.mg_calc.proofs.LaidBehind.{TimesByRecursion, after_good, emission_extends, emission_keeps, raise_extends, raise_higher, raise_keeps, close_extends, close_keeps}
 
 -- a call extends the outputs
 laying_extends : (phase : Phase) (outcome : Outcome) (answer : Result (List (StreamPrefix Plain)) Cause)
@@ -86,10 +86,10 @@ sets_extend_raised law offset outcome bound set sets h le =
 
 -- What a law keeps and emits: bounds that are times, from states of which this is known.
 pub record KeepsTimes (law : Law) (Good : List Plain → Type 0) : Type 0 where
-  pub opens : (sides : List (Option Plain)) (given : List Plain × List Laid) → opening law sides ≡ Ok given → Good given.0 × BoundsAreTimes given.1
-  pub steps : (state : List Plain) (set : TimedSet Plain) (given : List Plain × List Laid) → Good state → set.at ≤ done → step law state set.at set.set ≡ Ok given → Good given.0 × BoundsAreTimes given.1
-  pub calls : (state : List Plain) (number : ℕ) (given : List Plain × List Laid) → Good state → call law state number ≡ Ok given → Good given.0 × BoundsAreTimes given.1
-  pub finishes : (state : List Plain) (given : List Plain × List Laid) → Good state → finish law state ≡ Ok given → BoundsAreTimes given.1
+  pub opens : (sides : List (Option Plain)) (given : List Plain × List Laid) → opening law sides ≡ Ok given → Good given.0 × TimesByRecursion given.1
+  pub steps : (state : List Plain) (set : TimedSet Plain) (given : List Plain × List Laid) → Good state → set.at ≤ done → step law state set.at set.set ≡ Ok given → Good given.0 × TimesByRecursion given.1
+  pub calls : (state : List Plain) (number : ℕ) (given : List Plain × List Laid) → Good state → call law state number ≡ Ok given → Good given.0 × TimesByRecursion given.1
+  pub finishes : (state : List Plain) (given : List Plain × List Laid) → Good state → finish law state ≡ Ok given → TimesByRecursion given.1
 
 -- what is known of an outcome then
 pub record IsKept (Good : List Plain → Type 0) (outcome : Outcome) : Type 0 where
@@ -104,7 +104,7 @@ laying_keeps Good phase outcome (Ok outputs) good k e = record { good = (λ h. g
 laying_keeps Good phase outcome (Err cause) good k e = record { good = (λ h. absurd cc); prefixes = k }
 
 call_keeps : (Good : List Plain → Type 0) (offset : Option ℤ) (phase : Phase) (outcome : Outcome) (answer : Answer) → AllByRecursion IsPrefix outcome.outputs
-    → ((given : List Plain × List Laid) → answer ≡ Ok given → Good given.0 × BoundsAreTimes given.1) → IsKept Good (after_call offset phase outcome answer)
+    → ((given : List Plain × List Laid) → answer ≡ Ok given → Good given.0 × TimesByRecursion given.1) → IsKept Good (after_call offset phase outcome answer)
 call_keeps Good offset phase outcome (Err cause) k e = record { good = (λ h. absurd cc); prefixes = k }
 call_keeps Good offset phase outcome (Ok given) k e =
     laying_keeps Good phase (record outcome { state = given.0 }) (laid_behind offset phase outcome.outputs given.1) (e given refl).0 k

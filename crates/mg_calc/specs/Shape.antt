@@ -1,12 +1,12 @@
 -- What each law may be given, and what a calculator of it looks like from outside. Ports go by tag, in byte order and the empty tag
 -- first, and then by index.
-use Rattle.std.specs.Prelude.{◌≡◌, ℕ, ℤ, pos, ◌≤◌, ◌≤ℤ◌, ◌⊎◌, Bool, true, false, List, [], ◌++◌, map, length, All, codes, Option, Some, None, if◌then◌else◌, IsTrue, ⊤}
+use Rattle.std.specs.Prelude.{◌≡◌, ℕ, ℤ, pos, ◌≤◌, ◌≤ℤ◌, ◌⊎◌, Bool, true, false, List, [], ◌++◌, map, length, All, codes, Option, Some, None, if◌then◌else◌, IsTrue, IfSome, ⊤}
 use Rattle.std.specs.List.{range_with_len}
 use Rattle.std.specs.List.Sorted.{IsStrictlySortedBy}
 use Rattle.std.specs.Ordering.{ordering_then, nat_cmp}
 use Rattle.std.specs.Cmp.Lexicographic.{slice_cmp}
 use Rattle.std.specs.declared.cmp.Ordering.{Ordering}
-use Rattle.mg_time.specs.Time.{pre_stream, post_stream, place_of}
+use Rattle.mg_time.specs.Time.{pre_stream, post_stream, done, place_of}
 use Rattle.mg_value.specs.declared.kind.Kind.{Kind}
 use Rattle.mg_value.specs.declared.kind.Kind.TheVariants.{Any, Flag, Int}
 use Rattle.mg_calc.specs.declared.law.Law.{Law}
@@ -65,6 +65,10 @@ calls_of _ = 0
 abbrev pub IsLanes : ℕ → Type 0
 IsLanes lanes = (1 ≤ lanes) × (lanes ≤ 64)
 
+-- the bounds of a written emission are timestamps
+abbrev pub BoundsAreTimes : List Laid → Type 0
+BoundsAreTimes emission = All (λ laid. IfSome laid.bound (λ bound. bound ≤ done)) emission
+
 -- a law's parameters are in their ranges
 abbrev pub ParametersFit : Law → Type 0
 ParametersFit (Gate lanes disallow empty_as_allow) = IsLanes lanes
@@ -75,6 +79,7 @@ ParametersFit (Sum lanes) = IsLanes lanes
 ParametersFit (Thin period) = pos 1 ≤ℤ period
 ParametersFit (Count count start apart) = (count ≤ 1000000) × IsTrue (is_in_range (place_of start)) × (pos 1 ≤ℤ apart)
 ParametersFit (SideOnce at) = (at ≡ pre_stream) ⊎ (at ≡ place_of (pos 0)) ⊎ (at ≡ post_stream)
+ParametersFit (Scripted offset first steps last) = BoundsAreTimes first × All BoundsAreTimes steps × BoundsAreTimes last
 ParametersFit _ = ⊤
 
 -- Shapes.
