@@ -135,7 +135,7 @@ there [] i le = absurd (omega (arith, le))
 there (x ∷ xs) zero le = (x, refl)
 there (x ∷ xs) (suc i) le = there xs i (omega (arith, le))
 
-get_map : {X Y : Type 0} (f : X → Y) (xs : List X) (i : ℕ) (x : X) → slice_get xs i ≡ Some x → slice_get (map f xs) i ≡ Some (f x)
+pub get_map : {X Y : Type 0} (f : X → Y) (xs : List X) (i : ℕ) (x : X) → slice_get xs i ≡ Some x → slice_get (map f xs) i ≡ Some (f x)
 get_map f [] i x e = absurd cc
 get_map f (y ∷ ys) zero x e = ap (λ z. Some (f z)) (some_same y x e)
 get_map f (y ∷ ys) (suc i) x e = get_map f ys i x e
@@ -187,7 +187,7 @@ inputs_same plan Held w node from (t ∷ streams) xs ys valid next e other le co
 read_below : (plan : Plan) (nodes : List PlanNode) (w : ℕ) (node : PlanNode) → AllByRecursion (λ n. All (λ s. s < length plan.streams) n.inputs) nodes → slice_get nodes w ≡ Some node → AllByRecursion (λ s. s < length plan.streams) node.inputs
 read_below plan nodes w node a e = recursion_from_All (λ (s : ℕ). s < length plan.streams) node.inputs (at_place (λ (n : PlanNode). All (λ s. s < length plan.streams) n.inputs) nodes w node a e)
 
-node_reads_below : (plan : Plan) (w : ℕ) (node : PlanNode) → IsValid plan → slice_get plan.nodes w ≡ Some node → AllByRecursion (λ s. s < length plan.streams) node.inputs
+pub node_reads_below : (plan : Plan) (w : ℕ) (node : PlanNode) → IsValid plan → slice_get plan.nodes w ≡ Some node → AllByRecursion (λ s. s < length plan.streams) node.inputs
 node_reads_below plan w node valid e = read_below plan plan.nodes w node (recursion_from_All (λ (n : PlanNode). All (λ s. s < length plan.streams) n.inputs) plan.nodes valid.ranges.read) e
 
 -- the inputs of a node that is no loopback, where the nodes before it are known

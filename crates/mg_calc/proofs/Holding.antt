@@ -52,7 +52,7 @@ parts_same_from f g from (n ∷ nodes) all =
     ap₂ (λ (a b : List (StreamPrefix Plain)). a ++ b) (of_first nodes n from (λ k node. f k node ≡ g k node) all)
     (parts_same_from f g (from + 1) nodes (of_rest nodes n from (λ k node. f k node ≡ g k node) all))
 
-from_zero : (nodes : List PlanNode) (P : ℕ → PlanNode → Type 0) → OfNodes nodes P → OfNodes nodes (λ k node. P (0 + k) node)
+pub from_zero : (nodes : List PlanNode) (P : ℕ → PlanNode → Type 0) → OfNodes nodes P → OfNodes nodes (λ k node. P (0 + k) node)
 from_zero nodes P all k node e = subst (λ (i : ℕ). P i node) (let s : k ≡ 0 + k = omega arith in s) (all k node e)
 
 pub parts_same : (f g : ℕ → PlanNode → List (StreamPrefix Plain)) (nodes : List PlanNode) → OfNodes nodes (λ k node. f k node ≡ g k node) → parts f 0 nodes ≡ parts g 0 nodes
@@ -80,23 +80,23 @@ parts_keep_from f from (n ∷ nodes) all =
     both_keep (f from n) _ (of_first nodes n from (λ k node. AllByRecursion IsPrefix (f k node)) all)
     (parts_keep_from f (from + 1) nodes (of_rest nodes n from (λ k node. AllByRecursion IsPrefix (f k node)) all))
 
-gives_all_from : (f : ℕ → PlanNode → List (StreamPrefix Plain)) (from : ℕ) (nodes : List PlanNode) → OfNodes nodes (λ k node. length (f (from + k) node) ≡ length node.outputs) → GivesAll f from nodes
+pub gives_all_from : (f : ℕ → PlanNode → List (StreamPrefix Plain)) (from : ℕ) (nodes : List PlanNode) → OfNodes nodes (λ k node. length (f (from + k) node) ≡ length node.outputs) → GivesAll f from nodes
 gives_all_from f from [] all = tt
 gives_all_from f from (n ∷ nodes) all =
     (of_first nodes n from (λ k node. length (f k node) ≡ length node.outputs) all,
     gives_all_from f (from + 1) nodes (of_rest nodes n from (λ k node. length (f k node) ≡ length node.outputs) all))
 
-give_same_from : (K : Producer → Type 0) (f g : ℕ → PlanNode → List (StreamPrefix Plain)) (from : ℕ) (nodes : List PlanNode) → OfNodes nodes (λ k node. (port : ℕ) → K (Node (from + k) port) → f (from + k) node ≡ g (from + k) node) → GiveSame K f g from nodes
+pub give_same_from : (K : Producer → Type 0) (f g : ℕ → PlanNode → List (StreamPrefix Plain)) (from : ℕ) (nodes : List PlanNode) → OfNodes nodes (λ k node. (port : ℕ) → K (Node (from + k) port) → f (from + k) node ≡ g (from + k) node) → GiveSame K f g from nodes
 give_same_from K f g from [] all = tt
 give_same_from K f g from (n ∷ nodes) all =
     (of_first nodes n from (λ k node. (port : ℕ) → K (Node k port) → f k node ≡ g k node) all,
     give_same_from K f g (from + 1) nodes (of_rest nodes n from (λ k node. (port : ℕ) → K (Node k port) → f k node ≡ g k node) all))
 
 -- what is known of each node
-node_times : (Good : Law → List Plain → Type 0) (job : Job) → IsKnown Good job → OfNodes job.plan.nodes (λ k node. KeepsTimes node.law (Good node.law))
+pub node_times : (Good : Law → List Plain → Type 0) (job : Job) → IsKnown Good job → OfNodes job.plan.nodes (λ k node. KeepsTimes node.law (Good node.law))
 node_times Good job known k node e = at_place (λ (n : PlanNode). KeepsTimes n.law (Good n.law)) job.plan.nodes k node known.times e
 
-node_loops : (Good : Law → List Plain → Type 0) (job : Job) → IsKnown Good job → OfNodes job.plan.nodes (λ k node. node.law ≡ Loopback → length node.outputs ≡ 1)
+pub node_loops : (Good : Law → List Plain → Type 0) (job : Job) → IsKnown Good job → OfNodes job.plan.nodes (λ k node. node.law ≡ Loopback → length node.outputs ≡ 1)
 node_loops Good job known k node e = at_place (λ (n : PlanNode). n.law ≡ Loopback → length n.outputs ≡ 1) job.plan.nodes k node known.loops e
 
 -- held rounds follow their streams, keep prefixes and have all outputs

@@ -9,3 +9,5 @@ pub mod Earlier
 pub mod Holding
 pub mod Settling
 pub mod LawTimes
+pub mod Jobs
+pub mod Independence

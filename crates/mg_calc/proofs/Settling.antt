@@ -27,7 +27,7 @@ use Rattle.mg_calc.proofs.Earlier.{KnownBy, IsNext, known_inputs, known_main, at
 use Rattle.mg_calc.proofs.Holding.{Held, HeldFits, OfNodes, IsHeld, given, given_long, given_keeps, held_same, held_round, held_follow, held_keep, rounds_agree, with_held, with_held_same, with_held_fits, with_held_holds, with_held_more, parts_same}
 
 -- a node's outcome is a function of its inputs
-outcome_of_inputs_by : (law : Law) (job : Job) (node : PlanNode) (xs ys : List (StreamPrefix Plain)) → map (stream_of xs) node.inputs ≡ map (stream_of ys) node.inputs → outcome_by law job xs node ≡ outcome_by law job ys node
+pub outcome_of_inputs_by : (law : Law) (job : Job) (node : PlanNode) (xs ys : List (StreamPrefix Plain)) → map (stream_of xs) node.inputs ≡ map (stream_of ys) node.inputs → outcome_by law job xs node ≡ outcome_by law job ys node
 outcome_of_inputs_by (Count count start step) job node xs ys same = refl
 outcome_of_inputs_by (SideOnce at) job node xs ys same = refl
 outcome_of_inputs_by Constants job node xs ys same = refl

@@ -80,3 +80,8 @@ pub met_stays : (job : Job) (n k : ℕ) → MeetsEquations job (round job n) →
 met_stays job n zero meets = ap (round job) (let e : n + 0 ≡ n = omega arith in e)
 met_stays job n (suc k) meets =
     (let e : n + suc k ≡ suc (n + k) = omega arith in ap (round job) e) ∙ (ap (next_round job) (met_stays job n k meets) ∙ meets)
+
+-- the solution has a prefix for each stream
+pub solution_has_each : (Good : Law → List Plain → Type 0) (job : Job) → IsKnown Good job → (xs : List (StreamPrefix Plain)) → IsSolution job xs → length xs ≡ length job.plan.streams
+solution_has_each Good job known xs solution =
+    ap length (sym solution.meets) ∙ equations_are_as_many Good job xs known (solution_keeps Good job known xs solution)

@@ -12,14 +12,19 @@ use Rattle.mg_calc.specs.declared.law.Law.TheVariants.{Count, SideOnce, Constant
 use Rattle.mg_calc.specs.declared.plan.Plan.{Plan}
 use Rattle.mg_calc.specs.declared.plan_node.PlanNode.{PlanNode}
 use Rattle.mg_calc.specs.declared.inputs.Inputs.{Inputs}
-use Rattle.mg_calc.specs.Plan.{node_sides}
+use Rattle.mg_calc.specs.Plan.{IsValid, InputsFit, node_sides}
 use Rattle.mg_calc.specs.Shape.{calls_of}
 use Rattle.mg_calc.specs.Outcome.{Outcome, node_outcome, source_outcome, loopback_outcome}
 
--- a plan, and what is handed to it
+-- a job: a plan, and what is handed to it
 pub record Job : Type 0 where
   pub plan : Plan
   pub inputs : Inputs
+
+-- a job of which the plan is valid and the inputs fit
+pub record IsJob (job : Job) : Type 0 where
+  pub plan : IsValid job.plan
+  pub inputs : InputsFit job.plan job.inputs
 
 -- the side packets of a node, by port
 abbrev pub sides_of : Job → PlanNode → List (Option Plain)

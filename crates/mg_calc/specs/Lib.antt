@@ -8,6 +8,7 @@ pub mod Meaning
 pub mod Outcome
 pub mod Own
 pub mod Plan
+pub mod Reaching
 pub mod Routing
 pub mod Shape
 pub mod Side

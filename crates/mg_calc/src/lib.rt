@@ -11,6 +11,7 @@ mod event;
 mod given;
 mod inputs;
 mod law;
+pub mod laws;
 mod node_fault;
 mod numbers;
 mod plan;
