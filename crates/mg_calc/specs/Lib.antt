@@ -1,4 +1,5 @@
 pub mod Answer
+pub mod Code
 pub mod Given
 pub mod Kinds
 pub mod Law
