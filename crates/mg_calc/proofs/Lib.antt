@@ -1,3 +1,5 @@
 mod Examples
 pub mod Copying
+pub mod KindLemmas
+pub mod NumberLemmas
 pub mod StateLemmas
