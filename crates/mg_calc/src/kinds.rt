@@ -17,13 +17,7 @@ pub fn input_kind(law: &Law, port: u32) -> Kind
                 Kind::Any
             }
         }
-        Law::Mux { lanes } => {
-            if port == *lanes {
-                Kind::Int
-            } else {
-                Kind::Any
-            }
-        }
+        Law::Mux { lanes } => { if port == *lanes { Kind::Int } else { Kind::Any } }
         Law::Sum { .. } | Law::Map { .. } | Law::Filter { .. } | Law::Running => Kind::Int,
         _ => Kind::Any,
     }

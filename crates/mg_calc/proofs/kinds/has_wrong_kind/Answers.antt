@@ -13,5 +13,5 @@ loop-port-preserved c =
     let below : c.loop-port.port < length c.args.set.now = omega (arith, c.len-port-end.ensures) in
     let step = wrong_from-step c.args.law.now c.loop-port.port c.args.set.now below in
     let same : wrong_from c.args.law.now c.loop-port.port c.args.set.now ≡ wrong_from c.args.law.now (c.loop-port.port + 1) c.args.set.now =
-        rw (step, ← c.is_wrong_at.ensures, c.if-is_wrong_at.false) refl in
+    rw (step, ← c.is_wrong_at.ensures, c.if-is_wrong_at.false) refl in
     sym same ∙ c.loop-port.invariant
