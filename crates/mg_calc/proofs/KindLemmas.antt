@@ -1,5 +1,5 @@
 -- Sets of which some packet isn't of its port's kind: what is left of a set decides, once no place before it is wrong.
-use Rattle.std.proofs.Common.{◌≡◌, ℕ, ◌+◌, ◌<◌, Bool, ◌||◌, List, ◌∷◌, Option, Some, None, drop, length, get_or, refl, sym, ◌∙◌, ap, add-one}
+use Rattle.std.proofs.Common.{◌≡◌, ℕ, ◌+◌, ◌<◌, Bool, ◌||◌, List, ◌∷◌, Option, None, drop, length, get_or, refl, add-one}
 use Rattle.std.proofs.lemmas.Option.{unwrap_or-slice_get}
 use Rattle.std.proofs.Math.Seq.{drop-cons}
 use Rattle.std.specs.List.{list_any, enumerate_from}
@@ -7,7 +7,7 @@ use Rattle.mg_value.specs.Plain.{Plain}
 use Rattle.mg_value.specs.Prefix.{Stamped}
 use Rattle.mg_calc.specs.declared.law.Law.{Law}
 use Rattle.mg_calc.specs.Values.{place_at}
-use Rattle.mg_calc.specs.Kinds.{input_kind, is_wrong, has_wrong_kind}
+use Rattle.mg_calc.specs.Kinds.{input_kind, is_wrong}
 
 -- whether some place from a port on is wrong
 abbrev pub wrong_from : Law → ℕ → List (Option (Stamped Plain)) → Bool

@@ -1,5 +1,5 @@
 -- A state of places has no number and has counted nothing.
-use Rattle.std.proofs.Common.{◌≡◌, ℕ, pos, List, [], ◌∷◌, map, Option, Some, None, refl}
+use Rattle.std.proofs.Common.{◌≡◌, pos, List, [], ◌∷◌, map, Option, Some, None, refl}
 use Rattle.mg_time.specs.Time.{pre_stream}
 use Rattle.mg_value.specs.Plain.{Plain}
 use Rattle.mg_calc.specs.Values.{stored}

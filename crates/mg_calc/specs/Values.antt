@@ -1,5 +1,5 @@
 -- Numbers, times and places that the laws speak of.
-use Rattle.std.specs.Prelude.{map, ℕ, ℤ, pos, negsuc, ◌+ℤ◌, ◌^◌, Bool, ◌&&◌, nat_lt, nat_le, List, [], ◌∷◌, Option, Some, None, option_map, slice_get, unwrap_or, if◌then◌else◌}
+use Rattle.std.specs.Prelude.{map, ℕ, ℤ, pos, negsuc, ◌+ℤ◌, ◌^◌, Bool, ◌&&◌, nat_lt, nat_le, List, Option, Some, None, option_map, slice_get, unwrap_or, if◌then◌else◌}
 use Rattle.std.specs.List.{fold}
 use Rattle.mg_time.specs.Time.{raw_of, place_of, least, greatest}
 use Rattle.mg_value.specs.Plain.{Plain, int, items, no_items, item}

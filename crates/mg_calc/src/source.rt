@@ -1,4 +1,4 @@
-ghost use Rattle.std.specs.Prelude.{◌≡◌, ◌<◌, ◌+ℤ◌, ◌*ℤ◌};
+ghost use Rattle.std.specs.Prelude.{◌≡◌, ◌<◌, ◌^◌, pos, neg_ℤ, ◌+ℤ◌, ◌*ℤ◌, ◌≤ℤ◌};
 ghost use Rattle.mg_calc.specs.Answer.{Gives, GivesEmission};
 ghost use Rattle.mg_calc.specs.Law.{opening, call as its_call};
 ghost use Rattle.mg_calc.specs.Shape.{IsSource, calls_of};
@@ -46,12 +46,13 @@ pub fn source_step(
     ensures { GivesEmission result state.now (its_call law.now state.now call) }
 {
     match law {
-        Law::Count { start, step, .. } => {
-            let number = call as i64;
+        Law::Count { count, start, step } => {
+            let _count = *count;
+            let number = call as u32;
             let Some(at) = time_after(*start, *step, number) else {
                 return Err(CalcFault::Fault(Cause::Overflow));
             };
-            Ok(one_number(alloc, at, number)?)
+            Ok(one_number(alloc, at, i64::from(number))?)
         }
         Law::SideOnce { at } => {
             let Some(payload) = state.place(0) else {
@@ -64,10 +65,21 @@ pub fn source_step(
     }
 }
 
-// The time so many steps after a start, where the range has it.
-fn time_after(start: i64, step: i64, number: i64) -> Option<Timestamp>
-    ensures { result ≡ time_of (start +ℤ (number *ℤ step)) }
+// So many steps.
+fn steps(step: i64, number: u32) -> i128
+    ensures value { result ≡ pos number *ℤ step }
+    ensures low { neg_ℤ (pos (2 ^ 95)) ≤ℤ result }
+    ensures high { result ≤ℤ pos (2 ^ 95) }
 {
-    let sum = i128::from(start) + i128::from(number) * i128::from(step);
-    Timestamp::of_range(narrowed(sum).ok()?)
+    i128::from(number) * i128::from(step)
+}
+
+// The time so many steps after a start, where the range has it.
+fn time_after(start: i64, step: i64, number: u32) -> Option<Timestamp>
+    ensures { result ≡ time_of (start +ℤ (pos number *ℤ step)) }
+{
+    let Ok(sum) = narrowed(i128::from(start) + steps(step, number)) else {
+        return None;
+    };
+    Timestamp::of_range(sum)
 }

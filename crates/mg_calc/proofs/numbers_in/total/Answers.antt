@@ -1,6 +1,5 @@
-use Rattle.std.proofs.Common.{◌≡◌, ◌+◌, ◌<◌, ◌+ℤ◌, take, length, arith, rules, sym, ◌∙◌, SFits, w64}
-use Rattle.std.proofs.lemmas.Int.{ints, to_z-of_z}
-use Rattle.mg_calc.specs.Values.{total, place_at, number_at}
+use Rattle.std.proofs.Common.{◌<◌, length, arith}
+use Rattle.std.proofs.lemmas.Int.{ints}
 use Rattle.mg_calc.proofs.NumberLemmas.{total-take-more}
 use Rattle.mg_calc.proofs.numbers_in.total.Goals as goal
 

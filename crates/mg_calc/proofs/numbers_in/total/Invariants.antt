@@ -1,5 +1,5 @@
 -- The sum of the places so far, which is no further from 0 than 2^63 for each.
-use Rattle.std.proofs.Common.{◌≡◌, ◌*◌, ◌^◌, take, pos, neg_ℤ, ◌≤ℤ◌}
+use Rattle.std.proofs.Common.{◌≡◌, ◌*◌, take, pos, neg_ℤ, ◌≤ℤ◌}
 use Rattle.mg_calc.specs.Values.{total}
 use Rattle.mg_calc.proofs.numbers_in.total.Given as goal
 

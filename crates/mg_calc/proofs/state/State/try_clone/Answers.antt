@@ -1,4 +1,4 @@
-use Rattle.std.proofs.Common.{◌∙◌, ap, map}
+use Rattle.std.proofs.Common.{◌∙◌}
 use Rattle.mg_calc.specs.Given.{given}
 use Rattle.mg_calc.specs.Values.{stored}
 use Rattle.mg_calc.proofs.Copying.{same-map-then}
