@@ -1,5 +1,6 @@
 -- Numbers, times and places that the laws speak of.
-use Rattle.std.specs.Prelude.{ℕ, ℤ, pos, negsuc, ◌+ℤ◌, ◌^◌, Bool, ◌&&◌, nat_lt, nat_le, List, [], ◌∷◌, Option, Some, None, slice_get, unwrap_or, if◌then◌else◌}
+use Rattle.std.specs.Prelude.{map, ℕ, ℤ, pos, negsuc, ◌+ℤ◌, ◌^◌, Bool, ◌&&◌, nat_lt, nat_le, List, Option, Some, None, option_map, slice_get, unwrap_or, if◌then◌else◌}
+use Rattle.std.specs.List.{fold}
 use Rattle.mg_time.specs.Time.{raw_of, place_of, least, greatest}
 use Rattle.mg_value.specs.Plain.{Plain, int, items, no_items, item}
 use Rattle.mg_value.specs.Prefix.{Stamped}
@@ -18,11 +19,13 @@ abbrev pub number_of : Plain → ℤ
 number_of (int n) = n
 number_of _ = pos 0
 
+-- the number at a place of a set; 0 where it has no packet
+abbrev pub number_at : Option (Stamped Plain) → ℤ
+number_at place = unwrap_or (option_map (λ p. number_of p.value) place) (pos 0)
+
 -- the sum of the numbers that are present
 abbrev pub total : List (Option (Stamped Plain)) → ℤ
-total [] = pos 0
-total (None ∷ places) = total places
-total (Some p ∷ places) = number_of p.value +ℤ total places
+total set = fold ◌+ℤ◌ (pos 0) (map number_at set)
 
 -- whether a time is of the range
 abbrev pub is_in_range : ℕ → Bool
