@@ -11,6 +11,7 @@ pub mod Settling
 pub mod LawTimes
 pub mod Jobs
 pub mod Independence
+pub mod WorkedGraphs
 pub mod Copying
 pub mod KindLemmas
 pub mod NumberLemmas
