@@ -16,3 +16,4 @@ pub mod Copying
 pub mod KindLemmas
 pub mod NumberLemmas
 pub mod StateLemmas
+pub mod Counting

@@ -37,7 +37,7 @@ pub streams_extend : (xs ys : List (StreamPrefix Plain)) (numbers : List ℕ) �
 streams_extend xs ys [] e = tt
 streams_extend xs ys (n ∷ ns) e = (stream_extends xs ys n e, streams_extend xs ys ns e)
 
-streams_are_prefixes : (xs : List (StreamPrefix Plain)) (numbers : List ℕ) → AllByRecursion IsPrefix xs → AllByRecursion IsPrefix (map (stream_of xs) numbers)
+pub streams_are_prefixes : (xs : List (StreamPrefix Plain)) (numbers : List ℕ) → AllByRecursion IsPrefix xs → AllByRecursion IsPrefix (map (stream_of xs) numbers)
 streams_are_prefixes xs [] k = tt
 streams_are_prefixes xs (n ∷ ns) k = (stream_is_prefix xs n k, streams_are_prefixes xs ns k)
 

@@ -1,6 +1,6 @@
 -- What is told of a run, as functions of the solution: faults, stalled streams, the sets that each node is shown, counts,
 -- the calls that a calculator has had, and how much work a job is.
-use Rattle.std.specs.Prelude.{ℕ, ◌+◌, ◌==◌, Bool, not, List, [], ◌∷◌, ◌++◌, map, take, length, zip, sum, Option, Some, None, option_map, filter}
+use Rattle.std.specs.Prelude.{ℕ, ◌+◌, ◌==◌, Bool, not, List, [], ◌∷◌, ◌++◌, map, take, sum_by, Option, Some, None, option_map, filter}
 use Rattle.std.specs.List.{filter_map, enumerate_from}
 use Rattle.mg_time.specs.Time.{done}
 use Rattle.mg_value.specs.Payload.{Plain}
@@ -56,4 +56,4 @@ log_of job streams node =
 
 -- how much work a job is: for each node its count, the sets that may be claimed beyond a fault, and Close
 abbrev pub weight : Job → List (StreamPrefix Plain) → ℕ
-weight job streams = sum (map (λ node. count_of job streams node + node.in_flight + 1) job.plan.nodes)
+weight job streams = sum_by (λ node. count_of job streams node + node.in_flight + 1) job.plan.nodes

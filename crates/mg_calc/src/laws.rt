@@ -1,11 +1,17 @@
 //! Laws of what a graph means: each function does nothing, and its contract is the law.
-ghost use Rattle.std.specs.Prelude.{◌≡◌, ℕ, ◌<◌, List, length, All};
+ghost use Rattle.std.specs.Prelude.{◌≡◌, ◌↔◌, ℕ, ◌<◌, ◌+◌, List, [], length, map, All, None};
+ghost use Rattle.std.specs.List.Sorted.{IsStrictlyIncreasing};
+ghost use Rattle.mg_time.specs.Time.{done};
 ghost use Rattle.mg_value.specs.Payload.{Plain};
 ghost use Rattle.mg_value.specs.Prefix.{StreamPrefix, IsPrefix};
 ghost use Rattle.mg_value.specs.Extension.{AreExtendedBy};
 ghost use Rattle.mg_calc.specs.declared.inputs.Inputs.{Inputs};
 ghost use Rattle.mg_calc.specs.declared.plan.Plan.{Plan};
-ghost use Rattle.mg_calc.specs.Equations.{Job, IsJob, stream_of, next_round, round, MeetsEquations, IsSolution};
+ghost use Rattle.mg_value.specs.Settled.{IsBelowBounds};
+ghost use Rattle.mg_calc.specs.declared.plan_node.PlanNode.{PlanNode};
+ghost use Rattle.mg_calc.specs.Shape.{IsOuter};
+ghost use Rattle.mg_calc.specs.Equations.{Job, IsJob, stream_of, inputs_of, outcome_of, next_round, round, MeetsEquations, IsSolution};
+ghost use Rattle.mg_calc.specs.Meaning.{faults, stalled, count_of, counts, shown_sets, last_call, log_of, weight};
 ghost use Rattle.mg_calc.specs.Reaching.{MayDepend};
 
 /// Where prefixes are extended, so is what the equations make of them.
@@ -53,4 +59,28 @@ pub fn streams_depend_on_what_reaches_them()
         → ((input : ℕ) → MayDepend plan input stream → stream_of inputs.streams input ≡ stream_of others.streams input)
         → IsSolution (record { plan = plan; inputs = inputs }) solution → IsSolution (record { plan = plan; inputs = others }) changed
         → stream_of solution stream ≡ stream_of changed stream }
+{}
+
+/// Each node is shown settled sets, ascending, each once: the time of each is below the bounds that the node's policy asks
+/// for. They are as many as are counted, and the calls that are told are these, Open before them, and Close behind them
+/// where Open succeeded.
+pub fn shown_sets_are_settled()
+    ensures ascend { (job : Job) (streams : List (StreamPrefix Plain)) (node : PlanNode) → All IsPrefix streams
+        → IsStrictlyIncreasing (map (λ e. e.at) (shown_sets job streams node)) }
+    ensures bounds { (job : Job) (streams : List (StreamPrefix Plain)) (node : PlanNode) → All IsPrefix streams
+        → All (λ e. IsBelowBounds node.policy (inputs_of streams node) e.at) (shown_sets job streams node) }
+    ensures counted { (job : Job) (streams : List (StreamPrefix Plain)) (node : PlanNode) → IsOuter node.law
+        → length (shown_sets job streams node) ≡ count_of job streams node }
+    ensures logged { (job : Job) (streams : List (StreamPrefix Plain)) (node : PlanNode)
+        → length (log_of job streams node) ≡ length (shown_sets job streams node) + 1 + length (last_call (outcome_of job streams node).fault) }
+{}
+
+/// No fault is told exactly where no node failed, and no stream is stalled exactly where each has ended. Each node's count
+/// is less than the weight of the job.
+pub fn faults_and_stalls_are_told()
+    ensures faults { (job : Job) (streams : List (StreamPrefix Plain))
+        → (faults job streams ≡ []) ↔ All (λ node. (outcome_of job streams node).fault ≡ None) job.plan.nodes }
+    ensures stalled { (streams : List (StreamPrefix Plain)) → (stalled streams ≡ []) ↔ All (λ s. s.bound ≡ done) streams }
+    ensures counts { (job : Job) (streams : List (StreamPrefix Plain)) → length (counts job streams) ≡ length job.plan.nodes }
+    ensures weight { (job : Job) (streams : List (StreamPrefix Plain)) → All (λ node. count_of job streams node < weight job streams) job.plan.nodes }
 {}
