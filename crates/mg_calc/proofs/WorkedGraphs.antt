@@ -307,3 +307,28 @@ repeats_shows = refl
 
 repeats_ends : stalled (round repeats 2) ≡ []
 repeats_ends = refl
+
+-- The running sum of two packets, round by round.
+abbrev two_sums : Job
+two_sums = job_of 3 (node Loopback (2 ∷ 0 ∷ []) (1 ∷ []) ∷ node (Sum 2) (0 ∷ 1 ∷ []) (2 ∷ []) ∷ []) (ended (pk 10 1 ∷ pk 20 2 ∷ []) ∷ [])
+
+abbrev two_in : StreamPrefix Plain
+two_in = ended (pk 10 1 ∷ pk 20 2 ∷ [])
+
+two_sums_first : round two_sums 1 ≡ two_in ∷ until pre_stream [] ∷ until pre_stream [] ∷ []
+two_sums_first = refl
+
+two_sums_second : round two_sums 2 ≡ two_in ∷ until (at 20) [] ∷ until pre_stream [] ∷ []
+two_sums_second = refl
+
+two_sums_third : round two_sums 3 ≡ two_in ∷ until (at 20) [] ∷ until (at 20) (pk 10 1 ∷ []) ∷ []
+two_sums_third = refl
+
+two_sums_fourth : round two_sums 4 ≡ two_in ∷ ended (pk 20 1 ∷ []) ∷ until (at 20) (pk 10 1 ∷ []) ∷ []
+two_sums_fourth = refl
+
+two_sums_fifth : round two_sums 5 ≡ two_in ∷ ended (pk 20 1 ∷ []) ∷ ended (pk 10 1 ∷ pk 20 3 ∷ []) ∷ []
+two_sums_fifth = refl
+
+two_sums_stays : next_round two_sums (round two_sums 5) ≡ round two_sums 5
+two_sums_stays = refl
