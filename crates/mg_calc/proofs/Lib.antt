@@ -15,5 +15,6 @@ pub mod WorkedGraphs
 pub mod Copying
 pub mod KindLemmas
 pub mod NumberLemmas
+pub mod StateForms
 pub mod StateLemmas
 pub mod Counting
