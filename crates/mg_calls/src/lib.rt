@@ -3,11 +3,15 @@
 #![tactic(auto)]
 
 #[cfg(test)]
+mod calc;
+#[cfg(test)]
 mod config;
 #[cfg(test)]
 mod config_written;
 #[cfg(test)]
 mod edge;
+#[cfg(test)]
+mod emissions;
 #[cfg(test)]
 mod loopback;
 #[cfg(test)]

@@ -1,0 +1,90 @@
+-- What the lemmas on rounds ask for holds of each job of which the plan is valid and the inputs fit; and what the solution
+-- does when the inputs change.
+use Rattle.std.proofs.Common.{◌≡◌, ℕ, zero, suc, ◌+◌, ◌<◌, ◌≤◌, length, length-append, replicate, List, [], ◌∷◌, ◌++◌, map, sum_by, All, Contains, Option, Some, None, IsSomeAnd, option_map, get_or, slice_get, refl, sym, ap, ap₂, subst, ◌∙◌, arith, inl, inr, ◌⊎◌}
+use Rattle.std.specs.List.{AllByRecursion, flat_map, range_with_len}
+use Rattle.std.proofs.lemmas.List.Concat.{flat_map-cons, length-flat_map}
+use Rattle.std.proofs.lemmas.List.FromFn.{length-range_with_len, length-map-range_with_len}
+use Rattle.std.proofs.lemmas.List.Elements.{All-from_recursion, recursion_from_All}
+use Rattle.mg_value.specs.Payload.{Plain}
+use Rattle.mg_value.specs.Prefix.{StreamPrefix, IsPrefix, empty_prefix}
+use Rattle.mg_value.specs.Extension.{IsExtendedBy, AreExtendedBy}
+use Rattle.mg_value.proofs.Extending.{all_by_themselves, all_further}
+use Rattle.mg_calc.specs.declared.inputs.Inputs.{Inputs}
+use Rattle.mg_calc.specs.declared.law.Law.{Law}
+use Rattle.mg_calc.specs.declared.law.Law.TheVariants.{Count, SideOnce, Constants, Loopback}
+use Rattle.mg_calc.specs.declared.plan.Plan.{Plan}
+use Rattle.mg_calc.specs.declared.plan_node.PlanNode.{PlanNode}
+use Rattle.mg_calc.specs.declared.port_kind.PortKind.{PortKind}
+use Rattle.mg_calc.specs.declared.plan_stream.Producer.{Producer}
+use Rattle.mg_calc.specs.declared.plan_stream.Producer.TheVariants.{Input, Node}
+use Rattle.mg_calc.specs.Plan.{IsValid, InputsFit, HasNumbers, producers, numbers, written_streams, node_sides}
+use Rattle.mg_calc.specs.Shape.{ParametersFit, IsShapeOf, HasOutputs, calls_of}
+use Rattle.mg_calc.specs.Outcome.{Outcome, source_outcome, node_outcome}
+use Rattle.mg_calc.specs.Equations.{Job, IsJob, stream_of, inputs_of, sides_of, outcome_by, outcome_of, next_round, round, MeetsEquations, IsSolution}
+use Rattle.mg_calc.specs.Reaching.{producer_of, Reads, Reaches, at_once, through, MayDependBy, MayDepend}
+use Rattle.mg_calc.proofs.Outcomes.{KeepsTimes}
+use Rattle.mg_calc.proofs.LawTimes.{law_keeps_times}
+use Rattle.mg_calc.proofs.Rounds.{IsKnown, equations_follow, equations_are_as_many}
+use Rattle.mg_calc.proofs.Solutions.{round_keeps, solution_keeps, solution_least, met_stays}
+use Rattle.mg_calc.proofs.Positions.{Agree, agree_at, agree_both, agree_same, agree_parts, parts, parts_flat, givers}
+
+-- nothing has to be known of a state
+abbrev pub any_state : Law → List Plain → Type 0
+any_state law state = Unit {0}
+
+times_of_nodes : (nodes : List PlanNode) → AllByRecursion (λ node. ParametersFit node.law) nodes → AllByRecursion (λ node. KeepsTimes node.law (any_state node.law)) nodes
+times_of_nodes [] fit = tt
+times_of_nodes (node ∷ nodes) fit = (law_keeps_times node.law fit.0, times_of_nodes nodes fit.1)
+
+one_output : (law : Law) (inputs ps : List PortKind) → HasOutputs law inputs ps → law ≡ Loopback → length ps ≡ 1
+one_output law inputs ps has e = (let same = subst (λ (l : Law). HasOutputs l inputs ps) e has in ap length same)
+
+loops_of_nodes : (nodes : List PlanNode) → AllByRecursion HasNumbers nodes → AllByRecursion (λ node. IsShapeOf node.law node.shape) nodes → AllByRecursion (λ node. node.law ≡ Loopback → length node.outputs ≡ 1) nodes
+loops_of_nodes [] numbers shapes = tt
+loops_of_nodes (node ∷ nodes) numbers shapes =
+    ((λ e. numbers.0.outputs ∙ one_output node.law node.shape.inputs node.shape.outputs shapes.0.outputs e), loops_of_nodes nodes numbers.1 shapes.1)
+
+pub job_known : (job : Job) → IsJob job → IsKnown any_state job
+job_known job is = record {
+  times = times_of_nodes job.plan.nodes (recursion_from_All (λ (node : PlanNode). ParametersFit node.law) job.plan.nodes is.plan.parameters);
+  loops = loops_of_nodes job.plan.nodes (recursion_from_All HasNumbers job.plan.nodes is.plan.ports) (recursion_from_All (λ (node : PlanNode). IsShapeOf node.law node.shape) job.plan.nodes is.plan.shapes);
+  inputs = recursion_from_All IsPrefix job.inputs.streams is.inputs.prefixes;
+  streams = sym (length-range_with_len 0 (length job.plan.streams)) ∙ (ap length (sym is.plan.streams)
+    ∙ (length-append job.plan.inputs (flat_map (λ node. node.outputs) job.plan.nodes)
+    ∙ ap₂ (λ a b. a + b) (sym is.inputs.streams) (length-flat_map (λ node. node.outputs) job.plan.nodes)));
+}
+
+-- a node's outcome depends on the side packets alone of what else is handed in
+pub outcome_of_sides_by : (law : Law) (plan : Plan) (inputs more : Inputs) (node : PlanNode) (xs : List (StreamPrefix Plain)) → inputs.sides ≡ more.sides
+    → outcome_by law (record { plan = plan; inputs = inputs }) xs node ≡ outcome_by law (record { plan = plan; inputs = more }) xs node
+outcome_of_sides_by (Count count start step) plan inputs more node xs same = ap (λ sides. source_outcome node.law (calls_of node.law) (length node.outputs) (node_sides plan sides node)) same
+outcome_of_sides_by (SideOnce at) plan inputs more node xs same = ap (λ sides. source_outcome node.law (calls_of node.law) (length node.outputs) (node_sides plan sides node)) same
+outcome_of_sides_by Constants plan inputs more node xs same = ap (λ sides. source_outcome node.law (calls_of node.law) (length node.outputs) (node_sides plan sides node)) same
+outcome_of_sides_by Loopback plan inputs more node xs same = refl
+outcome_of_sides_by law plan inputs more node xs same = ap (λ sides. node_outcome node.law node.shape.offset node.policy (length node.outputs) (node_sides plan sides node) (inputs_of xs node)) same
+
+nodes_of_sides : (plan : Plan) (inputs more : Inputs) (nodes : List PlanNode) (xs : List (StreamPrefix Plain)) → inputs.sides ≡ more.sides
+    → flat_map (λ node. (outcome_of (record { plan = plan; inputs = inputs }) xs node).outputs) nodes ≡ flat_map (λ node. (outcome_of (record { plan = plan; inputs = more }) xs node).outputs) nodes
+nodes_of_sides plan inputs more [] xs same = refl
+nodes_of_sides plan inputs more (node ∷ nodes) xs same =
+    flat_map-cons (λ n. (outcome_of (record { plan = plan; inputs = inputs }) xs n).outputs) node nodes
+    ∙ (ap₂ (λ (a b : List (StreamPrefix Plain)). a ++ b) (ap (λ (o : Outcome). o.outputs) (outcome_of_sides_by node.law plan inputs more node xs same)) (nodes_of_sides plan inputs more nodes xs same)
+    ∙ sym (flat_map-cons (λ n. (outcome_of (record { plan = plan; inputs = more }) xs n).outputs) node nodes))
+
+first_extend : (ps qs cs : List (StreamPrefix Plain)) → AreExtendedBy ps qs → AreExtendedBy (ps ++ cs) (qs ++ cs)
+first_extend [] [] cs e = all_by_themselves cs
+first_extend [] (q ∷ qs) cs e = absurd e
+first_extend (p ∷ ps) [] cs e = absurd e
+first_extend (p ∷ ps) (q ∷ qs) cs e = (e.0, first_extend ps qs cs e.1)
+
+-- where the inputs are extended, so is the solution
+pub solution_grows : (plan : Plan) (inputs more : Inputs) (xs ys : List (StreamPrefix Plain)) → IsJob (record { plan = plan; inputs = inputs }) → IsJob (record { plan = plan; inputs = more })
+    → inputs.sides ≡ more.sides → AreExtendedBy inputs.streams more.streams → IsSolution (record { plan = plan; inputs = inputs }) xs → IsSolution (record { plan = plan; inputs = more }) ys → AreExtendedBy xs ys
+solution_grows plan inputs more xs ys is other sides e a b =
+    let job : Job = record { plan = plan; inputs = inputs } in
+    let longer : Job = record { plan = plan; inputs = more } in
+    let keeps = solution_keeps any_state longer (job_known longer other) ys b in
+    let follows : AreExtendedBy (next_round job ys) (next_round longer ys) =
+    subst (λ (rest : List (StreamPrefix Plain)). AreExtendedBy (inputs.streams ++ rest) (next_round longer ys)) (sym (nodes_of_sides plan inputs more plan.nodes ys sides))
+    (first_extend inputs.streams more.streams (flat_map (λ node. (outcome_of longer ys node).outputs) plan.nodes) e) in
+    solution_least any_state job (job_known job is) xs ys a keeps (subst (λ (zs : List (StreamPrefix Plain)). AreExtendedBy (next_round job ys) zs) b.meets follows)

@@ -1,0 +1,115 @@
+-- What becomes of a node, after the page Calculators of the MediaPipe framework: it is opened, shown its settled sets one
+-- after the other, and closed; it stops at its first fault. Definitions take the whole list of sets, and begin anew
+-- whenever the list grows.
+use Rattle.std.specs.Prelude.{ℕ, ℤ, ◌+◌, ◌==◌, List, [], ◌∷◌, map, length, replicate, Option, Some, None, Result, Ok, Err, if◌then◌else◌}
+use Rattle.std.specs.List.{fold, range_with_len}
+use Rattle.mg_time.specs.Time.{done}
+use Rattle.mg_value.specs.Payload.{Plain}
+use Rattle.mg_value.specs.Prefix.{StreamPrefix, empty_prefix, closed}
+use Rattle.mg_value.specs.Settled.{TimedSet, settled_sets, reach}
+use Rattle.mg_value.specs.Loopback.{loopback, replies}
+use Rattle.mg_value.specs.declared.policy.Policy.{Policy}
+use Rattle.mg_calc.specs.declared.cause.Cause.{Cause}
+use Rattle.mg_calc.specs.declared.law.Law.{Law}
+use Rattle.mg_calc.specs.declared.node_fault.Phase.{Phase}
+use Rattle.mg_calc.specs.declared.node_fault.Phase.TheVariants.{Open, Call, Process, Close}
+use Rattle.mg_calc.specs.Laying.{after, laid_behind, all_raised}
+use Rattle.mg_calc.specs.Answer.{Answer}
+use Rattle.mg_calc.specs.Law.{opening, step, call, finish}
+
+-- a fault: what a node was doing, and why it failed
+pub record Failure : Type 0 where
+  pub phase : Phase
+  pub cause : Cause
+
+-- what a node has come to: what its calculator keeps, its output streams, how many sets or calls were taken, the one that
+-- failed included, and its fault
+pub record Outcome : Type 0 where
+  pub state : List Plain
+  pub outputs : List (StreamPrefix Plain)
+  pub taken : ℕ
+  pub fault : Option Failure
+
+-- A fault drops the whole emission: the outputs stay as they were before it was laid.
+abbrev pub failed : Phase → Cause → Outcome → Outcome
+failed phase cause outcome = record outcome { fault = Some (record { phase = phase; cause = cause }) }
+
+-- what becomes of a node once an emission is laid, or can't be
+abbrev pub after_laying : Phase → Outcome → Result (List (StreamPrefix Plain)) Cause → Outcome
+after_laying phase outcome (Ok outputs) = record outcome { outputs = outputs }
+after_laying phase outcome (Err cause) = failed phase cause outcome
+
+-- and once a call of its calculator has answered: where the call fails, the calculator keeps what it kept; where its
+-- emission can't be laid, it keeps what the call gave
+abbrev pub after_call : Option ℤ → Phase → Outcome → Answer → Outcome
+after_call offset phase outcome (Err cause) = failed phase cause outcome
+after_call offset phase outcome (Ok given) =
+    after_laying phase (record outcome { state = given.0 }) (laid_behind offset phase outcome.outputs given.1)
+
+-- a node of so many outputs before it is opened
+abbrev pub unopened : ℕ → Outcome
+unopened outputs = record { state = []; outputs = replicate outputs empty_prefix; taken = 0; fault = None }
+
+-- a node that was opened with side packets
+abbrev pub opened : Law → Option ℤ → ℕ → List (Option Plain) → Outcome
+opened law offset outputs sides = after_call offset Open (unopened outputs) (opening law sides)
+
+-- A node that has failed stays as it is.
+abbrev pub unless_failed : Option Failure → Outcome → Outcome → Outcome
+unless_failed (Some failure) outcome next = outcome
+unless_failed None outcome next = next
+
+-- a node that is shown a set: before that its outputs are raised to the set's time plus its offset
+abbrev pub shown : Law → Option ℤ → Outcome → TimedSet Plain → Outcome
+shown law offset outcome set =
+    unless_failed outcome.fault outcome (after_call offset (Process set.at)
+    (record outcome { outputs = all_raised offset set.at outcome.outputs; taken = outcome.taken + 1 })
+    (step law outcome.state set.at set.set))
+
+-- a node that was opened and is shown sets, up to the one at which it fails
+abbrev pub shown_all : Law → Option ℤ → ℕ → List (Option Plain) → List (TimedSet Plain) → Outcome
+shown_all law offset outputs sides sets = fold (shown law offset) (opened law offset outputs sides) sets
+
+-- a node after Close, whose emission is laid before the outputs close
+abbrev pub after_close : Outcome → Result (List (StreamPrefix Plain)) Cause → Outcome
+after_close outcome (Ok outputs) = record outcome { outputs = map closed outputs }
+after_close outcome (Err cause) = failed Close cause outcome
+
+-- a node that has no more sets to come: it is closed
+abbrev pub finished : Law → Option ℤ → Outcome → Outcome
+finished law offset outcome =
+    after_close outcome (after (finish law outcome.state) (λ given. laid_behind offset Close outcome.outputs given.1))
+
+-- a node that was shown its settled sets, which reach so far: its outputs are raised to the reach plus its offset, and
+-- where the reach is the end of all times, it is closed
+abbrev pub with_reach : Law → Option ℤ → ℕ → Outcome → Outcome
+with_reach law offset reached outcome =
+    if reached == done
+    then finished law offset (record outcome { outputs = all_raised offset reached outcome.outputs })
+    else record outcome { outputs = all_raised offset reached outcome.outputs }
+
+abbrev pub ended : Law → Option ℤ → ℕ → Outcome → Outcome
+ended law offset reached outcome = unless_failed outcome.fault outcome (with_reach law offset reached outcome)
+
+-- what becomes of a node with input streams
+abbrev pub node_outcome : Law → Option ℤ → Policy → ℕ → List (Option Plain) → List (StreamPrefix Plain) → Outcome
+node_outcome law offset policy outputs sides inputs =
+    ended law offset (reach policy inputs) (shown_all law offset outputs sides (settled_sets policy inputs))
+
+-- a source that is called by number
+abbrev pub called : Law → Outcome → ℕ → Outcome
+called law outcome number =
+    unless_failed outcome.fault outcome
+    (after_call None (Call number) (record outcome { taken = outcome.taken + 1 }) (call law outcome.state number))
+
+-- A source's outputs close after its last call.
+abbrev pub with_last_call : Outcome → Outcome
+with_last_call outcome = unless_failed outcome.fault outcome (record outcome { outputs = map closed outcome.outputs })
+
+-- what becomes of a source, which is called a number of times
+abbrev pub source_outcome : Law → ℕ → ℕ → List (Option Plain) → Outcome
+source_outcome law calls outputs sides = with_last_call (fold (called law) (opened law None outputs sides) (range_with_len 0 calls))
+
+-- what becomes of a loopback: it keeps nothing, and its one output answers the packets of MAIN
+abbrev pub loopback_outcome : StreamPrefix Plain → StreamPrefix Plain → Outcome
+loopback_outcome main loop = record { state = []; outputs = loopback main loop ∷ []; taken = length (replies main loop); fault = None }

@@ -1,0 +1,53 @@
+//! Calculators: what they compute, and the plan of a graph that is made of them.
+//! Answers to the definitions of `specs/Law.antt`, `specs/Shape.antt` and `specs/Plan.antt`.
+#![tactic(auto)]
+
+mod calculator;
+mod call;
+mod cause;
+mod edge;
+mod emission;
+mod event;
+mod given;
+mod inputs;
+mod kinds;
+mod law;
+pub mod laws;
+mod node_fault;
+mod numbers;
+mod numbers_in;
+mod own;
+mod plan;
+mod plan_node;
+mod plan_stream;
+mod port_kind;
+mod shape;
+mod side;
+mod source;
+mod state;
+pub mod state_laws;
+mod try_clone;
+
+pub use calculator::Calculator;
+pub use call::{Call, CallList};
+pub use cause::{CalcFault, Cause};
+pub use edge::{Edge, EdgeList};
+pub use emission::{Emission, EmissionList, Laid, no_emission, one_number, one_output, one_packet};
+pub use event::{Effect, Event};
+pub use given::GivenList;
+pub use inputs::Inputs;
+pub use kinds::{has_wrong_kind, input_kind};
+pub use law::{Keep, Law, MapOp};
+pub use node_fault::{NodeFault, NodeFaultList, Phase};
+pub use numbers::{NumberList, PrefixList};
+pub use numbers_in::{narrowed, number_of_packet, total};
+pub use own::own_step;
+pub use plan::Plan;
+pub use plan_node::{PlanNode, PlanNodeList};
+pub use plan_stream::{PlanStream, PlanStreamList, Producer};
+pub use port_kind::{PortKind, PortKindList};
+pub use shape::{OuterShape, Shape};
+pub use side::{Side, SideList, SideValue};
+pub use source::{own_begin, source_step};
+pub use state::State;
+pub use try_clone::TryClone;

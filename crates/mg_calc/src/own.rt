@@ -1,0 +1,218 @@
+ghost use Rattle.std.specs.Prelude.{◌≡◌, [], IfOk};
+ghost use Rattle.mg_calc.specs.Answer.{Gives};
+ghost use Rattle.mg_calc.specs.Law.{step};
+ghost use Rattle.mg_calc.specs.Shape.{IsOwn};
+ghost use Rattle.mg_calc.specs.Values.{moved_time as the_moved_time};
+ghost use Rattle.mg_calc.specs.Own.{mapped as the_mapped, is_kept as is_its_kept, filtered as the_filtered, sum_law, map_law, filter_law, running as the_running, shifted as the_shifted, tally as the_tally, scripted as the_scripted};
+
+use crate::{
+    CalcFault, Cause, Emission, EmissionList, Keep, Laid, Law, MapOp, State, TryClone,
+    has_wrong_kind, narrowed, no_emission, number_of_packet, one_number, one_output, one_packet,
+    total,
+};
+use mg_time::Timestamp;
+use mg_value::{InputSet, Packet};
+use std::alloc::{AllocError, Global};
+use std::sync::Arc;
+
+/// What a calculator of its own law gives at a set: its new state and its emission, or its cause.
+///
+/// Payloads that go on are shared.
+pub fn own_step(
+    alloc: Global,
+    law: &Law,
+    state: &State,
+    at: Timestamp,
+    set: &InputSet,
+) -> Result<(State, Emission), CalcFault>
+    requires { IsOwn law.now }
+    ensures { Gives result (step law.now state.now at set.now) }
+{
+    if has_wrong_kind(law, set) {
+        return Err(CalcFault::Fault(Cause::WrongKind));
+    }
+    match law {
+        Law::Sum { .. } => sum(alloc, state, at, set),
+        Law::Map { op, operand } => map(alloc, *op, *operand, state, at, set),
+        Law::Filter { keep, raise } => filter(alloc, *keep, *raise, state, at, set),
+        Law::Running => running(alloc, state, at, set),
+        Law::Shift { offset } => shifted(alloc, *offset, state, at, set),
+        Law::Tally => tally(alloc, state, at),
+        Law::Scripted { steps, .. } => scripted(alloc, steps, state),
+        _ => unreachable!(),
+    }
+}
+
+// The state stays, and nothing is emitted.
+fn stays(alloc: Global, state: &State) -> Result<(State, Emission), CalcFault>
+    ensures { Gives result (Ok (state.now, [])) }
+{
+    let kept = state.try_clone(alloc)?;
+    Ok((kept, no_emission(alloc)?))
+}
+
+fn sum(
+    alloc: Global,
+    state: &State,
+    at: Timestamp,
+    set: &InputSet,
+) -> Result<(State, Emission), CalcFault>
+    ensures { Gives result (sum_law state.now at set.now) }
+{
+    let number = narrowed(total(set))?;
+    let kept = state.try_clone(alloc)?;
+    Ok((kept, one_number(alloc, at, number)?))
+}
+
+fn mapped(op: MapOp, operand: i64, number: i64) -> i128
+    ensures { result ≡ the_mapped op operand number }
+{
+    match op {
+        MapOp::Add => i128::from(number) + i128::from(operand),
+        MapOp::Subtract => i128::from(number) - i128::from(operand),
+        MapOp::Multiply => i128::from(number) * i128::from(operand),
+    }
+}
+
+fn map(
+    alloc: Global,
+    op: MapOp,
+    operand: i64,
+    state: &State,
+    at: Timestamp,
+    set: &InputSet,
+) -> Result<(State, Emission), CalcFault>
+    ensures { Gives result (map_law op operand state.now at set.now) }
+{
+    let Some(packet) = set.get(0) else {
+        return stays(alloc, state);
+    };
+    let number = narrowed(mapped(op, operand, number_of_packet(packet)))?;
+    let kept = state.try_clone(alloc)?;
+    Ok((kept, one_number(alloc, at, number)?))
+}
+
+fn is_kept(keep: Keep, number: i64) -> bool
+    ensures { result ≡ is_its_kept keep number }
+{
+    match keep {
+        Keep::Even => number % 2 == 0,
+        Keep::Odd => number % 2 != 0,
+        Keep::Negative => number < 0,
+        Keep::NonNegative => number >= 0,
+    }
+}
+
+fn filtered(
+    alloc: Global,
+    keeps: bool,
+    raises: bool,
+    at: Timestamp,
+    packet: &Packet,
+) -> Result<Emission, AllocError>
+    ensures { IfOk result (λ emission. emission ≡ the_filtered keeps raises at packet.now) }
+{
+    if keeps {
+        let bound = if raises {
+            Some(at.next_allowed())
+        } else {
+            None
+        };
+        let packet = packet.try_clone()?;
+        one_output(alloc, Laid::new(alloc, Some(packet), bound)?)
+    } else if raises {
+        one_output(alloc, Laid::new(alloc, None, Some(at.next_allowed()))?)
+    } else {
+        no_emission(alloc)
+    }
+}
+
+fn filter(
+    alloc: Global,
+    keep: Keep,
+    raise: bool,
+    state: &State,
+    at: Timestamp,
+    set: &InputSet,
+) -> Result<(State, Emission), CalcFault>
+    ensures { Gives result (filter_law keep raise state.now at set.now) }
+{
+    let Some(packet) = set.get(0) else {
+        return stays(alloc, state);
+    };
+    let keeps = is_kept(keep, number_of_packet(packet));
+    let kept = state.try_clone(alloc)?;
+    Ok((kept, filtered(alloc, keeps, raise, at, packet)?))
+}
+
+fn running(
+    alloc: Global,
+    state: &State,
+    at: Timestamp,
+    set: &InputSet,
+) -> Result<(State, Emission), CalcFault>
+    ensures { Gives result (the_running state.now at set.now) }
+{
+    let Some(packet) = set.get(0) else {
+        return stays(alloc, state);
+    };
+    let sum = narrowed(i128::from(state.number()) + i128::from(number_of_packet(packet)))?;
+    let emission = one_number(alloc, at, sum)?;
+    Ok((State::of_number(sum), emission))
+}
+
+fn moved_time(at: Timestamp, offset: i64) -> Option<Timestamp>
+    ensures { result ≡ the_moved_time at offset }
+{
+    if at.is_range() {
+        Timestamp::of_range(at.raw().checked_add(offset)?)
+    } else {
+        Some(at)
+    }
+}
+
+fn shifted(
+    alloc: Global,
+    offset: i64,
+    state: &State,
+    at: Timestamp,
+    set: &InputSet,
+) -> Result<(State, Emission), CalcFault>
+    ensures { Gives result (the_shifted offset state.now at set.now) }
+{
+    let Some(packet) = set.get(0) else {
+        return stays(alloc, state);
+    };
+    let Some(at) = moved_time(at, offset) else {
+        return Err(CalcFault::Fault(Cause::Overflow));
+    };
+    let payload = Arc::try_clone(&packet.payload)?;
+    let kept = state.try_clone(alloc)?;
+    Ok((kept, one_packet(alloc, Packet { at, payload })?))
+}
+
+fn tally(alloc: Global, state: &State, at: Timestamp) -> Result<(State, Emission), CalcFault>
+    ensures { Gives result (the_tally state.now at) }
+{
+    let count = narrowed(i128::from(state.number()) + 1)?;
+    let emission = one_number(alloc, at, count)?;
+    Ok((State::of_number(count), emission))
+}
+
+fn scripted(
+    alloc: Global,
+    steps: &EmissionList,
+    state: &State,
+) -> Result<(State, Emission), CalcFault>
+    ensures { Gives result (the_scripted steps.now state.now) }
+{
+    let count = state.count();
+    if count >= u64::from(steps.len()) {
+        return stays(alloc, state);
+    }
+    let Some(emission) = steps.get(count as u32) else {
+        return stays(alloc, state);
+    };
+    let emission = emission.try_clone(alloc)?;
+    Ok((State::of_number(count as i64 + 1), emission))
+}

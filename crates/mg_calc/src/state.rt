@@ -1,0 +1,158 @@
+ghost use Rattle.std.specs.Prelude.{◌≡◌, ◌↔◌, map, option_map, [], IsTrue, IfOk};
+ghost use Rattle.std.specs.Arc.{arc_value};
+ghost use Rattle.mg_value.specs.Payload.{plain};
+ghost use Rattle.mg_calc.specs.Given.{given};
+ghost use Rattle.mg_calc.specs.Values.{stored};
+ghost use Rattle.mg_calc.specs.State.{state_of, number_in, count_in, next_valid as its_next_valid, kept_at};
+
+use mg_time::Timestamp;
+use mg_value::Payload;
+use std::alloc::{AllocError, Global};
+use std::marker::Model;
+use std::sync::Arc;
+
+/// What a calculator keeps between its calls. Contracts see a list of plain payloads: none, one number, or places each of
+/// which is a list of one payload or an empty one. Payloads are shared, and a number takes no memory.
+#[derive(Debug)]
+pub struct State {
+    kept: Kept,
+}
+
+#[derive(Debug, Drop)]
+enum Kept {
+    Nothing,
+    Number(i64),
+    Places(Vec<Option<Arc<Payload>>>),
+}
+
+impl Model for State {
+    ghost use Rattle.std.specs.Prelude.{List};
+    ghost use Rattle.std.specs.Coded.{coded_list};
+    ghost use Rattle.mg_value.specs.Payload.{Plain};
+    ghost use Rattle.mg_value.specs.Codes.{plain_code};
+
+    ghost Value = { List Plain };
+
+    ghost coded = { coded_list plain_code };
+
+    ghost use Rattle.mg_calc.specs.Code.StateView.{payloads_of};
+
+    ghost view = { λ s. payloads_of s.kept };
+}
+
+// Written out, so that the proof of whoever lets a state go needn't ask what it keeps.
+impl Drop for State {
+    fn drop(self) {
+        let State { kept } = self;
+        drop(kept);
+    }
+}
+
+impl State {
+    /// The state that keeps nothing.
+    pub fn empty() -> State
+        ensures { result ≡ [] }
+    {
+        State {
+            kept: Kept::Nothing,
+        }
+    }
+
+    /// The state of one number.
+    pub fn of_number(number: i64) -> State
+        ensures { result ≡ state_of number }
+    {
+        State {
+            kept: Kept::Number(number),
+        }
+    }
+
+    /// The state of places, each of which keeps a payload or none.
+    pub fn of_places(places: Vec<Option<Arc<Payload>>>) -> State
+        ensures { result ≡ map (λ place. stored (given place)) places.items }
+    {
+        State {
+            kept: Kept::Places(places),
+        }
+    }
+
+    /// Its number; that of the empty state is 0.
+    pub fn number(&self) -> i64
+        ensures { result ≡ number_in self.now }
+    {
+        match &self.kept {
+            Kept::Number(number) => *number,
+            Kept::Nothing => 0,
+            Kept::Places(_) => 0,
+        }
+    }
+
+    /// How many sets it has counted.
+    pub fn count(&self) -> u64
+        ensures { result ≡ count_in self.now }
+    {
+        match &self.kept {
+            Kept::Number(number) if *number >= 0 => *number as u64,
+            Kept::Number(_) => 0,
+            Kept::Nothing => 0,
+            Kept::Places(_) => 0,
+        }
+    }
+
+    /// The next valid timestamp of a thinner; that of the empty state is PreStream.
+    pub fn next_valid(&self) -> Timestamp
+        ensures { result ≡ its_next_valid self.now }
+    {
+        match &self.kept {
+            Kept::Number(number) => {
+                Timestamp::of_range(*number).unwrap_or(Timestamp::ONE_OVER_POST_STREAM)
+            }
+            Kept::Nothing => Timestamp::PRE_STREAM,
+            Kept::Places(_) => Timestamp::PRE_STREAM,
+        }
+    }
+
+    /// What it keeps at a place, from 0 on; none also where there is no such place.
+    pub fn place(&self, i: u32) -> Option<&Arc<Payload>>
+        ensures { option_map (λ p. plain (arc_value p.now)) result ≡ kept_at self.now i }
+    {
+        match &self.kept {
+            Kept::Places(places) => places.get(i as usize)?.as_ref(),
+            Kept::Nothing => None,
+            Kept::Number(_) => None,
+        }
+    }
+
+    /// A second one, that shares the payloads.
+    pub fn try_clone(&self, alloc: Global) -> Result<State, AllocError>
+        ensures { IfOk result (λ copy. copy ≡ self.now) }
+    {
+        match &self.kept {
+            Kept::Nothing => Ok(State::empty()),
+            Kept::Number(number) => Ok(State::of_number(*number)),
+            Kept::Places(places) => Ok(State::of_places(shared(alloc, places)?)),
+        }
+    }
+}
+
+fn share(place: &Option<Arc<Payload>>) -> Result<Option<Arc<Payload>>, AllocError>
+    ensures { IfOk result (λ copy. given copy ≡ given place.now) }
+{
+    match place {
+        Some(payload) => Ok(Some(Arc::try_clone(payload)?)),
+        None => Ok(None),
+    }
+}
+
+fn shared(
+    alloc: Global,
+    places: &[Option<Arc<Payload>>],
+) -> Result<Vec<Option<Arc<Payload>>>, AllocError>
+    ensures { IfOk result (λ copies. map given copies.items ≡ map given places.now) }
+{
+    let mut copies = Vec::with_capacity(alloc, places.len())?;
+    for place in places {
+        copies.push(share(place)?)?;
+    }
+    Ok(copies)
+}
