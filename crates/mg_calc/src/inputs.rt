@@ -1,4 +1,5 @@
-use crate::{GivenList, PrefixList};
+use crate::GivenList;
+use mg_value::PrefixList;
 
 /// What is handed to a graph.
 #[derive(Debug, Drop)]

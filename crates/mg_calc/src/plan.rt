@@ -1,4 +1,5 @@
-use crate::{EdgeList, NumberList, PlanNodeList, PlanStreamList, SideList};
+use crate::{EdgeList, PlanNodeList, PlanStreamList, SideList};
+use mg_value::NumberList;
 
 /// A graph whose parts have numbers, so that it can be run.
 #[derive(Debug, Drop)]

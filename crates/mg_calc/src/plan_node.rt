@@ -1,5 +1,5 @@
-use crate::{Law, NumberList, Shape};
-use mg_value::{BlockList, MgText, Policy};
+use crate::{Law, Shape};
+use mg_value::{BlockList, MgText, NumberList, Policy};
 
 /// A node of a plan.
 #[derive(Debug, Drop)]
