@@ -1,5 +1,5 @@
 -- What files are, together.
-use Rattle.std.proofs.Common.{◌≡◌, ◌<◌, ◌+◌, ℕ, zero, suc, List, [], ◌∷◌, ◌++◌, length, get_or, take, map, Option, None, Some, inl, inr, refl, sym, ap, ◌∙◌, subst}
+use Rattle.std.proofs.Common.{◌≡◌, ◌<◌, ◌+◌, ℕ, zero, suc, List, [], ◌∷◌, ◌++◌, length, get_or, take, map, Some, inl, inr, refl, sym, ap, ◌∙◌, subst}
 use Rattle.std.specs.Prelude.{slice_get}
 use Rattle.std.specs.List.{All}
 use Rattle.std.specs.Global.{Vec}
@@ -10,7 +10,7 @@ use Rattle.mg_subgraph.proofs.Steps.{got_map, taken, map-push}
 use Rattle.mg_run.specs.Code.Reads.{contents_of, IsNotedOf, AreNotedOf}
 use Rattle.mg_run.specs.declared.fault.Fault.{Fault}
 use Rattle.mg_run.specs.declared.fault.Fault.TheVariants.{Noted, OutOfMemory}
-use Rattle.mg_run.specs.File.{File, graph, IsFile}
+use Rattle.mg_run.specs.File.{graph, IsFile}
 use Rattle.mg_run.specs.Files.{Files, graphs, no_graphs, refusal_of, AreGraphs, IsRefused, FirstRefused, AreFiles}
 use Rattle.mg_run.proofs.OneFile.{one_file}
 

@@ -1,4 +1,4 @@
-use Rattle.std.proofs.Common.{◌≡◌, ◌∙◌, ℕ, suc, List, Option, Some, take, drop, ap, subst}
+use Rattle.std.proofs.Common.{◌∙◌, ℕ, suc, List, Option, Some, take, drop, ap, subst}
 use Rattle.mg_edge.specs.Edge.{LoadGives, one_more}
 use Rattle.mg_edge.specs.declared.store.Loaded.TheVariants.{Bytes}
 use Rattle.mg_run.specs.Notes.{store_note}
