@@ -33,7 +33,7 @@ pub record LoadedAll (names contents : List (List ℕ)) (store : Device StoreTol
   pub steady : store.now.faults ≡ store.before.faults
   pub last : store.now.failed_name ≡ store.before.failed_name
 
--- Of these files this one couldn't be loaded. Those before it were, and none was loaded after it.
+-- Of these files this one couldn't be loaded. Those before it were, and no other load failed.
 pub record FailedAt (names : List (List ℕ)) (file : List ℕ) (store : Device StoreTold) : Type 0 where
   pub kept : IsKept store
   pub before : List (List ℕ)
