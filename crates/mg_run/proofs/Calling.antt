@@ -1,16 +1,17 @@
 -- What a call came to.
-use Rattle.std.proofs.Common.{◌≡◌, ◌≢◌, ℕ, List, [], take, Bool, true, false, Option, None, Some, IfSome, if◌then◌else◌, ◌⊎◌, inl, inr, refl, ap, ◌∙◌, subst, arith}
-use Rattle.mg_edge.specs.Edge.{SourceTold, SinkTold, StoreTold, LoadGives, most_loaded, Rose}
-use Rattle.mg_edge.specs.declared.store.Loaded.TheVariants.{Bytes}
+use Rattle.std.proofs.Common.{◌≡◌, ◌≢◌, ℕ, List, [], Bool, true, false, Option, None, Some, IfSome, if◌then◌else◌, ◌⊎◌, inl, inr, refl, ap, ◌∙◌, subst, arith}
+use Rattle.mg_edge.specs.Edge.{SourceTold, SinkTold, StoreTold, Rose}
 use Rattle.mg_edge.proofs.Runs.{TookAll-start}
 use Rattle.mg_run.proofs.Finishing.{front-nothing}
-use Rattle.mg_run.proofs.Files.{one_file}
+use Rattle.mg_run.proofs.Together.{one-reading}
+use Rattle.mg_run.proofs.Loading.{of-loads}
 use Rattle.mg_run.proofs.Flowing.{rose-after}
 use Rattle.mg_run.specs.Command.{Command}
-use Rattle.mg_run.specs.File.{File, IsFile}
+use Rattle.mg_run.specs.Files.{Files, AreFiles}
+use Rattle.mg_run.specs.Loads.{AreLoaded, LoadedAll, loads_of}
 use Rattle.mg_run.specs.Answer.{Job, refuse, show, merge, job_of, answer_of, answer, run_answer}
 use Rattle.mg_run.specs.Devices.{Device, device, Devices, devices, Untouched, Unrisen, NoneFailed, TookFront, TookText, TookPart, Noted}
-use Rattle.mg_run.specs.Call.{Meets, IfThere, Loads, WasShown, Ran, Did, IsJob, CallDid, CallShort, Called, IsAnswered}
+use Rattle.mg_run.specs.Call.{Meets, WasShown, Ran, Did, IsJob, CallDid, CallShort, Called, IsAnswered}
 use Rattle.mg_run.specs.Code.Flow.{Flows}
 use Rattle.mg_run.specs.declared.status.Status.{Status}
 use Rattle.mg_run.specs.declared.status.Status.TheVariants.{Good, StoreFault, Usage, GraphRefused, LineRefused, NodeFault, Stalled, ReadFault, WriteFault, OutOfMemory}
@@ -19,11 +20,6 @@ pub noted-from : (failed : Bool) (notes : Device SinkTold) (text : List ℕ) →
 noted-from true notes text flows = inr flows
 noted-from false notes text flows = inl flows
 
-pub loads-from : (content : Option (Option (List ℕ))) (v : _) (P : List ℕ → Type 0) → LoadGives content (Bytes v) → P v.items → Loads content P
-loads-from None v P gives is = (v.items, is)
-loads-from (Some None) v P gives is = elim gives [ ]
-loads-from (Some (Some bytes)) v P gives is = subst P gives is
-
 -- a text was written, or wasn't
 pub shown-by : (failed : Bool) (text : List ℕ) (status : Status) (all : Devices) → status ≡ (if failed then WriteFault else Good) → Flows failed all.output text
     → Untouched all.input → Untouched all.notes → WasShown text status all
@@ -31,14 +27,9 @@ shown-by true text status all ended flows unread unnoted = record { written = in
 shown-by false text status all ended flows unread unnoted = record { written = inl (ended, flows); unread = unread; unnoted = unnoted }
 
 -- Nothing was written.
-if-any : (input : Option (List ℕ)) (P : List ℕ → Type 0) → ((read : List ℕ) → P read) → IfSome input P
+if-any : {X : Type 0} (o : Option X) (P : X → Type 0) → ((x : X) → P x) → IfSome o P
 if-any None P all = tt
-if-any (Some read) P all = all read
-
-if-there : (content : Option (Option (List ℕ))) (P : List ℕ → Type 0) → ((bytes : List ℕ) → P bytes) → IfThere content P
-if-there None P all = tt
-if-there (Some None) P all = tt
-if-there (Some (Some bytes)) P all = all bytes
+if-any (Some x) P all = all x
 
 front-none : (output : SinkTold) (text : List ℕ) → TookFront (device output output) text
 front-none output text = front-nothing (Some []) output (λ read. text)
@@ -46,22 +37,15 @@ front-none output text = front-nothing (Some []) output (λ read. text)
 pub short-nothing : (command : Command) (store : Device StoreTold) (input : Device SourceTold) (output : SinkTold) (notes : Device SinkTold)
     → CallShort command (devices store input (device output output) notes)
 short-nothing command store input output notes =
-    if-there (store.before.content command.file) _ (λ bytes. if-any input.before.left _ (λ read file is. front-none output (answer command file read).output))
+    if-any (loads_of store.before.content command.files) _ (λ contents. if-any input.before.left _ (λ read files are. front-none output (answer command files read).output))
 
 -- a run of the graph found no memory
-short-run : (command : Command) (names : List (List ℕ)) (input : Option (List ℕ)) (output : Device SinkTold) (bytes : List ℕ) → IsJob command (take most_loaded bytes) (merge names)
+short-run : (command : Command) (names : List (List ℕ)) (input : Option (List ℕ)) (output : Device SinkTold) (contents : List (List ℕ)) → IsJob command contents (merge names)
     → IfSome input (λ read. TookFront output (run_answer names read).output)
-    → IfSome input (λ read. (file : File) → IsFile (take most_loaded bytes) file → TookFront output (answer command file read).output)
-short-run command names None output bytes is took = tt
-short-run command names (Some read) output bytes (file, is, same) took =
-    λ other other_is. subst (λ (job : Job). TookFront output (answer_of job read).output) (same ∙ ap (job_of command) (one_file (take most_loaded bytes) file other is other_is)) took
-
-short-ran : (command : Command) (names : List (List ℕ)) (content : Option (Option (List ℕ))) (input : Option (List ℕ)) (output : Device SinkTold) → Loads content (λ bytes. IsJob command bytes (merge names))
-    → IfSome input (λ read. TookFront output (run_answer names read).output)
-    → IfThere content (λ bytes. IfSome input (λ read. (file : File) → IsFile (take most_loaded bytes) file → TookFront output (answer command file read).output))
-short-ran command names None input output loads took = tt
-short-ran command names (Some None) input output loads took = tt
-short-ran command names (Some (Some bytes)) input output loads took = short-run command names input output bytes loads took
+    → IfSome input (λ read. (files : Files) → AreFiles command.files contents files → TookFront output (answer command files read).output)
+short-run command names None output contents due took = tt
+short-run command names (Some read) output contents (files, are, same) took =
+    λ other other_are. subst (λ (job : Job). TookFront output (answer_of job read).output) (same ∙ ap (job_of command.verb) (one-reading command.files contents files other are other_are)) took
 
 -- The statuses of what was done.
 not-shown : (text : List ℕ) (status : Status) (all : Devices) → status ≢ Good → status ≢ WriteFault → WasShown text status all → ⊥
@@ -81,27 +65,30 @@ did-usage (refuse note) all did = let e = did.ended in cc
 did-usage (show text) all did = not-shown text Usage all (λ e. cc) (λ e. cc) did
 did-usage (merge names) all did = did
 
-did-short : (job : Job) (command : Command) (all : Devices) → Loads (all.store.before.content command.file) (λ bytes. IsJob command bytes job)
+did-short : (job : Job) (command : Command) (contents : List (List ℕ)) (all : Devices) → AreLoaded all.store.before.content command.files contents → IsJob command contents job
     → Did job OutOfMemory all → CallShort command all
-did-short (refuse note) command all loads did = let e = did.ended in absurd (differ e)
+did-short (refuse note) command contents all given due did = let e = did.ended in absurd (differ e)
   where
     differ : OutOfMemory ≡ GraphRefused → ⊥
     differ e = cc
-did-short (show text) command all loads did = absurd (not-shown text OutOfMemory all (λ e. cc) (λ e. cc) did)
-did-short (merge names) command all loads did = short-ran command names (all.store.before.content command.file) all.input.before.left all.output loads did
+did-short (show text) command contents all given due did = absurd (not-shown text OutOfMemory all (λ e. cc) (λ e. cc) did)
+did-short (merge names) command contents all given due did =
+    of-loads all.store.before.content command.files contents
+    (λ known. IfSome all.input.before.left (λ read. (files : Files) → AreFiles command.files known files → TookFront all.output (answer command files read).output))
+    given (short-run command names all.input.before.left all.output contents due did)
 
-pub called-did : (job : Job) (status : Status) (command : Command) (all : Devices)
-    → Loads (all.store.before.content command.file) (λ bytes. IsJob command bytes job) → all.store.now.faults ≡ all.store.before.faults → Did job status all → Called status command all
-called-did job Good command all loads steady did = record { job = job; loads = loads; steady = steady; did = did }
-called-did job StoreFault command all loads steady did = absurd (did-store job all did)
-called-did job Usage command all loads steady did = absurd (did-usage job all did)
-called-did job GraphRefused command all loads steady did = record { job = job; loads = loads; steady = steady; did = did }
-called-did job LineRefused command all loads steady did = record { job = job; loads = loads; steady = steady; did = did }
-called-did job NodeFault command all loads steady did = record { job = job; loads = loads; steady = steady; did = did }
-called-did job Stalled command all loads steady did = record { job = job; loads = loads; steady = steady; did = did }
-called-did job ReadFault command all loads steady did = record { job = job; loads = loads; steady = steady; did = did }
-called-did job WriteFault command all loads steady did = record { job = job; loads = loads; steady = steady; did = did }
-called-did job OutOfMemory command all loads steady did = did-short job command all loads did
+pub called-did : (job : Job) (status : Status) (command : Command) (contents : List (List ℕ)) (all : Devices)
+    → LoadedAll command.files contents all.store → IsJob command contents job → Did job status all → Called status command all
+called-did job Good command contents all loaded due did = record { contents = contents; loaded = loaded; job = job; due = due; did = did }
+called-did job StoreFault command contents all loaded due did = absurd (did-store job all did)
+called-did job Usage command contents all loaded due did = absurd (did-usage job all did)
+called-did job GraphRefused command contents all loaded due did = record { contents = contents; loaded = loaded; job = job; due = due; did = did }
+called-did job LineRefused command contents all loaded due did = record { contents = contents; loaded = loaded; job = job; due = due; did = did }
+called-did job NodeFault command contents all loaded due did = record { contents = contents; loaded = loaded; job = job; due = due; did = did }
+called-did job Stalled command contents all loaded due did = record { contents = contents; loaded = loaded; job = job; due = due; did = did }
+called-did job ReadFault command contents all loaded due did = record { contents = contents; loaded = loaded; job = job; due = due; did = did }
+called-did job WriteFault command contents all loaded due did = record { contents = contents; loaded = loaded; job = job; due = due; did = did }
+called-did job OutOfMemory command contents all loaded due did = did-short job command contents all loaded.given due did
 
 -- What follows --
 
@@ -149,27 +136,23 @@ did-answer (show text) status all did none some =
     if-any all.input.before.left (λ r. Meets (answer_of (show text) r) status all) (shown-answer text status all did none)
 did-answer (merge names) status all did none some = ran-answer names status all did none some
 
--- The answer of the job is that of the file's bytes and the input's.
-job-answered : (command : Command) (bytes : List ℕ) (status : Status) (job : Job) (input : Option (List ℕ)) (all : Devices) → IsJob command (take most_loaded bytes) job
+-- The answer of the job is that of the files' bytes and the input's.
+job-answered : (command : Command) (contents : List (List ℕ)) (status : Status) (job : Job) (input : Option (List ℕ)) (all : Devices) → IsJob command contents job
     → IfSome input (λ read. Meets (answer_of job read) status all)
-    → IfSome input (λ read. (file : File) × IsFile (take most_loaded bytes) file × Meets (answer command file read) status all)
-job-answered command bytes status job None all is meets = tt
-job-answered command bytes status job (Some read) all (file, is, same) meets = (file, is, subst (λ (j : Job). Meets (answer_of j read) status all) same meets)
-
-did-answered : (status : Status) (command : Command) (content : Option (Option (List ℕ))) (job : Job) (input : Option (List ℕ)) (all : Devices)
-    → Loads content (λ bytes. IsJob command bytes job) → IfSome input (λ read. Meets (answer_of job read) status all)
-    → IfThere content (λ bytes. IfSome input (λ read. (file : File) × IsFile (take most_loaded bytes) file × Meets (answer command file read) status all))
-did-answered status command None job input all loads meets = tt
-did-answered status command (Some None) job input all loads meets = tt
-did-answered status command (Some (Some bytes)) job input all loads meets = job-answered command bytes status job input all loads meets
+    → IfSome input (λ read. (files : Files) × AreFiles command.files contents files × Meets (answer command files read) status all)
+job-answered command contents status job None all due meets = tt
+job-answered command contents status job (Some read) all (files, are, same) meets = (files, are, subst (λ (j : Job). Meets (answer_of j read) status all) same meets)
 
 call-answered : (status : Status) (command : Command) (all : Devices) → CallDid status command all → NoneFailed all → status ≢ OutOfMemory → IsAnswered status command all
 call-answered status command all called none some =
-    did-answered status command (all.store.before.content command.file) called.job all.input.before.left all called.loads (did-answer called.job status all called.did none some)
+    of-loads all.store.before.content command.files called.contents
+    (λ known. IfSome all.input.before.left (λ read. (files : Files) × AreFiles command.files known files × Meets (answer command files read) status all))
+    called.loaded.given
+    (job-answered command called.contents status called.job all.input.before.left all called.due (did-answer called.job status all called.did none some))
 
 pub answered-from : (status : Status) (command : Command) (all : Devices) → Called status command all → NoneFailed all → status ≢ OutOfMemory → IsAnswered status command all
 answered-from Good command all called none some = call-answered Good command all called none some
-answered-from StoreFault command all called none some = absurd (unrisen-rose all.store.before.faults all.store.now.faults none.store called.rose)
+answered-from StoreFault command all called none some = absurd (unrisen-rose all.store.before.faults all.store.now.faults none.store (rose-after all.store.before.faults all.store.before.faults all.store.now.faults refl called.failed.once))
 answered-from Usage command all called none some = elim called [ ]
 answered-from GraphRefused command all called none some = call-answered GraphRefused command all called none some
 answered-from LineRefused command all called none some = call-answered LineRefused command all called none some

@@ -1,4 +1,6 @@
-pub mod Files
+pub mod OneFile
+pub mod Together
+pub mod Loading
 pub mod Texts
 pub mod Json
 pub mod Names

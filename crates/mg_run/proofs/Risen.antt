@@ -19,15 +19,15 @@ risen-unwritten sink risen untouched = risen-steady _ _ risen (ap (λ s. s.fault
 
 -- The store's count rose.
 pub store-risen : (status : Status) (command : Command) (all : Devices) → Called status command all → HasRisen all.store.before.faults all.store.now.faults → IsOneOf status (StoreFault ∷ OutOfMemory ∷ [])
-store-risen Good command all called risen = absurd (risen-steady _ _ risen called.steady)
+store-risen Good command all called risen = absurd (risen-steady _ _ risen called.loaded.steady)
 store-risen StoreFault command all called risen = inl refl
 store-risen Usage command all called risen = elim called [ ]
-store-risen GraphRefused command all called risen = absurd (risen-steady _ _ risen called.steady)
-store-risen LineRefused command all called risen = absurd (risen-steady _ _ risen called.steady)
-store-risen NodeFault command all called risen = absurd (risen-steady _ _ risen called.steady)
-store-risen Stalled command all called risen = absurd (risen-steady _ _ risen called.steady)
-store-risen ReadFault command all called risen = absurd (risen-steady _ _ risen called.steady)
-store-risen WriteFault command all called risen = absurd (risen-steady _ _ risen called.steady)
+store-risen GraphRefused command all called risen = absurd (risen-steady _ _ risen called.loaded.steady)
+store-risen LineRefused command all called risen = absurd (risen-steady _ _ risen called.loaded.steady)
+store-risen NodeFault command all called risen = absurd (risen-steady _ _ risen called.loaded.steady)
+store-risen Stalled command all called risen = absurd (risen-steady _ _ risen called.loaded.steady)
+store-risen ReadFault command all called risen = absurd (risen-steady _ _ risen called.loaded.steady)
+store-risen WriteFault command all called risen = absurd (risen-steady _ _ risen called.loaded.steady)
 store-risen OutOfMemory command all called risen = inr (inl refl)
 
 -- The input's count rose.

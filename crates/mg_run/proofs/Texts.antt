@@ -1,5 +1,5 @@
 -- The text of a graph, and the graph of that text.
-use Rattle.std.proofs.Common.{◌≡◌, ◌≤◌, ℕ, List, length, Result, Ok, sym, ap, ◌∙◌, subst}
+use Rattle.std.proofs.Common.{◌≡◌, ◌≤◌, ℕ, List, [], ◌∷◌, length, Result, Ok, sym, ap, ◌∙◌, subst}
 use Rattle.mg_text.specs.Grammar.{Gives}
 use Rattle.mg_text.specs.Answer.{max_len}
 use Rattle.mg_text.proofs.Faults.{one_text}
@@ -13,24 +13,37 @@ use Rattle.mg_config.proofs.Printed.{printable_of}
 use Rattle.mg_config.proofs.Spelled.{spelled_tree}
 use Rattle.mg_config.proofs.Shallow.{shallow_tree}
 use Rattle.mg_config.proofs.WrittenBack.{written_back}
+use Rattle.mg_subgraph.specs.Expansion.{expansion_of}
+use Rattle.mg_subgraph.proofs.Kept.{sound_expansion, printable_expansion}
 use Rattle.mg_run.specs.File.{graph, IsFile}
+use Rattle.mg_run.specs.Files.{AreGraphs}
+use Rattle.mg_run.proofs.Together.{graph-at}
 use Rattle.mg_run.specs.Answer.{graph_text}
 
 -- what holds of the graph of a file
-sound_graph : (content : List ℕ) (g : GraphView) → IsFile content (graph g) → IsSound g
+pub sound_graph : (content : List ℕ) (g : GraphView) → IsFile content (graph g) → IsSound g
 sound_graph content g (fields, text, made) = sound_of fields g made
 
-printable_graph : (content : List ℕ) (g : GraphView) → IsFile content (graph g) → IsPrintable g
+pub printable_graph : (content : List ℕ) (g : GraphView) → IsFile content (graph g) → IsPrintable g
 printable_graph content g (fields, text, made) = printable_of fields g made (text_spelled content fields text.gives) text.shallow
 
 given_text : (g : GraphView) → IsSound g → IsPrintable g → Gives (graph_text g) (tree_of g)
 given_text g sound printable = canonical_given (tree_of g) (spelled_tree g sound printable)
 
-pub said_again : (content : List ℕ) (g : GraphView) → IsFile content (graph g) → length (graph_text g) ≤ max_len → IsFile (graph_text g) (graph g)
-said_again content g is short =
-    let sound = sound_graph content g is in
-    let printable = printable_graph content g is in
+said_by : (g : GraphView) → IsSound g → IsPrintable g → length (graph_text g) ≤ max_len → IsFile (graph_text g) (graph g)
+said_by g sound printable short =
     (tree_of g, record { short = short; gives = given_text g sound printable; shallow = shallow_tree g printable }, written_back g sound)
+
+pub said_again : (content : List ℕ) (g : GraphView) → IsFile content (graph g) → length (graph_text g) ≤ max_len → IsFile (graph_text g) (graph g)
+said_again content g is = said_by g (sound_graph content g is) (printable_graph content g is)
+
+-- So does the text of a graph that was expanded.
+pub expanded_again : (contents : List (List ℕ)) (main g : GraphView) (library : List GraphView) → AreGraphs contents (main ∷ library) → expansion_of main library ≡ Ok g
+    → length (graph_text g) ≤ max_len → IsFile (graph_text g) (graph g)
+expanded_again [] main g library are made short = elim are [ ]
+expanded_again (content ∷ contents) main g library are made short =
+    said_by g (sound_expansion main library g made (sound_graph content main are.0) (graph-at IsSound sound_graph contents library are.1))
+    (printable_expansion main library g made (printable_graph content main are.0) (graph-at IsPrintable printable_graph contents library are.1)) short
 
 abbrev read_as : GraphView → Result GraphView ConfigFault
 read_as g = Ok g

@@ -1,13 +1,15 @@
--- What the program answers: the output text, the notes and the status, as a function of the command, of what its file
--- is, and of the input's bytes.
-use Rattle.std.specs.Prelude.{ℕ, List, [], ◌∷◌, Option, None, Some, length, codes, if◌then◌else◌}
+-- What the program answers: the output text, the notes and the status, as a function of the command, of what its files
+-- are, and of the input's bytes.
+use Rattle.std.specs.Prelude.{ℕ, List, [], ◌∷◌, Option, None, Some, Result, Ok, Err, length, codes, if◌then◌else◌}
 use Rattle.std.specs.Str.{bytes_eq}
 use Rattle.mg_text.specs.Canonical.{canonical}
 use Rattle.mg_config.specs.Config.{GraphView}
 use Rattle.mg_config.specs.Written.{tree_of}
 use Rattle.mg_run.specs.Command.{Command}
-use Rattle.mg_run.specs.File.{File, graph, no_text, no_graph}
-use Rattle.mg_run.specs.Notes.{file_note, text_refusal, config_refusal, unbuilt_note, line_note, read_note}
+use Rattle.mg_subgraph.specs.Expansion.{expansion_of}
+use Rattle.mg_subgraph.specs.declared.fault.ExpandFault.{ExpandFault}
+use Rattle.mg_run.specs.Files.{Files, graphs, no_graphs}
+use Rattle.mg_run.specs.Notes.{expand_note, unbuilt_note, line_note, read_note}
 use Rattle.mg_run.specs.Lines.{whole_lines, all_lines}
 use Rattle.mg_run.specs.Accepted.{Refused, accepted, first_refused, streams_of, ended_streams}
 use Rattle.mg_run.specs.Output.{output_of}
@@ -39,7 +41,7 @@ inputs_of text =
 
 -- What is to be done --
 
--- The file is refused, with a note; or a text is the output; or the graph is run whose inputs have these names.
+-- A file or the expansion is refused, with a note; or a text is the output; or the graph is run whose inputs have these names.
 pub data Job : Type 0 where
   refuse : List ℕ → Job
   show : List ℕ → Job
@@ -53,10 +55,18 @@ abbrev pub graph_job : Verb → GraphView → Job
 graph_job Run g = run_job (inputs_of (graph_text g))
 graph_job Expand g = show (graph_text g)
 
-abbrev pub job_of : Command → File → Job
-job_of command (graph g) = graph_job command.verb g
-job_of command (no_text fault) = refuse (file_note command.file (codes "text") (text_refusal fault))
-job_of command (no_graph fault) = refuse (file_note command.file (codes "config") (config_refusal fault))
+abbrev pub expanded_job : Verb → Result GraphView ExpandFault → Job
+expanded_job verb (Ok g) = graph_job verb g
+expanded_job verb (Err fault) = refuse (expand_note fault)
+
+-- The first graph is the main one, and it is expanded with the others as its library. A command always has a first.
+abbrev pub graphs_job : Verb → List GraphView → Job
+graphs_job verb [] = refuse []
+graphs_job verb (main ∷ library) = expanded_job verb (expansion_of main library)
+
+abbrev pub job_of : Verb → Files → Job
+job_of verb (graphs gs) = graphs_job verb gs
+job_of verb (no_graphs note) = refuse note
 
 -- The answers --
 
@@ -91,5 +101,5 @@ answer_of (refuse note) input = record { output = []; notes = note; status = Gra
 answer_of (show text) input = record { output = text; notes = []; status = Good }
 answer_of (merge names) input = run_answer names input
 
-abbrev pub answer : Command → File → List ℕ → Answer
-answer command file input = answer_of (job_of command file) input
+abbrev pub answer : Command → Files → List ℕ → Answer
+answer command files input = answer_of (job_of command.verb files) input

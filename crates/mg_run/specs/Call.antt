@@ -1,9 +1,10 @@
 -- What a call came to, by its status.
-use Rattle.std.specs.Prelude.{◌≡◌, ℕ, ◌⊎◌, List, [], ◌∷◌, Option, None, Some, IfSome, take}
-use Rattle.mg_edge.specs.Edge.{Rose, most_loaded}
+use Rattle.std.specs.Prelude.{◌≡◌, ℕ, ◌⊎◌, List, [], ◌∷◌, IfSome}
+use Rattle.mg_edge.specs.Edge.{Rose}
 use Rattle.mg_edge.specs.Runs.{Gave, TookAll}
 use Rattle.mg_run.specs.Command.{Command}
-use Rattle.mg_run.specs.File.{File, IsFile}
+use Rattle.mg_run.specs.Files.{Files, AreFiles}
+use Rattle.mg_run.specs.Loads.{LoadedAll, FailedAt, loads_of}
 use Rattle.mg_run.specs.Lines.{whole_lines}
 use Rattle.mg_run.specs.Accepted.{accepted}
 use Rattle.mg_run.specs.Notes.{usage_note, store_note}
@@ -18,20 +19,6 @@ pub record Meets (given : Answer) (status : Status) (devices : Devices) : Type 0
   pub noted : TookText devices.notes given.notes
   pub ended : status ≡ given.status
 
--- What the store tells of a file --
-
--- P holds of the bytes, where the store tells them.
-abbrev pub IfThere : Option (Option (List ℕ)) → (List ℕ → Type 0) → Type 0
-IfThere None P = Unit {0}
-IfThere (Some None) P = Unit {0}
-IfThere (Some (Some bytes)) P = P bytes
-
--- P holds of the bytes that were loaded. Of a name that isn't there none are.
-abbrev pub Loads : Option (Option (List ℕ)) → (List ℕ → Type 0) → Type 0
-Loads None P = (bytes : List ℕ) × P bytes
-Loads (Some None) P = ⊥
-Loads (Some (Some bytes)) P = P (take most_loaded bytes)
-
 -- What became of it --
 
 -- The words were no command.
@@ -41,15 +28,15 @@ pub record WasUsage (devices : Devices) : Type 0 where
   pub unread : Untouched devices.input
   pub unwritten : Untouched devices.output
 
--- The file couldn't be loaded.
-pub record WasUnloaded (file : List ℕ) (devices : Devices) : Type 0 where
-  pub rose : Rose devices.store.before.faults devices.store.now.faults
-  pub named : devices.store.now.failed_name ≡ Some file
+-- A file couldn't be loaded, the first such of these, and the note is of it.
+pub record WasUnloaded (files : List (List ℕ)) (devices : Devices) : Type 0 where
+  pub file : List ℕ
+  pub failed : FailedAt files file devices.store
   pub noted : Noted devices.notes (store_note file)
   pub unread : Untouched devices.input
   pub unwritten : Untouched devices.output
 
--- The file was refused, with this note.
+-- A file or the expansion was refused, with this note.
 pub record WasRefused (note : List ℕ) (status : Status) (devices : Devices) : Type 0 where
   pub ended : status ≡ GraphRefused
   pub noted : Noted devices.notes note
@@ -117,35 +104,36 @@ Did (refuse note) status devices = WasRefused note status devices
 Did (show text) status devices = WasShown text status devices
 Did (merge names) status devices = Ran names status devices
 
--- what a command has to do with a content
-abbrev pub IsJob : Command → List ℕ → Job → Type 0
-IsJob command content job = (file : File) × IsFile content file × (job ≡ job_of command file)
+-- what a command has to do with the contents of its files
+abbrev pub IsJob : Command → List (List ℕ) → Job → Type 0
+IsJob command contents job = (files : Files) × AreFiles command.files contents files × (job ≡ job_of command.verb files)
 
--- The file was loaded, and what the command has to do with it was done.
+-- All files were loaded, and what the command has to do with them was done.
 pub record CallDid (status : Status) (command : Command) (devices : Devices) : Type 0 where
+  pub contents : List (List ℕ)
+  pub loaded : LoadedAll command.files contents devices.store
   pub job : Job
-  pub loads : Loads (devices.store.before.content command.file) (λ bytes. IsJob command bytes job)
-  pub steady : devices.store.now.faults ≡ devices.store.before.faults
+  pub due : IsJob command contents job
   pub did : Did job status devices
 
 -- Memory ran out: the output took a front of what a call with enough of it gives.
 abbrev pub CallShort : Command → Devices → Type 0
 CallShort command devices =
-    IfThere (devices.store.before.content command.file) (λ bytes. IfSome devices.input.before.left (λ read.
-    (file : File) → IsFile (take most_loaded bytes) file → TookFront devices.output (answer command file read).output))
+    IfSome (loads_of devices.store.before.content command.files) (λ contents. IfSome devices.input.before.left (λ read.
+    (files : Files) → AreFiles command.files contents files → TookFront devices.output (answer command files read).output))
 
 -- A call with a command ended with this status.
 abbrev pub Called : Status → Command → Devices → Type 0
-Called StoreFault command devices = WasUnloaded command.file devices
+Called StoreFault command devices = WasUnloaded command.files devices
 Called Usage command devices = ⊥
 Called OutOfMemory command devices = CallShort command devices
 Called status command devices = CallDid status command devices
 
--- Where the devices tell the file's bytes and the input's, the call met the answer to them.
+-- Where the devices tell the files' bytes and the input's, the call met the answer to them.
 abbrev pub IsAnswered : Status → Command → Devices → Type 0
 IsAnswered status command devices =
-    IfThere (devices.store.before.content command.file) (λ bytes. IfSome devices.input.before.left (λ read.
-    (file : File) × IsFile (take most_loaded bytes) file × Meets (answer command file read) status devices))
+    IfSome (loads_of devices.store.before.content command.files) (λ contents. IfSome devices.input.before.left (λ read.
+    (files : Files) × AreFiles command.files contents files × Meets (answer command files read) status devices))
 
 -- a status is one of these
 abbrev pub IsOneOf : Status → List Status → Type 0

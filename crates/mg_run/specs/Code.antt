@@ -1,6 +1,7 @@
 -- What the code's own functions say to one another.
 pub mod Said
 pub mod Job
+pub mod Reads
 pub mod Claimed
 pub mod LineFeed
 pub mod Feed

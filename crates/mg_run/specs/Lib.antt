@@ -6,9 +6,11 @@ pub mod Lines
 pub mod Reading
 pub mod Accepted
 pub mod Notes
+pub mod Files
 pub mod Output
 pub mod Answer
 pub mod Devices
+pub mod Loads
 pub mod Call
 -- What only the code's own functions say to one another. Nothing above rests on it.
 pub mod Code

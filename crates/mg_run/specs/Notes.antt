@@ -6,6 +6,10 @@ use Rattle.mg_names.specs.declared.fault.NameFault.{NameFault}
 use Rattle.mg_names.specs.declared.fault.NameFault.TheVariants as names
 use Rattle.mg_config.specs.declared.fault.ConfigFault.{ConfigFault}
 use Rattle.mg_config.specs.declared.fault.ConfigFault.TheVariants as configs
+use Rattle.mg_names.specs.Ports.{text_of}
+use Rattle.mg_subgraph.specs.declared.fault.ExpandFault.{ExpandFault}
+use Rattle.mg_subgraph.specs.declared.fault.ExpandFault.TheVariants.{TypeTwice, Recursive, TooManyNodes, ReservedName, PortShared, BadField, NoSuchPort}
+use Rattle.mg_subgraph.specs.declared.fault.ExpandFault.TheVariants as expansions
 use Rattle.mg_run.specs.Accepted.{Refused}
 use Rattle.mg_run.specs.declared.line_fault.LineFault.{LineFault}
 use Rattle.mg_run.specs.declared.line_fault.LineFault.TheVariants.{NotYet, Closed, NotAscending}
@@ -16,7 +20,7 @@ usage_note = codes "usage: mg run|solve|check|expand|generate [--workers N] [--m
 abbrev pub store_note : List ℕ → List ℕ
 store_note file = codes "store: " ++ file ++ codes "\n"
 
--- A graph file is refused --
+-- A file or an expansion is refused --
 
 -- the file isn't text, and where
 abbrev pub text_refusal : TextFault → List ℕ
@@ -44,6 +48,20 @@ config_refusal configs.OutOfMemory = []
 -- `stage` is what refuses the file: `text` or `config`
 abbrev pub file_note : List ℕ → List ℕ → List ℕ → List ℕ
 file_note file stage refusal = codes "refused: " ++ file ++ codes " " ++ stage ++ codes " " ++ refusal ++ codes "\n"
+
+-- An expansion is refused: what for, and its fields, each after a space. A port is written as in a graph file.
+abbrev pub expand_refusal : ExpandFault → List ℕ
+expand_refusal (TypeTwice name) = codes "TypeTwice " ++ name
+expand_refusal (Recursive name) = codes "Recursive " ++ name
+expand_refusal TooManyNodes = codes "TooManyNodes"
+expand_refusal (ReservedName name) = codes "ReservedName " ++ name
+expand_refusal (PortShared owner name) = codes "PortShared " ++ owner ++ codes " " ++ name
+expand_refusal (BadField owner node field) = codes "BadField " ++ owner ++ codes " " ++ decimal node ++ codes " " ++ field
+expand_refusal (NoSuchPort owner node port) = codes "NoSuchPort " ++ owner ++ codes " " ++ decimal node ++ codes " " ++ text_of port
+expand_refusal expansions.OutOfMemory = []
+
+abbrev pub expand_note : ExpandFault → List ℕ
+expand_note fault = codes "refused: expand " ++ expand_refusal fault ++ codes "\n"
 
 -- the graph isn't one that runs so far
 abbrev pub unbuilt_note : List ℕ

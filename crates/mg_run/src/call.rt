@@ -6,12 +6,13 @@ ghost use Rattle.mg_run.specs.Code.Job.{job_view, MayRead};
 ghost use Rattle.mg_edge.specs.Edge.{StoreTold};
 
 use crate::Status;
+use crate::fault::Fault;
 use crate::job::{Job, job_of};
-use crate::note::store_note;
+use crate::load::load_all;
 use crate::put::put_all;
 use crate::run::run_graph;
 use crate::words::{USAGE, Verb, command_of};
-use mg_edge::{Loaded, Sink, Source, Store};
+use mg_edge::{Sink, Source, Store};
 use mg_value::MgText;
 use std::alloc::Global;
 
@@ -36,7 +37,7 @@ pub fn run_words<S: Source, K: Sink, E: Sink, T: Store>(
         (device (K.told output.old) (K.told output.new)) (device (E.told notes.old) (E.told notes.new)))) }
 
     // No device failed and memory was had: the output's text, the notes and the status are those of the answer to
-    // the file's bytes and the input's.
+    // the files' bytes and the input's.
     ensures answered { IfSome (command_of words.now) (λ command. let all = devices
         (device (T.told store.old) (T.told store.new)) (device (S.told input.old) (S.told input.new))
         (device (K.told output.old) (K.told output.new)) (device (E.told notes.old) (E.told notes.new)) in
@@ -55,7 +56,7 @@ pub fn run_words<S: Source, K: Sink, E: Sink, T: Store>(
         → IsOneOf result (Status.Usage ∷ Status.StoreFault ∷ Status.GraphRefused ∷ Status.WriteFault ∷ Status.OutOfMemory ∷ []) }
 {
     match command_of(words) {
-        Some((verb, file)) => serve(alloc, verb, file, store, input, output, notes),
+        Some((verb, files)) => serve(alloc, verb, files, store, input, output, notes),
         None => {
             let _ = put_all(notes, USAGE);
             Status::Usage
@@ -63,34 +64,31 @@ pub fn run_words<S: Source, K: Sink, E: Sink, T: Store>(
     }
 }
 
-// Loads the file, and does what the verb has to do with it.
+// Loads all files, and does what the verb has to do with them.
 fn serve<S: Source, K: Sink, E: Sink, T: Store>(
     alloc: Global,
     verb: Verb,
-    file: &str,
+    files: &[MgText],
     store: &mut T,
     input: &mut S,
     output: &mut K,
     notes: &mut E,
 ) -> Status
-    ensures called { Called result (command verb file.now) (devices
+    ensures called { Called result (command verb files.now) (devices
         (device (T.told store.old) (T.told store.new)) (device (S.told input.old) (S.told input.new))
         (device (K.told output.old) (K.told output.new)) (device (E.told notes.old) (E.told notes.new))) }
     ensures unread { verb ≡ Verb.Expand → Untouched (device (S.told input.old) (S.told input.new)) }
 {
-    match store.load(alloc, file) {
-        Loaded::Bytes(content) => match job_of(alloc, verb, file, &content) {
+    match load_all(alloc, store, files) {
+        Ok(contents) => match job_of(alloc, verb, files, contents) {
             Ok(job) => do_job(alloc, job, input, output, notes),
             Err(_) => Status::OutOfMemory,
         },
-        Loaded::Failed => {
-            let Ok(note) = store_note(alloc, file) else {
-                return Status::OutOfMemory;
-            };
+        Err(Fault::Noted(note)) => {
             let _ = put_all(notes, &note);
             Status::StoreFault
         }
-        Loaded::OutOfMemory => Status::OutOfMemory,
+        Err(Fault::OutOfMemory) => Status::OutOfMemory,
     }
 }
 

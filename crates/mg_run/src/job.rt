@@ -1,28 +1,27 @@
-//! What a command has to do with the content of a graph file.
-ghost use Rattle.std.specs.Prelude.{◌≡◌, ◌≤◌, ℕ, List, IfOk, Some};
-ghost use Rattle.mg_text.specs.Tree.{depth};
-ghost use Rattle.mg_text.specs.View.{view};
-ghost use Rattle.mg_text.specs.Answer.{max_depth};
-ghost use Rattle.mg_text.specs.Canonical.{AreSpelled};
+//! What a command has to do with the contents of its files.
+ghost use Rattle.std.specs.Prelude.{◌≡◌, ℕ, List, IfOk, Some, length, map, All};
 ghost use Rattle.mg_config.specs.Config.{graph_view};
 ghost use Rattle.mg_config.specs.Sound.{IsSound, IsPrintable};
-ghost use Rattle.mg_run.specs.Command.{command};
-ghost use Rattle.mg_run.specs.File.{IsText};
+ghost use Rattle.mg_run.specs.Command.{Command, command};
 ghost use Rattle.mg_run.specs.Answer as answers;
 ghost use Rattle.mg_run.specs.Code.Job.{job_view};
+ghost use Rattle.mg_run.specs.Code.Reads.{contents_of, AreNotedOf};
 ghost use Rattle.mg_run.specs.Call.{IsJob};
 
-use crate::note::{config_note, text_note};
+use crate::fault::Fault;
+use crate::files::graphs_of;
+use crate::note::expand_note;
 use crate::words::Verb;
-use mg_config::{GraphConfig, read, write};
-use mg_text::{Tree, parse, print};
+use mg_config::{GraphConfig, write};
+use mg_subgraph::expand;
+use mg_text::print;
 use mg_value::{BlockList, MgText};
 use std::alloc::{AllocError, Global};
 
 /// What there is to do.
 #[derive(Debug, Drop)]
 pub enum Job {
-    /// The file is refused, with this note.
+    /// A file or the expansion is refused, with this note.
     Refuse(Vec<u8>),
     /// This text is written.
     Show(Vec<u8>),
@@ -33,28 +32,47 @@ pub enum Job {
 /// The note for a graph that isn't run so far.
 const NOT_YET: &[u8] = b"refused: NotYet\n";
 
-/// Reads the content of a file, and finds what the verb has to do with it.
-pub fn job_of(alloc: Global, verb: Verb, file: &str, content: &[u8]) -> Result<Job, AllocError>
-    ensures { IfOk result (λ job. IsJob (command verb file.now) content.now (job_view job)) }
+/// Reads the contents of the files of these names, and finds what the verb has to do with them.
+pub fn job_of(
+    alloc: Global,
+    verb: Verb,
+    names: &[MgText],
+    contents: Vec<Vec<u8>>,
+) -> Result<Job, AllocError>
+    requires each { length contents.items ≡ length names.now }
+    ensures { IfOk result (λ job. IsJob (command verb names.now) (contents_of contents.items) (job_view job)) }
 {
-    match parse(alloc, content) {
-        Ok(tree) => tree_job(alloc, verb, file, tree),
-        Err(fault) => Ok(Job::Refuse(text_note(alloc, file, &fault)?)),
+    match graphs_of(alloc, names, &contents) {
+        Ok(graphs) => {
+            drop(contents);
+            graphs_job(alloc, verb, &graphs)
+        }
+        Err(fault) => refused(fault),
     }
 }
 
-// Each thing is let go once the next is made of it: a tree, its configuration, the tree that is written.
-fn tree_job(alloc: Global, verb: Verb, file: &str, tree: Tree) -> Result<Job, AllocError>
-    requires spelled { AreSpelled (view tree) }
-    requires shallow { depth (view tree) ≤ max_depth }
-    ensures { IfOk result (λ job. (content : List ℕ) → IsText content (view tree) → IsJob (command verb file.now) content (job_view job)) }
+// A file is refused, with the note that is known.
+fn refused(fault: Fault) -> Result<Job, AllocError>
+    ensures { IfOk result (λ job. (command : Command) (contents : List (List ℕ)) → AreNotedOf fault command.files contents → IsJob command contents (job_view job)) }
 {
-    match read(alloc, &tree) {
-        Ok(graph) => {
-            drop(tree);
-            graph_job(alloc, verb, graph)
-        }
-        Err(fault) => Ok(Job::Refuse(config_note(alloc, file, &fault)?)),
+    match fault {
+        Fault::Noted(note) => Ok(Job::Refuse(note)),
+        Fault::OutOfMemory => Err(AllocError),
+    }
+}
+
+// The first graph is the main one, and the others are its library.
+fn graphs_job(alloc: Global, verb: Verb, graphs: &[GraphConfig]) -> Result<Job, AllocError>
+    requires sound { All (λ graph. IsSound (graph_view graph)) graphs.now }
+    requires printable { All (λ graph. IsPrintable (graph_view graph)) graphs.now }
+    ensures { IfOk result (λ job. job_view job ≡ answers.graphs_job verb (map graph_view graphs.now)) }
+{
+    let [main, library @ ..] = graphs else {
+        return Ok(Job::Refuse(Vec::new(alloc)));
+    };
+    match expand(alloc, main, library) {
+        Ok(graph) => graph_job(alloc, verb, graph),
+        Err(fault) => Ok(Job::Refuse(expand_note(alloc, &fault)?)),
     }
 }
 

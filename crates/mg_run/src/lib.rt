@@ -3,11 +3,14 @@
 #![tactic(auto)]
 
 mod call;
+mod fault;
 mod feed;
+mod files;
 mod job;
 pub mod laws;
 mod limits;
 mod line_fault;
+mod load;
 mod merge;
 mod note;
 mod pour;

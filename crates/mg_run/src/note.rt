@@ -4,7 +4,8 @@ ghost use Rattle.mg_run.specs.Notes as notes;
 use crate::LineFault;
 use itoa::Buffer;
 use mg_config::ConfigFault;
-use mg_names::NameFault;
+use mg_names::{NameFault, print_port};
+use mg_subgraph::ExpandFault;
 use mg_text::TextFault;
 use mg_value::MgText;
 use std::alloc::{AllocError, Global};
@@ -114,6 +115,66 @@ fn cause_name(cause: NameFault) -> &'static str
         NameFault::Twice => "Twice",
         NameFault::OutOfMemory => "",
     }
+}
+
+/// The note that an expansion is refused. Want of memory isn't noted.
+pub fn expand_note(alloc: Global, fault: &ExpandFault) -> Result<Vec<u8>, AllocError>
+    ensures some { OnOk result (fault.now ≢ ExpandFault.OutOfMemory) }
+    ensures note { IfOk result (λ v. v.items ≡ notes.expand_note fault.now) }
+{
+    let refusal = expand_refusal(alloc, fault)?;
+    let mut note = Vec::from_slice(alloc, b"refused: expand ")?;
+    note.extend_from_slice(&refusal)?;
+    note.extend_from_slice(b"\n")?;
+    Ok(note)
+}
+
+fn expand_refusal(alloc: Global, fault: &ExpandFault) -> Result<Vec<u8>, AllocError>
+    ensures some { OnOk result (fault.now ≢ ExpandFault.OutOfMemory) }
+    ensures text { IfOk result (λ v. v.items ≡ notes.expand_refusal fault.now) }
+{
+    match fault {
+        ExpandFault::TypeTwice { name } => of_path(alloc, b"TypeTwice ", name),
+        ExpandFault::Recursive { name } => of_path(alloc, b"Recursive ", name),
+        ExpandFault::TooManyNodes => Vec::from_slice(alloc, b"TooManyNodes"),
+        ExpandFault::ReservedName { name } => of_path(alloc, b"ReservedName ", name),
+        ExpandFault::PortShared { owner, name } => shared_refusal(alloc, owner, name),
+        ExpandFault::BadField { owner, node, field } => {
+            node_refusal(alloc, b"BadField ", owner, *node, field)
+        }
+        ExpandFault::NoSuchPort { owner, node, port } => {
+            let port = print_port(alloc, port)?;
+            node_refusal(alloc, b"NoSuchPort ", owner, *node, &port)
+        }
+        ExpandFault::OutOfMemory => Err(AllocError),
+    }
+}
+
+fn shared_refusal(alloc: Global, owner: &MgText, name: &MgText) -> Result<Vec<u8>, AllocError>
+    ensures { IfOk result (λ v. v.items ≡ notes.expand_refusal (ExpandFault.PortShared owner.now name.now)) }
+{
+    let mut text = of_path(alloc, b"PortShared ", owner)?;
+    text.extend_from_slice(b" ")?;
+    text.extend_from_slice(name.as_bytes())?;
+    Ok(text)
+}
+
+// A refusal of a node: its owner, its number, and what is wrong there.
+fn node_refusal(
+    alloc: Global,
+    refusal: &[u8],
+    owner: &MgText,
+    node: u32,
+    part: &MgText,
+) -> Result<Vec<u8>, AllocError>
+    ensures { IfOk result (λ v. v.items ≡ refusal.now ++ owner.now ++ codes " " ++ decimal node ++ codes " " ++ part.now) }
+{
+    let mut text = of_path(alloc, refusal, owner)?;
+    let number = at_place(alloc, b" ", node)?;
+    text.extend_from_slice(&number)?;
+    text.extend_from_slice(b" ")?;
+    text.extend_from_slice(part.as_bytes())?;
+    Ok(text)
 }
 
 /// The note that a line isn't good. Lines are counted from 1.

@@ -1,6 +1,7 @@
 ghost use Rattle.std.specs.Prelude.{◌≡◌, option_map};
 ghost use Rattle.mg_run.specs.Command as commands;
 
+use crate::limits::MOST_FILES;
 use mg_value::MgText;
 
 /// The note for words that are no command.
@@ -16,16 +17,19 @@ pub enum Verb {
     Expand,
 }
 
-/// What is done, and the name of the graph's file. The words are `run` or `expand` and one name; no others are a command
-/// so far.
-pub fn command_of(words: &[MgText]) -> Option<(Verb, &str)>
+/// What is done, and the names of the files, that of the main graph first. The words are `run` or `expand`, the main
+/// graph and at most 64 further files; no others are a command so far.
+pub fn command_of(words: &[MgText]) -> Option<(Verb, &[MgText])>
     ensures { option_map (λ c. commands.command c.0 c.1.now) result ≡ commands.command_of words.now }
 {
-    let [word, file] = words else {
+    let [word, files @ ..] = words else {
         return None;
     };
+    if files.is_empty() || files.len() > MOST_FILES {
+        return None;
+    }
     match verb_of(word) {
-        Some(verb) => Some((verb, file.as_str())),
+        Some(verb) => Some((verb, files)),
         None => None,
     }
 }

@@ -1,13 +1,19 @@
-use Rattle.std.proofs.Common.{List, ℕ, subst}
+use Rattle.std.proofs.Common.{◌∙◌, sym}
+use Rattle.mg_subgraph.proofs.Steps.{length-map}
 use Rattle.mg_run.specs.Command.{command}
 use Rattle.mg_run.specs.Code.Job.{job_view}
-use Rattle.mg_run.specs.Call.{IsJob}
-use Rattle.mg_run.proofs.Calling.{called-did, loads-from}
+use Rattle.mg_run.specs.Code.Reads.{contents_of}
+use Rattle.mg_run.proofs.Calling.{called-did}
+use Rattle.mg_run.proofs.Loading.{loaded-count}
 use Rattle.mg_run.proofs.call.serve.Goals as goal
 
-pub returns-in-Ok-clause-called : goal.returns-in-Ok-clause-called
-returns-in-Ok-clause-called g c =
-    called-did (job_view c.in-Ok.job) c.do_job.result _ _
-    (loads-from _ c.in-Bytes.content (λ bytes. IsJob (command c.args.verb c.args.file.now) bytes (job_view c.in-Ok.job)) c.in-Bytes.ensures.bytes
-    (subst (λ (bytes : List ℕ). IsJob (command c.args.verb c.args.file.now) bytes (job_view c.in-Ok.job)) c.deref.ensures.value c.in-Ok.ensures))
-    c.in-Bytes.ensures.fault (c.do_job.ensures.did _)
+pub job_of-requires : goal.job_of-requires
+job_of-requires g c = record {
+  each = sym (length-map (λ v. v.items) c.in-Ok.contents.items)
+      ∙ loaded-count (g.T.Store.told c.args.store.now).content c.args.files.now (contents_of c.in-Ok.contents.items) c.in-Ok.ensures.all.given;
+}
+
+pub returns-in-Ok-job_of-clause-called : goal.returns-in-Ok-job_of-clause-called
+returns-in-Ok-job_of-clause-called g c =
+    called-did (job_view c.in-Ok-job_of.job) c.do_job.result (command c.args.verb c.args.files.now) (contents_of c.in-Ok.contents.items) _
+    c.in-Ok.ensures.all c.in-Ok-job_of.ensures (c.do_job.ensures.did _)

@@ -1,9 +1,37 @@
-use Rattle.std.proofs.Common.{ap}
-use Rattle.mg_run.specs.File.{no_text}
-use Rattle.mg_run.specs.Answer.{refuse}
-use Rattle.mg_run.proofs.Files.{no_text_of, short_unless}
+use Rattle.std.proofs.Common.{◌∙◌, List, ℕ, map, ap, sym, subst}
+use Rattle.std.specs.List.{All}
+use Rattle.std.specs.Global.{Vec}
+use Rattle.std.proofs.lemmas.Result.{IfOk-weaker}
+use Rattle.mg_config.specs.Config.{graph_view}
+use Rattle.mg_config.specs.Sound.{IsSound, IsPrintable}
+use Rattle.mg_config.specs.declared.graph.GraphConfig.{GraphConfig}
+use Rattle.mg_run.specs.Files.{graphs, AreGraphs}
+use Rattle.mg_run.specs.Command.{command}
+use Rattle.mg_run.specs.Answer as answers
+use Rattle.mg_run.specs.Code.Reads.{contents_of, AreNotedOf}
+use Rattle.mg_run.proofs.Together.{all-graphs}
+use Rattle.mg_run.proofs.Texts.{sound_graph, printable_graph}
 use Rattle.mg_run.proofs.job.job_of.Goals as goal
 
-pub returns-in_ok-text_note-in-Err : goal.returns-in_ok-text_note-in-Err
-returns-in_ok-text_note-in-Err c =
-    (no_text c.in-Err.fault, no_text_of c.args.content.now c.in-Err.fault c.in_ok-text_note-in-Err.ensures.some c.in-Err.ensures.fault (short_unless c.args.content.now c.in-Err.fault c.in-Err.ensures.too_long), ap refuse c.in_ok-text_note-in-Err.ensures.note)
+pub graphs_job-requires-clause-sound : goal.graphs_job-requires-clause-sound
+graphs_job-requires-clause-sound c =
+    subst (All {X = GraphConfig} (λ g. IsSound (graph_view g))) (sym c.deref-in-Ok.ensures.value)
+    (all-graphs IsSound sound_graph (contents_of c.deref.result.now) c.in-Ok.graphs.items c.in-Ok.ensures.graphs)
+
+pub graphs_job-requires-clause-printable : goal.graphs_job-requires-clause-printable
+graphs_job-requires-clause-printable c =
+    subst (All {X = GraphConfig} (λ g. IsPrintable (graph_view g))) (sym c.deref-in-Ok.ensures.value)
+    (all-graphs IsPrintable printable_graph (contents_of c.deref.result.now) c.in-Ok.graphs.items c.in-Ok.ensures.graphs)
+
+pub returns-in-Ok : goal.returns-in-Ok
+returns-in-Ok c =
+    let gs = map graph_view c.in-Ok.graphs.items in
+    let are = subst (λ (contents : List (Vec ℕ)). AreGraphs (contents_of contents) gs) c.deref.ensures.value c.in-Ok.ensures.graphs in
+    IfOk-weaker c.graphs_job.result _ _
+    (λ job same. (graphs gs, are, same ∙ ap (λ (configs : List GraphConfig). answers.graphs_job c.args.verb (map graph_view configs)) c.deref-in-Ok.ensures.value)) c.graphs_job.ensures
+
+pub returns-in-Err : goal.returns-in-Err
+returns-in-Err c =
+    IfOk-weaker c.refused.result _ _
+    (λ job due. due (command c.args.verb c.args.names.now) (contents_of c.args.contents.items)
+    (subst (λ (contents : List (Vec ℕ)). AreNotedOf c.in-Err.fault c.args.names.now (contents_of contents)) c.deref.ensures.value c.in-Err.ensures.refused)) c.refused.ensures

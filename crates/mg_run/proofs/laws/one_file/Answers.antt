@@ -1,4 +1,4 @@
-use Rattle.mg_run.proofs.Files.{one_file}
+use Rattle.mg_run.proofs.OneFile.{one_file}
 use Rattle.mg_run.proofs.laws.one_file.Goals as goal
 
 pub returns : goal.returns

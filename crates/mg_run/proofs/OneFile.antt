@@ -1,4 +1,4 @@
--- A content is one file, and what a command has to do with it.
+-- A content is one file.
 use Rattle.std.proofs.Common.{◌≡◌, ◌≢◌, ◌<◌, ◌≤◌, ℕ, List, length, Result, Ok, Err, refl, sym, ap, ◌∙◌, ◌↔◌, ⊎_elim, arith}
 use Rattle.std.proofs.lemmas.Bool.{cases_lt}
 use Rattle.mg_text.specs.declared.tree.Tree.{Tree}
@@ -9,12 +9,7 @@ use Rattle.mg_text.specs.declared.fault.TextFault.TheVariants.{Syntax, TooDeep, 
 use Rattle.mg_text.proofs.Faults.{one_text, one_syntax, one_too_deep, not_both, deep_text}
 use Rattle.mg_config.specs.Config.{GraphView, config_of}
 use Rattle.mg_config.specs.declared.fault.ConfigFault.{ConfigFault}
-use Rattle.mg_run.specs.Command.{command}
 use Rattle.mg_run.specs.File.{File, graph, no_text, no_graph, IsText, IsNoText, IsFile}
-use Rattle.mg_run.specs.Answer.{Job, job_of}
-use Rattle.mg_run.specs.Call.{IsJob}
-use Rattle.mg_run.specs.Code.Job.{MayRead}
-use Rattle.mg_run.specs.declared.words.Verb.TheVariants.{Expand}
 
 abbrev read_as : GraphView → Result GraphView ConfigFault
 read_as g = Ok g
@@ -82,15 +77,3 @@ short_unless content fault due other = ⊎_elim (λ long. absurd (other (same fa
   where
     same : (a b : TextFault) → answered_as a ≡ answered_as b → a ≡ b
     same a b e = cc
-
--- Only a run reads the input.
-expand_or_run : (name : List ℕ) (file : File) → MayRead (job_of (command Expand name) file) → ⊥
-expand_or_run name (graph g) may = may
-expand_or_run name (no_text fault) may = may
-expand_or_run name (no_graph fault) may = may
-
-pub expand_unread : (name content : List ℕ) (job : Job) → IsJob (command Expand name) content job → MayRead job → ⊥
-expand_unread name content job (file, is, same) may = expand_or_run name file (may-as job (job_of (command Expand name) file) same may)
-  where
-    may-as : (a b : Job) → a ≡ b → MayRead a → MayRead b
-    may-as a b e may = rw (sym e) may

@@ -1,0 +1,9 @@
+use Rattle.std.proofs.Common.{refl, subst}
+use Rattle.mg_run.specs.Files.{no_graphs}
+use Rattle.mg_run.specs.Code.Reads.{AreNotedOf}
+use Rattle.mg_run.specs.declared.fault.Fault.{Fault}
+use Rattle.mg_run.proofs.job.refused.Goals as goal
+
+pub returns-in-Noted : goal.returns-in-Noted
+returns-in-Noted c = λ command contents refused.
+    (no_graphs c.in-Noted.note.items, subst (λ (fault : Fault). AreNotedOf fault command.files contents) c.in-Noted.is refused, refl)
