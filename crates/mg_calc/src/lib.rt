@@ -24,6 +24,7 @@ mod shape;
 mod side;
 mod source;
 mod state;
+pub mod state_laws;
 mod try_clone;
 
 pub use calculator::Calculator;

@@ -1,0 +1,175 @@
+-- The states that calculators keep are of their laws' forms.
+use Rattle.std.proofs.Common.{◌≡◌, ℕ, ◌+◌, ◌-◌, ◌^◌, ◌<◌, ◌≤◌, min, ℤ, pos, negsuc, ◌+ℤ◌, Bool, true, false, List, [], ◌∷◌, ◌++◌, map, take, length, replicate, get_or, All, Option, Some, None, Ok, IfOk, option_map, unwrap_or, slice_get, inl, inr, ◌⊎◌, codes, lit≤, refl, ◌∙◌, ap, arith, if◌then◌else◌, nat_le}
+use Rattle.std.specs.List.{zip}
+use Rattle.std.proofs.lemmas.Int.{ints}
+use Rattle.std.proofs.lemmas.Bool.Decides.{nat_tests}
+use Rattle.std.proofs.lemmas.List.{length-take-le, length-map, length-append}
+use Rattle.std.proofs.lemmas.List.Elements.{All-map}
+use Rattle.std.proofs.lemmas.List.FromFn.{length-map-range_with_len}
+use Rattle.std.proofs.lemmas.Grind.{common_steps}
+use Rattle.std.proofs.lemmas.Slice.Zip.{length-zip}
+use Rattle.std.proofs.lemmas.Option.{slice_get_cases}
+use Rattle.mg_time.specs.Time.{raw_of, place_of, one_over_post_stream}
+use Rattle.mg_value.specs.Plain.{Plain, int}
+use Rattle.mg_value.specs.Prefix.{Stamped}
+use Rattle.mg_value.specs.Settled.{selected}
+use Rattle.mg_calc.specs.declared.law.Law.{Law}
+use Rattle.mg_calc.specs.declared.law.Law.TheVariants.{Pass, Gate, Mux, Cloner, Merge, Thin, Sum, Map, Filter, Running, Shift, Count, SideOnce, Constants, Loopback, Tally, Scripted}
+use Rattle.mg_calc.specs.declared.shape.Shape.{Shape}
+use Rattle.mg_calc.specs.declared.port_kind.PortKind.{PortKind}
+use Rattle.mg_calc.specs.declared.emission.Laid.{Laid}
+use Rattle.mg_calc.specs.Answer.{Answer, emission_of}
+use Rattle.mg_calc.specs.Values.{place_at, number_of, total, fits, time_of, is_in_range, stored, kept_in}
+use Rattle.mg_calc.specs.State.{IsStateOf, IsNumber, CountsTo, ArePlaces, state_of, number_in, count_in, next_valid, places_in}
+use Rattle.mg_calc.specs.Kinds.{has_wrong_kind}
+use Rattle.mg_calc.specs.Routing.{is_open, renewed, renewed_places, valid_after, chosen, thinned}
+use Rattle.mg_calc.specs.Own.{mapped, emits_number, emits_at}
+use Rattle.mg_calc.specs.Law.{rule, step}
+use Rattle.mg_value.specs.declared.kind.Kind.TheVariants.{Any}
+use Rattle.mg_calc.specs.Shape.{IsShapeOf, FitsInputs, untagged, tagged}
+
+-- an answer keeps a state that passes, if it keeps one
+abbrev pub Keeps : (List Plain → Type 0) → Answer → Type 0
+Keeps P answer = IfOk answer (λ given. P given.0)
+
+-- an answer by a test, and one by a place
+by_test : (P : List Plain → Type 0) (b : Bool) (one other : Answer) → (b ≡ true → Keeps P one) → Keeps P other → Keeps P (if b then one else other)
+by_test P true one other here there = here refl
+by_test P false one other here there = there
+
+by_place : (P : List Plain → Type 0) {X : Type 0} (place : Option X) (f : X → Answer) (other : Answer) → ((x : X) → Keeps P (f x)) → Keeps P other
+    → Keeps P (unwrap_or (option_map f place) other)
+by_place P None f other here there = there
+by_place P (Some x) f other here there = here x
+
+-- a number that is emitted leaves the state that goes with it
+emits : (P : List Plain → Type 0) (state : List Plain) (t : ℕ) (n : ℤ) → (fits n ≡ true → P state) → Keeps P (emits_number state t n)
+emits P state t n good = by_test P (fits n) _ _ good tt
+
+moves : (P : List Plain → Type 0) (state : List Plain) (at : Option ℕ) (value : Plain) → P state → Keeps P (emits_at state at value)
+moves P state None value good = tt
+moves P state (Some t) value good = good
+
+-- Mux
+picks : (P : List Plain → Type 0) (state : List Plain) (set : List (Option (Stamped Plain))) (o : Option ℕ) → P state → Keeps P (chosen state set o)
+picks P state set None good = tt
+picks P state set (Some i) good = good
+
+-- Cloner: places are renewed one by one
+kept_in-stored : (o : Option Plain) → stored (kept_in (stored o)) ≡ stored o
+kept_in-stored None = refl
+kept_in-stored (Some p) = refl
+
+all_stored : (places : List (Option Plain)) → All (λ p. stored (kept_in p) ≡ p) (map stored places)
+all_stored places = All-map (λ p. stored (kept_in p) ≡ p) stored places (λ k d h. kept_in-stored (get_or places k d))
+
+are_places : (lanes : ℕ) (state : List Plain) → length state ≡ lanes → All (λ p. stored (kept_in p) ≡ p) state → ArePlaces lanes state
+are_places lanes [] long all = tt
+are_places lanes (p ∷ ps) long all = (long, all)
+
+length_places : (lanes : ℕ) (state : List Plain) → length (places_in lanes state) ≡ lanes
+length_places lanes state = length-take-le lanes (map kept_in state ++ replicate lanes None) (grind (arith, common_steps))
+
+length_renewed : (lanes : ℕ) (state : List Plain) (set : List (Option (Stamped Plain))) → lanes ≤ length set
+    → length (map stored (renewed_places lanes state set)) ≡ lanes
+length_renewed lanes state set enough =
+    let front = length-take-le lanes set enough in
+    let back = length_places lanes state in
+    let least : min (length (take lanes set)) (length (places_in lanes state)) ≡ lanes = omega arith in
+    length-map (renewed_places lanes state set) stored ∙ length-map (zip (take lanes set) (places_in lanes state)) renewed
+    ∙ length-zip (take lanes set) (places_in lanes state) ∙ least
+
+length_lanes : (lanes : ℕ) (ps : List PortKind) → ps ≡ untagged lanes Any ++ tagged (codes "TICK") Any → length ps ≡ lanes + 1
+length_lanes lanes ps same =
+    rw (same, length-append (untagged lanes Any) (tagged (codes "TICK") Any)) (ap (λ n. n + 1) (length-map-range_with_len _ 0 lanes))
+
+cloned : (lanes : ℕ) (shape : Shape) (state : List Plain) (set : List (Option (Stamped Plain))) → IsShapeOf (Cloner lanes) shape → FitsInputs shape set
+    → ArePlaces lanes (map stored (renewed_places lanes state set))
+cloned lanes shape state set of_law places =
+    let all = length_lanes lanes shape.inputs of_law.inputs in
+    let enough : lanes ≤ length set = omega arith in
+    are_places lanes _ (length_renewed lanes state set enough) (all_stored (renewed_places lanes state set))
+
+-- Thin: the next valid timestamp is of the range, or OneOverPostStream
+place_is : (z : ℤ) (u : ℕ) → z ≡ raw_of u → place_of z ≡ u
+place_is (pos n) u e = omega (arith, ints)
+place_is (negsuc n) u e = omega (arith, ints)
+
+time_of-raw_of : (u : ℕ) → is_in_range u ≡ true → time_of (raw_of u) ≡ Some u
+time_of-raw_of u inside = rw (place_is (raw_of u) u refl, inside) refl
+
+abbrev IsValid : ℕ → Type 0
+IsValid u = (is_in_range u ≡ true) ⊎ (u ≡ one_over_post_stream)
+
+valid_number : (u : ℕ) → IsValid u → raw_of (unwrap_or (time_of (raw_of u)) one_over_post_stream) ≡ raw_of u
+valid_number u (inl inside) = rw (time_of-raw_of u inside) refl
+valid_number u (inr over) = rw over refl
+
+valid_time : (u : ℕ) (b : Bool) → is_in_range u ≡ b → IsValid (unwrap_or (if b then Some u else None) one_over_post_stream)
+valid_time u true inside = inl inside
+valid_time u false outside = inr refl
+
+valid_next : (period : ℤ) (t : ℕ) (b : Bool)
+    → IsValid (if b then unwrap_or (time_of (raw_of t +ℤ period)) one_over_post_stream else one_over_post_stream)
+valid_next period t true = valid_time (place_of (raw_of t +ℤ period)) _ refl
+valid_next period t false = inr refl
+
+thins : (period : ℤ) (state : List Plain) (t : ℕ) (p : Stamped Plain) → IsStateOf (Thin period) state
+    → Keeps (IsStateOf (Thin period)) (thinned period state t p)
+thins period state t p good =
+    by_test (IsStateOf (Thin period)) (nat_le (next_valid state) t) _ _ (λ _. valid_number (valid_after period t) (valid_next period t (is_in_range t))) good
+
+-- Tally: a count that fits goes on counting
+counts : (state : List Plain) → IsNumber (CountsTo (2 ^ 63 - 1)) state → fits (number_in state +ℤ pos 1) ≡ true
+    → CountsTo (2 ^ 63 - 1) (number_in state +ℤ pos 1)
+counts [] good fit = lit≤ tt
+counts (int (pos n) ∷ []) good fit = grind (arith, nat_tests)
+counts (int (pos n) ∷ p ∷ ps) good fit = absurd good
+counts (int (negsuc n) ∷ []) good fit = absurd good
+counts (int (negsuc n) ∷ p ∷ ps) good fit = absurd good
+counts (p ∷ ps) good fit = absurd good
+
+-- Scripted: a step that is there is counted
+within : {X : Type 0} (xs : List X) (i : ℕ) (x : X) → Some x ≡ slice_get xs i → i < length xs
+within xs i x e = elim (slice_get_cases xs i).1 [ inl found ↦ found.1 | inr past ↦ absurd (cc (e ∙ past.1)) ]
+
+steps_on : (offset : Option ℤ) (first : List Laid) (steps : List (List Laid)) (last : List Laid) (state : List Plain) (o : Option (List Laid))
+    → o ≡ slice_get steps (count_in state) → IsStateOf (Scripted offset first steps last) state
+    → Keeps (IsStateOf (Scripted offset first steps last)) (unwrap_or (option_map (λ emission. Ok (state_of (pos (count_in state + 1)), emission)) o) (Ok (state, [])))
+steps_on offset first steps last state None e good = good
+steps_on offset first steps last state (Some emission) e good = omega (arith, within steps (count_in state) emission e)
+
+-- each law's rule
+follows : (law : Law) (shape : Shape) (state : List Plain) (t : ℕ) (set : List (Option (Stamped Plain))) → IsShapeOf law shape → FitsInputs shape set
+    → IsStateOf law state → Keeps (IsStateOf law) (rule law state t set)
+follows Pass shape state t set of_law places good = good
+follows (Gate a b c) shape state t set of_law places good =
+    by_test (IsStateOf (Gate a b c)) (is_open b c (place_at set a)) (Ok (state, emission_of (take a set))) (Ok (state, [])) (λ _. good) good
+follows (Mux lanes) shape state t set of_law places good =
+    by_place (IsStateOf (Mux lanes)) (place_at set lanes) _ _ (λ p. picks (IsStateOf (Mux lanes)) state set (selected (lanes + 1) p.value) good) good
+follows (Cloner lanes) shape state t set of_law places good = cloned lanes shape state set of_law places
+follows (Merge lanes) shape state t set of_law places good = good
+follows (Thin period) shape state t set of_law places good =
+    by_place (IsStateOf (Thin period)) (place_at set 0) _ _ (λ p. thins period state t p good) good
+follows (Sum lanes) shape state t set of_law places good = emits (IsStateOf (Sum lanes)) state t (total set) (λ _. good)
+follows (Map op operand) shape state t set of_law places good =
+    by_place (IsStateOf (Map op operand)) (place_at set 0) _ _ (λ p. emits (IsStateOf (Map op operand)) state t (mapped op operand (number_of p.value)) (λ _. good)) good
+follows (Filter keep raises) shape state t set of_law places good =
+    by_place (IsStateOf (Filter keep raises)) (place_at set 0) _ _ (λ p. good) good
+follows Running shape state t set of_law places good =
+    by_place (IsStateOf Running) (place_at set 0) _ _
+    (λ p. let sum = number_in state +ℤ number_of p.value in emits (IsStateOf Running) (state_of sum) t sum (λ fit. fit)) good
+follows (Shift offset) shape state t set of_law places good =
+    by_place (IsStateOf (Shift offset)) (place_at set 0) _ _ (λ p. moves (IsStateOf (Shift offset)) state _ p.value good) good
+follows (Count a b c) shape state t set of_law places good = good
+follows (SideOnce at) shape state t set of_law places good = good
+follows Constants shape state t set of_law places good = good
+follows Loopback shape state t set of_law places good = good
+follows Tally shape state t set of_law places good =
+    let count = number_in state +ℤ pos 1 in emits (IsStateOf Tally) (state_of count) t count (counts state good)
+follows (Scripted offset first steps last) shape state t set of_law places good = steps_on offset first steps last state _ refl good
+
+pub stepped : (law : Law) (shape : Shape) (state : List Plain) (t : ℕ) (set : List (Option (Stamped Plain))) → IsShapeOf law shape → FitsInputs shape set
+    → IsStateOf law state → IfOk (step law state t set) (λ given. IsStateOf law given.0)
+stepped law shape state t set of_law places good =
+    by_test (IsStateOf law) (has_wrong_kind law set) _ _ (λ _. tt) (follows law shape state t set of_law places good)
