@@ -39,7 +39,7 @@ pub use kinds::{has_wrong_kind, input_kind};
 pub use law::{Keep, Law, MapOp};
 pub use node_fault::{NodeFault, NodeFaultList, Phase};
 pub use numbers_in::{narrowed, number_of_packet, total};
-pub use own::own_step;
+pub use own::{own_step, stays};
 pub use plan::Plan;
 pub use plan_node::{PlanNode, PlanNodeList};
 pub use plan_stream::{PlanStream, PlanStreamList, Producer};

@@ -43,8 +43,8 @@ pub fn own_step(
     }
 }
 
-// The state stays, and nothing is emitted.
-fn stays(alloc: Global, state: &State) -> Result<(State, Emission), CalcFault>
+/// The state stays, and nothing is emitted.
+pub fn stays(alloc: Global, state: &State) -> Result<(State, Emission), CalcFault>
     ensures { Gives result (Ok (state.now, [])) }
 {
     let kept = state.try_clone(alloc)?;

@@ -1,0 +1,159 @@
+ghost use Rattle.std.specs.Prelude.{◌≡◌, ◌<◌, [], None, IfOk, OnErr, Ok};
+ghost use Rattle.mg_calc.specs.Answer.{Gives, GivesEmission, Answer};
+ghost use Rattle.mg_calc.specs.Law.{opening, step as its_step, call as its_call, finish as closing};
+ghost use Rattle.mg_calc.specs.Shape.{ParametersFit, IsShapeOf, IsOuter, IsSource, calls_of};
+
+use crate::route::route_step;
+use mg_calc::{
+    CalcFault, Emission, GivenList, Law, Shape, State, TryClone, no_emission, own_begin, own_step,
+    source_step,
+};
+use mg_time::Timestamp;
+use mg_value::InputSet;
+use std::alloc::{AllocError, Global};
+use std::marker::Model;
+
+/// A calculator of one of the built-in kinds, with what it keeps. Contracts see what it tells of itself, which is no log.
+#[derive(Drop)]
+pub struct Builtin {
+    law: Law,
+    shape: Shape,
+    state: State,
+}
+
+impl Model for Builtin {
+    ghost use Rattle.std.specs.Prelude.{None};
+    ghost use Rattle.mg_calc.specs.Told.{CalculatorTold};
+    ghost use Rattle.mg_calc.specs.ToldCodes.{told_code};
+    ghost use Rattle.mg_calc.specs.Shape.{ParametersFit, IsShapeOf};
+
+    ghost Value = { CalculatorTold };
+
+    ghost coded = { told_code };
+
+    ghost view = { λ b. record { law = b.law; shape = b.shape; state = b.state; log = None } };
+
+    ghost invariant = { λ b. ParametersFit b.law × IsShapeOf b.law b.shape };
+}
+
+impl Builtin {
+    /// One of a law and a shape, before it is opened.
+    pub fn new(alloc: Global, law: &Law, shape: &Shape) -> Result<Builtin, AllocError>
+        requires ranges { ParametersFit law.now }
+        requires of_law { IsShapeOf law.now shape.now }
+        ensures { IfOk result (λ b. b ≡ record { law = law.now; shape = shape.now; state = []; log = None }) }
+    {
+        Ok(Builtin {
+            law: law.try_clone(alloc)?,
+            shape: shape.try_clone(alloc)?,
+            state: State::empty(),
+        })
+    }
+
+    /// Its law, which never changes.
+    pub fn law(&self) -> &Law
+        ensures law { result.now ≡ self.now.law }
+        ensures ranges { ParametersFit result.now }
+    {
+        &self.law
+    }
+
+    /// Its ports, which never change.
+    pub fn shape(&self) -> &Shape
+        ensures shape { result.now ≡ self.now.shape }
+        ensures of_law { IsShapeOf self.now.law result.now }
+    {
+        &self.shape
+    }
+
+    // What it gives when it is opened.
+    pub(crate) fn opened(
+        &self,
+        alloc: Global,
+        sides: &GivenList,
+    ) -> Result<(State, Emission), CalcFault>
+        ensures { Gives result (opening self.now.law sides.now) }
+    {
+        own_begin(alloc, &self.law, sides)
+    }
+
+    // What it gives at a set.
+    pub(crate) fn shown(
+        &self,
+        alloc: Global,
+        at: Timestamp,
+        set: &InputSet,
+    ) -> Result<(State, Emission), CalcFault>
+        requires { IsOuter self.now.law }
+        ensures { Gives result (its_step self.now.law self.now.state at set.now) }
+    {
+        outer_step(alloc, &self.law, &self.state, at, set)
+    }
+
+    // What it emits at a call, if it is a source.
+    pub(crate) fn called(&self, alloc: Global, number: u64) -> Result<Emission, CalcFault>
+        requires source { IsSource self.now.law }
+        requires number { number < calls_of self.now.law }
+        ensures { GivesEmission result self.now.state (its_call self.now.law self.now.state number) }
+    {
+        source_step(alloc, &self.law, &self.state, number)
+    }
+
+    // What it emits when it is closed.
+    pub(crate) fn closed(&self, alloc: Global) -> Result<Emission, AllocError>
+        ensures emission { IfOk result (λ emission. closing self.now.law self.now.state ≡ Ok (self.now.state, emission)) }
+        ensures untold { self.now.log ≡ None }
+    {
+        match &self.law {
+            Law::Scripted { last, .. } => last.try_clone(alloc),
+            _ => no_emission(alloc),
+        }
+    }
+
+    // Keeps a state.
+    pub(crate) fn keep(&mut self, state: State)
+        ensures { self.new ≡ record { law = self.old.law; shape = self.old.shape; state = state; log = None } }
+    {
+        self.state = state;
+    }
+
+    // Keeps the state of an answer. A fault, and want of memory, change nothing.
+    pub(crate) fn keep_of(
+        &mut self,
+        answer: Result<(State, Emission), CalcFault>,
+    ) -> Result<Emission, CalcFault>
+        ensures answer { (wanted : Answer) → Gives answer wanted → GivesEmission result self.new.state wanted }
+        ensures kept { OnErr result (self.new ≡ self.old) }
+        ensures law { self.new.law ≡ self.old.law }
+        ensures shape { self.new.shape ≡ self.old.shape }
+        ensures untold { self.old.log ≡ None }
+        ensures log { self.new.log ≡ None }
+    {
+        let _ = &self.law;
+        let (state, emission) = answer?;
+        self.keep(state);
+        Ok(emission)
+    }
+}
+
+// What a calculator that is shown sets gives at one.
+fn outer_step(
+    alloc: Global,
+    law: &Law,
+    state: &State,
+    at: Timestamp,
+    set: &InputSet,
+) -> Result<(State, Emission), CalcFault>
+    requires { IsOuter law.now }
+    ensures { Gives result (its_step law.now state.now at set.now) }
+{
+    match law {
+        Law::Pass
+        | Law::Gate { .. }
+        | Law::Mux { .. }
+        | Law::Cloner { .. }
+        | Law::Merge { .. }
+        | Law::Thin { .. } => route_step(alloc, law, state, at, set),
+        _ => own_step(alloc, law, state, at, set),
+    }
+}

@@ -1,0 +1,119 @@
+ghost use Rattle.std.specs.Prelude.{◌≡◌, ◌∷◌, [], IfOk, is_some, take, option_copied};
+ghost use Rattle.std.specs.List.{list_any};
+ghost use Rattle.mg_calc.specs.Answer.{emission_of};
+ghost use Rattle.mg_route.specs.Places.{first_places};
+
+use mg_calc::{Emission, Laid, State, no_emission, one_packet};
+use mg_time::Timestamp;
+use mg_value::{BlockList, InputSet, Packet};
+use std::alloc::{AllocError, Global};
+use std::sync::Arc;
+
+/// What packets are taken from, by number.
+pub trait Places {
+    ghost use Rattle.std.specs.Prelude.{ℕ, Option};
+    ghost use Rattle.mg_value.specs.Plain.{Plain};
+    ghost use Rattle.mg_value.specs.Prefix.{Stamped};
+
+    /// The packet at a number, taken at a time, or none.
+    ghost place: { Self → ℕ → ℕ → Option (Stamped Plain) };
+
+    /// Whether there is one.
+    fn is_full(&self, i: u32) -> bool
+        ensures { (t : ℕ) → result ≡ is_some (place self.now t i) };
+
+    /// A packet that shares its payload.
+    fn packet(&self, at: Timestamp, i: u32) -> Result<Option<Packet>, AllocError>
+        ensures { IfOk result (λ p. p ≡ place self.now at i) };
+}
+
+impl Places for InputSet {
+    ghost use Rattle.mg_calc.specs.Values.{place_at};
+
+    ghost place = { λ set t i. place_at set i };
+
+    fn is_full(&self, i: u32) -> bool {
+        self.get(i).is_some()
+    }
+
+    fn packet(&self, _at: Timestamp, i: u32) -> Result<Option<Packet>, AllocError> {
+        match self.get(i) {
+            Some(packet) => Ok(Some(packet.try_clone()?)),
+            None => Ok(None),
+        }
+    }
+}
+
+impl Places for State {
+    ghost use Rattle.mg_calc.specs.State.{kept_at};
+    ghost use Rattle.mg_calc.specs.Routing.{copy_at};
+
+    ghost place = { λ state t i. copy_at t (kept_at state i) };
+
+    fn is_full(&self, i: u32) -> bool {
+        self.place(i).is_some()
+    }
+
+    fn packet(&self, at: Timestamp, i: u32) -> Result<Option<Packet>, AllocError> {
+        match self.place(i) {
+            Some(payload) => {
+                let payload = Arc::try_clone(payload)?;
+                Ok(Some(Packet { at, payload }))
+            }
+            None => Ok(None),
+        }
+    }
+}
+
+// Whether some of the first places have a packet.
+fn has_packet<P: Places>(from: &P, at: Timestamp, count: u32) -> bool
+    ensures { result ≡ list_any is_some (first_places (P.place from.now at) count) }
+{
+    for i in 0..count {
+        if from.is_full(i) {
+            return true;
+        }
+    }
+    false
+}
+
+/// The packet of each of the first places at the output of its number.
+pub fn placed<P: Places>(
+    alloc: Global,
+    from: &P,
+    at: Timestamp,
+    count: u32,
+) -> Result<Emission, AllocError>
+    ensures { IfOk result (λ emission. emission ≡ emission_of (first_places (P.place from.now at) count)) }
+{
+    if !has_packet(from, at, count) {
+        return no_emission(alloc);
+    }
+    let mut entries = Vec::with_capacity(alloc, count as usize)?;
+    for i in 0..count {
+        let packet = from.packet(at, i)?;
+        entries.push(Laid::new(alloc, packet, None)?)?;
+    }
+    Ok(BlockList::from_vec(entries)?)
+}
+
+/// The packets of the first ports of a set, each at the output of its number.
+pub fn front(
+    alloc: Global,
+    set: &InputSet,
+    lanes: u32,
+) -> Result<Emission, AllocError>
+    ensures { IfOk result (λ emission. emission ≡ emission_of (take lanes set.now)) }
+{
+    placed(alloc, set, Timestamp::MIN, lanes.min(set.len()))
+}
+
+/// The packet, if there is one, at the one output.
+pub fn handed_on(alloc: Global, packet: Option<&Packet>) -> Result<Emission, AllocError>
+    ensures { IfOk result (λ emission. emission ≡ emission_of (option_copied packet.entry ∷ [])) }
+{
+    match packet {
+        Some(packet) => one_packet(alloc, packet.try_clone()?),
+        None => no_emission(alloc),
+    }
+}

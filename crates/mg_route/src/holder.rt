@@ -1,0 +1,152 @@
+ghost use Rattle.std.specs.Prelude.{◌≡◌, ◌<◌, OnErr};
+ghost use Rattle.mg_calc.specs.Answer.{GivesEmission};
+ghost use Rattle.mg_calc.specs.Law.{opening, step, call as its_call, finish as closing};
+ghost use Rattle.mg_calc.specs.Shape.{ParametersFit, IsShapeOf, IsOuter, IsSource, calls_of, FitsInputs};
+ghost use Rattle.mg_calc.specs.Told.{CalculatorTold, Logs};
+
+use crate::Builtin;
+use mg_calc::{CalcFault, Calculator, Call, Emission, GivenList, Law, Shape};
+use mg_time::Timestamp;
+use mg_value::InputSet;
+use std::alloc::Global;
+use std::marker::Model;
+
+/// The calculator of a node: a built-in one, or one that was handed in. Contracts see what it tells of itself.
+///
+/// Each call answers what the table of laws has for the law and the state that is kept, and keeps the new state. A call that
+/// finds no memory changes nothing, and may be made again.
+#[derive(Drop)]
+pub struct Holder<C: Calculator> {
+    held: Held<C>,
+}
+
+#[derive(Drop)]
+enum Held<C> {
+    Own(Builtin),
+    Outer(C),
+}
+
+impl<C: Calculator> Model for Holder<C> {
+    ghost use Rattle.mg_calc.specs.Told.{CalculatorTold};
+    ghost use Rattle.mg_calc.specs.ToldCodes.{told_code};
+    ghost use Rattle.mg_route.specs.Held.{held_told};
+
+    ghost Value = { CalculatorTold };
+
+    ghost coded = { told_code };
+
+    ghost view = { λ h. held_told C.told h.held };
+}
+
+impl<C: Calculator> Holder<C> {
+    /// The holder of a built-in calculator.
+    pub fn own(builtin: Builtin) -> Holder<C>
+        ensures { result ≡ builtin }
+    {
+        Holder {
+            held: Held::Own(builtin),
+        }
+    }
+
+    /// The holder of a calculator that was handed in.
+    pub fn outer(calculator: C) -> Holder<C>
+        ensures { result ≡ C.told calculator }
+    {
+        Holder {
+            held: Held::Outer(calculator),
+        }
+    }
+
+    /// Its law, which never changes.
+    pub fn law(&self) -> &Law
+        ensures law { result.now ≡ self.now.law }
+        ensures ranges { ParametersFit result.now }
+    {
+        match &self.held {
+            Held::Own(builtin) => builtin.law(),
+            Held::Outer(calculator) => calculator.law(),
+        }
+    }
+
+    /// Its ports, which never change.
+    pub fn shape(&self) -> &Shape
+        ensures shape { result.now ≡ self.now.shape }
+        ensures of_law { IsShapeOf self.now.law result.now }
+    {
+        match &self.held {
+            Held::Own(builtin) => builtin.shape(),
+            Held::Outer(calculator) => calculator.shape(),
+        }
+    }
+
+    /// Opens it, before all sets, with its side packets.
+    pub fn begin(&mut self, alloc: Global, sides: &GivenList) -> Result<Emission, CalcFault>
+        ensures answer { GivesEmission result self.new.state (opening self.old.law sides.now) }
+        ensures kept { OnErr result (self.new.state ≡ self.old.state) }
+        ensures log { Logs result self.old.log self.new.log Call.Begun }
+        ensures law { self.new.law ≡ self.old.law }
+        ensures shape { self.new.shape ≡ self.old.shape }
+    {
+        match &mut self.held {
+            Held::Own(builtin) => {
+                let answer = builtin.opened(alloc, sides);
+                builtin.keep_of(answer)
+            }
+            Held::Outer(calculator) => calculator.begin(alloc, sides),
+        }
+    }
+
+    /// Shows it the set at a time.
+    pub fn process(
+        &mut self,
+        alloc: Global,
+        at: Timestamp,
+        set: &InputSet,
+    ) -> Result<Emission, CalcFault>
+        requires shown { IsOuter self.old.law }
+        requires places { FitsInputs self.old.shape set.now }
+        ensures answer { GivesEmission result self.new.state (step self.old.law self.old.state at set.now) }
+        ensures kept { OnErr result (self.new.state ≡ self.old.state) }
+        ensures log { Logs result self.old.log self.new.log (Call.Shown at set.now) }
+        ensures law { self.new.law ≡ self.old.law }
+        ensures shape { self.new.shape ≡ self.old.shape }
+    {
+        match &mut self.held {
+            Held::Own(builtin) => {
+                let answer = builtin.shown(alloc, at, set);
+                builtin.keep_of(answer)
+            }
+            Held::Outer(calculator) => calculator.process(alloc, at, set),
+        }
+    }
+
+    /// Calls a source by a number, from 0 on. Nothing of it changes.
+    pub fn call(&mut self, alloc: Global, number: u64) -> Result<Emission, CalcFault>
+        requires source { IsSource self.old.law }
+        requires number { number < calls_of self.old.law }
+        ensures answer { GivesEmission result self.new.state (its_call self.old.law self.old.state number) }
+        ensures kept { self.new ≡ self.old }
+    {
+        match &self.held {
+            Held::Own(builtin) => builtin.called(alloc, number),
+            Held::Outer(calculator) => {
+                let _law = calculator.law();
+                unreachable!()
+            }
+        }
+    }
+
+    /// Closes it, after all sets.
+    pub fn finish(&mut self, alloc: Global) -> Result<Emission, CalcFault>
+        ensures answer { GivesEmission result self.new.state (closing self.old.law self.old.state) }
+        ensures kept { OnErr result (self.new.state ≡ self.old.state) }
+        ensures log { Logs result self.old.log self.new.log Call.Finished }
+        ensures law { self.new.law ≡ self.old.law }
+        ensures shape { self.new.shape ≡ self.old.shape }
+    {
+        match &mut self.held {
+            Held::Own(builtin) => Ok(builtin.closed(alloc)?),
+            Held::Outer(calculator) => calculator.finish(alloc),
+        }
+    }
+}

@@ -1,0 +1,17 @@
+//! The calculators that hand packets on, and what holds a calculator of any kind.
+//! Answers to the definitions of `specs/Law.antt`, `specs/Routing.antt` and `specs/Told.antt` of mg_calc.
+#![tactic(auto)]
+
+mod builtin;
+mod cloner;
+mod emissions;
+mod holder;
+mod law_box;
+mod log;
+mod route;
+mod thin;
+
+pub use builtin::Builtin;
+pub use holder::Holder;
+pub use law_box::LawBox;
+pub use route::route_step;
