@@ -10,9 +10,9 @@ use Rattle.mg_time.specs.Time.{done}
 use Rattle.mg_value.specs.Payload.{Plain}
 use Rattle.mg_value.specs.Prefix.{StreamPrefix, IsPrefix}
 use Rattle.mg_value.specs.Left.{set_times}
-use Rattle.mg_value.proofs.Times.{Rises}
-use Rattle.mg_value.proofs.SettledTimes.{Rises-increasing}
-use Rattle.mg_value.proofs.PolicySets.{times-rise, below-bounds}
+use Rattle.mg_value.proofs.Lemmas.{Rises}
+use Rattle.mg_value.proofs.Lemmas.{Rises-increasing}
+use Rattle.mg_value.proofs.Lemmas.{times-rise, below-bounds}
 use Rattle.mg_value.specs.Settled.{TimedSet, settled_sets, reach, IsBelowBounds}
 use Rattle.mg_value.specs.declared.policy.Policy.{Policy}
 use Rattle.mg_calc.specs.declared.cause.Cause.{Cause}
@@ -104,19 +104,22 @@ all_of_first P (suc n) (x ∷ xs) a = (a.0, all_of_first P n xs a.1)
 none_stalled_from : (k : ℕ) (streams : List (StreamPrefix Plain)) → AllByRecursion (λ s. s.bound ≡ done) streams → map (λ entry. entry.0) (filter (λ entry. not (entry.1.bound == done)) (enumerate_from k streams)) ≡ []
 none_stalled_from k [] a = refl
 none_stalled_from k (s ∷ streams) a = elim (eqb_tells s.bound done) [
-      inl (test, e) ↦ rw test (none_stalled_from (k + 1) streams a.1)
-    | inr (test, other) ↦ absurd (other a.0) ]
+  | inl (test, e) ↦ rw test (none_stalled_from (k + 1) streams a.1)
+  | inr (test, other) ↦ absurd (other a.0)
+]
 
 all_ended_from : (k : ℕ) (streams : List (StreamPrefix Plain)) → map (λ entry. entry.0) (filter (λ entry. not (entry.1.bound == done)) (enumerate_from k streams)) ≡ [] → AllByRecursion (λ s. s.bound ≡ done) streams
 all_ended_from k [] e = tt
 all_ended_from k (s ∷ streams) e = elim (eqb_tells s.bound done) [
-      inl (test, same) ↦ (same, all_ended_from (k + 1) streams (rw test at e))
-    | inr (test, other) ↦ absurd (let h = rw test at e in cc) ]
+  | inl (test, same) ↦ (same, all_ended_from (k + 1) streams (rw test at e))
+  | inr (test, other) ↦ absurd (let h = rw test at e in cc)
+]
 
 pub none_stalled : (streams : List (StreamPrefix Plain)) → (stalled streams ≡ []) ↔ All (λ s. s.bound ≡ done) streams
-none_stalled streams =
-    ((λ e. All-from_recursion (λ (s : StreamPrefix Plain). s.bound ≡ done) streams (all_ended_from 0 streams e)),
-    (λ a. none_stalled_from 0 streams (recursion_from_All (λ (s : StreamPrefix Plain). s.bound ≡ done) streams a)))
+none_stalled streams = (
+  (λ e. All-from_recursion (λ (s : StreamPrefix Plain). s.bound ≡ done) streams (all_ended_from 0 streams e)),
+  (λ a. none_stalled_from 0 streams (recursion_from_All (λ (s : StreamPrefix Plain). s.bound ≡ done) streams a)),
+)
 
 -- no fault is told exactly where no node failed
 cons_nothing : {X : Type 0} (o : Option X) (xs : List X) → cons_option o xs ≡ [] → (o ≡ None) × (xs ≡ [])
@@ -138,9 +141,10 @@ none_failed_from job streams k (node ∷ nodes) e =
     (map_nothing (λ failure. (let it : NodeFault = record { node = k; phase = failure.phase; cause = failure.cause } in it)) (outcome_of job streams node).fault both.0, none_failed_from job streams (k + 1) nodes both.1)
 
 pub none_failed : (job : Job) (streams : List (StreamPrefix Plain)) → (faults job streams ≡ []) ↔ All (λ node. (outcome_of job streams node).fault ≡ None) job.plan.nodes
-none_failed job streams =
-    ((λ e. All-from_recursion (λ (node : PlanNode). (outcome_of job streams node).fault ≡ None) job.plan.nodes (none_failed_from job streams 0 job.plan.nodes e)),
-    (λ a. no_faults_from job streams 0 job.plan.nodes (recursion_from_All (λ (node : PlanNode). (outcome_of job streams node).fault ≡ None) job.plan.nodes a)))
+none_failed job streams = (
+  (λ e. All-from_recursion (λ (node : PlanNode). (outcome_of job streams node).fault ≡ None) job.plan.nodes (none_failed_from job streams 0 job.plan.nodes e)),
+  (λ a. no_faults_from job streams 0 job.plan.nodes (recursion_from_All (λ (node : PlanNode). (outcome_of job streams node).fault ≡ None) job.plan.nodes a)),
+)
 
 -- a count is below the weight
 sum_most : (f : PlanNode → ℕ) (nodes : List PlanNode) → AllByRecursion (λ node. f node ≤ sum_by f nodes) nodes

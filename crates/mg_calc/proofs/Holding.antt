@@ -6,7 +6,7 @@ use Rattle.std.proofs.lemmas.Bool.Decides.{eqb_tells}
 use Rattle.mg_value.specs.Payload.{Plain}
 use Rattle.mg_value.specs.Prefix.{StreamPrefix, IsPrefix, empty_prefix}
 use Rattle.mg_value.specs.Extension.{IsExtendedBy, AreExtendedBy}
-use Rattle.mg_value.proofs.Extending.{all_by_themselves, all_further}
+use Rattle.mg_value.proofs.Lemmas.{all_by_themselves, all_further}
 use Rattle.mg_calc.specs.declared.law.Law.{Law}
 use Rattle.mg_calc.specs.declared.law.Law.TheVariants.{Count, SideOnce, Constants, Loopback}
 use Rattle.mg_calc.specs.declared.plan_node.PlanNode.{PlanNode}
@@ -82,15 +82,17 @@ parts_keep_from f from (n ∷ nodes) all =
 
 pub gives_all_from : (f : ℕ → PlanNode → List (StreamPrefix Plain)) (from : ℕ) (nodes : List PlanNode) → OfNodes nodes (λ k node. length (f (from + k) node) ≡ length node.outputs) → GivesAll f from nodes
 gives_all_from f from [] all = tt
-gives_all_from f from (n ∷ nodes) all =
-    (of_first nodes n from (λ k node. length (f k node) ≡ length node.outputs) all,
-    gives_all_from f (from + 1) nodes (of_rest nodes n from (λ k node. length (f k node) ≡ length node.outputs) all))
+gives_all_from f from (n ∷ nodes) all = (
+  of_first nodes n from (λ k node. length (f k node) ≡ length node.outputs) all,
+  gives_all_from f (from + 1) nodes (of_rest nodes n from (λ k node. length (f k node) ≡ length node.outputs) all),
+)
 
 pub give_same_from : (K : Producer → Type 0) (f g : ℕ → PlanNode → List (StreamPrefix Plain)) (from : ℕ) (nodes : List PlanNode) → OfNodes nodes (λ k node. (port : ℕ) → K (Node (from + k) port) → f (from + k) node ≡ g (from + k) node) → GiveSame K f g from nodes
 give_same_from K f g from [] all = tt
-give_same_from K f g from (n ∷ nodes) all =
-    (of_first nodes n from (λ k node. (port : ℕ) → K (Node k port) → f k node ≡ g k node) all,
-    give_same_from K f g (from + 1) nodes (of_rest nodes n from (λ k node. (port : ℕ) → K (Node k port) → f k node ≡ g k node) all))
+give_same_from K f g from (n ∷ nodes) all = (
+  of_first nodes n from (λ k node. (port : ℕ) → K (Node k port) → f k node ≡ g k node) all,
+  give_same_from K f g (from + 1) nodes (of_rest nodes n from (λ k node. (port : ℕ) → K (Node k port) → f k node ≡ g k node) all),
+)
 
 -- what is known of each node
 pub node_times : (Good : Law → List Plain → Type 0) (job : Job) → IsKnown Good job → OfNodes job.plan.nodes (λ k node. KeepsTimes node.law (Good node.law))
@@ -173,15 +175,17 @@ pub with_held_same : (job : Job) (held : Held) (j : ℕ) (node : PlanNode) (outs
 with_held_same job held j node outs xs at is =
     ap (λ rest. job.inputs.streams ++ rest)
     (parts_same (given job (with_held held j outs) xs) (given job held xs) job.plan.nodes (λ k n e. elim (eqb_tells k j) [
-      inl (test, same) ↦ (let m : n ≡ node = one_node job.plan.nodes k j n node e at same in
-        rw test (sym is ∙ (ap (λ i. given job held xs i node) (sym same) ∙ ap (λ i. given job held xs k i) (sym m))))
-    | inr (test, other) ↦ rw test refl ]))
+      | inl (test, same) ↦ (let m : n ≡ node = one_node job.plan.nodes k j n node e at same in
+          rw test (sym is ∙ (ap (λ i. given job held xs i node) (sym same) ∙ ap (λ i. given job held xs k i) (sym m))))
+      | inr (test, other) ↦ rw test refl
+    ]))
 
 pub with_held_fits : (job : Job) (held : Held) (j : ℕ) (node : PlanNode) (outs : List (StreamPrefix Plain)) → slice_get job.plan.nodes j ≡ Some node → HeldFits job held
     → length outs ≡ length node.outputs → AllByRecursion IsPrefix outs → HeldFits job (with_held held j outs)
 with_held_fits job held j node outs at fits long keeps k n e = elim (eqb_tells k j) [
-      inl (test, same) ↦ (let m : n ≡ node = one_node job.plan.nodes k j n node e at same in rw test (long ∙ ap (λ i. length i.outputs) (sym m), keeps))
-    | inr (test, other) ↦ rw test (fits k n e) ]
+  | inl (test, same) ↦ (let m : n ≡ node = one_node job.plan.nodes k j n node e at same in rw test (long ∙ ap (λ i. length i.outputs) (sym m), keeps))
+  | inr (test, other) ↦ rw test (fits k n e)
+]
 
 pub with_held_holds : (held : Held) (j : ℕ) (outs : List (StreamPrefix Plain)) → IsHeld (with_held held j outs) j
 with_held_holds held j outs = elim (eqb_tells j j) [ inl (test, same) ↦ rw test refl | inr (test, other) ↦ absurd (other refl) ]

@@ -32,9 +32,10 @@ agree_inputs : (K : Producer → Type 0) (from : ℕ) (xs ys : List (StreamPrefi
 agree_inputs K from [] [] l same = tt
 agree_inputs K from [] (y ∷ ys) l same = absurd (omega (arith, l))
 agree_inputs K from (x ∷ xs) [] l same = absurd (omega (arith, l))
-agree_inputs K from (x ∷ xs) (y ∷ ys) l same =
-    ((λ k. same 0 (subst (λ (i : ℕ). K (Input i)) (let e : from ≡ from + 0 = omega arith in e) k)),
-    agree_inputs K (from + 1) xs ys (omega (arith, l)) (λ i k. same (suc i) (subst (λ (n : ℕ). K (Input n)) (let e : from + 1 + i ≡ from + suc i = omega arith in e) k)))
+agree_inputs K from (x ∷ xs) (y ∷ ys) l same = (
+  (λ k. same 0 (subst (λ (i : ℕ). K (Input i)) (let e : from ≡ from + 0 = omega arith in e) k)),
+  agree_inputs K (from + 1) xs ys (omega (arith, l)) (λ i k. same (suc i) (subst (λ (n : ℕ). K (Input n)) (let e : from + 1 + i ≡ from + suc i = omega arith in e) k)),
+)
 
 -- what a safe node reads is safe
 producer_at : (plan : Plan) (stream : ℕ) → IsValid plan → stream < length plan.streams → (p : Producer) × (producer_of plan stream ≡ Some p) × (slice_get (producers plan) stream ≡ Some p)

@@ -8,7 +8,7 @@ use Rattle.std.proofs.lemmas.List.Elements.{All-from_recursion, recursion_from_A
 use Rattle.mg_value.specs.Payload.{Plain}
 use Rattle.mg_value.specs.Prefix.{StreamPrefix, IsPrefix, empty_prefix}
 use Rattle.mg_value.specs.Extension.{IsExtendedBy, AreExtendedBy}
-use Rattle.mg_value.proofs.Extending.{all_by_themselves, all_further}
+use Rattle.mg_value.proofs.Lemmas.{all_by_themselves, all_further}
 use Rattle.mg_calc.specs.declared.inputs.Inputs.{Inputs}
 use Rattle.mg_calc.specs.declared.law.Law.{Law}
 use Rattle.mg_calc.specs.declared.law.Law.TheVariants.{Count, SideOnce, Constants, Loopback}
@@ -50,8 +50,8 @@ job_known job is = record {
   loops = loops_of_nodes job.plan.nodes (recursion_from_All HasNumbers job.plan.nodes is.plan.ports) (recursion_from_All (λ (node : PlanNode). IsShapeOf node.law node.shape) job.plan.nodes is.plan.shapes);
   inputs = recursion_from_All IsPrefix job.inputs.streams is.inputs.prefixes;
   streams = sym (length-range_with_len 0 (length job.plan.streams)) ∙ (ap length (sym is.plan.streams)
-    ∙ (length-append job.plan.inputs (flat_map (λ node. node.outputs) job.plan.nodes)
-    ∙ ap₂ (λ a b. a + b) (sym is.inputs.streams) (length-flat_map (λ node. node.outputs) job.plan.nodes)));
+      ∙ (length-append job.plan.inputs (flat_map (λ node. node.outputs) job.plan.nodes)
+      ∙ ap₂ (λ a b. a + b) (sym is.inputs.streams) (length-flat_map (λ node. node.outputs) job.plan.nodes)));
 }
 
 -- a node's outcome depends on the side packets alone of what else is handed in

@@ -168,8 +168,11 @@ given_times answer given times e = subst Times e times
 pub law_keeps_times : (law : Law) → ParametersFit law → KeepsTimes law (λ state. Unit {0})
 law_keeps_times law fit = record {
   opens = (λ sides given e. (tt, given_times (opening law sides) given (opening_times law sides fit) e));
-  steps = (λ state set given good le e. (tt, given_times (step law state set.at set.set) given
-    (if_times (has_wrong_kind law set.set) (Err WrongKind) (rule law state set.at set.set) tt (rule_times law state set.at set.set fit)) e));
+  steps = (λ state set given good le e. (
+    tt,
+    given_times (step law state set.at set.set) given
+        (if_times (has_wrong_kind law set.set) (Err WrongKind) (rule law state set.at set.set) tt (rule_times law state set.at set.set fit)) e,
+  ));
   calls = (λ state number given good e. (tt, given_times (call law state number) given (call_times law state number) e));
   finishes = (λ state given good e. given_times (finish law state) given (finish_times law state fit) e);
 }

@@ -10,7 +10,7 @@ use Rattle.mg_value.specs.Prefix.{StreamPrefix, IsPrefix, empty_prefix}
 use Rattle.mg_value.specs.Settled.{TimedSet, settled_sets, reach}
 use Rattle.mg_value.specs.Extension.{AreExtendedBy}
 use Rattle.mg_value.specs.declared.policy.Policy.{Policy}
-use Rattle.mg_value.proofs.PolicySets.{sets-stay, sets-further, sets-end, reach-rises, reach-most, below-reach}
+use Rattle.mg_value.proofs.Lemmas.{sets-stay, sets-further, sets-end, reach-rises, reach-most, below-reach}
 use Rattle.mg_calc.specs.declared.law.Law.{Law}
 use Rattle.mg_calc.specs.Outcome.{Outcome, opened, shown, shown_all, ended, node_outcome}
 use Rattle.mg_calc.proofs.Outcomes.{KeepsTimes, IsKept, Further, opened_keeps, sets_keep, end_keeps, end_grows, node_outputs}
@@ -37,7 +37,7 @@ further_sets policy ss tt h e = record {
   within = reach-most policy tt h;
   above = recursion_from_All (λ (set : TimedSet Plain). reach policy ss ≤ set.at) (drop (length (settled_sets policy ss)) (settled_sets policy tt)) (sets-further policy ss tt h e);
   none = (λ end. let same = sets-end policy ss tt h e end in
-    ap (λ sets. drop (length (settled_sets policy ss)) sets) same ∙ drop-length (settled_sets policy ss));
+      ap (λ sets. drop (length (settled_sets policy ss)) sets) same ∙ drop-length (settled_sets policy ss));
 }
 
 more_sets : (policy : Policy) (ss tt : List (StreamPrefix Plain)) → AreExtendedBy ss tt → settled_sets policy tt ≡ settled_sets policy ss ++ drop (length (settled_sets policy ss)) (settled_sets policy tt)

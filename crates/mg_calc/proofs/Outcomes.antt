@@ -7,8 +7,8 @@ use Rattle.mg_value.specs.Payload.{Plain}
 use Rattle.mg_value.specs.Prefix.{Stamped, StreamPrefix, IsPrefix, empty_prefix, closed}
 use Rattle.mg_value.specs.Settled.{TimedSet}
 use Rattle.mg_value.specs.Extension.{AreExtendedBy}
-use Rattle.mg_value.proofs.Extending.{all_by_themselves, all_further}
-use Rattle.mg_value.proofs.PrefixSteps.{empty_is_prefix}
+use Rattle.mg_value.proofs.Lemmas.{all_by_themselves, all_further}
+use Rattle.mg_value.proofs.Lemmas.{empty_is_prefix}
 use Rattle.mg_calc.specs.declared.cause.Cause.{Cause}
 use Rattle.mg_calc.specs.declared.emission.Laid.{Laid}
 use Rattle.mg_calc.specs.declared.law.Law.{Law}
@@ -166,9 +166,10 @@ reach_extends law Good offset reached outcome times le k h =
     let kept = raise_keeps offset reached outcome.outputs le k.prefixes in
     if_extends (reached == done) before.outputs (finished law offset before) before
     (close_answer_extends before (after (finish law outcome.state) (λ given. laid_behind offset Close before.outputs given.1))
-    (λ outputs e. (let closed = after_good (finish law outcome.state) (λ given. laid_behind offset Close before.outputs given.1) outputs e in
-      (emission_extends offset Close before.outputs outputs closed.0.1 closed.2,
-      emission_keeps offset Close before.outputs outputs closed.0.1 closed.2 (times.finishes outcome.state closed.0 (k.good h) closed.1) kept))))
+    (λ outputs e. (let closed = after_good (finish law outcome.state) (λ given. laid_behind offset Close before.outputs given.1) outputs e in (
+      emission_extends offset Close before.outputs outputs closed.0.1 closed.2,
+      emission_keeps offset Close before.outputs outputs closed.0.1 closed.2 (times.finishes outcome.state closed.0 (k.good h) closed.1) kept,
+    ))))
     (all_by_themselves before.outputs)
 
 reach_keeps : (law : Law) (Good : List Plain → Type 0) (offset : Option ℤ) (reached : ℕ) (outcome : Outcome) → KeepsTimes law Good → reached ≤ done → IsKept Good outcome → outcome.fault ≡ None
@@ -179,7 +180,7 @@ reach_keeps law Good offset reached outcome times le k h =
     if_keeps (reached == done) (finished law offset before) before
     (close_answer_keeps before (after (finish law outcome.state) (λ given. laid_behind offset Close before.outputs given.1)) kept
     (λ outputs e. (let closed = after_good (finish law outcome.state) (λ given. laid_behind offset Close before.outputs given.1) outputs e in
-      emission_keeps offset Close before.outputs outputs closed.0.1 closed.2 (times.finishes outcome.state closed.0 (k.good h) closed.1) kept)))
+    emission_keeps offset Close before.outputs outputs closed.0.1 closed.2 (times.finishes outcome.state closed.0 (k.good h) closed.1) kept)))
     kept
 
 fault_cases : (fault : Option Failure) → (fault ≡ None) ⊎ ((failure : Failure) × (fault ≡ Some failure))
@@ -190,16 +191,18 @@ pub end_keeps : (law : Law) (Good : List Plain → Type 0) (offset : Option ℤ)
     → AllByRecursion IsPrefix (ended law offset reached outcome).outputs
 end_keeps law Good offset reached outcome times le k =
     elim (fault_cases outcome.fault) [
-      inl h ↦ subst (λ (o : Outcome). AllByRecursion IsPrefix o.outputs) (sym (goes_on outcome.fault outcome (with_reach law offset reached outcome) h)) (reach_keeps law Good offset reached outcome times le k h)
-    | inr (failure, h) ↦ subst (λ (o : Outcome). AllByRecursion IsPrefix o.outputs) (sym (stays outcome.fault outcome (with_reach law offset reached outcome) failure h)) k.prefixes ]
+      | inl h ↦ subst (λ (o : Outcome). AllByRecursion IsPrefix o.outputs) (sym (goes_on outcome.fault outcome (with_reach law offset reached outcome) h)) (reach_keeps law Good offset reached outcome times le k h)
+      | inr (failure, h) ↦ subst (λ (o : Outcome). AllByRecursion IsPrefix o.outputs) (sym (stays outcome.fault outcome (with_reach law offset reached outcome) failure h)) k.prefixes
+    ]
 
 end_extends : (law : Law) (Good : List Plain → Type 0) (offset : Option ℤ) (reached : ℕ) (outcome : Outcome) → KeepsTimes law Good → reached ≤ done → IsKept Good outcome
     → AreExtendedBy outcome.outputs (ended law offset reached outcome).outputs
 end_extends law Good offset reached outcome times le k =
     elim (fault_cases outcome.fault) [
-      inl h ↦ subst (λ (o : Outcome). AreExtendedBy outcome.outputs o.outputs) (sym (goes_on outcome.fault outcome (with_reach law offset reached outcome) h))
-        (all_further outcome.outputs (all_raised offset reached outcome.outputs) _ (raise_extends offset reached outcome.outputs) (reach_extends law Good offset reached outcome times le k h))
-    | inr (failure, h) ↦ subst (λ (o : Outcome). AreExtendedBy outcome.outputs o.outputs) (sym (stays outcome.fault outcome (with_reach law offset reached outcome) failure h)) (all_by_themselves outcome.outputs) ]
+      | inl h ↦ subst (λ (o : Outcome). AreExtendedBy outcome.outputs o.outputs) (sym (goes_on outcome.fault outcome (with_reach law offset reached outcome) h))
+          (all_further outcome.outputs (all_raised offset reached outcome.outputs) _ (raise_extends offset reached outcome.outputs) (reach_extends law Good offset reached outcome times le k h))
+      | inr (failure, h) ↦ subst (λ (o : Outcome). AreExtendedBy outcome.outputs o.outputs) (sym (stays outcome.fault outcome (with_reach law offset reached outcome) failure h)) (all_by_themselves outcome.outputs)
+    ]
 
 -- The end after some sets is extended by the end after more of them, which come at the reach or above. Where the reach is
 -- the end of all times, nothing more comes.
@@ -247,12 +250,14 @@ pub end_grows : (law : Law) (Good : List Plain → Type 0) (offset : Option ℤ)
     → AreExtendedBy (ended law offset low outcome).outputs (ended law offset high (fold (shown law offset) outcome sets)).outputs
 end_grows law Good offset low high outcome sets times f k l =
     elim (fault_cases outcome.fault) [
-      inr (failure, h) ↦ end_failed law offset low high outcome sets failure h
-    | inl h ↦ elim (eqb_tells low done) [
-        inl (test, e) ↦ end_same law offset low high outcome sets (f.none e) (let up = f.rises in let top = f.within in omega (arith, up, top, e))
-      | inr (test, ne) ↦ subst (λ (o : Outcome). AreExtendedBy o.outputs (ended law offset high (fold (shown law offset) outcome sets)).outputs)
-          (sym (goes_on outcome.fault outcome (with_reach law offset low outcome) h ∙ not_done law offset low outcome test))
-          (raised_extends_end law Good offset low high outcome sets times f k l h) ] ]
+      | inr (failure, h) ↦ end_failed law offset low high outcome sets failure h
+      | inl h ↦ elim (eqb_tells low done) [
+        | inl (test, e) ↦ end_same law offset low high outcome sets (f.none e) (let up = f.rises in let top = f.within in omega (arith, up, top, e))
+        | inr (test, ne) ↦ subst (λ (o : Outcome). AreExtendedBy o.outputs (ended law offset high (fold (shown law offset) outcome sets)).outputs)
+            (sym (goes_on outcome.fault outcome (with_reach law offset low outcome) h ∙ not_done law offset low outcome test))
+            (raised_extends_end law Good offset low high outcome sets times f k l h)
+      ]
+    ]
 
 -- Sources.
 call_by_number_keeps : (law : Law) (Good : List Plain → Type 0) (outcome : Outcome) (number : ℕ) → KeepsTimes law Good → IsKept Good outcome → IsKept Good (called law outcome number)

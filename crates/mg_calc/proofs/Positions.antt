@@ -54,9 +54,10 @@ agree_outputs K node from zero [] (y ∷ ys) l m same = absurd (omega (arith, m)
 agree_outputs K node from zero (x ∷ xs) ys l m same = absurd (omega (arith, l))
 agree_outputs K node from (suc count) [] ys l m same = absurd (omega (arith, l))
 agree_outputs K node from (suc count) (x ∷ xs) [] l m same = absurd (omega (arith, m))
-agree_outputs K node from (suc count) (x ∷ xs) (y ∷ ys) l m same =
-    ((λ k. ap (λ l. (elim l [ [] ↦ x | h ∷ t ↦ h ])) (same from k)),
-    agree_outputs K node (from + 1) count xs ys (omega (arith, l)) (omega (arith, m)) (λ port k. ap (λ l. (elim l [ [] ↦ xs | h ∷ t ↦ t ])) (same port k)))
+agree_outputs K node from (suc count) (x ∷ xs) (y ∷ ys) l m same = (
+  (λ k. ap (λ l. (elim l [ [] ↦ x | h ∷ t ↦ h ])) (same from k)),
+  agree_outputs K node (from + 1) count xs ys (omega (arith, l)) (omega (arith, m)) (λ port k. ap (λ l. (elim l [ [] ↦ xs | h ∷ t ↦ t ])) (same port k)),
+)
 
 -- what the nodes give, by their numbers from k on
 abbrev pub parts : (ℕ → PlanNode → List (StreamPrefix Plain)) → ℕ → List PlanNode → List (StreamPrefix Plain)

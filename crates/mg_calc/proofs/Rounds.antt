@@ -8,9 +8,9 @@ use Rattle.std.proofs.lemmas.List.{length-replicate}
 use Rattle.mg_value.specs.Payload.{Plain}
 use Rattle.mg_value.specs.Prefix.{StreamPrefix, IsPrefix, empty_prefix}
 use Rattle.mg_value.specs.Extension.{IsExtendedBy, AreExtendedBy}
-use Rattle.mg_value.proofs.Extending.{extended_by_itself, all_by_themselves, all_further}
-use Rattle.mg_value.proofs.PrefixSteps.{empty_is_prefix}
-use Rattle.mg_value.proofs.LoopbackStream.{loopback_is_prefix, loopback_extends}
+use Rattle.mg_value.proofs.Lemmas.{extended_by_itself, all_by_themselves, all_further}
+use Rattle.mg_value.proofs.Lemmas.{empty_is_prefix}
+use Rattle.mg_value.proofs.Lemmas.{loopback_is_prefix, loopback_extends}
 use Rattle.mg_calc.specs.declared.law.Law.{Law}
 use Rattle.mg_calc.specs.declared.law.Law.TheVariants.{Count, SideOnce, Constants, Loopback}
 use Rattle.mg_calc.specs.declared.plan_node.PlanNode.{PlanNode}
@@ -55,11 +55,13 @@ outcome_follows_by : (law : Law) (Good : Law → List Plain → Type 0) (job : J
 outcome_follows_by (Count count start step) Good job node xs ys times kx ky e = all_by_themselves (outcome_by (Count count start step) job xs node).outputs
 outcome_follows_by (SideOnce at) Good job node xs ys times kx ky e = all_by_themselves (outcome_by (SideOnce at) job xs node).outputs
 outcome_follows_by Constants Good job node xs ys times kx ky e = all_by_themselves (outcome_by Constants job xs node).outputs
-outcome_follows_by Loopback Good job node xs ys times kx ky e =
-    (loopback_extends (stream_of (inputs_of xs node) 1) (stream_of (inputs_of ys node) 1) (stream_of (inputs_of xs node) 0) (stream_of (inputs_of ys node) 0)
-    (stream_is_prefix (inputs_of ys node) 1 (streams_are_prefixes ys node.inputs ky))
-    (stream_extends (inputs_of xs node) (inputs_of ys node) 1 (streams_extend xs ys node.inputs e))
-    (stream_extends (inputs_of xs node) (inputs_of ys node) 0 (streams_extend xs ys node.inputs e)), tt)
+outcome_follows_by Loopback Good job node xs ys times kx ky e = (
+  loopback_extends (stream_of (inputs_of xs node) 1) (stream_of (inputs_of ys node) 1) (stream_of (inputs_of xs node) 0) (stream_of (inputs_of ys node) 0)
+      (stream_is_prefix (inputs_of ys node) 1 (streams_are_prefixes ys node.inputs ky))
+      (stream_extends (inputs_of xs node) (inputs_of ys node) 1 (streams_extend xs ys node.inputs e))
+      (stream_extends (inputs_of xs node) (inputs_of ys node) 0 (streams_extend xs ys node.inputs e)),
+  tt,
+)
 outcome_follows_by law Good job node xs ys times kx ky e =
     node_follows node.law (Good node.law) node.shape.offset node.policy (length node.outputs) (sides_of job node) (inputs_of xs node) (inputs_of ys node) times
     (All-from_recursion IsPrefix (inputs_of xs node) (streams_are_prefixes xs node.inputs kx))

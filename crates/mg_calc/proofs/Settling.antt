@@ -12,8 +12,8 @@ use Rattle.mg_value.specs.Payload.{Plain}
 use Rattle.mg_value.specs.Prefix.{Stamped, StreamPrefix, IsPrefix, empty_prefix}
 use Rattle.mg_value.specs.Extension.{IsExtendedBy, AreExtendedBy}
 use Rattle.mg_value.specs.Loopback.{Reply, loopback, replies}
-use Rattle.mg_value.proofs.Extending.{extended_by_itself, all_by_themselves, all_further, same_prefix}
-use Rattle.mg_value.proofs.LoopbackStream.{replies-stay, replies-most, loopback-same}
+use Rattle.mg_value.proofs.Lemmas.{extended_by_itself, all_by_themselves, all_further, same_prefix}
+use Rattle.mg_value.proofs.Lemmas.{replies-stay, replies-most, loopback-same}
 use Rattle.mg_calc.specs.declared.law.Law.{Law}
 use Rattle.mg_calc.specs.declared.law.Law.TheVariants.{Count, SideOnce, Constants, Loopback}
 use Rattle.mg_calc.specs.declared.plan_node.PlanNode.{PlanNode}
@@ -189,12 +189,15 @@ NoneGreater f old n = (i : ℕ) → i < n → f i ≡ old
 first_greater : (f : ℕ → ℕ) (old n : ℕ) → ((i : ℕ) → old ≤ f i) → NoneGreater f old n ⊎ ((i : ℕ) × (i < n) × NoneGreater f old i × (old < f i))
 first_greater f old zero rises = inl (λ i le. absurd (omega (arith, le)))
 first_greater f old (suc n) rises = elim (first_greater f old n rises) [
-      inr (i, le, none, greater) ↦ inr (i, omega (arith, le), none, greater)
-    | inl none ↦ elim (cases_lt old (f n)) [
-        inl greater ↦ inr (n, omega arith, none, greater)
-      | inr le ↦ inl (λ i less. elim (cases_lt i n) [
-          inl before ↦ none i before
-        | inr after ↦ (let here : i ≡ n = omega (arith, less, after) in ap f here ∙ (let up = rises n in omega (arith, le, up))) ]) ] ]
+  | inr (i, le, none, greater) ↦ inr (i, omega (arith, le), none, greater)
+  | inl none ↦ elim (cases_lt old (f n)) [
+    | inl greater ↦ inr (n, omega arith, none, greater)
+    | inr le ↦ inl (λ i less. elim (cases_lt i n) [
+      | inl before ↦ none i before
+      | inr after ↦ (let here : i ≡ n = omega (arith, less, after) in ap f here ∙ (let up = rises n in omega (arith, le, up)))
+    ])
+  ]
+]
 
 -- the others settle with a node held at some outputs, whatever these are
 abbrev OthersSettle : Job → Held → ℕ → PlanNode → Type 0
@@ -210,9 +213,11 @@ loop_step Good job held w node main xs l others s g =
     let outs = given job held xs w node in
     let more = with_held held w outs in
     let h : Holds job held w node outs = record {
-      there = l.there; fits = l.fits;
+      there = l.there;
+      fits = l.fits;
       long = given_long Good job held xs l.sound.known l.fits s.keeps w node l.there;
-      keeps = given_keeps Good job held xs l.sound.known l.fits s.keeps w node l.there } in
+      keeps = given_keeps Good job held xs l.sound.known l.fits s.keeps w node l.there;
+    } in
     let standing : Stands job more xs = stands_held job held w node outs xs l.there refl s in
     let settled = others outs h xs standing in
     let n = settled.0 in
@@ -225,22 +230,25 @@ loop_step Good job held w node main xs l others s g =
     (loop_same Good job held w node main xs (iterate job held i xs) l g (iterate_given Good job held i xs l.sound l.fits s g) (later_extends Good job held i xs l.sound l.fits s)
     (ap (λ zs. length (replies main (loop_of node zs))) e ∙ many))) in
     elim (first_greater answered old (suc n) rises) [
-      inl none ↦
-        (let all : iterate job held n xs ≡ iterate job more n xs = iterates_same job held more xs n (λ i le e. same i (none i (omega (arith, le))) e) in
-        inl (n, same n (none n (omega arith)) all ∙ (ap (held_round job more) all ∙ (settled.1 ∙ sym all))))
-    | inr (i, le, none, greater) ↦
-        (let all : iterate job held i xs ≡ iterate job more i xs = iterates_same job held more xs i (λ k less e. same k (none k less) e) in
-        inr (i, subst (λ zs. old < length (replies main (loop_of node zs))) (sym all) greater)) ]
+      | inl none ↦
+          (let all : iterate job held n xs ≡ iterate job more n xs = iterates_same job held more xs n (λ i le e. same i (none i (omega (arith, le))) e) in
+          inl (n, same n (none n (omega arith)) all ∙ (ap (held_round job more) all ∙ (settled.1 ∙ sym all))))
+      | inr (i, le, none, greater) ↦
+          (let all : iterate job held i xs ≡ iterate job more i xs = iterates_same job held more xs i (λ k less e. same k (none k less) e) in
+          inr (i, subst (λ zs. old < length (replies main (loop_of node zs))) (sym all) greater))
+    ]
 
 loop_settles : (fuel : ℕ) (Good : Law → List Plain → Type 0) (job : Job) (held : Held) (w : ℕ) (node : PlanNode) (main : StreamPrefix Plain) (xs : List (StreamPrefix Plain)) → IsLoop Good job held w node main → OthersSettle job held w node
     → Stands job held xs → IsGiven job held xs → length main.packets ≤ length (replies main (loop_of node xs)) + fuel → Settles job held xs
 loop_settles zero Good job held w node main xs l others s g few = elim (loop_step Good job held w node main xs l others s g) [
-      inl settled ↦ settled
-    | inr (i, greater) ↦ absurd (let most = replies-most main (loop_of node (iterate job held i xs)) in omega (arith, few, greater, most)) ]
+  | inl settled ↦ settled
+  | inr (i, greater) ↦ absurd (let most = replies-most main (loop_of node (iterate job held i xs)) in omega (arith, few, greater, most))
+]
 loop_settles (suc fuel) Good job held w node main xs l others s g few = elim (loop_step Good job held w node main xs l others s g) [
-      inl settled ↦ settled
-    | inr (i, greater) ↦ settles_long_before job held i xs
-        (loop_settles fuel Good job held w node main (iterate job held i xs) l others (stands_later Good job held i xs l.sound l.fits s) (iterate_given Good job held i xs l.sound l.fits s g) (omega (arith, few, greater))) ]
+  | inl settled ↦ settled
+  | inr (i, greater) ↦ settles_long_before job held i xs
+      (loop_settles fuel Good job held w node main (iterate job held i xs) l others (stands_later Good job held i xs l.sound l.fits s) (iterate_given Good job held i xs l.sound l.fits s g) (omega (arith, few, greater)))
+]
 
 -- The case of no further node.
 held_at : (job : Job) (held : Held) (earlier : List ℕ) → IsValid job.plan → job.plan.order ≡ earlier → AllByRecursion (IsHeld held) earlier → OfNodes job.plan.nodes (λ k node. IsHeld held k)
@@ -250,10 +258,12 @@ held_at job held earlier valid order all k node at =
     at_place (IsHeld held) earlier found.0 k all (subst (λ (o : List ℕ). slice_get o found.0 ≡ Some k) order here)
 
 all_held_settles : (job : Job) (held : Held) (xs : List (StreamPrefix Plain)) → OfNodes job.plan.nodes (λ k node. IsHeld held k) → Settles job held xs
-all_held_settles job held xs all =
-    (1, ap (λ rest. job.inputs.streams ++ rest)
-    (parts_same (given job held (held_round job held xs)) (given job held xs) job.plan.nodes
-    (λ k node at. held_same (held k) (outcome_of job (held_round job held xs) node).outputs (outcome_of job xs node).outputs (all k node at))))
+all_held_settles job held xs all = (
+  1,
+  ap (λ rest. job.inputs.streams ++ rest)
+      (parts_same (given job held (held_round job held xs)) (given job held xs) job.plan.nodes
+      (λ k node at. held_same (held k) (outcome_of job (held_round job held xs) node).outputs (outcome_of job xs node).outputs (all k node at))),
+)
 
 option_cases : (o : Option (List (StreamPrefix Plain))) → (o ≡ None) ⊎ IsSome o
 option_cases None = inl refl
@@ -269,22 +279,32 @@ node_settles : (Good : Law → List Plain → Type 0) (job : Job) (held : Held) 
 node_settles Good job held w node xs sound fits at next others s g =
     let outs = given job held xs w node in
     let h : Holds job held w node outs = record {
-      there = at; fits = fits;
+      there = at;
+      fits = fits;
       long = given_long Good job held xs sound.known fits s.keeps w node at;
-      keeps = given_keeps Good job held xs sound.known fits s.keeps w node at } in
+      keeps = given_keeps Good job held xs sound.known fits s.keeps w node at;
+    } in
     elim (option_cases (held w)) [
-      inr is ↦ constant_settles Good job held w node outs xs sound h
-        (λ ys gy. held_same (held w) (outcome_of job ys node).outputs (outcome_of job xs node).outputs is) (others outs h) s g
-    | inl unheld ↦ elim (loop_cases node.law) [
-        inr other ↦ constant_settles Good job held w node outs xs sound h
-          (λ ys gy. ap (λ (o : Outcome). unwrap_or (held w) o.outputs)
-          (outcome_of_inputs_by node.law job node ys xs (known_inputs job.plan (IsHeld held) w node ys xs sound.valid next at other (agrees Good job held ys xs sound fits gy g))))
-          (others outs h) s g
-      | inl law ↦ (let main = main_of node xs in
-          loop_settles (length main.packets) Good job held w node main xs
-          (record { sound = sound; there = at; fits = fits; unheld = unheld; law = law;
-            main_stays = (λ ys gy. known_main job.plan (IsHeld held) w node ys xs sound.valid next at (agrees Good job held ys xs sound fits gy g)) })
-          others s g (omega arith)) ] ]
+      | inr is ↦ constant_settles Good job held w node outs xs sound h
+          (λ ys gy. held_same (held w) (outcome_of job ys node).outputs (outcome_of job xs node).outputs is) (others outs h) s g
+      | inl unheld ↦ elim (loop_cases node.law) [
+        | inr other ↦ constant_settles Good job held w node outs xs sound h
+            (λ ys gy. ap (λ (o : Outcome). unwrap_or (held w) o.outputs)
+            (outcome_of_inputs_by node.law job node ys xs (known_inputs job.plan (IsHeld held) w node ys xs sound.valid next at other (agrees Good job held ys xs sound fits gy g))))
+            (others outs h) s g
+        | inl law ↦ (let main = main_of node xs in
+            loop_settles (length main.packets) Good job held w node main xs
+            (record {
+              sound = sound;
+              there = at;
+              fits = fits;
+              unheld = unheld;
+              law = law;
+              main_stays = (λ ys gy. known_main job.plan (IsHeld held) w node ys xs sound.valid next at (agrees Good job held ys xs sound fits gy g));
+            })
+            others s g (omega arith))
+      ]
+    ]
 
 rest_settles : (rest earlier : List ℕ) (Good : Law → List Plain → Type 0) (job : Job) (held : Held) (xs : List (StreamPrefix Plain)) → Sound Good job → job.plan.order ≡ earlier ++ rest → HeldFits job held → AllByRecursion (IsHeld held) earlier
     → Stands job held xs → Settles job held xs
@@ -315,7 +335,8 @@ pub a_round_meets : (Good : Law → List Plain → Type 0) (job : Job) → IsKno
 a_round_meets Good job known valid many =
     let start : Stands job nothing_held (round job 0) = record {
       keeps = round_keeps Good job known 0;
-      rises = subst (AreExtendedBy (round job 0)) (sym (free_round job (round job 0))) (rounds_ascend Good job known 0) } in
+      rises = subst (AreExtendedBy (round job 0)) (sym (free_round job (round job 0))) (rounds_ascend Good job known 0);
+    } in
     let settled = rest_settles job.plan.order [] Good job nothing_held (round job 0) (record { known = known; valid = valid; many = many }) refl (λ k node at. tt) tt start in
     let n = settled.0 in
     (n, sym (free_round job (round job n)) ∙ (ap (held_round job nothing_held) (sym (free_rounds job n)) ∙ (settled.1 ∙ free_rounds job n)))
@@ -327,25 +348,30 @@ same_further s t e none le =
 
 same_or_not : (s t : StreamPrefix Plain) → IsExtendedBy s t → (s ≡ t) ⊎ ¬ (s ≡ t)
 same_or_not s t e = elim (cases_lt (length s.packets) (length t.packets)) [
-      inl more ↦ inr (λ same. let lengths = ap (λ (u : StreamPrefix Plain). length u.packets) same in omega (arith, more, lengths))
-    | inr few ↦ elim (cases_lt s.bound t.bound) [
-        inl higher ↦ inr (λ same. let bounds = ap (λ (u : StreamPrefix Plain). u.bound) same in omega (arith, higher, bounds))
-      | inr low ↦ inl (same_further s t e (nil_from_length e.further (let long = ap length e.packets in omega (arith, few, long, length-append s.packets e.further))) low) ] ]
+  | inl more ↦ inr (λ same. let lengths = ap (λ (u : StreamPrefix Plain). length u.packets) same in omega (arith, more, lengths))
+  | inr few ↦ elim (cases_lt s.bound t.bound) [
+    | inl higher ↦ inr (λ same. let bounds = ap (λ (u : StreamPrefix Plain). u.bound) same in omega (arith, higher, bounds))
+    | inr low ↦ inl (same_further s t e (nil_from_length e.further (let long = ap length e.packets in omega (arith, few, long, length-append s.packets e.further))) low)
+  ]
+]
 
 all_same_or_not : (xs ys : List (StreamPrefix Plain)) → AreExtendedBy xs ys → (xs ≡ ys) ⊎ ¬ (xs ≡ ys)
 all_same_or_not [] [] e = inl refl
 all_same_or_not [] (y ∷ ys) e = absurd e
 all_same_or_not (x ∷ xs) [] e = absurd e
 all_same_or_not (x ∷ xs) (y ∷ ys) e = elim (same_or_not x y e.0) [
-      inr other ↦ inr (λ same. other (ap (λ l. (elim l [ [] ↦ x | h ∷ t ↦ h ])) same))
-    | inl same ↦ elim (all_same_or_not xs ys e.1) [
-        inr others ↦ inr (λ all. others (ap (λ l. (elim l [ [] ↦ xs | h ∷ t ↦ t ])) all))
-      | inl all ↦ inl (ap₂ (λ (h : StreamPrefix Plain) (t : List (StreamPrefix Plain)). h ∷ t) same all) ] ]
+  | inr other ↦ inr (λ same. other (ap (λ l. (elim l [ [] ↦ x | h ∷ t ↦ h ])) same))
+  | inl same ↦ elim (all_same_or_not xs ys e.1) [
+    | inr others ↦ inr (λ all. others (ap (λ l. (elim l [ [] ↦ xs | h ∷ t ↦ t ])) all))
+    | inl all ↦ inl (ap₂ (λ (h : StreamPrefix Plain) (t : List (StreamPrefix Plain)). h ∷ t) same all)
+  ]
+]
 
 meets_or_not : (Good : Law → List Plain → Type 0) (job : Job) → IsKnown Good job → (n : ℕ) → MeetsEquations job (round job n) ⊎ ¬ MeetsEquations job (round job n)
 meets_or_not Good job known n = elim (all_same_or_not (round job n) (round job (suc n)) (rounds_ascend Good job known n)) [
-      inl same ↦ inl (sym same)
-    | inr other ↦ inr (λ meets. other (sym meets)) ]
+  | inl same ↦ inl (sym same)
+  | inr other ↦ inr (λ meets. other (sym meets))
+]
 
 -- the first of them
 record FirstRound (job : Job) : Type 0 where
@@ -356,16 +382,20 @@ record FirstRound (job : Job) : Type 0 where
 first_round : (Good : Law → List Plain → Type 0) (job : Job) → IsKnown Good job → (n : ℕ) → FirstRound job ⊎ ((earlier : ℕ) → earlier < n → ¬ MeetsEquations job (round job earlier))
 first_round Good job known zero = inr (λ earlier le. absurd (omega (arith, le)))
 first_round Good job known (suc n) = elim (first_round Good job known n) [
-      inl found ↦ inl found
-    | inr none ↦ elim (meets_or_not Good job known n) [
-        inl meets ↦ inl (record { number = n; meets = meets; first = none })
-      | inr other ↦ inr (λ earlier le. elim (cases_lt earlier n) [
-          inl before ↦ none earlier before
-        | inr after ↦ (let here : earlier ≡ n = omega (arith, le, after) in λ meets. other (subst (λ (k : ℕ). MeetsEquations job (round job k)) here meets)) ]) ] ]
+  | inl found ↦ inl found
+  | inr none ↦ elim (meets_or_not Good job known n) [
+    | inl meets ↦ inl (record { number = n; meets = meets; first = none })
+    | inr other ↦ inr (λ earlier le. elim (cases_lt earlier n) [
+      | inl before ↦ none earlier before
+      | inr after ↦ (let here : earlier ≡ n = omega (arith, le, after) in λ meets. other (subst (λ (k : ℕ). MeetsEquations job (round job k)) here meets))
+    ])
+  ]
+]
 
 pub a_solution : (Good : Law → List Plain → Type 0) (job : Job) → IsKnown Good job → IsValid job.plan → length job.inputs.streams ≡ length job.plan.inputs → (streams : List (StreamPrefix Plain)) × IsSolution job streams
 a_solution Good job known valid many =
     let settled = a_round_meets Good job known valid many in
     elim (first_round Good job known (suc settled.0)) [
-      inl found ↦ (round job found.number, record { number = found.number; reached = refl; meets = found.meets; first = found.first })
-    | inr none ↦ absurd (none settled.0 (omega arith) settled.1) ]
+      | inl found ↦ (round job found.number, record { number = found.number; reached = refl; meets = found.meets; first = found.first })
+      | inr none ↦ absurd (none settled.0 (omega arith) settled.1)
+    ]

@@ -8,8 +8,8 @@ use Rattle.mg_time.specs.Time.{pre_stream, IsAllowed}
 use Rattle.mg_value.specs.Payload.{Plain}
 use Rattle.mg_value.specs.Prefix.{Stamped, StreamPrefix, IsPrefix, empty_prefix}
 use Rattle.mg_value.specs.Extension.{IsExtendedBy, AreExtendedBy}
-use Rattle.mg_value.proofs.Extending.{all_by_themselves, all_further, all_both_ways}
-use Rattle.mg_value.proofs.PrefixSteps.{empty_is_prefix}
+use Rattle.mg_value.proofs.Lemmas.{all_by_themselves, all_further, all_both_ways}
+use Rattle.mg_value.proofs.Lemmas.{empty_is_prefix}
 use Rattle.mg_calc.specs.declared.law.Law.{Law}
 use Rattle.mg_calc.specs.Equations.{Job, next_round, round, MeetsEquations, IsSolution}
 use Rattle.mg_calc.proofs.Rounds.{IsKnown, equations_follow, equations_keep, equations_are_as_many}
@@ -73,7 +73,9 @@ one_solution job xs ys a b = elim (cases_lt a.number b.number) [
   | inl less ↦ absurd (b.first a.number less (let M : List (StreamPrefix Plain) → Type 0 = MeetsEquations job in subst M a.reached a.meets))
   | inr le ↦ elim (cases_lt b.number a.number) [
     | inl less ↦ absurd (a.first b.number less (let M : List (StreamPrefix Plain) → Type 0 = MeetsEquations job in subst M b.reached b.meets))
-    | inr ge ↦ (let same : a.number ≡ b.number = omega (arith, le, ge) in a.reached ∙ (ap (round job) same ∙ sym b.reached)) ] ]
+    | inr ge ↦ (let same : a.number ≡ b.number = omega (arith, le, ge) in a.reached ∙ (ap (round job) same ∙ sym b.reached))
+  ]
+]
 
 -- a round that meets the equations stays
 pub met_stays : (job : Job) (n k : ℕ) → MeetsEquations job (round job n) → round job (n + k) ≡ round job n

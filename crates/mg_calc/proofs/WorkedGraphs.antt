@@ -32,9 +32,16 @@ use Rattle.mg_calc.specs.Meaning.{faults, stalled, counts, log_of, weight}
 -- How the graphs are written.
 abbrev node_by : Policy → Law → List ℕ → List ℕ → List ℕ → PlanNode
 node_by policy law inputs outputs sides = record {
-  label = []; law = law;
+  label = [];
+  law = law;
   shape = record { name = []; inputs = []; outputs = []; sides = []; offset = offset_of law; stateless = is_stateless law };
-  inputs = inputs; outputs = outputs; sides = sides; in_flight = 1; box_number = None; policy = policy }
+  inputs = inputs;
+  outputs = outputs;
+  sides = sides;
+  in_flight = 1;
+  box_number = None;
+  policy = policy;
+}
 
 abbrev node : Law → List ℕ → List ℕ → PlanNode
 node law inputs outputs = node_by Default law inputs outputs []
@@ -44,7 +51,16 @@ any_stream = record { name = []; kind = Any; producer = Input 0 }
 
 abbrev plan_of : ℕ → List PlanNode → List PlainSide → Plan
 plan_of streams nodes sides = record {
-  nodes = nodes; streams = replicate streams any_stream; edges = []; order = []; inputs = []; outputs = []; sides = sides; limit = pos 100; workers = 0 }
+  nodes = nodes;
+  streams = replicate streams any_stream;
+  edges = [];
+  order = [];
+  inputs = [];
+  outputs = [];
+  sides = sides;
+  limit = pos 100;
+  workers = 0;
+}
 
 abbrev job_of : ℕ → List PlanNode → List (StreamPrefix Plain) → Job
 job_of streams nodes inputs = record { plan = plan_of streams nodes []; inputs = record { streams = inputs; sides = []; ended = true } }
@@ -260,7 +276,8 @@ stops_at_once = refl
 abbrev side_job : List (Option Plain) → Job
 side_job sides = record {
   plan = plan_of 1 (node_by Default (SideOnce (at 0)) [] (0 ∷ []) (0 ∷ []) ∷ []) (record { name = []; value = given_at 0 } ∷ []);
-  inputs = record { streams = []; sides = sides; ended = true } }
+  inputs = record { streams = []; sides = sides; ended = true };
+}
 
 side_shows : lines (0 ∷ []) (round (side_job (Some (int (pos 9)) ∷ [])) 1) ≡ out (pk 0 9 ∷ [])
 side_shows = refl

@@ -11,7 +11,9 @@ pub use Rattle.mg_value.proofs.PrefixSteps.{empty_is_prefix, appended_is_prefix,
 pub use Rattle.mg_value.proofs.Ports.{port-prefix, port-extended, inputs-extended}
 pub use Rattle.mg_value.proofs.SetSteps.{all_inputs, shown-set, shown-is}
 -- settled sets and the reach
-pub use Rattle.mg_value.proofs.PolicySets.{sets-stay, sets-further, sets-end, reach-rises, reach-least, reach-most, below-reach, below-bounds, sets-places, sets-shown}
+pub use Rattle.mg_value.proofs.PolicySets.{sets-stay, sets-further, sets-end, reach-rises, reach-least, reach-most, times-rise, below-reach, below-bounds, sets-places, sets-shown}
+pub use Rattle.mg_value.proofs.Times.{Rises}
+pub use Rattle.mg_value.proofs.SettledTimes.{Rises-increasing}
 pub use Rattle.mg_value.proofs.LeadingPackets.{each-leading, all-leading, no-sets}
 pub use Rattle.mg_value.proofs.ShownSets.{sets-show}
 pub use Rattle.mg_value.proofs.FirstSets.{first-time, leading-stays, after-first}
