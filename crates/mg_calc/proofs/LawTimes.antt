@@ -1,9 +1,9 @@
 -- All bounds that a law emits are times.
-use Rattle.std.proofs.Common.{◌≡◌, ℕ, ℤ, ◌+◌, ◌+ℤ◌, ◌*ℤ◌, All, pos, negsuc, ◌<◌, ◌≤◌, Bool, true, false, not, ◌&&◌, ◌||◌, nat_lt, nat_le, List, [], ◌∷◌, map, take, Option, Some, None, is_some, Result, Ok, Err, IfSome, option_map, unwrap_or, slice_get, refl, sym, ap, subst, ◌∙◌, arith, inl, inr, ◌⊎◌, if◌then◌else◌}
+use Rattle.std.proofs.Common.{◌≡◌, ◌==◌, ℕ, ℤ, ◌+◌, ◌+ℤ◌, ◌*ℤ◌, All, pos, negsuc, ◌<◌, ◌≤◌, Bool, true, false, not, ◌&&◌, ◌||◌, nat_lt, nat_le, List, [], ◌∷◌, map, take, Option, Some, None, is_some, Result, Ok, Err, IfSome, option_map, unwrap_or, slice_get, refl, sym, ap, subst, ◌∙◌, arith, inl, inr, ◌⊎◌, if◌then◌else◌}
 use Rattle.std.specs.List.{AllByRecursion, list_any, zip}
 use Rattle.std.proofs.lemmas.Bool.Decides.{nat_tests}
 use Rattle.std.proofs.lemmas.List.Elements.{recursion_from_All}
-use Rattle.mg_time.specs.Time.{done, next, raw_of, one_over_post_stream, least, greatest, place_of}
+use Rattle.mg_time.specs.Time.{done, pre_stream, next, raw_of, one_over_post_stream, least, greatest, place_of}
 use Rattle.mg_value.specs.Plain.{Plain, int, flag, text, items, entries}
 use Rattle.mg_value.specs.Prefix.{Stamped}
 use Rattle.mg_value.specs.Settled.{TimedSet, selected}
@@ -14,7 +14,7 @@ use Rattle.mg_calc.specs.declared.law.Law.TheVariants.{Pass, Gate, Mux, Cloner, 
 use Rattle.mg_calc.specs.declared.cause.Cause.TheVariants.{Overflow, WrongKind}
 use Rattle.mg_calc.specs.Answer.{Answer, laid, emission_of}
 use Rattle.mg_calc.specs.Values.{place_at, fits, number_of, total, is_in_range, time_of, moved_time}
-use Rattle.mg_calc.specs.State.{state_of, number_in, count_in, next_valid, kept_at}
+use Rattle.mg_calc.specs.State.{state_of, number_in, count_in, time_kept, next_valid, kept_at}
 use Rattle.mg_calc.specs.Kinds.{has_wrong_kind}
 use Rattle.mg_calc.specs.Routing.{is_open, chosen, copy_at, renewed_places, first_packet, valid_after, thinned}
 use Rattle.mg_calc.specs.Own.{emits_number, emits_at, with_packet, mapped, filtered, is_kept, scripted}
@@ -90,9 +90,16 @@ valid_time period t = by_test (is_in_range t)
     by_test true = in_range (raw_of t +ℤ period)
     by_test false = omega arith
 
+kept_time : (n : ℤ) → time_kept n ≤ done
+kept_time n = by_test (place_of n == pre_stream)
+  where
+    by_test : (b : Bool) → (if b then pre_stream else unwrap_or (time_of n) one_over_post_stream) ≤ done
+    by_test true = omega arith
+    by_test false = in_range n
+
 next_valid_time : (state : List Plain) → next_valid state ≤ done
 next_valid_time [] = omega arith
-next_valid_time (int n ∷ rest) = in_range n
+next_valid_time (int n ∷ rest) = kept_time n
 next_valid_time (flag b ∷ rest) = omega arith
 next_valid_time (text s ∷ rest) = omega arith
 next_valid_time (items is ∷ rest) = omega arith

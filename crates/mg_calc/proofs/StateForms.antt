@@ -1,15 +1,15 @@
 -- The states that calculators keep are of their laws' forms.
-use Rattle.std.proofs.Common.{◌≡◌, ℕ, ◌+◌, ◌-◌, ◌^◌, ◌<◌, ◌≤◌, min, ℤ, pos, negsuc, ◌+ℤ◌, Bool, true, false, List, [], ◌∷◌, ◌++◌, map, take, length, replicate, get_or, All, Option, Some, None, Ok, IfOk, option_map, unwrap_or, slice_get, inl, inr, ◌⊎◌, codes, lit≤, refl, ◌∙◌, ap, arith, if◌then◌else◌, nat_le}
+use Rattle.std.proofs.Common.{◌≡◌, ◌==◌, ℕ, ◌+◌, ◌-◌, ◌^◌, ◌<◌, ◌≤◌, min, ℤ, pos, negsuc, ◌+ℤ◌, Bool, true, false, List, [], ◌∷◌, ◌++◌, map, take, length, replicate, get_or, All, Option, Some, None, Ok, IfOk, option_map, unwrap_or, slice_get, inl, inr, ◌⊎◌, codes, lit≤, refl, ◌∙◌, ap, arith, if◌then◌else◌, nat_le}
 use Rattle.std.specs.List.{zip}
 use Rattle.std.proofs.lemmas.Int.{ints}
-use Rattle.std.proofs.lemmas.Bool.Decides.{nat_tests}
+use Rattle.std.proofs.lemmas.Bool.Decides.{nat_tests, eqb_tells}
 use Rattle.std.proofs.lemmas.List.{length-take-le, length-map, length-append}
 use Rattle.std.proofs.lemmas.List.Elements.{All-map}
 use Rattle.std.proofs.lemmas.List.FromFn.{length-map-range_with_len}
 use Rattle.std.proofs.lemmas.Grind.{common_steps}
 use Rattle.std.proofs.lemmas.Slice.Zip.{length-zip}
 use Rattle.std.proofs.lemmas.Option.{slice_get_cases}
-use Rattle.mg_time.specs.Time.{raw_of, place_of, one_over_post_stream}
+use Rattle.mg_time.specs.Time.{raw_of, place_of, pre_stream, one_over_post_stream}
 use Rattle.mg_value.specs.Plain.{Plain, int}
 use Rattle.mg_value.specs.Prefix.{Stamped}
 use Rattle.mg_value.specs.Settled.{selected}
@@ -20,7 +20,7 @@ use Rattle.mg_calc.specs.declared.port_kind.PortKind.{PortKind}
 use Rattle.mg_calc.specs.declared.emission.Laid.{Laid}
 use Rattle.mg_calc.specs.Answer.{Answer, emission_of}
 use Rattle.mg_calc.specs.Values.{place_at, number_of, total, fits, time_of, is_in_range, stored, kept_in}
-use Rattle.mg_calc.specs.State.{IsStateOf, IsNumber, CountsTo, ArePlaces, state_of, number_in, count_in, next_valid, places_in}
+use Rattle.mg_calc.specs.State.{IsStateOf, IsNumber, CountsTo, ArePlaces, state_of, number_in, count_in, time_kept, next_valid, places_in}
 use Rattle.mg_calc.specs.Kinds.{has_wrong_kind}
 use Rattle.mg_calc.specs.Routing.{is_open, renewed, renewed_places, valid_after, chosen, thinned}
 use Rattle.mg_calc.specs.Own.{mapped, emits_number, emits_at}
@@ -101,8 +101,11 @@ time_of-raw_of u inside = rw (place_is (raw_of u) u refl, inside) refl
 abbrev IsValid : ℕ → Type 0
 IsValid u = (is_in_range u ≡ true) ⊎ (u ≡ one_over_post_stream)
 
-valid_number : (u : ℕ) → IsValid u → raw_of (unwrap_or (time_of (raw_of u)) one_over_post_stream) ≡ raw_of u
-valid_number u (inl inside) = rw (time_of-raw_of u inside) refl
+not_before : (u : ℕ) → is_in_range u ≡ true → (u == pre_stream) ≡ false
+not_before u inside = elim (eqb_tells u pre_stream) [ inl (test, e) ↦ absurd (grind (arith, nat_tests, inside, e)) | inr (test, other) ↦ test ]
+
+valid_number : (u : ℕ) → IsValid u → raw_of (time_kept (raw_of u)) ≡ raw_of u
+valid_number u (inl inside) = rw (place_is (raw_of u) u refl, not_before u inside, inside) refl
 valid_number u (inr over) = rw over refl
 
 valid_time : (u : ℕ) (b : Bool) → is_in_range u ≡ b → IsValid (unwrap_or (if b then Some u else None) one_over_post_stream)

@@ -1,7 +1,7 @@
 -- What a calculator keeps between its calls, as a list of payloads. The empty list is the state of one that has seen nothing.
-use Rattle.std.specs.Prelude.{◌≡◌, ℕ, ℤ, pos, negsuc, ◌-◌, ◌≤◌, ◌^◌, List, [], ◌∷◌, ◌++◌, map, take, length, replicate, All, Option, Some, None, slice_get, unwrap_or, IsTrue, ⊤}
+use Rattle.std.specs.Prelude.{◌≡◌, ℕ, ℤ, pos, negsuc, ◌-◌, ◌≤◌, ◌^◌, List, [], ◌∷◌, ◌++◌, map, take, length, replicate, All, Option, Some, None, slice_get, unwrap_or, IsTrue, ⊤, ◌==◌, if◌then◌else◌}
 use Rattle.std.specs.Option.{option_and_then}
-use Rattle.mg_time.specs.Time.{raw_of, pre_stream, one_over_post_stream}
+use Rattle.mg_time.specs.Time.{raw_of, place_of, pre_stream, one_over_post_stream}
 use Rattle.mg_value.specs.Plain.{Plain, int}
 use Rattle.mg_calc.specs.Values.{fits, time_of, stored, kept_in}
 use Rattle.mg_calc.specs.declared.law.Law.{Law}
@@ -21,10 +21,13 @@ abbrev pub count_in : List Plain → ℕ
 count_in (int (pos n) ∷ _) = n
 count_in _ = 0
 
--- the next valid timestamp of a state: its number is that of a time of the range, or else stands for OneOverPostStream; the
--- empty state's is PreStream
+-- the time whose number a thinner keeps: PreStream or a time of the range; every other number stands for OneOverPostStream
+abbrev pub time_kept : ℤ → ℕ
+time_kept n = if place_of n == pre_stream then pre_stream else unwrap_or (time_of n) one_over_post_stream
+
+-- the next valid timestamp of a state; the empty state's is PreStream
 abbrev pub next_valid : List Plain → ℕ
-next_valid (int n ∷ _) = unwrap_or (time_of n) one_over_post_stream
+next_valid (int n ∷ _) = time_kept n
 next_valid _ = pre_stream
 
 -- what a state keeps at a place: a payload, or none, also where there is no such place
@@ -61,7 +64,7 @@ IsFullPlace _ = ⊥
 -- a state is of the form that its law gives it, or empty; a source's is empty but for that of SideOnce, which keeps its payload
 abbrev pub IsStateOf : Law → List Plain → Type 0
 IsStateOf (Cloner lanes) state = ArePlaces lanes state
-IsStateOf (Thin period) state = IsNumber (λ n. raw_of (unwrap_or (time_of n) one_over_post_stream) ≡ n) state
+IsStateOf (Thin period) state = IsNumber (λ n. raw_of (time_kept n) ≡ n) state
 IsStateOf Running state = IsNumber (λ n. IsTrue (fits n)) state
 IsStateOf (SideOnce at) state = IsFullPlace state
 IsStateOf Tally state = IsNumber (CountsTo (2 ^ 63 - 1)) state

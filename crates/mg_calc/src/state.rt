@@ -3,7 +3,7 @@ ghost use Rattle.std.specs.Arc.{arc_value};
 ghost use Rattle.mg_value.specs.Payload.{plain};
 ghost use Rattle.mg_calc.specs.Given.{given};
 ghost use Rattle.mg_calc.specs.Values.{stored};
-ghost use Rattle.mg_calc.specs.State.{state_of, number_in, count_in, next_valid as its_next_valid, kept_at};
+ghost use Rattle.mg_calc.specs.State.{state_of, number_in, count_in, time_kept as its_time, next_valid as its_next_valid, kept_at};
 
 use mg_time::Timestamp;
 use mg_value::Payload;
@@ -104,9 +104,7 @@ impl State {
         ensures { result ≡ its_next_valid self.now }
     {
         match &self.kept {
-            Kept::Number(number) => {
-                Timestamp::of_range(*number).unwrap_or(Timestamp::ONE_OVER_POST_STREAM)
-            }
+            Kept::Number(number) => time_kept(*number),
             Kept::Nothing => Timestamp::PRE_STREAM,
             Kept::Places(_) => Timestamp::PRE_STREAM,
         }
@@ -155,4 +153,16 @@ fn shared(
         copies.push(share(place)?)?;
     }
     Ok(copies)
+}
+
+/// The time whose number a thinner keeps: PreStream or a time of the range; every other number stands for
+/// OneOverPostStream.
+fn time_kept(number: i64) -> Timestamp
+    ensures { result ≡ its_time number }
+{
+    if number == Timestamp::PRE_STREAM.raw() {
+        Timestamp::PRE_STREAM
+    } else {
+        Timestamp::of_range(number).unwrap_or(Timestamp::ONE_OVER_POST_STREAM)
+    }
 }
