@@ -10,15 +10,15 @@ use Rattle.mg_value.specs.declared.policy.Policy.{Policy}
 use Rattle.mg_value.specs.declared.policy.Policy.TheVariants.{Default, Mux as MuxPolicy}
 use Rattle.mg_value.specs.declared.kind.Kind.TheVariants.{Any}
 use Rattle.mg_calc.specs.declared.cause.Cause.{Cause}
-use Rattle.mg_calc.specs.declared.cause.Cause.TheVariants.{Overflow, BadSelect, NoSide, NotAscending}
-use Rattle.mg_calc.specs.declared.call.Call.{Call}
+use Rattle.mg_calc.specs.declared.cause.Cause.TheVariants.{Overflow, BadSelect, NoSide, NotAllowed, NotAscending, NotAlone, BelowOffset, EmitsInClose}
+use Rattle.mg_calc.specs.declared.emission.Laid.{Laid}
 use Rattle.mg_calc.specs.declared.call.Call.TheVariants.{Begun, Shown, Finished}
 use Rattle.mg_calc.specs.declared.law.Law.{Law}
-use Rattle.mg_calc.specs.declared.law.Law.TheVariants.{Pass, Gate, Mux, Merge, Thin, Sum, Map, Filter, Shift, Count, SideOnce, Loopback, Tally}
+use Rattle.mg_calc.specs.declared.law.Law.TheVariants.{Pass, Gate, Mux, Cloner, Merge, Thin, Running, Scripted, Sum, Map, Filter, Shift, Count, SideOnce, Loopback, Tally}
 use Rattle.mg_calc.specs.declared.law.MapOp.TheVariants.{Add, Multiply}
 use Rattle.mg_calc.specs.declared.law.Keep.TheVariants.{Even, Negative}
 use Rattle.mg_calc.specs.declared.node_fault.NodeFault.{NodeFault}
-use Rattle.mg_calc.specs.declared.node_fault.Phase.TheVariants.{Open, Process}
+use Rattle.mg_calc.specs.declared.node_fault.Phase.TheVariants.{Open, Call, Process, Close}
 use Rattle.mg_calc.specs.declared.plan.Plan.{Plan}
 use Rattle.mg_calc.specs.declared.plan_node.PlanNode.{PlanNode}
 use Rattle.mg_calc.specs.declared.plan_stream.PlanStream.{PlanStream}
@@ -147,6 +147,9 @@ gates empty_as_allow = job_of 3 (node (Gate 1 false empty_as_allow) (0 ∷ 1 ∷
 gates_shows : lines (2 ∷ []) (round (gates false) 2) ≡ out (pk 10 1 ∷ [])
 gates_shows = refl
 
+gates_stays_shut : next_round (gates false) (round (gates false) 2) ≡ round (gates false) 2
+gates_stays_shut = refl
+
 gates_shows_more : lines (2 ∷ []) (round (gates true) 2) ≡ out (pk 10 1 ∷ pk 20 2 ∷ [])
 gates_shows_more = refl
 
@@ -182,11 +185,20 @@ waits_shows = refl
 waits_for_all : lines (3 ∷ []) (round (waits Default) 2) ≡ out []
 waits_for_all = refl
 
+waits_stays : next_round (waits MuxPolicy) (round (waits MuxPolicy) 2) ≡ round (waits MuxPolicy) 2
+waits_stays = refl
+
+waits_for_all_stays : next_round (waits Default) (round (waits Default) 2) ≡ round (waits Default) 2
+waits_for_all_stays = refl
+
 abbrev waits_for_the_first : Job
 waits_for_the_first = muxes MuxPolicy (until pre_stream [] ∷ until (at 21) (pk 20 5 ∷ []) ∷ until (at 21) (pk 10 0 ∷ pk 20 1 ∷ []) ∷ [])
 
 waits_shows_nothing : lines (3 ∷ []) (round waits_for_the_first 2) ≡ out []
 waits_shows_nothing = refl
+
+waits_for_the_first_stays : next_round waits_for_the_first (round waits_for_the_first 2) ≡ round waits_for_the_first 2
+waits_for_the_first_stays = refl
 
 -- A running sum by a loopback: LOOP is the sum itself.
 abbrev sums : Job
@@ -256,8 +268,11 @@ doubles_stays = refl
 abbrev before_all : Job
 before_all = job_of 3 (node (Merge 2) (0 ∷ 1 ∷ []) (2 ∷ []) ∷ []) (ended (record { at = pre_stream; value = int (pos 1) } ∷ []) ∷ ended (pk 5 2 ∷ []) ∷ [])
 
-before_all_shows : (stream_of (round before_all 2) 2).packets ≡ record { at = pre_stream; value = int (pos 1) } ∷ []
+before_all_shows : lines (2 ∷ []) (round before_all 2) ≡ out (record { at = pre_stream; value = int (pos 1) } ∷ [])
 before_all_shows = refl
+
+before_all_stays : next_round before_all (round before_all 2) ≡ round before_all 2
+before_all_stays = refl
 
 before_all_fails : faults before_all (round before_all 2) ≡ record { node = 0; phase = Process (at 5); cause = NotAscending } ∷ []
 before_all_fails = refl
@@ -271,6 +286,19 @@ stops_shows = refl
 
 stops_at_once : lines (2 ∷ []) (round (stops pre_stream) 2) ≡ out []
 stops_at_once = refl
+
+stops_stays : next_round (stops (at 6)) (round (stops (at 6)) 2) ≡ round (stops (at 6)) 2
+stops_stays = refl
+
+-- An input that ended at once takes nothing from the other's packets.
+abbrev one_ended : Job
+one_ended = job_of 3 (node (Sum 2) (0 ∷ 1 ∷ []) (2 ∷ []) ∷ []) (ended (pk 1 1 ∷ pk 2 2 ∷ []) ∷ ended [] ∷ [])
+
+one_ended_shows : lines (2 ∷ []) (round one_ended 2) ≡ out (pk 1 1 ∷ pk 2 2 ∷ [])
+one_ended_shows = refl
+
+one_ended_stays : next_round one_ended (round one_ended 2) ≡ round one_ended 2
+one_ended_stays = refl
 
 -- A side packet as a stream, and without one.
 abbrev side_job : List (Option Plain) → Job
@@ -288,6 +316,9 @@ side_fails = refl
 side_stalls : stalled (round (side_job (None ∷ [])) 1) ≡ 0 ∷ []
 side_stalls = refl
 
+side_stays : next_round (side_job (None ∷ [])) (round (side_job (None ∷ [])) 1) ≡ round (side_job (None ∷ [])) 1
+side_stays = refl
+
 -- How many sets there were, and the calls that are told of it.
 abbrev letter : ℕ → List ℕ → Stamped Plain
 letter t bytes = record { at = at t; value = text bytes }
@@ -302,6 +333,9 @@ tallies_log : log_of tallies (round tallies 2) (node Tally (0 ∷ []) (1 ∷ [])
     ≡ Begun ∷ Shown (at 1) (Some (letter 1 (codes "a")) ∷ []) ∷ Shown (at 4) (Some (letter 4 (codes "b")) ∷ []) ∷ Finished ∷ []
 tallies_log = refl
 
+tallies_stays : next_round tallies (round tallies 2) ≡ round tallies 2
+tallies_stays = refl
+
 -- An offset, and one that leaves the range.
 abbrev shifts : StreamPrefix Plain → Job
 shifts input = job_of 2 (node (Shift (negsuc 4)) (0 ∷ []) (1 ∷ []) ∷ []) (input ∷ [])
@@ -314,6 +348,75 @@ too_low = ended (record { at = place_of (negsuc 9223372036854775802); value = in
 
 shifts_fails : faults (shifts too_low) (round (shifts too_low) 2) ≡ record { node = 0; phase = Process (place_of (negsuc 9223372036854775802)); cause = Overflow } ∷ []
 shifts_fails = refl
+
+shifts_stays : next_round (shifts too_low) (round (shifts too_low) 2) ≡ round (shifts too_low) 2
+shifts_stays = refl
+
+-- A number added to each.
+abbrev adds : Job
+adds = job_of 2 (node (Map Add (pos 10)) (0 ∷ []) (1 ∷ []) ∷ []) (ended (pk 1 5 ∷ pk 2 6 ∷ []) ∷ [])
+
+adds_shows : lines (1 ∷ []) (round adds 2) ≡ out (pk 1 15 ∷ pk 2 16 ∷ [])
+adds_shows = refl
+
+-- The last value of another stream, at each tick, and a sum of all so far.
+abbrev clones : Job
+clones = job_of 4 (node (Cloner 1) (0 ∷ 1 ∷ []) (2 ∷ []) ∷ node Running (2 ∷ []) (3 ∷ []) ∷ []) (ended (pk 10 7 ∷ pk 30 8 ∷ []) ∷ ended (pk 5 0 ∷ pk 20 0 ∷ pk 30 0 ∷ pk 40 0 ∷ []) ∷ [])
+
+clones_shows : lines (2 ∷ []) (round clones 3) ≡ out (pk 20 7 ∷ pk 30 8 ∷ pk 40 8 ∷ [])
+clones_shows = refl
+
+clones_sums : lines (3 ∷ []) (round clones 3) ≡ out (pk 20 7 ∷ pk 30 15 ∷ pk 40 23 ∷ [])
+clones_sums = refl
+
+clones_stays : next_round clones (round clones 3) ≡ round clones 3
+clones_stays = refl
+
+-- A source whose second call leaves the range: it stops there, with what it had emitted.
+abbrev leaps : Job
+leaps = job_of 1 (node (Count 2 (pos 0) (pos 9223372036854775807)) [] (0 ∷ []) ∷ []) []
+
+leaps_fails : faults leaps (round leaps 1) ≡ record { node = 0; phase = Call 1; cause = Overflow } ∷ []
+leaps_fails = refl
+
+leaps_stops : round leaps 1 ≡ until (at 1) (pk 0 0 ∷ []) ∷ []
+leaps_stops = refl
+
+leaps_counts : counts leaps (round leaps 1) ≡ 2 ∷ []
+leaps_counts = refl
+
+-- What is written for Open, one set and Close, at an offset or none.
+abbrev laid_at : ℕ → Laid
+laid_at t = record { packets = pk t 1 ∷ []; bound = None }
+
+abbrev written : Option ℤ → List Laid → List Laid → List Laid → Job
+written offset first step last = job_of 2 (node (Scripted offset first (step ∷ []) last) (0 ∷ []) (1 ∷ []) ∷ []) (ended (pk 10 1 ∷ []) ∷ [])
+
+written_shows : round (written None (laid_at 1 ∷ []) (laid_at 2 ∷ []) (laid_at 3 ∷ [])) 2 ≡ ended (pk 10 1 ∷ []) ∷ ended (pk 1 1 ∷ pk 2 1 ∷ pk 3 1 ∷ []) ∷ []
+written_shows = refl
+
+-- A node with an offset emits nothing in Close, and nothing below its promise; the fault of Close leaves its output at Done.
+written_in_close : faults (written (Some (pos 0)) [] (laid_at 10 ∷ []) (laid_at 20 ∷ [])) (round (written (Some (pos 0)) [] (laid_at 10 ∷ []) (laid_at 20 ∷ [])) 2) ≡ record { node = 0; phase = Close; cause = EmitsInClose } ∷ []
+written_in_close = refl
+
+written_in_close_ends : round (written (Some (pos 0)) [] (laid_at 10 ∷ []) (laid_at 20 ∷ [])) 2 ≡ ended (pk 10 1 ∷ []) ∷ ended (pk 10 1 ∷ []) ∷ []
+written_in_close_ends = refl
+
+written_below : faults (written (Some (pos 0)) [] (laid_at 9 ∷ []) []) (round (written (Some (pos 0)) [] (laid_at 9 ∷ []) []) 2) ≡ record { node = 0; phase = Process (at 10); cause = BelowOffset } ∷ []
+written_below = refl
+
+written_below_stops : round (written (Some (pos 0)) [] (laid_at 9 ∷ []) []) 2 ≡ ended (pk 10 1 ∷ []) ∷ until (at 10) [] ∷ []
+written_below_stops = refl
+
+-- No packet stands at Done, and none beside one at PostStream.
+abbrev laid_special : List ℕ → Laid
+laid_special ts = record { packets = map (λ t. record { at = t; value = int (pos 1) }) ts; bound = None }
+
+written_at_done : faults (written None (laid_special (done ∷ []) ∷ []) [] []) (round (written None (laid_special (done ∷ []) ∷ []) [] []) 2) ≡ record { node = 0; phase = Open; cause = NotAllowed } ∷ []
+written_at_done = refl
+
+written_beside : faults (written None [] (laid_special (at 5 ∷ post_stream ∷ []) ∷ []) []) (round (written None [] (laid_special (at 5 ∷ post_stream ∷ []) ∷ []) []) 2) ≡ record { node = 0; phase = Process (at 10); cause = NotAlone } ∷ []
+written_beside = refl
 
 -- A loopback whose LOOP is its MAIN.
 abbrev repeats : Job
@@ -349,3 +452,6 @@ two_sums_fifth = refl
 
 two_sums_stays : next_round two_sums (round two_sums 5) ≡ round two_sums 5
 two_sums_stays = refl
+
+repeats_stays : next_round repeats (round repeats 2) ≡ round repeats 2
+repeats_stays = refl

@@ -61,9 +61,9 @@ pub fn streams_depend_on_what_reaches_them()
         → stream_of solution stream ≡ stream_of changed stream }
 {}
 
-/// Each node is shown settled sets, ascending, each once: the time of each is below the bounds that the node's policy asks
-/// for. They are as many as are counted, and the calls that are told are these, Open before them, and Close behind them
-/// where Open succeeded.
+/// Each node that is shown sets is shown settled ones, ascending, each once: the time of each is below the bounds that the
+/// node's policy asks for. They are as many as are counted; and of the calls that are told there is one for each, one for
+/// Open, and where Open succeeded one for Close.
 pub fn shown_sets_are_settled()
     ensures ascend { (job : Job) (streams : List (StreamPrefix Plain)) (node : PlanNode) → All IsPrefix streams
         → IsStrictlyIncreasing (map (λ e. e.at) (shown_sets job streams node)) }
