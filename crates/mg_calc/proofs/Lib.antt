@@ -18,3 +18,4 @@ pub mod NumberLemmas
 pub mod StateForms
 pub mod StateLemmas
 pub mod Counting
+pub mod ValidJob

@@ -38,7 +38,7 @@ stream_of streams number = slice_index_or streams number empty_prefix
 abbrev pub inputs_of : List (StreamPrefix Plain) → PlanNode → List (StreamPrefix Plain)
 inputs_of streams node = map (stream_of streams) node.inputs
 
--- what becomes of a node, by its law: sources are called by number, a loopback answers MAIN, and every other node is shown
+-- what becomes of a node, by its own law: sources are called by number, a loopback answers MAIN, and every other node is shown
 -- the settled sets of its policy. A loopback's ports are LOOP and MAIN, in this order.
 abbrev pub outcome_by : Law → Job → List (StreamPrefix Plain) → PlanNode → Outcome
 outcome_by (Count count start step) job streams node = source_outcome node.law (calls_of node.law) (length node.outputs) (sides_of job node)

@@ -18,7 +18,7 @@ use Rattle.mg_calc.specs.Values.{is_in_range}
 
 -- The laws by who computes them.
 
--- the laws of numbers, and those that are written down or count
+-- the laws of numbers, the one that shifts times, and those that are written down or count
 abbrev pub IsOwn : Law → Type 0
 IsOwn (Sum lanes) = ⊤
 IsOwn (Map op operand) = ⊤

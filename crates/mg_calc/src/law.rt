@@ -41,7 +41,7 @@ pub enum Law {
     Cloner {
         lanes: u32,
     },
-    /// The first packet of all goes on.
+    /// The present packet of lowest index goes on.
     Merge {
         lanes: u32,
     },
