@@ -1,0 +1,12 @@
+-- The side packets of a plan.
+use Rattle.std.specs.Prelude.{ℕ, List}
+use Rattle.mg_value.specs.Payload.{Plain}
+
+-- where a side packet comes from: the place of one that is handed in, or a payload that stands in the graph
+pub data PlainSideValue : Type 0 where
+  given_at : ℕ → PlainSideValue
+  fixed : Plain → PlainSideValue
+
+pub record PlainSide : Type 0 where
+  pub name : List ℕ
+  pub value : PlainSideValue
