@@ -17,6 +17,8 @@ mod payload;
 #[cfg(test)]
 mod policy;
 #[cfg(test)]
+mod ready;
+#[cfg(test)]
 mod stream;
 #[cfg(test)]
 mod subgraph;
