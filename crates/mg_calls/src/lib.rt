@@ -23,6 +23,8 @@ mod payload;
 #[cfg(test)]
 mod policy;
 #[cfg(test)]
+mod ready;
+#[cfg(test)]
 mod sets;
 #[cfg(test)]
 mod stream;

@@ -1,0 +1,5 @@
+pub mod BitSets
+pub mod Chains
+pub mod Kept
+pub mod Marks
+pub mod Slots

@@ -1,0 +1,4 @@
+-- What only the crate's own functions and proofs cite. Nobody who reads the public contracts needs these pages.
+pub mod Kept
+pub mod Reach
+pub mod Rows

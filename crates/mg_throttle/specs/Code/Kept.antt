@@ -1,0 +1,36 @@
+-- How limits are kept: for each feeder a count of the full queues that it reaches.
+use Rattle.std.specs.Prelude.{◌≡◌, ℕ, ◌+◌, ◌^◌, ◌<◌, ◌&&◌, ◌==◌, Bool, true, List, length, All, slice_index, slice_index_or, take, ◌≤◌, count_by}
+use Rattle.std.specs.List.Sorted.{IsNonDecreasingBy}
+use Rattle.mg_throttle.specs.declared.queue.Queue.{Queue}
+use Rattle.mg_throttle.specs.Throttle.{is_full, is_reached, stopped}
+
+-- a queue presses on a feeder: it is full, and the feeder reaches its node
+abbrev pub presses : List (List Bool) → ℕ → Queue → Bool
+presses rows feeder q = is_full q && is_reached rows feeder q.node
+
+-- the counts are those of the queues that press on the feeders
+abbrev pub AreCounted : List Queue → List (List Bool) → List ℕ → Type 0
+AreCounted queues rows counts = (f : ℕ) → f < length counts → slice_index counts f ≡ count_by (presses rows f) queues
+
+-- a full queue of a node
+abbrev pub is_full_at : ℕ → Queue → Bool
+is_full_at node q = is_full q && (q.node == node)
+
+-- the consumers of some queues rise
+abbrev pub AreByNode : List Queue → Type 0
+AreByNode queues = IsNonDecreasingBy (λ q. q.node) queues
+
+-- the queues of a node among the first ones have stopped, and so many of them were full
+pub record StopsTo (node k : ℕ) (old now : List Queue) (full : ℕ) : Type 0 where
+  pub len : length now ≡ length old
+  pub done : (j : ℕ) (d : Queue) → j < k → j < length old → slice_index_or now j d ≡ stopped node (slice_index_or old j d)
+  pub rest : (j : ℕ) (d : Queue) → k ≤ j → slice_index_or now j d ≡ slice_index_or old j d
+  pub counted : full ≡ count_by (is_full_at node) (take k old)
+
+pub record IsKept (queues : List Queue) (rows : List (List Bool)) (counts : List ℕ) : Type 0 where
+  pub few : length queues < 2 ^ 32
+  pub by_node : AreByNode queues
+  pub nodes : All (λ q. q.counts ≡ true → q.node < length rows) queues
+  pub lengths : All (λ q. q.waiting + 1 < 2 ^ 64) queues
+  pub marks : All (λ row. length row ≡ length counts) rows
+  pub counted : AreCounted queues rows counts

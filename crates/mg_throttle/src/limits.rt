@@ -1,0 +1,199 @@
+ghost use Rattle.std.specs.Prelude.{◌≡◌, ◌+◌, ◌^◌, ◌<◌, ◌≤◌, ◌↔◌, false, All, Some, length, map, replicate, count_by, slice_get, IfOk, option_map};
+ghost use Rattle.std.specs.List.Sorted.{IsPartitionPoint};
+ghost use Rattle.mg_calc.specs.declared.plan.Plan.{Plan as PlanRecord};
+ghost use Rattle.mg_calc.specs.Plan.{IsValid, Feeder, feeders};
+ghost use Rattle.mg_throttle.specs.Throttle.{limit_of, new_queue, noted, relaxed, stopped, IsOf, IsThrottled};
+ghost use Rattle.mg_throttle.specs.Code.Kept.{AreByNode, is_full_at};
+
+use crate::queue::Queue;
+use crate::reach::{rows_of, sources};
+use crate::row::Row;
+use mg_calc::{Edge, Plan};
+use std::alloc::{AllocError, Global};
+use std::marker::Model;
+
+// The limit where none is given.
+const USUAL: u64 = 100;
+
+/// The limits of a plan's queues, and which of its feeders are throttled (MediaPipe, Real-time Streams). Only `new`
+/// takes memory.
+#[derive(Drop)]
+pub struct Limits {
+    queues: Vec<Queue>,
+    rows: Vec<Row>,
+    counts: Vec<usize>,
+}
+
+impl Model for Limits {
+    ghost use Rattle.std.specs.Prelude.{vec_len};
+    ghost use Rattle.mg_throttle.specs.Throttle.{QueueLimits};
+    ghost use Rattle.mg_throttle.specs.Code.Kept.{IsKept};
+
+    ghost Value = { QueueLimits };
+
+    ghost view = { λ l. record { queues = l.queues.items; reached = l.rows.items; feeders = vec_len l.counts } };
+
+    ghost invariant = { λ l. IsKept l.queues.items l.rows.items l.counts.items };
+}
+
+// The limit that a number stands for: 0 is the usual one, and a negative number none.
+fn limit_of(limit: i32) -> Option<u64>
+    ensures { result ≡ limit_of limit }
+{
+    if limit < 0 {
+        None
+    } else if limit == 0 {
+        Some(USUAL)
+    } else {
+        Some(limit as u64)
+    }
+}
+
+// The queues of some edges, all empty.
+fn queues_of(
+    alloc: Global,
+    edges: &[Edge],
+    nodes: u32,
+    limit: Option<u64>,
+) -> Result<Vec<Queue>, AllocError>
+    ensures { IfOk result (λ v. v.items ≡ map (new_queue nodes limit) edges.now) }
+{
+    let mut queues = Vec::new(alloc);
+    for edge in edges {
+        queues.push(Queue {
+            node: edge.node,
+            waiting: 0,
+            limit,
+            counts: edge.node < nodes,
+        })?;
+    }
+    Ok(queues)
+}
+
+// So many zeros.
+fn zeros(alloc: Global, len: usize) -> Result<Vec<usize>, AllocError>
+    ensures { IfOk result (λ v. v.items ≡ replicate len 0) }
+{
+    vec![in alloc; 0; len]
+}
+
+// The first queue whose node isn't below a node.
+fn first_queue(queues: &[Queue], node: u32) -> usize
+    requires { AreByNode queues.now }
+    ensures { IsPartitionPoint (λ q. q.node < node) (λ q. node ≤ q.node) queues.now result }
+{
+    queues.partition_point(|queue| queue.node < node)
+}
+
+// Stops the queues of a node, and counts those that were full.
+fn stop_queues(queues: &mut [Queue], node: u32) -> usize
+    requires by_node { AreByNode queues.old }
+    ensures queues { queues.new ≡ map (stopped node) queues.old }
+    ensures full { result ≡ count_by (is_full_at node) queues.old }
+{
+    let mut full = 0;
+    for k in first_queue(queues, node)..queues.len() {
+        let queue = queues[k];
+        if queue.node != node {
+            break;
+        }
+        if queue.is_full() {
+            full += 1;
+        }
+        queues[k] = Queue {
+            counts: false,
+            ..queue
+        };
+    }
+    full
+}
+
+// Relaxes the limits of the full queues.
+fn relax_queues(queues: &mut [Queue])
+    requires { All (λ q. q.waiting + 1 < 2 ^ 64) queues.old }
+    ensures { queues.new ≡ map relaxed queues.old }
+{
+    for queue in queues.iter_mut() {
+        *queue = queue.relaxed();
+    }
+}
+
+impl Limits {
+    /// The limits of a plan whose queues are empty. A limit of 0 is 100, and a negative one is none.
+    pub fn new(alloc: Global, plan: &Plan, limit: i32) -> Result<Limits, AllocError>
+        requires { IsValid plan.now }
+        ensures of { IfOk result (λ t. IsOf plan.now t) }
+        ensures queues { IfOk result (λ t. t.queues ≡ map (new_queue (length plan.now.nodes) (limit_of limit)) plan.now.edges) }
+    {
+        let sources = sources(alloc, plan.nodes.as_slice())?;
+        let counts = zeros(alloc, plan.inputs.len() as usize + sources.len())?;
+        let rows = rows_of(alloc, plan, sources.as_slice())?;
+        let limit = limit_of(limit);
+        let queues = queues_of(alloc, plan.edges.as_slice(), plan.nodes.len(), limit)?;
+        Ok(Limits {
+            queues,
+            rows,
+            counts,
+        })
+    }
+
+    /// Tells how many packets wait in the queue of an edge. The feeders that reach it are looked at where it becomes
+    /// full, and where it stops being full.
+    pub fn note(&mut self, edge: u32, packets: u64)
+        requires edge { edge < length self.old.queues }
+        requires packets { packets + 1 < 2 ^ 64 }
+        ensures noted { self.new ≡ record self.old { queues = noted self.old.queues edge packets } }
+        ensures of { (plan : PlanRecord) → IsOf plan self.old → IsOf plan self.new }
+    {
+        let queue = self.queues[edge as usize];
+        let noted = Queue {
+            waiting: packets,
+            ..queue
+        };
+        self.queues[edge as usize] = noted;
+        let was = queue.is_full();
+        let is = noted.is_full();
+        if was != is {
+            let row = &self.rows[queue.node as usize];
+            row.change(&mut self.counts, usize::from(is), usize::from(was));
+        }
+    }
+
+    /// A node has stopped: its queues no longer count.
+    pub fn stop(&mut self, node: u32)
+        requires { node < length self.old.reached }
+        ensures stopped { self.new ≡ record self.old { queues = map (stopped node) self.old.queues } }
+        ensures of { (plan : PlanRecord) → IsOf plan self.old → IsOf plan self.new }
+    {
+        let full = stop_queues(&mut self.queues, node);
+        if full > 0 {
+            self.rows[node as usize].change(&mut self.counts, 0, full);
+        }
+    }
+
+    /// Whether a feeder isn't throttled.
+    pub fn may_feed(&self, feeder: u32) -> bool
+        requires { feeder < self.now.feeders }
+        ensures { (plan : PlanRecord) (f : Feeder) → IsOf plan self.now → slice_get (feeders plan) feeder ≡ Some f
+            → (result ≡ false) ↔ IsThrottled plan self.now f }
+    {
+        self.counts[feeder as usize] == 0
+    }
+
+    /// Relaxes the limits: that of each full queue becomes its length and one more. It looks at each queue once.
+    pub fn relax(&mut self)
+        ensures relaxed { self.new ≡ record self.old { queues = map relaxed self.old.queues } }
+        ensures of { (plan : PlanRecord) → IsOf plan self.old → IsOf plan self.new }
+    {
+        relax_queues(&mut self.queues);
+        self.counts.fill(0);
+    }
+
+    /// The limit of the queue of an edge, if it has one.
+    pub fn limit(&self, edge: u32) -> Option<u64>
+        requires { edge < length self.now.queues }
+        ensures { option_map (λ q. q.limit) (slice_get self.now.queues edge) ≡ Some result }
+    {
+        self.queues[edge as usize].limit
+    }
+}
