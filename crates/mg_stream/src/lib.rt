@@ -6,7 +6,9 @@ mod chain;
 mod fault;
 mod pool;
 mod queue;
+mod waits;
 
 pub use fault::{Refused, StreamFault};
 pub use pool::Pool;
 pub use queue::Queue;
+pub use waits::Waits;

@@ -6,7 +6,7 @@ ghost use Rattle.mg_stream.specs.Queue.{StandsFor, MayCome, count_of, rest_of, w
 ghost use Rattle.mg_stream.specs.Pool.{empty_backlog, queue_at, with_queue};
 
 use crate::chain::{Chain, Entry, pop_first, push_last};
-use crate::{Refused, StreamFault};
+use crate::{Refused, StreamFault, Waits};
 use mg_time::Timestamp;
 use mg_time::laws::done_is_greatest;
 use mg_value::Packet;
@@ -169,6 +169,19 @@ impl Pool {
         ensures rest { IsPrefix (rest_of (queue_at self.now port)) }
     {
         Some(self.front(port)?.at)
+    }
+
+    /// All packets that wait at a port, in order.
+    pub fn waits(&self, port: u32) -> Waits<'_>
+        requires { port < length self.now.ports }
+        ensures { result ≡ (queue_at self.now port).packets }
+    {
+        let chain = self.chains[port as usize];
+        Waits {
+            entries: &self.entries,
+            next: chain.first,
+            left: chain.waiting,
+        }
     }
 
     /// The lowest timestamp that a further packet may have at a port.
