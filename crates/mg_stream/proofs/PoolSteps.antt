@@ -1,6 +1,7 @@
 -- What a step at one port makes of a pool, in the words of contracts.
-use Rattle.std.proofs.Common.{◌≡◌, ℕ, zero, suc, ◌+◌, ◌-◌, ◌<◌, ◌≤◌, ◌^◌, max, List, [], ◌∷◌, ◌++◌, length, map, set, get_or, drop, replicate, Option, Some, None, option_map, subst, ap, ap₂, sym, refl, ◌∙◌, arith, vec_len, slice_get}
-use Rattle.std.proofs.lemmas.List.{get_or_default, length-map}
+use Rattle.std.proofs.Common.{◌≡◌, ℕ, zero, suc, ◌+◌, ◌-◌, ◌<◌, ◌≤◌, ◌^◌, max, List, [], ◌∷◌, ◌++◌, length, map, set, get_or, drop, replicate, Option, Some, None, option_map, inl, inr, subst, ap, ap₂, sym, refl, ◌∙◌, arith, vec_len, slice_get}
+use Rattle.std.proofs.lemmas.Bool.{cases_lt}
+use Rattle.std.proofs.lemmas.List.{get_or_default, get_or_past, length-map}
 use Rattle.std.specs.Vec.{with_item}
 use Rattle.slab.specs.Slab.{slab_len}
 use Rattle.mg_time.specs.Time.{done, next}
@@ -262,3 +263,12 @@ view_new p n none chains room =
     let spare : p.room - slab_len p.entries ≡ 0 = omega (arith, room) in
     ap₂ (λ (ports : List (Backlog Plain)) (m : ℕ). (let v : Pooled Plain = record { ports = ports; spare = m } in v))
     (ap₂ (λ (slots : List (Option Entry)) (cs : List Chain). map (backlog_in slots) cs) none chains ∙ view_none n) spare
+
+-- what waits at a port is a prefix, also where there is no such port
+pub rests_all : (p : Inside) (v : Pooled Plain) → pool_view p ≡ v → IsPool p → (port : ℕ) → IsPrefix (rest_of (queue_at v port))
+rests_all p v seen pool port = subst (λ (w : Pooled Plain). IsPrefix (rest_of (queue_at w port))) seen (elim (cases_lt port (length p.chains.items)) [
+  | inl there ↦ subst (λ (q : Waiting Plain). IsPrefix (rest_of q)) (sym (queue_at-view p port there)) (pool.laid.each port).queue.rest
+  | inr past ↦
+      (let none : get_or (map (backlog_in p.entries.slots) p.chains.items) port empty_backlog ≡ empty_backlog = get_or_past (map (backlog_in p.entries.slots) p.chains.items) port empty_backlog (let long = length-map p.chains.items (backlog_in p.entries.slots) in omega (arith, past, long)) in
+      subst (λ (b : Backlog Plain). IsPrefix (rest_of (queue_of (pool_view p).spare b))) (sym none) empty_is_prefix)
+])

@@ -1,4 +1,4 @@
-ghost use Rattle.std.specs.Prelude.{◌≡◌, ◌≢◌, Some, IfNone, ◌<◌, ◌≤◌, ◌+◌, ◌-◌, ◌^◌, ◌↔◌, [], ◌∷◌, length, replicate, min, max, slice_get, option_map, option_copied, OnOk, OnErr, IfOk, IfErr, IsErrAnd, IsOk, MatchResult};
+ghost use Rattle.std.specs.Prelude.{◌≡◌, ◌≢◌, ℕ, Some, IfNone, ◌<◌, ◌≤◌, ◌+◌, ◌-◌, ◌^◌, ◌↔◌, [], ◌∷◌, length, replicate, min, max, slice_get, option_map, option_copied, OnOk, OnErr, IfOk, IfErr, IsErrAnd, IsOk, MatchResult};
 ghost use Rattle.mg_time.specs.Time.{post_stream, done, IsAllowed};
 ghost use Rattle.mg_value.specs.Payload.{Plain};
 ghost use Rattle.mg_value.specs.Prefix.{StreamPrefix, IsPrefix, empty_prefix, appended, raised, closed};
@@ -58,7 +58,9 @@ impl Pool {
 
     /// How many ports there are.
     pub fn ports(&self) -> u32
-        ensures { result ≡ length self.now.ports }
+        ensures ports { result ≡ length self.now.ports }
+        // Of every pool: what waits at a port, with the bound, is a prefix.
+        ensures rests { (port : ℕ) → IsPrefix (rest_of (queue_at self.now port)) }
     {
         self.chains.len() as u32
     }
