@@ -161,10 +161,10 @@ push_changes slots now chains port key c p laid there may list is free kept = re
   there = there;
   others = λ other differs. linked-same slots now (chain_at chains other).waiting (chain_at chains other).first (laid.each other).full
       (λ k among. kept k
-          (λ same. (let e = key_of_chain slots (chain_at chains other) k (laid.each other) among in
-              absurd (let clash : ◌≡◌ {A = Option Entry} (Some e.0) None = sym e.1 ∙ ap (entry_at slots) same ∙ free in cc)))
-          (λ waits same. laid.apart other port k differs among
-              (subst (λ (j : ℕ). IsKey j (keys_of (entries_of slots (chain_at chains port)))) (sym same) (last_of_chain slots (chain_at chains port) whole waits))));
+      (λ same. (let e = key_of_chain slots (chain_at chains other) k (laid.each other) among in
+      absurd (let clash : ◌≡◌ {A = Option Entry} (Some e.0) None = sym e.1 ∙ ap (entry_at slots) same ∙ free in cc)))
+      (λ waits same. laid.apart other port k differs among
+      (subst (λ (j : ℕ). IsKey j (keys_of (entries_of slots (chain_at chains port)))) (sym same) (last_of_chain slots (chain_at chains port) whole waits))));
   whole = record {
     full = (let long = whole.full in let more = ap (λ (d : Chain). d.waiting) is in omega (arith, long, ap length list, more, length-append (entries_of slots (chain_at chains port)) ((key, p) ∷ [])));
     last = ap (last_key c.last) list ∙ last_key-push c.last key p (entries_of slots (chain_at chains port)) ∙ sym (ap (λ (d : Chain). d.last) is);

@@ -226,7 +226,7 @@ pushed_behind s t c key new f whole waits free comes is = go c.waiting refl
         let one_more : c.waiting + 1 ≡ suc (suc n) = omega (arith, e) in
         ap (λ (m : ℕ). linked (with_value t c.last (record f { next = key })).slots m c.first) one_more
         ∙ linked-push s.slots (with_value t c.last (record f { next = key })).slots n c.first c.last c.last key 0 new full rises ends free
-          (written.others key (λ same. apart (sym same)) ∙ comes.changed)
-          (λ k other fresh. written.others k other ∙ comes.others k fresh)
-          (λ g there. written.changed ∙ (let both : ◌≡◌ {A = Option Entry} (Some f) (Some g) = sym is ∙ comes.others c.last apart ∙ there in ap (option_map (λ (h : Entry). (let moved : Entry = record h { next = key } in moved))) both))
+        (written.others key (λ same. apart (sym same)) ∙ comes.changed)
+        (λ k other fresh. written.others k other ∙ comes.others k fresh)
+        (λ g there. written.changed ∙ (let both : ◌≡◌ {A = Option Entry} (Some f) (Some g) = sym is ∙ comes.others c.last apart ∙ there in ap (option_map (λ (h : Entry). (let moved : Entry = record h { next = key } in moved))) both))
         ∙ ap (λ (m : ℕ). linked s.slots m c.first ++ (key, new.packet) ∷ []) (sym e)

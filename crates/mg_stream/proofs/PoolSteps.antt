@@ -92,7 +92,7 @@ pub record Pops (p now : Inside) (old c : Chain) (packet : Stamped Plain) : Type
 pub pop_step : (p now : Inside) (port : ℕ) (old c : Chain) (packet : Stamped Plain) → IsPool p → port < length p.chains.items → old ≡ chain_at p.chains.items port
     → now.chains ≡ with_item p.chains port c → Pops p now old c packet
     → IsPool now × (pool_view now ≡ with_queue (pool_view p) port (popped (queue_at (pool_view p) port)))
-      × (slice_get (queue_at (pool_view p) port).packets 0 ≡ Some packet)
+    × (slice_get (queue_at (pool_view p) port).packets 0 ≡ Some packet)
 pop_step p now port old c packet pool there read is pops = (
   step_pool p now port c pool is step (let held = pool.held in let len = h.len in let room = h.room in omega (arith, held, len, room)) (let room = pool.room in let same = h.room in let capacity = h.capacity in omega (arith, room, same, capacity)),
   step_view p now port c is step ∙ ap (λ (q : Waiting Plain). with_queue (pool_view p) port q) (seen ∙ sym (ap popped (queue_at-view p port there))),
@@ -179,8 +179,8 @@ raised_step p v port b m c seen pool in_v read le top =
     let step = bound_step p port m c pool there is queue in (
       step.0,
       step.1
-      ∙ ap (λ (n : ℕ). with_queue (pool_view p) port (let q : Waiting Plain = record (queue_at (pool_view p) port) { bound = n } in q)) old
-      ∙ ap (λ (w : Pooled Plain). with_queue w port (raised_to (queue_at w port) b)) seen,
+          ∙ ap (λ (n : ℕ). with_queue (pool_view p) port (let q : Waiting Plain = record (queue_at (pool_view p) port) { bound = n } in q)) old
+          ∙ ap (λ (w : Pooled Plain). with_queue w port (raised_to (queue_at w port) b)) seen,
     )
 
 pub closed_step : (p : Inside) (v : Pooled Plain) (port : ℕ) (c : Chain) → pool_view p ≡ v → IsPool p → port < length v.ports → c ≡ get_or p.chains.items port c

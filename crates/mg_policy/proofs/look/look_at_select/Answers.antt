@@ -15,7 +15,7 @@ returns-in_default-clause-ended c =
     let ss = rests (queues_of pool) in
     let select = select-at pool c.select_port-select.result c.select_port-select.ensures.number in
     let reach = reach-none ss (queue_at pool c.select_port-select.result).packets (ap (λ (s : StreamPrefix Plain). s.packets) select) (sym c.in_default.ensures.front)
-        ∙ ap (λ (s : StreamPrefix Plain). s.bound) select ∙ sym c.bound.ensures in (
+    ∙ ap (λ (s : StreamPrefix Plain). s.bound) select ∙ sym c.bound.ensures in (
       (λ ended. reach ∙ eqb-true c.bound.result done (sym c.eq.ensures ∙ ended)),
       (λ ended. c.eq.ensures ∙ eq-eqb c.bound.result done (sym reach ∙ ended)),
     )

@@ -11,7 +11,7 @@ loop-packet-init c =
     let pool = c.args.pool.now in
     let ss = rests (queues_of pool) in
     let all = c.into_iter-packet-iterator.ensures.into_iter_gives ∙ c.waits-packet-items.ensures
-        ∙ sym (ap (λ (s : StreamPrefix Plain). s.packets) (select-at pool c.select_port-select.result c.select_port-select.ensures.number)) in
+    ∙ sym (ap (λ (s : StreamPrefix Plain). s.packets) (select-at pool c.select_port-select.result c.select_port-select.ensures.number)) in
     record { can = tt; finite = tt; reach = ap (reach_from ss) all }
 
 pub loop-packet-preserved : goal.loop-packet-preserved

@@ -24,7 +24,7 @@ loop-port-preserved c =
       earliest =
           c.lesser-earliest.ensures
           ∙ ap (min c.loop-port.earliest) (c.unwrap_or-first.ensures ∙ ap (λ o. unwrap_or o done) c.first.ensures.first ∙ first_time-is (queue_at pool i).packets done
-              ∙ sym (ap (λ (s : StreamPrefix Plain). first_time s.packets done) here))
+          ∙ sym (ap (λ (s : StreamPrefix Plain). first_time s.packets done) here))
           ∙ earliest-more ss i (port_of ss i) c.loop-port.earliest below is c.loop-port.invariant.earliest;
       low =
           c.lesser-low.ensures

@@ -36,7 +36,7 @@ loop-port-preserved c =
     let packet : c.where_shown.result ≡ want i =
     c.where_shown.ensures
     ∙ ap₂ (λ (s : Bool) (o : Option (Stamped Plain)). cond s o None) shown
-      (c.take_through-packet.ensures.packet ∙ ap (λ (r : Backlog Plain). packet_at at r.packets) same ∙ sym (ap (λ (s : StreamPrefix Plain). packet_at at s.packets) (rest-at old i in_old))) in
+    (c.take_through-packet.ensures.packet ∙ ap (λ (r : Backlog Plain). packet_at at r.packets) same ∙ sym (ap (λ (s : StreamPrefix Plain). packet_at at s.packets) (rest-at old i in_old))) in
     let places = was.places in
     let in_set : i < length c.loop-port.into = omega (arith, in_old, places) in
     let took = c.take_through-packet.ensures.pool in
