@@ -1,18 +1,18 @@
 -- What a step of one chain leaves of all chains of a pool, and what contracts see of it.
-use Rattle.std.proofs.Common.{◌≡◌, ◌≢◌, ℕ, zero, suc, ◌+◌, ◌-◌, ◌<◌, ◌≤◌, List, [], ◌∷◌, ◌++◌, length, map, set, get_or, get_or-set_same, get_or-set_other, length-append, Option, Some, None, All, inl, inr, ◌⊎◌, subst, ap, ap₂, sym, refl, ◌∙◌, arith}
+use Rattle.std.proofs.Common.{◌≡◌, ◌≢◌, ℕ, zero, suc, ◌+◌, ◌-◌, ◌<◌, List, [], ◌∷◌, ◌++◌, length, map, set, get_or, get_or-set_same, get_or-set_other, length-append, Option, Some, None, inl, inr, ◌⊎◌, subst, ap, ap₂, sym, refl, ◌∙◌, arith}
 use Rattle.std.proofs.lemmas.Bool.{cases_eq}
-use Rattle.std.proofs.lemmas.List.{get_or-map, get_or_default, length-map, length-set}
+use Rattle.std.proofs.lemmas.List.{get_or-map}
 use Rattle.std.proofs.lemmas.List.Elements.{All-from_recursion, All-tail, All-weaker}
-use Rattle.mg_time.specs.Time.{post_stream, done, IsAllowed, next}
+use Rattle.mg_time.specs.Time.{post_stream, IsAllowed, next}
 use Rattle.mg_value.specs.Payload.{Plain}
 use Rattle.mg_value.specs.Prefix.{Stamped, StreamPrefix, IsPrefix, StandsAlone}
-use Rattle.mg_stream.specs.Queue.{Waiting, IsQueue, StandsFor, MayCome, rest_of, raised_to, with_packet, popped}
+use Rattle.mg_stream.specs.Queue.{Waiting, IsQueue, IsLike, StandsFor, MayCome}
 use Rattle.mg_stream.specs.Pool.{Backlog, Pooled, empty_backlog, queue_of, backlog_of, queue_at, with_queue}
-use Rattle.mg_stream.specs.Code.Chain.{entry_at, linked, keys_of, packets_of, last_key, IsKey, entries_of, backlog_in, empty_chain, chain_at, IsWhole, AreLaid}
+use Rattle.mg_stream.specs.Code.Chain.{entry_at, keys_of, packets_of, last_key, IsKey, entries_of, backlog_in, empty_chain, chain_at, IsWhole, AreLaid}
 use Rattle.mg_stream.specs.declared.chain.Entry.{Entry}
 use Rattle.mg_stream.specs.declared.chain.Chain.{Chain}
-use Rattle.mg_stream.proofs.QueueSteps.{appended_fields, raised_queue, closed_queue}
-use Rattle.mg_stream.proofs.Linked.{linked-same, key_of_chain, last_of_chain, begins, last_key-push, IsKey-push_from, packets_of-push}
+use Rattle.mg_stream.proofs.QueueSteps.{appended_fields}
+use Rattle.mg_stream.proofs.Linked.{linked-same, key_of_chain, last_of_chain, last_key-push, IsKey-push_from, packets_of-push}
 
 -- the entries come to be others, and the chain of a port another
 pub record Changes (slots now : List (Option Entry)) (chains : List Chain) (port : ℕ) (c : Chain) : Type 0 where
@@ -199,3 +199,9 @@ queue_at-with_queue {X} pool port q there = ap (λ (b : Backlog X). queue_of q.s
 
 pub stands_with : {X : Type 0} (old new : Pooled X) (port : ℕ) (q : Waiting X) (s : StreamPrefix X) → port < length old.ports → new ≡ with_queue old port q → StandsFor q s → StandsFor (queue_at new port) s
 stands_with {X} old new port q s there is stands = subst (λ (r : Waiting X). StandsFor r s) (sym (ap (λ (pool : Pooled X). queue_at pool port) is ∙ queue_at-with_queue old port q there)) stands
+
+-- the other ports keep theirs, but for the room
+pub other_like : {X : Type 0} (pool : Pooled X) (port other : ℕ) (q : Waiting X) → other ≢ port → IsLike (queue_at (with_queue pool port q) other) (queue_at pool other)
+other_like {X} pool port other q differs =
+    let same : get_or (set pool.ports port (backlog_of q)) other empty_backlog ≡ get_or pool.ports other empty_backlog = get_or-set_other pool.ports port other (backlog_of q) empty_backlog differs in
+    record { gone = ap (λ (b : Backlog X). b.gone) same; packets = ap (λ (b : Backlog X). b.packets) same; bound = ap (λ (b : Backlog X). b.bound) same }

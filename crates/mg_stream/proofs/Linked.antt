@@ -1,5 +1,5 @@
 -- Entries that each name the next: what they hold, and what becomes of them when others change.
-use Rattle.std.proofs.Common.{◌≡◌, ◌≢◌, ℕ, zero, suc, ◌+◌, ◌<◌, ◌≤◌, List, [], ◌∷◌, ◌++◌, length, map, ◌-◌, Option, Some, None, IsSome, option_map, unwrap_or, inl, inr, ◌⊎◌, subst, ap, sym, refl, ◌∙◌, arith}
+use Rattle.std.proofs.Common.{◌≡◌, ◌≢◌, ℕ, zero, suc, ◌+◌, ◌<◌, List, [], ◌∷◌, ◌++◌, length, ◌-◌, Option, Some, None, option_map, unwrap_or, inl, inr, ◌⊎◌, subst, ap, sym, refl, ◌∙◌, arith}
 use Rattle.mg_value.specs.Payload.{Plain}
 use Rattle.mg_value.specs.Prefix.{Stamped}
 use Rattle.mg_value.specs.Settled.{times_of}

@@ -1,5 +1,5 @@
 -- What a step at one port makes of a pool, in the words of contracts.
-use Rattle.std.proofs.Common.{◌≡◌, ℕ, zero, suc, ◌+◌, ◌-◌, ◌<◌, ◌≤◌, ◌^◌, max, List, [], ◌∷◌, ◌++◌, length, map, set, get_or, drop, replicate, Option, Some, None, option_map, inl, inr, subst, ap, ap₂, sym, refl, ◌∙◌, arith, vec_len, slice_get}
+use Rattle.std.proofs.Common.{◌≡◌, ℕ, zero, suc, ◌+◌, ◌-◌, ◌<◌, ◌≤◌, max, List, [], ◌∷◌, ◌++◌, length, map, get_or, drop, replicate, Option, Some, None, option_map, inl, inr, subst, ap, ap₂, sym, refl, ◌∙◌, arith, slice_get}
 use Rattle.std.proofs.lemmas.Bool.{cases_lt}
 use Rattle.std.proofs.lemmas.List.{get_or_default, get_or_past, length-map}
 use Rattle.std.specs.Vec.{with_item}
@@ -9,7 +9,7 @@ use Rattle.mg_value.specs.Payload.{Plain}
 use Rattle.mg_value.specs.Prefix.{Stamped, IsPrefix}
 use Rattle.mg_value.proofs.PrefixSteps.{empty_is_prefix}
 use Rattle.mg_stream.specs.Queue.{Waiting, IsQueue, MayCome, rest_of, raised_to, with_packet, popped}
-use Rattle.mg_stream.specs.Pool.{Backlog, Pooled, empty_backlog, queue_of, backlog_of, queue_at, with_queue}
+use Rattle.mg_stream.specs.Pool.{Backlog, Pooled, empty_backlog, queue_of, queue_at, with_queue}
 use Rattle.mg_stream.specs.PoolView.{pool_view, IsPool}
 use Rattle.mg_stream.specs.Code.Chain.{entry_at, linked, IsKey, keys_of, packets_of, entries_of, backlog_in, empty_chain, chain_at, IsWhole, AreLaid}
 use Rattle.mg_stream.specs.declared.chain.Chain.{Chain}

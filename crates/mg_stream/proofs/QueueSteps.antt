@@ -88,3 +88,7 @@ stands_popped {X} t q s h = elim (cases_Bool (is_some (front_at t q.packets))) [
   | inl found ↦ rw found (stands_without_first q s (first_waits t q.packets found) h)
   | inr none ↦ rw none h
 ]
+
+-- a packet behind some that are the same as others
+pub pushed_items : {X : Type 0} (new mid old : List (Stamped X)) (p : Stamped X) → new ≡ mid ++ p ∷ [] → mid ≡ old → new ≡ old ++ p ∷ []
+pushed_items {X} new mid old p pushed same = pushed ∙ ap (λ (ps : List (Stamped X)). ps ++ p ∷ []) same

@@ -4,6 +4,7 @@
 
 mod chain;
 mod fault;
+pub mod laws;
 mod pool;
 mod queue;
 mod waits;

@@ -1,5 +1,5 @@
 -- How the packets of one port lie in a pool: entries that each name the next.
-use Rattle.std.specs.Prelude.{◌≡◌, ◌≢◌, ℕ, zero, suc, List, [], ◌∷◌, length, map, Option, Some, None, option_map, unwrap_or, slice_index_or, ◌⊎◌}
+use Rattle.std.specs.Prelude.{◌≡◌, ◌≢◌, ℕ, zero, suc, List, [], ◌∷◌, length, map, Option, None, option_map, unwrap_or, slice_index_or, ◌⊎◌}
 use Rattle.mg_time.specs.Time.{pre_stream}
 use Rattle.mg_value.specs.Payload.{Plain}
 use Rattle.mg_value.specs.Prefix.{Stamped}

@@ -1,8 +1,6 @@
-use Rattle.std.proofs.Common.{◌<◌, ◌∙◌, ap, arith, List, ◌++◌, ◌∷◌, [], ℕ}
-use Rattle.mg_value.specs.Payload.{Plain}
-use Rattle.mg_value.specs.Prefix.{Stamped}
+use Rattle.std.proofs.Common.{◌<◌, ◌∙◌, ap, arith, ◌++◌, ◌∷◌, [], ℕ}
 use Rattle.mg_stream.specs.Code.Chain.{entries_of}
-use Rattle.mg_stream.proofs.Linked.{last_contained, pushed_first, pushed_behind}
+use Rattle.mg_stream.proofs.Linked.{last_contained, pushed_behind}
 use Rattle.mg_stream.proofs.chain.push_last.Goals as goal
 
 pub index_mut-requires : goal.index_mut-requires

@@ -1,8 +1,8 @@
-use Rattle.std.proofs.Common.{◌≡◌, ◌<◌, List, [], ◌∷◌, ◌++◌, ap, sym, subst, refl, length, slice_index_or, arith}
+use Rattle.std.proofs.Common.{◌≡◌, ◌<◌, List, [], ◌∷◌, ◌++◌, ap, subst, refl, length, slice_index_or, arith}
 use Rattle.mg_value.specs.Payload.{Plain}
 use Rattle.mg_value.specs.Prefix.{Stamped}
-use Rattle.mg_stream.specs.Queue.{Waiting, MayCome}
-use Rattle.mg_stream.specs.Pool.{Backlog, Pooled, empty_backlog, queue_at}
+use Rattle.mg_stream.specs.Queue.{MayCome}
+use Rattle.mg_stream.specs.Pool.{Backlog, empty_backlog, queue_at}
 use Rattle.mg_stream.proofs.QueueSteps.{stands_appended_fields}
 use Rattle.mg_stream.proofs.Laid.{stands_with}
 use Rattle.mg_stream.proofs.pool.Pool.append.Goals as goal

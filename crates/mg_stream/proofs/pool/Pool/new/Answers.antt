@@ -1,7 +1,7 @@
-use Rattle.std.proofs.Common.{◌≡◌, ◌∙◌, ℕ, List, ap, refl, replicate, arith}
+use Rattle.std.proofs.Common.{◌≡◌, ◌∙◌, ℕ, ap, refl, replicate, arith}
 use Rattle.mg_stream.specs.Code.Chain.{empty_chain}
 use Rattle.mg_stream.specs.declared.pool.Pool.TheInside.{Inside}
-use Rattle.mg_stream.proofs.PoolSteps.{laid_none, view_new}
+use Rattle.mg_stream.proofs.PoolSteps.{view_new}
 use Rattle.mg_stream.proofs.pool.Pool.new.Goals as goal
 
 pub returns : goal.returns

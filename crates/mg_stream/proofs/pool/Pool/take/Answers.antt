@@ -1,4 +1,4 @@
-use Rattle.std.proofs.Common.{◌<◌, ◌∙◌, ap, sym, refl, length, slice_get}
+use Rattle.std.proofs.Common.{◌<◌, ◌∙◌, ap, refl, length}
 use Rattle.std.specs.Vec.{with_item}
 use Rattle.mg_value.specs.Payload.{Plain}
 use Rattle.mg_stream.specs.Queue.{popped}
