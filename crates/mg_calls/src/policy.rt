@@ -192,14 +192,15 @@ fn inboxes_under_mux_answer_and_show(rt: HostRuntime) -> Result<(), Fail> {
 }
 
 // A packet comes at one of the ports, all bounds rise behind a time seven before its own, and the set at that time goes.
-fn turn(alloc: Global, inbox: &mut Inbox, set: &mut InputSet, step: u64) -> Result<bool, Fail> {
+fn turn(alloc: Global, inbox: &mut Inbox, set: &mut InputSet, step: u32) -> Result<bool, Fail> {
     let ports = inbox.ports();
     if ports == 0 || set.len() != ports {
         return Err(Fail::from("no ports"));
     }
-    let packet = format!(in alloc; "{} {step}", step + 7)?;
-    send(alloc, inbox, (step % 3) as u32, packet.as_str())?;
-    let bound = format!(in alloc; "{}", step + 1)?;
+    let time = u64::from(step);
+    let packet = format!(in alloc; "{} {step}", time + 7)?;
+    send(alloc, inbox, step % 3, packet.as_str())?;
+    let bound = format!(in alloc; "{}", time + 1)?;
     for port in 0..ports {
         raise(alloc, inbox, port, bound.as_str())?;
     }
@@ -216,7 +217,7 @@ fn gone_packets_leave_their_room(rt: HostRuntime) -> Result<(), Fail> {
     for at in ["0 0", "1 0", "2 0", "3 0", "4 0", "5 0", "6 0"] {
         send(alloc, &mut inbox, 0, at)?;
     }
-    for step in 0..1000u64 {
+    for step in 0..1000u32 {
         let claimed = turn(alloc, &mut inbox, &mut set, step)?;
         assert!(rt; claimed);
     }

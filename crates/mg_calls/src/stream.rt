@@ -137,15 +137,19 @@ struct Port {
 
 fn middle_port(alloc: Global) -> Result<Port, Fail> {
     let mut pool = Pool::new(alloc, 3)?;
-    if pool.ports() != 3 {
-        return Err(Fail::from("not as many ports"));
-    }
-    for at in ["1 1", "2 2", "3 3"] {
-        if let Err(_) = pool.append(0, packet_of(alloc, at)?) {
-            return Err(Fail::from("refused"));
-        }
+    for packet in ["1 1", "2 2", "3 3"] {
+        wait_at_first(alloc, &mut pool, packet)?;
     }
     Ok(Port { pool })
+}
+
+fn wait_at_first(alloc: Global, pool: &mut Pool, packet: &str) -> Result<(), Fail> {
+    if pool.ports() == 0 {
+        return Err(Fail::from("no such port"));
+    }
+    pool.append(0, packet_of(alloc, packet)?)
+        .map_err(|_| "a packet was refused")?;
+    Ok(())
 }
 
 fn change_port(alloc: Global, pool: &mut Pool, name: &str, argument: &str) -> Result<String, Fail> {

@@ -1,6 +1,6 @@
 -- What a look and a claim answer, in the words of contracts: of what waits, and of whole streams.
-use Rattle.std.proofs.Common.{◌≡◌, ◌≢◌, ℕ, zero, suc, ◌+◌, ◌<◌, ◌≤◌, Bool, true, false, List, [], ◌∷◌, map, drop, length, length-drop, All, Option, Some, None, option_map, slice_get, IsSome, IsSomeAnd, IfSome, IfNone, IsTrue, replicate, ◌↔◌, cond, inl, inr, ap, subst, sym, refl, ◌∙◌, arith, eqb, eq-eqb}
-use Rattle.std.specs.List.{AllZip, AllByRecursion}
+use Rattle.std.proofs.Common.{◌≡◌, ℕ, zero, suc, ◌+◌, ◌<◌, List, [], ◌∷◌, map, drop, length, length-drop, All, Option, Some, None, option_map, slice_get, IsSomeAnd, IfNone, IsTrue, replicate, ap, subst, sym, refl, ◌∙◌, arith, eq-eqb}
+use Rattle.std.specs.List.{AllByRecursion}
 use Rattle.std.proofs.lemmas.Bool.{false≢true}
 use Rattle.std.proofs.lemmas.List.Elements.{All-head, All-tail, All-from_recursion}
 use Rattle.mg_time.specs.Time.{done, IsAllowed}
@@ -8,15 +8,15 @@ use Rattle.mg_value.specs.Payload.{Plain}
 use Rattle.mg_value.specs.declared.policy.Policy.{Policy}
 use Rattle.mg_value.specs.Prefix.{Stamped, StreamPrefix, IsPrefix, empty_prefix}
 use Rattle.mg_value.specs.Settled.{TimedSet, settled_sets, reach, port_of, packet_at, is_among, IsBelowBounds}
-use Rattle.mg_value.specs.FirstSet.{first_set_time, behind}
-use Rattle.mg_value.specs.Left.{set_times, leads, after_sets, HasLeadingPacket}
+use Rattle.mg_value.specs.FirstSet.{first_set_time}
+use Rattle.mg_value.specs.Left.{leads, after_sets, HasLeadingPacket}
 use Rattle.mg_value.proofs.FirstSets.{first-time, after-first}
 use Rattle.mg_value.proofs.SetSteps.{sets-over}
 use Rattle.mg_value.proofs.AfterSets.{sets-after}
 use Rattle.mg_value.proofs.PolicySets.{below-bounds}
 use Rattle.mg_value.proofs.LeadingPackets.{all-leading}
 use Rattle.mg_value.proofs.Ports.{port-prefix}
-use Rattle.mg_stream.specs.Queue.{Waiting, StandsFor, IsLike, empty_queue}
+use Rattle.mg_stream.specs.Queue.{Waiting, IsLike, empty_queue}
 use Rattle.mg_stream.specs.Pool.{Pooled, empty_backlog, queue_of, queues_of}
 use Rattle.mg_policy.specs.Inbox.{rests, next_set, IsOver, Tells, TellsOf, ShowsNext, StandAfter}
 use Rattle.mg_policy.specs.declared.readiness.Readiness.TheVariants.{Ready, Close, NotReady}

@@ -1,15 +1,15 @@
 -- What a claim takes and leaves, port by port.
-use Rattle.std.proofs.Common.{◌≡◌, ℕ, zero, suc, ◌+◌, ◌<◌, ◌≤◌, Bool, true, false, List, [], ◌∷◌, ◌++◌, map, take, drop, set, length, length-drop, get_or, get_or-set_same, drop-drop, cond, sum_by, inl, inr, ap, ap₂, sym, refl, ◌∙◌, arith, leb}
+use Rattle.std.proofs.Common.{◌≡◌, ℕ, zero, suc, ◌+◌, ◌<◌, Bool, List, [], ◌∷◌, ◌++◌, map, take, drop, length, length-drop, get_or, drop-drop, inl, inr, ap, ap₂, refl, ◌∙◌, arith, leb}
 use Rattle.std.specs.List.{AllZip, prefix_len}
 use Rattle.std.proofs.lemmas.Bool.{cases_Bool}
 use Rattle.std.proofs.lemmas.List.Sums.{sum_by-set}
 use Rattle.mg_value.specs.Payload.{Plain}
 use Rattle.mg_value.specs.Prefix.{Stamped, StreamPrefix}
 use Rattle.mg_value.specs.FirstSet.{behind}
-use Rattle.mg_stream.specs.Queue.{Waiting, StandsFor, count_of, rest_of}
+use Rattle.mg_stream.specs.Queue.{StandsFor, count_of, rest_of}
 use Rattle.mg_stream.specs.Pool.{Backlog, Pooled, empty_backlog, queue_of, queues_of, queue_at, backlog_of, with_queue, pool_len}
 use Rattle.mg_policy.specs.Inbox.{rests}
-use Rattle.mg_policy.specs.Code.Taking.{dropped, dropped_through}
+use Rattle.mg_policy.specs.Code.Taking.{dropped_through}
 
 -- what is left at a port without what stands at a time or before it
 abbrev pub taken : {X : Type 0} → ℕ → Backlog X → Backlog X

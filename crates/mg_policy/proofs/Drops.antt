@@ -1,19 +1,18 @@
 -- What goes from a queue, packet by packet.
-use Rattle.std.proofs.Common.{◌≡◌, ℕ, zero, suc, ◌+◌, ◌<◌, ◌≤◌, Bool, true, false, List, [], ◌∷◌, drop, set, length, get_or, Option, Some, None, option_map, slice_get, is_some, cond, inl, inr, ap, ap₂, sym, refl, ◌∙◌, arith, ltb, leb, lt-ltb, eqb, eq-eqb}
+use Rattle.std.proofs.Common.{◌≡◌, ℕ, suc, ◌+◌, ◌<◌, true, List, [], ◌∷◌, drop, length, Some, option_map, slice_get, inl, inr, ap, ap₂, sym, refl, ◌∙◌, arith, ltb, leb, lt-ltb, eq-eqb}
 use Rattle.std.specs.List.{prefix_len}
 use Rattle.std.proofs.lemmas.Bool.{cases_order, ne_eqb, le-ltb, le-leb, lt-leb}
 use Rattle.std.proofs.lemmas.List.{set-set}
-use Rattle.mg_value.specs.Payload.{Plain}
-use Rattle.mg_value.specs.Prefix.{Stamped, StreamPrefix, IsPrefix}
+use Rattle.mg_value.specs.Prefix.{Stamped, IsPrefix}
 use Rattle.mg_value.specs.Settled.{packet_at}
-use Rattle.mg_value.specs.FirstSet.{front_at as first_at, from, behind}
+use Rattle.mg_value.specs.FirstSet.{front_at as first_at}
 use Rattle.mg_value.proofs.Fronts.{one_more}
 use Rattle.mg_value.proofs.Climbs.{Climbs, prefix-climbs}
-use Rattle.mg_value.proofs.FirstSets.{found-first, left-first}
-use Rattle.mg_stream.specs.Queue.{Waiting, rest_of, front_at, popped, popped_at}
-use Rattle.mg_stream.specs.Pool.{Backlog, Pooled, queue_of, backlog_of, queue_at, with_queue}
+use Rattle.mg_value.proofs.FirstSets.{found-first}
+use Rattle.mg_stream.specs.Queue.{Waiting, rest_of, front_at, popped_at}
+use Rattle.mg_stream.specs.Pool.{Backlog, Pooled, backlog_of, queue_at, with_queue}
 use Rattle.mg_stream.proofs.Laid.{queue_at-with_queue}
-use Rattle.mg_policy.specs.Code.Taking.{dropped, dropped_before, dropped_through}
+use Rattle.mg_policy.specs.Code.Taking.{dropped_before, dropped_through}
 
 -- a queue by its fields
 abbrev queue : {X : Type 0} → ℕ → List (Stamped X) → ℕ → ℕ → Waiting X

@@ -1,7 +1,6 @@
 -- What goes from a queue, and which port SELECT's first packet selects.
-use Rattle.std.specs.Prelude.{ℕ, Bool, true, false, List, length, drop, Option, None, option_map, option_and_then, unwrap_or, slice_get, ◌+◌, ◌==◌, ◌||◌, nat_lt, nat_le}
+use Rattle.std.specs.Prelude.{ℕ, drop, ◌+◌, nat_lt, nat_le}
 use Rattle.std.specs.List.{prefix_len}
-use Rattle.mg_value.specs.Payload.{Plain}
 use Rattle.mg_stream.specs.Queue.{Waiting}
 
 -- a queue without so many first packets, which leave room for as many others

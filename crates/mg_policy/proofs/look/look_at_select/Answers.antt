@@ -1,9 +1,8 @@
-use Rattle.std.proofs.Common.{◌≡◌, ◌<◌, ◌-◌, ◌∙◌, List, length, slice_get, subst, ap, sym, arith, eqb, eqb-true, eq-eqb}
+use Rattle.std.proofs.Common.{◌∙◌, subst, ap, sym, eqb-true, eq-eqb}
 use Rattle.mg_time.specs.Time.{done}
 use Rattle.mg_value.specs.Payload.{Plain}
-use Rattle.mg_value.specs.Prefix.{Stamped, StreamPrefix, IsPrefix}
-use Rattle.mg_value.specs.Settled.{select_of, is_settled}
-use Rattle.mg_stream.specs.Queue.{rest_of}
+use Rattle.mg_value.specs.Prefix.{StreamPrefix, IsPrefix}
+use Rattle.mg_value.specs.Settled.{select_of}
 use Rattle.mg_stream.specs.Pool.{queues_of, queue_at}
 use Rattle.mg_policy.specs.Inbox.{rests}
 use Rattle.mg_policy.proofs.PoolRests.{select-at, reach-none, reach-unsettled}

@@ -1,9 +1,9 @@
-use Rattle.std.proofs.Common.{◌≡◌, ◌∙◌, ◌∷◌, List, sym, ap}
+use Rattle.std.proofs.Common.{◌≡◌, ◌∙◌, ◌∷◌, sym, ap}
 use Rattle.mg_value.specs.Payload.{Plain}
-use Rattle.mg_value.specs.Prefix.{Stamped, StreamPrefix}
+use Rattle.mg_value.specs.Prefix.{StreamPrefix}
 use Rattle.mg_stream.specs.Pool.{queues_of}
 use Rattle.mg_policy.specs.Inbox.{rests}
-use Rattle.mg_policy.proofs.PoolRests.{select-at, reach_from, reach_from-settled, reach_from-unsettled}
+use Rattle.mg_policy.proofs.PoolRests.{select-at, reach_from, reach_from-settled}
 use Rattle.mg_policy.proofs.look.select_reach.Goals as goal
 
 pub loop-packet-init : goal.loop-packet-init

@@ -1,7 +1,7 @@
-use Rattle.std.proofs.Common.{◌≡◌, ◌<◌, ◌∙◌, ap, length, sym, arith, rules, length-set}
+use Rattle.std.proofs.Common.{◌<◌, ◌∙◌, ap, length, sym, arith, rules, length-set}
 use Rattle.mg_value.specs.Payload.{Plain}
 use Rattle.mg_stream.specs.Queue.{Waiting, popped_at}
-use Rattle.mg_stream.specs.Pool.{Pooled, queue_at, with_queue, backlog_of}
+use Rattle.mg_stream.specs.Pool.{Pooled, queue_at, backlog_of}
 use Rattle.mg_stream.proofs.Laid.{queue_at-with_queue}
 use Rattle.mg_policy.specs.Code.Taking.{dropped_before}
 use Rattle.mg_policy.proofs.Drops.{drop_step, with_queue-again}

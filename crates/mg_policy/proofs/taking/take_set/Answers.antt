@@ -1,14 +1,12 @@
-use Rattle.std.proofs.Common.{◌≡◌, ℕ, ◌+◌, ◌<◌, ◌≤◌, ◌∙◌, Bool, List, Option, None, Some, cond, length, length-set, get_or, set, refl, ap, ap₂, sym, arith}
+use Rattle.std.proofs.Common.{◌≡◌, ℕ, ◌<◌, ◌∙◌, Bool, List, Option, None, cond, length, length-set, get_or, ap, ap₂, sym, arith}
 use Rattle.std.proofs.lemmas.List.{get_or_default}
 use Rattle.mg_value.specs.Payload.{Plain}
 use Rattle.mg_value.specs.Prefix.{Stamped, StreamPrefix}
 use Rattle.mg_value.specs.Settled.{packet_at, port_of, shows}
-use Rattle.mg_value.specs.Code.Shown.{is_shown, chosen_port}
+use Rattle.mg_value.specs.Code.Shown.{is_shown}
 use Rattle.mg_value.proofs.SetSteps.{shown-set, shown-is, place-more, mapped-more, mapped-later}
-use Rattle.mg_stream.specs.Queue.{Waiting, rest_of}
-use Rattle.mg_stream.specs.Pool.{Backlog, Pooled, empty_backlog, queues_of, queue_of, queue_at, backlog_of, pool_len}
+use Rattle.mg_stream.specs.Pool.{Backlog, Pooled, empty_backlog, queues_of}
 use Rattle.mg_policy.specs.Inbox.{rests}
-use Rattle.mg_policy.specs.Code.Taking.{dropped_through}
 use Rattle.mg_policy.proofs.PoolRests.{rests-long, rest-at, rests-prefixes}
 use Rattle.mg_policy.proofs.Claims.{taken, room_taken, mapped_long}
 use Rattle.mg_policy.proofs.taking.take_set.Goals as goal
