@@ -193,16 +193,19 @@ fn inboxes_under_mux_answer_and_show(rt: HostRuntime) -> Result<(), Fail> {
 
 // A packet comes at one of the ports, all bounds rise behind a time seven before its own, and the set at that time goes.
 fn turn(alloc: Global, inbox: &mut Inbox, set: &mut InputSet, step: u32) -> Result<bool, Fail> {
-    let ports = inbox.ports();
-    if ports == 0 || set.len() != ports {
-        return Err(Fail::from("no ports"));
-    }
     let time = u64::from(step);
     let packet = format!(in alloc; "{} {step}", time + 7)?;
     send(alloc, inbox, step % 3, packet.as_str())?;
     let bound = format!(in alloc; "{}", time + 1)?;
-    for port in 0..ports {
+    for port in 0..inbox.ports() {
         raise(alloc, inbox, port, bound.as_str())?;
+    }
+    claim_into(inbox, set)
+}
+
+fn claim_into(inbox: &mut Inbox, set: &mut InputSet) -> Result<bool, Fail> {
+    if set.len() != inbox.ports() {
+        return Err(Fail::from("not as many places"));
     }
     Ok(inbox.claim(set))
 }

@@ -1,14 +1,11 @@
 -- What a node has claimed, as its input streams go on.
-use Rattle.std.proofs.Common.{◌≡◌, ℕ, zero, suc, ◌+◌, ◌<◌, ◌≤◌, List, [], ◌∷◌, ◌++◌, length, map, take, drop, replicate, Bool, true, false, Option, None, Some, slice_get, slice_set, unwrap_or, IsSome, IfSome, IsTrue, inl, inr, refl, sym, ap, ap₂, ◌∙◌, subst, arith, All, length-drop, append_assoc, take-append-drop, add-one}
-use Rattle.std.proofs.Math.Seq.{take-length}
-use Rattle.std.proofs.lemmas.List.{length-map, length-take, get_or-map, map-set}
+use Rattle.std.proofs.Common.{◌≡◌, ℕ, zero, suc, ◌+◌, ◌<◌, ◌≤◌, List, [], ◌∷◌, ◌++◌, length, map, take, drop, replicate, Bool, false, Option, None, Some, slice_get, slice_set, unwrap_or, IsSome, IfSome, IsTrue, refl, sym, ap, ◌∙◌, subst, arith, length-drop, append_assoc, take-append-drop, add-one}
+use Rattle.std.proofs.lemmas.List.{length-map, get_or-map, map-set}
 use Rattle.std.proofs.lemmas.Option.{slice_get-get_or}
 use Rattle.mg_value.specs.Left.{AreGone}
 use Rattle.std.specs.List.{AllZip}
-use Rattle.std.proofs.lemmas.List.Elements.{All-head}
 use Rattle.std.proofs.lemmas.Grind.{flat_map-append}
-use Rattle.std.proofs.lemmas.Bool.{cases_Bool, false≢true}
-use Rattle.std.specs.Bool.{OnFalse}
+use Rattle.std.proofs.lemmas.Bool.{false≢true}
 use Rattle.mg_time.specs.Time.{done}
 use Rattle.mg_value.specs.Payload.{Plain}
 use Rattle.mg_value.specs.Prefix.{Stamped, StreamPrefix, empty_prefix, appended, raised, closed}
@@ -16,10 +13,10 @@ use Rattle.mg_value.specs.Extension.{IsExtendedBy, AreExtendedBy}
 use Rattle.mg_value.specs.declared.policy.Policy.TheVariants.{Default}
 use Rattle.mg_value.specs.Settled.{all_times, settled_sets, TimedSet}
 use Rattle.mg_value.proofs.Extending.{extended_by_itself, all_by_themselves, appended_extends, raised_extends, closed_extends}
-use Rattle.mg_value.proofs.PolicySets.{sets-stay, sets-places}
+use Rattle.mg_value.proofs.PolicySets.{sets-stay}
 use Rattle.mg_stream.proofs.QueueSteps.{may_follow}
 use Rattle.mg_policy.proofs.Standing.{arrivals_keep, what_is_next}
-use Rattle.mg_stream.specs.Queue.{Waiting, rest_of, StandsFor, MayCome, IsLike, with_packet, raised_to, popped_at}
+use Rattle.mg_stream.specs.Queue.{Waiting, StandsFor, MayCome, IsLike, with_packet, raised_to}
 use Rattle.mg_stream.specs.Pool.{Backlog, Pooled, empty_backlog, queue_of, backlog_of, queue_at, queues_of, with_queue}
 use Rattle.mg_stream.proofs.Laid.{queue_at-with_queue}
 use Rattle.mg_policy.specs.Inbox.{Gathered, rests, next_set, StandAfter}

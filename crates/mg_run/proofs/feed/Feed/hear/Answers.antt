@@ -1,9 +1,7 @@
-use Rattle.std.proofs.Common.{rules, sym, subst, List, ℤ}
+use Rattle.std.proofs.Common.{rules, sym, subst, ℤ}
 use Rattle.std.proofs.lemmas.Int.{to_z-of_z}
 use mir.Val.{SFits}
 use mir.Syntax.{w64}
-use Rattle.mg_value.specs.Payload.{Plain}
-use Rattle.mg_stream.specs.Queue.{Waiting}
 use Rattle.mg_run.specs.declared.reading.Said.{Said}
 use Rattle.mg_run.specs.declared.reading.Said.TheVariants.{Packet}
 use Rattle.mg_run.specs.Accepted.{with_said}
