@@ -1,8 +1,10 @@
-//! Queues: what each call answers, and what the queue shows then.
+//! Queues and pools: what each call answers, and what the queue or the port shows then.
 
 use crate::packets::{packet_of, show_packet, text_of, time_of};
 use crate::table::{Calls, assert_rows};
-use mg_stream::Queue;
+use mg_stream::{Pool, Queue, Refused};
+use mg_time::Timestamp;
+use mg_value::Packet;
 use std::alloc::Global;
 use std::test::Fail;
 
@@ -48,8 +50,9 @@ close=ok - Done 0 0
 append 9 1=NotAscending 9 1; - Done 0 0"
 }
 
-fn append(alloc: Global, queue: &mut Queue, packet: &str) -> Result<String, Fail> {
-    match queue.append(packet_of(alloc, packet)?) {
+// What an append answers.
+fn show_append(alloc: Global, answer: Result<(), Refused>) -> Result<String, Fail> {
+    match answer {
         Ok(()) => Ok(String::from_str(alloc, "ok")?),
         Err(refused) => {
             let packet = show_packet(alloc, &refused.packet)?;
@@ -58,8 +61,9 @@ fn append(alloc: Global, queue: &mut Queue, packet: &str) -> Result<String, Fail
     }
 }
 
-fn pop(alloc: Global, queue: &mut Queue, at: &str) -> Result<String, Fail> {
-    match queue.pop_at(time_of(alloc, at)?) {
+// What a pop answers.
+fn show_pop(alloc: Global, answer: Option<Packet>) -> Result<String, Fail> {
+    match answer {
         None => Ok(String::from_str(alloc, "-")?),
         Some(packet) => {
             let packet = show_packet(alloc, &packet)?;
@@ -83,31 +87,130 @@ fn change(alloc: Global, queue: &mut Queue, name: &str, argument: &str) -> Resul
 fn answer(alloc: Global, queue: &mut Queue, call: &str) -> Result<String, Fail> {
     let (name, argument) = call.split_once(' ').unwrap_or((call, ""));
     if name == "append" {
-        append(alloc, queue, argument)
+        show_append(alloc, queue.append(packet_of(alloc, argument)?))
     } else if name == "pop" {
-        pop(alloc, queue, argument)
+        show_pop(alloc, queue.pop_at(time_of(alloc, argument)?))
     } else {
         change(alloc, queue, name, argument)
     }
 }
 
-// What a queue shows.
-fn show(alloc: Global, queue: &Queue) -> Result<String, Fail> {
-    let first = match queue.first() {
+// What a queue shows, or a port.
+fn show(
+    alloc: Global,
+    first: Option<Timestamp>,
+    bound: Timestamp,
+    waiting: u64,
+    count: u64,
+) -> Result<String, Fail> {
+    let first = match first {
         None => String::from_str(alloc, "-")?,
         Some(first) => text_of(alloc, first)?,
     };
-    let bound = text_of(alloc, queue.bound())?;
-    let waiting = queue.waiting();
-    let count = queue.count();
+    let bound = text_of(alloc, bound)?;
     Ok(format!(in alloc; "{} {} {waiting} {count}", first.as_str(), bound.as_str())?)
+}
+
+fn show_queue(alloc: Global, queue: &Queue) -> Result<String, Fail> {
+    show(
+        alloc,
+        queue.first(),
+        queue.bound(),
+        queue.waiting(),
+        queue.count(),
+    )
 }
 
 impl Calls for Queue {
     fn answer(&mut self, alloc: Global, call: &str) -> Result<String, Fail> {
         let answer = answer(alloc, self, call)?;
-        let shown = show(alloc, self)?;
+        let shown = show_queue(alloc, self)?;
         Ok(format!(in alloc; "{} {}", answer.as_str(), shown.as_str())?)
+    }
+}
+
+// The middle one of three ports of a pool. At the others packets wait all the time.
+#[derive(Drop)]
+struct Port {
+    pool: Pool,
+}
+
+fn middle_port(alloc: Global) -> Result<Port, Fail> {
+    let mut pool = Pool::new(alloc, 3)?;
+    for packet in ["1 1", "2 2", "3 3"] {
+        wait_at_first(alloc, &mut pool, packet)?;
+    }
+    Ok(Port { pool })
+}
+
+fn wait_at_first(alloc: Global, pool: &mut Pool, packet: &str) -> Result<(), Fail> {
+    if pool.ports() == 0 {
+        return Err(Fail::from("no such port"));
+    }
+    pool.append(0, packet_of(alloc, packet)?)
+        .map_err(|_| "a packet was refused")?;
+    Ok(())
+}
+
+fn change_port(alloc: Global, pool: &mut Pool, name: &str, argument: &str) -> Result<String, Fail> {
+    if pool.ports() < 2 {
+        return Err(Fail::from("no such port"));
+    }
+    if name == "reserve" {
+        pool.reserve(argument.parse::<u32>()?)?;
+    } else if name == "raise" {
+        pool.raise(1, time_of(alloc, argument)?);
+    } else {
+        pool.close(1);
+    }
+    Ok(String::from_str(alloc, "ok")?)
+}
+
+fn answer_port(alloc: Global, pool: &mut Pool, call: &str) -> Result<String, Fail> {
+    if pool.ports() < 2 {
+        return Err(Fail::from("no such port"));
+    }
+    let (name, argument) = call.split_once(' ').unwrap_or((call, ""));
+    if name == "append" {
+        show_append(alloc, pool.append(1, packet_of(alloc, argument)?))
+    } else if name == "pop" {
+        show_pop(alloc, pool.pop_at(1, time_of(alloc, argument)?))
+    } else {
+        change_port(alloc, pool, name, argument)
+    }
+}
+
+fn show_port(alloc: Global, pool: &Pool) -> Result<String, Fail> {
+    if pool.ports() < 2 {
+        return Err(Fail::from("no such port"));
+    }
+    show(
+        alloc,
+        pool.first(1),
+        pool.bound(1),
+        pool.waiting(1),
+        pool.count(1),
+    )
+}
+
+impl Calls for Port {
+    fn answer(&mut self, alloc: Global, call: &str) -> Result<String, Fail> {
+        let answer = answer_port(alloc, &mut self.pool, call)?;
+        let shown = show_port(alloc, &self.pool)?;
+        Ok(format!(in alloc; "{} {}", answer.as_str(), shown.as_str())?)
+    }
+}
+
+// A call made up of a number: half of them append at a time near the last, and the others pop, mostly at the first
+// time that waits, or raise.
+fn call_of(alloc: Global, queue: &Queue, number: u64, step: u64) -> Result<String, Fail> {
+    let at = step / 2 + number / 8 % 7;
+    let first = text_of(alloc, queue.first().unwrap_or(Timestamp::MIN))?;
+    match number % 8 {
+        0..=3 => Ok(format!(in alloc; "append {at} {step}")?),
+        4 | 5 => Ok(format!(in alloc; "pop {}", first.as_str())?),
+        6 => Ok(format!(in alloc; "pop {at}")?),
+        _ => Ok(format!(in alloc; "raise {at}")?),
     }
 }
 
@@ -124,4 +227,49 @@ fn queues_answer_and_show(rt: HostRuntime) -> Result<(), Fail> {
     )?;
     assert_rows(&rt, alloc, &mut Queue::new(alloc), pops())?;
     assert_rows(&rt, alloc, &mut Queue::new(alloc), bounds())
+}
+
+// A pool's port answers as a queue, in the same tables.
+#[test]
+fn ports_answer_and_show(rt: HostRuntime) -> Result<(), Fail> {
+    let alloc = rt.alloc();
+    assert_rows(&rt, alloc, &mut middle_port(alloc)?, appends())?;
+    assert_rows(&rt, alloc, &mut middle_port(alloc)?, alone())?;
+    assert_rows(
+        &rt,
+        alloc,
+        &mut middle_port(alloc)?,
+        alone_also_after_what_is_gone(),
+    )?;
+    assert_rows(&rt, alloc, &mut middle_port(alloc)?, pops())?;
+    assert_rows(&rt, alloc, &mut middle_port(alloc)?, bounds())
+}
+
+// Whether a pool's port and a queue answer a call alike.
+fn agree(alloc: Global, port: &mut Port, queue: &mut Queue, call: &str) -> Result<bool, Fail> {
+    let by_port = port.answer(alloc, call)?;
+    let by_queue = queue.answer(alloc, call)?;
+    Ok(by_port.as_str() == by_queue.as_str())
+}
+
+// 2,000 calls, the same to both. The numbers are those of a linear congruence.
+#[test]
+fn ports_answer_as_queues(rt: HostRuntime) -> Result<(), Fail> {
+    let alloc = rt.alloc();
+    let mut port = middle_port(alloc)?;
+    let mut queue = Queue::new(alloc);
+    let mut number: u64 = 1;
+    for step in 0..2000u64 {
+        number = number
+            .wrapping_mul(6364136223846793005)
+            .wrapping_add(1442695040888963407);
+        let call = call_of(alloc, &queue, number / 4294967296, step)?;
+        let alike = agree(alloc, &mut port, &mut queue, call.as_str())?;
+        assert!(rt; alike);
+    }
+    // The calls aren't all refused, nor all taken.
+    let count = queue.count();
+    let waiting = queue.waiting();
+    assert!(rt; count > 100 && waiting < count);
+    Ok(())
 }

@@ -1,5 +1,6 @@
+pub mod Answered
 pub mod Claims
-pub mod NextSet
-pub mod Pushes
+pub mod Drops
+pub mod PoolRests
 pub mod Readinesses
 pub mod Standing

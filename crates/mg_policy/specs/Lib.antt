@@ -1,3 +1,3 @@
 pub mod Inbox
-pub mod Lending
+pub mod Codes
 pub mod Code

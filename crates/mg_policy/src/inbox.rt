@@ -1,102 +1,208 @@
-ghost use Rattle.std.specs.Prelude.{◌≡◌, ◌<◌, ◌+◌, ◌↔◌, ℕ, List, length, All, replicate, map, drop, slice_get, Some, IfOk, IfSome, IsTrue, IsSome};
+ghost use Rattle.std.specs.Prelude.{◌≡◌, ◌<◌, ◌≤◌, ◌+◌, ◌↔◌, ℕ, List, [], length, map, drop, replicate, slice_get, option_map, Some, IfOk, IfErr, IfSome, OnOk, OnErr, IsErrAnd, IsOk, IsTrue, IsSome, MatchResult};
 ghost use Rattle.std.specs.Bool.{OnTrue, OnFalse};
-ghost use Rattle.std.specs.Borrow.{sem};
+ghost use Rattle.mg_time.specs.Time.{post_stream, done, IsAllowed};
 ghost use Rattle.mg_value.specs.Payload.{Plain};
-ghost use Rattle.mg_value.specs.declared.policy.Policy.TheVariants.{Default};
-ghost use Rattle.mg_value.specs.Prefix.{StreamPrefix, empty_prefix};
-ghost use Rattle.mg_value.specs.Settled.{low, settled_sets};
-ghost use Rattle.mg_stream.specs.Queue.{IsLike, empty_queue, popped_at};
-ghost use Rattle.mg_policy.specs.Inbox.{rests, next_set, Tells, StandAfter};
-ghost use Rattle.mg_policy.specs.Lending.{LendsQueue};
+ghost use Rattle.mg_value.specs.Prefix.{StreamPrefix, empty_prefix, appended, raised, closed};
+ghost use Rattle.mg_value.specs.Settled.{reach, settled_sets, IsBelowBounds};
+ghost use Rattle.mg_value.specs.Left.{after_sets};
+ghost use Rattle.mg_stream.specs.Queue.{StandsFor, MayCome, count_of, with_packet, raised_to};
+ghost use Rattle.mg_stream.specs.Pool.{empty_backlog, queue_at, queues_of, with_queue, pool_len};
+ghost use Rattle.mg_stream.specs.declared.fault.StreamFault as StreamFault;
+ghost use Rattle.mg_policy.specs.Inbox.{HasPorts, rests, next_set, Tells, TellsOf, ShowsNext, StandAfter};
 
 use crate::Readiness;
-use crate::looks::look_at;
-use crate::next_set::{claim_next, readiness_of};
-use mg_stream::Queue;
+use crate::look::{look_at, reach_of};
+use crate::taking::take_set;
+use mg_stream::{Pool, Refused, StreamFault};
 use mg_time::Timestamp;
-use mg_value::InputSet;
+use mg_value::{InputSet, Packet, Policy};
 use std::alloc::{AllocError, Global};
 use std::marker::Model;
 
-/// What waits at the inputs of a node, one queue per port (MediaPipe, Synchronization, default input policy).
-/// Contracts see the list of these queues.
+/// What waits at the inputs of a node, one queue per port (MediaPipe, Synchronization, input policies). Contracts see
+/// its policy and its pool: a queue per port, and the room of all.
 #[derive(Debug, Drop)]
 pub struct Inbox {
-    queues: Vec<Queue>,
+    pool: Pool,
+    policy: Policy,
 }
 
 impl Model for Inbox {
-    ghost use Rattle.std.specs.Prelude.{List, ◌<◌, ◌^◌, vec_len};
-    ghost use Rattle.mg_value.specs.Payload.{Plain};
-    ghost use Rattle.mg_stream.specs.Queue.{Waiting};
-    ghost use Rattle.mg_stream.specs.Codes.{waiting_code};
-    ghost use Rattle.std.specs.Coded.{coded_list};
+    ghost use Rattle.mg_policy.specs.Inbox.{Gathered, HasPorts};
+    ghost use Rattle.mg_policy.specs.Codes.{inbox_code};
 
-    ghost Value = { List (Waiting Plain) };
+    ghost Value = { Gathered };
 
-    ghost coded = { coded_list waiting_code };
+    ghost coded = { inbox_code };
 
-    ghost view = { λ i. i.queues.items };
+    ghost view = { λ i. record { policy = i.policy; pool = i.pool } };
 
-    ghost invariant = { λ i. vec_len i.queues < 2 ^ 32 };
+    ghost invariant = { λ i. HasPorts i.policy i.pool };
 }
 
 impl Inbox {
-    /// An inbox of as many ports, to which nothing came yet.
-    pub fn new(alloc: Global, ports: u32) -> Result<Inbox, AllocError>
-        ensures ports { IfOk result (λ qs. length qs ≡ ports) }
-        ensures empty { IfOk result (λ qs. All (λ q. IsLike q empty_queue) qs) }
-        ensures stand { IfOk result (λ qs. StandAfter Default 0 qs (replicate ports empty_prefix)) }
+    /// An inbox of as many ports, to which nothing came yet. Room for packets is made later.
+    pub fn new(alloc: Global, ports: u32, policy: Policy) -> Result<Inbox, AllocError>
+        requires { HasPorts policy (record { ports = replicate ports empty_backlog; spare = 0 }) }
+        ensures inbox { IfOk result (λ i. i ≡ record { policy = policy; pool = record { ports = replicate ports empty_backlog; spare = 0 } }) }
+        ensures stand { IfOk result (λ i. StandAfter policy 0 (queues_of i.pool) (replicate ports empty_prefix)) }
     {
-        let mut queues = Vec::with_capacity(alloc, ports as usize)?;
-        for _ in 0..ports {
-            queues.push(Queue::new(alloc))?;
-        }
-        Ok(Inbox { queues })
+        let pool = Pool::new(alloc, ports)?;
+        Ok(Inbox { pool, policy })
     }
 
     /// How many ports there are.
     pub fn ports(&self) -> u32
-        ensures { result ≡ length self.now }
+        ensures { result ≡ length self.now.pool.ports }
     {
-        self.queues.len() as u32
+        self.pool.ports()
     }
 
-    /// The queue of a port.
-    pub fn queue(&mut self, port: u32) -> &mut Queue
-        requires { port < length self.old }
-        ensures* lent { sem 𝓛 (LendsQueue self.entry port result) }
-        ensures value { slice_get self.old port ≡ Some result.now }
+    /// Makes room for more packets: so many appends take no memory, at whatever ports they come.
+    pub fn reserve(&mut self, more: u32) -> Result<(), AllocError>
+        ensures room { OnOk result (more ≤ self.new.pool.spare) }
+        ensures no_memory { OnErr result (self.old.pool.spare < more) }
+        ensures kept { self.old.pool.spare ≤ self.new.pool.spare }
+        ensures had { more ≤ self.old.pool.spare → self.new ≡ self.old }
+        ensures ports { self.new ≡ record { policy = self.old.policy; pool = record { ports = self.old.pool.ports; spare = self.new.pool.spare } } }
+        ensures unchanged { OnErr result (self.new ≡ self.old) }
     {
-        &mut self.queues[port as usize]
+        self.pool.reserve(more)
     }
 
-    /// The least bound of the ports, below which all is settled; `DONE` where there is no port.
+    /// Puts a packet behind those that wait at a port, and moves the bound to what may follow it. Where it is refused,
+    /// the packet comes back, and the inbox is as before.
+    pub fn append(&mut self, port: u32, packet: Packet) -> Result<(), Refused>
+        requires { port < length self.old.pool.ports }
+        ensures ok { OnOk result (self.new.pool
+            ≡ with_queue self.old.pool port (record (with_packet (queue_at self.old.pool port) packet) { spare = self.new.pool.spare })) }
+        ensures policy { self.new.policy ≡ self.old.policy }
+        ensures may_come { OnOk result (MayCome (queue_at self.old.pool port) packet.at) }
+        ensures accepted { MayCome (queue_at self.old.pool port) packet.at → 0 < self.old.pool.spare → IsOk result }
+
+        // The first cause that holds is answered.
+        ensures not_allowed { IsErrAnd result (λ r. r.cause ≡ StreamFault.NotAllowed) ↔ ¬ IsAllowed packet.at }
+        ensures not_ascending { IsErrAnd result (λ r. r.cause ≡ StreamFault.NotAscending)
+            ↔ (IsAllowed packet.at × (packet.at < (queue_at self.old.pool port).bound)) }
+        ensures not_alone { IsErrAnd result (λ r. r.cause ≡ StreamFault.NotAlone)
+            ↔ (((queue_at self.old.pool port).bound ≤ packet.at) × (packet.at ≡ post_stream) × (0 < count_of (queue_at self.old.pool port))) }
+        ensures no_memory { IsErrAnd result (λ r. r.cause ≡ StreamFault.OutOfMemory) → self.old.pool.spare ≡ 0 }
+
+        // What a refusal leaves, and what room is left.
+        ensures unchanged { OnErr result (self.new ≡ self.old) }
+        ensures returned { IfErr result (λ r. r.packet ≡ packet) }
+        ensures room { self.old.pool.spare ≤ self.new.pool.spare + 1 }
+        ensures in_place { 0 < self.old.pool.spare → OnOk result (self.new.pool.spare + 1 ≡ self.old.pool.spare) }
+
+        ensures stands { (s : StreamPrefix Plain) → StandsFor (queue_at self.old.pool port) s
+            → MatchResult result (λ _. StandsFor (queue_at self.new.pool port) (appended s packet)) (λ _. StandsFor (queue_at self.new.pool port) s) }
+    {
+        self.pool.append(port, packet)
+    }
+
+    /// Raises the bound of a port: no packet below it comes there any more. A bound that isn't higher changes nothing.
+    pub fn raise(&mut self, port: u32, bound: Timestamp)
+        requires { port < length self.old.pool.ports }
+        ensures raised { self.new ≡ record self.old { pool = with_queue self.old.pool port (raised_to (queue_at self.old.pool port) bound) } }
+        ensures stands { (s : StreamPrefix Plain) → StandsFor (queue_at self.old.pool port) s → StandsFor (queue_at self.new.pool port) (raised s bound) }
+    {
+        self.pool.raise(port, bound);
+    }
+
+    /// Closes a port: no packet comes there any more.
+    pub fn close(&mut self, port: u32)
+        requires { port < length self.old.pool.ports }
+        ensures closed { self.new ≡ record self.old { pool = with_queue self.old.pool port (record (queue_at self.old.pool port) { bound = done }) } }
+        ensures stands { (s : StreamPrefix Plain) → StandsFor (queue_at self.old.pool port) s → StandsFor (queue_at self.new.pool port) (closed s) }
+    {
+        self.pool.close(port);
+    }
+
+    /// The timestamp of the first packet that waits at a port.
+    pub fn first(&self, port: u32) -> Option<Timestamp>
+        requires { port < length self.now.pool.ports }
+        ensures { result ≡ option_map (λ p. p.at) (slice_get (queue_at self.now.pool port).packets 0) }
+    {
+        self.pool.first(port)
+    }
+
+    /// The lowest timestamp that a further packet may have at a port.
+    pub fn bound(&self, port: u32) -> Timestamp
+        requires { port < length self.now.pool.ports }
+        ensures { result ≡ (queue_at self.now.pool port).bound }
+    {
+        self.pool.bound(port)
+    }
+
+    /// How many packets wait at a port.
+    pub fn waiting(&self, port: u32) -> u64
+        requires { port < length self.now.pool.ports }
+        ensures { result ≡ length (queue_at self.now.pool port).packets }
+    {
+        self.pool.waiting(port)
+    }
+
+    /// How many packets came at a port, those that are gone included.
+    pub fn count(&self, port: u32) -> u64
+        requires { port < length self.now.pool.ports }
+        ensures { result ≡ count_of (queue_at self.now.pool port) }
+    {
+        self.pool.count(port)
+    }
+
+    /// How far the input sets reach: each further one stands there or above. By default that is the least bound of the
+    /// ports, `DONE` where there is none; under Mux the time of SELECT's first packet that isn't settled, or SELECT's
+    /// bound. Under Mux this looks at the packets of SELECT that are settled, and otherwise once at each port.
     pub fn low(&self) -> Timestamp
-        ensures { result ≡ low (rests self.now) }
+        ensures low { result ≡ reach self.now.policy (rests (queues_of self.now.pool)) }
+        // It is the reach of all that came.
+        ensures whole { (k : ℕ) (ss : List (StreamPrefix Plain)) → StandAfter self.now.policy k (queues_of self.now.pool) ss → result ≡ reach self.now.policy ss }
     {
-        look_at(self.queues.as_slice()).low
+        reach_of(&self.pool, self.policy)
     }
 
-    /// Whether there is a next input set, and at which timestamp, or why there is none.
+    /// Whether there is a next input set, and at which timestamp, or why there is none. It looks at each port once.
     pub fn readiness(&self) -> Readiness
-        ensures { Tells Default result self.now }
+        ensures waits { Tells self.now.policy result (queues_of self.now.pool) }
+        ensures whole { (k : ℕ) (ss : List (StreamPrefix Plain)) → StandAfter self.now.policy k (queues_of self.now.pool) ss → TellsOf self.now.policy k ss result }
     {
-        readiness_of(self.queues.as_slice())
+        let look = look_at(&self.pool, self.policy);
+        if let Some(at) = look.next {
+            return Readiness::Ready { at };
+        }
+        if look.ended {
+            return Readiness::Close;
+        }
+        Readiness::NotReady
     }
 
-    /// Takes the next input set, where there is one: its packets leave the queues. Otherwise nothing changes.
+    /// Takes the next input set, where there is one: its packets leave the queues, and under Mux those of other ports
+    /// before its time or at it. Otherwise nothing changes.
     pub fn claim(&mut self, into: &mut InputSet) -> bool
-        requires { length into.old ≡ length self.old }
-        ensures claimed { IsTrue result ↔ IsSome (next_set Default self.old) }
-        ensures shown { IfSome (next_set Default self.old) (λ e. into.new ≡ e.set) }
-        ensures taken { IfSome (next_set Default self.old) (λ e. self.new ≡ map (popped_at e.at) self.old) }
-        ensures left { settled_sets Default (rests self.new) ≡ drop 1 (settled_sets Default (rests self.old)) }
-        ensures ports { length self.new ≡ length self.old }
-        ensures places { length into.new ≡ length into.old }
+        requires { length into.old ≡ length self.old.pool.ports }
+        ensures claimed { IsTrue result ↔ IsSome (next_set self.old.policy (queues_of self.old.pool)) }
+        ensures shown { IfSome (next_set self.old.policy (queues_of self.old.pool)) (λ e. into.new ≡ e.set) }
+        ensures left { OnTrue result (rests (queues_of self.new.pool) ≡ after_sets self.old.policy 1 (rests (queues_of self.old.pool))) }
+        ensures others { settled_sets self.old.policy (rests (queues_of self.new.pool)) ≡ drop 1 (settled_sets self.old.policy (rests (queues_of self.old.pool))) }
         ensures unchanged { OnFalse result ((self.new ≡ self.old) × (into.new ≡ into.old)) }
-        ensures stand { (k : ℕ) (ss : List (StreamPrefix Plain)) → StandAfter Default k self.old ss → OnTrue result (StandAfter Default (k + 1) self.new ss) }
+
+        // What stays in any case: all that came is counted, and what goes leaves room for as much.
+        ensures policy { self.new.policy ≡ self.old.policy }
+        ensures ports { length self.new.pool.ports ≡ length self.old.pool.ports }
+        ensures places { length into.new ≡ length into.old }
+        ensures counts { map count_of (queues_of self.new.pool) ≡ map count_of (queues_of self.old.pool) }
+        ensures room { self.new.pool.spare + pool_len self.new.pool ≡ self.old.pool.spare + pool_len self.old.pool }
+
+        // In whole streams: the first set that isn't claimed yet, or none.
+        ensures whole { (k : ℕ) (ss : List (StreamPrefix Plain)) → StandAfter self.old.policy k (queues_of self.old.pool) ss
+            → OnTrue result (((at : ℕ) × ShowsNext self.old.policy k ss at into.new) × StandAfter self.old.policy (k + 1) (queues_of self.new.pool) ss) }
+        ensures none { (k : ℕ) (ss : List (StreamPrefix Plain)) → StandAfter self.old.policy k (queues_of self.old.pool) ss
+            → OnFalse result (length (settled_sets self.old.policy ss) ≡ k) }
     {
-        claim_next(self.queues.as_mut_slice(), into)
+        let Some(at) = look_at(&self.pool, self.policy).next else {
+            return false;
+        };
+        take_set(&mut self.pool, self.policy, at, into);
+        true
     }
 }

@@ -1,12 +1,13 @@
-//! The default input policy: which input set a node is shown next, or why there is none.
+//! Input policies: which input set a node is shown next, or why there is none.
 //! Answers to the definitions of `specs/Inbox.antt`.
 #![tactic(auto)]
 
 mod inbox;
 pub mod laws;
-mod looks;
-mod next_set;
+mod look;
 mod readiness;
+mod selecting;
+mod taking;
 
 pub use inbox::Inbox;
 pub use readiness::Readiness;

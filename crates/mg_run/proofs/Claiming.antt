@@ -1,12 +1,11 @@
 -- What a node has claimed, as its input streams go on.
-use Rattle.std.proofs.Common.{◌≡◌, ℕ, zero, suc, ◌+◌, ◌<◌, ◌≤◌, List, [], ◌∷◌, ◌++◌, length, map, take, drop, replicate, Bool, true, false, Option, None, Some, slice_get, slice_set, unwrap_or, IsSome, IfSome, IsTrue, inl, inr, refl, sym, ap, ap₂, ◌∙◌, subst, arith, All, length-drop, append_assoc, take-append-drop, add-one}
-use Rattle.std.proofs.Math.Seq.{take-length}
-use Rattle.std.proofs.lemmas.List.{length-map, length-take}
+use Rattle.std.proofs.Common.{◌≡◌, ℕ, zero, suc, ◌+◌, ◌<◌, ◌≤◌, List, [], ◌∷◌, ◌++◌, length, map, take, drop, replicate, Bool, false, Option, None, Some, slice_get, slice_set, unwrap_or, IsSome, IfSome, IsTrue, refl, sym, ap, ◌∙◌, subst, arith, length-drop, append_assoc, take-append-drop, add-one}
+use Rattle.std.proofs.lemmas.List.{length-map, get_or-map, map-set}
+use Rattle.std.proofs.lemmas.Option.{slice_get-get_or}
+use Rattle.mg_value.specs.Left.{AreGone}
 use Rattle.std.specs.List.{AllZip}
-use Rattle.std.proofs.lemmas.List.Elements.{All-head}
 use Rattle.std.proofs.lemmas.Grind.{flat_map-append}
-use Rattle.std.proofs.lemmas.Bool.{cases_Bool, false≢true}
-use Rattle.std.specs.Bool.{OnFalse}
+use Rattle.std.proofs.lemmas.Bool.{false≢true}
 use Rattle.mg_time.specs.Time.{done}
 use Rattle.mg_value.specs.Payload.{Plain}
 use Rattle.mg_value.specs.Prefix.{Stamped, StreamPrefix, empty_prefix, appended, raised, closed}
@@ -14,11 +13,13 @@ use Rattle.mg_value.specs.Extension.{IsExtendedBy, AreExtendedBy}
 use Rattle.mg_value.specs.declared.policy.Policy.TheVariants.{Default}
 use Rattle.mg_value.specs.Settled.{all_times, settled_sets, TimedSet}
 use Rattle.mg_value.proofs.Extending.{extended_by_itself, all_by_themselves, appended_extends, raised_extends, closed_extends}
-use Rattle.mg_value.proofs.PolicySets.{sets-stay, sets-places}
+use Rattle.mg_value.proofs.PolicySets.{sets-stay}
 use Rattle.mg_stream.proofs.QueueSteps.{may_follow}
 use Rattle.mg_policy.proofs.Standing.{arrivals_keep, what_is_next}
-use Rattle.mg_stream.specs.Queue.{Waiting, rest_of, StandsFor, MayCome, IsLike, with_packet, raised_to, popped_at}
-use Rattle.mg_policy.specs.Inbox.{rests, next_set, StandAfter}
+use Rattle.mg_stream.specs.Queue.{Waiting, StandsFor, MayCome, IsLike, with_packet, raised_to}
+use Rattle.mg_stream.specs.Pool.{Backlog, Pooled, empty_backlog, queue_of, backlog_of, queue_at, queues_of, with_queue}
+use Rattle.mg_stream.proofs.Laid.{queue_at-with_queue}
+use Rattle.mg_policy.specs.Inbox.{Gathered, rests, next_set, StandAfter}
 use Rattle.mg_run.specs.Accepted.{stepped, bound_at}
 use Rattle.mg_run.specs.Output.{line_text, set_text, sets_text, output_of}
 use Rattle.mg_run.specs.Code.Claimed.{Claimed}
@@ -99,20 +100,72 @@ output-more ss more extended =
     ∙ text-append (take n (settled_sets Default more)) (drop n (settled_sets Default more))
     ∙ ap (λ (sets : List (TimedSet Plain)). sets_text sets ++ sets_text (drop n (settled_sets Default more))) (sets-stay Default ss more extended)
 
--- All is claimed again after a step of the queue at a port and a claim of all sets that are ready.
-pub claimed-stepped : (port : ℕ) (step : StreamPrefix Plain → StreamPrefix Plain) (qs mid last : List (Waiting Plain)) (ss : List (StreamPrefix Plain)) (q after : Waiting Plain) (sent text new : List ℕ)
-    → slice_get qs port ≡ Some q → IsStep q after step → mid ≡ slice_set qs port after
-    → new ≡ text ++ sets_text (settled_sets Default (rests mid))
-    → ((k : ℕ) (ss : List (StreamPrefix Plain)) → StandAfter Default k mid ss → StandAfter Default (length (settled_sets Default ss)) last ss)
-    → Claimed ss sent qs text → Claimed (stepped port step ss) sent last new
-claimed-stepped port step qs mid last ss q after sent text new is one mid_is new_is stands claimed =
-    let both = stand-stepped port step qs ss q after is one claimed.stand in
+-- The same for the queue at a port of a pool, where the room may be another --
+
+same_each : (s t : ℕ) (bs : List (Backlog Plain)) (ss : List (StreamPrefix Plain)) → AllZip StandsFor (map (queue_of s) bs) ss → AllZip StandsFor (map (queue_of t) bs) ss
+same_each s t [] [] h = tt
+same_each s t [] (p ∷ ps) h = h
+same_each s t (b ∷ bs) [] h = h
+same_each s t (b ∷ bs) (p ∷ ps) h = (record { prefix = h.0.prefix; gone = h.0.gone; waiting = h.0.waiting; bound = h.0.bound }, same_each s t bs ps h.1)
+
+same_gone : (s t : ℕ) (bs : List (Backlog Plain)) → map (λ w. w.gone) (map (queue_of s) bs) ≡ map (λ w. w.gone) (map (queue_of t) bs)
+same_gone s t [] = refl
+same_gone s t (b ∷ bs) = ap (λ (ns : List ℕ). b.gone ∷ ns) (same_gone s t bs)
+
+stand-respared : (k s t : ℕ) (bs : List (Backlog Plain)) (ss : List (StreamPrefix Plain)) → StandAfter Default k (map (queue_of s) bs) ss → StandAfter Default k (map (queue_of t) bs) ss
+stand-respared k s t bs ss h = record {
+  each = same_each s t bs ss h.each;
+  gone = subst (λ (gone : List ℕ). AreGone Default k ss gone) (same_gone s t bs) h.gone;
+}
+
+step-respared : (q after : Waiting Plain) (s : ℕ) (step : StreamPrefix Plain → StreamPrefix Plain) → IsStep q after step → IsStep q (queue_of s (backlog_of after)) step
+step-respared q after s step one = record {
+  stand = λ p stands. (let h = one.stand p stands in record { prefix = h.prefix; gone = h.gone; waiting = h.waiting; bound = h.bound });
+  extends = one.extends;
+  gone = one.gone;
+}
+
+pub stand-pooled : (port : ℕ) (step : StreamPrefix Plain → StreamPrefix Plain) (old new : Pooled Plain) (ss : List (StreamPrefix Plain)) (after : Waiting Plain)
+    → port < length old.ports → IsStep (queue_at old port) after step → new.ports ≡ slice_set old.ports port (backlog_of after)
+    → StandAfter Default (length (settled_sets Default ss)) (queues_of old) ss
+    → StandAfter Default (length (settled_sets Default ss)) (queues_of new) (stepped port step ss) × AreExtendedBy ss (stepped port step ss)
+stand-pooled port step old new ss after there one is stand =
     let n = length (settled_sets Default ss) in
-    let now : StandAfter Default n mid (stepped port step ss) = subst (λ (w : List (Waiting Plain)). StandAfter Default n w (stepped port step ss)) (sym mid_is) both.0 in
-    let sets : settled_sets Default (rests mid) ≡ drop n (settled_sets Default (stepped port step ss)) =
-    what_is_next Default n mid (stepped port step ss) now in
+    let in_queues : port < length (queues_of old) = (let long = length-map old.ports (queue_of old.spare) in omega (arith, there, long)) in
+    let at : slice_get (queues_of old) port ≡ Some (queue_at old port) =
+    slice_get-get_or (queues_of old) port (queue_at old port) in_queues
+    ∙ ap (λ (q : Waiting Plain). Some q) (get_or-map (queue_of old.spare) old.ports port empty_backlog (queue_at old port) there) in
+    let both = stand-stepped port step (queues_of old) ss (queue_at old port) (queue_of old.spare (backlog_of after)) at (step-respared (queue_at old port) after old.spare step one) stand in
+    let set_is : slice_set (queues_of old) port (queue_of old.spare (backlog_of after)) ≡ map (queue_of old.spare) new.ports =
+    sym (map-set (queue_of old.spare) old.ports port (backlog_of after)) ∙ ap (λ (bs : List (Backlog Plain)). map (queue_of old.spare) bs) (sym is) in (
+      stand-respared n old.spare new.spare new.ports (stepped port step ss) (subst (λ (qs : List (Waiting Plain)). StandAfter Default n qs (stepped port step ss)) set_is both.0),
+      both.1,
+    )
+
+-- the queue that was put at a port is there
+pub queue-put : (old mid : Pooled Plain) (port : ℕ) (q : Waiting Plain) → port < length old.ports → mid ≡ with_queue old port q → queue_at mid port ≡ q
+queue-put old mid port q there is = ap (λ (v : Pooled Plain). queue_at v port) is ∙ queue_at-with_queue old port q there
+
+pub ports-put : (old mid : Pooled Plain) (port : ℕ) (q : Waiting Plain) → port < length old.ports → mid ≡ with_queue old port q → mid.ports ≡ slice_set old.ports port (backlog_of (queue_at mid port))
+ports-put old mid port q there is =
+    ap (λ (v : Pooled Plain). v.ports) is ∙ ap (λ (r : Waiting Plain). slice_set old.ports port (backlog_of r)) (sym (queue-put old mid port q there is))
+
+pub like-put : (q p : Waiting Plain) (s : ℕ) → q ≡ record p { spare = s } → IsLike q p
+like-put q p s is = record { gone = ap (λ (r : Waiting Plain). r.gone) is; packets = ap (λ (r : Waiting Plain). r.packets) is; bound = ap (λ (r : Waiting Plain). r.bound) is }
+
+-- All is claimed again after a step of the queue at a port and a claim of all sets that are ready.
+pub claimed-stepped : (port : ℕ) (step : StreamPrefix Plain → StreamPrefix Plain) (old mid last : Gathered) (ss : List (StreamPrefix Plain)) (after : Waiting Plain) (sent text new : List ℕ)
+    → port < length old.pool.ports → IsStep (queue_at old.pool port) after step → mid.pool.ports ≡ slice_set old.pool.ports port (backlog_of after)
+    → new ≡ text ++ sets_text (settled_sets Default (rests (queues_of mid.pool)))
+    → ((k : ℕ) (ss : List (StreamPrefix Plain)) → StandAfter Default k (queues_of mid.pool) ss → StandAfter Default (length (settled_sets Default ss)) (queues_of last.pool) ss)
+    → Claimed ss sent old text → Claimed (stepped port step ss) sent last new
+claimed-stepped port step old mid last ss after sent text new there one is new_is stands claimed =
+    let both = stand-pooled port step old.pool mid.pool ss after there one is claimed.stand in
+    let n = length (settled_sets Default ss) in
+    let sets : settled_sets Default (rests (queues_of mid.pool)) ≡ drop n (settled_sets Default (stepped port step ss)) =
+    what_is_next Default n (queues_of mid.pool) (stepped port step ss) both.0 in
     record {
-      stand = stands n (stepped port step ss) now;
+      stand = stands n (stepped port step ss) both.0;
       means = ap (λ t. sent ++ t) (new_is ∙ ap (λ (w : List (TimedSet Plain)). text ++ sets_text w) sets)
           ∙ sym (append_assoc sent text (sets_text (drop n (settled_sets Default (stepped port step ss)))))
           ∙ ap (λ t. t ++ sets_text (drop n (settled_sets Default (stepped port step ss)))) claimed.means
@@ -120,11 +173,18 @@ claimed-stepped port step qs mid last ss q after sent text new is one mid_is new
     }
 
 -- the bound of a queue is that of its stream
-pub bound-stands : (port : ℕ) (qs : List (Waiting Plain)) (ss : List (StreamPrefix Plain)) (q : Waiting Plain) → slice_get qs port ≡ Some q → AllZip StandsFor qs ss → q.bound ≡ bound_at port ss
+bound-stands : (port : ℕ) (qs : List (Waiting Plain)) (ss : List (StreamPrefix Plain)) (q : Waiting Plain) → slice_get qs port ≡ Some q → AllZip StandsFor qs ss → q.bound ≡ bound_at port ss
 bound-stands port [] ss q is each = cc
 bound-stands port (p ∷ qs) [] q is each = absurd each
 bound-stands zero (p ∷ qs) (s ∷ ss) q is each = let e : p ≡ q = cc in ap (λ (w : Waiting Plain). w.bound) (sym e) ∙ each.0.bound
 bound-stands (suc port) (p ∷ qs) (s ∷ ss) q is each = bound-stands port qs ss q is each.1
+
+pub bound-pooled : (port : ℕ) (pool : Pooled Plain) (ss : List (StreamPrefix Plain)) → port < length pool.ports → AllZip StandsFor (queues_of pool) ss → (queue_at pool port).bound ≡ bound_at port ss
+bound-pooled port pool ss there each =
+    let in_queues : port < length (queues_of pool) = (let long = length-map pool.ports (queue_of pool.spare) in omega (arith, there, long)) in
+    bound-stands port (queues_of pool) ss (queue_at pool port)
+    (slice_get-get_or (queues_of pool) port (queue_at pool port) in_queues
+    ∙ ap (λ (q : Waiting Plain). Some q) (get_or-map (queue_of pool.spare) pool.ports port empty_backlog (queue_at pool port) there)) each
 
 -- Nothing came yet.
 no-times : (n : ℕ) → all_times (replicate n (empty_prefix {X = Plain})) ≡ []
@@ -134,9 +194,9 @@ no-times (suc n) = no-times n
 no-sets : (n : ℕ) → settled_sets Default (replicate n (empty_prefix {X = Plain})) ≡ []
 no-sets n = rw (no-times n) refl
 
-pub claimed-nothing : (n : ℕ) (qs : List (Waiting Plain)) → StandAfter Default 0 qs (replicate n empty_prefix) → Claimed (replicate n empty_prefix) [] qs []
-claimed-nothing n qs stand = record {
-  stand = subst (λ (sets : List (TimedSet Plain)). StandAfter Default (length sets) qs (replicate n empty_prefix)) (sym (no-sets n)) stand;
+pub claimed-nothing : (n : ℕ) (inbox : Gathered) → StandAfter Default 0 (queues_of inbox.pool) (replicate n empty_prefix) → Claimed (replicate n empty_prefix) [] inbox []
+claimed-nothing n inbox stand = record {
+  stand = subst (λ (sets : List (TimedSet Plain)). StandAfter Default (length sets) (queues_of inbox.pool) (replicate n empty_prefix)) (sym (no-sets n)) stand;
   means = ap sets_text (sym (no-sets n));
 }
 
@@ -163,12 +223,6 @@ closed-all n [] le = nothing n
     nothing (suc n) = refl
 closed-all zero (s ∷ ss) le = absurd (omega (arith, le))
 closed-all (suc n) (s ∷ ss) le = ap (λ (rest : List (StreamPrefix Plain)). closed s ∷ rest) (closed-all n ss (omega (arith, le)))
-
--- A queue written back changes nothing.
-pub set-same : (port : ℕ) (qs : List (Waiting Plain)) (q : Waiting Plain) → slice_get qs port ≡ Some q → slice_set qs port q ≡ qs
-set-same port [] q is = refl
-set-same zero (p ∷ qs) q is = let e : p ≡ q = cc in ap (λ (w : Waiting Plain). w ∷ qs) (sym e)
-set-same (suc port) (p ∷ qs) q is = ap (λ (ws : List (Waiting Plain)). p ∷ ws) (set-same port qs q is)
 
 -- The first packet of a set --
 
@@ -219,33 +273,6 @@ stand-all j qs ss none stand =
     let most : length (settled_sets Default ss) ≤ j = omega (arith, length-drop j (settled_sets Default ss), ap length (sym (what_is_next Default j qs ss stand) ∙ none)) in
     subst (λ (k : ℕ). StandAfter Default k qs ss) (omega (arith, few, most)) stand
 
--- A claimed set has a place for each queue.
-next-long : (qs : List (Waiting Plain)) (e : TimedSet Plain) → next_set Default qs ≡ Some e → length e.set ≡ length qs
-next-long qs e is = first (settled_sets Default (rests qs)) (sets-places Default (rests qs)) is ∙ length-map qs rest_of
-  where
-    first : (es : List (TimedSet Plain)) → All (λ f. length f.set ≡ length (rests qs)) es → slice_get es 0 ≡ Some e → length e.set ≡ length (rests qs)
-    first [] all is = cc
-    first (f ∷ es) all is = let same : f ≡ e = cc in ap (λ (g : TimedSet Plain). length g.set) (sym same) ∙ All-head (λ (g : TimedSet Plain). length g.set ≡ length (rests qs)) f es all
-
-places-by : (o : Option (TimedSet Plain)) (r : Bool) (qs qs' : List (Waiting Plain)) (set set' : List (Option (Stamped Plain)))
-    → next_set Default qs ≡ o → length set ≡ length qs → (IsTrue r → IsSome o)
-    → IfSome o (λ e. set' ≡ e.set) → IfSome o (λ e. qs' ≡ map (popped_at e.at) qs) → OnFalse r ((qs' ≡ qs) × (set' ≡ set))
-    → (length set' ≡ length qs') × (length qs' ≡ length qs)
-places-by (Some e) r qs qs' set set' is long some shown gone same =
-    let n : length e.set ≡ length qs = next-long qs e is in
-    let m : length qs' ≡ length qs = ap length gone ∙ length-map qs (popped_at e.at) in
-    (ap length shown ∙ n ∙ sym m, m)
-places-by None true qs qs' set set' is long some shown gone same = absurd (false≢true (some refl))
-places-by None false qs qs' set set' is long some shown gone same =
-    let both : (qs' ≡ qs) × (set' ≡ set) = same in
-    (ap length both.1 ∙ long ∙ sym (ap length both.0), ap length both.0)
-
-pub claim-places : (r : Bool) (qs qs' : List (Waiting Plain)) (set set' : List (Option (Stamped Plain)))
-    → length set ≡ length qs → (IsTrue r → IsSome (next_set Default qs))
-    → IfSome (next_set Default qs) (λ e. set' ≡ e.set) → IfSome (next_set Default qs) (λ e. qs' ≡ map (popped_at e.at) qs) → OnFalse r ((qs' ≡ qs) × (set' ≡ set))
-    → (length set' ≡ length qs') × (length qs' ≡ length qs)
-claim-places r qs qs' set set' long some shown gone same = places-by (next_set Default qs) r qs qs' set set' refl long some shown gone same
-
 some-by : (o : Option (TimedSet Plain)) (P : TimedSet Plain → Type 0) → IsSome o → IfSome o P → (e : TimedSet Plain) × (o ≡ Some e) × P e
 some-by None P some all = absurd (false≢true some)
 some-by (Some e) P some all = (e, refl, all)
@@ -257,6 +284,11 @@ pub claim-shown : (qs : List (Waiting Plain)) (set : List (Option (Stamped Plain
 claim-shown qs set left text shown before some is left_is shown_is was =
     let e = some-by (next_set Default qs) (λ e. set ≡ e.set) some is in
     shown-more text shown before (settled_sets Default (rests qs)) left e.0 e.1 left_is (shown_is ∙ ap (λ (l : List (Option (Stamped Plain))). text ++ set_text l) e.2) was
+
+-- with a claim fewer sets are left
+pub fewer-left : (es left : List (TimedSet Plain)) → IsSome (slice_get es 0) → left ≡ drop 1 es → length left < length es
+fewer-left [] left some is = absurd (false≢true some)
+fewer-left (e ∷ es) left some is = omega (arith, ap length is)
 
 -- no set is left where none can be claimed
 pub none-left : (r : Bool) (qs : List (Waiting Plain)) → r ≡ false → (IsSome (next_set Default qs) → IsTrue r) → settled_sets Default (rests qs) ≡ []

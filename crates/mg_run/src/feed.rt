@@ -29,7 +29,7 @@ pub struct Feed {
     pub text: Vec<u8>,
     ghost few: { lines ≤ most_lines },
     ghost short: { length rest.items ≤ longest_line },
-    ghost inputs: { length merge.inbox ≡ length names },
+    ghost inputs: { length merge.inbox.pool.ports ≡ length names },
 }
 
 impl Feed {

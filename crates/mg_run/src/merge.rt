@@ -1,14 +1,16 @@
-ghost use Rattle.std.specs.Prelude.{◌≡◌, ◌++◌, length, OnOk, OnErr};
+ghost use Rattle.std.specs.Prelude.{◌≡◌, ◌<◌, ◌++◌, length, OnOk, OnErr};
 ghost use Rattle.mg_value.specs.Payload.{Plain};
 ghost use Rattle.mg_value.specs.Prefix.{StreamPrefix, appended};
-ghost use Rattle.mg_stream.specs.Queue.{StandsFor, MayCome, IsLike, with_packet};
+ghost use Rattle.mg_stream.specs.Queue.{StandsFor, MayCome, with_packet};
+ghost use Rattle.mg_stream.specs.Pool.{queue_at, with_queue};
+ghost use Rattle.mg_value.specs.declared.policy.Policy.TheVariants.{Default};
 ghost use Rattle.mg_run.specs.Output.{set_text};
 
 use crate::write_line::push_line;
 use mg_policy::Inbox;
-use mg_stream::{Queue, StreamFault};
+use mg_stream::StreamFault;
 use mg_time::Timestamp;
-use mg_value::{InputSet, Packet, Payload};
+use mg_value::{InputSet, Packet, Payload, Policy};
 use std::alloc::{AllocError, Global};
 use std::sync::Arc;
 
@@ -19,12 +21,13 @@ pub struct Merge {
     pub inbox: Inbox,
     // The set that was claimed last.
     set: InputSet,
-    ghost places: { length set ≡ length inbox },
+    ghost places: { length set ≡ length inbox.pool.ports },
+    ghost default: { inbox.policy ≡ Default },
 }
 
 impl Merge {
     ghost use Rattle.std.specs.Prelude.{◌≡◌, ◌<◌, ◌≤◌, ◌++◌, ℕ, List, [], Some, map, replicate, length, slice_get, IfOk, OnOk};
-    ghost use Rattle.mg_stream.specs.Queue.{Waiting};
+    ghost use Rattle.mg_stream.specs.Pool.{queue_at, queues_of};
     ghost use Rattle.mg_time.specs.Time.{IsRange};
     ghost use Rattle.mg_value.specs.Payload.{Plain, int};
     ghost use Rattle.mg_value.specs.Prefix.{StreamPrefix, empty_prefix, appended, raised, closed};
@@ -37,22 +40,21 @@ impl Merge {
 
     /// A node of as many inputs, to which nothing came yet.
     pub fn new(alloc: Global, inputs: u32) -> Result<Merge, AllocError>
-        ensures inputs { IfOk result (λ m. length m.inbox ≡ inputs) }
+        ensures inputs { IfOk result (λ m. length m.inbox.pool.ports ≡ inputs) }
         ensures claimed { IfOk result (λ m. Claimed (replicate inputs empty_prefix) [] m.inbox []) }
     {
-        let inbox = Inbox::new(alloc, inputs)?;
+        let inbox = Inbox::new(alloc, inputs, Policy::Default)?;
         let set = InputSet::new(alloc, inputs)?;
         Ok(Merge { inbox, set })
     }
 
     /// The bound of an input.
-    pub fn bound(&mut self, port: u32) -> Timestamp
-        requires { port < length self.old.inbox }
-        ensures value { (q : Waiting Plain) → slice_get self.old.inbox port ≡ Some q → result ≡ q.bound }
-        ensures bound { (ss : List (StreamPrefix Plain)) (sent text : List ℕ) → Claimed ss sent self.old.inbox text → result ≡ bound_at port ss }
-        ensures unchanged { self.new.inbox ≡ self.old.inbox }
+    pub fn bound(&self, port: u32) -> Timestamp
+        requires { port < length self.now.inbox.pool.ports }
+        ensures value { result ≡ (queue_at self.now.inbox.pool port).bound }
+        ensures bound { (ss : List (StreamPrefix Plain)) (sent text : List ℕ) → Claimed ss sent self.now.inbox text → result ≡ bound_at port ss }
     {
-        self.inbox.queue(port).bound()
+        self.inbox.bound(port)
     }
 
     /// A packet comes at an input, not below its bound.
@@ -64,46 +66,46 @@ impl Merge {
         value: i64,
         text: &mut Vec<u8>,
     ) -> Result<(), AllocError>
-        requires port { port < length self.old.inbox }
+        requires port { port < length self.old.inbox.pool.ports }
         requires range { IsRange at }
-        requires above { (q : Waiting Plain) → slice_get self.old.inbox port ≡ Some q → q.bound ≤ at }
-        ensures inputs { length self.new.inbox ≡ length self.old.inbox }
+        requires above { (queue_at self.old.inbox.pool port).bound ≤ at }
+        ensures inputs { length self.new.inbox.pool.ports ≡ length self.old.inbox.pool.ports }
         ensures claimed { OnOk result ((ss : List (StreamPrefix Plain)) (sent : List ℕ) → Claimed ss sent self.old.inbox text.old.items
             → Claimed (stepped port (λ s. appended s (record { at = at; value = int value })) ss) sent self.new.inbox text.new.items) }
     {
         let payload = Arc::new(alloc, Payload::Int(value))?;
-        append(self.inbox.queue(port), Packet { at, payload })?;
+        append(&mut self.inbox, port, Packet { at, payload })?;
         self.claim(text)?;
         Ok(())
     }
 
     /// The bound of an input rises to a time, if it is lower.
     pub fn raise(&mut self, port: u32, at: Timestamp, text: &mut Vec<u8>) -> Result<(), AllocError>
-        requires { port < length self.old.inbox }
-        ensures inputs { length self.new.inbox ≡ length self.old.inbox }
+        requires { port < length self.old.inbox.pool.ports }
+        ensures inputs { length self.new.inbox.pool.ports ≡ length self.old.inbox.pool.ports }
         ensures claimed { OnOk result ((ss : List (StreamPrefix Plain)) (sent : List ℕ) → Claimed ss sent self.old.inbox text.old.items
             → Claimed (stepped port (λ s. raised s at) ss) sent self.new.inbox text.new.items) }
     {
-        self.inbox.queue(port).raise(at);
+        self.inbox.raise(port, at);
         self.claim(text)?;
         Ok(())
     }
 
     /// An input closes.
     pub fn close(&mut self, port: u32, text: &mut Vec<u8>) -> Result<(), AllocError>
-        requires { port < length self.old.inbox }
-        ensures inputs { length self.new.inbox ≡ length self.old.inbox }
+        requires { port < length self.old.inbox.pool.ports }
+        ensures inputs { length self.new.inbox.pool.ports ≡ length self.old.inbox.pool.ports }
         ensures claimed { OnOk result ((ss : List (StreamPrefix Plain)) (sent : List ℕ) → Claimed ss sent self.old.inbox text.old.items
             → Claimed (stepped port closed ss) sent self.new.inbox text.new.items) }
     {
-        self.inbox.queue(port).close();
+        self.inbox.close(port);
         self.claim(text)?;
         Ok(())
     }
 
     /// All inputs close.
     pub fn close_all(&mut self, text: &mut Vec<u8>) -> Result<(), AllocError>
-        ensures inputs { length self.new.inbox ≡ length self.old.inbox }
+        ensures inputs { length self.new.inbox.pool.ports ≡ length self.old.inbox.pool.ports }
         ensures claimed { OnOk result ((ss : List (StreamPrefix Plain)) (sent : List ℕ) → Claimed ss sent self.old.inbox text.old.items
             → Claimed (map closed ss) sent self.new.inbox text.new.items) }
     {
@@ -115,11 +117,11 @@ impl Merge {
 
     // Takes the sets that are ready, and shows the first packet of each.
     fn claim(&mut self, text: &mut Vec<u8>) -> Result<(), AllocError>
-        ensures inputs { length self.new.inbox ≡ length self.old.inbox }
-        ensures none { OnOk result (settled_sets Default (rests self.new.inbox) ≡ []) }
-        ensures text { OnOk result (text.new.items ≡ text.old.items ++ sets_text (settled_sets Default (rests self.old.inbox))) }
-        ensures stand { OnOk result ((k : ℕ) (ss : List (StreamPrefix Plain)) → StandAfter Default k self.old.inbox ss
-            → StandAfter Default (length (settled_sets Default ss)) self.new.inbox ss) }
+        ensures inputs { length self.new.inbox.pool.ports ≡ length self.old.inbox.pool.ports }
+        ensures none { OnOk result (settled_sets Default (rests (queues_of self.new.inbox.pool)) ≡ []) }
+        ensures text { OnOk result (text.new.items ≡ text.old.items ++ sets_text (settled_sets Default (rests (queues_of self.old.inbox.pool)))) }
+        ensures stand { OnOk result ((k : ℕ) (ss : List (StreamPrefix Plain)) → StandAfter Default k (queues_of self.old.inbox.pool) ss
+            → StandAfter Default (length (settled_sets Default ss)) (queues_of self.new.inbox.pool) ss) }
     {
         while self.inbox.claim(&mut self.set) {
             show(&self.set, text)?;
@@ -128,15 +130,19 @@ impl Merge {
     }
 }
 
-// Puts a packet that may come into a queue. Only want of memory refuses it.
-fn append(queue: &mut Queue, packet: Packet) -> Result<(), AllocError>
-    requires { MayCome queue.old packet.at }
-    ensures like { OnOk result (IsLike queue.new (with_packet queue.old packet)) }
-    ensures may_come { OnOk result (MayCome queue.old packet.at) }
-    ensures stand { OnOk result ((s : StreamPrefix Plain) → StandsFor queue.old s → StandsFor queue.new (appended s packet)) }
-    ensures no_memory { OnErr result (queue.old.spare ≡ 0) }
+// Puts a packet that may come behind those that wait at a port. Only want of memory refuses it.
+fn append(inbox: &mut Inbox, port: u32, packet: Packet) -> Result<(), AllocError>
+    requires there { port < length inbox.old.pool.ports }
+    requires may_come { MayCome (queue_at inbox.old.pool port) packet.at }
+    ensures like { OnOk result (inbox.new.pool
+        ≡ with_queue inbox.old.pool port (record (with_packet (queue_at inbox.old.pool port) packet) { spare = inbox.new.pool.spare })) }
+    ensures policy { inbox.new.policy ≡ inbox.old.policy }
+    ensures may_come { OnOk result (MayCome (queue_at inbox.old.pool port) packet.at) }
+    ensures stand { OnOk result ((s : StreamPrefix Plain) → StandsFor (queue_at inbox.old.pool port) s → StandsFor (queue_at inbox.new.pool port) (appended s packet)) }
+    ensures no_memory { OnErr result (inbox.old.pool.spare ≡ 0) }
+    ensures unchanged { OnErr result (inbox.new ≡ inbox.old) }
 {
-    match queue.append(packet) {
+    match inbox.append(port, packet) {
         Ok(()) => Ok(()),
         Err(refused) => match refused.cause {
             StreamFault::OutOfMemory => Err(AllocError),

@@ -1,1 +1,4 @@
+pub mod Laid
+pub mod Linked
+pub mod PoolSteps
 pub mod QueueSteps

@@ -74,16 +74,21 @@ first_waits : {X : Type 0} (t : ℕ) (ps : List (Stamped X)) → is_some (front_
 first_waits t [] found = absurd cc
 first_waits t (p ∷ ps) found = omega arith
 
+-- the first packet is gone
+pub stands_without_first : {X : Type 0} (q : Waiting X) (s : StreamPrefix X) → 0 < length q.packets → StandsFor q s → StandsFor (popped q) s
+stands_without_first {X} q s waits h = record {
+  prefix = h.prefix;
+  gone = omega (arith, waits, ap length h.waiting, length-drop q.gone s.packets);
+  waiting = ap (λ (l : List (Stamped X)). drop 1 l) h.waiting ∙ drop-drop 1 q.gone s.packets;
+  bound = h.bound;
+}
+
 pub stands_popped : {X : Type 0} (t : ℕ) (q : Waiting X) (s : StreamPrefix X) → StandsFor q s → StandsFor (popped_at t q) s
 stands_popped {X} t q s h = elim (cases_Bool (is_some (front_at t q.packets))) [
-  | inl found ↦ rw found (one_gone (first_waits t q.packets found))
+  | inl found ↦ rw found (stands_without_first q s (first_waits t q.packets found) h)
   | inr none ↦ rw none h
 ]
-  where
-    one_gone : 0 < length q.packets → StandsFor (popped q) s
-    one_gone waits = record {
-      prefix = h.prefix;
-      gone = omega (arith, waits, ap length h.waiting, length-drop q.gone s.packets);
-      waiting = ap (λ (l : List (Stamped X)). drop 1 l) h.waiting ∙ drop-drop 1 q.gone s.packets;
-      bound = h.bound;
-    }
+
+-- a packet behind some that are the same as others
+pub pushed_items : {X : Type 0} (new mid old : List (Stamped X)) (p : Stamped X) → new ≡ mid ++ p ∷ [] → mid ≡ old → new ≡ old ++ p ∷ []
+pushed_items {X} new mid old p pushed same = pushed ∙ ap (λ (ps : List (Stamped X)). ps ++ p ∷ []) same

@@ -1,4 +1,5 @@
 ghost use Rattle.std.specs.Prelude.{◌≡◌, ◌≢◌, Some, IfNone, ◌<◌, ◌≤◌, ◌+◌, ◌^◌, ◌↔◌, [], length, slice_get, option_map, OnOk, OnErr, IfErr, IsErrAnd, IsOk, MatchResult};
+ghost use Rattle.std.specs.VecDeque.{deque_len, deque_capacity};
 ghost use Rattle.mg_time.specs.Time.{pre_stream, post_stream, done, IsAllowed};
 ghost use Rattle.mg_value.specs.Payload.{Plain};
 ghost use Rattle.mg_value.specs.Prefix.{StreamPrefix, IsPrefix, empty_prefix, appended, raised, closed};
@@ -11,6 +12,9 @@ use mg_value::Packet;
 use std::alloc::{AllocError, Global};
 use std::collections::VecDeque;
 use std::marker::Model;
+
+// For how many packets there is room once one came.
+const FIRST_ROOM: usize = 4;
 
 /// The packets of a stream that wait at one input, in order (MediaPipe, Synchronization). Contracts see how many
 /// packets are gone, those that wait, the bound, and for how many more there is room.
@@ -80,27 +84,23 @@ impl Queue {
         ensures unchanged { OnErr result (IsLike self.new self.old) }
         ensures returned { IfErr result (λ r. r.packet ≡ packet) }
         ensures room { self.old.spare ≤ self.new.spare + 1 }
+        ensures in_place { 0 < self.old.spare → OnOk result (self.new.spare + 1 ≡ self.old.spare) }
+        ensures room_stays { OnErr result (self.new.spare ≡ self.old.spare) }
 
         ensures stands { (s : StreamPrefix Plain) → StandsFor self.old s
             → MatchResult result (λ _. StandsFor self.new (appended s packet)) (λ _. StandsFor self.new s) }
     {
         let cause = match self.cause_of(packet.at) {
             Some(cause) => cause,
-            None => {
-                let bound = packet.at.next_allowed();
-                match self.packets.push_back(packet) {
-                    Ok(()) => {
-                        self.bound = bound;
-                        return Ok(());
-                    }
-                    Err(refused) => {
-                        return Err(Refused {
-                            packet: refused.value,
-                            cause: StreamFault::OutOfMemory,
-                        });
-                    }
+            None => match make_room(&mut self.packets) {
+                Ok(()) => {
+                    let bound = packet.at.next_allowed();
+                    self.packets.push_back_reserved(packet);
+                    self.bound = bound;
+                    return Ok(());
                 }
-            }
+                Err(_) => StreamFault::OutOfMemory,
+            },
         };
         Err(Refused { packet, cause })
     }
@@ -187,4 +187,22 @@ impl Queue {
             None
         }
     }
+}
+
+// Makes room for one more packet at least: for as many again as there is room for, so that the packets are moved
+// seldom.
+fn make_room(packets: &mut VecDeque<Packet>) -> Result<(), AllocError>
+    ensures ok { OnOk result (deque_len packets.new < deque_capacity packets.new) }
+    ensures no_memory { OnErr result (deque_capacity packets.old ≤ deque_len packets.old) }
+    ensures had { deque_len packets.old < deque_capacity packets.old → deque_capacity packets.new ≡ deque_capacity packets.old }
+    ensures capacity { deque_capacity packets.old ≤ deque_capacity packets.new }
+    ensures room_stays { OnErr result (deque_capacity packets.new ≡ deque_capacity packets.old) }
+    ensures items { packets.new.items ≡ packets.old.items }
+    ensures len { deque_len packets.new ≡ deque_len packets.old }
+{
+    let len = packets.len();
+    if len < packets.capacity() {
+        return Ok(());
+    }
+    packets.reserve_exact(len.max(FIRST_ROOM))
 }
