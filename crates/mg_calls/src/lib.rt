@@ -21,6 +21,10 @@ mod payload;
 #[cfg(test)]
 mod policy;
 #[cfg(test)]
+mod shapes;
+#[cfg(test)]
+mod sources;
+#[cfg(test)]
 mod stream;
 #[cfg(test)]
 mod subgraph;
