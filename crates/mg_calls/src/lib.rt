@@ -27,6 +27,10 @@ mod ready;
 #[cfg(test)]
 mod sets;
 #[cfg(test)]
+mod shapes;
+#[cfg(test)]
+mod sources;
+#[cfg(test)]
 mod stream;
 #[cfg(test)]
 mod subgraph;
