@@ -3,7 +3,7 @@ ghost use Rattle.std.specs.Prelude.{◌≡◌, ◌<◌, ◌≤◌, ◌+◌, ◌-
 ghost use Rattle.mg_value.specs.Prefix.{IsPrefix};
 ghost use Rattle.mg_value.specs.Payload.{plain};
 ghost use Rattle.mg_value.specs.Settled.{is_settled, selected};
-ghost use Rattle.mg_value.specs.Code.Shown.{chosen_port, is_shown};
+ghost use Rattle.mg_value.specs.FirstSet.{chosen_port, is_shown};
 ghost use Rattle.mg_value.specs.declared.policy.Policy.TheVariants.{Mux};
 ghost use Rattle.mg_stream.specs.Pool.{queues_of};
 ghost use Rattle.mg_policy.specs.Inbox.{HasPorts, rests};
