@@ -13,6 +13,8 @@ mod edge;
 #[cfg(test)]
 mod emissions;
 #[cfg(test)]
+mod holder;
+#[cfg(test)]
 mod names;
 #[cfg(test)]
 mod packets;
@@ -20,6 +22,8 @@ mod packets;
 mod payload;
 #[cfg(test)]
 mod policy;
+#[cfg(test)]
+mod route;
 #[cfg(test)]
 mod stream;
 #[cfg(test)]
