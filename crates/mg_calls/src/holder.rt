@@ -60,11 +60,7 @@ fn no_ports(alloc: Global) -> Result<PortKindList, Fail>
 }
 
 // A shape with one output for numbers, and no side packets.
-fn numbers(
-    alloc: Global,
-    inputs: PortKindList,
-    offset: Option<i64>,
-) -> Result<Shape, Fail>
+fn numbers(alloc: Global, inputs: PortKindList, offset: Option<i64>) -> Result<Shape, Fail>
     ensures inputs { IfOk result (λ shape. shape.inputs ≡ inputs) }
     ensures outputs { IfOk result (λ shape. shape.outputs ≡ untagged 1 Int) }
     ensures sides { IfOk result (λ shape. shape.sides ≡ []) }
@@ -135,11 +131,7 @@ fn process<C: Calculator>(
 }
 
 // Calls a source of numbers.
-fn call<C: Calculator>(
-    alloc: Global,
-    holder: &mut Holder<C>,
-    number: u64,
-) -> Result<String, Fail> {
+fn call<C: Calculator>(alloc: Global, holder: &mut Holder<C>, number: u64) -> Result<String, Fail> {
     match holder.law() {
         Law::Count { count, .. } if number < u64::from(*count) => {
             show(alloc, holder.call(alloc, number))
@@ -253,12 +245,7 @@ impl<C: Calculator> Calls for Boxed<C> {
 }
 
 // What a box tells when its calls are made.
-fn assert_told(
-    rt: &impl Abort,
-    alloc: Global,
-    telling: bool,
-    told: &str,
-) -> Result<(), Fail> {
+fn assert_told(rt: &impl Abort, alloc: Global, telling: bool, told: &str) -> Result<(), Fail> {
     let calculator = tally_box(alloc, telling)?;
     let mut boxed = Boxed { calculator };
     assert_rows(rt, alloc, &mut boxed, tally())?;
