@@ -13,6 +13,8 @@ mod edge;
 #[cfg(test)]
 mod emissions;
 #[cfg(test)]
+mod holder;
+#[cfg(test)]
 mod loopback;
 #[cfg(test)]
 mod names;
@@ -24,6 +26,8 @@ mod payload;
 mod policy;
 #[cfg(test)]
 mod ready;
+#[cfg(test)]
+mod route;
 #[cfg(test)]
 mod sets;
 #[cfg(test)]

@@ -1,2 +1,3 @@
-pub mod PlaceLemmas
 pub mod ClonerLemmas
+pub mod PlaceLemmas
+pub mod Sent

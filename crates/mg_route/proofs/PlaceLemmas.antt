@@ -1,5 +1,5 @@
 -- Places by number, one more at a time.
-use Rattle.std.proofs.Common.{◌≡◌, ℕ, suc, ◌+◌, ◌-◌, ◌<◌, ◌≤◌, min, Bool, ◌||◌, List, [], ◌∷◌, ◌++◌, Option, Some, None, map, take, drop, length, get_or, refl, sym, ap, ◌∙◌, arith, add-one}
+use Rattle.std.proofs.Common.{◌≡◌, ℕ, suc, ◌+◌, ◌-◌, ◌<◌, min, Bool, ◌||◌, List, [], ◌∷◌, ◌++◌, Option, Some, None, map, take, drop, length, refl, sym, ap, ◌∙◌, arith, add-one}
 use Rattle.std.proofs.lemmas.List.{length-take, get_or-take, map-append}
 use Rattle.std.proofs.lemmas.List.FromFn.{fill_by_all, map-range_with_len_more}
 use Rattle.std.proofs.lemmas.Option.{unwrap_or-slice_get}

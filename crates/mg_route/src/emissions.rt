@@ -98,11 +98,7 @@ pub fn placed<P: Places>(
 }
 
 /// The packets of the first ports of a set, each at the output of its number.
-pub fn front(
-    alloc: Global,
-    set: &InputSet,
-    lanes: u32,
-) -> Result<Emission, AllocError>
+pub fn front(alloc: Global, set: &InputSet, lanes: u32) -> Result<Emission, AllocError>
     ensures { IfOk result (λ emission. emission ≡ emission_of (take lanes set.now)) }
 {
     placed(alloc, set, Timestamp::MIN, lanes.min(set.len()))

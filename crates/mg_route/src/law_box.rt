@@ -5,9 +5,7 @@ ghost use Rattle.mg_route.specs.Logged.{told_log};
 
 use crate::Builtin;
 use crate::log::{copied, no_calls, with_call};
-use mg_calc::{
-    CalcFault, Calculator, Call, CallList, Emission, GivenList, Law, OuterShape, Shape,
-};
+use mg_calc::{CalcFault, Calculator, Call, CallList, Emission, GivenList, Law, OuterShape, Shape};
 use mg_time::Timestamp;
 use mg_value::InputSet;
 use std::alloc::{AllocError, Global};
