@@ -1,0 +1,5 @@
+pub mod Finding
+pub mod Values
+pub mod Forms
+pub mod Steps
+pub mod Json
