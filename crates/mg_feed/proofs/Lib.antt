@@ -3,3 +3,5 @@ pub mod Values
 pub mod Forms
 pub mod Steps
 pub mod Json
+pub mod Room
+pub mod Several

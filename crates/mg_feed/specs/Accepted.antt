@@ -161,12 +161,16 @@ is_stream b name = is_some (place_of b.graph.streams name)
 abbrev pub is_side : Before → List ℕ → Bool
 is_side b name = is_some (place_of b.graph.sides name)
 
+-- why the packets of some streams aren't good, for one stream after the other
+abbrev pub several_refusals : Before → Option ℕ → List Named → List (Option LineFault)
+several_refusals b time vs = flat_map (λ v. packet_refusals (kind_at b v.name) (standing_at b v.name) time v.value) vs
+
 -- Why what a line says isn't good: a name is that of no input, or otherwise, for one named stream after the other, each by
 -- its own standing.
 abbrev pub form_refusals : Before → Form → List (Option LineFault)
 form_refusals b (packets t vs) =
     when (not (list_all (λ v. is_stream b v.name) vs)) UnknownStream
-    ∷ flat_map (λ v. packet_refusals (kind_at b v.name) (standing_at b v.name) (time_of t) v.value) vs
+    ∷ several_refusals b (time_of t) vs
 form_refusals b (bound name t) = when (not (is_stream b name)) UnknownStream ∷ bound_refusals (standing_at b name) (time_of t)
 form_refusals b (close name) = when (not (is_stream b name)) UnknownStream ∷ close_refusals (standing_at b name)
 form_refusals b (side name v) = when (not (is_side b name)) UnknownStream ∷ side_refusals b.named (side_at b name) v
@@ -180,12 +184,16 @@ abbrev pub json_refusal : Before → Option Data → Option LineFault
 json_refusal b None = Some NotJson
 json_refusal b (Some d) = shape_refusal b (form_of d)
 
+-- why what a line says isn't good. One of blanks alone is good
+abbrev pub words_refusal : Before → List ℕ → Option LineFault
+words_refusal b line = if list_all is_blank line then None else json_refusal b (json_value line)
+
 -- why a line isn't good, by the first reason that holds
 abbrev pub line_refusal : Before → List ℕ → Option LineFault
 line_refusal b line =
     if nat_lt longest_line (length line) then Some TooLong
     else (if nat_le most_lines b.lines then Some TooManyLines
-    else (if list_all is_blank line then None else json_refusal b (json_value line)))
+    else words_refusal b line)
 
 -- why a line isn't good after these lines
 abbrev pub refusal : GraphInputs → List (List ℕ) → List ℕ → Option LineFault

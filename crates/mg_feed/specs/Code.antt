@@ -3,3 +3,4 @@ pub mod Places
 pub mod Forms
 pub mod Seen
 pub mod Heard
+pub mod Due

@@ -1,17 +1,19 @@
 ghost use Rattle.std.specs.Prelude.{◌≡◌, ◌≢◌, [], ◌∷◌, OnOk, OnErr, IfOk, IfErr, None, Some, map, unwrap_or, is_some, slice_get, option_and_then};
 ghost use Rattle.std.specs.List.{list_all};
 ghost use Rattle.std.specs.Arc.{arc_value};
-ghost use Rattle.serde_json.specs.View.{view};
+ghost use Rattle.serde_json.specs.View.{view, members_view};
 ghost use Rattle.mg_value.specs.Payload.{plain};
 ghost use Rattle.mg_value.specs.Prefix.{appended, raised, closed};
 ghost use Rattle.mg_value.specs.declared.kind.Kind.TheVariants.{Any};
 ghost use Rattle.mg_calc.specs.Given.{given};
-ghost use Rattle.mg_feed.specs.Form.{packets, bound, close, side, is_blank, form_of, json_value};
-ghost use Rattle.mg_feed.specs.Accepted.{stepped, no_stream, with_form, with_said, with_line, first_refusal, form_refusals, shape_refusal, json_refusal, line_refusal};
+ghost use Rattle.mg_feed.specs.Form.{packets, bound, close, side, listed, time_of, is_blank, form_of, json_value};
+ghost use Rattle.mg_feed.specs.Accepted.{stepped, no_stream, placed, is_stream, several_refusals, with_form, with_said, with_line, form_names, names_stream, words_refusal, first_refusal, form_refusals, shape_refusal, json_refusal, line_refusal};
 ghost use Rattle.mg_feed.specs.Code.Forms.{form_view};
 ghost use Rattle.mg_feed.specs.Seen.{collected, before_seen, with_streams, with_side};
+ghost use Rattle.mg_feed.specs.Code.Due.{AreDue};
 ghost use Rattle.mg_feed.specs.Code.Heard.{Heard, Took};
 
+use crate::due::{Due, lay, make_room};
 use crate::feed_stream::{FeedStream, append_at, close_at, raise_at, standing_at};
 use crate::form::{Form, form_by};
 use crate::graph::Graph;
@@ -21,7 +23,7 @@ use crate::times::time_by;
 use crate::{LineFault, Standing};
 use mg_time::Timestamp;
 use mg_value::{Kind, Packet, Payload};
-use serde_json::Value;
+use serde_json::{Map, Value};
 use std::alloc::{AllocError, Global};
 use std::sync::Arc;
 
@@ -38,9 +40,10 @@ pub struct Collected {
 }
 
 impl Collected {
-    /// Takes the next line, or tells why it isn't good.
-    pub fn line(&mut self, alloc: Global, text: &[u8]) -> Result<(), LineFault>
-        ensures { Took (collected self.old) (collected self.new) result (line_refusal (before_seen (collected self.old)) text.now)
+    /// Takes the next line, or tells why it isn't good. The answer is whether it names a stream.
+    pub fn line(&mut self, alloc: Global, text: &[u8]) -> Result<bool, LineFault>
+        ensures named { IfOk result (λ named. named ≡ names_stream text.now) }
+        ensures took { Took (collected self.old) (collected self.new) result (line_refusal (before_seen (collected self.old)) text.now)
             (with_line (collected self.old).graph (collected self.old).given text.now) }
     {
         if text.len() > LONGEST_LINE {
@@ -49,48 +52,65 @@ impl Collected {
         if self.lines >= MOST_LINES {
             return Err(LineFault::TooManyLines);
         }
-        if !is_blank_line(text) {
-            self.json(alloc, text)?;
-        }
+        let named = self.words(alloc, text)?;
         self.lines += 1;
-        Ok(())
+        Ok(named)
+    }
+
+    // Takes what a line says.
+    fn words(&mut self, alloc: Global, text: &[u8]) -> Result<bool, LineFault>
+        ensures named { IfOk result (λ named. named ≡ names_stream text.now) }
+        ensures heard { Heard (collected self.old) (collected self.new) result (words_refusal (before_seen (collected self.old)) text.now)
+            (with_line (collected self.old).graph (collected self.old).given text.now) }
+    {
+        if is_blank_line(text) {
+            return Ok(false);
+        }
+        let named = self.json(alloc, text)?;
+        Ok(named)
     }
 
     // Takes what a line says that isn't blank.
-    fn json(&mut self, alloc: Global, text: &[u8]) -> Result<(), LineFault>
-        ensures { Heard (collected self.old) (collected self.new) result (json_refusal (before_seen (collected self.old)) (json_value text.now))
+    fn json(&mut self, alloc: Global, text: &[u8]) -> Result<bool, LineFault>
+        ensures named { IfOk result (λ named. named ≡ form_names (option_and_then form_of (json_value text.now))) }
+        ensures heard { Heard (collected self.old) (collected self.new) result (json_refusal (before_seen (collected self.old)) (json_value text.now))
             (with_said (collected self.old).graph (collected self.old).given (option_and_then form_of (json_value text.now))) }
     {
         let value = json_by(alloc, text)?;
-        self.value(alloc, &value)?;
-        Ok(())
+        let named = self.value(alloc, &value)?;
+        Ok(named)
     }
 
     // Takes what a JSON value says.
-    fn value(&mut self, alloc: Global, value: &Value) -> Result<(), LineFault>
-        ensures { Heard (collected self.old) (collected self.new) result (shape_refusal (before_seen (collected self.old)) (form_of (view value.now)))
+    fn value(&mut self, alloc: Global, value: &Value) -> Result<bool, LineFault>
+        ensures named { IfOk result (λ named. named ≡ form_names (form_of (view value.now))) }
+        ensures heard { Heard (collected self.old) (collected self.new) result (shape_refusal (before_seen (collected self.old)) (form_of (view value.now)))
             (with_said (collected self.old).graph (collected self.old).given (form_of (view value.now))) }
     {
         let Some(form) = form_by(value) else {
             return Err(LineFault::BadShape);
         };
-        self.form(alloc, form)?;
-        Ok(())
+        let named = self.form(alloc, form)?;
+        Ok(named)
     }
 
     // Takes what a line says.
-    fn form(&mut self, alloc: Global, form: Form<'_>) -> Result<(), LineFault>
-        ensures { Heard (collected self.old) (collected self.new) result (first_refusal (form_refusals (before_seen (collected self.old)) (form_view form.entry)))
+    fn form(&mut self, alloc: Global, form: Form<'_>) -> Result<bool, LineFault>
+        ensures named { IfOk result (λ named. named ≡ form_names (Some (form_view form.entry))) }
+        ensures heard { Heard (collected self.old) (collected self.new) result (first_refusal (form_refusals (before_seen (collected self.old)) (form_view form.entry)))
             (with_form (collected self.old).graph (collected self.old).given (form_view form.entry)) }
     {
         match form {
             Form::Packet(name, time, value) => self.packet(alloc, name, time, value)?,
-            Form::Packets(_, _) => return Err(LineFault::OutOfMemory),
+            Form::Packets(time, members) => self.packets(alloc, time, members)?,
             Form::Bound(name, time) => self.bound(name, time)?,
             Form::Close(name) => self.close(name)?,
-            Form::Side(name, value) => self.side(alloc, name, value)?,
+            Form::Side(name, value) => {
+                self.side(alloc, name, value)?;
+                return Ok(false);
+            }
         }
-        Ok(())
+        Ok(true)
     }
 
     // Takes a packet.
@@ -105,6 +125,72 @@ impl Collected {
         let packet = packet_by(alloc, self.kind(place), self.standing(place), time_by(time), value)?;
         self.append(place, packet)?;
         Ok(())
+    }
+
+    // Takes packets of several streams.
+    fn packets(&mut self, alloc: Global, time: &Value, members: &Map<String, Value>) -> Result<(), LineFault>
+        ensures { let form = packets (view time.now) (listed (members_view members.now.entries)) in
+            Heard (collected self.old) (collected self.new) result (first_refusal (form_refusals (before_seen (collected self.old)) form))
+            (with_form (collected self.old).graph (collected self.old).given form) }
+    {
+        if !self.knows_all(members) {
+            return Err(LineFault::UnknownStream);
+        }
+        let due = self.due(alloc, time, members)?;
+        make_room(&mut self.streams, &due)?;
+        lay(&mut self.streams, due);
+        self.named = true;
+        Ok(())
+    }
+
+    // Whether all names are those of input streams.
+    fn knows_all(&self, members: &Map<String, Value>) -> bool
+        ensures { result ≡ list_all (λ v. is_stream (before_seen (collected self.now)) v.name) (listed (members_view members.now.entries)) }
+    {
+        for (name, _value) in members.iter() {
+            if self.graph.streams.find(name.as_str()).is_none() {
+                return false;
+            }
+        }
+        true
+    }
+
+    // The packets that named values make at a time.
+    fn due(&self, alloc: Global, time: &Value, members: &Map<String, Value>) -> Result<Vec<Due>, LineFault>
+        ensures good { IfOk result (λ due. first_refusal (several_refusals (before_seen (collected self.now)) (time_of (view time.now)) (listed (members_view members.now.entries))) ≡ None) }
+        ensures due { IfOk result (λ due. AreDue (collected self.now).graph (time_of (view time.now)) (listed (members_view members.now.entries)) due.items) }
+        ensures fault { IfErr result (λ fault. fault ≢ LineFault.OutOfMemory
+            → first_refusal (several_refusals (before_seen (collected self.now)) (time_of (view time.now)) (listed (members_view members.now.entries))) ≡ Some fault) }
+    {
+        let mut due = Vec::with_capacity(alloc, members.len())?;
+        for (name, value) in members.iter() {
+            let place = self.graph.streams.find(name.as_str());
+            let packet = packet_by(alloc, self.kind_of(place), self.standing_of(place), time_by(time), value)?;
+            due.push(Due { place, packet })?;
+        }
+        Ok(due)
+    }
+
+    // What a stream takes that may not be there, and what its next packet is judged by.
+    fn kind_of(&self, place: Option<u32>) -> Kind
+        ensures { result ≡ unwrap_or (placed place (collected self.now).graph.kinds) Any }
+    {
+        match place {
+            Some(place) => self.kind(place),
+            None => Kind::Any,
+        }
+    }
+
+    fn standing_of(&self, place: Option<u32>) -> Standing
+        ensures { result ≡ unwrap_or (placed place (before_seen (collected self.now)).streams) no_stream }
+    {
+        match place {
+            Some(place) => self.standing(place),
+            None => Standing {
+                bound: Timestamp::DONE,
+                begun: true,
+            },
+        }
     }
 
     // Takes a bound.

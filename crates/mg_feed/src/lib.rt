@@ -2,6 +2,7 @@
 #![tactic(auto)]
 
 mod collected;
+mod due;
 mod feed_stream;
 mod form;
 mod graph;
