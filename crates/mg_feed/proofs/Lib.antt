@@ -5,3 +5,8 @@ pub mod Steps
 pub mod Json
 pub mod Room
 pub mod Several
+pub mod Emptying
+pub mod Holding
+pub mod Text
+pub mod Sending
+pub mod Graphs

@@ -1,18 +1,21 @@
 -- Room in streams, and packets that are laid there.
-use Rattle.std.proofs.Common.{◌≡◌, ◌<◌, ◌≤◌, ◌+◌, ℕ, zero, suc, List, [], ◌∷◌, ◌++◌, Option, Some, None, length, map, take, drop, get_or, unwrap_or, vec_len, vec_capacity, refl, sym, ap, ◌∙◌, subst, arith}
+use Rattle.std.proofs.Common.{◌≡◌, ◌<◌, ◌≤◌, ◌+◌, ℕ, zero, suc, List, [], ◌∷◌, ◌++◌, Bool, true, Option, Some, None, length, map, take, drop, get_or, unwrap_or, vec_len, refl, sym, ap, ◌∙◌, subst, arith}
 use Rattle.std.proofs.Math.ListN.{set}
 use Rattle.mg_value.specs.Payload.{Plain}
 use Rattle.mg_value.specs.Prefix.{StreamPrefix, Stamped, appended}
 use Rattle.mg_feed.specs.Graph.{GraphInputs, place_of}
-use Rattle.mg_feed.specs.Form.{Named}
-use Rattle.mg_feed.specs.Accepted.{stepped_at, with_packets}
+use Rattle.std.specs.List.{list_all}
+use Rattle.serde_json.specs.Data.{Data}
+use Rattle.mg_feed.specs.Form.{Named, packets, time_of}
+use Rattle.mg_feed.specs.Accepted.{stepped_at, with_packets, with_form, is_stream, first_refusal, several_refusals, form_refusals}
+use Rattle.mg_feed.specs.View.{View, before_seen, with_streams, with_given}
 use Rattle.mg_feed.specs.Value.{plain_of}
-use Rattle.mg_feed.specs.Code.Due.{RoomIn, HasRoom, AllRoom, laid, AreDue}
+use Rattle.mg_feed.specs.Code.Due.{packets_room, RoomIn, HasRoom, AllRoom, laid, AreDue}
 use Rattle.mg_feed.specs.declared.feed_stream.FeedStream.{FeedStream}
 use Rattle.mg_feed.specs.declared.due.Due.{Due}
 
 -- one stream is written
-pub room-here : (n : ℕ) (ss : List FeedStream) (i : ℕ) (y : FeedStream) → vec_len y.packets + n ≤ vec_capacity y.packets → RoomIn n (set ss i y) i
+pub room-here : (n : ℕ) (ss : List FeedStream) (i : ℕ) (y : FeedStream) → vec_len y.packets + n ≤ packets_room y → RoomIn n (set ss i y) i
 room-here n [] i y room = tt
 room-here n (s ∷ ss) zero y room = room
 room-here n (s ∷ ss) (suc i) y room = room-here n ss i y room
@@ -22,14 +25,14 @@ room-past n [] i past = tt
 room-past n (s ∷ ss) zero past = absurd (omega arith)
 room-past n (s ∷ ss) (suc i) past = room-past n ss i (omega arith)
 
-pub room-there : (n : ℕ) (ss : List FeedStream) (i : ℕ) (d : FeedStream) → i < length ss → RoomIn n ss i → vec_len (get_or ss i d).packets + n ≤ vec_capacity (get_or ss i d).packets
+pub room-there : (n : ℕ) (ss : List FeedStream) (i : ℕ) (d : FeedStream) → i < length ss → RoomIn n ss i → vec_len (get_or ss i d).packets + n ≤ packets_room (get_or ss i d)
 room-there n [] i d lt room = absurd (omega arith)
 room-there n (s ∷ ss) zero d lt room = room
 room-there n (s ∷ ss) (suc i) d lt room = room-there n ss i d (omega arith) room
 
 -- where another stream has room for m packets before, it has room for n afterwards
 pub room-after : (m n : ℕ) (ss : List FeedStream) (i j : ℕ) (y d : FeedStream) → n ≤ m
-    → (vec_len (get_or ss i d).packets + m ≤ vec_capacity (get_or ss i d).packets → vec_len y.packets + n ≤ vec_capacity y.packets)
+    → (vec_len (get_or ss i d).packets + m ≤ packets_room (get_or ss i d) → vec_len y.packets + n ≤ packets_room y)
     → RoomIn m ss j → RoomIn n (set ss i y) j
 room-after m n [] i j y d le new room = tt
 room-after m n (s ∷ ss) zero zero y d le new room = new room
@@ -52,7 +55,7 @@ room-fewer n ss (Some j) room = fewer n ss j room
     fewer n (s ∷ ss) (suc j) room = fewer n ss j room
 
 pub has_room-after : (m n : ℕ) (ss : List FeedStream) (i : ℕ) (p : Option ℕ) (y d : FeedStream) → n ≤ m
-    → (vec_len (get_or ss i d).packets + m ≤ vec_capacity (get_or ss i d).packets → vec_len y.packets + n ≤ vec_capacity y.packets)
+    → (vec_len (get_or ss i d).packets + m ≤ packets_room (get_or ss i d) → vec_len y.packets + n ≤ packets_room y)
     → HasRoom m ss p → HasRoom n (set ss i y) p
 has_room-after m n ss i None y d le new room = tt
 has_room-after m n ss i (Some j) y d le new room = room-after m n ss i j y d le new room
@@ -111,3 +114,11 @@ pub room-first : (ss : List FeedStream) (items rest : List Due) (d : Due) → it
 room-first ss items rest d cut room =
     let all : AllRoom (length (d ∷ rest)) ss (d ∷ rest) = subst (λ (l : List Due). AllRoom (length l) ss l) cut room in
     room-one (length (d ∷ rest)) ss d.place (omega arith) all.0
+
+-- all packets of a line are laid
+pub packets-heard : (old new : View) (t : Data) (vs : List Named) (due : List Due)
+    → list_all (λ v. is_stream (before_seen old) v.name) vs ≡ true → first_refusal (several_refusals (before_seen old) (time_of t) vs) ≡ None
+    → AreDue old.graph (time_of t) vs due → new ≡ with_streams old (laid due old.given.streams)
+    → (first_refusal (form_refusals (before_seen old) (packets t vs)) ≡ None) × (new ≡ with_given old (with_form old.graph old.given (packets t vs)))
+packets-heard old new t vs due known none are is =
+    (rw known none, is ∙ ap (with_streams old) (laid-due old.graph (time_of t) vs due old.given.streams are))

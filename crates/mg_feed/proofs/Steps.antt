@@ -4,8 +4,9 @@ use Rattle.std.proofs.Math.ListN.{set}
 use Rattle.mg_value.specs.Payload.{Plain}
 use Rattle.mg_value.specs.Prefix.{StreamPrefix}
 use Rattle.mg_feed.specs.Accepted.{stepped, no_stream, has_some}
-use Rattle.mg_feed.specs.Seen.{waiting, was_taken, standings}
-use Rattle.mg_feed.specs.Code.Seen.{standing_now}
+use Rattle.mg_feed.specs.View.{standings}
+use Rattle.mg_feed.specs.Code.Streams.{waiting, was_taken}
+use Rattle.mg_feed.specs.Code.Streams.{standing_now}
 use Rattle.mg_feed.specs.declared.standing.Standing.{Standing}
 use Rattle.mg_feed.specs.declared.feed_stream.FeedStream.{FeedStream}
 

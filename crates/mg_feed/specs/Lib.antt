@@ -7,6 +7,10 @@ pub mod Accepted
 pub mod Given
 pub mod Output
 pub mod Generated
+pub mod View
 pub mod Seen
+pub mod FeedSeen
+pub mod Stands
+pub mod Sent
 -- What only the code's own functions say to one another. Nothing above rests on it.
 pub mod Code

@@ -1,65 +1,16 @@
--- What a feed stands for.
-use Rattle.std.specs.Prelude.{◌≡◌, ◌||◌, ◌+◌, ℕ, List, [], ◌∷◌, map, Bool, true, Option, Some}
-use Rattle.mg_value.specs.Payload.{Plain}
-use Rattle.mg_value.specs.Prefix.{StreamPrefix}
-use Rattle.mg_calc.specs.Given as calc
-use Rattle.mg_feed.specs.Graph.{GraphInputs}
-use Rattle.mg_feed.specs.Accepted.{State, Before, has_some, stepped, with_line}
-use Rattle.mg_feed.specs.declared.standing.Standing.{Standing}
-use Rattle.mg_feed.specs.declared.feed_stream.FeedStream.{FeedStream}
-use Rattle.mg_feed.specs.declared.graph.Graph.{Graph}
+-- What the code's own types stand for.
+use Rattle.std.specs.Prelude.{map}
+use Rattle.mg_calc.specs.Given.{given as given_side}
+use Rattle.mg_feed.specs.View.{View}
+use Rattle.mg_feed.specs.Code.Graphs.{graph_view}
+use Rattle.mg_feed.specs.Code.Streams.{waiting, was_taken}
 use Rattle.mg_feed.specs.declared.collected.Collected.{Collected}
-
--- what a feed has of the lines that it accepted: the graph's inputs, what the lines gave but for packets that were taken,
--- of which streams packets were taken, and how many lines there were
-pub record View : Type 0 where
-  pub graph : GraphInputs
-  pub given : State
-  pub taken : List Bool
-  pub lines : ℕ
-
-abbrev pub waiting : FeedStream → StreamPrefix Plain
-waiting s = record { packets = s.packets.items; bound = s.bound }
-
-abbrev pub was_taken : FeedStream → Bool
-was_taken s = s.taken
-
-abbrev pub graph_view : Graph → GraphInputs
-graph_view g = record { streams = g.streams; kinds = g.kinds.items; sides = g.sides }
 
 abbrev pub collected : Collected → View
 collected c = record {
   graph = graph_view c.graph;
-  given = record { streams = map waiting c.streams.items; sides = map calc.given c.sides.items; named = c.named };
+  given = record { streams = map waiting c.streams.items; sides = map given_side c.sides.items; named = c.named };
   taken = map was_taken c.streams.items;
   lines = c.lines;
 }
 
--- what the streams are judged by, where packets may have been taken
-abbrev pub standings : List Bool → List (StreamPrefix Plain) → List Standing
-standings [] ss = []
-standings (t ∷ ts) [] = []
-standings (t ∷ ts) (s ∷ ss) = record { bound = s.bound; begun = t || has_some s.packets } ∷ standings ts ss
-
-abbrev pub before_seen : View → Before
-before_seen v = record { graph = v.graph; lines = v.lines; streams = standings v.taken v.given.streams; sides = v.given.sides; named = v.given.named }
-
--- with other streams, after a line that named one
-abbrev pub with_streams : View → List (StreamPrefix Plain) → View
-with_streams v ss = record { graph = v.graph; given = record { streams = ss; sides = v.given.sides; named = true }; taken = v.taken; lines = v.lines }
-
--- with a side packet
-abbrev pub with_side : View → ℕ → Plain → View
-with_side v place p = record {
-  graph = v.graph;
-  given = record { streams = v.given.streams; sides = stepped place (λ _. Some p) v.given.sides; named = v.given.named };
-  taken = v.taken;
-  lines = v.lines;
-}
-
--- with what was given, and after one more line
-abbrev pub with_given : View → State → View
-with_given v given = record { graph = v.graph; given = given; taken = v.taken; lines = v.lines }
-
-abbrev pub with_next : View → State → View
-with_next v given = record { graph = v.graph; given = given; taken = v.taken; lines = v.lines + 1 }

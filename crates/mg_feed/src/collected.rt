@@ -1,28 +1,22 @@
-ghost use Rattle.std.specs.Prelude.{◌≡◌, ◌≢◌, [], ◌∷◌, OnOk, OnErr, IfOk, IfErr, None, Some, map, unwrap_or, is_some, slice_get, option_and_then};
+ghost use Rattle.std.specs.Prelude.{◌≡◌, ◌≢◌, ◌<◌, ◌≤◌, ◌^◌, [], IfOk, IfErr, None, Some, map, vec_len, vec_capacity};
 ghost use Rattle.std.specs.List.{list_all};
 ghost use Rattle.std.specs.Arc.{arc_value};
-ghost use Rattle.serde_json.specs.View.{view, members_view};
+ghost use Rattle.serde_json.specs.View.{view};
 ghost use Rattle.mg_value.specs.Payload.{plain};
-ghost use Rattle.mg_value.specs.Prefix.{appended, raised, closed};
-ghost use Rattle.mg_value.specs.declared.kind.Kind.TheVariants.{Any};
 ghost use Rattle.mg_calc.specs.Given.{given};
-ghost use Rattle.mg_feed.specs.Form.{packets, bound, close, side, listed, time_of, is_blank, form_of, json_value};
-ghost use Rattle.mg_feed.specs.Accepted.{stepped, no_stream, placed, is_stream, several_refusals, with_form, with_said, with_line, form_names, names_stream, words_refusal, first_refusal, form_refusals, shape_refusal, json_refusal, line_refusal};
-ghost use Rattle.mg_feed.specs.Code.Forms.{form_view};
-ghost use Rattle.mg_feed.specs.Seen.{collected, before_seen, with_streams, with_side};
-ghost use Rattle.mg_feed.specs.Code.Due.{AreDue};
-ghost use Rattle.mg_feed.specs.Code.Heard.{Heard, Took};
-
+ghost use Rattle.mg_feed.specs.Form.{is_blank, json_value};
+ghost use Rattle.mg_feed.specs.Accepted.{stepped};
 use crate::due::{Due, lay, make_room};
-use crate::feed_stream::{FeedStream, append_at, close_at, raise_at, standing_at};
+use crate::feed_stream::FeedStream;
 use crate::form::{Form, form_by};
 use crate::graph::Graph;
 use crate::judge::{packet_by, payload_by};
 use crate::limits::{LONGEST_LINE, MOST_LINES};
+use crate::streams::{append_at, close_at, raise_at, standing_at};
 use crate::times::time_by;
 use crate::{LineFault, Standing};
 use mg_time::Timestamp;
-use mg_value::{Kind, Packet, Payload};
+use mg_value::{Kind, Packet, Payload, Prefix};
 use serde_json::{Map, Value};
 use std::alloc::{AllocError, Global};
 use std::sync::Arc;
@@ -37,9 +31,31 @@ pub struct Collected {
     pub named: bool,
     // How many lines were accepted.
     pub lines: u64,
+    // Room for the prefixes of the streams.
+    pub room: Vec<Prefix>,
+    ghost few: { vec_len streams < 2 ^ 32 },
+    ghost few_sides: { vec_len sides < 2 ^ 32 },
+    ghost empty: { room.items ≡ [] },
+    ghost enough: { vec_len streams ≤ vec_capacity room },
 }
 
 impl Collected {
+    ghost use Rattle.std.specs.Prelude.{◌≡◌, ◌≢◌, [], ◌∷◌, OnOk, OnErr, IfOk, IfErr, None, Some, map, unwrap_or, is_some, slice_get, length, vec_len, option_and_then};
+    ghost use Rattle.std.specs.List.{list_all};
+    ghost use Rattle.std.specs.Arc.{arc_value};
+    ghost use Rattle.serde_json.specs.View.{view, members_view};
+    ghost use Rattle.mg_value.specs.Payload.{plain};
+    ghost use Rattle.mg_value.specs.Prefix.{appended, raised, closed};
+    ghost use Rattle.mg_value.specs.declared.kind.Kind.TheVariants.{Any};
+    ghost use Rattle.mg_calc.specs.Given.{given};
+    ghost use Rattle.mg_feed.specs.Form.{packets, bound, close, side, listed, time_of, is_blank, form_of, json_value};
+    ghost use Rattle.mg_feed.specs.Accepted.{stepped, no_stream, placed, is_stream, several_refusals, with_form, with_said, with_line, form_names, names_stream, words_refusal, first_refusal, form_refusals, shape_refusal, json_refusal, line_refusal};
+    ghost use Rattle.mg_feed.specs.Code.Forms.{form_view};
+    ghost use Rattle.mg_feed.specs.View.{before_seen, with_streams, with_side};
+    ghost use Rattle.mg_feed.specs.Seen.{collected};
+    ghost use Rattle.mg_feed.specs.Code.Due.{AreDue, AllRoom, laid};
+    ghost use Rattle.mg_feed.specs.Code.Heard.{Heard, Took};
+
     /// Takes the next line, or tells why it isn't good. The answer is whether it names a stream.
     pub fn line(&mut self, alloc: Global, text: &[u8]) -> Result<bool, LineFault>
         ensures named { IfOk result (λ named. named ≡ names_stream text.now) }
@@ -137,10 +153,27 @@ impl Collected {
             return Err(LineFault::UnknownStream);
         }
         let due = self.due(alloc, time, members)?;
-        make_room(&mut self.streams, &due)?;
+        self.make_room(&due)?;
+        self.lay(due);
+        Ok(())
+    }
+
+    // Makes room for packets, so that they can be laid without memory.
+    fn make_room(&mut self, due: &[Due]) -> Result<(), AllocError>
+        ensures kept { collected self.new ≡ collected self.old }
+        ensures room { OnOk result (AllRoom (length due.now) self.new.streams.items due.now) }
+    {
+        make_room(&mut self.streams, due)?;
+        Ok(())
+    }
+
+    // Puts packets at the ends of their streams, which have room.
+    fn lay(&mut self, due: Vec<Due>)
+        requires { AllRoom (vec_len due) self.old.streams.items due.items }
+        ensures { collected self.new ≡ with_streams (collected self.old) (laid due.items (collected self.old).given.streams) }
+    {
         lay(&mut self.streams, due);
         self.named = true;
-        Ok(())
     }
 
     // Whether all names are those of input streams.

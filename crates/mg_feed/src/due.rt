@@ -1,10 +1,11 @@
 ghost use Rattle.std.specs.Prelude.{◌≡◌, ◌≤◌, ◌+◌, ℕ, Option, OnOk, map, vec_len, vec_capacity, length};
 ghost use Rattle.mg_value.specs.Prefix.{appended};
 ghost use Rattle.mg_feed.specs.Accepted.{stepped_at};
-ghost use Rattle.mg_feed.specs.Seen.{waiting, was_taken};
-ghost use Rattle.mg_feed.specs.Code.Due.{HasRoom, AllRoom, laid};
+ghost use Rattle.mg_feed.specs.Code.Streams.{waiting, was_taken};
+ghost use Rattle.mg_feed.specs.Code.Due.{packets_room, HasRoom, AllRoom, laid};
 
 use crate::feed_stream::FeedStream;
+use crate::streams::MOST_PACKETS;
 use mg_value::Packet;
 use std::alloc::AllocError;
 
@@ -47,10 +48,13 @@ fn make_room_at(streams: &mut [FeedStream], place: Option<u32>, packets: usize) 
 fn reserve(stream: &mut FeedStream, packets: usize) -> Result<(), AllocError>
     ensures kept { waiting stream.new ≡ waiting stream.old }
     ensures taken { stream.new.taken ≡ stream.old.taken }
-    ensures room { OnOk result (vec_len stream.new.packets + packets ≤ vec_capacity stream.new.packets) }
+    ensures room { OnOk result (vec_len stream.new.packets + packets ≤ packets_room stream.new) }
     ensures length { vec_len stream.new.packets ≡ vec_len stream.old.packets }
-    ensures capacity { vec_capacity stream.old.packets ≤ vec_capacity stream.new.packets }
+    ensures capacity { packets_room stream.old ≤ packets_room stream.new }
 {
+    if packets > MOST_PACKETS - stream.packets.len() {
+        return Err(AllocError);
+    }
     stream.packets.reserve(packets)?;
     Ok(())
 }
@@ -84,11 +88,11 @@ fn lay_at(streams: &mut [FeedStream], place: Option<u32>, packet: Packet)
 
 // Puts a packet at the end of a stream that has room.
 fn put(stream: &mut FeedStream, packet: Packet)
-    requires { vec_len stream.old.packets + 1 ≤ vec_capacity stream.old.packets }
+    requires { vec_len stream.old.packets + 1 ≤ packets_room stream.old }
     ensures appended { waiting stream.new ≡ appended (waiting stream.old) packet }
     ensures taken { stream.new.taken ≡ stream.old.taken }
     ensures length { vec_len stream.new.packets ≡ vec_len stream.old.packets + 1 }
-    ensures capacity { vec_capacity stream.old.packets ≤ vec_capacity stream.new.packets }
+    ensures capacity { packets_room stream.old ≤ packets_room stream.new }
 {
     let next = packet.at.next_allowed();
     let _ = stream.packets.push(packet);

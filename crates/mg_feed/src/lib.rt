@@ -3,17 +3,25 @@
 
 mod collected;
 mod due;
+mod feed;
 mod feed_stream;
 mod form;
 mod graph;
 mod judge;
 mod limits;
 mod line_fault;
+mod line_writer;
 mod places;
+mod put;
 mod standing;
+mod streams;
+mod taking;
 mod times;
 
+pub use feed::Feed;
 pub use line_fault::LineFault;
+pub use line_writer::{LineWriter, write_line};
 pub use limits::{LONGEST_LINE, MOST_LINES};
 pub use places::{Placed, Places};
+pub use put::put_all;
 pub use standing::Standing;

@@ -1,4 +1,4 @@
-ghost use Rattle.std.specs.Prelude.{◌≡◌, IfOk};
+ghost use Rattle.std.specs.Prelude.{◌≡◌, IfOk, length};
 ghost use Rattle.mg_feed.specs.Graph.{place_of};
 ghost use Rattle.mg_feed.specs.Code.Places.{Finds};
 
@@ -40,6 +40,13 @@ impl Places {
     {
         let found = table_of(alloc, &entries)?;
         Ok(Places { entries, found })
+    }
+
+    /// How many names there are.
+    pub fn len(&self) -> usize
+        ensures { result ≡ length self.now }
+    {
+        self.entries.len()
     }
 
     /// The place of a name.

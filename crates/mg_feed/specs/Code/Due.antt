@@ -1,5 +1,5 @@
 -- Packets of one line, each with the place of its stream.
-use Rattle.std.specs.Prelude.{◌≡◌, ◌≤◌, ◌+◌, ⊤, ℕ, zero, suc, List, [], ◌∷◌, Option, None, Some, vec_len, vec_capacity, unwrap_or}
+use Rattle.std.specs.Prelude.{◌≡◌, ◌≤◌, ◌+◌, ⊤, ℕ, zero, suc, List, [], ◌∷◌, Option, None, Some, vec_len, vec_capacity, unwrap_or, min}
 use Rattle.mg_value.specs.Payload.{Plain}
 use Rattle.mg_value.specs.Prefix.{StreamPrefix, appended}
 use Rattle.mg_feed.specs.Graph.{GraphInputs, place_of}
@@ -8,11 +8,16 @@ use Rattle.mg_feed.specs.Value.{plain_of}
 use Rattle.mg_feed.specs.Accepted.{stepped_at}
 use Rattle.mg_feed.specs.declared.feed_stream.FeedStream.{FeedStream}
 use Rattle.mg_feed.specs.declared.due.Due.{Due}
+use Rattle.mg_feed.specs.declared.streams.TheConstants.{MOST_PACKETS}
+
+-- so many packets a stream has room for, those that it has among them
+abbrev pub packets_room : FeedStream → ℕ
+packets_room s = min (vec_capacity s.packets) MOST_PACKETS
 
 -- the stream at a place has room for so many packets
 abbrev pub RoomIn : ℕ → List FeedStream → ℕ → Type 0
 RoomIn n [] place = ⊤
-RoomIn n (s ∷ ss) zero = vec_len s.packets + n ≤ vec_capacity s.packets
+RoomIn n (s ∷ ss) zero = vec_len s.packets + n ≤ packets_room s
 RoomIn n (s ∷ ss) (suc place) = RoomIn n ss place
 
 abbrev pub HasRoom : ℕ → List FeedStream → Option ℕ → Type 0

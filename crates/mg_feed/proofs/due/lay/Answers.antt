@@ -1,6 +1,6 @@
 use Rattle.std.proofs.Common.{◌≡◌, map, sym, ap, ◌∙◌, List}
 use Rattle.std.specs.Vec.Iter.{into_iter_items}
-use Rattle.mg_feed.specs.Seen.{waiting}
+use Rattle.mg_feed.specs.Code.Streams.{waiting}
 use Rattle.mg_feed.specs.Code.Due.{laid}
 use Rattle.mg_feed.specs.declared.due.Due.{Due}
 use Rattle.mg_feed.proofs.Room.{room-first, room-next}

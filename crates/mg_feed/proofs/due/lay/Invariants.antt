@@ -1,5 +1,5 @@
 use Rattle.std.proofs.Common.{◌≡◌, length, map}
-use Rattle.mg_feed.specs.Seen.{waiting, was_taken}
+use Rattle.mg_feed.specs.Code.Streams.{waiting, was_taken}
 use Rattle.mg_feed.specs.Code.Due.{AllRoom, laid}
 use Rattle.std.specs.Vec.Iter.{into_iter_items}
 use Rattle.mg_feed.proofs.due.lay.Given as goal

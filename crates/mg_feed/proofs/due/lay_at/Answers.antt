@@ -1,7 +1,7 @@
 use Rattle.std.proofs.Common.{◌≡◌, ◌+◌, ◌≤◌, ℕ, Option, Some, None, map, vec_len, vec_capacity, refl, sym, subst, arith, ◌∙◌, ap}
 use Rattle.mg_value.specs.Prefix.{appended}
 use Rattle.mg_feed.specs.Accepted.{stepped_at}
-use Rattle.mg_feed.specs.Seen.{waiting, was_taken}
+use Rattle.mg_feed.specs.Code.Streams.{waiting, was_taken}
 use Rattle.mg_feed.specs.Code.Due.{HasRoom}
 use Rattle.mg_feed.proofs.Steps.{map-same, map-stepped, stepped-past}
 use Rattle.mg_feed.proofs.Room.{room-there, room-fewer, has_room-after}

@@ -1,5 +1,5 @@
 use Rattle.std.proofs.Common.{◌≡◌, length, map, take}
-use Rattle.mg_feed.specs.Seen.{waiting, was_taken}
+use Rattle.mg_feed.specs.Code.Streams.{waiting, was_taken}
 use Rattle.mg_feed.specs.Code.Due.{AllRoom}
 use Rattle.mg_feed.proofs.due.make_room.Given as goal
 

@@ -6,7 +6,8 @@ use Rattle.mg_value.specs.Prefix.{Stamped}
 use Rattle.mg_value.specs.Payload.{Plain}
 use Rattle.mg_feed.specs.Graph.{place_of}
 use Rattle.mg_feed.specs.Form.{Named, listed, time_of}
-use Rattle.mg_feed.specs.Seen.{collected, before_seen}
+use Rattle.mg_feed.specs.View.{before_seen}
+use Rattle.mg_feed.specs.Seen.{collected}
 use Rattle.mg_feed.specs.Code.Due.{AreDue}
 use Rattle.mg_feed.specs.declared.due.Due.{Due}
 use Rattle.mg_feed.proofs.Several.{Member, several-next, several-stop, listed-push, judged, due-next}

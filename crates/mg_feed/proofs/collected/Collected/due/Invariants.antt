@@ -2,7 +2,8 @@ use Rattle.std.proofs.Common.{◌≡◌, ◌++◌, List, None}
 use Rattle.serde_json.specs.View.{view, members_view}
 use Rattle.mg_feed.specs.Form.{listed, time_of}
 use Rattle.mg_feed.specs.Accepted.{first_refusal, several_refusals}
-use Rattle.mg_feed.specs.Seen.{collected, before_seen}
+use Rattle.mg_feed.specs.View.{before_seen}
+use Rattle.mg_feed.specs.Seen.{collected}
 use Rattle.mg_feed.specs.Code.Due.{AreDue}
 use Rattle.mg_feed.proofs.Several.{Member}
 use Rattle.mg_feed.proofs.collected.Collected.due.Given as goal

@@ -3,7 +3,8 @@ use Rattle.std.specs.List.{list_all}
 use Rattle.serde_json.specs.View.{members_view}
 use Rattle.mg_feed.specs.Form.{listed}
 use Rattle.mg_feed.specs.Accepted.{is_stream}
-use Rattle.mg_feed.specs.Seen.{collected, before_seen}
+use Rattle.mg_feed.specs.View.{before_seen}
+use Rattle.mg_feed.specs.Seen.{collected}
 use Rattle.mg_feed.proofs.collected.Collected.knows_all.Given as goal
 
 -- the names so far are known

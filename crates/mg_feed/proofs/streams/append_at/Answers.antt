@@ -1,9 +1,9 @@
 use Rattle.std.proofs.Common.{refl, arith}
 use Rattle.std.proofs.lemmas.Result.{err_from_is_err_and}
 use Rattle.mg_value.specs.Prefix.{appended}
-use Rattle.mg_feed.specs.Seen.{waiting, was_taken}
+use Rattle.mg_feed.specs.Code.Streams.{waiting, was_taken}
 use Rattle.mg_feed.proofs.Steps.{map-stepped, map-same, stepped-past}
-use Rattle.mg_feed.proofs.feed_stream.append_at.Goals as goal
+use Rattle.mg_feed.proofs.streams.append_at.Goals as goal
 
 pub returns-in_err-push_packet-clause-unchanged : goal.returns-in_err-push_packet-clause-unchanged
 returns-in_err-push_packet-clause-unchanged c =

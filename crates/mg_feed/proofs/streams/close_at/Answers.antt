@@ -1,8 +1,8 @@
 use Rattle.std.proofs.Common.{refl, arith}
 use Rattle.mg_value.specs.Prefix.{closed}
-use Rattle.mg_feed.specs.Seen.{waiting, was_taken}
+use Rattle.mg_feed.specs.Code.Streams.{waiting, was_taken}
 use Rattle.mg_feed.proofs.Steps.{map-stepped, map-same, stepped-past}
-use Rattle.mg_feed.proofs.feed_stream.close_at.Goals as goal
+use Rattle.mg_feed.proofs.streams.close_at.Goals as goal
 
 pub returns-then-i-streams-clause-closed : goal.returns-then-i-streams-clause-closed
 returns-then-i-streams-clause-closed c =
