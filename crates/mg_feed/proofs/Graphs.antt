@@ -1,5 +1,5 @@
 -- The inputs of a plan's graph, one after the other.
-use Rattle.std.proofs.Common.{◌≡◌, ◌<◌, ◌≤◌, ◌+◌, ℕ, zero, suc, List, [], ◌∷◌, ◌++◌, Option, Some, None, length, map, drop, get_or, slice_get, option_and_then, refl, sym, ap, ◌∙◌, subst, arith, append_assoc, append-nil, length-append}
+use Rattle.std.proofs.Common.{◌≡◌, ◌<◌, ◌≤◌, ◌+◌, ℕ, zero, suc, List, [], ◌∷◌, ◌++◌, Option, Some, None, length, map, drop, get_or, slice_get, option_and_then, refl, sym, ap, ◌∙◌, subst, arith, append_assoc, append-nil, length-append, add-one}
 use Rattle.std.specs.List.{filter_map, cons_option}
 use Rattle.std.specs.Option.{option_to_list}
 use Rattle.mg_calc.specs.Side.{PlainSide, PlainSideValue, given_at, fixed}
@@ -65,3 +65,14 @@ sides-none [] zero past = refl
 sides-none [] (suc i) past = refl
 sides-none (s ∷ sides) zero past = absurd (omega arith)
 sides-none (s ∷ sides) (suc i) past = sides-none sides i (omega arith)
+
+pub inputs-more : (streams : List PlanStream) (inputs : List ℕ) (i : ℕ) (o : Option PlanStream) → i < length inputs
+    → o ≡ option_and_then (slice_get streams) (slice_get inputs i)
+    → filter_map (slice_get streams) (drop i inputs) ≡ cons_option o (filter_map (slice_get streams) (drop (i + 1) inputs))
+inputs-more streams inputs i o lt is = rw add-one (inputs-next streams inputs i o lt is)
+
+pub names-next : (all placed more : List Placed) (n m : ℕ) (s : PlanStream) (left next : List PlanStream) (p : Placed)
+    → all ≡ placed ++ numbered n (map (λ s. s.name) left) → left ≡ s ∷ next → p.name ≡ s.name → p.place ≡ n → more ≡ placed ++ p ∷ [] → m ≡ n + 1
+    → all ≡ more ++ numbered m (map (λ s. s.name) next)
+names-next all placed more n m s left next p is cut name place pushed one =
+    names-some all placed more n s left next p is cut name place pushed ∙ ap (λ k. more ++ numbered k (map (λ s. s.name) next)) (sym one)

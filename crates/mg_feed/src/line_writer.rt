@@ -1,5 +1,7 @@
 ghost use Rattle.std.specs.Prelude.{◌≡◌, ◌++◌, OnOk, IfOk};
 ghost use Rattle.std.specs.Fmt.{signed_decimal};
+ghost use Rattle.serde_json.specs.Data.{string};
+ghost use Rattle.serde_json.specs.View.{view};
 ghost use Rattle.serde_json.specs.Written.{compact_text};
 ghost use Rattle.mg_value.specs.Payload.{plain};
 ghost use Rattle.mg_value.specs.Json.{json_of};
@@ -63,13 +65,19 @@ pub fn write_line(alloc: Global, name: &MgText, packet: &Packet) -> Result<Vec<u
 fn head_of(alloc: Global, name: &MgText) -> Result<Vec<u8>, AllocError>
     ensures { IfOk result (λ head. head.items ≡ line_head name.now) }
 {
-    let value = Value::String(String::from_str(alloc, name.as_str())?);
-    let quoted = value.to_string(alloc)?;
+    let quoted = text_value(alloc, name)?.to_string(alloc)?;
     let mut head = Vec::new(alloc);
     push(&mut head, b"{\"stream\":")?;
     push(&mut head, quoted.as_bytes())?;
     push(&mut head, b",\"ts\":")?;
     Ok(head)
+}
+
+// A name as JSON.
+fn text_value(alloc: Global, name: &MgText) -> Result<Value, AllocError>
+    ensures { IfOk result (λ value. view value ≡ string name.now) }
+{
+    Ok(Value::String(String::from_str(alloc, name.as_str())?))
 }
 
 // Writes a line that begins so.
