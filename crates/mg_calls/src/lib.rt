@@ -9,6 +9,8 @@ mod config_written;
 #[cfg(test)]
 mod edge;
 #[cfg(test)]
+mod feed;
+#[cfg(test)]
 mod names;
 #[cfg(test)]
 mod packets;

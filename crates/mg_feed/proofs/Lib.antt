@@ -10,3 +10,4 @@ pub mod Holding
 pub mod Text
 pub mod Sending
 pub mod Graphs
+pub mod Making

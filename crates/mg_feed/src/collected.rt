@@ -281,8 +281,8 @@ impl Collected {
         Ok(())
     }
 
-    // What the stream at a place takes.
-    fn kind(&self, place: u32) -> Kind
+    /// What the stream at a place takes.
+    pub fn kind(&self, place: u32) -> Kind
         ensures { result ≡ unwrap_or (slice_get (collected self.now).graph.kinds place) Any }
     {
         match self.graph.kinds.get(place as usize) {
@@ -308,8 +308,8 @@ impl Collected {
         }
     }
 
-    // Puts a packet at the end of the stream at a place.
-    fn append(&mut self, place: u32, packet: Packet) -> Result<(), AllocError>
+    /// Puts a packet at the end of the stream at a place.
+    pub fn append(&mut self, place: u32, packet: Packet) -> Result<(), AllocError>
         ensures good { OnOk result (collected self.new ≡ with_streams (collected self.old) (stepped place (λ s. appended s packet) (collected self.old).given.streams)) }
         ensures unchanged { OnErr result (collected self.new ≡ collected self.old) }
     {

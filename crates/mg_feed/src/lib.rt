@@ -6,6 +6,7 @@ mod due;
 mod feed;
 mod feed_stream;
 mod form;
+mod generating;
 mod graph;
 mod judge;
 mod limits;
@@ -19,6 +20,7 @@ mod taking;
 mod times;
 
 pub use feed::Feed;
+pub use generating::generate;
 pub use line_fault::LineFault;
 pub use line_writer::{LineWriter, write_line};
 pub use limits::{LONGEST_LINE, MOST_LINES};
