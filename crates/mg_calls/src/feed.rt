@@ -289,3 +289,58 @@ fn long_and_deep_lines(rt: HostRuntime) -> Result<(), Fail> {
     assert_eq!(rt; well.as_str(), "ok");
     Ok(())
 }
+
+// What a feed of the stream `in`, which takes any payload, answers to the lines of a table.
+fn any() -> &'static str {
+    r#"{"at":10,"packets":{"b":5,"a":1}}=UnknownStream
+{"stream":"in","ts":1,"value":{"b":2,"a":[{}]}}=ok
+{"stream":"in","ts":2,"value":"x"}=ok
+take={"stream":"s","ts":1,"value":{"a":[{}],"b":2}} {"stream":"s","ts":2,"value":"x"} 3; --"#
+}
+
+#[test]
+fn records_are_values(rt: HostRuntime) -> Result<(), Fail> {
+    let alloc = rt.alloc();
+    assert_rows(
+        &rt,
+        alloc,
+        &mut make_feeding(alloc, &[("in", Kind::Any)])?,
+        any(),
+    )
+}
+
+// The inputs that are made for two streams of these kinds.
+fn made(alloc: Global, kinds: &[(&str, Kind)], number: u32) -> Result<String, Fail> {
+    let plan = plan_of(alloc, kinds)?;
+    let inputs = generate(alloc, &plan, number)?;
+    show_inputs(alloc, &inputs)
+}
+
+#[test]
+fn inputs_are_made(rt: HostRuntime) -> Result<(), Fail> {
+    let alloc = rt.alloc();
+    let one = made(alloc, &[("in", Kind::Any)], 2)?;
+    assert_eq!(rt; one.as_str(), r#"{"stream":"s","ts":0,"value":0} {"stream":"s","ts":10,"value":1} Done; {"stream":"s","ts":"PreStream","value":1}{"stream":"s","ts":"PreStream","value":1}"#);
+    let two = made(alloc, &[("a", Kind::Flag), ("b", Kind::Text)], 5)?;
+    assert_eq!(rt; two.as_str(), r#"{"stream":"s","ts":0,"value":true} {"stream":"s","ts":10,"value":false} {"stream":"s","ts":20,"value":true} Done; {"stream":"s","ts":0,"value":"1"} {"stream":"s","ts":10,"value":"3"} Done; {"stream":"s","ts":"PreStream","value":1}{"stream":"s","ts":"PreStream","value":1}"#);
+    let three = made(alloc, &[("a", Kind::Items), ("b", Kind::Record)], 2)?;
+    assert_eq!(rt; three.as_str(), r#"{"stream":"s","ts":0,"value":[0]} Done; {"stream":"s","ts":0,"value":{"n":1}} Done; {"stream":"s","ts":"PreStream","value":1}{"stream":"s","ts":"PreStream","value":1}"#);
+    let none = made(alloc, &[], 7)?;
+    assert_eq!(rt; none.as_str(), r#"{"stream":"s","ts":"PreStream","value":1}{"stream":"s","ts":"PreStream","value":1}"#);
+    Ok(())
+}
+
+// The line of a text at PreStream, of a stream whose name has a letter that JSON writes otherwise.
+#[test]
+fn lines_are_written(rt: HostRuntime) -> Result<(), Fail> {
+    let alloc = rt.alloc();
+    let packet = Packet {
+        at: Timestamp::PRE_STREAM,
+        payload: Arc::new(alloc, Payload::Text(MgText::new(alloc, "a")?))?,
+    };
+    let out = write_line(alloc, &MgText::new(alloc, "out")?, &packet)?;
+    assert_eq!(rt; String::from_utf8(out)?.as_str(), "{\"stream\":\"out\",\"ts\":\"PreStream\",\"value\":\"a\"}\n");
+    let quoted = write_line(alloc, &MgText::new(alloc, "o\"\n")?, &packet)?;
+    assert_eq!(rt; String::from_utf8(quoted)?.as_str(), "{\"stream\":\"o\\\"\\n\",\"ts\":\"PreStream\",\"value\":\"a\"}\n");
+    Ok(())
+}

@@ -11,3 +11,4 @@ pub mod Text
 pub mod Sending
 pub mod Graphs
 pub mod Making
+pub mod OldLines

@@ -11,6 +11,7 @@ pub mod View
 pub mod Seen
 pub mod FeedSeen
 pub mod Stands
+pub mod OldText
 pub mod Sent
 -- What only the code's own functions say to one another. Nothing above rests on it.
 pub mod Code

@@ -9,6 +9,7 @@ mod form;
 mod generating;
 mod graph;
 mod judge;
+pub mod laws;
 mod limits;
 mod line_fault;
 mod line_writer;
