@@ -320,13 +320,25 @@ fn made(alloc: Global, kinds: &[(&str, Kind)], number: u32) -> Result<String, Fa
 fn inputs_are_made(rt: HostRuntime) -> Result<(), Fail> {
     let alloc = rt.alloc();
     let one = made(alloc, &[("in", Kind::Any)], 2)?;
-    assert_eq!(rt; one.as_str(), r#"{"stream":"s","ts":0,"value":0} {"stream":"s","ts":10,"value":1} Done; {"stream":"s","ts":"PreStream","value":1}{"stream":"s","ts":"PreStream","value":1}"#);
+    assert_eq!(rt;
+        one.as_str(),
+        r#"{"stream":"s","ts":0,"value":0} {"stream":"s","ts":10,"value":1} Done; {"stream":"s","ts":"PreStream","value":1}{"stream":"s","ts":"PreStream","value":1}"#
+    );
     let two = made(alloc, &[("a", Kind::Flag), ("b", Kind::Text)], 5)?;
-    assert_eq!(rt; two.as_str(), r#"{"stream":"s","ts":0,"value":true} {"stream":"s","ts":10,"value":false} {"stream":"s","ts":20,"value":true} Done; {"stream":"s","ts":0,"value":"1"} {"stream":"s","ts":10,"value":"3"} Done; {"stream":"s","ts":"PreStream","value":1}{"stream":"s","ts":"PreStream","value":1}"#);
+    assert_eq!(rt;
+        two.as_str(),
+        r#"{"stream":"s","ts":0,"value":true} {"stream":"s","ts":10,"value":false} {"stream":"s","ts":20,"value":true} Done; {"stream":"s","ts":0,"value":"1"} {"stream":"s","ts":10,"value":"3"} Done; {"stream":"s","ts":"PreStream","value":1}{"stream":"s","ts":"PreStream","value":1}"#
+    );
     let three = made(alloc, &[("a", Kind::Items), ("b", Kind::Record)], 2)?;
-    assert_eq!(rt; three.as_str(), r#"{"stream":"s","ts":0,"value":[0]} Done; {"stream":"s","ts":0,"value":{"n":1}} Done; {"stream":"s","ts":"PreStream","value":1}{"stream":"s","ts":"PreStream","value":1}"#);
+    assert_eq!(rt;
+        three.as_str(),
+        r#"{"stream":"s","ts":0,"value":[0]} Done; {"stream":"s","ts":0,"value":{"n":1}} Done; {"stream":"s","ts":"PreStream","value":1}{"stream":"s","ts":"PreStream","value":1}"#
+    );
     let none = made(alloc, &[], 7)?;
-    assert_eq!(rt; none.as_str(), r#"{"stream":"s","ts":"PreStream","value":1}{"stream":"s","ts":"PreStream","value":1}"#);
+    assert_eq!(rt;
+        none.as_str(),
+        r#"{"stream":"s","ts":"PreStream","value":1}{"stream":"s","ts":"PreStream","value":1}"#
+    );
     Ok(())
 }
 
@@ -339,8 +351,14 @@ fn lines_are_written(rt: HostRuntime) -> Result<(), Fail> {
         payload: Arc::new(alloc, Payload::Text(MgText::new(alloc, "a")?))?,
     };
     let out = write_line(alloc, &MgText::new(alloc, "out")?, &packet)?;
-    assert_eq!(rt; String::from_utf8(out)?.as_str(), "{\"stream\":\"out\",\"ts\":\"PreStream\",\"value\":\"a\"}\n");
+    assert_eq!(rt;
+        String::from_utf8(out)?.as_str(),
+        "{\"stream\":\"out\",\"ts\":\"PreStream\",\"value\":\"a\"}\n"
+    );
     let quoted = write_line(alloc, &MgText::new(alloc, "o\"\n")?, &packet)?;
-    assert_eq!(rt; String::from_utf8(quoted)?.as_str(), "{\"stream\":\"o\\\"\\n\",\"ts\":\"PreStream\",\"value\":\"a\"}\n");
+    assert_eq!(rt;
+        String::from_utf8(quoted)?.as_str(),
+        "{\"stream\":\"o\\\"\\n\",\"ts\":\"PreStream\",\"value\":\"a\"}\n"
+    );
     Ok(())
 }

@@ -71,4 +71,4 @@ pub finds-more : (entries : List Placed) (i : ℕ) (e : Placed) (f f' : List ℕ
 finds-more entries i e f f' lt is finds none updated name =
     let more : take (i + 1) entries ≡ take i entries ++ e ∷ [] = take_more entries i e lt ∙ ap (λ x. take i entries ++ x ∷ []) (sym is) in
     updated name ∙ ap (λ o. cond (bytes_eq e.name name) (Some e.place) o) (finds name)
-        ∙ sym (fresh (take i entries) e name (sym (ap is_some (finds e.name)) ∙ none)) ∙ ap (λ l. place_of l name) (sym more)
+    ∙ sym (fresh (take i entries) e name (sym (ap is_some (finds e.name)) ∙ none)) ∙ ap (λ l. place_of l name) (sym more)

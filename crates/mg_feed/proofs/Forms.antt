@@ -1,11 +1,11 @@
 -- What objects say, from what `serde_json` answers.
-use Rattle.std.proofs.Common.{◌≡◌, ℕ, List, [], ◌∷◌, length, Bool, true, false, Option, Some, None, refl, ap, arith, String}
+use Rattle.std.proofs.Common.{◌≡◌, List, [], ◌∷◌, length, Some, None, refl, ap, arith, String}
 use Rattle.std.specs.declared.alloc.Global.{Global}
-use Rattle.serde_json.specs.Data.{Data, null, boolean, number, string, array, object, Members, no_members, member}
+use Rattle.serde_json.specs.Data.{Data, null, boolean, number, string, array, object, Members}
 use Rattle.serde_json.specs.Find.{as_object}
 use Rattle.serde_json.specs.View.{members_view}
 use Rattle.serde_json.specs.declared.value.Value.{Value}
-use Rattle.mg_feed.specs.Form.{Form, packets, count, member_count, listed, packets_form}
+use Rattle.mg_feed.specs.Form.{packets, count, member_count, listed, packets_form}
 
 -- as many as the entries of the map
 pub count-members_view : (entries : List (String Global × Value)) → count (members_view entries) ≡ length entries

@@ -1,5 +1,5 @@
 -- The inputs of a plan's graph, one after the other.
-use Rattle.std.proofs.Common.{◌≡◌, ◌<◌, ◌≤◌, ◌+◌, ℕ, zero, suc, List, [], ◌∷◌, ◌++◌, Option, Some, None, length, map, drop, get_or, slice_get, option_and_then, refl, sym, ap, ◌∙◌, subst, arith, append_assoc, append-nil, length-append, add-one}
+use Rattle.std.proofs.Common.{◌≡◌, ◌<◌, ◌≤◌, ◌+◌, ℕ, zero, suc, List, [], ◌∷◌, ◌++◌, Option, length, map, drop, get_or, slice_get, option_and_then, refl, sym, ap, ◌∙◌, arith, append_assoc, add-one}
 use Rattle.std.specs.List.{filter_map, cons_option}
 use Rattle.std.specs.Option.{option_to_list}
 use Rattle.mg_calc.specs.Side.{PlainSide, PlainSideValue, given_at, fixed}
@@ -55,9 +55,9 @@ pub sides-step : (all placed : List Placed) (sides : List PlainSide) (i : ℕ) (
     → all ≡ (placed ++ option_to_list o) ++ given_sides (drop (suc i) sides)
 sides-step all placed sides i s o lt at is made =
     is ∙ ap (λ l. placed ++ l) (sides-next sides i s lt
-      ∙ ap (λ (x : PlainSide). placed_side x.name x.value (given_sides (drop (suc i) sides))) (sym at)
-      ∙ side-before s.name s.value (given_sides (drop (suc i) sides))
-      ∙ ap (λ l. l ++ given_sides (drop (suc i) sides)) made)
+    ∙ ap (λ (x : PlainSide). placed_side x.name x.value (given_sides (drop (suc i) sides))) (sym at)
+    ∙ side-before s.name s.value (given_sides (drop (suc i) sides))
+    ∙ ap (λ l. l ++ given_sides (drop (suc i) sides)) made)
     ∙ sym (append_assoc placed (option_to_list o) (given_sides (drop (suc i) sides)))
 
 pub sides-none : (sides : List PlainSide) (i : ℕ) → length sides ≤ i → given_sides (drop i sides) ≡ []

@@ -1,5 +1,5 @@
 -- Packets that are made.
-use Rattle.std.proofs.Common.{◌≡◌, ◌<◌, ◌+◌, ◌*◌, ◌/◌, ◌%◌, ◌^◌, ℕ, zero, suc, List, [], ◌∷◌, Option, Some, None, length, replicate, get_or, slice_get, unwrap_or, refl, sym, ap, ◌∙◌, arith}
+use Rattle.std.proofs.Common.{◌≡◌, ◌+◌, ◌*◌, ◌/◌, ◌%◌, ◌^◌, ℕ, zero, suc, List, [], ◌∷◌, length, get_or, slice_get, unwrap_or, refl, sym, ap, ◌∙◌, arith}
 use Rattle.mg_value.specs.Payload.{Plain}
 use Rattle.mg_value.specs.Prefix.{Stamped, StreamPrefix, appended}
 use Rattle.mg_feed.specs.Accepted.{stepped}
@@ -34,5 +34,5 @@ made-at kinds i n k kind p ss new en ek is packet new_is =
     new_is ∙ ap (λ m. stepped (m % k) (λ s. appended s p) ss) en ∙ ap (λ m. stepped (i % m) (λ s. appended s p) ss) ek
     ∙ ap (λ q. stepped (i % length kinds) (λ s. appended s q) ss)
     (made kinds i kind p
-      (is ∙ ap (λ m. unwrap_or (slice_get kinds (m % k)) Any) en ∙ ap (λ m. unwrap_or (slice_get kinds (i % m)) Any) ek)
-      (packet ∙ ap (λ m. packet-at kind i (m / k)) en ∙ ap (λ m. packet-at kind i (i / m)) ek))
+    (is ∙ ap (λ m. unwrap_or (slice_get kinds (m % k)) Any) en ∙ ap (λ m. unwrap_or (slice_get kinds (i % m)) Any) ek)
+    (packet ∙ ap (λ m. packet-at kind i (m / k)) en ∙ ap (λ m. packet-at kind i (i / m)) ek))

@@ -1,17 +1,16 @@
 -- Lines that were good before one line could name several streams.
-use Rattle.std.proofs.Common.{◌≡◌, ◌==◌, ◌&&◌, not, ℕ, List, [], ◌∷◌, ◌++◌, Bool, true, false, if◌then◌else◌, Option, None, Some, option_map, option_and_then, length, fold, nat_lt, nat_le, refl, sym, ap, ◌∙◌, subst, append-nil, append_assoc, codes}
+use Rattle.std.proofs.Common.{◌≡◌, ◌==◌, ◌&&◌, ℕ, List, [], ◌∷◌, ◌++◌, Bool, true, false, if◌then◌else◌, Option, None, Some, option_map, option_and_then, length, refl, sym, ap, ◌∙◌, subst, append-nil, append_assoc, codes}
 use Rattle.std.proofs.lemmas.Grind.{fold-append}
-use Rattle.std.proofs.lemmas.Bool.{cases_Bool}
 use Rattle.std.specs.List.{list_all}
 use Rattle.serde_json.specs.Data.{Data}
 use Rattle.serde_json.specs.Find.{get}
 use Rattle.mg_feed.specs.Graph.{GraphInputs}
 use Rattle.mg_feed.specs.Form.{Form, packets, bound, close, side, is_blank, form_of, json_value, packet_form, bound_form, close_form, side_form, packets_form, either, text_at, flag_at, members_at, member_count, time_of}
-use Rattle.mg_feed.specs.Accepted.{State, Before, before, fresh, when, first_refusal, form_refusals, shape_refusal, json_refusal, line_refusal, refusal, with_form, with_said, with_line, given_by, is_stream, packet_refusals, kind_at, standing_at}
+use Rattle.mg_feed.specs.Accepted.{State, Before, before, fresh, first_refusal, form_refusals, shape_refusal, json_refusal, line_refusal, refusal, with_form, with_said, with_line, given_by, is_stream, packet_refusals, kind_at, standing_at}
 use Rattle.mg_feed.specs.Stands.{AllGood}
 use Rattle.mg_feed.specs.OldText.{OldForm, old_packet, old_bound, old_close, old_side, old_packet_form, old_bound_form, old_close_form, old_side_form, old_either, old_form_of, with_old, with_old_said, with_old_line, old_given_by, old_refusals, old_shape_refusal, old_json_refusal, old_line_refusal, old_refusal, AllGoodBefore}
 use Rattle.mg_feed.specs.declared.line_fault.LineFault.{LineFault}
-use Rattle.mg_feed.specs.declared.line_fault.LineFault.TheVariants.{UnknownStream, TooLong, TooManyLines}
+use Rattle.mg_feed.specs.declared.line_fault.LineFault.TheVariants.{TooLong, TooManyLines}
 
 -- the form now
 abbrev now : OldForm → Form

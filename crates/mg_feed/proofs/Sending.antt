@@ -1,9 +1,9 @@
 -- What a sink takes in pieces.
-use Rattle.std.proofs.Common.{◌≡◌, ℕ, List, [], ◌++◌, take, drop, Bool, true, false, Option, None, Some, refl, sym, ap, ◌∙◌, subst, arith, append_assoc, append-nil, take-append-drop}
+use Rattle.std.proofs.Common.{◌≡◌, ℕ, List, ◌++◌, take, drop, Option, None, Some, sym, ap, ◌∙◌, subst, arith, append_assoc, take-append-drop}
 use Rattle.mg_edge.specs.Edge.{SinkTold, WriteAppends, one_more, Rose}
 use Rattle.mg_edge.specs.declared.sink.Put.TheVariants.{Took, Failed as PutFailed}
 use Rattle.mg_edge.specs.Runs.{TookAll}
-use Rattle.mg_edge.proofs.Runs.{TookAll-start, TookAll-write}
+use Rattle.mg_edge.proofs.Runs.{TookAll-write}
 use Rattle.mg_feed.specs.Sent.{SentAll, SentPart}
 
 -- a call that fails, after others that don't

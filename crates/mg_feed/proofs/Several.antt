@@ -1,5 +1,5 @@
 -- The packets of one line, one name after the other.
-use Rattle.std.proofs.Common.{◌≡◌, ℕ, List, [], ◌∷◌, ◌++◌, Bool, true, false, cond, Option, Some, None, is_some, unwrap_or, length, refl, sym, ap, ◌∙◌, subst, String}
+use Rattle.std.proofs.Common.{◌≡◌, ℕ, List, [], ◌∷◌, ◌++◌, Bool, false, Option, Some, None, unwrap_or, refl, sym, ap, ◌∙◌, subst, String}
 use Rattle.std.specs.declared.alloc.Global.{Global}
 use Rattle.std.specs.String.{string_bytes}
 use Rattle.std.specs.List.{list_all}
@@ -54,7 +54,7 @@ pub several-next : (b : Before) (time : Option ℕ) (whole all left : List Membe
     → first_refusal (several_refusals b time (listed (members_view whole))) ≡ first_refusal (several_refusals b time (listed (members_view left)))
 several-next b time whole all left m is cut none =
     is ∙ ap (λ ms. first_refusal (several_refusals b time (listed (members_view ms)))) cut
-       ∙ first-none (packet_refusals (kind_at b (string_bytes m.0)) (standing_at b (string_bytes m.0)) time (view m.1)) (several_refusals b time (listed (members_view left))) none
+    ∙ first-none (packet_refusals (kind_at b (string_bytes m.0)) (standing_at b (string_bytes m.0)) time (view m.1)) (several_refusals b time (listed (members_view left))) none
 
 pub several-stop : (b : Before) (time : Option ℕ) (whole all left : List Member) (m : Member) (fault : LineFault)
     → first_refusal (several_refusals b time (listed (members_view whole))) ≡ first_refusal (several_refusals b time (listed (members_view all)))
@@ -62,7 +62,7 @@ pub several-stop : (b : Before) (time : Option ℕ) (whole all left : List Membe
     → first_refusal (several_refusals b time (listed (members_view whole))) ≡ Some fault
 several-stop b time whole all left m fault is cut bad =
     is ∙ ap (λ ms. first_refusal (several_refusals b time (listed (members_view ms)))) cut
-       ∙ first-some (packet_refusals (kind_at b (string_bytes m.0)) (standing_at b (string_bytes m.0)) time (view m.1)) (several_refusals b time (listed (members_view left))) fault bad
+    ∙ first-some (packet_refusals (kind_at b (string_bytes m.0)) (standing_at b (string_bytes m.0)) time (view m.1)) (several_refusals b time (listed (members_view left))) fault bad
 
 -- the judgement of a stream's packet, by the stream's name
 pub judged : (b : Before) (name : List ℕ) (place : Option ℕ) (kind : Kind) (s : Standing) (time : Option ℕ) (t v : Data) (r : Option LineFault)

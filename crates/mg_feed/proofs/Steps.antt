@@ -1,13 +1,10 @@
 -- A step of what is at a place, and what it leaves.
-use Rattle.std.proofs.Common.{◌≡◌, ◌<◌, ◌≤◌, ◌+◌, ◌||◌, ℕ, zero, suc, List, [], ◌∷◌, ◌++◌, Bool, Option, Some, None, option_map, unwrap_or, length, map, get_or, slice_get, refl, sym, ap, ◌∙◌, arith}
+use Rattle.std.proofs.Common.{◌≡◌, ◌<◌, ◌≤◌, ℕ, zero, suc, List, [], ◌∷◌, unwrap_or, length, map, get_or, slice_get, refl, ap, arith}
 use Rattle.std.proofs.Math.ListN.{set}
-use Rattle.mg_value.specs.Payload.{Plain}
-use Rattle.mg_value.specs.Prefix.{StreamPrefix}
-use Rattle.mg_feed.specs.Accepted.{stepped, no_stream, has_some}
+use Rattle.mg_feed.specs.Accepted.{stepped, no_stream}
 use Rattle.mg_feed.specs.View.{standings}
 use Rattle.mg_feed.specs.Code.Streams.{waiting, was_taken}
 use Rattle.mg_feed.specs.Code.Streams.{standing_now}
-use Rattle.mg_feed.specs.declared.standing.Standing.{Standing}
 use Rattle.mg_feed.specs.declared.feed_stream.FeedStream.{FeedStream}
 
 -- a list is written at a place, and what is seen of it is stepped there

@@ -1,5 +1,5 @@
 -- The payload that a JSON value says, from the value that says a payload.
-use Rattle.std.proofs.Common.{◌≡◌, ℕ, ℤ, pos, negsuc, refl, ap, sym, ◌∙◌}
+use Rattle.std.proofs.Common.{◌≡◌, ℤ, pos, negsuc, refl, ap}
 use Rattle.mg_value.specs.Plain.{Plain, flag, int, text, items, entries, Items, no_items, item, Entries, no_entries, entry}
 use Rattle.mg_value.specs.Json.{json_of, json_items, json_members}
 use Rattle.serde_json.specs.Find.{of_integer}

@@ -8,8 +8,7 @@
 --     {"at":t,"packets":{s:v}}         packets of one or more streams at one time
 --
 -- A packet is said like packets of one stream.
-use Rattle.std.specs.Prelude.{ℕ, ◌+◌, ◌||◌, ◌&&◌, ◌==◌, ℤ, List, [], ◌∷◌, Bool, true, false, Option, None, Some, codes, nat_lt, nat_le, option_and_then, option_map, if◌then◌else◌}
-use Rattle.std.specs.List.{list_all}
+use Rattle.std.specs.Prelude.{ℕ, ◌+◌, ◌||◌, ◌&&◌, ◌==◌, ℤ, List, [], ◌∷◌, Bool, Option, None, Some, codes, nat_le, option_and_then, if◌then◌else◌}
 use Rattle.std.specs.Str.{is_utf8, bytes_eq}
 use Rattle.serde_json.specs.Data.{Data, null, boolean, number, string, array, object, Members, no_members, member}
 use Rattle.serde_json.specs.Read.{read}

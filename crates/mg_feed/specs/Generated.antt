@@ -1,5 +1,5 @@
 -- The packets that are made for a graph's inputs, to try it without a file.
-use Rattle.std.specs.Prelude.{ℕ, zero, suc, ◌+◌, ◌*◌, ◌/◌, ◌%◌, ◌^◌, ◌==◌, List, [], ◌∷◌, map, replicate, length, pos, decimal, codes, Option, Some, None, slice_index_or, if◌then◌else◌}
+use Rattle.std.specs.Prelude.{ℕ, zero, suc, ◌+◌, ◌*◌, ◌/◌, ◌%◌, ◌^◌, ◌==◌, List, map, replicate, length, pos, decimal, codes, Option, Some, slice_index_or}
 use Rattle.mg_value.specs.declared.kind.Kind.{Kind}
 use Rattle.mg_value.specs.declared.kind.Kind.TheVariants.{Any, Flag, Int, Text, Items as KindItems, Record}
 use Rattle.mg_value.specs.Plain.{Plain, flag, int, text, items, entries, item, no_items, entry, no_entries}

@@ -1,5 +1,5 @@
 -- What packet lines meant before one line could name several streams: four forms, each of one name.
-use Rattle.std.specs.Prelude.{◌≡◌, ℕ, ◌==◌, not, Bool, true, false, List, [], ◌∷◌, ◌++◌, Option, None, Some, codes, length, fold, nat_lt, nat_le, option_map, option_and_then, if◌then◌else◌}
+use Rattle.std.specs.Prelude.{◌≡◌, ℕ, ◌==◌, not, Bool, true, List, [], ◌∷◌, ◌++◌, Option, None, Some, codes, length, fold, nat_lt, nat_le, option_and_then, if◌then◌else◌}
 use Rattle.std.specs.List.{list_all}
 use Rattle.serde_json.specs.Data.{Data}
 use Rattle.serde_json.specs.Find.{get}
@@ -49,9 +49,9 @@ abbrev pub old_form_of : Data → Option OldForm
 old_form_of d =
     if member_count d == 3 then old_packet_form (text_at (codes "stream") d) (get (codes "ts") d) (get (codes "value") d)
     else (if member_count d == 2 then
-      old_either (old_bound_form (text_at (codes "stream") d) (get (codes "bound") d))
-      (old_either (old_close_form (text_at (codes "stream") d) (flag_at (codes "close") d))
-      (old_side_form (text_at (codes "side") d) (get (codes "value") d)))
+    old_either (old_bound_form (text_at (codes "stream") d) (get (codes "bound") d))
+    (old_either (old_close_form (text_at (codes "stream") d) (flag_at (codes "close") d))
+    (old_side_form (text_at (codes "side") d) (get (codes "value") d)))
     else None)
 
 -- what is given with what a good line says

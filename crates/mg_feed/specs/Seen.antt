@@ -13,4 +13,3 @@ collected c = record {
   taken = map was_taken c.streams.items;
   lines = c.lines;
 }
-

@@ -1,5 +1,5 @@
 -- The payload that a JSON value says.
-use Rattle.std.specs.Prelude.{ℕ, ℤ, pos, List, Bool, true, false}
+use Rattle.std.specs.Prelude.{ℤ, pos, Bool, true, false}
 use Rattle.serde_json.specs.Data as json
 use Rattle.mg_value.specs.declared.kind.Kind.{Kind}
 use Rattle.mg_value.specs.declared.kind.Kind.TheVariants.{Any, Flag, Int, Text, Items as KindItems, Record}

@@ -1,5 +1,5 @@
 -- What a feed has of the lines that it accepted.
-use Rattle.std.specs.Prelude.{◌≡◌, ◌||◌, ◌+◌, ℕ, List, [], ◌∷◌, map, Bool, true, Option, Some}
+use Rattle.std.specs.Prelude.{◌||◌, ◌+◌, ℕ, List, [], ◌∷◌, map, Bool, true, Some}
 use Rattle.mg_value.specs.Payload.{Plain}
 use Rattle.mg_value.specs.Prefix.{StreamPrefix}
 use Rattle.mg_feed.specs.Graph.{GraphInputs}

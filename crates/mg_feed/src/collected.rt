@@ -6,6 +6,7 @@ ghost use Rattle.mg_value.specs.Payload.{plain};
 ghost use Rattle.mg_calc.specs.Given.{given};
 ghost use Rattle.mg_feed.specs.Form.{is_blank, json_value};
 ghost use Rattle.mg_feed.specs.Accepted.{stepped};
+
 use crate::due::{Due, lay, make_room};
 use crate::feed_stream::FeedStream;
 use crate::form::{Form, form_by};
@@ -130,7 +131,13 @@ impl Collected {
     }
 
     // Takes a packet.
-    fn packet(&mut self, alloc: Global, name: &str, time: &Value, value: &Value) -> Result<(), LineFault>
+    fn packet(
+        &mut self,
+        alloc: Global,
+        name: &str,
+        time: &Value,
+        value: &Value,
+    ) -> Result<(), LineFault>
         ensures { let form = packets (view time.now) (record { name = name.now; value = view value.now } ∷ []) in
             Heard (collected self.old) (collected self.new) result (first_refusal (form_refusals (before_seen (collected self.old)) form))
             (with_form (collected self.old).graph (collected self.old).given form) }
@@ -138,13 +145,24 @@ impl Collected {
         let Some(place) = self.graph.streams.find(name) else {
             return Err(LineFault::UnknownStream);
         };
-        let packet = packet_by(alloc, self.kind(place), self.standing(place), time_by(time), value)?;
+        let packet = packet_by(
+            alloc,
+            self.kind(place),
+            self.standing(place),
+            time_by(time),
+            value,
+        )?;
         self.append(place, packet)?;
         Ok(())
     }
 
     // Takes packets of several streams.
-    fn packets(&mut self, alloc: Global, time: &Value, members: &Map<String, Value>) -> Result<(), LineFault>
+    fn packets(
+        &mut self,
+        alloc: Global,
+        time: &Value,
+        members: &Map<String, Value>,
+    ) -> Result<(), LineFault>
         ensures { let form = packets (view time.now) (listed (members_view members.now.entries)) in
             Heard (collected self.old) (collected self.new) result (first_refusal (form_refusals (before_seen (collected self.old)) form))
             (with_form (collected self.old).graph (collected self.old).given form) }
@@ -189,7 +207,12 @@ impl Collected {
     }
 
     // The packets that named values make at a time.
-    fn due(&self, alloc: Global, time: &Value, members: &Map<String, Value>) -> Result<Vec<Due>, LineFault>
+    fn due(
+        &self,
+        alloc: Global,
+        time: &Value,
+        members: &Map<String, Value>,
+    ) -> Result<Vec<Due>, LineFault>
         ensures good { IfOk result (λ due. first_refusal (several_refusals (before_seen (collected self.now)) (time_of (view time.now)) (listed (members_view members.now.entries))) ≡ None) }
         ensures due { IfOk result (λ due. AreDue (collected self.now).graph (time_of (view time.now)) (listed (members_view members.now.entries)) due.items) }
         ensures fault { IfErr result (λ fault. fault ≢ LineFault.OutOfMemory
@@ -198,7 +221,13 @@ impl Collected {
         let mut due = Vec::with_capacity(alloc, members.len())?;
         for (name, value) in members.iter() {
             let place = self.graph.streams.find(name.as_str());
-            let packet = packet_by(alloc, self.kind_of(place), self.standing_of(place), time_by(time), value)?;
+            let packet = packet_by(
+                alloc,
+                self.kind_of(place),
+                self.standing_of(place),
+                time_by(time),
+                value,
+            )?;
             due.push(Due { place, packet })?;
         }
         Ok(due)

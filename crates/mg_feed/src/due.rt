@@ -29,7 +29,11 @@ pub fn make_room(streams: &mut [FeedStream], due: &[Due]) -> Result<(), AllocErr
 }
 
 // Makes room in the stream at a place.
-fn make_room_at(streams: &mut [FeedStream], place: Option<u32>, packets: usize) -> Result<(), AllocError>
+fn make_room_at(
+    streams: &mut [FeedStream],
+    place: Option<u32>,
+    packets: usize,
+) -> Result<(), AllocError>
     ensures kept { map waiting streams.new ≡ map waiting streams.old }
     ensures taken { map was_taken streams.new ≡ map was_taken streams.old }
     ensures room { OnOk result (HasRoom packets streams.new place) }

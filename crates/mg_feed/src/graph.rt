@@ -29,7 +29,12 @@ pub fn graph_of(alloc: Global, plan: &Plan) -> Result<Graph, AllocError>
 }
 
 // The graph of these names.
-fn finish(alloc: Global, placed: Vec<Placed>, kinds: Vec<Kind>, sides: Vec<Placed>) -> Result<Graph, AllocError>
+fn finish(
+    alloc: Global,
+    placed: Vec<Placed>,
+    kinds: Vec<Kind>,
+    sides: Vec<Placed>,
+) -> Result<Graph, AllocError>
     ensures { IfOk result (λ graph. graph_view graph ≡ record { streams = placed.items; kinds = kinds.items; sides = sides.items }) }
 {
     let streams = Places::of(alloc, placed)?;

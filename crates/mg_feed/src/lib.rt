@@ -1,4 +1,6 @@
-//! Packet lines, in and out.
+//! Packet lines: what they give a graph's inputs, and the lines of what a graph puts out.
+//! Answers to the definitions of `specs/Form.antt`, `specs/Accepted.antt`, `specs/Output.antt` and `specs/Generated.antt`;
+//! what a feed stands for is in `specs/Stands.antt`.
 #![tactic(auto)]
 
 mod collected;
@@ -22,9 +24,9 @@ mod times;
 
 pub use feed::Feed;
 pub use generating::generate;
+pub use limits::{LONGEST_LINE, MOST_LINES};
 pub use line_fault::LineFault;
 pub use line_writer::{LineWriter, write_line};
-pub use limits::{LONGEST_LINE, MOST_LINES};
 pub use places::{Placed, Places};
 pub use put::put_all;
 pub use standing::Standing;

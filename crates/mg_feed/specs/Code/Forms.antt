@@ -1,5 +1,5 @@
 -- What a `Form` of the code stands for.
-use Rattle.std.specs.Prelude.{List, [], ◌∷◌}
+use Rattle.std.specs.Prelude.{[], ◌∷◌}
 use Rattle.serde_json.specs.View.{view, members_view}
 use Rattle.mg_feed.specs.Form.{Form, packets, bound, close, side, listed}
 use Rattle.mg_feed.specs.declared.form.Form.{Form as Code}

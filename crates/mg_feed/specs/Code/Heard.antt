@@ -1,5 +1,5 @@
 -- What a function does with what a line says.
-use Rattle.std.specs.Prelude.{◌≡◌, ◌≢◌, ⊤, Option, None, Some, Result, Ok, Err}
+use Rattle.std.specs.Prelude.{◌≡◌, ◌≢◌, Option, None, Some, Result, Ok, Err}
 use Rattle.mg_feed.specs.Accepted.{State}
 use Rattle.mg_feed.specs.View.{View, with_given, with_next}
 use Rattle.mg_feed.specs.declared.line_fault.LineFault.{LineFault}

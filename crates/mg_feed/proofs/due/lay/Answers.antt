@@ -1,4 +1,4 @@
-use Rattle.std.proofs.Common.{◌≡◌, map, sym, ap, ◌∙◌, List}
+use Rattle.std.proofs.Common.{map, sym, ap, ◌∙◌, List}
 use Rattle.std.specs.Vec.Iter.{into_iter_items}
 use Rattle.mg_feed.specs.Code.Streams.{waiting}
 use Rattle.mg_feed.specs.Code.Due.{laid}

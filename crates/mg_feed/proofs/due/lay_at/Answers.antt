@@ -1,4 +1,4 @@
-use Rattle.std.proofs.Common.{◌≡◌, ◌+◌, ◌≤◌, ℕ, Option, Some, None, map, vec_len, vec_capacity, refl, sym, subst, arith, ◌∙◌, ap}
+use Rattle.std.proofs.Common.{◌+◌, ℕ, Option, map, sym, subst, arith, ◌∙◌, ap}
 use Rattle.mg_value.specs.Prefix.{appended}
 use Rattle.mg_feed.specs.Accepted.{stepped_at}
 use Rattle.mg_feed.specs.Code.Streams.{waiting, was_taken}

@@ -1,7 +1,7 @@
-use Rattle.std.proofs.Common.{sym, ◌∙◌, ap}
+use Rattle.std.proofs.Common.{sym, ◌∙◌}
 use Rattle.std.proofs.lemmas.Bool.{false≢true}
 use Rattle.serde_json.specs.View.{view}
-use Rattle.mg_feed.proofs.Forms.{packets_form-some, packets_form-none}
+use Rattle.mg_feed.proofs.Forms.{packets_form-some}
 use Rattle.mg_feed.proofs.form.packets_by.Goals as goal
 
 pub returns-else-is_empty : goal.returns-else-is_empty

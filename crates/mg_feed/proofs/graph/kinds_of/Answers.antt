@@ -1,8 +1,6 @@
-use Rattle.std.proofs.Common.{◌≡◌, ◌∙◌, ◌++◌, ◌+◌, None, Some, List, map, drop, slice_get, ap, sym, arith}
+use Rattle.std.proofs.Common.{◌∙◌, ◌++◌, ◌+◌, None, Some, List, map, drop, slice_get, ap, sym, arith}
 use Rattle.std.specs.List.{filter_map}
-use Rattle.mg_value.specs.declared.kind.Kind.{Kind}
 use Rattle.mg_calc.specs.declared.plan_stream.PlanStream.{PlanStream}
-use Rattle.mg_feed.specs.Graph.{input_streams}
 use Rattle.mg_feed.proofs.Graphs.{inputs-more, mapped-some}
 use Rattle.mg_feed.proofs.graph.kinds_of.Goals as goal
 use Rattle.mg_feed.proofs.graph.kinds_of.Goals.{in-Some+in_ok-push, in_default}

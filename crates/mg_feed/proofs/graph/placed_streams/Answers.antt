@@ -1,7 +1,7 @@
-use Rattle.std.proofs.Common.{◌≡◌, ◌∙◌, ◌++◌, ◌+◌, None, Some, List, map, drop, slice_get, vec_len, ap, sym, arith}
+use Rattle.std.proofs.Common.{◌∙◌, ◌++◌, ◌+◌, None, Some, List, map, drop, slice_get, vec_len, ap, sym, arith}
 use Rattle.std.specs.List.{filter_map}
 use Rattle.mg_calc.specs.declared.plan_stream.PlanStream.{PlanStream}
-use Rattle.mg_feed.specs.Graph.{numbered, input_streams}
+use Rattle.mg_feed.specs.Graph.{numbered}
 use Rattle.mg_feed.proofs.Graphs.{inputs-more, names-next}
 use Rattle.mg_feed.proofs.graph.placed_streams.Goals as goal
 use Rattle.mg_feed.proofs.graph.placed_streams.Goals.{in-Some+in_ok-name+in_ok-push, in_default}

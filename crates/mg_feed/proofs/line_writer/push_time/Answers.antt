@@ -1,4 +1,4 @@
-use Rattle.std.proofs.Common.{◌≡◌, ◌∙◌, ap, sym, ◌++◌}
+use Rattle.std.proofs.Common.{◌∙◌, ap, sym, ◌++◌}
 use Rattle.std.proofs.lemmas.Bool.{eqb-true}
 use Rattle.mg_time.specs.Time.{pre_stream, post_stream}
 use Rattle.mg_feed.proofs.Text.{time-pre_stream, time-post_stream}

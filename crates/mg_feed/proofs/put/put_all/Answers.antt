@@ -1,5 +1,5 @@
 use Rattle.std.proofs.Common.{◌∙◌}
-use Rattle.mg_feed.proofs.Sending.{TookAll-on, sent-all, sent-part}
+use Rattle.mg_feed.proofs.Sending.{TookAll-on}
 use Rattle.mg_feed.proofs.put.put_all.Goals as goal
 
 pub loop-left-preserved : goal.loop-left-preserved

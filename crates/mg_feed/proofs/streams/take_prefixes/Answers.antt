@@ -1,4 +1,4 @@
-use Rattle.std.proofs.Common.{◌≡◌, ◌||◌, ◌++◌, ◌∷◌, [], List, map, take, drop, length, sym, ap, ◌∙◌, refl, subst, arith, add-one, Bool}
+use Rattle.std.proofs.Common.{◌++◌, ◌∷◌, [], List, map, take, sym, ap, ◌∙◌, arith, add-one}
 use Rattle.std.proofs.Math.ListN.{length-set}
 use Rattle.mg_feed.specs.declared.feed_stream.FeedStream.{FeedStream}
 use Rattle.mg_value.specs.Payload.{Plain}

@@ -1,4 +1,4 @@
-use Rattle.std.proofs.Common.{◌≡◌, ◌≤◌, ◌+◌, ◌++◌, take, drop, map, length, vec_len, vec_capacity}
+use Rattle.std.proofs.Common.{◌≡◌, ◌≤◌, ◌++◌, take, drop, map, length, vec_len, vec_capacity}
 use Rattle.mg_feed.specs.Given.{ended_stream}
 use Rattle.mg_feed.proofs.Emptying.{both, emptied}
 use Rattle.mg_feed.proofs.streams.take_prefixes.Given as goal

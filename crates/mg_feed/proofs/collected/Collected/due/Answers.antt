@@ -1,16 +1,12 @@
-use Rattle.std.proofs.Common.{◌≡◌, ◌++◌, ◌∷◌, [], List, None, Some, Option, sym, ap, subst, ◌∙◌, append_assoc}
+use Rattle.std.proofs.Common.{◌++◌, ◌∷◌, [], None, sym, ap, ◌∙◌, append_assoc}
 use Rattle.std.proofs.lemmas.Result.{err_from_is_err_and}
 use Rattle.std.specs.String.{string_bytes}
-use Rattle.serde_json.specs.View.{view, members_view}
-use Rattle.mg_value.specs.Prefix.{Stamped}
-use Rattle.mg_value.specs.Payload.{Plain}
+use Rattle.serde_json.specs.View.{view}
 use Rattle.mg_feed.specs.Graph.{place_of}
-use Rattle.mg_feed.specs.Form.{Named, listed, time_of}
+use Rattle.mg_feed.specs.Form.{time_of}
 use Rattle.mg_feed.specs.View.{before_seen}
 use Rattle.mg_feed.specs.Seen.{collected}
-use Rattle.mg_feed.specs.Code.Due.{AreDue}
-use Rattle.mg_feed.specs.declared.due.Due.{Due}
-use Rattle.mg_feed.proofs.Several.{Member, several-next, several-stop, listed-push, judged, due-next}
+use Rattle.mg_feed.proofs.Several.{Member, several-next, several-stop, judged, due-next}
 use Rattle.mg_feed.proofs.collected.Collected.due.Goals as goal
 
 pub returns-in_err-packet-clause-fault : goal.returns-in_err-packet-clause-fault

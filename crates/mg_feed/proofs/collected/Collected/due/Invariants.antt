@@ -1,4 +1,4 @@
-use Rattle.std.proofs.Common.{◌≡◌, ◌++◌, List, None}
+use Rattle.std.proofs.Common.{◌≡◌, ◌++◌, List}
 use Rattle.serde_json.specs.View.{view, members_view}
 use Rattle.mg_feed.specs.Form.{listed, time_of}
 use Rattle.mg_feed.specs.Accepted.{first_refusal, several_refusals}
@@ -14,4 +14,4 @@ invariant-loop-name l =
     (done : List Member) × (l.members.entries ≡ done ++ l.name-iterator)
     × AreDue (collected l.self).graph (time_of (view l.time)) (listed (members_view done)) l.due.items
     × (first_refusal (several_refusals (before_seen (collected l.self)) (time_of (view l.time)) (listed (members_view l.members.entries)))
-      ≡ first_refusal (several_refusals (before_seen (collected l.self)) (time_of (view l.time)) (listed (members_view l.name-iterator))))
+    ≡ first_refusal (several_refusals (before_seen (collected l.self)) (time_of (view l.time)) (listed (members_view l.name-iterator))))
