@@ -1,7 +1,9 @@
 //! Feeds: what each packet line answers, and what is taken then.
 
 use crate::table::{Calls, assert_rows};
-use mg_calc::{Inputs, Plan, PlanStream, Producer, Side, SideValue};
+use mg_calc::{
+    Inputs, NumberList, Plan, PlanStream, PlanStreamList, Producer, Side, SideList, SideValue,
+};
 use mg_feed::{Feed, generate, write_line};
 use mg_time::Timestamp;
 use mg_value::{BlockList, Kind, MgText, Packet, Payload, Prefix};
@@ -12,37 +14,54 @@ use std::test::Fail;
 // A plan with nothing but inputs: streams, each with its kind, and the side packets `size` and `name`; `fixed` stands in the
 // graph.
 fn plan_of(alloc: Global, inputs: &[(&str, Kind)]) -> Result<Plan, Fail> {
-    let mut streams = Vec::new(alloc);
-    let mut numbers = Vec::new(alloc);
-    for (name, kind) in inputs {
-        let number = numbers.len() as u32;
-        streams.push(PlanStream {
-            name: MgText::new(alloc, name)?,
-            kind: *kind,
-            producer: Producer::Input(number),
-        })?;
-        numbers.push(number)?;
-    }
+    let streams = streams_of(alloc, inputs)?;
+    let numbers = numbers_of(alloc, streams.len())?;
+    let sides = sides_of(alloc)?;
     Ok(Plan {
-        nodes: BlockList::from_vec(Vec::new(alloc))?,
-        streams: BlockList::from_vec(streams)?,
-        edges: BlockList::from_vec(Vec::new(alloc))?,
-        order: BlockList::from_vec(Vec::new(alloc))?,
-        inputs: BlockList::from_vec(numbers)?,
-        outputs: BlockList::from_vec(Vec::new(alloc))?,
-        sides: BlockList::from_vec(sides_of(alloc)?)?,
+        nodes: nothing(alloc)?,
+        streams,
+        edges: nothing(alloc)?,
+        order: nothing(alloc)?,
+        inputs: numbers,
+        outputs: nothing(alloc)?,
+        sides,
         limit: 100,
         workers: 0,
     })
 }
 
-fn sides_of(alloc: Global) -> Result<Vec<Side>, Fail> {
+fn nothing<T: Drop>(alloc: Global) -> Result<BlockList<T>, Fail> {
+    Ok(BlockList::from_vec(Vec::new(alloc))?)
+}
+
+fn streams_of(alloc: Global, inputs: &[(&str, Kind)]) -> Result<PlanStreamList, Fail> {
+    let mut streams = Vec::new(alloc);
+    for (name, kind) in inputs {
+        let producer = Producer::Input(u32::try_from(streams.len())?);
+        streams.push(PlanStream {
+            name: MgText::new(alloc, name)?,
+            kind: *kind,
+            producer,
+        })?;
+    }
+    Ok(BlockList::from_vec(streams)?)
+}
+
+fn numbers_of(alloc: Global, count: u32) -> Result<NumberList, Fail> {
+    let mut numbers = Vec::new(alloc);
+    for number in 0..count {
+        numbers.push(number)?;
+    }
+    Ok(BlockList::from_vec(numbers)?)
+}
+
+fn sides_of(alloc: Global) -> Result<SideList, Fail> {
     let mut sides = Vec::new(alloc);
     sides.push(side_of(alloc, "size", SideValue::Given(1))?)?;
     let fixed = Arc::new(alloc, Payload::Int(4))?;
     sides.push(side_of(alloc, "fixed", SideValue::Fixed(fixed))?)?;
     sides.push(side_of(alloc, "name", SideValue::Given(0))?)?;
-    Ok(sides)
+    Ok(BlockList::from_vec(sides)?)
 }
 
 fn side_of(alloc: Global, name: &str, value: SideValue) -> Result<Side, Fail> {
