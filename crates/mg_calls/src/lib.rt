@@ -13,6 +13,8 @@ mod edge;
 #[cfg(test)]
 mod emissions;
 #[cfg(test)]
+mod feed;
+#[cfg(test)]
 mod holder;
 #[cfg(test)]
 mod loopback;

@@ -1,0 +1,136 @@
+-- What a feed stands for as lines are accepted and packets are taken.
+use Rattle.std.proofs.Common.{◌≡◌, ◌||◌, ◌+◌, ℕ, zero, suc, List, [], ◌∷◌, ◌++◌, length, map, replicate, fold, Bool, true, false, if◌then◌else◌, Option, Some, None, option_and_then, refl, sym, ap, ◌∙◌, subst, append_assoc, append-nil, length-append}
+use Rattle.std.proofs.lemmas.Grind.{fold-append}
+use Rattle.std.specs.List.{list_all}
+use Rattle.mg_value.specs.Payload.{Plain}
+use Rattle.mg_value.specs.Prefix.{Stamped, StreamPrefix, empty_prefix, appended, raised, closed}
+use Rattle.mg_feed.specs.Graph.{GraphInputs, place_of}
+use Rattle.mg_feed.specs.Form.{Named, Form, packets, bound, close, side, is_blank, form_of, json_value}
+use Rattle.mg_feed.specs.Value.{plain_of}
+use Rattle.mg_feed.specs.Accepted.{State, Before, before, fresh, stepped, stepped_at, with_packets, with_form, with_said, with_line, time_or_none, given_by, standing, has_some, line_refusal, refusal}
+use Rattle.mg_feed.specs.View.{View, standings, before_seen, with_next, without_packets, all_taken, after_taking}
+use Rattle.mg_feed.specs.Stands.{AllGood, behind, behind_all, Stands, nothing_taken, taken_with}
+
+-- packets before others
+has_some-append : {X : Type 0} (xs ys : List X) → has_some (xs ++ ys) ≡ (has_some xs || has_some ys)
+has_some-append [] ys = refl
+has_some-append (x ∷ xs) ys = refl
+
+standings-behind : (ts : List (List (Stamped Plain))) (ss : List (StreamPrefix Plain)) → map standing (behind_all ts ss) ≡ standings (map has_some ts) ss
+standings-behind [] ss = refl
+standings-behind (t ∷ ts) [] = refl
+standings-behind (t ∷ ts) (s ∷ ss) = rw (has_some-append t s.packets, standings-behind ts ss) refl
+
+behind-stepped : (step : StreamPrefix Plain → StreamPrefix Plain) → ((t : List (Stamped Plain)) (s : StreamPrefix Plain) → behind t (step s) ≡ step (behind t s))
+    → (place : ℕ) (ts : List (List (Stamped Plain))) (ss : List (StreamPrefix Plain)) → behind_all ts (stepped place step ss) ≡ stepped place step (behind_all ts ss)
+behind-stepped step same place [] ss = refl
+behind-stepped step same place (t ∷ ts) [] = refl
+behind-stepped step same zero (t ∷ ts) (s ∷ ss) = ap (λ x. x ∷ behind_all ts ss) (same t s)
+behind-stepped step same (suc place) (t ∷ ts) (s ∷ ss) = ap (λ l. behind t s ∷ l) (behind-stepped step same place ts ss)
+
+behind-stepped_at : (step : StreamPrefix Plain → StreamPrefix Plain) → ((t : List (Stamped Plain)) (s : StreamPrefix Plain) → behind t (step s) ≡ step (behind t s))
+    → (place : Option ℕ) (ts : List (List (Stamped Plain))) (ss : List (StreamPrefix Plain)) → behind_all ts (stepped_at place step ss) ≡ stepped_at place step (behind_all ts ss)
+behind-stepped_at step same None ts ss = refl
+behind-stepped_at step same (Some place) ts ss = behind-stepped step same place ts ss
+
+behind-appended : (p : Stamped Plain) (t : List (Stamped Plain)) (s : StreamPrefix Plain) → behind t (appended s p) ≡ appended (behind t s) p
+behind-appended p t s = rw append_assoc refl
+
+behind-packets : (graph : GraphInputs) (time : ℕ) (vs : List Named) (ts : List (List (Stamped Plain))) (ss : List (StreamPrefix Plain))
+    → behind_all ts (with_packets graph time vs ss) ≡ with_packets graph time vs (behind_all ts ss)
+behind-packets graph time [] ts ss = refl
+behind-packets graph time (v ∷ vs) ts ss =
+    let p : Stamped Plain = record { at = time; value = plain_of v.value } in
+    behind-packets graph time vs ts (stepped_at (place_of graph.streams v.name) (λ s. appended s p) ss)
+    ∙ ap (with_packets graph time vs) (behind-stepped_at (λ s. appended s p) (behind-appended p) (place_of graph.streams v.name) ts ss)
+
+-- what is given with the packets that were taken
+abbrev pub whole : List (List (Stamped Plain)) → State → State
+whole ts given = record { streams = behind_all ts given.streams; sides = given.sides; named = given.named }
+
+whole-form : (graph : GraphInputs) (ts : List (List (Stamped Plain))) (given : State) (form : Form) → with_form graph (whole ts given) form ≡ whole ts (with_form graph given form)
+whole-form graph ts given (packets t vs) = rw (behind-packets graph (time_or_none t) vs ts given.streams) refl
+whole-form graph ts given (bound name t) = rw (behind-stepped_at (λ s. raised s (time_or_none t)) (λ t s. refl) (place_of graph.streams name) ts given.streams) refl
+whole-form graph ts given (close name) = rw (behind-stepped_at closed (λ t s. refl) (place_of graph.streams name) ts given.streams) refl
+whole-form graph ts given (side name v) = refl
+
+whole-said : (graph : GraphInputs) (ts : List (List (Stamped Plain))) (given : State) (said : Option Form) → with_said graph (whole ts given) said ≡ whole ts (with_said graph given said)
+whole-said graph ts given None = refl
+whole-said graph ts given (Some form) = whole-form graph ts given form
+
+whole-by : (ts : List (List (Stamped Plain))) (b : Bool) (x y x' y' : State) → x ≡ whole ts x' → y ≡ whole ts y' → (if b then x else y) ≡ whole ts (if b then x' else y')
+whole-by ts true x y x' y' one two = one
+whole-by ts false x y x' y' one two = two
+
+whole-line : (graph : GraphInputs) (ts : List (List (Stamped Plain))) (given : State) (line : List ℕ) → with_line graph (whole ts given) line ≡ whole ts (with_line graph given line)
+whole-line graph ts given line =
+    whole-by ts (list_all is_blank line) _ _ _ _ refl (whole-said graph ts given (option_and_then form_of (json_value line)))
+
+given_by-append : (graph : GraphInputs) (xs ys : List (List ℕ)) → given_by graph (xs ++ ys) ≡ fold (λ given l. with_line graph given l) (given_by graph xs) ys
+given_by-append graph xs ys = fold-append (λ given l. with_line graph given l) (fresh graph) xs ys
+
+-- a good line after good lines
+pub AllGood-push : (graph : GraphInputs) (before lines : List (List ℕ)) (line : List ℕ)
+    → AllGood graph before lines → refusal graph (before ++ lines) line ≡ None → AllGood graph before (lines ++ line ∷ [])
+AllGood-push graph before [] line good none = (rw append-nil at none, tt)
+AllGood-push graph before (l ∷ ls) line good none = (good.0, AllGood-push graph (before ++ l ∷ []) ls line good.1 (rw append_assoc none))
+
+-- a line is judged by what the feed has
+pub refusal-seen : (lines : List (List ℕ)) (ts : List (List (Stamped Plain))) (v : View) (line : List ℕ) → Stands lines ts v
+    → refusal v.graph lines line ≡ line_refusal (before_seen v) line
+refusal-seen lines ts v line stands =
+    ap (λ (b : Before). line_refusal b line)
+    (ap (λ (g : State). before v.graph (length lines) g) stands.given
+    ∙ rw (standings-behind ts v.given.streams, sym stands.taken, sym stands.number) refl)
+
+pub stands-next : (lines : List (List ℕ)) (ts : List (List (Stamped Plain))) (v w : View) (line : List ℕ) → Stands lines ts v
+    → line_refusal (before_seen v) line ≡ None → w ≡ with_next v (with_line v.graph v.given line)
+    → (refusal v.graph lines line ≡ None) × Stands (lines ++ line ∷ []) ts w
+stands-next lines ts v w line stands good is =
+    let none = refusal-seen lines ts v line stands ∙ good in
+    let s : Stands (lines ++ line ∷ []) ts (with_next v (with_line v.graph v.given line)) = record {
+      number = ap (λ n. n + 1) stands.number ∙ sym (length-append lines (line ∷ []));
+      good = AllGood-push v.graph [] lines line stands.good none;
+      given = given_by-append v.graph lines (line ∷ []) ∙ ap (λ g. with_line v.graph g line) stands.given ∙ whole-line v.graph ts v.given line;
+      taken = stands.taken;
+    } in
+    (none, subst (λ (x : View). Stands (lines ++ line ∷ []) ts x) (sym is) s)
+
+-- at the start
+behind-nothing : (n : ℕ) → behind_all (replicate n []) (replicate n empty_prefix) ≡ replicate n empty_prefix
+behind-nothing zero = refl
+behind-nothing (suc n) = ap (λ l. empty_prefix ∷ l) (behind-nothing n)
+
+nothing-some : (n : ℕ) → replicate n false ≡ map (has_some {X = Stamped Plain}) (replicate n [])
+nothing-some zero = refl
+nothing-some (suc n) = ap (λ l. false ∷ l) (nothing-some n)
+
+pub stands-fresh : (graph : GraphInputs) (v : View)
+    → v ≡ record { graph = graph; given = fresh graph; taken = replicate (length graph.kinds) false; lines = 0 } → Stands [] (nothing_taken graph) v
+stands-fresh graph v is = subst (λ (x : View). Stands [] (nothing_taken graph) x) (sym is) (record {
+  number = refl;
+  good = tt;
+  given = rw (behind-nothing (length graph.kinds)) refl;
+  taken = nothing-some (length graph.kinds);
+})
+
+-- packets are taken
+behind-taken : (ts : List (List (Stamped Plain))) (ss : List (StreamPrefix Plain)) → behind_all (taken_with ts ss) (map without_packets ss) ≡ behind_all ts ss
+behind-taken [] ss = refl
+behind-taken (t ∷ ts) [] = refl
+behind-taken (t ∷ ts) (s ∷ ss) = rw (append-nil (t ++ s.packets), behind-taken ts ss) refl
+
+taken-taken : (ts : List (List (Stamped Plain))) (ss : List (StreamPrefix Plain)) → all_taken (map has_some ts) ss ≡ map has_some (taken_with ts ss)
+taken-taken [] ss = refl
+taken-taken (t ∷ ts) [] = refl
+taken-taken (t ∷ ts) (s ∷ ss) = rw (has_some-append t s.packets, taken-taken ts ss) refl
+
+pub stands-taken : (lines : List (List ℕ)) (ts : List (List (Stamped Plain))) (v w : View) → Stands lines ts v → w ≡ after_taking v → Stands lines (taken_with ts v.given.streams) w
+stands-taken lines ts v w stands is =
+    let s : Stands lines (taken_with ts v.given.streams) (after_taking v) = record {
+      number = stands.number;
+      good = stands.good;
+      given = stands.given ∙ rw (behind-taken ts v.given.streams) refl;
+      taken = ap (λ t. all_taken t v.given.streams) stands.taken ∙ taken-taken ts v.given.streams;
+    } in
+    subst (λ (x : View). Stands lines (taken_with ts v.given.streams) x) (sym is) s

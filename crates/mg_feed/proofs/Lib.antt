@@ -1,0 +1,14 @@
+pub mod Finding
+pub mod Values
+pub mod Forms
+pub mod Steps
+pub mod Json
+pub mod Room
+pub mod Several
+pub mod Emptying
+pub mod Holding
+pub mod Text
+pub mod Sending
+pub mod Graphs
+pub mod Making
+pub mod OldLines

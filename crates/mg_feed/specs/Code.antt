@@ -1,0 +1,8 @@
+-- What the code's own functions say to one another.
+pub mod Places
+pub mod Forms
+pub mod Streams
+pub mod Heard
+pub mod Due
+pub mod LineHead
+pub mod Graphs

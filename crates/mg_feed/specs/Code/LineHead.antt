@@ -1,0 +1,14 @@
+-- The two parts of an output line: what all lines of a stream begin with, and the rest.
+use Rattle.std.specs.Prelude.{ℕ, List, ◌++◌, codes}
+use Rattle.serde_json.specs.Data.{string}
+use Rattle.serde_json.specs.Written.{compact_text}
+use Rattle.mg_value.specs.Payload.{Plain}
+use Rattle.mg_value.specs.Json.{json_of}
+use Rattle.mg_value.specs.Prefix.{Stamped}
+use Rattle.mg_feed.specs.Output.{time_data}
+
+unfoldable pub line_head : List ℕ → List ℕ
+line_head name = codes "{\"stream\":" ++ (compact_text (string name) ++ codes ",\"ts\":")
+
+unfoldable pub line_tail : Stamped Plain → List ℕ
+line_tail p = compact_text (time_data p.at) ++ (codes ",\"value\":" ++ (compact_text (json_of p.value) ++ codes "}\n"))

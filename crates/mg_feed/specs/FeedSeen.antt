@@ -1,0 +1,7 @@
+-- What a `Feed` stands for.
+use Rattle.mg_feed.specs.View.{View}
+use Rattle.mg_feed.specs.Seen.{collected}
+use Rattle.mg_feed.specs.declared.feed.Feed.{Feed}
+
+abbrev pub seen : Feed → View
+seen feed = collected feed.collected

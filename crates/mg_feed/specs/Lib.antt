@@ -1,0 +1,17 @@
+-- What packet lines mean: whoever wants to know what is proved reads these files.
+pub mod Graph
+pub mod Lines
+pub mod Form
+pub mod Value
+pub mod Accepted
+pub mod Given
+pub mod Output
+pub mod Generated
+pub mod View
+pub mod Seen
+pub mod FeedSeen
+pub mod Stands
+pub mod OldText
+pub mod Sent
+-- What only the code's own functions say to one another. Nothing above rests on it.
+pub mod Code

@@ -1,0 +1,155 @@
+ghost use Rattle.std.specs.Prelude.{◌≡◌, ◌<◌, ◌^◌, ◌+◌, ◌*◌, Some, IfOk, map, replicate, pos, decimal, codes, vec_len, length, true};
+ghost use Rattle.std.specs.Arc.{arc_value};
+ghost use Rattle.mg_value.specs.Payload.{plain, int, text, items, entries};
+ghost use Rattle.mg_value.specs.Plain.{item, no_items, entry, no_entries};
+ghost use Rattle.mg_calc.specs.Given.{given};
+ghost use Rattle.mg_feed.specs.Graph.{inputs_of};
+ghost use Rattle.mg_feed.specs.Generated.{generated, generated_sides, generated_value};
+
+use crate::collected::Collected;
+use itoa::Buffer;
+use mg_calc::{Inputs, Plan};
+use mg_time::Timestamp;
+use mg_value::{Entry, Kind, MgText, Packet, Payload, PayloadList, RecordList};
+use std::alloc::{AllocError, Global};
+use std::sync::Arc;
+
+/// Packets that are made for the inputs of a plan's graph, in all so many, and side packets: with them a graph can be tried
+/// without a file.
+pub fn generate(alloc: Global, plan: &Plan, number: u32) -> Result<Inputs, AllocError>
+    ensures streams { IfOk result (λ inputs. inputs.streams ≡ generated (inputs_of plan.now).kinds number) }
+    ensures sides { IfOk result (λ inputs. inputs.sides ≡ generated_sides (length (inputs_of plan.now).sides)) }
+    ensures ended { IfOk result (λ inputs. inputs.ended ≡ true) }
+{
+    let mut collected = Collected::new(alloc, plan)?;
+    collected.give_sides(alloc)?;
+    collected.make_packets(alloc, number)?;
+    Ok(collected.into_inputs(alloc, true))
+}
+
+impl Collected {
+    ghost use Rattle.std.specs.Prelude.{◌≡◌, ◌<◌, ◌%◌, OnOk, length, replicate};
+    ghost use Rattle.mg_value.specs.Prefix.{appended, empty_prefix};
+    ghost use Rattle.mg_feed.specs.Accepted.{stepped};
+    ghost use Rattle.mg_feed.specs.Generated.{generated_streams, generated_packet, generated_sides};
+    ghost use Rattle.mg_feed.specs.Seen.{collected};
+
+    // Makes so many packets.
+    fn make_packets(&mut self, alloc: Global, number: u32) -> Result<(), AllocError>
+        requires { (collected self.old).given.streams ≡ generated_streams (collected self.old).graph.kinds 0 }
+        ensures streams { OnOk result ((collected self.new).given.streams ≡ generated_streams (collected self.old).graph.kinds number) }
+        ensures sides { OnOk result ((collected self.new).given.sides ≡ (collected self.old).given.sides) }
+    {
+        let inputs = self.graph.kinds.len();
+        if inputs == 0 {
+            return Ok(());
+        }
+        for i in 0..number {
+            self.make_packet(alloc, i)?;
+        }
+        Ok(())
+    }
+
+    // Makes the packet of a number.
+    fn make_packet(&mut self, alloc: Global, i: u32) -> Result<(), AllocError>
+        requires { 0 < length (collected self.old).graph.kinds }
+        ensures streams { OnOk result ((collected self.new).given.streams
+            ≡ stepped (i % length (collected self.old).graph.kinds) (λ s. appended s (generated_packet (collected self.old).graph.kinds i)) (collected self.old).given.streams) }
+        ensures sides { OnOk result ((collected self.new).given.sides ≡ (collected self.old).given.sides) }
+        ensures graph { (collected self.new).graph ≡ (collected self.old).graph }
+    {
+        let count = self.graph.kinds.len() as u64;
+        let number = u64::from(i);
+        let place = (number % count) as u32;
+        let round = (number / count) as u32;
+        let packet = packet_of(alloc, self.kind(place), i, round)?;
+        self.append(place, packet)?;
+        Ok(())
+    }
+
+    // Gives each side packet.
+    fn give_sides(&mut self, alloc: Global) -> Result<(), AllocError>
+        ensures sides { OnOk result ((collected self.new).given.sides ≡ generated_sides (length (collected self.old).graph.sides)) }
+        ensures streams { OnOk result ((collected self.new).given.streams ≡ (collected self.old).given.streams) }
+        ensures graph { OnOk result ((collected self.new).graph ≡ (collected self.old).graph) }
+    {
+        self.sides = ones(alloc, self.graph.sides.len())?;
+        Ok(())
+    }
+}
+
+// So many times the number 1.
+fn ones(alloc: Global, count: usize) -> Result<Vec<Option<Arc<Payload>>>, AllocError>
+    ensures sides { IfOk result (λ sides. map given sides.items ≡ replicate count (Some (int (pos 1)))) }
+    ensures few { IfOk result (λ sides. vec_len sides < 2 ^ 32) }
+{
+    if count >= 1 << 32 {
+        return Err(AllocError);
+    }
+    let mut sides = Vec::with_capacity(alloc, count)?;
+    for _ in 0..count {
+        sides.push(Some(Arc::new(alloc, Payload::Int(1))?))?;
+    }
+    Ok(sides)
+}
+
+// The packet of a number, of which so many came before it to its stream.
+fn packet_of(alloc: Global, kind: Kind, number: u32, round: u32) -> Result<Packet, AllocError>
+    ensures { IfOk result (λ p. p ≡ record { at = 10 * round + 2 ^ 63; value = generated_value kind number round }) }
+{
+    let at = time_of(round);
+    let value = value_of(alloc, kind, number, round)?;
+    let payload = Arc::new(alloc, value)?;
+    Ok(Packet { at, payload })
+}
+
+// The timestamp of ten times a number.
+fn time_of(round: u32) -> Timestamp
+    ensures { result ≡ 10 * round + 2 ^ 63 }
+{
+    match Timestamp::of_range(10 * i64::from(round)) {
+        Some(at) => at,
+        None => unreachable!(),
+    }
+}
+
+// The value of a packet.
+fn value_of(alloc: Global, kind: Kind, number: u32, round: u32) -> Result<Payload, AllocError>
+    ensures { IfOk result (λ value. plain value ≡ generated_value kind number round) }
+{
+    match kind {
+        Kind::Any | Kind::Int => Ok(Payload::Int(i64::from(number))),
+        Kind::Flag => Ok(Payload::Flag(round % 2 == 0)),
+        Kind::Text => digits_of(alloc, number),
+        Kind::Items => items_of(alloc, number),
+        Kind::Record => record_of(alloc, number),
+    }
+}
+
+// The digits of a number.
+fn digits_of(alloc: Global, number: u32) -> Result<Payload, AllocError>
+    ensures { IfOk result (λ value. plain value ≡ text (decimal number)) }
+{
+    let mut buffer = Buffer::new();
+    Ok(Payload::Text(MgText::new(alloc, buffer.format(number))?))
+}
+
+// The list of a number.
+fn items_of(alloc: Global, number: u32) -> Result<Payload, AllocError>
+    ensures { IfOk result (λ value. plain value ≡ items (item (int (pos number)) no_items)) }
+{
+    let mut values = Vec::new(alloc);
+    values.push(Payload::Int(i64::from(number)))?;
+    Ok(Payload::Items(PayloadList::from_vec(values)?))
+}
+
+// The record of a number under the key `n`.
+fn record_of(alloc: Global, number: u32) -> Result<Payload, AllocError>
+    ensures { IfOk result (λ value. plain value ≡ entries (entry (codes "n") (int (pos number)) no_entries)) }
+{
+    let key = MgText::new(alloc, "n")?;
+    let value = Payload::Int(i64::from(number));
+    let mut entries = Vec::new(alloc);
+    entries.push(Entry { key, value })?;
+    Ok(Payload::Record(RecordList::from_vec(entries)?))
+}

@@ -1,0 +1,32 @@
+//! Packet lines: what they give a graph's inputs, and the lines of what a graph puts out.
+//! Answers to the definitions of `specs/Form.antt`, `specs/Accepted.antt`, `specs/Output.antt` and `specs/Generated.antt`;
+//! what a feed stands for is in `specs/Stands.antt`.
+#![tactic(auto)]
+
+mod collected;
+mod due;
+mod feed;
+mod feed_stream;
+mod form;
+mod generating;
+mod graph;
+mod judge;
+pub mod laws;
+mod limits;
+mod line_fault;
+mod line_writer;
+mod places;
+mod put;
+mod standing;
+mod streams;
+mod taking;
+mod times;
+
+pub use feed::Feed;
+pub use generating::generate;
+pub use limits::{LONGEST_LINE, MOST_LINES};
+pub use line_fault::LineFault;
+pub use line_writer::{LineWriter, write_line};
+pub use places::{Placed, Places};
+pub use put::put_all;
+pub use standing::Standing;

@@ -1,0 +1,134 @@
+ghost use Rattle.std.specs.Prelude.{◌≡◌, ◌++◌, OnOk, IfOk};
+ghost use Rattle.std.specs.Fmt.{signed_decimal};
+ghost use Rattle.serde_json.specs.Data.{string};
+ghost use Rattle.serde_json.specs.View.{view};
+ghost use Rattle.serde_json.specs.Written.{compact_text};
+ghost use Rattle.mg_value.specs.Payload.{plain};
+ghost use Rattle.mg_value.specs.Json.{json_of};
+ghost use Rattle.mg_feed.specs.Output.{line_text, time_data};
+ghost use Rattle.mg_feed.specs.Code.LineHead.{line_head, line_tail};
+
+use itoa::Buffer;
+use mg_time::Timestamp;
+use mg_value::{MgText, Packet, Payload, to_json};
+use serde_json::Value;
+use std::alloc::{AllocError, Global};
+use std::marker::Model;
+
+/// Writes the lines of a stream. What all of them begin with is made once. Contracts see the stream's name.
+#[derive(Drop)]
+pub struct LineWriter {
+    name: MgText,
+    head: Vec<u8>,
+}
+
+impl Model for LineWriter {
+    ghost use Rattle.std.specs.Prelude.{◌≡◌, ℕ, List};
+    ghost use Rattle.mg_feed.specs.Code.LineHead.{line_head};
+
+    ghost Value = { List ℕ };
+
+    ghost view = { λ w. w.name };
+
+    ghost invariant = { λ w. w.head.items ≡ line_head w.name };
+}
+
+impl LineWriter {
+    /// A writer for the stream of a name.
+    pub fn new(alloc: Global, name: &MgText) -> Result<LineWriter, AllocError>
+        ensures { IfOk result (λ writer. writer ≡ name.now) }
+    {
+        let copy = name.try_clone(alloc)?;
+        let head = head_of(alloc, name)?;
+        Ok(LineWriter { name: copy, head })
+    }
+
+    /// Writes the line of a packet at the end of a text. After an `Err` the text may end with a part of the line.
+    pub fn push_line(&self, text: &mut Vec<u8>, packet: &Packet) -> Result<(), AllocError>
+        ensures { OnOk result (text.new.items ≡ text.old.items ++ line_text self.now packet.now) }
+    {
+        push_with_head(&self.head, text, packet)
+    }
+}
+
+/// The line of a packet of the stream with a name.
+pub fn write_line(alloc: Global, name: &MgText, packet: &Packet) -> Result<Vec<u8>, AllocError>
+    ensures { IfOk result (λ text. text.items ≡ line_text name.now packet.now) }
+{
+    let writer = LineWriter::new(alloc, name)?;
+    let mut text = Vec::new(alloc);
+    writer.push_line(&mut text, packet)?;
+    Ok(text)
+}
+
+// What the lines of a stream begin with.
+fn head_of(alloc: Global, name: &MgText) -> Result<Vec<u8>, AllocError>
+    ensures { IfOk result (λ head. head.items ≡ line_head name.now) }
+{
+    let quoted = text_value(alloc, name)?.to_string(alloc)?;
+    let mut head = Vec::new(alloc);
+    push(&mut head, b"{\"stream\":")?;
+    push(&mut head, quoted.as_bytes())?;
+    push(&mut head, b",\"ts\":")?;
+    Ok(head)
+}
+
+// A name as JSON.
+fn text_value(alloc: Global, name: &MgText) -> Result<Value, AllocError>
+    ensures { IfOk result (λ value. view value ≡ string name.now) }
+{
+    Ok(Value::String(String::from_str(alloc, name.as_str())?))
+}
+
+// Writes a line that begins so.
+fn push_with_head(head: &[u8], text: &mut Vec<u8>, packet: &Packet) -> Result<(), AllocError>
+    ensures { OnOk result (text.new.items ≡ text.old.items ++ (head.now ++ line_tail packet.now)) }
+{
+    push(text, head)?;
+    push_time(text, packet.at)?;
+    push(text, b",\"value\":")?;
+    push_payload(text, &packet.payload)?;
+    push(text, b"}\n")?;
+    Ok(())
+}
+
+// Puts a timestamp as JSON at the end of a text.
+fn push_time(text: &mut Vec<u8>, at: Timestamp) -> Result<(), AllocError>
+    ensures { OnOk result (text.new.items ≡ text.old.items ++ compact_text (time_data at)) }
+{
+    if at == Timestamp::PRE_STREAM {
+        push(text, b"\"PreStream\"")?;
+    } else if at == Timestamp::POST_STREAM {
+        push(text, b"\"PostStream\"")?;
+    } else {
+        push_number(text, at.raw())?;
+    }
+    Ok(())
+}
+
+// Puts a payload as JSON at the end of a text.
+fn push_payload(text: &mut Vec<u8>, payload: &Payload) -> Result<(), AllocError>
+    ensures { OnOk result (text.new.items ≡ text.old.items ++ compact_text (json_of (plain payload.now))) }
+{
+    if let Payload::Int(number) = payload {
+        return push_number(text, *number);
+    }
+    let alloc = *text.allocator();
+    let value = to_json(alloc, payload)?;
+    push(text, value.to_string(alloc)?.as_bytes())
+}
+
+// Puts bytes at the end of a text.
+fn push(text: &mut Vec<u8>, bytes: &[u8]) -> Result<(), AllocError>
+    ensures { OnOk result (text.new.items ≡ text.old.items ++ bytes.now) }
+{
+    text.extend_from_slice(bytes)
+}
+
+// Puts a number's digits at the end of a text.
+fn push_number(text: &mut Vec<u8>, number: i64) -> Result<(), AllocError>
+    ensures { OnOk result (text.new.items ≡ text.old.items ++ signed_decimal number) }
+{
+    let mut digits = Buffer::new();
+    push(text, digits.format(number).as_bytes())
+}

@@ -1,0 +1,18 @@
+ghost use Rattle.mg_feed.specs.Sent.{Sent};
+
+use mg_edge::{Put, Sink};
+
+/// Writes all the bytes, in as few writes as the sink takes. False where a write failed: the sink then took a front
+/// of them. It takes no memory.
+pub fn put_all<K: Sink>(sink: &mut K, bytes: &[u8]) -> bool
+    ensures { Sent result (K.told sink.old) (K.told sink.new) bytes.now }
+{
+    let mut left = bytes;
+    while !left.is_empty() {
+        match sink.write(left) {
+            Put::Took(count) => left = left.split_at(count).1,
+            Put::Failed => return false,
+        }
+    }
+    true
+}

@@ -1,0 +1,173 @@
+ghost use Rattle.std.specs.Prelude.{◌≡◌, ◌<◌, ◌^◌, IfOk, None, false, map, replicate, length, vec_len};
+ghost use Rattle.mg_value.specs.Prefix.{empty_prefix};
+ghost use Rattle.mg_calc.specs.Given.{given};
+ghost use Rattle.mg_feed.specs.Code.Streams.{waiting, was_taken};
+
+use crate::collected::Collected;
+use crate::feed_stream::FeedStream;
+use crate::graph::{Graph, graph_of};
+use crate::streams::take_prefixes;
+use mg_calc::{GivenList, Inputs, Plan};
+use mg_time::Timestamp;
+use mg_value::{BlockList, Payload, Prefix};
+use std::alloc::{AllocError, Global};
+use std::sync::Arc;
+
+impl Collected {
+    ghost use Rattle.std.specs.Prelude.{◌≡◌, IfOk, OnOk, OnErr, false, replicate, length};
+    ghost use Rattle.mg_feed.specs.Graph.{inputs_of};
+    ghost use Rattle.mg_feed.specs.Accepted.{fresh};
+    ghost use Rattle.mg_feed.specs.Given.{ended_streams};
+    ghost use Rattle.mg_feed.specs.Code.Graphs.{graph_view};
+    ghost use Rattle.mg_feed.specs.View.{after_taking};
+    ghost use Rattle.mg_feed.specs.Seen.{collected};
+
+    /// What no line gave the inputs of a plan's graph.
+    pub fn new(alloc: Global, plan: &Plan) -> Result<Collected, AllocError>
+        ensures { IfOk result (λ c. collected c ≡ record {
+          graph = inputs_of plan.now;
+          given = fresh (inputs_of plan.now);
+          taken = replicate (length (inputs_of plan.now).kinds) false;
+          lines = 0;
+        }) }
+    {
+        let graph = graph_of(alloc, plan)?;
+        Collected::of_graph(alloc, graph)
+    }
+
+    fn of_graph(alloc: Global, graph: Graph) -> Result<Collected, AllocError>
+        ensures { IfOk result (λ c. collected c ≡ record {
+          graph = graph_view graph;
+          given = fresh (graph_view graph);
+          taken = replicate (length (graph_view graph).kinds) false;
+          lines = 0;
+        }) }
+    {
+        let streams = open_streams(alloc, graph.kinds.len())?;
+        let sides = no_sides(alloc, graph.sides.len())?;
+        let room = Vec::with_capacity(alloc, streams.len())?;
+        Ok(Collected {
+            graph,
+            streams,
+            sides,
+            named: false,
+            lines: 0,
+            room,
+        })
+    }
+
+    /// Takes what the lines gave since the last taking. Where there is no memory nothing was taken.
+    pub fn take_inputs(&mut self, alloc: Global, ended: bool) -> Result<Inputs, AllocError>
+        ensures streams { IfOk result (λ inputs. inputs.streams ≡ ended_streams ended (collected self.old).given.streams) }
+        ensures sides { IfOk result (λ inputs. inputs.sides ≡ (collected self.old).given.sides) }
+        ensures ended { IfOk result (λ inputs. inputs.ended ≡ ended) }
+        ensures taken { OnOk result (collected self.new ≡ after_taking (collected self.old)) }
+        ensures unchanged { OnErr result (collected self.new ≡ collected self.old) }
+    {
+        let sides = copy_sides(alloc, &self.sides)?;
+        let room = Vec::with_capacity(alloc, self.streams.len())?;
+        let prefixes = take_prefixes(alloc, &mut self.streams, ended, room);
+        Ok(inputs_by(prefixes, sides, ended))
+    }
+
+    /// Takes what the lines gave since the last taking. It takes no memory.
+    pub fn into_inputs(self, alloc: Global, ended: bool) -> Inputs
+        ensures streams { result.streams ≡ ended_streams ended (collected self).given.streams }
+        ensures sides { result.sides ≡ (collected self).given.sides }
+        ensures ended { result.ended ≡ ended }
+    {
+        let Collected {
+            graph,
+            mut streams,
+            sides,
+            named: _,
+            lines: _,
+            room,
+        } = self;
+        drop(graph);
+        let prefixes = take_prefixes(alloc, &mut streams, ended, room);
+        inputs_by(prefixes, given_list(sides), ended)
+    }
+}
+
+// So many streams of which nothing is known.
+fn open_streams(alloc: Global, count: usize) -> Result<Vec<FeedStream>, AllocError>
+    ensures streams { IfOk result (λ streams. map waiting streams.items ≡ replicate count empty_prefix) }
+    ensures taken { IfOk result (λ streams. map was_taken streams.items ≡ replicate count false) }
+    ensures few { IfOk result (λ streams. vec_len streams < 2 ^ 32) }
+{
+    if count >= 1 << 32 {
+        return Err(AllocError);
+    }
+    let mut streams = Vec::with_capacity(alloc, count)?;
+    for _ in 0..count {
+        streams.push(FeedStream {
+            packets: Vec::new(alloc),
+            bound: Timestamp::PRE_STREAM,
+            taken: false,
+        })?;
+    }
+    Ok(streams)
+}
+
+// So many side packets that didn't come.
+fn no_sides(alloc: Global, count: usize) -> Result<Vec<Option<Arc<Payload>>>, AllocError>
+    ensures sides { IfOk result (λ sides. map given sides.items ≡ replicate count None) }
+    ensures few { IfOk result (λ sides. vec_len sides < 2 ^ 32) }
+{
+    if count >= 1 << 32 {
+        return Err(AllocError);
+    }
+    let mut sides = Vec::with_capacity(alloc, count)?;
+    for _ in 0..count {
+        sides.push(None)?;
+    }
+    Ok(sides)
+}
+
+// A second list of the side packets, which shares them.
+fn copy_sides(alloc: Global, sides: &[Option<Arc<Payload>>]) -> Result<GivenList, AllocError>
+    ensures { IfOk result (λ list. list ≡ map given sides.now) }
+{
+    let mut copies = Vec::with_capacity(alloc, sides.len())?;
+    for side in sides {
+        copies.push(copy_side(side)?)?;
+    }
+    Ok(GivenList::from_vec(copies)?)
+}
+
+// A second owner of a side packet.
+fn copy_side(side: &Option<Arc<Payload>>) -> Result<Option<Arc<Payload>>, AllocError>
+    ensures { IfOk result (λ copy. given copy ≡ given side.now) }
+{
+    match side {
+        Some(payload) => Ok(Some(Arc::try_clone(payload)?)),
+        None => Ok(None),
+    }
+}
+
+// The list of side packets.
+fn given_list(sides: Vec<Option<Arc<Payload>>>) -> GivenList
+    requires { vec_len sides < 2 ^ 32 }
+    ensures { result ≡ map given sides.items }
+{
+    match GivenList::from_vec(sides) {
+        Ok(list) => list,
+        Err(_) => unreachable!(),
+    }
+}
+
+// The inputs of prefixes and side packets.
+fn inputs_by(prefixes: Vec<Prefix>, sides: GivenList, ended: bool) -> Inputs
+    requires { vec_len prefixes < 2 ^ 32 }
+    ensures { result ≡ record { streams = prefixes.items; sides = sides; ended = ended } }
+{
+    match BlockList::from_vec(prefixes) {
+        Ok(streams) => Inputs {
+            streams,
+            sides,
+            ended,
+        },
+        Err(_) => unreachable!(),
+    }
+}
