@@ -1,5 +1,5 @@
 -- What is told of a run, by the solution.
-use Rattle.std.proofs.Common.{◌≡◌, ◌≢◌, ℕ, zero, suc, ℤ, ◌+◌, ◌<◌, ◌≤◌, ◌==◌, ◌↔◌, Bool, true, false, not, length, length-append, List, [], ◌∷◌, ◌++◌, map, take, filter, sum_by, All, Option, Some, None, Result, Ok, Err, slice_get, option_map, refl, sym, ap, ap₂, subst, ◌∙◌, arith, inl, inr, ◌⊎◌, if◌then◌else◌}
+use Rattle.std.proofs.Common.{◌≡◌, ℕ, zero, suc, ℤ, ◌+◌, ◌<◌, ◌≤◌, ◌==◌, ◌↔◌, Bool, true, false, not, length, length-append, List, [], ◌∷◌, map, take, filter, sum_by, All, Option, Some, None, Result, Ok, Err, option_map, refl, ap, subst, arith, inl, inr, if◌then◌else◌}
 use Rattle.std.specs.List.{AllByRecursion, fold, filter_map, enumerate_from, cons_option}
 use Rattle.std.proofs.lemmas.List.Sums.{sum_by-cons}
 use Rattle.std.proofs.lemmas.Bool.Decides.{eqb_tells}
@@ -16,7 +16,6 @@ use Rattle.mg_value.proofs.Lemmas.{times-rise, below-bounds}
 use Rattle.mg_value.specs.Settled.{TimedSet, settled_sets, reach, IsBelowBounds}
 use Rattle.mg_value.specs.declared.policy.Policy.{Policy}
 use Rattle.mg_calc.specs.declared.cause.Cause.{Cause}
-use Rattle.mg_calc.specs.declared.call.Call.{Call}
 use Rattle.mg_calc.specs.declared.call.Call.TheVariants.{Begun, Shown}
 use Rattle.mg_calc.specs.declared.law.Law.{Law}
 use Rattle.mg_calc.specs.declared.law.Law.TheVariants.{Count, SideOnce, Constants, Loopback}
@@ -31,7 +30,7 @@ use Rattle.mg_calc.specs.Outcome.{Failure, Outcome, after_laying, after_call, op
 use Rattle.mg_calc.specs.Shape.{IsOuter}
 use Rattle.mg_calc.specs.Equations.{Job, inputs_of, sides_of, outcome_by, outcome_of}
 use Rattle.mg_calc.proofs.Rounds.{streams_are_prefixes}
-use Rattle.mg_calc.specs.Meaning.{numbered, fault_of, faults, stalled, count_of, shown_sets, last_call, log_of, weight}
+use Rattle.mg_calc.specs.Meaning.{fault_of, faults, stalled, count_of, shown_sets, last_call, log_of, weight}
 
 -- a call that answers changes no count
 laying_counts : (phase : Phase) (outcome : Outcome) (answer : Result (List (StreamPrefix Plain)) Cause) → (after_laying phase outcome answer).taken ≡ outcome.taken

@@ -1,6 +1,6 @@
 -- In a valid plan each input of a node comes from a graph input or from a node that stands earlier in the order, but for
 -- LOOP of a loopback.
-use Rattle.std.proofs.Common.{◌≡◌, ℕ, zero, suc, ◌+◌, ◌<◌, ◌≤◌, zero-add, length, length-append, List, [], ◌∷◌, ◌++◌, map, Bool, true, false, Option, Some, None, IfSome, IsSome, IsSomeAnd, slice_get, get_or, All, refl, sym, ap, ap₂, subst, ◌∙◌, arith, inl, inr, ◌⊎◌}
+use Rattle.std.proofs.Common.{◌≡◌, ℕ, zero, suc, ◌+◌, ◌<◌, ◌≤◌, zero-add, length, List, [], ◌∷◌, ◌++◌, map, true, false, Option, Some, None, IfSome, IsSomeAnd, slice_get, get_or, All, refl, sym, ap, ap₂, subst, arith, inl, inr, ◌⊎◌}
 use Rattle.std.specs.List.{AllByRecursion, flat_map, range_with_len, enumerate_from}
 use Rattle.std.specs.Option.{option_and_then}
 use Rattle.std.proofs.lemmas.Bool.{cases_Bool}
@@ -9,14 +9,13 @@ use Rattle.std.proofs.lemmas.List.Elements.{recursion_from_All}
 use Rattle.mg_value.specs.Payload.{Plain}
 use Rattle.mg_value.specs.Prefix.{StreamPrefix}
 use Rattle.mg_calc.specs.declared.edge.Edge.{Edge}
-use Rattle.mg_calc.specs.declared.law.Law.{Law}
 use Rattle.mg_calc.specs.declared.law.Law.TheVariants.{Loopback}
 use Rattle.mg_calc.specs.declared.plan.Plan.{Plan}
 use Rattle.mg_calc.specs.declared.plan_node.PlanNode.{PlanNode}
 use Rattle.mg_calc.specs.declared.plan_stream.PlanStream.{PlanStream}
 use Rattle.mg_calc.specs.declared.plan_stream.Producer.{Producer}
 use Rattle.mg_calc.specs.declared.plan_stream.Producer.TheVariants.{Input, Node}
-use Rattle.mg_calc.specs.Plan.{IsValid, Ends, ends_of, ends_at, all_ends, producers, writing_node, writer_of, StandsBefore, LeadsForward, EndsAtLoop, numbers}
+use Rattle.mg_calc.specs.Plan.{IsValid, Ends, ends_of, ends_at, all_ends, producers, writing_node, StandsBefore, LeadsForward, EndsAtLoop, numbers}
 use Rattle.mg_calc.specs.Equations.{stream_of}
 use Rattle.mg_calc.proofs.Positions.{Agree, agree_at, givers}
 

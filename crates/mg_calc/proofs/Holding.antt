@@ -1,23 +1,22 @@
 -- Rounds in which some nodes are held: their outputs stay as they are, whatever their inputs are.
-use Rattle.std.proofs.Common.{◌≡◌, ◌≢◌, ℕ, zero, suc, ◌+◌, ◌<◌, ◌≤◌, ◌==◌, Bool, true, false, length, length-append, List, [], ◌∷◌, ◌++◌, map, Option, Some, None, IfSome, IsSome, unwrap_or, slice_get, refl, sym, ap, ap₂, subst, ◌∙◌, arith, inl, inr, ◌⊎◌, if◌then◌else◌}
-use Rattle.std.specs.List.{AllByRecursion, flat_map, range_with_len}
+use Rattle.std.proofs.Common.{◌≡◌, ℕ, zero, suc, ◌+◌, ◌==◌, length, List, [], ◌∷◌, ◌++◌, map, Option, Some, None, IfSome, IsSome, unwrap_or, slice_get, refl, sym, ap, ap₂, subst, ◌∙◌, arith, inl, inr, if◌then◌else◌}
+use Rattle.std.specs.List.{AllByRecursion}
 use Rattle.std.proofs.lemmas.List.FromFn.{length-map-range_with_len}
 use Rattle.std.proofs.lemmas.Bool.Decides.{eqb_tells}
 use Rattle.mg_value.specs.Payload.{Plain}
-use Rattle.mg_value.specs.Prefix.{StreamPrefix, IsPrefix, empty_prefix}
-use Rattle.mg_value.specs.Extension.{IsExtendedBy, AreExtendedBy}
-use Rattle.mg_value.proofs.Lemmas.{all_by_themselves, all_further}
+use Rattle.mg_value.specs.Prefix.{StreamPrefix, IsPrefix}
+use Rattle.mg_value.specs.Extension.{AreExtendedBy}
+use Rattle.mg_value.proofs.Lemmas.{all_by_themselves}
 use Rattle.mg_calc.specs.declared.law.Law.{Law}
-use Rattle.mg_calc.specs.declared.law.Law.TheVariants.{Count, SideOnce, Constants, Loopback}
+use Rattle.mg_calc.specs.declared.law.Law.TheVariants.{Loopback}
 use Rattle.mg_calc.specs.declared.plan_node.PlanNode.{PlanNode}
 use Rattle.mg_calc.specs.declared.plan_stream.Producer.{Producer}
 use Rattle.mg_calc.specs.declared.plan_stream.Producer.TheVariants.{Input, Node}
-use Rattle.mg_calc.specs.Plan.{IsValid, producers, numbers}
-use Rattle.mg_calc.specs.Outcome.{Outcome, node_outcome, loopback_outcome}
-use Rattle.mg_calc.specs.Equations.{Job, stream_of, inputs_of, sides_of, outcome_by, outcome_of, next_round}
+use Rattle.mg_calc.specs.Plan.{producers, numbers}
+use Rattle.mg_calc.specs.Equations.{Job, outcome_of}
 use Rattle.mg_calc.proofs.Outcomes.{KeepsTimes}
 use Rattle.mg_calc.proofs.Rounds.{IsKnown, outcome_follows, outcome_keeps, outcome_has_outputs}
-use Rattle.mg_calc.proofs.Positions.{Agree, agree_both, agree_same, agree_parts, parts, parts_flat, givers, GivesAll, GiveSame}
+use Rattle.mg_calc.proofs.Positions.{Agree, agree_both, agree_same, agree_parts, parts, givers, GivesAll, GiveSame}
 use Rattle.mg_calc.proofs.Earlier.{KnownBy, at_place}
 
 -- what holds of each node, by its number

@@ -1,10 +1,9 @@
 -- A stream of the solution depends on the graph inputs alone that may reach it.
-use Rattle.std.proofs.Common.{◌≡◌, ℕ, zero, suc, ◌+◌, ◌<◌, ◌≤◌, length, length-append, replicate, List, [], ◌∷◌, ◌++◌, map, All, Contains, Option, Some, None, IsSomeAnd, option_map, get_or, slice_get, refl, sym, ap, ap₂, subst, ◌∙◌, arith, inl, inr, ◌⊎◌}
-use Rattle.std.specs.List.{AllByRecursion, flat_map, range_with_len}
+use Rattle.std.proofs.Common.{◌≡◌, ℕ, zero, suc, ◌+◌, ◌<◌, length, replicate, List, [], ◌∷◌, ◌++◌, map, Contains, Option, Some, IsSomeAnd, option_map, slice_get, refl, sym, ap, ap₂, subst, ◌∙◌, arith}
+use Rattle.std.specs.List.{AllByRecursion, range_with_len}
 use Rattle.std.proofs.lemmas.List.{length-replicate}
-use Rattle.std.proofs.lemmas.List.Elements.{All-from_recursion, recursion_from_All}
 use Rattle.mg_value.specs.Payload.{Plain}
-use Rattle.mg_value.specs.Prefix.{StreamPrefix, IsPrefix, empty_prefix}
+use Rattle.mg_value.specs.Prefix.{StreamPrefix, empty_prefix}
 use Rattle.mg_calc.specs.declared.inputs.Inputs.{Inputs}
 use Rattle.mg_calc.specs.declared.plan.Plan.{Plan}
 use Rattle.mg_calc.specs.declared.plan_node.PlanNode.{PlanNode}
@@ -13,13 +12,13 @@ use Rattle.mg_calc.specs.declared.plan_stream.Producer.{Producer}
 use Rattle.mg_calc.specs.declared.plan_stream.Producer.TheVariants.{Input, Node}
 use Rattle.mg_calc.specs.Plan.{IsValid, producers, numbers}
 use Rattle.mg_calc.specs.Outcome.{Outcome}
-use Rattle.mg_calc.specs.Equations.{Job, IsJob, stream_of, inputs_of, outcome_of, next_round, round, IsSolution}
+use Rattle.mg_calc.specs.Equations.{Job, IsJob, stream_of, outcome_of, next_round, round, IsSolution}
 use Rattle.mg_calc.specs.Reaching.{producer_of, Reads, Reaches, at_once, through, MayDependBy, MayDepend}
 use Rattle.mg_calc.proofs.Rounds.{outcome_has_outputs}
 use Rattle.mg_calc.proofs.Solutions.{round_keeps, met_stays}
 use Rattle.mg_calc.proofs.Positions.{Agree, agree_at, agree_both, agree_same, agree_parts, parts, parts_flat, givers, GivesAll, GiveSame}
-use Rattle.mg_calc.proofs.Earlier.{at_place, there, get_map, node_reads_below}
-use Rattle.mg_calc.proofs.Holding.{OfNodes, from_zero, gives_all_from, give_same_from, node_times, node_loops}
+use Rattle.mg_calc.proofs.Earlier.{there, get_map, node_reads_below}
+use Rattle.mg_calc.proofs.Holding.{from_zero, gives_all_from, give_same_from, node_times, node_loops}
 use Rattle.mg_calc.proofs.Settling.{outcome_of_inputs_by}
 use Rattle.mg_calc.proofs.Jobs.{any_state, job_known, outcome_of_sides_by}
 

@@ -1,32 +1,28 @@
 -- What the lemmas on rounds ask for holds of each job of which the plan is valid and the inputs fit; and what the solution
 -- does when the inputs change.
-use Rattle.std.proofs.Common.{◌≡◌, ℕ, zero, suc, ◌+◌, ◌<◌, ◌≤◌, length, length-append, replicate, List, [], ◌∷◌, ◌++◌, map, sum_by, All, Contains, Option, Some, None, IsSomeAnd, option_map, get_or, slice_get, refl, sym, ap, ap₂, subst, ◌∙◌, arith, inl, inr, ◌⊎◌}
-use Rattle.std.specs.List.{AllByRecursion, flat_map, range_with_len}
+use Rattle.std.proofs.Common.{◌≡◌, ◌+◌, length, length-append, List, [], ◌∷◌, ◌++◌, refl, sym, ap, ap₂, subst, ◌∙◌}
+use Rattle.std.specs.List.{AllByRecursion, flat_map}
 use Rattle.std.proofs.lemmas.List.Concat.{flat_map-cons, length-flat_map}
-use Rattle.std.proofs.lemmas.List.FromFn.{length-range_with_len, length-map-range_with_len}
-use Rattle.std.proofs.lemmas.List.Elements.{All-from_recursion, recursion_from_All}
+use Rattle.std.proofs.lemmas.List.FromFn.{length-range_with_len}
+use Rattle.std.proofs.lemmas.List.Elements.{recursion_from_All}
 use Rattle.mg_value.specs.Payload.{Plain}
-use Rattle.mg_value.specs.Prefix.{StreamPrefix, IsPrefix, empty_prefix}
-use Rattle.mg_value.specs.Extension.{IsExtendedBy, AreExtendedBy}
-use Rattle.mg_value.proofs.Lemmas.{all_by_themselves, all_further}
+use Rattle.mg_value.specs.Prefix.{StreamPrefix, IsPrefix}
+use Rattle.mg_value.specs.Extension.{AreExtendedBy}
+use Rattle.mg_value.proofs.Lemmas.{all_by_themselves}
 use Rattle.mg_calc.specs.declared.inputs.Inputs.{Inputs}
 use Rattle.mg_calc.specs.declared.law.Law.{Law}
 use Rattle.mg_calc.specs.declared.law.Law.TheVariants.{Count, SideOnce, Constants, Loopback}
 use Rattle.mg_calc.specs.declared.plan.Plan.{Plan}
 use Rattle.mg_calc.specs.declared.plan_node.PlanNode.{PlanNode}
 use Rattle.mg_calc.specs.declared.port_kind.PortKind.{PortKind}
-use Rattle.mg_calc.specs.declared.plan_stream.Producer.{Producer}
-use Rattle.mg_calc.specs.declared.plan_stream.Producer.TheVariants.{Input, Node}
-use Rattle.mg_calc.specs.Plan.{IsValid, InputsFit, HasNumbers, producers, numbers, written_streams, node_sides}
+use Rattle.mg_calc.specs.Plan.{HasNumbers, numbers, node_sides}
 use Rattle.mg_calc.specs.Shape.{ParametersFit, IsShapeOf, HasOutputs, calls_of}
 use Rattle.mg_calc.specs.Outcome.{Outcome, source_outcome, node_outcome}
-use Rattle.mg_calc.specs.Equations.{Job, IsJob, stream_of, inputs_of, sides_of, outcome_by, outcome_of, next_round, round, MeetsEquations, IsSolution}
-use Rattle.mg_calc.specs.Reaching.{producer_of, Reads, Reaches, at_once, through, MayDependBy, MayDepend}
+use Rattle.mg_calc.specs.Equations.{Job, IsJob, inputs_of, outcome_by, outcome_of, next_round, IsSolution}
 use Rattle.mg_calc.proofs.Outcomes.{KeepsTimes}
 use Rattle.mg_calc.proofs.LawTimes.{law_keeps_times}
-use Rattle.mg_calc.proofs.Rounds.{IsKnown, equations_follow, equations_are_as_many}
-use Rattle.mg_calc.proofs.Solutions.{round_keeps, solution_keeps, solution_least, met_stays}
-use Rattle.mg_calc.proofs.Positions.{Agree, agree_at, agree_both, agree_same, agree_parts, parts, parts_flat, givers}
+use Rattle.mg_calc.proofs.Rounds.{IsKnown}
+use Rattle.mg_calc.proofs.Solutions.{solution_keeps, solution_least}
 
 -- nothing has to be known of a state
 abbrev pub any_state : Law → List Plain → Type 0

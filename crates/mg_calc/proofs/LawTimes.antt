@@ -1,13 +1,12 @@
 -- All bounds that a law emits are times.
-use Rattle.std.proofs.Common.{◌≡◌, ◌==◌, ℕ, ℤ, ◌+◌, ◌+ℤ◌, ◌*ℤ◌, All, pos, negsuc, ◌<◌, ◌≤◌, Bool, true, false, not, ◌&&◌, ◌||◌, nat_lt, nat_le, List, [], ◌∷◌, map, take, Option, Some, None, is_some, Result, Ok, Err, IfSome, option_map, unwrap_or, slice_get, refl, sym, ap, subst, ◌∙◌, arith, inl, inr, ◌⊎◌, if◌then◌else◌}
-use Rattle.std.specs.List.{AllByRecursion, list_any, zip}
+use Rattle.std.proofs.Common.{◌≡◌, ◌==◌, ℕ, ℤ, ◌+◌, ◌+ℤ◌, ◌*ℤ◌, All, pos, ◌≤◌, Bool, true, false, nat_le, List, [], ◌∷◌, map, take, Option, Some, None, is_some, Ok, Err, IfSome, option_map, unwrap_or, slice_get, refl, subst, arith, if◌then◌else◌}
+use Rattle.std.specs.List.{list_any}
 use Rattle.std.proofs.lemmas.Bool.Decides.{nat_tests}
 use Rattle.std.proofs.lemmas.List.Elements.{recursion_from_All}
-use Rattle.mg_time.specs.Time.{done, pre_stream, next, raw_of, one_over_post_stream, least, greatest, place_of}
+use Rattle.mg_time.specs.Time.{done, pre_stream, next, raw_of, one_over_post_stream, place_of}
 use Rattle.mg_value.specs.Plain.{Plain, int, flag, text, items, entries}
 use Rattle.mg_value.specs.Prefix.{Stamped}
-use Rattle.mg_value.specs.Settled.{TimedSet, selected}
-use Rattle.mg_calc.specs.declared.cause.Cause.{Cause}
+use Rattle.mg_value.specs.Settled.{selected}
 use Rattle.mg_calc.specs.declared.emission.Laid.{Laid}
 use Rattle.mg_calc.specs.declared.law.Law.{Law}
 use Rattle.mg_calc.specs.declared.law.Law.TheVariants.{Pass, Gate, Mux, Cloner, Merge, Thin, Sum, Map, Filter, Running, Shift, Count, SideOnce, Constants, Loopback, Tally, Scripted}

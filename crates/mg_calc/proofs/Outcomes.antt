@@ -1,10 +1,10 @@
 -- What becomes of a node: further sets extend its outputs, and all that it lays are prefixes.
-use Rattle.std.proofs.Common.{◌≡◌, ◌≢◌, ℕ, zero, suc, ℤ, ◌+◌, ◌<◌, ◌≤◌, ◌==◌, Bool, true, false, length, replicate, List, [], ◌∷◌, ◌++◌, map, Option, Some, None, Result, Ok, Err, refl, sym, ap, subst, ◌∙◌, arith, inl, inr, ◌⊎◌, if◌then◌else◌}
+use Rattle.std.proofs.Common.{◌≡◌, ℕ, zero, suc, ℤ, ◌+◌, ◌≤◌, ◌==◌, Bool, true, false, replicate, List, [], ◌∷◌, map, Option, Some, None, Result, Ok, Err, refl, sym, ap, subst, ◌∙◌, arith, inl, inr, ◌⊎◌, if◌then◌else◌}
 use Rattle.std.specs.List.{AllByRecursion, fold, range_with_len}
-use Rattle.std.proofs.lemmas.Bool.Decides.{nat_tests, eqb_tells}
+use Rattle.std.proofs.lemmas.Bool.Decides.{eqb_tells}
 use Rattle.mg_time.specs.Time.{done}
 use Rattle.mg_value.specs.Payload.{Plain}
-use Rattle.mg_value.specs.Prefix.{Stamped, StreamPrefix, IsPrefix, empty_prefix, closed}
+use Rattle.mg_value.specs.Prefix.{StreamPrefix, IsPrefix, empty_prefix, closed}
 use Rattle.mg_value.specs.Settled.{TimedSet}
 use Rattle.mg_value.specs.Extension.{AreExtendedBy}
 use Rattle.mg_value.proofs.Lemmas.{all_by_themselves, all_further}
@@ -17,7 +17,7 @@ use Rattle.mg_calc.specs.declared.node_fault.Phase.TheVariants.{Open, Call, Proc
 use Rattle.mg_calc.specs.Answer.{Answer}
 use Rattle.mg_calc.specs.Law.{opening, step, call, finish}
 use Rattle.mg_calc.specs.Laying.{after, laid_behind, all_raised}
-use Rattle.mg_calc.specs.Outcome.{Failure, Outcome, failed, after_laying, after_call, unopened, opened, unless_failed, shown, shown_all, after_close, finished, with_reach, ended, called, with_last_call, source_outcome}
+use Rattle.mg_calc.specs.Outcome.{Failure, Outcome, after_laying, after_call, unopened, opened, unless_failed, shown, shown_all, after_close, finished, with_reach, ended, called, source_outcome}
 use Rattle.mg_calc.proofs.LaidBehind.{TimesByRecursion, after_good, emission_extends, emission_keeps, raise_extends, raise_higher, raise_keeps, close_extends, close_keeps}
 
 -- a call extends the outputs

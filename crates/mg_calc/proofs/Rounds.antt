@@ -1,22 +1,21 @@
 -- The equations follow their streams, and rounds consist of prefixes, each extended by the next.
-use Rattle.std.proofs.Common.{sum_by, length-append, ap₂, ◌≡◌, ◌≢◌, ℕ, zero, suc, ℤ, ◌+◌, ◌<◌, ◌≤◌, length, replicate, List, [], ◌∷◌, ◌++◌, map, All, Option, refl, sym, ap, subst, ◌∙◌, arith, inl, inr, ◌⊎◌}
-use Rattle.std.specs.List.{AllByRecursion, AllZip, flat_map}
-use Rattle.std.proofs.lemmas.List.Elements.{length_all_zip, All-from_recursion, recursion_from_All}
+use Rattle.std.proofs.Common.{sum_by, length-append, ap₂, ◌≡◌, ℕ, zero, suc, ◌+◌, length, replicate, List, [], ◌∷◌, ◌++◌, map, refl, sym, ap, ◌∙◌}
+use Rattle.std.specs.List.{AllByRecursion, flat_map}
+use Rattle.std.proofs.lemmas.List.Elements.{length_all_zip, All-from_recursion}
 use Rattle.std.proofs.lemmas.List.Concat.{flat_map-cons}
 use Rattle.std.proofs.lemmas.List.Sums.{sum_by-cons}
 use Rattle.std.proofs.lemmas.List.{length-replicate}
 use Rattle.mg_value.specs.Payload.{Plain}
 use Rattle.mg_value.specs.Prefix.{StreamPrefix, IsPrefix, empty_prefix}
 use Rattle.mg_value.specs.Extension.{IsExtendedBy, AreExtendedBy}
-use Rattle.mg_value.proofs.Lemmas.{extended_by_itself, all_by_themselves, all_further}
+use Rattle.mg_value.proofs.Lemmas.{extended_by_itself, all_by_themselves}
 use Rattle.mg_value.proofs.Lemmas.{empty_is_prefix}
 use Rattle.mg_value.proofs.Lemmas.{loopback_is_prefix, loopback_extends}
 use Rattle.mg_calc.specs.declared.law.Law.{Law}
 use Rattle.mg_calc.specs.declared.law.Law.TheVariants.{Count, SideOnce, Constants, Loopback}
 use Rattle.mg_calc.specs.declared.plan_node.PlanNode.{PlanNode}
 use Rattle.mg_calc.specs.Shape.{calls_of}
-use Rattle.mg_calc.specs.Outcome.{Outcome}
-use Rattle.mg_calc.specs.Equations.{Job, stream_of, inputs_of, sides_of, outcome_by, outcome_of, next_round, round, MeetsEquations}
+use Rattle.mg_calc.specs.Equations.{Job, stream_of, inputs_of, sides_of, outcome_by, outcome_of, next_round}
 use Rattle.mg_calc.proofs.Outcomes.{KeepsTimes, source_keeps, source_outputs}
 use Rattle.mg_calc.proofs.NodeStreams.{node_keeps, node_follows, node_has_outputs}
 

@@ -2,14 +2,14 @@
 -- nodes before one are held, the inputs of this one stay, so it may be held too; and a loopback, whose LOOP may still grow,
 -- is held at what it answers now: either the others settle and it answers no more packets, or it then answers more of them,
 -- and MAIN has so many packets at most.
-use Rattle.std.proofs.Common.{◌≡◌, ◌≢◌, ℕ, zero, suc, ◌+◌, ◌<◌, ◌≤◌, length, length-append, List, [], ◌∷◌, ◌++◌, append-nil, append_assoc, map, take, length-take, Option, Some, None, IfSome, IsSome, unwrap_or, slice_get, refl, sym, ap, ap₂, subst, ◌∙◌, arith, inl, inr, ◌⊎◌}
-use Rattle.std.specs.List.{AllByRecursion, flat_map}
+use Rattle.std.proofs.Common.{◌≡◌, ℕ, zero, suc, ◌+◌, ◌<◌, ◌≤◌, length, length-append, List, [], ◌∷◌, ◌++◌, append-nil, append_assoc, map, take, length-take, Option, Some, None, IsSome, unwrap_or, slice_get, refl, sym, ap, ap₂, subst, ◌∙◌, arith, inl, inr, ◌⊎◌}
+use Rattle.std.specs.List.{AllByRecursion}
 use Rattle.std.proofs.lemmas.Bool.{cases_lt}
 use Rattle.std.proofs.lemmas.List.{nil_from_length}
 use Rattle.std.proofs.lemmas.Option.{slice_get_within}
-use Rattle.std.proofs.lemmas.List.Elements.{All-from_recursion, recursion_from_All}
+use Rattle.std.proofs.lemmas.List.Elements.{recursion_from_All}
 use Rattle.mg_value.specs.Payload.{Plain}
-use Rattle.mg_value.specs.Prefix.{Stamped, StreamPrefix, IsPrefix, empty_prefix}
+use Rattle.mg_value.specs.Prefix.{StreamPrefix, IsPrefix}
 use Rattle.mg_value.specs.Extension.{IsExtendedBy, AreExtendedBy}
 use Rattle.mg_value.specs.Loopback.{Reply, loopback, replies}
 use Rattle.mg_value.proofs.Lemmas.{extended_by_itself, all_by_themselves, all_further, same_prefix}
@@ -20,9 +20,9 @@ use Rattle.mg_calc.specs.declared.plan_node.PlanNode.{PlanNode}
 use Rattle.mg_calc.specs.Plan.{IsValid, producers}
 use Rattle.mg_calc.specs.Outcome.{Outcome, node_outcome, loopback_outcome}
 use Rattle.mg_calc.specs.Equations.{Job, stream_of, inputs_of, sides_of, outcome_by, outcome_of, next_round, round, MeetsEquations, IsSolution}
-use Rattle.mg_calc.proofs.Rounds.{IsKnown, stream_extends, streams_extend, outcome_keeps, outcome_has_outputs}
+use Rattle.mg_calc.proofs.Rounds.{IsKnown, stream_extends, streams_extend}
 use Rattle.mg_calc.proofs.Solutions.{round_keeps, rounds_ascend}
-use Rattle.mg_calc.proofs.Positions.{Agree, parts, parts_flat}
+use Rattle.mg_calc.proofs.Positions.{Agree, parts_flat}
 use Rattle.mg_calc.proofs.Earlier.{KnownBy, IsNext, known_inputs, known_main, at_place, there, behind, get_or_some}
 use Rattle.mg_calc.proofs.Holding.{Held, HeldFits, OfNodes, IsHeld, given, given_long, given_keeps, held_same, held_round, held_follow, held_keep, rounds_agree, with_held, with_held_same, with_held_fits, with_held_holds, with_held_more, parts_same}
 

@@ -1,14 +1,13 @@
 -- Rounds ascend, and the solution is the least list of prefixes that meets the equations.
-use Rattle.std.proofs.Common.{◌≡◌, ℕ, zero, suc, ◌+◌, ◌<◌, ◌≤◌, length, replicate, List, [], ◌∷◌, ◌++◌, Option, refl, sym, ap, subst, ◌∙◌, arith, inl, inr, ◌⊎◌}
-use Rattle.std.specs.List.{AllByRecursion, AllZip, flat_map}
+use Rattle.std.proofs.Common.{◌≡◌, ℕ, zero, suc, ◌+◌, ◌≤◌, length, replicate, List, [], ◌∷◌, refl, sym, ap, subst, ◌∙◌, arith, inl, inr}
+use Rattle.std.specs.List.{AllByRecursion}
 use Rattle.std.proofs.lemmas.Bool.{cases_lt}
-use Rattle.std.proofs.lemmas.List.{length-replicate}
-use Rattle.std.proofs.lemmas.List.Elements.{All-nil, All-from_recursion, All-weaker, length_all_zip}
+use Rattle.std.proofs.lemmas.List.Elements.{All-weaker, length_all_zip}
 use Rattle.mg_time.specs.Time.{pre_stream, IsAllowed}
 use Rattle.mg_value.specs.Payload.{Plain}
 use Rattle.mg_value.specs.Prefix.{Stamped, StreamPrefix, IsPrefix, empty_prefix}
 use Rattle.mg_value.specs.Extension.{IsExtendedBy, AreExtendedBy}
-use Rattle.mg_value.proofs.Lemmas.{all_by_themselves, all_further, all_both_ways}
+use Rattle.mg_value.proofs.Lemmas.{all_by_themselves, all_further}
 use Rattle.mg_value.proofs.Lemmas.{empty_is_prefix}
 use Rattle.mg_calc.specs.declared.law.Law.{Law}
 use Rattle.mg_calc.specs.Equations.{Job, next_round, round, MeetsEquations, IsSolution}

@@ -1,26 +1,21 @@
 -- A valid plan, and inputs that fit it: the conditions of the laws can be met. The plan is the running sum by a loopback.
-use Rattle.std.proofs.Common.{◌≡◌, ◌≢◌, ℕ, zero, suc, ℤ, pos, ◌<◌, ◌≤◌, Bool, true, false, List, [], ◌∷◌, ◌++◌, map, length, All, AllPairs, Contains, Option, Some, None, IsSome, IfSome, slice_get, refl, codes, arith, inl, inr, lit≤, lit<}
+use Rattle.std.proofs.Common.{◌≡◌, ◌≢◌, ℕ, zero, suc, pos, ◌<◌, Bool, true, false, List, [], ◌∷◌, ◌++◌, All, AllPairs, Contains, Some, None, refl, codes, arith}
 use Rattle.std.specs.List.{AllByRecursion}
 use Rattle.std.proofs.lemmas.List.Kept.{AllPairs-cons}
 use Rattle.std.proofs.lemmas.List.Elements.{All-from_recursion}
-use Rattle.mg_time.specs.Time.{done, place_of}
-use Rattle.mg_value.specs.Payload.{Plain}
-use Rattle.mg_value.specs.Prefix.{StreamPrefix, IsPrefix, empty_prefix, closed}
+use Rattle.mg_value.specs.Prefix.{IsPrefix, empty_prefix, closed}
 use Rattle.mg_value.proofs.Lemmas.{empty_is_prefix, closed_is_prefix}
 use Rattle.mg_value.specs.declared.kind.Kind.TheVariants.{Any, Int}
 use Rattle.mg_value.specs.declared.policy.Policy.TheVariants.{Default}
 use Rattle.mg_calc.specs.declared.edge.Edge.{Edge}
 use Rattle.mg_calc.specs.declared.inputs.Inputs.{Inputs}
-use Rattle.mg_calc.specs.declared.law.Law.{Law}
 use Rattle.mg_calc.specs.declared.law.Law.TheVariants.{Sum, Loopback}
 use Rattle.mg_calc.specs.declared.plan.Plan.{Plan}
 use Rattle.mg_calc.specs.declared.plan_node.PlanNode.{PlanNode}
-use Rattle.mg_calc.specs.declared.plan_stream.PlanStream.{PlanStream}
 use Rattle.mg_calc.specs.declared.plan_stream.Producer.TheVariants.{Input, Node}
-use Rattle.mg_calc.specs.declared.shape.Shape.{Shape}
 use Rattle.mg_calc.specs.Shape.{ParametersFit, IsShapeOf, tagged, untagged}
-use Rattle.mg_calc.specs.Plan.{IsValid, InputsFit, AreInRange, HasNumbers, FlightFits, MayHavePolicy, HasEachOnce, StandsBefore, LeadsForward, EndsAtLoop}
-use Rattle.mg_calc.specs.Equations.{Job, IsJob}
+use Rattle.mg_calc.specs.Plan.{IsValid, AreInRange, HasNumbers, FlightFits, MayHavePolicy, HasEachOnce, StandsBefore, LeadsForward, EndsAtLoop}
+use Rattle.mg_calc.specs.Equations.{IsJob}
 
 abbrev loop_node : PlanNode
 loop_node = record {

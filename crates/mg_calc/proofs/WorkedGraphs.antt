@@ -1,15 +1,14 @@
 -- Worked graphs: their solutions computed by the definitions, and compared with what was worked out by hand. A node is
 -- written by its law and the numbers of its streams; of its shape the equations read the offset alone.
-use Rattle.std.proofs.Common.{◌≡◌, ℕ, ℤ, pos, negsuc, Bool, true, false, ◌+◌, List, [], ◌∷◌, ◌++◌, map, length, replicate, Option, Some, None, refl, codes}
-use Rattle.std.specs.List.{flat_map, filter_map, zip}
+use Rattle.std.proofs.Common.{◌≡◌, ℕ, ℤ, pos, negsuc, Bool, true, false, ◌+◌, List, [], ◌∷◌, map, replicate, Option, Some, None, refl, codes}
+use Rattle.std.specs.List.{flat_map}
 use Rattle.mg_time.specs.Time.{pre_stream, post_stream, done, place_of}
 use Rattle.mg_value.specs.Plain.{Plain, int, flag, text}
 use Rattle.mg_value.specs.Prefix.{Stamped, StreamPrefix}
-use Rattle.mg_value.specs.Settled.{TimedSet, settled_sets}
+use Rattle.mg_value.specs.Settled.{settled_sets}
 use Rattle.mg_value.specs.declared.policy.Policy.{Policy}
 use Rattle.mg_value.specs.declared.policy.Policy.TheVariants.{Default, Mux as MuxPolicy}
 use Rattle.mg_value.specs.declared.kind.Kind.TheVariants.{Any}
-use Rattle.mg_calc.specs.declared.cause.Cause.{Cause}
 use Rattle.mg_calc.specs.declared.cause.Cause.TheVariants.{Overflow, BadSelect, NoSide, NotAllowed, NotAscending, NotAlone, BelowOffset, EmitsInClose}
 use Rattle.mg_calc.specs.declared.emission.Laid.{Laid}
 use Rattle.mg_calc.specs.declared.call.Call.TheVariants.{Begun, Shown, Finished}
@@ -17,13 +16,11 @@ use Rattle.mg_calc.specs.declared.law.Law.{Law}
 use Rattle.mg_calc.specs.declared.law.Law.TheVariants.{Pass, Gate, Mux, Cloner, Merge, Thin, Running, Scripted, Sum, Map, Filter, Shift, Count, SideOnce, Loopback, Tally}
 use Rattle.mg_calc.specs.declared.law.MapOp.TheVariants.{Add, Multiply}
 use Rattle.mg_calc.specs.declared.law.Keep.TheVariants.{Even, Negative}
-use Rattle.mg_calc.specs.declared.node_fault.NodeFault.{NodeFault}
 use Rattle.mg_calc.specs.declared.node_fault.Phase.TheVariants.{Open, Call, Process, Close}
 use Rattle.mg_calc.specs.declared.plan.Plan.{Plan}
 use Rattle.mg_calc.specs.declared.plan_node.PlanNode.{PlanNode}
 use Rattle.mg_calc.specs.declared.plan_stream.PlanStream.{PlanStream}
 use Rattle.mg_calc.specs.declared.plan_stream.Producer.TheVariants.{Input}
-use Rattle.mg_calc.specs.declared.inputs.Inputs.{Inputs}
 use Rattle.mg_calc.specs.Side.{PlainSide, given_at}
 use Rattle.mg_calc.specs.Shape.{offset_of, is_stateless}
 use Rattle.mg_calc.specs.Equations.{Job, stream_of, next_round, round}

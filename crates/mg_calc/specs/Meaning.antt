@@ -1,6 +1,6 @@
 -- What is told of a run, as functions of the solution: faults, stalled streams, the sets that each node is shown, counts,
 -- the calls that a calculator has had, and how much work a job is.
-use Rattle.std.specs.Prelude.{ℕ, ◌+◌, ◌==◌, Bool, not, List, [], ◌∷◌, ◌++◌, map, take, sum_by, Option, Some, None, option_map, filter}
+use Rattle.std.specs.Prelude.{ℕ, ◌+◌, ◌==◌, not, List, [], ◌∷◌, ◌++◌, map, take, sum_by, Option, Some, None, option_map, filter}
 use Rattle.std.specs.List.{filter_map, enumerate_from}
 use Rattle.mg_time.specs.Time.{done}
 use Rattle.mg_value.specs.Payload.{Plain}
@@ -9,11 +9,10 @@ use Rattle.mg_value.specs.Settled.{TimedSet, settled_sets}
 use Rattle.mg_calc.specs.declared.call.Call.{Call}
 use Rattle.mg_calc.specs.declared.call.Call.TheVariants.{Begun, Shown, Finished}
 use Rattle.mg_calc.specs.declared.node_fault.NodeFault.{NodeFault}
-use Rattle.mg_calc.specs.declared.node_fault.Phase.{Phase}
 use Rattle.mg_calc.specs.declared.node_fault.Phase.TheVariants.{Open}
 use Rattle.mg_calc.specs.declared.plan_node.PlanNode.{PlanNode}
-use Rattle.mg_calc.specs.Outcome.{Outcome, Failure}
-use Rattle.mg_calc.specs.Equations.{Job, outcome_of, inputs_of, stream_of}
+use Rattle.mg_calc.specs.Outcome.{Failure}
+use Rattle.mg_calc.specs.Equations.{Job, outcome_of, inputs_of}
 
 -- some things with their numbers, from 0 on
 abbrev pub numbered : {X : Type 0} → List X → List (ℕ × X)
