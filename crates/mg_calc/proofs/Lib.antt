@@ -8,10 +8,12 @@ pub mod Positions
 pub mod Earlier
 pub mod Holding
 pub mod Settling
+pub mod FirstRound
 pub mod LawTimes
 pub mod Jobs
 pub mod Independence
 pub mod WorkedGraphs
+pub mod WorkedFaults
 pub mod Copying
 pub mod KindLemmas
 pub mod NumberLemmas

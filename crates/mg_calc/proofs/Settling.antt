@@ -2,27 +2,25 @@
 -- nodes before one are held, the inputs of this one stay, so it may be held too; and a loopback, whose LOOP may still grow,
 -- is held at what it answers now: either the others settle and it answers no more packets, or it then answers more of them,
 -- and MAIN has so many packets at most.
-use Rattle.std.proofs.Common.{◌≡◌, ℕ, zero, suc, ◌+◌, ◌<◌, ◌≤◌, length, length-append, List, [], ◌∷◌, ◌++◌, append-nil, append_assoc, map, take, length-take, Option, Some, None, IsSome, unwrap_or, slice_get, refl, sym, ap, ap₂, subst, ◌∙◌, arith, inl, inr, ◌⊎◌}
+use Rattle.std.proofs.Common.{◌≡◌, ℕ, zero, suc, ◌+◌, ◌<◌, ◌≤◌, length, List, [], ◌∷◌, ◌++◌, append-nil, append_assoc, map, take, length-take, Option, Some, None, IsSome, unwrap_or, slice_get, refl, sym, ap, subst, ◌∙◌, arith, inl, inr, ◌⊎◌}
 use Rattle.std.specs.List.{AllByRecursion}
 use Rattle.std.proofs.lemmas.Bool.{cases_lt}
-use Rattle.std.proofs.lemmas.List.{nil_from_length}
 use Rattle.std.proofs.lemmas.Option.{slice_get_within}
 use Rattle.std.proofs.lemmas.List.Elements.{recursion_from_All}
 use Rattle.mg_value.specs.Payload.{Plain}
 use Rattle.mg_value.specs.Prefix.{StreamPrefix, IsPrefix}
 use Rattle.mg_value.specs.Extension.{IsExtendedBy, AreExtendedBy}
 use Rattle.mg_value.specs.Loopback.{Reply, loopback, replies}
-use Rattle.mg_value.proofs.Lemmas.{extended_by_itself, all_by_themselves, all_further, same_prefix}
+use Rattle.mg_value.proofs.Lemmas.{extended_by_itself, all_by_themselves, all_further}
 use Rattle.mg_value.proofs.Lemmas.{replies-stay, replies-most, loopback-same}
 use Rattle.mg_calc.specs.declared.law.Law.{Law}
 use Rattle.mg_calc.specs.declared.law.Law.TheVariants.{Count, SideOnce, Constants, Loopback}
 use Rattle.mg_calc.specs.declared.plan_node.PlanNode.{PlanNode}
 use Rattle.mg_calc.specs.Plan.{IsValid, producers}
 use Rattle.mg_calc.specs.Outcome.{Outcome, node_outcome, loopback_outcome}
-use Rattle.mg_calc.specs.Equations.{Job, stream_of, inputs_of, sides_of, outcome_by, outcome_of, next_round, round, MeetsEquations, IsSolution}
+use Rattle.mg_calc.specs.Equations.{Job, stream_of, inputs_of, sides_of, outcome_by, outcome_of}
 use Rattle.mg_calc.proofs.Rounds.{IsKnown, stream_extends, streams_extend}
-use Rattle.mg_calc.proofs.Solutions.{round_keeps, rounds_ascend}
-use Rattle.mg_calc.proofs.Positions.{Agree, parts_flat}
+use Rattle.mg_calc.proofs.Positions.{Agree}
 use Rattle.mg_calc.proofs.Earlier.{KnownBy, IsNext, known_inputs, known_main, at_place, there, behind, get_or_some}
 use Rattle.mg_calc.proofs.Holding.{Held, HeldFits, OfNodes, IsHeld, given, given_long, given_keeps, held_same, held_round, held_follow, held_keep, rounds_agree, with_held, with_held_same, with_held_fits, with_held_holds, with_held_more, parts_same}
 
@@ -39,7 +37,7 @@ loop_cases Loopback = inl refl
 loop_cases law = inr (λ e. absurd cc)
 
 -- so many held rounds
-abbrev iterate : Job → Held → ℕ → List (StreamPrefix Plain) → List (StreamPrefix Plain)
+abbrev pub iterate : Job → Held → ℕ → List (StreamPrefix Plain) → List (StreamPrefix Plain)
 iterate job held zero xs = xs
 iterate job held (suc n) xs = held_round job held (iterate job held n xs)
 
@@ -48,7 +46,7 @@ iterate_shift job held zero xs = refl
 iterate_shift job held (suc n) xs = ap (held_round job held) (iterate_shift job held n xs)
 
 -- held rounds settle from some streams on
-abbrev Settles : Job → Held → List (StreamPrefix Plain) → Type 0
+abbrev pub Settles : Job → Held → List (StreamPrefix Plain) → Type 0
 Settles job held xs = (n : ℕ) × (held_round job held (iterate job held n xs) ≡ iterate job held n xs)
 
 settles_before : (job : Job) (held : Held) (xs : List (StreamPrefix Plain)) → Settles job held (held_round job held xs) → Settles job held xs
@@ -61,12 +59,12 @@ settles_long_before job held zero xs s = s
 settles_long_before job held (suc n) xs s = settles_long_before job held n xs (settles_before job held (iterate job held n xs) s)
 
 -- What is known of streams on the way: they are prefixes that the next round extends.
-record Stands (job : Job) (held : Held) (xs : List (StreamPrefix Plain)) : Type 0 where
+pub record Stands (job : Job) (held : Held) (xs : List (StreamPrefix Plain)) : Type 0 where
   pub keeps : AllByRecursion IsPrefix xs
   pub rises : AreExtendedBy xs (held_round job held xs)
 
 -- what a job and a plan have to have
-record Sound (Good : Law → List Plain → Type 0) (job : Job) : Type 0 where
+pub record Sound (Good : Law → List Plain → Type 0) (job : Job) : Type 0 where
   pub known : IsKnown Good job
   pub valid : IsValid job.plan
   pub many : length job.inputs.streams ≡ length job.plan.inputs
@@ -306,7 +304,7 @@ node_settles Good job held w node xs sound fits at next others s g =
       ]
     ]
 
-rest_settles : (rest earlier : List ℕ) (Good : Law → List Plain → Type 0) (job : Job) (held : Held) (xs : List (StreamPrefix Plain)) → Sound Good job → job.plan.order ≡ earlier ++ rest → HeldFits job held → AllByRecursion (IsHeld held) earlier
+pub rest_settles : (rest earlier : List ℕ) (Good : Law → List Plain → Type 0) (job : Job) (held : Held) (xs : List (StreamPrefix Plain)) → Sound Good job → job.plan.order ≡ earlier ++ rest → HeldFits job held → AllByRecursion (IsHeld held) earlier
     → Stands job held xs → Settles job held xs
 rest_settles [] earlier Good job held xs sound order fits all s = all_held_settles job held xs (held_at job held earlier sound.valid (order ∙ append-nil earlier) all)
 rest_settles (w ∷ rest) earlier Good job held xs sound order fits all s =
@@ -318,84 +316,3 @@ rest_settles (w ∷ rest) earlier Good job held xs sound order fits all s =
     (node_settles Good job held w node.0 (held_round job held xs) sound fits node.1 (record { earlier = earlier; later = rest; order = order; held = all })
     (λ outs h ys stands. rest_settles rest (earlier ++ w ∷ []) Good job (with_held held w outs) ys sound (order ∙ sym (append_assoc earlier (w ∷ []) rest)) (more_fits job held w node.0 outs h) (all_more held w outs earlier all) stands)
     (stands_next Good job held xs sound fits s) (given_round job held xs s.keeps))
-
--- Without a node that is held, held rounds are rounds.
-abbrev nothing_held : Held
-nothing_held = λ k. None
-
-free_round : (job : Job) (xs : List (StreamPrefix Plain)) → held_round job nothing_held xs ≡ next_round job xs
-free_round job xs = ap (λ rest. job.inputs.streams ++ rest) (parts_flat (λ node. (outcome_of job xs node).outputs) 0 job.plan.nodes)
-
-free_rounds : (job : Job) (n : ℕ) → iterate job nothing_held n (round job 0) ≡ round job n
-free_rounds job zero = refl
-free_rounds job (suc n) = free_round job (iterate job nothing_held n (round job 0)) ∙ ap (next_round job) (free_rounds job n)
-
--- there is a round that meets the equations
-pub a_round_meets : (Good : Law → List Plain → Type 0) (job : Job) → IsKnown Good job → IsValid job.plan → length job.inputs.streams ≡ length job.plan.inputs → (n : ℕ) × MeetsEquations job (round job n)
-a_round_meets Good job known valid many =
-    let start : Stands job nothing_held (round job 0) = record {
-      keeps = round_keeps Good job known 0;
-      rises = subst (AreExtendedBy (round job 0)) (sym (free_round job (round job 0))) (rounds_ascend Good job known 0);
-    } in
-    let settled = rest_settles job.plan.order [] Good job nothing_held (round job 0) (record { known = known; valid = valid; many = many }) refl (λ k node at. tt) tt start in
-    let n = settled.0 in
-    (n, sym (free_round job (round job n)) ∙ (ap (held_round job nothing_held) (sym (free_rounds job n)) ∙ (settled.1 ∙ free_rounds job n)))
-
--- whether a round meets them can be told, since it is extended by the next
-same_further : (s t : StreamPrefix Plain) (e : IsExtendedBy s t) → e.further ≡ [] → t.bound ≤ s.bound → s ≡ t
-same_further s t e none le =
-    same_prefix s t (sym (e.packets ∙ (ap (λ ps. s.packets ++ ps) none ∙ append-nil s.packets))) (let up = e.bound in omega (arith, up, le))
-
-same_or_not : (s t : StreamPrefix Plain) → IsExtendedBy s t → (s ≡ t) ⊎ ¬ (s ≡ t)
-same_or_not s t e = elim (cases_lt (length s.packets) (length t.packets)) [
-  | inl more ↦ inr (λ same. let lengths = ap (λ (u : StreamPrefix Plain). length u.packets) same in omega (arith, more, lengths))
-  | inr few ↦ elim (cases_lt s.bound t.bound) [
-    | inl higher ↦ inr (λ same. let bounds = ap (λ (u : StreamPrefix Plain). u.bound) same in omega (arith, higher, bounds))
-    | inr low ↦ inl (same_further s t e (nil_from_length e.further (let long = ap length e.packets in omega (arith, few, long, length-append s.packets e.further))) low)
-  ]
-]
-
-all_same_or_not : (xs ys : List (StreamPrefix Plain)) → AreExtendedBy xs ys → (xs ≡ ys) ⊎ ¬ (xs ≡ ys)
-all_same_or_not [] [] e = inl refl
-all_same_or_not [] (y ∷ ys) e = absurd e
-all_same_or_not (x ∷ xs) [] e = absurd e
-all_same_or_not (x ∷ xs) (y ∷ ys) e = elim (same_or_not x y e.0) [
-  | inr other ↦ inr (λ same. other (ap (λ l. (elim l [ [] ↦ x | h ∷ t ↦ h ])) same))
-  | inl same ↦ elim (all_same_or_not xs ys e.1) [
-    | inr others ↦ inr (λ all. others (ap (λ l. (elim l [ [] ↦ xs | h ∷ t ↦ t ])) all))
-    | inl all ↦ inl (ap₂ (λ (h : StreamPrefix Plain) (t : List (StreamPrefix Plain)). h ∷ t) same all)
-  ]
-]
-
-meets_or_not : (Good : Law → List Plain → Type 0) (job : Job) → IsKnown Good job → (n : ℕ) → MeetsEquations job (round job n) ⊎ ¬ MeetsEquations job (round job n)
-meets_or_not Good job known n = elim (all_same_or_not (round job n) (round job (suc n)) (rounds_ascend Good job known n)) [
-  | inl same ↦ inl (sym same)
-  | inr other ↦ inr (λ meets. other (sym meets))
-]
-
--- the first of them
-record FirstRound (job : Job) : Type 0 where
-  pub number : ℕ
-  pub meets : MeetsEquations job (round job number)
-  pub first : (earlier : ℕ) → earlier < number → ¬ MeetsEquations job (round job earlier)
-
-first_round : (Good : Law → List Plain → Type 0) (job : Job) → IsKnown Good job → (n : ℕ) → FirstRound job ⊎ ((earlier : ℕ) → earlier < n → ¬ MeetsEquations job (round job earlier))
-first_round Good job known zero = inr (λ earlier le. absurd (omega (arith, le)))
-first_round Good job known (suc n) = elim (first_round Good job known n) [
-  | inl found ↦ inl found
-  | inr none ↦ elim (meets_or_not Good job known n) [
-    | inl meets ↦ inl (record { number = n; meets = meets; first = none })
-    | inr other ↦ inr (λ earlier le. elim (cases_lt earlier n) [
-      | inl before ↦ none earlier before
-      | inr after ↦ (let here : earlier ≡ n = omega (arith, le, after) in λ meets. other (subst (λ (k : ℕ). MeetsEquations job (round job k)) here meets))
-    ])
-  ]
-]
-
-pub a_solution : (Good : Law → List Plain → Type 0) (job : Job) → IsKnown Good job → IsValid job.plan → length job.inputs.streams ≡ length job.plan.inputs → (streams : List (StreamPrefix Plain)) × IsSolution job streams
-a_solution Good job known valid many =
-    let settled = a_round_meets Good job known valid many in
-    elim (first_round Good job known (suc settled.0)) [
-      | inl found ↦ (round job found.number, record { number = found.number; reached = refl; meets = found.meets; first = found.first })
-      | inr none ↦ absurd (none settled.0 (omega arith) settled.1)
-    ]

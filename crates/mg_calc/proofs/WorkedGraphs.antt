@@ -1,22 +1,21 @@
 -- Worked graphs: their solutions computed by the definitions, and compared with what was worked out by hand. A node is
 -- written by its law and the numbers of its streams; of its shape the equations read the offset alone.
-use Rattle.std.proofs.Common.{◌≡◌, ℕ, ℤ, pos, negsuc, Bool, true, false, ◌+◌, List, [], ◌∷◌, map, replicate, Option, Some, None, refl, codes}
+use Rattle.std.proofs.Common.{◌≡◌, ℕ, pos, negsuc, Bool, true, false, ◌+◌, List, [], ◌∷◌, map, replicate, Option, Some, None, refl, codes}
 use Rattle.std.specs.List.{flat_map}
-use Rattle.mg_time.specs.Time.{pre_stream, post_stream, done, place_of}
+use Rattle.mg_time.specs.Time.{pre_stream, done, place_of}
 use Rattle.mg_value.specs.Plain.{Plain, int, flag, text}
 use Rattle.mg_value.specs.Prefix.{Stamped, StreamPrefix}
 use Rattle.mg_value.specs.Settled.{settled_sets}
 use Rattle.mg_value.specs.declared.policy.Policy.{Policy}
 use Rattle.mg_value.specs.declared.policy.Policy.TheVariants.{Default, Mux as MuxPolicy}
 use Rattle.mg_value.specs.declared.kind.Kind.TheVariants.{Any}
-use Rattle.mg_calc.specs.declared.cause.Cause.TheVariants.{Overflow, BadSelect, NoSide, NotAllowed, NotAscending, NotAlone, BelowOffset, EmitsInClose}
-use Rattle.mg_calc.specs.declared.emission.Laid.{Laid}
+use Rattle.mg_calc.specs.declared.cause.Cause.TheVariants.{Overflow, BadSelect, NoSide, NotAscending}
 use Rattle.mg_calc.specs.declared.call.Call.TheVariants.{Begun, Shown, Finished}
 use Rattle.mg_calc.specs.declared.law.Law.{Law}
-use Rattle.mg_calc.specs.declared.law.Law.TheVariants.{Pass, Gate, Mux, Cloner, Merge, Thin, Running, Scripted, Sum, Map, Filter, Shift, Count, SideOnce, Loopback, Tally}
+use Rattle.mg_calc.specs.declared.law.Law.TheVariants.{Pass, Gate, Mux, Cloner, Merge, Thin, Running, Sum, Map, Filter, Shift, Count, SideOnce, Loopback, Tally}
 use Rattle.mg_calc.specs.declared.law.MapOp.TheVariants.{Add, Multiply}
 use Rattle.mg_calc.specs.declared.law.Keep.TheVariants.{Even, Negative}
-use Rattle.mg_calc.specs.declared.node_fault.Phase.TheVariants.{Open, Call, Process, Close}
+use Rattle.mg_calc.specs.declared.node_fault.Phase.TheVariants.{Open, Call, Process}
 use Rattle.mg_calc.specs.declared.plan.Plan.{Plan}
 use Rattle.mg_calc.specs.declared.plan_node.PlanNode.{PlanNode}
 use Rattle.mg_calc.specs.declared.plan_stream.PlanStream.{PlanStream}
@@ -27,7 +26,7 @@ use Rattle.mg_calc.specs.Equations.{Job, stream_of, next_round, round}
 use Rattle.mg_calc.specs.Meaning.{faults, stalled, counts, log_of, weight}
 
 -- How the graphs are written.
-abbrev node_by : Policy → Law → List ℕ → List ℕ → List ℕ → PlanNode
+abbrev pub node_by : Policy → Law → List ℕ → List ℕ → List ℕ → PlanNode
 node_by policy law inputs outputs sides = record {
   label = [];
   law = law;
@@ -40,13 +39,13 @@ node_by policy law inputs outputs sides = record {
   policy = policy;
 }
 
-abbrev node : Law → List ℕ → List ℕ → PlanNode
+abbrev pub node : Law → List ℕ → List ℕ → PlanNode
 node law inputs outputs = node_by Default law inputs outputs []
 
-abbrev any_stream : PlanStream
+abbrev pub any_stream : PlanStream
 any_stream = record { name = []; kind = Any; producer = Input 0 }
 
-abbrev plan_of : ℕ → List PlanNode → List PlainSide → Plan
+abbrev pub plan_of : ℕ → List PlanNode → List PlainSide → Plan
 plan_of streams nodes sides = record {
   nodes = nodes;
   streams = replicate streams any_stream;
@@ -59,20 +58,20 @@ plan_of streams nodes sides = record {
   workers = 0;
 }
 
-abbrev job_of : ℕ → List PlanNode → List (StreamPrefix Plain) → Job
+abbrev pub job_of : ℕ → List PlanNode → List (StreamPrefix Plain) → Job
 job_of streams nodes inputs = record { plan = plan_of streams nodes []; inputs = record { streams = inputs; sides = []; ended = true } }
 
-abbrev at : ℕ → ℕ
+abbrev pub at : ℕ → ℕ
 at n = place_of (pos n)
 
 -- a packet of a number, and streams that ended or stay at a bound
-abbrev pk : ℕ → ℕ → Stamped Plain
+abbrev pub pk : ℕ → ℕ → Stamped Plain
 pk t v = record { at = at t; value = int (pos v) }
 
-abbrev ended : List (Stamped Plain) → StreamPrefix Plain
+abbrev pub ended : List (Stamped Plain) → StreamPrefix Plain
 ended ps = record { packets = ps; bound = done }
 
-abbrev until : ℕ → List (Stamped Plain) → StreamPrefix Plain
+abbrev pub until : ℕ → List (Stamped Plain) → StreamPrefix Plain
 until b ps = record { packets = ps; bound = b }
 
 -- what is shown of some output streams: the packets at their settled times, with the place of the stream
@@ -381,39 +380,6 @@ leaps_stops = refl
 
 leaps_counts : counts leaps (round leaps 1) ≡ 2 ∷ []
 leaps_counts = refl
-
--- What is written for Open, one set and Close, at an offset or none.
-abbrev laid_at : ℕ → Laid
-laid_at t = record { packets = pk t 1 ∷ []; bound = None }
-
-abbrev written : Option ℤ → List Laid → List Laid → List Laid → Job
-written offset first step last = job_of 2 (node (Scripted offset first (step ∷ []) last) (0 ∷ []) (1 ∷ []) ∷ []) (ended (pk 10 1 ∷ []) ∷ [])
-
-written_shows : round (written None (laid_at 1 ∷ []) (laid_at 2 ∷ []) (laid_at 3 ∷ [])) 2 ≡ ended (pk 10 1 ∷ []) ∷ ended (pk 1 1 ∷ pk 2 1 ∷ pk 3 1 ∷ []) ∷ []
-written_shows = refl
-
--- A node with an offset emits nothing in Close, and nothing below its promise; the fault of Close leaves its output at Done.
-written_in_close : faults (written (Some (pos 0)) [] (laid_at 10 ∷ []) (laid_at 20 ∷ [])) (round (written (Some (pos 0)) [] (laid_at 10 ∷ []) (laid_at 20 ∷ [])) 2) ≡ record { node = 0; phase = Close; cause = EmitsInClose } ∷ []
-written_in_close = refl
-
-written_in_close_ends : round (written (Some (pos 0)) [] (laid_at 10 ∷ []) (laid_at 20 ∷ [])) 2 ≡ ended (pk 10 1 ∷ []) ∷ ended (pk 10 1 ∷ []) ∷ []
-written_in_close_ends = refl
-
-written_below : faults (written (Some (pos 0)) [] (laid_at 9 ∷ []) []) (round (written (Some (pos 0)) [] (laid_at 9 ∷ []) []) 2) ≡ record { node = 0; phase = Process (at 10); cause = BelowOffset } ∷ []
-written_below = refl
-
-written_below_stops : round (written (Some (pos 0)) [] (laid_at 9 ∷ []) []) 2 ≡ ended (pk 10 1 ∷ []) ∷ until (at 10) [] ∷ []
-written_below_stops = refl
-
--- No packet stands at Done, and none beside one at PostStream.
-abbrev laid_special : List ℕ → Laid
-laid_special ts = record { packets = map (λ t. record { at = t; value = int (pos 1) }) ts; bound = None }
-
-written_at_done : faults (written None (laid_special (done ∷ []) ∷ []) [] []) (round (written None (laid_special (done ∷ []) ∷ []) [] []) 2) ≡ record { node = 0; phase = Open; cause = NotAllowed } ∷ []
-written_at_done = refl
-
-written_beside : faults (written None [] (laid_special (at 5 ∷ post_stream ∷ []) ∷ []) []) (round (written None [] (laid_special (at 5 ∷ post_stream ∷ []) ∷ []) []) 2) ≡ record { node = 0; phase = Process (at 10); cause = NotAlone } ∷ []
-written_beside = refl
 
 -- A loopback whose LOOP is its MAIN.
 abbrev repeats : Job

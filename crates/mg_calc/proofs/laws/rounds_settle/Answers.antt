@@ -1,4 +1,4 @@
-use Rattle.mg_calc.proofs.Settling.{a_round_meets, a_solution}
+use Rattle.mg_calc.proofs.FirstRound.{a_round_meets, a_solution}
 use Rattle.mg_calc.proofs.Jobs.{any_state, job_known}
 use Rattle.mg_calc.proofs.laws.rounds_settle.Goals as goal
 
