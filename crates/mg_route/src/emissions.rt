@@ -101,6 +101,7 @@ pub fn placed<P: Places>(
 pub fn front(alloc: Global, set: &InputSet, lanes: u32) -> Result<Emission, AllocError>
     ensures { IfOk result (λ emission. emission ≡ emission_of (take lanes set.now)) }
 {
+    // Packets of a set have their own times, whatever time is asked for.
     placed(alloc, set, Timestamp::MIN, lanes.min(set.len()))
 }
 
