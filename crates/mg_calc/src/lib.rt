@@ -2,6 +2,7 @@
 //! Answers to the definitions of `specs/Law.antt`, `specs/Shape.antt` and `specs/Plan.antt`.
 #![tactic(auto)]
 
+mod calculator;
 mod call;
 mod cause;
 mod edge;
@@ -21,6 +22,7 @@ mod side;
 mod state;
 mod try_clone;
 
+pub use calculator::Calculator;
 pub use call::{Call, CallList};
 pub use cause::{CalcFault, Cause};
 pub use edge::{Edge, EdgeList};

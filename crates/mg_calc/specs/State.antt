@@ -1,0 +1,69 @@
+-- What a calculator keeps between its calls, as a list of payloads. The empty list is the state of one that has seen nothing.
+use Rattle.std.specs.Prelude.{◌≡◌, ℕ, ℤ, pos, negsuc, ◌-◌, ◌≤◌, ◌^◌, List, [], ◌∷◌, ◌++◌, map, take, length, replicate, All, Option, Some, None, slice_get, unwrap_or, IsTrue, ⊤}
+use Rattle.std.specs.Option.{option_and_then}
+use Rattle.mg_time.specs.Time.{raw_of, pre_stream, one_over_post_stream}
+use Rattle.mg_value.specs.Plain.{Plain, int}
+use Rattle.mg_calc.specs.Values.{fits, time_of, stored, kept_in}
+use Rattle.mg_calc.specs.declared.law.Law.{Law}
+use Rattle.mg_calc.specs.declared.law.Law.TheVariants.{Cloner, Thin, Running, SideOnce, Tally, Scripted}
+
+-- the state of one number
+abbrev pub state_of : ℤ → List Plain
+state_of n = int n ∷ []
+
+-- the number of a state; the empty state's is 0
+abbrev pub number_in : List Plain → ℤ
+number_in (int n ∷ _) = n
+number_in _ = pos 0
+
+-- how many sets a state has counted; the empty state none
+abbrev pub count_in : List Plain → ℕ
+count_in (int (pos n) ∷ _) = n
+count_in _ = 0
+
+-- the next valid timestamp of a state: its number is that of a time of the range, or else stands for OneOverPostStream; the
+-- empty state's is PreStream
+abbrev pub next_valid : List Plain → ℕ
+next_valid (int n ∷ _) = unwrap_or (time_of n) one_over_post_stream
+next_valid _ = pre_stream
+
+-- what a state keeps at a place: a payload, or none, also where there is no such place
+abbrev pub kept_at : List Plain → ℕ → Option Plain
+kept_at state i = option_and_then kept_in (slice_get state i)
+
+-- what a state keeps at its first places, a number of them
+abbrev pub places_in : ℕ → List Plain → List (Option Plain)
+places_in lanes state = take lanes (map kept_in state ++ replicate lanes None)
+
+-- The form of a state.
+
+-- a state of one number that passes a test, or the empty one
+abbrev pub IsNumber : (ℤ → Type 0) → List Plain → Type 0
+IsNumber P [] = ⊤
+IsNumber P (int n ∷ []) = P n
+IsNumber P _ = ⊥
+
+-- a number counts up to a most
+abbrev pub CountsTo : ℕ → ℤ → Type 0
+CountsTo most (pos n) = n ≤ most
+CountsTo most (negsuc n) = ⊥
+
+-- a state of so many places, or the empty one
+abbrev pub ArePlaces : ℕ → List Plain → Type 0
+ArePlaces lanes [] = ⊤
+ArePlaces lanes state = (length state ≡ lanes) × All (λ p. stored (kept_in p) ≡ p) state
+
+-- a state of one full place
+abbrev pub IsFullPlace : List Plain → Type 0
+IsFullPlace (p ∷ []) = (v : Plain) × (p ≡ stored (Some v))
+IsFullPlace _ = ⊥
+
+-- a state is of the form that its law gives it, or empty; a source's is empty but for that of SideOnce, which keeps its payload
+abbrev pub IsStateOf : Law → List Plain → Type 0
+IsStateOf (Cloner lanes) state = ArePlaces lanes state
+IsStateOf (Thin period) state = IsNumber (λ n. raw_of (unwrap_or (time_of n) one_over_post_stream) ≡ n) state
+IsStateOf Running state = IsNumber (λ n. IsTrue (fits n)) state
+IsStateOf (SideOnce at) state = IsFullPlace state
+IsStateOf Tally state = IsNumber (CountsTo (2 ^ 63 - 1)) state
+IsStateOf (Scripted offset first steps last) state = IsNumber (CountsTo (length steps)) state
+IsStateOf _ state = state ≡ []

@@ -1,0 +1,97 @@
+ghost use Rattle.std.specs.Prelude.{◌≡◌, OnErr};
+ghost use Rattle.mg_calc.specs.Answer.{GivesEmission};
+ghost use Rattle.mg_calc.specs.Law.{opening, step, finish as closing};
+ghost use Rattle.mg_calc.specs.Shape.{ParametersFit, IsOuter, IsShapeOf, FitsInputs};
+ghost use Rattle.mg_calc.specs.Told.{CalculatorTold, Logs, shown_calls};
+
+use crate::{CalcFault, Call, CallList, Emission, GivenList, Law, Shape};
+use mg_time::Timestamp;
+use mg_value::InputSet;
+use std::alloc::Global;
+
+/// A calculator that is handed in (MediaPipe, Calculators: Open, Process and Close are `begin`, `process` and `finish`).
+///
+/// Each call answers what the table of laws has for its law and for the state that it keeps, and keeps the new state. A call that
+/// finds no memory changes nothing, and may be made again.
+pub trait Calculator: Drop {
+    /// What it tells of itself.
+    ghost told: { Self → CalculatorTold };
+
+    /// Its ports, which never change.
+    fn shape(&self) -> &Shape
+        ensures shape { result.now ≡ (told self.now).shape }
+        ensures of_law { IsShapeOf (told self.now).law result.now };
+
+    /// Its law, which never changes.
+    fn law(&self) -> &Law
+        ensures law { result.now ≡ (told self.now).law }
+        ensures outer { IsOuter result.now }
+        ensures ranges { ParametersFit result.now };
+
+    /// Opens it, before all sets, with its side packets.
+    fn begin(&mut self, alloc: Global, sides: &GivenList) -> Result<Emission, CalcFault>
+        ensures answer { GivesEmission result (told self.new).state (opening (told self.old).law sides.now) }
+        ensures kept { OnErr result ((told self.new).state ≡ (told self.old).state) }
+        ensures log { Logs result (told self.old).log (told self.new).log Call.Begun }
+        ensures law { (told self.new).law ≡ (told self.old).law }
+        ensures shape { (told self.new).shape ≡ (told self.old).shape };
+
+    /// Shows it the set at a time.
+    fn process(
+        &mut self,
+        alloc: Global,
+        at: Timestamp,
+        set: &InputSet,
+    ) -> Result<Emission, CalcFault>
+        requires { FitsInputs (told self.old).shape set.now }
+        ensures answer { GivesEmission result (told self.new).state (step (told self.old).law (told self.old).state at set.now) }
+        ensures kept { OnErr result ((told self.new).state ≡ (told self.old).state) }
+        ensures log { Logs result (told self.old).log (told self.new).log (Call.Shown at set.now) }
+        ensures law { (told self.new).law ≡ (told self.old).law }
+        ensures shape { (told self.new).shape ≡ (told self.old).shape };
+
+    /// Closes it, after all sets.
+    fn finish(&mut self, alloc: Global) -> Result<Emission, CalcFault>
+        ensures answer { GivesEmission result (told self.new).state (closing (told self.old).law (told self.old).state) }
+        ensures kept { OnErr result ((told self.new).state ≡ (told self.old).state) }
+        ensures log { Logs result (told self.old).log (told self.new).log Call.Finished }
+        ensures law { (told self.new).law ≡ (told self.old).law }
+        ensures shape { (told self.new).shape ≡ (told self.old).shape };
+
+    /// The calls that it had, where it tells them, and otherwise none.
+    fn log(&self) -> &CallList
+        ensures { result.now ≡ shown_calls (told self.now).log };
+}
+
+impl Calculator for Box<dyn Calculator + Send> {
+    ghost told = { λ b. (Calculator-box b).told b.value };
+
+    fn shape(&self) -> &Shape {
+        (**self).shape()
+    }
+
+    fn law(&self) -> &Law {
+        (**self).law()
+    }
+
+    fn begin(&mut self, alloc: Global, sides: &GivenList) -> Result<Emission, CalcFault> {
+        (**self).begin(alloc, sides)
+    }
+
+    fn process(
+        &mut self,
+        alloc: Global,
+        at: Timestamp,
+        set: &InputSet,
+    ) -> Result<Emission, CalcFault> {
+        (**self).process(alloc, at, set)
+    }
+
+    fn finish(&mut self, alloc: Global) -> Result<Emission, CalcFault> {
+        (**self).finish(alloc)
+    }
+
+    fn log(&self) -> &CallList {
+        (**self).log()
+    }
+}
