@@ -1,6 +1,6 @@
 -- The law of each built-in calculator, by its ports and its options.
 use Rattle.std.specs.Borrow.{Bor}
-use Rattle.std.specs.Prelude.{ℕ, ◌^◌, List, [], ◌∷◌, Bool, true, false, ◌==◌, ℤ, pos, negsuc, ◌&&◌, int_le, Option, None, Some, option_map, option_and_then, if◌then◌else◌, codes, length, map}
+use Rattle.std.specs.Prelude.{ℕ, List, [], ◌∷◌, Bool, false, ◌==◌, ℤ, pos, ◌&&◌, Option, None, Some, option_map, option_and_then, if◌then◌else◌, codes, length, map}
 use Rattle.mg_text.specs.View.{Entry}
 use Rattle.mg_time.specs.Time.{pre_stream, post_stream, place_of}
 use Rattle.mg_value.specs.Plain.{Plain}
@@ -9,6 +9,7 @@ use Rattle.mg_config.specs.Config.{NodeView}
 use Rattle.mg_calc.specs.declared.law.Law.{Law}
 use Rattle.mg_calc.specs.declared.law.Law.TheVariants as law
 use Rattle.mg_calc.specs.declared.shape.Shape.{Shape}
+use Rattle.mg_calc.specs.Shape.{offset_of, is_stateless}
 use Rattle.mg_kinds.specs.declared.ports.Ports.{Ports}
 use Rattle.mg_kinds.specs.Options.{options_in, are_known, are_once, set_to}
 use Rattle.mg_kinds.specs.Values.{or_absent, required, positive, timestamp_number, call_count, operation_in, keep_in, is_absent_or, is_asynchronous, payloads_in}
@@ -129,37 +130,21 @@ settings_with kind node options =
 abbrev pub kind_settings : CalculatorKind → NodeView → Option SettingsView
 kind_settings kind node = option_and_then (settings_with kind node) (options_in node.calculator (entries node.options))
 
--- by how much the timestamps of outputs differ from those of inputs, where a law says so
-abbrev pub offset_of : Law → Option ℤ
-offset_of (law.Shift offset) = Some offset
-offset_of (law.Thin period) = None
-offset_of (law.Filter keep raise) = None
-offset_of (law.Count count start step) = None
-offset_of (law.SideOnce at) = None
-offset_of law.Constants = None
-offset_of law.Loopback = None
-offset_of (law.Scripted offset first steps last) = offset
-offset_of other = Some (pos 0)
-
--- whether several sets of a calculator may be worked on at once
-abbrev pub is_stateless : CalculatorKind → Bool
-is_stateless PassThrough = true
-is_stateless Gate = true
-is_stateless Mux = true
-is_stateless Merge = true
-is_stateless Sum = true
-is_stateless Map = true
-is_stateless Filter = true
-is_stateless Shift = true
-is_stateless kind = false
-
 -- what a calculator looks like at a node with these ports
-abbrev pub shape_with : CalculatorKind → List ℕ → Ports → Law → Shape
-shape_with kind name ports rule = record {
+abbrev pub shape_with : List ℕ → Ports → Law → Shape
+shape_with name ports rule = record {
   name = name;
   inputs = ports.inputs;
   outputs = ports.outputs;
   sides = ports.sides;
   offset = offset_of rule;
-  stateless = is_stateless kind;
+  stateless = is_stateless rule;
 }
+
+-- a node's options are none, but perhaps an empty message of its calculator
+abbrev pub are_none : Option (List Entry) → Bool
+are_none None = false
+are_none (Some options) = length options == 0
+
+abbrev pub has_no_options : NodeView → Bool
+has_no_options node = are_none (options_in node.calculator (entries node.options))

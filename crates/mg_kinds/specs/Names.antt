@@ -1,6 +1,7 @@
 -- The calculators that are built in, by their names (MediaPipe, Calculators; CountingSourceCalculator is this
 -- project's own).
 use Rattle.std.specs.Prelude.{ℕ, List, [], ◌∷◌, Option, None, Some, if◌then◌else◌, codes}
+use Rattle.std.specs.Option.{option_or}
 use Rattle.std.specs.Str.{bytes_eq}
 use Rattle.mg_kinds.specs.declared.kind.CalculatorKind.{CalculatorKind}
 use Rattle.mg_kinds.specs.declared.kind.CalculatorKind.TheVariants.{PassThrough, Gate, Mux, Cloner, Merge, Thinner, Sum, Map, Filter, Running, Shift, Counting, SideToStream, Constants, Loopback}
@@ -32,10 +33,6 @@ abbrev pub named_in : List NameRow → List ℕ → Option CalculatorKind
 named_in [] name = None
 named_in (r ∷ rows) name = if bytes_eq name r.name then Some r.kind else named_in rows name
 
-abbrev pub or_else : Option CalculatorKind → Option CalculatorKind → Option CalculatorKind
-or_else None other = other
-or_else (Some kind) other = Some kind
-
 -- the kind of a calculator, by its name
 abbrev pub kind_named : List ℕ → Option CalculatorKind
-kind_named name = or_else (named_in passing name) (or_else (named_in reckoning name) (named_in beginning name))
+kind_named name = option_or (option_or (named_in passing name) (named_in reckoning name)) (named_in beginning name)

@@ -1,5 +1,5 @@
 -- The options of a node: what its calculator is told by the fields of its options message.
-use Rattle.std.specs.Prelude.{ℕ, List, [], ◌∷◌, ◌++◌, Bool, ◌&&◌, ◌||◌, nat_le, Option, None, Some, option_map, option_and_then, if◌then◌else◌, codes, count_by}
+use Rattle.std.specs.Prelude.{ℕ, List, [], ◌∷◌, ◌++◌, Bool, ◌||◌, nat_le, Option, None, Some, option_map, option_and_then, if◌then◌else◌, codes, count_by}
 use Rattle.std.specs.List.{list_all}
 use Rattle.std.specs.Str.{bytes_eq}
 use Rattle.mg_text.specs.View.{Value, simple, inner, Entry}

@@ -1,22 +1,12 @@
 -- Ports in order: by tag, in byte order and the empty tag first, and then by index.
-use Rattle.std.specs.Prelude.{ℕ, List, [], ◌∷◌, fold, map}
+use Rattle.std.specs.Prelude.{List, [], ◌∷◌, fold}
 use Rattle.std.specs.declared.cmp.Ordering.{Ordering}
 use Rattle.std.specs.declared.cmp.Ordering.TheVariants.{Less, Equal, Greater}
-use Rattle.std.specs.Ordering.{nat_cmp}
-use Rattle.std.specs.Cmp.Lexicographic.{slice_cmp}
 use Rattle.mg_value.specs.declared.kind.Kind.TheVariants.{Any}
 use Rattle.mg_names.specs.declared.port.Port.{Port}
 use Rattle.mg_calc.specs.declared.port_kind.PortKind.{PortKind}
+use Rattle.mg_calc.specs.Shape.{port_cmp}
 use Rattle.mg_kinds.specs.Ports.{port}
-
--- the order of two ports, where the order of their tags is known
-abbrev pub by_tag : Ordering → ℕ → ℕ → Ordering
-by_tag Less index other = Less
-by_tag Equal index other = nat_cmp index other
-by_tag Greater index other = Greater
-
-abbrev pub port_cmp : PortKind → PortKind → Ordering
-port_cmp p q = by_tag (slice_cmp nat_cmp p.tag q.tag) p.index q.index
 
 abbrev pub put_by : Ordering → PortKind → PortKind → List PortKind → List PortKind → List PortKind
 put_by Less p q ports more = p ∷ q ∷ ports
@@ -33,4 +23,4 @@ abbrev pub any_port : Port → PortKind
 any_port p = port p.tag Any p.index
 
 abbrev pub in_order : List Port → List PortKind
-in_order ports = fold put_in_order [] (map any_port ports)
+in_order ports = fold (λ done p. put_in_order done (any_port p)) [] ports

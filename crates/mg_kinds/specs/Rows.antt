@@ -1,5 +1,5 @@
 -- The ports of each built-in calculator.
-use Rattle.std.specs.Prelude.{ℕ, ◌-◌, List, [], ◌∷◌, Bool, true, false, not, ◌&&◌, ◌==◌, Option, None, Some, option_map, option_and_then, if◌then◌else◌, length, codes}
+use Rattle.std.specs.Prelude.{ℕ, ◌-◌, List, [], Bool, not, ◌&&◌, ◌==◌, Option, None, Some, option_map, option_and_then, if◌then◌else◌, length}
 use Rattle.mg_value.specs.declared.kind.Kind.{Kind}
 use Rattle.mg_value.specs.declared.kind.Kind.TheVariants.{Any, Flag, Int}
 use Rattle.mg_names.specs.Ports.{has_port}

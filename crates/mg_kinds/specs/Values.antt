@@ -1,11 +1,11 @@
 -- What the values of options say, if they say it.
 use Rattle.std.specs.Prelude.{ℕ, ◌^◌, ◌-◌, List, [], ◌∷◌, Bool, true, ◌&&◌, int_le, ℤ, pos, negsuc, Option, None, Some, option_map, option_and_then, if◌then◌else◌, codes}
 use Rattle.std.specs.Str.{bytes_eq}
-use Rattle.mg_text.specs.Tree.{word, number, quoted}
+use Rattle.mg_text.specs.Tree.{word, quoted}
 use Rattle.mg_text.specs.View.{Value, simple, inner, Entry}
 use Rattle.mg_time.specs.Time.{raw_of, least, greatest}
 use Rattle.mg_value.specs.Plain.{Plain, flag, int, text}
-use Rattle.mg_config.specs.Values.{entries, has_name, values_of, long_number_in_value, truth_in_value}
+use Rattle.mg_config.specs.Values.{entries, has_name, long_number_in_value, truth_in_value}
 use Rattle.mg_calc.specs.declared.law.MapOp.{MapOp}
 use Rattle.mg_calc.specs.declared.law.MapOp.TheVariants.{Add, Subtract, Multiply}
 use Rattle.mg_calc.specs.declared.law.Keep.{Keep}

@@ -8,7 +8,9 @@ use crate::kind::CalculatorKind;
 use crate::options::set_to;
 use crate::rows::{disallows, lanes_of, moment_of};
 use crate::tag::Tag;
-use crate::value::{call_count, is_asynchronous, keep_in, operation_in, positive, timestamp_number};
+use crate::value::{
+    call_count, is_asynchronous, keep_in, operation_in, positive, timestamp_number,
+};
 use mg_calc::Law;
 use mg_config::{NodeConfig, long_number_in_value, truth_in_value};
 use mg_text::Field;

@@ -18,5 +18,5 @@ mod word;
 
 pub use kind::{CalculatorKind, kind_named};
 pub use ports::{Ports, has_just, kind_ports};
-pub use settings::{Settings, kind_settings};
-pub use shape::{is_stateless, shape_of};
+pub use settings::{Settings, has_no_options, kind_settings};
+pub use shape::shape_of;

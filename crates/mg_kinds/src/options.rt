@@ -27,12 +27,18 @@ fn own_names(alloc: Global, calculator: &str) -> Result<OwnNames, AllocError>
     Ok(OwnNames { extension, any })
 }
 
+fn is_own(names: &OwnNames, name: &[u8]) -> bool
+    ensures { (calculator : List ℕ) → AreOwn names.now calculator → result ≡ rules.is_own calculator name.now }
+{
+    is(name, names.extension.as_bytes()) || is(name, names.any.as_bytes())
+}
+
 /// The fields of a field that is a calculator's own options message.
+#[tactic(auto, using(crate::proofs::OwnFields::own_message, crate::proofs::OwnFields::other_name))]
 fn own_fields<'a>(names: &OwnNames, field: &'a Field) -> Option<&'a [Field]>
     ensures { (calculator : List ℕ) → AreOwn names.now calculator → option_map (λ list. map field_view list.now) result ≡ rules.own_fields calculator (field_view field.now) }
 {
-    let name = field.name.as_bytes();
-    if !is(name, names.extension.as_bytes()) && !is(name, names.any.as_bytes()) {
+    if !is_own(names, field.name.as_bytes()) {
         return None;
     }
     match &field.value {
@@ -52,6 +58,7 @@ fn append<'a>(out: &mut Vec<&'a Field>, fields: &'a [Field]) -> Result<(), Alloc
 }
 
 /// The options that stand in these fields, if these are nothing but the calculator's own messages.
+#[tactic(auto, using(crate::proofs::OwnFields::options_step, crate::proofs::OwnFields::options_other, crate::proofs::OwnFields::options_end))]
 pub fn options_in<'a>(
     alloc: Global,
     calculator: &str,
@@ -70,21 +77,29 @@ pub fn options_in<'a>(
     Ok(Some(out))
 }
 
-#[tactic(auto, using(crate::proofs::Lists::one_of_any))]
+#[tactic(auto, using(crate::proofs::Lists::one_here, crate::proofs::Lists::one_skip, crate::proofs::Lists::one_none))]
 fn is_one_of(names: &[&str], name: &[u8]) -> bool
     ensures { result ≡ among (names_of names.now) name.now }
 {
-    names.iter().any(|word| is(name, word.as_bytes()))
+    for word in names {
+        if is(name, word.as_bytes()) {
+            return true;
+        }
+    }
+    false
 }
 
 /// Whether each option has one of these names.
-#[tactic(auto, using(crate::proofs::Lists::known_all))]
+#[tactic(auto, using(crate::proofs::Lists::known_not, crate::proofs::Lists::known_next, crate::proofs::Lists::known_end))]
 pub fn are_known(names: &[&str], options: &[&Field]) -> bool
     ensures { result ≡ rules.are_known (names_of names.now) (fields_of options.now) }
 {
-    options
-        .iter()
-        .all(|option| is_one_of(names, option.name.as_bytes()))
+    for option in options {
+        if !is_one_of(names, option.name.as_bytes()) {
+            return false;
+        }
+    }
+    true
 }
 
 fn has_name(field: &Field, name: &str) -> bool
@@ -104,11 +119,16 @@ fn count_of(name: &str, options: &[&Field]) -> usize
 }
 
 /// Whether none of these names stands twice.
-#[tactic(auto, using(crate::proofs::Lists::once_all))]
+#[tactic(auto, using(crate::proofs::Lists::once_not, crate::proofs::Lists::once_next, crate::proofs::Lists::once_end))]
 pub fn are_once(names: &[&str], options: &[&Field]) -> bool
     ensures { result ≡ rules.are_once (names_of names.now) (fields_of options.now) }
 {
-    names.iter().all(|name| count_of(name, options) <= 1)
+    for name in names {
+        if count_of(name, options) > 1 {
+            return false;
+        }
+    }
+    true
 }
 
 /// What an option is set to, if it is set.

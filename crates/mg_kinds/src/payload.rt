@@ -45,19 +45,27 @@ fn payload_of(alloc: Global, field: &Field) -> Result<Option<Payload>, AllocErro
     }
 }
 
+fn only_payload(alloc: Global, fields: &[Field]) -> Result<Option<Payload>, AllocError>
+    ensures { IfOk result (λ found. option_map plain found ≡ values.payload_by (map field_view fields.now)) }
+{
+    if fields.len() == 1 {
+        payload_of(alloc, &fields[0])
+    } else {
+        Ok(None)
+    }
+}
+
 fn payload_in(alloc: Global, value: &TreeValue) -> Result<Option<Payload>, AllocError>
     ensures { IfOk result (λ found. option_map plain found ≡ values.payload_in (value_view value.now)) }
 {
     match value {
-        TreeValue::Message(tree) => match tree.as_slice() {
-            [field] => payload_of(alloc, field),
-            _ => Ok(None),
-        },
+        TreeValue::Message(tree) => only_payload(alloc, tree.as_slice()),
         TreeValue::Scalar(_) => Ok(None),
     }
 }
 
 /// The payload of each option's value.
+#[tactic(auto, using(crate::proofs::Payloads::payloads_step, crate::proofs::Payloads::payloads_other, crate::proofs::Payloads::payloads_end))]
 pub fn payloads_in(
     alloc: Global,
     options: &[&Field],

@@ -3,7 +3,7 @@ ghost use Rattle.mg_config.specs.Config.{node_view};
 ghost use Rattle.mg_kinds.specs.Ports as table;
 ghost use Rattle.mg_kinds.specs.Rows as rows;
 ghost use Rattle.std.specs.List.{list_all};
-ghost use Rattle.mg_names.specs.Ports.{has_port};
+ghost use Rattle.mg_names.specs.Ports.{has_port as has_it};
 
 use crate::kind::CalculatorKind;
 use crate::port_order::in_order;
@@ -23,15 +23,20 @@ pub struct Ports {
     pub sides: PortKindList,
 }
 
-fn has_all(ports: &PortMap, wanted: &[PortKind]) -> bool
-    ensures { result ≡ list_all (λ p. has_port p.tag p.index ports.now) wanted.now }
+/// Whether a node has a port.
+#[tactic(auto, using(crate::proofs::PortLists::has_place))]
+pub fn has_port(ports: &PortMap, tag: &[u8], index: u8) -> bool
+    ensures { result ≡ has_it tag.now index ports.now }
 {
-    for port in wanted {
-        if ports.find(port.tag.as_bytes(), port.index).is_none() {
-            return false;
-        }
-    }
-    true
+    ports.find(tag, index).is_some()
+}
+
+fn has_all(ports: &PortMap, wanted: &[PortKind]) -> bool
+    ensures { result ≡ list_all (λ p. has_it p.tag p.index ports.now) wanted.now }
+{
+    wanted
+        .iter()
+        .all(|port| has_port(ports, port.tag.as_bytes(), port.index))
 }
 
 /// Whether a node has just these ports.

@@ -1,6 +1,7 @@
 ghost use Rattle.std.specs.Prelude.{◌≡◌, ◌≤◌, [], ◌∷◌, ◌++◌, IfOk, OnOk};
 ghost use Rattle.mg_names.specs.Grammar.{index_count};
 ghost use Rattle.mg_kinds.specs.Ports as ports;
+ghost use Rattle.mg_calc.specs.Shape as shape;
 ghost use Rattle.mg_kinds.specs.Tags.{tag_text};
 
 use crate::tag::Tag;
@@ -38,6 +39,7 @@ fn put_port(
     Ok(())
 }
 
+#[tactic(auto, using(crate::proofs::PortLists::one_more_port))]
 fn put_ports(
     alloc: Global,
     out: &mut Vec<PortKind>,
@@ -46,7 +48,7 @@ fn put_ports(
     count: u32,
 ) -> Result<(), AllocError>
     requires { count ≤ index_count }
-    ensures { OnOk result (out.new.items ≡ out.old.items ++ ports.ports_of (tag_text tag) kind count) }
+    ensures { OnOk result (out.new.items ≡ out.old.items ++ shape.ports (tag_text tag) count kind) }
 {
     for index in 0..count {
         put_port(alloc, out, tag, kind, index as u8)?;

@@ -1,11 +1,12 @@
 //! The table of ports.
 ghost use Rattle.std.specs.Prelude.{◌≡◌};
 ghost use Rattle.mg_config.specs.Config.{node_view};
-ghost use Rattle.mg_names.specs.Ports.{has_port};
+ghost use Rattle.mg_names.specs.Ports.{has_port as has_it};
 ghost use Rattle.mg_kinds.specs.Rows as rows;
 ghost use Rattle.mg_kinds.specs.Tags.{tag_text};
 
 use crate::kind::CalculatorKind;
+use crate::ports::has_port;
 use crate::row::{LastPort, Row};
 use crate::tag::Tag;
 use mg_config::NodeConfig;
@@ -13,9 +14,9 @@ use mg_names::PortMap;
 use mg_value::Kind;
 
 fn has_tag(ports: &PortMap, tag: Tag) -> bool
-    ensures { result ≡ has_port (tag_text tag) 0 ports.now }
+    ensures { result ≡ has_it (tag_text tag) 0 ports.now }
 {
-    ports.find(tag.text().as_bytes(), 0).is_some()
+    has_port(ports, tag.text().as_bytes(), 0)
 }
 
 fn many(tag: Tag, kind: Kind, count: u32) -> Row
@@ -95,7 +96,13 @@ pub fn inputs_of(kind: CalculatorKind, node: &NodeConfig) -> Row
     let lanes = lanes_of(kind, node);
     match kind {
         CalculatorKind::Gate => {
-            many_and(Tag::Untagged, Kind::Any, lanes, control_of(node), Kind::Flag)
+            many_and(
+                Tag::Untagged,
+                Kind::Any,
+                lanes,
+                control_of(node),
+                Kind::Flag,
+            )
         }
         CalculatorKind::Mux => many_and(Tag::Input, Kind::Any, lanes, Tag::Select, Kind::Int),
         CalculatorKind::Cloner => many_and(Tag::Untagged, Kind::Any, lanes, Tag::Tick, Kind::Any),

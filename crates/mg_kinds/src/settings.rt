@@ -1,6 +1,8 @@
 ghost use Rattle.std.specs.Prelude.{◌≡◌, IfOk, option_map};
 ghost use Rattle.mg_config.specs.Config.{node_view};
+ghost use Rattle.mg_config.specs.Values.{entries};
 ghost use Rattle.mg_kinds.specs.Laws as laws;
+ghost use Rattle.mg_kinds.specs.Options as rules;
 ghost use Rattle.mg_kinds.specs.SettingsView.{settings_view};
 ghost use Rattle.mg_kinds.specs.Views.{fields_of, plain_of};
 
@@ -94,6 +96,15 @@ fn settings_with(
     Ok(Some(Settings { law, constants }))
 }
 
+fn node_options<'a>(
+    alloc: Global,
+    node: &'a NodeConfig,
+) -> Result<Option<Vec<&'a Field>>, AllocError>
+    ensures { IfOk result (λ found. option_map (λ list. fields_of list.items) found ≡ rules.options_in (node_view node.now).calculator (entries (node_view node.now).options)) }
+{
+    options_in(alloc, node.calculator.as_str(), node.options.as_slice())
+}
+
 /// What the options of a node set, or nothing where they aren't those of its calculator.
 pub fn kind_settings(
     alloc: Global,
@@ -102,9 +113,18 @@ pub fn kind_settings(
 ) -> Result<Option<Settings>, AllocError>
     ensures { IfOk result (λ found. option_map settings_view found ≡ laws.kind_settings kind (node_view node.now)) }
 {
-    let fields = node.options.as_slice();
-    let Some(options) = options_in(alloc, node.calculator.as_str(), fields)? else {
+    let Some(options) = node_options(alloc, node)? else {
         return Ok(None);
     };
     settings_with(alloc, kind, node, options.as_slice())
+}
+
+/// Whether a node has no options for its calculator.
+pub fn has_no_options(alloc: Global, node: &NodeConfig) -> Result<bool, AllocError>
+    ensures { IfOk result (λ none. none ≡ laws.has_no_options (node_view node.now)) }
+{
+    match node_options(alloc, node)? {
+        Some(options) => Ok(options.is_empty()),
+        None => Ok(false),
+    }
 }

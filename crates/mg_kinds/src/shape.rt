@@ -1,31 +1,31 @@
 ghost use Rattle.std.specs.Prelude.{◌≡◌, IfOk};
+ghost use Rattle.mg_calc.specs.Shape as shape;
 ghost use Rattle.mg_kinds.specs.Laws as laws;
 
-use crate::kind::CalculatorKind;
 use crate::ports::Ports;
 use mg_calc::{Law, Shape};
 use mg_value::MgText;
 use std::alloc::{AllocError, Global};
 
-/// Whether several sets of a calculator may be worked on at once.
-pub fn is_stateless(kind: CalculatorKind) -> bool
-    ensures { result ≡ laws.is_stateless kind }
+/// Whether several sets of a law may be worked on at once.
+fn is_stateless(law: &Law) -> bool
+    ensures { result ≡ shape.is_stateless law.now }
 {
-    matches!(
-        kind,
-        CalculatorKind::PassThrough
-            | CalculatorKind::Gate
-            | CalculatorKind::Mux
-            | CalculatorKind::Merge
-            | CalculatorKind::Sum
-            | CalculatorKind::Map
-            | CalculatorKind::Filter
-            | CalculatorKind::Shift
-    )
+    match law {
+        Law::Pass
+        | Law::Gate { .. }
+        | Law::Mux { .. }
+        | Law::Merge { .. }
+        | Law::Sum { .. }
+        | Law::Map { .. }
+        | Law::Filter { .. }
+        | Law::Shift { .. } => true,
+        _ => false,
+    }
 }
 
 fn offset_of(law: &Law) -> Option<i64>
-    ensures { result ≡ laws.offset_of law.now }
+    ensures { result ≡ shape.offset_of law.now }
 {
     match law {
         Law::Shift { offset } => Some(*offset),
@@ -40,15 +40,10 @@ fn offset_of(law: &Law) -> Option<i64>
     }
 }
 
-/// What a calculator looks like at a node with these ports.
-pub fn shape_of(
-    alloc: Global,
-    kind: CalculatorKind,
-    name: &MgText,
-    ports: Ports,
-    law: &Law,
-) -> Result<Shape, AllocError>
-    ensures { IfOk result (λ shape. shape ≡ laws.shape_with kind name.now ports law.now) }
+/// What a calculator of a law looks like at a node with these ports (MediaPipe, Calculators: the contract of a
+/// calculator).
+pub fn shape_of(alloc: Global, name: &MgText, ports: Ports, law: &Law) -> Result<Shape, AllocError>
+    ensures { IfOk result (λ made. made ≡ laws.shape_with name.now ports law.now) }
 {
     let Ports {
         inputs,
@@ -61,6 +56,6 @@ pub fn shape_of(
         outputs,
         sides,
         offset: offset_of(law),
-        stateless: is_stateless(kind),
+        stateless: is_stateless(law),
     })
 }

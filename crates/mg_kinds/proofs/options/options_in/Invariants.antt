@@ -1,7 +1,6 @@
 use Rattle.std.proofs.Common.{◌≡◌, ◌++◌, drop, map}
 use Rattle.std.specs.Prelude.{option_map}
 use Rattle.mg_text.specs.View.{field_view}
-use Rattle.mg_kinds.specs.Code.Own.{AreOwn}
 use Rattle.mg_kinds.specs.Options.{options_in}
 use Rattle.mg_kinds.specs.Views.{fields_of}
 use Rattle.mg_kinds.proofs.options.options_in.Given as goal
