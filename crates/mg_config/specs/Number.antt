@@ -35,6 +35,13 @@ number_of (first ∷ rest) =
     if first == 45 then option_map (λ n. neg_ℤ (pos n)) (magnitude (2 ^ 31) rest)
     else option_map (λ n. pos n) (magnitude (2 ^ 31 - 1) (first ∷ rest))
 
+-- a number in the range of 64 signed bits
+abbrev pub long_number_of : List ℕ → Option ℤ
+long_number_of [] = None
+long_number_of (first ∷ rest) =
+    if first == 45 then option_map (λ n. neg_ℤ (pos n)) (magnitude (2 ^ 63) rest)
+    else option_map (λ n. pos n) (magnitude (2 ^ 63 - 1) (first ∷ rest))
+
 -- one of the words
 abbrev pub is_one_of : List (List ℕ) → List ℕ → Bool
 is_one_of [] text = false

@@ -3,7 +3,7 @@ use Rattle.std.specs.Prelude.{ℕ, List, [], ◌∷◌, Bool, false, ℤ, pos, O
 use Rattle.std.specs.Str.{bytes_eq}
 use Rattle.mg_text.specs.Tree.{word, number, quoted, Fields, none, scalar, message, append}
 use Rattle.mg_text.specs.View.{Value, simple, inner, Entry}
-use Rattle.mg_config.specs.Number.{number_of, truth_of_word, truth_of_number}
+use Rattle.mg_config.specs.Number.{number_of, long_number_of, truth_of_word, truth_of_number}
 
 abbrev pub entry : List ℕ → Value → Entry
 entry name value = record { name = name; value = value }
@@ -46,6 +46,11 @@ texts_in name fields = map text_of_value (values_of name fields)
 abbrev pub number_in_value : Value → Option ℤ
 number_in_value (simple number bytes) = number_of bytes
 number_in_value value = None
+
+-- a number in the wider range that options have
+abbrev pub long_number_in_value : Value → Option ℤ
+long_number_in_value (simple number bytes) = long_number_of bytes
+long_number_in_value value = None
 
 abbrev pub number_of_first : Option Value → ℤ
 number_of_first None = pos 0

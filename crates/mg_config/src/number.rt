@@ -22,16 +22,16 @@ fn digit_of(byte: u8, base: u32) -> Option<u32>
 }
 
 /// A number with one digit more.
-fn appended(base: u32, value: u32, digit: u32) -> u64
+fn appended(base: u32, value: u64, digit: u32) -> u128
     requires base { base ≤ 16 }
     requires digit { digit < 16 }
     ensures { result ≡ value * base + digit }
 {
-    u64::from(value) * u64::from(base) + u64::from(digit)
+    u128::from(value) * u128::from(base) + u128::from(digit)
 }
 
 /// The number that digits of a base spell, if it is at most a bound.
-fn value_in(base: u32, most: u32, digits: &[u8]) -> Option<u32>
+fn value_in(base: u32, most: u64, digits: &[u8]) -> Option<u64>
     requires base { base ≤ 16 }
     requires some { 1 ≤ base }
     ensures value { result ≡ number.value_in base most digits.now }
@@ -40,21 +40,21 @@ fn value_in(base: u32, most: u32, digits: &[u8]) -> Option<u32>
     if digits.is_empty() {
         return None;
     }
-    let mut value: u32 = 0;
+    let mut value: u64 = 0;
     for byte in digits {
         let digit = digit_of(*byte, base)?;
         let more = appended(base, value, digit);
-        if more > u64::from(most) {
+        if more > u128::from(most) {
             return None;
         }
-        value = more as u32;
+        value = more as u64;
     }
     Some(value)
 }
 
 /// The number that a text without a sign spells, in decimal, after `0x` in hexadecimal or after `0` in octal, if it
 /// is at most a bound.
-fn magnitude(most: u32, text: &[u8]) -> Option<u32>
+fn magnitude(most: u64, text: &[u8]) -> Option<u64>
     ensures value { result ≡ number.magnitude most text.now }
     ensures bound { IfSome result (λ value. value ≤ most) }
 {
@@ -73,11 +73,27 @@ pub fn number_of(text: &[u8]) -> Option<i32>
     match text {
         [b'-', rest @ ..] => {
             let size = magnitude(1 << 31, rest)?;
-            Some((-i64::from(size)) as i32)
+            Some((-(size as i64)) as i32)
         }
         _ => {
             let size = magnitude((1 << 31) - 1, text)?;
             Some(size as i32)
+        }
+    }
+}
+
+/// The number that a text spells, in the range of 64 signed bits.
+pub fn long_number_of(text: &[u8]) -> Option<i64>
+    ensures { result ≡ number.long_number_of text.now }
+{
+    match text {
+        [b'-', rest @ ..] => {
+            let size = magnitude(1 << 63, rest)?;
+            Some((-i128::from(size)) as i64)
+        }
+        _ => {
+            let size = magnitude((1 << 63) - 1, text)?;
+            Some(size as i64)
         }
     }
 }

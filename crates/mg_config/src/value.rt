@@ -4,7 +4,7 @@ ghost use Rattle.mg_text.specs.View.{value_view, field_view, fields_view};
 ghost use Rattle.mg_config.specs.Values as values;
 ghost use Rattle.mg_config.specs.Faults as faults;
 
-use crate::number::{number_of, truth_of_number, truth_of_word};
+use crate::number::{long_number_of, number_of, truth_of_number, truth_of_word};
 use crate::schema::Shape;
 use mg_text::{Field, Scalar, TreeValue};
 use mg_value::MgText;
@@ -31,7 +31,18 @@ fn number_in_value(value: &TreeValue) -> Option<i32>
     }
 }
 
-fn truth_in_value(value: &TreeValue) -> Option<bool>
+/// The number of a value, in the range of 64 signed bits (Protocol Buffers text format: numeric literals).
+pub fn long_number_in_value(value: &TreeValue) -> Option<i64>
+    ensures { result ≡ values.long_number_in_value (value_view value.now) }
+{
+    match value {
+        TreeValue::Scalar(Scalar::Number(text)) => long_number_of(text.as_bytes()),
+        _ => None,
+    }
+}
+
+/// The truth value of a value (Protocol Buffers text format: the values of Boolean fields).
+pub fn truth_in_value(value: &TreeValue) -> Option<bool>
     ensures { result ≡ values.truth_in_value (value_view value.now) }
 {
     match value {

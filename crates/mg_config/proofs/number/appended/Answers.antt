@@ -2,7 +2,7 @@ use Rattle.std.proofs.Common.{ℕ, ◌≡◌, ◌≤◌, ◌<◌, ◌*◌, ◌+�
 use Rattle.std.proofs.Math.Nat.{mul-le-mul_left}
 use Rattle.mg_config.proofs.number.appended.Goals as goal
 
-fits : (base value digit a b d : ℕ) → base ≤ 16 → digit < 16 → value < 2 ^ 32 → a ≡ value → b ≡ base → d ≡ digit → a * b + d < 2 ^ 64
+fits : (base value digit a b d : ℕ) → base ≤ 16 → digit < 16 → value < 2 ^ 64 → a ≡ value → b ≡ base → d ≡ digit → a * b + d < 2 ^ 128
 fits base value digit a b d small low range p q r =
     let h = mul-le-mul_left value small in
     let e : a * b ≡ value * base = ap (λ x. x * b) p ∙ ap (λ x. value * x) q in

@@ -1,0 +1,5 @@
+pub mod Lists
+pub mod OwnFields
+pub mod PortLists
+pub mod Payloads
+pub mod Sorted

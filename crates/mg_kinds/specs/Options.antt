@@ -1,0 +1,44 @@
+-- The options of a node: what its calculator is told by the fields of its options message.
+use Rattle.std.specs.Prelude.{ℕ, List, [], ◌∷◌, ◌++◌, Bool, ◌||◌, nat_le, Option, None, Some, option_map, option_and_then, if◌then◌else◌, codes, count_by}
+use Rattle.std.specs.List.{list_all}
+use Rattle.std.specs.Str.{bytes_eq}
+use Rattle.mg_text.specs.View.{Value, simple, inner, Entry}
+use Rattle.mg_config.specs.Number.{is_one_of}
+use Rattle.mg_config.specs.Values.{entries, has_name, values_of, first}
+
+-- the names of a calculator's options message, as an extension and as the type of an Any
+-- (Protocol Buffers text format: extension and Any field names)
+abbrev pub extension_name : List ℕ → List ℕ
+extension_name calculator = codes "[mediapipe." ++ calculator ++ codes "Options.ext]"
+
+abbrev pub any_name : List ℕ → List ℕ
+any_name calculator = codes "[type.googleapis.com/mediapipe." ++ calculator ++ codes "Options]"
+
+abbrev pub is_own : List ℕ → List ℕ → Bool
+is_own calculator name = bytes_eq name (extension_name calculator) || bytes_eq name (any_name calculator)
+
+-- the fields of a message; a scalar has none, not even an empty list
+abbrev pub fields_inside : Value → Option (List Entry)
+fields_inside (simple kind bytes) = None
+fields_inside (inner fields) = Some (entries fields)
+
+abbrev pub own_fields : List ℕ → Entry → Option (List Entry)
+own_fields calculator field = if is_own calculator field.name then fields_inside field.value else None
+
+-- the options that stand in these fields, which are nothing but the calculator's own messages
+abbrev pub options_in : List ℕ → List Entry → Option (List Entry)
+options_in calculator [] = Some []
+options_in calculator (field ∷ fields) =
+    option_and_then (λ own. option_map (λ more. own ++ more) (options_in calculator fields)) (own_fields calculator field)
+
+-- each option has one of these names
+abbrev pub are_known : List (List ℕ) → List Entry → Bool
+are_known names options = list_all (λ option. is_one_of names option.name) options
+
+-- none of these names stands twice
+abbrev pub are_once : List (List ℕ) → List Entry → Bool
+are_once names options = list_all (λ name. nat_le (count_by (has_name name) options) 1) names
+
+-- what an option is set to, if it is set
+abbrev pub set_to : List ℕ → List Entry → Option Value
+set_to name options = first (values_of name options)

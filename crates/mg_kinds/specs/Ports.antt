@@ -1,0 +1,35 @@
+-- Ports that a calculator has, and whether a node has just these.
+use Rattle.std.specs.Prelude.{ℕ, List, [], ◌∷◌, ◌++◌, Bool, ◌&&◌, ◌==◌, nat_le, Option, None, Some, if◌then◌else◌, length}
+use Rattle.std.specs.List.{list_all}
+use Rattle.mg_value.specs.declared.kind.Kind.{Kind}
+use Rattle.mg_names.specs.Grammar.{index_count}
+use Rattle.mg_names.specs.Ports.{has_port}
+use Rattle.mg_names.specs.declared.port.Port.{Port}
+use Rattle.mg_calc.specs.declared.port_kind.PortKind.{PortKind}
+use Rattle.mg_calc.specs.Shape.{ports}
+use Rattle.mg_kinds.specs.Tags.{tag_text}
+use Rattle.mg_kinds.specs.declared.row.Row.{Row}
+use Rattle.mg_kinds.specs.declared.row.LastPort.{LastPort}
+
+abbrev pub port : List ℕ → Kind → ℕ → PortKind
+port tag kind index = record { tag = tag; index = index; kind = kind }
+
+abbrev pub last_port : Option LastPort → List PortKind
+last_port None = []
+last_port (Some last) = port (tag_text last.tag) last.kind 0 ∷ []
+
+-- the ports of a row: so many of one tag, and after them perhaps one of another
+abbrev pub ports_in : Row → List PortKind
+ports_in row = ports (tag_text row.tag) row.count row.kind ++ last_port row.last
+
+-- ports with just these tags and indexes, where none of them stands twice
+abbrev pub has_just : List Port → List PortKind → Bool
+has_just given wanted = (length given == length wanted) && list_all (λ p. has_port p.tag p.index given) wanted
+
+-- ports with just those of a row. No tag has more ports than there are indexes.
+abbrev pub has_row : List Port → Row → Bool
+has_row given row = nat_le row.count index_count && has_just given (ports_in row)
+
+-- the ports of a row, if a node has just these
+abbrev pub fitting : List Port → Row → Option (List PortKind)
+fitting given row = if has_row given row then Some (ports_in row) else None

@@ -1,0 +1,7 @@
+-- What settings stand for.
+use Rattle.mg_kinds.specs.Laws.{SettingsView}
+use Rattle.mg_kinds.specs.Views.{plain_of}
+use Rattle.mg_kinds.specs.declared.settings.Settings.{Settings}
+
+abbrev pub settings_view : Settings → SettingsView
+settings_view settings = record { law = settings.law; constants = plain_of settings.constants.items }

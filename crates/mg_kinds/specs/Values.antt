@@ -1,0 +1,105 @@
+-- What the values of options say, if they say it.
+use Rattle.std.specs.Prelude.{ℕ, ◌^◌, ◌-◌, List, [], ◌∷◌, Bool, true, ◌&&◌, int_le, ℤ, pos, negsuc, Option, None, Some, option_map, option_and_then, if◌then◌else◌, codes}
+use Rattle.std.specs.Str.{bytes_eq}
+use Rattle.mg_text.specs.Tree.{word, quoted}
+use Rattle.mg_text.specs.View.{Value, simple, inner, Entry}
+use Rattle.mg_time.specs.Time.{raw_of, least, greatest}
+use Rattle.mg_value.specs.Plain.{Plain, flag, int, text}
+use Rattle.mg_config.specs.Values.{entries, has_name, long_number_in_value, truth_in_value}
+use Rattle.mg_calc.specs.declared.law.MapOp.{MapOp}
+use Rattle.mg_calc.specs.declared.law.MapOp.TheVariants.{Add, Subtract, Multiply}
+use Rattle.mg_calc.specs.declared.law.Keep.{Keep}
+use Rattle.mg_calc.specs.declared.law.Keep.TheVariants.{Even, Odd, Negative, NonNegative}
+
+-- an option that may be absent, and one that is required
+abbrev pub or_absent : {A : Type 0} → A → (Value → Option A) → Option Value → Option A
+or_absent absent read None = Some absent
+or_absent absent read (Some value) = read value
+
+abbrev pub required : {A : Type 0} → (Value → Option A) → Option Value → Option A
+required read value = option_and_then read value
+
+-- a number from a low one to a high one, in the range of 64 signed bits
+abbrev pub between : ℤ → ℤ → ℤ → Option ℤ
+between low high n = if int_le low n && int_le n high then Some n else None
+
+abbrev pub number_between : ℤ → ℤ → Value → Option ℤ
+number_between low high value = option_and_then (between low high) (long_number_in_value value)
+
+-- a number from 1 to 2^63 - 1, and a number of the timestamps' range
+abbrev pub highest : ℤ
+highest = pos (2 ^ 63 - 1)
+
+abbrev pub positive : Value → Option ℤ
+positive value = number_between (pos 1) highest value
+
+abbrev pub timestamp_number : Value → Option ℤ
+timestamp_number value = number_between (raw_of least) (raw_of greatest) value
+
+-- how many calls a counting source may have
+abbrev pub most_calls : ℤ
+most_calls = pos 1000000
+
+abbrev pub natural : ℤ → ℕ
+natural (pos n) = n
+natural (negsuc n) = 0
+
+abbrev pub call_count : Value → Option ℕ
+call_count value = option_map natural (number_between (pos 0) most_calls value)
+
+-- a word
+abbrev pub word_in : Value → List ℕ
+word_in (simple word bytes) = bytes
+word_in value = []
+
+abbrev pub operation_named : List ℕ → Option MapOp
+operation_named name =
+    if bytes_eq name (codes "ADD") then Some Add
+    else (if bytes_eq name (codes "SUBTRACT") then Some Subtract
+    else (if bytes_eq name (codes "MULTIPLY") then Some Multiply else None))
+
+abbrev pub operation_in : Value → Option MapOp
+operation_in value = operation_named (word_in value)
+
+abbrev pub keep_named : List ℕ → Option Keep
+keep_named name =
+    if bytes_eq name (codes "EVEN") then Some Even
+    else (if bytes_eq name (codes "ODD") then Some Odd
+    else (if bytes_eq name (codes "NEGATIVE") then Some Negative
+    else (if bytes_eq name (codes "NON_NEGATIVE") then Some NonNegative else None)))
+
+abbrev pub keep_in : Value → Option Keep
+keep_in value = keep_named (word_in value)
+
+-- the one way in which packets are thinned
+abbrev pub is_asynchronous : Value → Bool
+is_asynchronous value = bytes_eq (word_in value) (codes "ASYNC")
+
+abbrev pub is_absent_or : (Value → Bool) → Option Value → Bool
+is_absent_or test None = true
+is_absent_or test (Some value) = test value
+
+-- a text
+abbrev pub text_in_value : Value → Option (List ℕ)
+text_in_value (simple quoted bytes) = Some bytes
+text_in_value value = None
+
+-- a side packet that stands in the graph: a message with one field
+abbrev pub payload_of : Entry → Option Plain
+payload_of field =
+    if has_name (codes "int_value") field then option_map int (long_number_in_value field.value)
+    else (if has_name (codes "bool_value") field then option_map flag (truth_in_value field.value)
+    else (if has_name (codes "string_value") field then option_map text (text_in_value field.value) else None))
+
+abbrev pub payload_by : List Entry → Option Plain
+payload_by (field ∷ []) = payload_of field
+payload_by fields = None
+
+abbrev pub payload_in : Value → Option Plain
+payload_in (simple kind bytes) = None
+payload_in (inner fields) = payload_by (entries fields)
+
+-- one of each of the values
+abbrev pub payloads_in : List Value → Option (List Plain)
+payloads_in [] = Some []
+payloads_in (value ∷ values) = option_and_then (λ payload. option_map (λ payloads. payload ∷ payloads) (payloads_in values)) (payload_in value)

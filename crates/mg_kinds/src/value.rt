@@ -1,0 +1,88 @@
+//! What the values of options say.
+ghost use Rattle.std.specs.Prelude.{◌≡◌, ℤ, int_le, pos};
+ghost use Rattle.mg_text.specs.View.{value_view};
+ghost use Rattle.mg_kinds.specs.Values as values;
+
+use crate::word::is;
+use mg_calc::{Keep, MapOp};
+use mg_config::long_number_in_value;
+use mg_text::{Scalar, TreeValue};
+
+fn number_between(low: i64, high: i64, value: &TreeValue) -> Option<i64>
+    ensures { result ≡ values.number_between low high (value_view value.now) }
+{
+    let n = long_number_in_value(value)?;
+    if low <= n && n <= high { Some(n) } else { None }
+}
+
+/// A number above 0.
+pub fn positive(value: &TreeValue) -> Option<i64>
+    ensures { result ≡ values.positive (value_view value.now) }
+{
+    number_between(1, i64::MAX, value)
+}
+
+/// The number of a timestamp of the range.
+pub fn timestamp_number(value: &TreeValue) -> Option<i64>
+    ensures { result ≡ values.timestamp_number (value_view value.now) }
+{
+    number_between(i64::MIN + 3, i64::MAX - 3, value)
+}
+
+/// How many calls a counting source has.
+pub fn call_count(value: &TreeValue) -> Option<u32>
+    ensures { result ≡ values.call_count (value_view value.now) }
+{
+    let n = number_between(0, 1_000_000, value)?;
+    Some(n as u32)
+}
+
+fn word_in(value: &TreeValue) -> &[u8]
+    ensures { result.now ≡ values.word_in (value_view value.now) }
+{
+    match value {
+        TreeValue::Scalar(Scalar::Word(text)) => text.as_bytes(),
+        _ => b"",
+    }
+}
+
+/// What IntMapCalculator does.
+pub fn operation_in(value: &TreeValue) -> Option<MapOp>
+    ensures { result ≡ values.operation_in (value_view value.now) }
+{
+    let name = word_in(value);
+    if is(name, b"ADD") {
+        Some(MapOp::Add)
+    } else if is(name, b"SUBTRACT") {
+        Some(MapOp::Subtract)
+    } else if is(name, b"MULTIPLY") {
+        Some(MapOp::Multiply)
+    } else {
+        None
+    }
+}
+
+/// What IntFilterCalculator keeps.
+pub fn keep_in(value: &TreeValue) -> Option<Keep>
+    ensures { result ≡ values.keep_in (value_view value.now) }
+{
+    let name = word_in(value);
+    if is(name, b"EVEN") {
+        Some(Keep::Even)
+    } else if is(name, b"ODD") {
+        Some(Keep::Odd)
+    } else if is(name, b"NEGATIVE") {
+        Some(Keep::Negative)
+    } else if is(name, b"NON_NEGATIVE") {
+        Some(Keep::NonNegative)
+    } else {
+        None
+    }
+}
+
+/// Whether it is the one way in which PacketThinnerCalculator thins.
+pub fn is_asynchronous(value: &TreeValue) -> bool
+    ensures { result ≡ values.is_asynchronous (value_view value.now) }
+{
+    is(word_in(value), b"ASYNC")
+}
