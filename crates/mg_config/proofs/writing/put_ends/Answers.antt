@@ -1,4 +1,4 @@
-use Rattle.std.proofs.Common.{◌∙◌, ap, sym, ◌++◌, map, codes, rules, w32}
+use Rattle.std.proofs.Common.{◌∙◌, ap, ◌++◌, map, codes, rules, w32}
 use Rattle.std.proofs.lemmas.Int.{to_z-of_z}
 use mir.Val.{SFits}
 use Rattle.mg_text.specs.View.{field_view}
