@@ -169,7 +169,7 @@ beyond [] (e ∷ emission) (suc i) over = refl
 beyond (o ∷ outputs) (e ∷ emission) zero over = absurd (omega (arith, over))
 beyond (o ∷ outputs) (e ∷ emission) (suc i) over = ap (λ (rest : List (StreamPrefix Plain)). laid_on o e ∷ rest) (beyond outputs emission i (omega (arith, over)))
 
-laid_long : (outputs : List (StreamPrefix Plain)) (emission : List Laid) → length (all_laid_on outputs emission) ≡ length outputs
+pub laid_long : (outputs : List (StreamPrefix Plain)) (emission : List Laid) → length (all_laid_on outputs emission) ≡ length outputs
 laid_long outputs [] = refl
 laid_long [] (e ∷ emission) = refl
 laid_long (o ∷ outputs) (e ∷ emission) = ap (λ (n : ℕ). suc n) (laid_long outputs emission)

@@ -1,1 +1,2 @@
+pub mod OutcomeSteps
 pub mod LayingLemmas

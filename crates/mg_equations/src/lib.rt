@@ -3,6 +3,8 @@
 #![tactic(auto)]
 
 pub mod laying;
+pub mod node;
 pub mod outcome;
 pub mod output;
+pub mod round;
 

@@ -36,6 +36,16 @@ impl Output {
         }
     }
 
+    /// One with a prefix.
+    pub fn of_prefix(prefix: Prefix) -> Output
+        ensures { result ≡ prefix }
+    {
+        Output {
+            packets: prefix.packets.into_vec(),
+            bound: prefix.bound,
+        }
+    }
+
     /// The lowest timestamp that a further packet may have.
     pub fn bound(&self) -> Timestamp
         ensures { result ≡ self.now.bound }
