@@ -1,2 +1,3 @@
 pub mod OutcomeSteps
+pub mod RoundSteps
 pub mod LayingLemmas
