@@ -1,5 +1,5 @@
 -- What contracts say of a round that is made.
-use Rattle.std.specs.Prelude.{◌≡◌, ℕ, List, [], ◌∷◌, ◌++◌, option_map}
+use Rattle.std.specs.Prelude.{◌≡◌, ℕ, ◌==◌, ◌&&◌, Bool, not, List, [], ◌∷◌, ◌++◌, length, option_map}
 use Rattle.std.specs.Option.{option_to_list}
 use Rattle.mg_value.specs.Payload.{Plain}
 use Rattle.mg_value.specs.Prefix.{StreamPrefix}
@@ -19,3 +19,12 @@ pub record IsRoundOf (job : Job) (streams : List (StreamPrefix Plain)) (round : 
   pub next : round.streams.items ≡ next_round job streams
   pub sets : round.sets.items ≡ counts job streams
   pub faults : round.faults.items ≡ faults job streams
+
+-- whether streams of which each is extended by the next are other ones, by their lengths and bounds
+abbrev pub is_changed : StreamPrefix Plain → StreamPrefix Plain → Bool
+is_changed before now = not ((length before.packets == length now.packets) && (before.bound == now.bound))
+
+abbrev pub changes : List (StreamPrefix Plain) → List (StreamPrefix Plain) → List Bool
+changes [] now = []
+changes (s ∷ before) [] = []
+changes (s ∷ before) (t ∷ now) = is_changed s t ∷ changes before now

@@ -2,9 +2,11 @@
 //! (`specs/Laying.antt`, `specs/Outcome.antt`, `specs/Equations.antt` and `specs/Meaning.antt`).
 #![tactic(auto)]
 
-pub mod laying;
-pub mod node;
-pub mod outcome;
-pub mod output;
-pub mod round;
+mod laying;
+mod node;
+mod outcome;
+mod output;
+mod round;
+mod solving;
 
+pub use solving::{CountList, Streams, solve};
