@@ -1,9 +1,9 @@
 -- Whether a round changes its streams, and that the rounds come to an end.
-use Rattle.std.proofs.Common.{◌≡◌, ◌≢◌, ℕ, zero, suc, ◌+◌, ◌-◌, ◌^◌, ◌<◌, ◌≤◌, ◌==◌, ◌&&◌, ◌||◌, Bool, true, false, not, List, [], ◌∷◌, ◌++◌, append-nil, append_assoc, All, drop, get_or, length, length-append, replicate, Result, Ok, Err, IfOk, refl, sym, ap, ap₂, subst, ◌∙◌, arith, inl, inr, ◌⊎◌}
-use Rattle.std.specs.List.{AllByRecursion, list_any}
+use Rattle.std.proofs.Common.{◌≡◌, ◌≢◌, ℕ, zero, suc, ◌+◌, ◌-◌, ◌^◌, ◌<◌, ◌≤◌, ◌==◌, ◌&&◌, ◌||◌, Bool, true, false, not, List, [], ◌∷◌, ◌++◌, append-nil, append_assoc, All, map, drop, get_or, Option, Some, None, option_map, length, length-append, replicate, Result, Ok, Err, IfOk, refl, sym, ap, ap₂, subst, ◌∙◌, arith, inl, inr, ◌⊎◌}
+use Rattle.std.specs.List.{AllByRecursion, list_any, filter_map, cons_option, enumerate_from}
 use Rattle.std.proofs.lemmas.Bool.{cases_lt}
 use Rattle.std.proofs.lemmas.Bool.Decides.{nat_tests, eqb_tells}
-use Rattle.std.proofs.lemmas.List.{nil_from_length, length-replicate}
+use Rattle.std.proofs.lemmas.List.{nil_from_length, length-replicate, length-map}
 use Rattle.std.proofs.lemmas.List.Elements.{All-from_recursion, recursion_from_All}
 use Rattle.mg_time.specs.Time.{done, next, IsAllowed}
 use Rattle.mg_value.specs.Payload.{Plain}
@@ -11,16 +11,23 @@ use Rattle.mg_value.specs.Prefix.{Stamped, StreamPrefix, IsPrefix, Ascends, firs
 use Rattle.mg_value.specs.Extension.{IsExtendedBy, AreExtendedBy}
 use Rattle.mg_value.proofs.Extending.{same_prefix}
 use Rattle.mg_value.proofs.PrefixSteps.{next_above}
-use Rattle.mg_calc.specs.Equations.{Job, IsJob, next_round, round, MeetsEquations, IsSolution}
+use Rattle.mg_calc.specs.Equations.{Job, IsJob, outcome_of, next_round, round, MeetsEquations, IsSolution}
 use Rattle.mg_calc.proofs.Jobs.{any_state, job_known}
 use Rattle.mg_calc.proofs.Rounds.{equations_are_as_many}
 use Rattle.mg_calc.proofs.Solutions.{round_keeps, rounds_ascend}
+use Rattle.mg_calc.specs.declared.node_fault.NodeFault.{NodeFault}
+use Rattle.mg_calc.specs.declared.plan_node.PlanNode.{PlanNode}
+use Rattle.mg_calc.specs.Outcome.{Failure}
+use Rattle.mg_calc.specs.Meaning.{fault_of, faults}
+use Rattle.mg_equations.specs.declared.outcome.Failure.{Failure as CodeFailure}
+use Rattle.mg_equations.specs.declared.round.Round.{Round}
+use Rattle.mg_equations.specs.Seen.{fault_seen}
 use Rattle.mg_equations.specs.declared.solving.Streams.{Streams}
-use Rattle.mg_equations.specs.Rounds.{is_changed, changes}
+use Rattle.mg_equations.specs.Rounds.{is_changed, changes, numbered_fault, IsRoundOf, IsKnownFrom}
 use Rattle.mg_equations.proofs.LayingLemmas.{from_here, at_end}
 
 -- one stream
-unchanged_one : (s t : StreamPrefix Plain) → IsExtendedBy s t → is_changed s t ≡ false → s ≡ t
+pub unchanged_one : (s t : StreamPrefix Plain) → IsExtendedBy s t → is_changed s t ≡ false → s ≡ t
 unchanged_one s t e none =
     let long : length s.packets ≡ length t.packets = grind (arith, nat_tests, none) in
     let bound : s.bound ≡ t.bound = grind (arith, nat_tests, none) in
@@ -43,7 +50,7 @@ stays_or_rises s t e =
     let long : length t.packets ≡ length s.packets + length e.further = ap length e.packets ∙ length-append s.packets e.further in
     omega (arith, up, long)
 
-or_none : (a b : Bool) → (a || b) ≡ false → (a ≡ false) × (b ≡ false)
+pub or_none : (a b : Bool) → (a || b) ≡ false → (a ≡ false) × (b ≡ false)
 or_none true b none = absurd cc
 or_none false b none = (refl, none)
 
@@ -181,3 +188,56 @@ told_change streams next before now changed read change {told} b n is r any test
 pub told_solution : {E : Type 0} (job : Job) (streams : List (StreamPrefix Plain)) (result : Result Streams E) → IfOk result (λ s. s.prefixes ≡ streams) → IsSolution job streams → IfOk result (λ s. IsSolution job s.prefixes)
 told_solution job streams (Ok s) is solution = subst (IsSolution job) (sym is) solution
 told_solution job streams (Err e) is solution = tt
+
+-- a round of a job, from the one before it
+pub reached_known : (job : Job) (streams : List (StreamPrefix Plain)) (round : Round) (changed : List Bool) → IsJob job → AreReached job streams → IsRoundOf job streams round → changed ≡ changes streams round.streams.items
+    → IsKnownFrom job round.streams.items changed round.sets.items round.faults.items
+reached_known job streams round changed is reached made changed_is = record {
+  before = streams;
+  prefixes = reached_prefixes job streams is reached;
+  next = made.next;
+  extended = next_extends job streams round.streams.items is reached made.next;
+  changed_are = changed_is;
+  sets_are = made.sets;
+  faults_are = made.faults;
+}
+
+-- the faults that are told are those of the nodes
+faults_told : (job : Job) (streams : List (StreamPrefix Plain)) (faults : List (Option CodeFailure)) (nodes : List PlanNode) (k : ℕ) → map fault_seen faults ≡ map (λ node. (outcome_of job streams node).fault) nodes
+    → filter_map numbered_fault (enumerate_from k faults) ≡ filter_map (fault_of job streams) (enumerate_from k nodes)
+faults_told job streams [] [] k same = refl
+faults_told job streams [] (node ∷ nodes) k same = absurd cc
+faults_told job streams (fault ∷ faults) [] k same = absurd cc
+faults_told job streams (fault ∷ faults) (node ∷ nodes) k same =
+    let first : fault_seen fault ≡ (outcome_of job streams node).fault = ap (λ (fs : List (Option Failure)). (elim fs [ [] ↦ fault_seen fault | f ∷ rest ↦ f ])) same in
+    let others : map fault_seen faults ≡ map (λ n. (outcome_of job streams n).fault) nodes = ap (λ (fs : List (Option Failure)). (elim fs [ [] ↦ map fault_seen faults | f ∷ rest ↦ rest ])) same in
+    ap₂ (λ (f : Option NodeFault) (fs : List NodeFault). cons_option f fs)
+    (numbered_is k fault ∙ ap (λ (f : Option Failure). option_map (λ failure. let n : NodeFault = record { node = k; phase = failure.phase; cause = failure.cause } in n) f) first)
+    (faults_told job streams faults nodes (k + 1) others)
+  where
+    numbered_is : (k : ℕ) (fault : Option CodeFailure) → numbered_fault (k, fault) ≡ option_map (λ failure. let n : NodeFault = record { node = k; phase = failure.phase; cause = failure.cause } in n) (fault_seen fault)
+    numbered_is k (Some failure) = refl
+    numbered_is k None = refl
+
+pub told_faults : (job : Job) (streams : List (StreamPrefix Plain)) (round : Round) → IsRoundOf job streams round → filter_map numbered_fault (enumerate_from 0 round.faults.items) ≡ faults job streams
+told_faults job streams round made = faults_told job streams round.faults.items job.plan.nodes 0 made.faults
+
+pub few_faults : (job : Job) (streams : List (StreamPrefix Plain)) (round : Round) → IsJob job → IsRoundOf job streams round → length round.faults.items < 2 ^ 32
+few_faults job streams round is made =
+    let many : length round.faults.items ≡ length job.plan.nodes =
+    sym (length-map round.faults.items fault_seen) ∙ (ap length made.faults ∙ length-map job.plan.nodes (λ node. (outcome_of job streams node).fault)) in
+    let few = is.plan.ranges.nodes in
+    let most : 4096 < 2 ^ 32 = omega arith in
+    omega (arith, many, few, most)
+
+pub told_faults_are : {E : Type 0} (job : Job) (streams : List (StreamPrefix Plain)) (round : Round) (result : Result Streams E) → IfOk result (λ s. s.prefixes ≡ streams)
+    → IfOk result (λ s. s.faults ≡ filter_map numbered_fault (enumerate_from 0 round.faults.items)) → IsRoundOf job streams round → IfOk result (λ s. s.faults ≡ faults job s.prefixes)
+told_faults_are job streams round (Ok s) is told made = told ∙ (told_faults job streams round made ∙ ap (faults job) (sym is))
+told_faults_are job streams round (Err e) is told made = tt
+
+-- what is handed on to the round after
+pub next_prefixes : (job : Job) (streams next : List (StreamPrefix Plain)) → IsJob job → AreReached job streams → next ≡ next_round job streams → All IsPrefix next
+next_prefixes job streams next is reached next_is = All-from_recursion IsPrefix next (next_keeps job streams next is reached next_is)
+
+pub next_many : (job : Job) (streams next : List (StreamPrefix Plain)) → IsJob job → AreReached job streams → next ≡ next_round job streams → length next ≡ length job.plan.streams
+next_many job streams next is reached next_is = sym (next_long job streams next is reached next_is) ∙ reached_long job streams is reached

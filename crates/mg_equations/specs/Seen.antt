@@ -12,8 +12,11 @@ use Rattle.mg_equations.specs.declared.outcome.Failure.{Failure}
 abbrev pub failure_seen : Failure → PlainFailure
 failure_seen failure = record { phase = failure.phase; cause = failure.cause }
 
+abbrev pub fault_seen : Option Failure → Option PlainFailure
+fault_seen fault = option_map failure_seen fault
+
 abbrev pub seen : Outcome → PlainOutcome
-seen outcome = record { state = outcome.state; outputs = outcome.outputs.items; taken = outcome.taken; fault = option_map failure_seen outcome.fault }
+seen outcome = record { state = outcome.state; outputs = outcome.outputs.items; taken = outcome.taken; fault = fault_seen outcome.fault }
 
 -- an outcome with other outputs
 abbrev pub with_outputs : PlainOutcome → List (StreamPrefix Plain) → PlainOutcome

@@ -26,6 +26,21 @@ pub struct Failure {
     pub cause: Cause,
 }
 
+impl Failure {
+    /// A second fault of a node, where there is one.
+    pub fn again(fault: &Option<Failure>) -> Option<Failure>
+        ensures { result ≡ fault.now }
+    {
+        match fault {
+            Some(failure) => Some(Failure {
+                phase: failure.phase,
+                cause: failure.cause,
+            }),
+            None => None,
+        }
+    }
+}
+
 /// What a node has come to.
 #[derive(Debug, Drop)]
 pub struct Outcome {
