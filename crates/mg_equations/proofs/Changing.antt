@@ -1,11 +1,11 @@
 -- Whether a round changes its streams, and that the rounds come to an end.
-use Rattle.std.proofs.Common.{◌≡◌, ◌≢◌, ℕ, zero, suc, ◌+◌, ◌-◌, ◌^◌, ◌<◌, ◌≤◌, ◌==◌, ◌&&◌, ◌||◌, Bool, true, false, not, List, [], ◌∷◌, ◌++◌, append-nil, append_assoc, All, map, drop, get_or, Option, Some, None, option_map, length, length-append, replicate, Result, Ok, Err, IfOk, refl, sym, ap, ap₂, subst, ◌∙◌, arith, inl, inr, ◌⊎◌}
+use Rattle.std.proofs.Common.{◌≡◌, ℕ, zero, suc, ◌+◌, ◌-◌, ◌^◌, ◌<◌, ◌≤◌, ◌==◌, ◌&&◌, ◌||◌, Bool, true, false, not, List, [], ◌∷◌, ◌++◌, append-nil, All, map, Option, Some, None, option_map, length, length-append, Result, Ok, Err, IfOk, refl, sym, ap, ap₂, subst, ◌∙◌, arith, inl, inr, ◌⊎◌}
 use Rattle.std.specs.List.{AllByRecursion, list_any, filter_map, cons_option, enumerate_from}
 use Rattle.std.proofs.lemmas.Bool.{cases_lt}
 use Rattle.std.proofs.lemmas.Bool.Decides.{nat_tests, eqb_tells}
 use Rattle.std.proofs.lemmas.List.{nil_from_length, length-replicate, length-map}
 use Rattle.std.proofs.lemmas.List.Elements.{All-from_recursion, recursion_from_All}
-use Rattle.mg_time.specs.Time.{done, next, IsAllowed}
+use Rattle.mg_time.specs.Time.{next, IsAllowed}
 use Rattle.mg_value.specs.Payload.{Plain}
 use Rattle.mg_value.specs.Prefix.{Stamped, StreamPrefix, IsPrefix, Ascends, first_time, empty_prefix}
 use Rattle.mg_value.specs.Extension.{IsExtendedBy, AreExtendedBy}
@@ -24,7 +24,6 @@ use Rattle.mg_equations.specs.declared.round.Round.{Round}
 use Rattle.mg_equations.specs.Seen.{fault_seen}
 use Rattle.mg_equations.specs.declared.solving.Streams.{Streams}
 use Rattle.mg_equations.specs.Rounds.{is_changed, changes, numbered_fault, IsRoundOf, IsKnownFrom}
-use Rattle.mg_equations.proofs.LayingLemmas.{from_here, at_end}
 
 -- one stream
 pub unchanged_one : (s t : StreamPrefix Plain) → IsExtendedBy s t → is_changed s t ≡ false → s ≡ t
@@ -39,10 +38,12 @@ changed_one s t e some =
     let up = e.bound in
     let long : length t.packets ≡ length s.packets + length e.further = ap length e.packets ∙ length-append s.packets e.further in
     elim (eqb_tells (length s.packets) (length t.packets)) [
-      inr (test, other) ↦ omega (arith, up, long, other)
-    | inl (test, same) ↦ elim (eqb_tells s.bound t.bound) [
-        inr (again, other) ↦ omega (arith, up, long, other)
-      | inl (again, bound) ↦ absurd (let P : Bool → Type 0 = λ b. not b ≡ true in let both : ((length s.packets == length t.packets) && (s.bound == t.bound)) ≡ true = rw (test, again) refl in let bad : false ≡ true = subst P both some in cc) ] ]
+      | inr (test, other) ↦ omega (arith, up, long, other)
+      | inl (test, same) ↦ elim (eqb_tells s.bound t.bound) [
+        | inr (again, other) ↦ omega (arith, up, long, other)
+        | inl (again, bound) ↦ absurd (let P : Bool → Type 0 = λ b. not b ≡ true in let both : ((length s.packets == length t.packets) && (s.bound == t.bound)) ≡ true = rw (test, again) refl in let bad : false ≡ true = subst P both some in cc)
+      ]
+    ]
 
 stays_or_rises : (s t : StreamPrefix Plain) → IsExtendedBy s t → length s.packets + s.bound ≤ length t.packets + t.bound
 stays_or_rises s t e =
@@ -98,8 +99,9 @@ room_falls (x ∷ xs) [] e k some = absurd e
 room_falls (x ∷ xs) (y ∷ ys) e k some =
     let most = has_room y k.0 in
     elim (either (is_changed x y) (list_any (λ change. change) (changes xs ys)) some) [
-      inl here ↦ (let up = changed_one x y e.0 here in let rest = room_stays xs ys e.1 in omega (arith, most, up, rest))
-    | inr later ↦ (let up = stays_or_rises x y e.0 in let rest = room_falls xs ys e.1 k.1 later in omega (arith, up, rest)) ]
+      | inl here ↦ (let up = changed_one x y e.0 here in let rest = room_stays xs ys e.1 in omega (arith, most, up, rest))
+      | inr later ↦ (let up = stays_or_rises x y e.0 in let rest = room_falls xs ys e.1 k.1 later in omega (arith, up, rest))
+    ]
   where
     either : (a b : Bool) → (a || b) ≡ true → (a ≡ true) ⊎ (b ≡ true)
     either true b some = inl refl
@@ -116,9 +118,6 @@ pub record AreReached (job : Job) (streams : List (StreamPrefix Plain)) : Type 0
   pub number : ℕ
   pub is : streams ≡ round job number
   pub first : (earlier : ℕ) → earlier < number → ¬ MeetsEquations job (round job earlier)
-
-pub none_reached : (job : Job) (streams : List (StreamPrefix Plain)) → streams ≡ replicate (length job.plan.streams) empty_prefix → AreReached job streams
-none_reached job streams is = record { number = 0; is = is; first = (λ earlier le. absurd (omega (arith, le))) }
 
 pub reached_keep : (job : Job) (streams : List (StreamPrefix Plain)) → IsJob job → AreReached job streams → AllByRecursion IsPrefix streams
 reached_keep job streams is reached = subst (AllByRecursion IsPrefix) (sym reached.is) (round_keeps any_state job (job_known job is) reached.number)
@@ -152,10 +151,11 @@ reached_further job streams next is reached next_is some = record {
   number = suc reached.number;
   is = next_is ∙ ap (next_round job) reached.is;
   first = (λ earlier le meets. elim (cases_lt earlier reached.number) [
-      inl before ↦ reached.first earlier before meets
+    | inl before ↦ reached.first earlier before meets
     | inr after ↦ (let here : earlier ≡ reached.number = omega (arith, le, after) in
         let meets_here : MeetsEquations job streams = let M : List (StreamPrefix Plain) → Type 0 = MeetsEquations job in subst M (ap (round job) here ∙ sym reached.is) meets in
-        other_than streams next (next_extends job streams next is reached next_is) (next_keeps job streams next is reached next_is) some (next_is ∙ meets_here)) ]);
+        other_than streams next (next_extends job streams next is reached next_is) (next_keeps job streams next is reached next_is) some (next_is ∙ meets_here))
+  ]);
 }
 
 pub less_room : (job : Job) (streams next : List (StreamPrefix Plain)) → IsJob job → AreReached job streams → next ≡ next_round job streams → list_any (λ change. change) (changes streams next) ≡ true → room next < room streams
@@ -170,14 +170,6 @@ reached_solution job streams next is reached next_is none = record {
   meets = sym (unchanged streams next (next_extends job streams next is reached next_is) none ∙ next_is);
   first = reached.first;
 }
-
--- the changes, one further
-pub changes_further : (before now : List (StreamPrefix Plain)) (i : ℕ) (s t : StreamPrefix Plain) (changed : List Bool) (change : Bool) → i < length before → s ≡ get_or before i s → i < length now → t ≡ get_or now i t → change ≡ is_changed s t
-    → changed ++ changes (drop i before) (drop i now) ≡ changes before now → (changed ++ change ∷ []) ++ changes (drop (i + 1) before) (drop (i + 1) now) ≡ changes before now
-changes_further before now i s t changed change below at within there is so_far =
-    append_assoc changed (change ∷ []) (changes (drop (i + 1) before) (drop (i + 1) now))
-    ∙ (ap (λ (c : Bool). changed ++ c ∷ changes (drop (i + 1) before) (drop (i + 1) now)) is
-    ∙ (ap₂ (λ (xs ys : List (StreamPrefix Plain)). changed ++ changes xs ys) (sym (from_here before i s below at)) (sym (from_here now i t within there)) ∙ so_far))
 
 -- what is told of the changes
 pub told_change : (streams next before now : List (StreamPrefix Plain)) (changed read : List Bool) (change : Bool) {told : Bool} → before ≡ streams → now ≡ next → changed ≡ changes before now → read ≡ changed

@@ -1,13 +1,11 @@
 -- Laying by a loop: what is left of a list decides, and what was laid is what may be laid.
-use Rattle.std.proofs.Common.{◌≡◌, ℕ, zero, suc, ◌+◌, ◌<◌, ◌≤◌, ℤ, Bool, true, false, nat_lt, IsTrue, is_some, List, [], ◌∷◌, ◌++◌, length, length-append, take, drop, get_or, set, map, Option, Some, None, Result, Ok, Err, refl, sym, ap, ap₂, subst, ◌∙◌, arith, add-one, drop-cons}
-use Rattle.std.proofs.lemmas.Bool.Decides.{nat_tests}
+use Rattle.std.proofs.Common.{◌≡◌, ℕ, zero, suc, ◌+◌, ◌<◌, ◌≤◌, ℤ, Bool, true, false, nat_lt, is_some, List, [], ◌∷◌, ◌++◌, length, take, drop, get_or, set, map, Option, Some, None, Result, Ok, Err, refl, sym, ap, ap₂, ◌∙◌, arith, add-one, drop-cons}
 use Rattle.mg_value.specs.Payload.{Plain}
 use Rattle.mg_value.specs.Prefix.{Stamped, StreamPrefix, appended, all_appended}
 use Rattle.mg_calc.specs.declared.cause.Cause.{Cause}
 use Rattle.mg_calc.specs.declared.emission.Laid.{Laid}
 use Rattle.mg_calc.specs.declared.node_fault.Phase.{Phase}
 use Rattle.mg_calc.specs.Laying.{laying_fault, unless, after, with_packets, raised_to, with_laid, laid_behind}
-use Rattle.mg_calc.proofs.LaidBehind.{unless_good, after_good}
 use Rattle.mg_value.proofs.SetSteps.{mapped-more, mapped-later}
 use Rattle.mg_equations.specs.Reasons.{reason_of, laid_on, all_laid_on}
 
@@ -23,55 +21,12 @@ at_end [] (suc i) le = refl
 at_end (x ∷ xs) zero le = absurd (omega (arith, le))
 at_end (x ∷ xs) (suc i) le = at_end xs i (omega (arith, le))
 
--- packets put behind one another, one further
-pub appended_here : (start longer : StreamPrefix Plain) (packets : List (Stamped Plain)) (i : ℕ) (packet : Stamped Plain) → i < length packets → packet ≡ get_or packets i packet
-    → all_appended longer (drop i packets) ≡ all_appended start packets → all_appended (appended longer packet) (drop (i + 1) packets) ≡ all_appended start packets
-appended_here start longer packets i packet below is so_far =
-    sym (ap (all_appended longer) (from_here packets i packet below is)) ∙ so_far
-
 -- Packets that were passed without a reason against them: what is left decides.
 pub record ArePassed (offset : Option ℤ) (phase : Phase) (output : StreamPrefix Plain) (packets rest : List (Stamped Plain)) (bound : ℕ) (has_packets : Bool) : Type 0 where
   pub longer : StreamPrefix Plain
   pub same : with_packets offset phase output packets ≡ with_packets offset phase longer rest
   pub bound_is : longer.bound ≡ bound
   pub some_is : nat_lt 0 (length longer.packets) ≡ has_packets
-
-pub reason_unless : {A : Type 0} (fault : Option Cause) (answer : Result A Cause) → is_some fault ≡ true → reason_of (unless fault answer) ≡ fault
-reason_unless (Some cause) answer some = refl
-reason_unless None answer some = absurd cc
-
-unless_none : {A : Type 0} (fault : Option Cause) (answer : Result A Cause) → is_some fault ≡ false → unless fault answer ≡ answer
-unless_none (Some cause) answer none = absurd cc
-unless_none None answer none = refl
-
-longer_some : (packets : List (Stamped Plain)) (packet : Stamped Plain) → nat_lt 0 (length (packets ++ packet ∷ [])) ≡ true
-longer_some packets packet = grind (arith, nat_tests, length-append packets (packet ∷ []))
-
-pub passed_further : (offset : Option ℤ) (phase : Phase) (output : StreamPrefix Plain) (packets : List (Stamped Plain)) (i bound next : ℕ) (has_packets : Bool) (packet : Stamped Plain) (fault : Option Cause)
-    → i < length packets → packet ≡ get_or packets i packet → (passed : ArePassed offset phase output packets (drop i packets) bound has_packets)
-    → fault ≡ laying_fault offset phase passed.longer packet → is_some fault ≡ false → next ≡ (appended passed.longer packet).bound
-    → ArePassed offset phase output packets (drop (i + 1) packets) next true
-passed_further offset phase output packets i bound next has_packets packet fault below is passed fault_is none next_is = record {
-  longer = appended passed.longer packet;
-  same = passed.same ∙ (ap (with_packets offset phase passed.longer) (from_here packets i packet below is)
-    ∙ (ap (λ (f : Option Cause). unless f (with_packets offset phase (appended passed.longer packet) (drop (i + 1) packets))) (sym fault_is)
-    ∙ unless_none fault (with_packets offset phase (appended passed.longer packet) (drop (i + 1) packets)) none));
-  bound_is = sym next_is;
-  some_is = longer_some passed.longer.packets packet;
-}
-
-pub refused_here : (offset : Option ℤ) (phase : Phase) (output : StreamPrefix Plain) (packets : List (Stamped Plain)) (i bound : ℕ) (has_packets : Bool) (packet : Stamped Plain) (fault : Option Cause)
-    → i < length packets → packet ≡ get_or packets i packet → (passed : ArePassed offset phase output packets (drop i packets) bound has_packets)
-    → fault ≡ laying_fault offset phase passed.longer packet → is_some fault ≡ true → fault ≡ reason_of (with_packets offset phase output packets)
-refused_here offset phase output packets i bound has_packets packet fault below is passed fault_is some =
-    sym (ap reason_of passed.same ∙ (ap (λ (ps : List (Stamped Plain)). reason_of (with_packets offset phase passed.longer ps)) (from_here packets i packet below is)
-    ∙ (ap (λ (f : Option Cause). reason_of (unless f (with_packets offset phase (appended passed.longer packet) (drop (i + 1) packets)))) (sym fault_is)
-    ∙ reason_unless fault (with_packets offset phase (appended passed.longer packet) (drop (i + 1) packets)) some)))
-
-pub all_passed : (offset : Option ℤ) (phase : Phase) (output : StreamPrefix Plain) (packets : List (Stamped Plain)) (i bound : ℕ) (has_packets : Bool)
-    → length packets ≤ i → ArePassed offset phase output packets (drop i packets) bound has_packets → None ≡ reason_of (with_packets offset phase output packets)
-all_passed offset phase output packets i bound has_packets over passed =
-    sym (ap reason_of passed.same ∙ ap (λ (ps : List (Stamped Plain)). reason_of (with_packets offset phase passed.longer ps)) (at_end packets i over))
 
 -- An emission, one part further.
 reason_after : {A B : Type 0} (answer : Result A Cause) (make : A → Result B Cause) → is_some (reason_of answer) ≡ true → reason_of (after answer make) ≡ reason_of answer
@@ -128,21 +83,6 @@ pub emission_passed : (offset : Option ℤ) (phase : Phase) (outputs : List (Str
 emission_passed offset phase outputs emission i output laid fault part so_far is none =
     so_far ∙ (both_here offset phase outputs emission i output laid part ∙ part_passed offset phase output (drop (i + 1) outputs) laid (drop (i + 1) emission) fault is none)
 
--- where no output is left, and where no part is
-pub no_output_left : (offset : Option ℤ) (phase : Phase) (outputs : List (StreamPrefix Plain)) (emission : List Laid) (i : ℕ) → length outputs ≤ i
-    → reason_of (laid_behind offset phase outputs emission) ≡ reason_of (laid_behind offset phase (drop i outputs) (drop i emission)) → None ≡ reason_of (laid_behind offset phase outputs emission)
-no_output_left offset phase outputs emission i over so_far =
-    sym (so_far ∙ (ap (λ (xs : List (StreamPrefix Plain)). reason_of (laid_behind offset phase xs (drop i emission))) (at_end outputs i over) ∙ nothing (drop i emission)))
-  where
-    nothing : (emission : List Laid) → reason_of (laid_behind offset phase [] emission) ≡ None
-    nothing [] = refl
-    nothing (laid ∷ emission) = refl
-
-pub no_part_left : (offset : Option ℤ) (phase : Phase) (outputs : List (StreamPrefix Plain)) (emission : List Laid) (i : ℕ) → length emission ≤ i
-    → reason_of (laid_behind offset phase outputs emission) ≡ reason_of (laid_behind offset phase (drop i outputs) (drop i emission)) → None ≡ reason_of (laid_behind offset phase outputs emission)
-no_part_left offset phase outputs emission i over so_far =
-    sym (so_far ∙ ap (λ (es : List Laid). reason_of (laid_behind offset phase (drop i outputs) es)) (at_end emission i over))
-
 -- What is laid, part by part.
 laid_more : (outputs : List (StreamPrefix Plain)) (emission : List Laid) (i : ℕ) (output : StreamPrefix Plain) (laid : Laid) → i < length emission → laid ≡ get_or emission i laid
     → output ≡ get_or (all_laid_on outputs (take i emission)) i output → set (all_laid_on outputs (take i emission)) i (laid_on output laid) ≡ all_laid_on outputs (take (suc i) emission)
@@ -179,10 +119,6 @@ laid_beyond outputs now emission i so_far over =
     so_far ∙ (beyond outputs emission i (let same = ap length so_far in omega (arith, same, over, laid_long outputs (take i emission)))
     ∙ ap (λ (n : ℕ). all_laid_on outputs (take n emission)) (sym (add-one i)))
 
--- What may be laid is laid.
-good_is : {A : Type 0} (x y : A) → (let r : Result A Cause = Ok x in r) ≡ Ok y → x ≡ y
-good_is {A} x y h = ap (λ r. (elim r [ Ok z ↦ z | Err cause ↦ x ])) h
-
 where_passed : {A : Type 0} (fault : Option Cause) (answer : Result A Cause) (value : A) → reason_of (unless fault answer) ≡ None → (reason_of answer ≡ None → answer ≡ Ok value) → unless fault answer ≡ Ok value
 where_passed (Some cause) answer value none good = absurd cc
 where_passed None answer value none good = good none
@@ -212,14 +148,6 @@ emission_laid offset phase (output ∷ outputs) (laid ∷ emission) none =
     let others = emission_laid offset phase outputs emission (after_none (laid_behind offset phase outputs emission) (λ others. Ok (laid_on output laid ∷ others)) rest) in
     ap (λ (answer : Result (StreamPrefix Plain) Cause). after answer (λ longer. after (laid_behind offset phase outputs emission) (λ others. Ok (longer ∷ others)))) first
     ∙ ap (λ (answer : Result (List (StreamPrefix Plain)) Cause). after answer (λ others. Ok (laid_on output laid ∷ others))) others
-
--- and what may not has its reason
-pub emission_failed : (offset : Option ℤ) (phase : Phase) (outputs : List (StreamPrefix Plain)) (emission : List Laid) (cause : Cause) → reason_of (laid_behind offset phase outputs emission) ≡ Some cause → laid_behind offset phase outputs emission ≡ Err cause
-emission_failed offset phase outputs emission cause some = by_answer (laid_behind offset phase outputs emission) some
-  where
-    by_answer : (answer : Result (List (StreamPrefix Plain)) Cause) → reason_of answer ≡ Some cause → answer ≡ Err cause
-    by_answer (Ok value) h = absurd cc
-    by_answer (Err other) h = let P : Option Cause → Cause = λ o. (elim o [ Some c ↦ c | None ↦ other ]) in let same : other ≡ cause = ap P h in ap (λ c. Err c) same
 
 -- A list that is mapped in place, one further.
 pub mapped_further : (f : StreamPrefix Plain → StreamPrefix Plain) (xs now : List (StreamPrefix Plain)) (i : ℕ) (x new : StreamPrefix Plain) → i < length xs → x ≡ get_or now i x → new ≡ f (get_or now i x)

@@ -1,5 +1,5 @@
 -- What becomes of a node, step by step.
-use Rattle.std.proofs.Common.{◌≡◌, ℕ, zero, suc, ℤ, ◌+◌, ◌-◌, ◌<◌, ◌≤◌, List, [], ◌∷◌, map, All, drop, get_or, length, Option, Some, None, Result, Ok, Err, refl, sym, ap, ap₂, subst, ◌∙◌, arith}
+use Rattle.std.proofs.Common.{◌≡◌, ℕ, suc, ℤ, ◌+◌, ◌-◌, ◌<◌, ◌≤◌, List, [], ◌∷◌, map, All, drop, get_or, length, Option, Some, None, Result, Ok, Err, refl, sym, ap, ap₂, ◌∙◌, arith}
 use Rattle.std.specs.List.{AllByRecursion, fold, range_with_len}
 use Rattle.std.proofs.lemmas.List.{get_or_default}
 use Rattle.std.proofs.lemmas.List.Elements.{recursion_from_All}
@@ -7,23 +7,18 @@ use Rattle.mg_value.specs.Payload.{Plain}
 use Rattle.mg_value.specs.Prefix.{StreamPrefix, closed, empty_prefix}
 use Rattle.mg_calc.specs.declared.cause.Cause.{Cause}
 use Rattle.mg_calc.specs.declared.node_fault.Phase.{Phase}
-use Rattle.mg_calc.specs.declared.node_fault.Phase.TheVariants.{Open, Call, Process, Close}
+use Rattle.mg_calc.specs.declared.node_fault.Phase.TheVariants.{Call, Process}
 use Rattle.mg_calc.specs.declared.law.Law.{Law}
 use Rattle.mg_calc.specs.declared.law.Law.TheVariants.{Count, SideOnce, Constants, Loopback}
 use Rattle.mg_calc.specs.Answer.{Answer}
-use Rattle.mg_calc.specs.Law.{opening, step, call}
+use Rattle.mg_calc.specs.Law.{step, call}
 use Rattle.mg_calc.specs.Laying.{laid_behind, all_raised}
-use Rattle.mg_calc.specs.Shape.{IsSource, IsOuter, calls_of}
-use Rattle.mg_value.specs.Settled.{TimedSet, port_of, inputs_of as inputs_at}
-use Rattle.mg_calc.specs.Outcome.{Outcome, Failure, after_laying, after_call, after_close, unless_failed, unopened, opened, shown, called, with_last_call, node_outcome}
+use Rattle.mg_calc.specs.Shape.{IsOuter}
+use Rattle.mg_value.specs.Settled.{TimedSet, inputs_of as inputs_at}
+use Rattle.mg_calc.specs.Outcome.{Outcome, Failure, after_laying, after_call, unless_failed, shown, called, node_outcome}
 use Rattle.mg_calc.specs.declared.plan_node.PlanNode.{PlanNode}
 use Rattle.mg_calc.specs.Equations.{Job, sides_of, stream_of, inputs_of, outcome_by}
-use Rattle.mg_equations.proofs.LayingLemmas.{from_here, at_end}
-
--- where nothing failed, what comes next
-pub goes_on : (fault : Option Failure) (outcome next : Outcome) → fault ≡ None → unless_failed fault outcome next ≡ next
-goes_on (Some failure) outcome next good = absurd cc
-goes_on None outcome next good = refl
+use Rattle.mg_equations.proofs.LayingLemmas.{from_here}
 
 -- what is laid
 pub laid_well : (phase : Phase) (outcome : Outcome) (answer : Result (List (StreamPrefix Plain)) Cause) (outputs now : List (StreamPrefix Plain)) → answer ≡ Ok outputs → now ≡ outputs
@@ -31,11 +26,6 @@ pub laid_well : (phase : Phase) (outcome : Outcome) (answer : Result (List (Stre
 laid_well phase outcome answer outputs now good same =
     ap (λ (o : List (StreamPrefix Plain)). let after : Outcome = record { state = outcome.state; outputs = o; taken = outcome.taken; fault = outcome.fault } in after) same
     ∙ sym (ap (after_laying phase outcome) good)
-
--- Close, once its emission was laid
-pub closed_after_laying : (outcome : Outcome) (answer : Result (List (StreamPrefix Plain)) Cause) → outcome.fault ≡ None → with_last_call (after_laying Close outcome answer) ≡ after_close outcome answer
-closed_after_laying outcome (Ok outputs) good = goes_on outcome.fault (record outcome { outputs = outputs }) (record outcome { outputs = map closed outputs }) good
-closed_after_laying outcome (Err cause) good = refl
 
 -- Counts.
 laying_counts : (phase : Phase) (outcome : Outcome) (answer : Result (List (StreamPrefix Plain)) Cause) → (after_laying phase outcome answer).taken ≡ outcome.taken
@@ -60,58 +50,30 @@ called_counts law outcome number =
     let before : Outcome = record outcome { taken = outcome.taken + 1 } in
     unless_counts outcome.fault outcome (after_call None (Call number) before (call law outcome.state number)) (call_counts None (Call number) before (call law outcome.state number))
 
-opened_counts : (law : Law) (offset : Option ℤ) (outputs : ℕ) (sides : List (Option Plain)) → (opened law offset outputs sides).taken ≡ 0
-opened_counts law offset outputs sides = call_counts offset Open (unopened outputs) (opening law sides)
-
 -- A node that was shown the sets so far: with the others it comes to the same.
 pub record IsShown (law : Law) (offset : Option ℤ) (begun outcome : Outcome) (sets : List (TimedSet Plain)) (i : ℕ) : Type 0 where
   pub same : fold (shown law offset) outcome (drop i sets) ≡ fold (shown law offset) begun sets
   pub counted : outcome.taken ≤ i
 
-pub shown_none : (law : Law) (offset : Option ℤ) (outputs : ℕ) (sides : List (Option Plain)) (outcome : Outcome) (sets : List (TimedSet Plain)) → outcome ≡ opened law offset outputs sides → IsShown law offset (opened law offset outputs sides) outcome sets 0
-shown_none law offset outputs sides outcome sets is = record {
-  same = ap (λ (o : Outcome). fold (shown law offset) o sets) is;
-  counted = (let none = ap (λ (o : Outcome). o.taken) is ∙ opened_counts law offset outputs sides in omega (arith, none));
-}
-
 pub shown_further : (law : Law) (offset : Option ℤ) (begun outcome next : Outcome) (sets : List (TimedSet Plain)) (i : ℕ) (set : TimedSet Plain) → IsShown law offset begun outcome sets i → i < length sets → set ≡ get_or sets i set
     → next ≡ shown law offset outcome set → IsShown law offset begun next sets (i + 1)
 shown_further law offset begun outcome next sets i set so_far below is next_is = record {
   same = ap (λ (o : Outcome). fold (shown law offset) o (drop (i + 1) sets)) next_is
-    ∙ (ap (fold (shown law offset) outcome) (sym (from_here sets i set below is)) ∙ so_far.same);
+      ∙ (ap (fold (shown law offset) outcome) (sym (from_here sets i set below is)) ∙ so_far.same);
   counted = (let one = shown_counts law offset outcome set in let same = ap (λ (o : Outcome). o.taken) next_is in let few = so_far.counted in omega (arith, one, same, few));
 }
-
-pub shown_each : (law : Law) (offset : Option ℤ) (begun outcome : Outcome) (sets : List (TimedSet Plain)) (i : ℕ) → IsShown law offset begun outcome sets i → length sets ≤ i → outcome ≡ fold (shown law offset) begun sets
-shown_each law offset begun outcome sets i so_far over = sym (ap (fold (shown law offset) outcome) (at_end sets i over)) ∙ so_far.same
 
 -- A source that was called so often.
 pub record IsCalled (law : Law) (begun outcome : Outcome) (calls i : ℕ) : Type 0 where
   pub same : fold (called law) outcome (range_with_len i (calls - i)) ≡ fold (called law) begun (range_with_len 0 calls)
   pub counted : outcome.taken ≤ i
 
-pub called_never : (law : Law) (outputs : ℕ) (sides : List (Option Plain)) (outcome : Outcome) (calls : ℕ) → outcome ≡ opened law None outputs sides → IsCalled law (opened law None outputs sides) outcome calls 0
-called_never law outputs sides outcome calls is = record {
-  same = ap₂ (λ (o : Outcome) (n : ℕ). fold (called law) o (range_with_len 0 n)) is (let e : calls - 0 ≡ calls = omega arith in e);
-  counted = (let none = ap (λ (o : Outcome). o.taken) is ∙ opened_counts law None outputs sides in omega (arith, none));
-}
-
 pub called_further : (law : Law) (begun outcome next : Outcome) (calls i : ℕ) → IsCalled law begun outcome calls i → i < calls → next ≡ called law outcome i → IsCalled law begun next calls (i + 1)
 called_further law begun outcome next calls i so_far below next_is = record {
   same = ap (λ (o : Outcome). fold (called law) o (range_with_len (i + 1) (calls - (i + 1)))) next_is
-    ∙ (sym (ap (λ (n : ℕ). fold (called law) outcome (range_with_len i n)) (let e : calls - i ≡ suc (calls - (i + 1)) = omega (arith, below) in e)) ∙ so_far.same);
+      ∙ (sym (ap (λ (n : ℕ). fold (called law) outcome (range_with_len i n)) (let e : calls - i ≡ suc (calls - (i + 1)) = omega (arith, below) in e)) ∙ so_far.same);
   counted = (let one = called_counts law outcome i in let same = ap (λ (o : Outcome). o.taken) next_is in let few = so_far.counted in omega (arith, one, same, few));
 }
-
-pub called_each : (law : Law) (begun outcome : Outcome) (calls i : ℕ) → IsCalled law begun outcome calls i → calls ≤ i → outcome ≡ fold (called law) begun (range_with_len 0 calls)
-called_each law begun outcome calls i so_far over =
-    sym (ap (λ (n : ℕ). fold (called law) outcome (range_with_len i n)) (let e : calls - i ≡ 0 = omega (arith, over) in e)) ∙ so_far.same
-
--- what is called is a source
-pub called_is_source : (law : Law) (number : ℕ) → number < calls_of law → IsSource law
-called_is_source (Count count start apart) number below = tt
-called_is_source (SideOnce at) number below = tt
-called_is_source law number below = absurd (omega (arith, below))
 
 -- The input streams of a node, all of which are there.
 inputs_by_recursion : (streams : List (StreamPrefix Plain)) (ports : List ℕ) → AllByRecursion (λ i. i < length streams) ports → inputs_at streams ports ≡ map (stream_of streams) ports

@@ -1,5 +1,5 @@
 -- A round is made node by node.
-use Rattle.std.proofs.Common.{◌≡◌, ℕ, zero, suc, ◌+◌, ◌<◌, ◌≤◌, Bool, false, List, [], ◌∷◌, ◌++◌, append-nil, append_assoc, map, All, take, drop, zero-add, get_or, length, length-append, length-drop, Option, Some, None, option_map, slice_get, refl, sym, ap, ap₂, subst, ◌∙◌, arith}
+use Rattle.std.proofs.Common.{◌≡◌, ℕ, zero, suc, ◌+◌, ◌<◌, ◌≤◌, Bool, false, List, [], ◌∷◌, ◌++◌, append_assoc, map, All, take, drop, zero-add, get_or, length, length-append, length-drop, Option, Some, slice_get, refl, sym, ap, ap₂, subst, ◌∙◌, arith}
 use Rattle.std.specs.List.{AllByRecursion, flat_map, list_any}
 use Rattle.std.proofs.lemmas.Option.{slice_get_read, get_or_from_slice_get}
 use Rattle.std.proofs.lemmas.List.Concat.{flat_map-cons}
@@ -24,7 +24,7 @@ use Rattle.mg_calc.specs.Equations.{Job, IsJob, stream_of, outcome_of, next_roun
 use Rattle.mg_calc.specs.Meaning.{count_of, counts}
 use Rattle.mg_calc.proofs.Earlier.{at_place, get_map, some_same}
 use Rattle.mg_equations.specs.declared.round.Round.{Round}
-use Rattle.mg_equations.specs.Rounds.{AddsOutcome, AddsKept, IsRoundOf, IsKnownFrom, node_faults, changes}
+use Rattle.mg_equations.specs.Rounds.{AddsOutcome, AddsKept, IsKnownFrom, node_faults, changes}
 use Rattle.mg_equations.proofs.LayingLemmas.{from_here, at_end}
 use Rattle.mg_equations.proofs.Changing.{unchanged_one, or_none}
 
@@ -40,7 +40,7 @@ node_at job streams i node is many below at =
     let here : slice_get nodes i ≡ Some node = slice_get_read nodes (length nodes) i node refl below at in
     record {
       known = subst (λ (n : ℕ). All (λ s. s < n) node.inputs) (sym many)
-        (at_place (λ (n : PlanNode). All (λ s. s < length job.plan.streams) n.inputs) nodes i node (recursion_from_All (λ (n : PlanNode). All (λ s. s < length job.plan.streams) n.inputs) nodes is.plan.ranges.read) here);
+          (at_place (λ (n : PlanNode). All (λ s. s < length job.plan.streams) n.inputs) nodes i node (recursion_from_All (λ (n : PlanNode). All (λ s. s < length job.plan.streams) n.inputs) nodes is.plan.ranges.read) here);
       ports = at_place HasNumbers nodes i node (recursion_from_All HasNumbers nodes is.plan.ports) here;
       shape = at_place (λ (n : PlanNode). IsShapeOf n.law n.shape) nodes i node (recursion_from_All (λ (n : PlanNode). IsShapeOf n.law n.shape) nodes is.plan.shapes) here;
     }
@@ -61,23 +61,14 @@ made_further job streams before now i node outcome below at is adds made =
     let fault : PlanNode → Option Failure = λ n. (outcome_of job streams n).fault in
     record {
       next = ap (λ (ss : List (StreamPrefix Plain)). ss ++ flat_map give rest) (adds.streams ∙ ap (λ (o : Outcome). before.streams.items ++ o.outputs) is)
-        ∙ (append_assoc before.streams.items (give node) (flat_map give rest)
-        ∙ (ap (λ (ss : List (StreamPrefix Plain)). before.streams.items ++ ss) (sym (flat_map-cons give node rest) ∙ ap (flat_map give) (sym here)) ∙ made.next));
+          ∙ (append_assoc before.streams.items (give node) (flat_map give rest)
+          ∙ (ap (λ (ss : List (StreamPrefix Plain)). before.streams.items ++ ss) (sym (flat_map-cons give node rest) ∙ ap (flat_map give) (sym here)) ∙ made.next));
       sets = ap (λ (ns : List ℕ). ns ++ map (count_of job streams) rest) (adds.sets ∙ ap (λ (o : Outcome). before.sets.items ++ o.taken ∷ []) is)
-        ∙ (append_assoc before.sets.items (count_of job streams node ∷ []) (map (count_of job streams) rest)
-        ∙ (ap (λ (ns : List PlanNode). before.sets.items ++ map (count_of job streams) ns) (sym here) ∙ made.sets));
+          ∙ (append_assoc before.sets.items (count_of job streams node ∷ []) (map (count_of job streams) rest)
+          ∙ (ap (λ (ns : List PlanNode). before.sets.items ++ map (count_of job streams) ns) (sym here) ∙ made.sets));
       faults = ap (λ (fs : List (Option Failure)). fs ++ map fault rest) (adds.faults ∙ ap (λ (o : Outcome). map fault_seen before.faults.items ++ o.fault ∷ []) is)
-        ∙ (append_assoc (map fault_seen before.faults.items) (fault node ∷ []) (map fault rest)
-        ∙ (ap (λ (ns : List PlanNode). map fault_seen before.faults.items ++ map fault ns) (sym here) ∙ made.faults));
-    }
-
-pub made_whole : (job : Job) (streams : List (StreamPrefix Plain)) (round : Round) (i : ℕ) → length job.plan.nodes ≤ i → IsMadeUpTo job streams round i → IsRoundOf job streams round
-made_whole job streams round i over made =
-    let none = at_end job.plan.nodes i over in
-    record {
-      next = sym (append-nil round.streams.items) ∙ (ap (λ (ns : List PlanNode). round.streams.items ++ flat_map (λ node. (outcome_of job streams node).outputs) ns) (sym none) ∙ made.next);
-      sets = sym (append-nil round.sets.items) ∙ (ap (λ (ns : List PlanNode). round.sets.items ++ map (count_of job streams) ns) (sym none) ∙ made.sets);
-      faults = sym (append-nil (map fault_seen round.faults.items)) ∙ (ap (λ (ns : List PlanNode). map fault_seen round.faults.items ++ map (λ node. (outcome_of job streams node).fault) ns) (sym none) ∙ made.faults);
+          ∙ (append_assoc (map fault_seen before.faults.items) (fault node ∷ []) (map fault rest)
+          ∙ (ap (λ (ns : List PlanNode). map fault_seen before.faults.items ++ map fault ns) (sym here) ∙ made.faults));
     }
 
 -- A later round, in which what a node gave before stands where it stood.
@@ -116,9 +107,10 @@ drop-drop (suc n) k (x ∷ xs) = ap (λ (m : ℕ). drop m (x ∷ xs)) (let e : s
 -- what is left of a list behind others
 rest_behind : {X : Type 0} (xs ys zs more : List X) (n : ℕ) → n ≤ length more → drop n more ≡ ys ++ zs → length xs ≡ length ys → (drop (n + length xs) more ≡ zs) × (n + length xs ≤ length more)
 rest_behind xs ys zs more n le is same =
-    let all = ap length is in
-    (drop-drop n (length xs) more ∙ (ap (drop (length xs)) is ∙ (ap (λ (k : ℕ). drop k (ys ++ zs)) same ∙ drop-append_seam ys zs)),
-    omega (arith, all, same, length-append ys zs, length-drop n more))
+    let all = ap length is in (
+      drop-drop n (length xs) more ∙ (ap (drop (length xs)) is ∙ (ap (λ (k : ℕ). drop k (ys ++ zs)) same ∙ drop-append_seam ys zs)),
+      omega (arith, all, same, length-append ys zs, length-drop n more),
+    )
 
 pub kept_further : (job : Job) (streams : List (StreamPrefix Plain)) (changed : List Bool) (sets : List ℕ) (faults : List (Option CodeFailure)) (before now : Round) (i : ℕ) (node : PlanNode) (outcome : Outcome) → IsJob job → All IsPrefix streams → i < length job.plan.nodes → node ≡ get_or job.plan.nodes i node
     → outcome ≡ outcome_of job streams node → AddsOutcome outcome before now → IsKeptUpTo job streams changed sets faults before i → IsKeptUpTo job streams changed sets faults now (i + 1)

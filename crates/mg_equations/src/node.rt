@@ -69,11 +69,7 @@ fn call_count(law: &Law) -> u64
 }
 
 /// What becomes of a loopback: its one output answers the packets of MAIN.
-pub fn loopback_outcome(
-    alloc: Global,
-    main: &Prefix,
-    back: &Prefix,
-) -> Result<Outcome, AllocError>
+pub fn loopback_outcome(alloc: Global, main: &Prefix, back: &Prefix) -> Result<Outcome, AllocError>
     requires main { IsPrefix main.now }
     requires back { IsPrefix back.now }
     ensures { IfOk result (λ outcome. seen outcome ≡ the_loopback_outcome main.now back.now) }

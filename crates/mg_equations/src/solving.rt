@@ -66,11 +66,7 @@ fn nothing_known(alloc: Global, count: u32) -> Result<PrefixList, AllocError>
 }
 
 // Which streams a round has changed. It extends each, so that their lengths and bounds tell.
-fn changes(
-    alloc: Global,
-    before: &[Prefix],
-    now: &[Prefix],
-) -> Result<Vec<bool>, AllocError>
+fn changes(alloc: Global, before: &[Prefix], now: &[Prefix]) -> Result<Vec<bool>, AllocError>
     requires { length before.now ≡ length now.now }
     ensures { IfOk result (λ changed. changed.items ≡ the_changes before.now now.now) }
 {

@@ -1,6 +1,5 @@
-use Rattle.std.proofs.Common.{◌≡◌, ◌<◌, ◌∙◌, List, length, get_or, set, ap, arith}
-use Rattle.mg_value.specs.Payload.{Plain}
-use Rattle.mg_value.specs.Prefix.{StreamPrefix, closed}
+use Rattle.std.proofs.Common.{arith}
+use Rattle.mg_value.specs.Prefix.{closed}
 use Rattle.mg_equations.proofs.LayingLemmas.{mapped_further}
 use Rattle.mg_equations.proofs.laying.close_all.Goals as goal
 

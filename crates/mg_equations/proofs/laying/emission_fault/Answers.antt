@@ -1,4 +1,4 @@
-use Rattle.std.proofs.Common.{◌≡◌, ◌<◌, ◌∙◌, List, length, get_or, sym, ap, arith}
+use Rattle.std.proofs.Common.{◌∙◌, List, length, get_or, sym, ap, arith}
 use Rattle.mg_calc.specs.declared.emission.Laid.{Laid}
 use Rattle.mg_equations.proofs.LayingLemmas.{IsPart, emission_refused, emission_passed}
 use Rattle.mg_equations.proofs.laying.emission_fault.Goals as goal

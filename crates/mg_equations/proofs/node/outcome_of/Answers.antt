@@ -1,6 +1,4 @@
-use Rattle.std.proofs.Common.{◌≡◌, ◌∙◌, List, Option, IfOk, rules, length, ap, ap₂, sym, subst}
-use Rattle.mg_value.specs.Payload.{Plain}
-use Rattle.mg_value.specs.Prefix.{StreamPrefix}
+use Rattle.std.proofs.Common.{◌≡◌, IfOk, rules, length, subst}
 use Rattle.mg_value.specs.Settled.{inputs_of as inputs_at}
 use Rattle.mg_calc.specs.Shape.{IsOuter}
 use Rattle.mg_calc.specs.Outcome.{Outcome, node_outcome}

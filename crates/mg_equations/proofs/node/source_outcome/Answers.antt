@@ -1,4 +1,4 @@
-use Rattle.std.proofs.Common.{◌<◌, None, length, subst, arith}
+use Rattle.std.proofs.Common.{None, length, arith}
 use Rattle.mg_calc.specs.Outcome.{opened}
 use Rattle.mg_calc.specs.Shape.{calls_of}
 use Rattle.mg_equations.specs.Seen.{seen}

@@ -1,8 +1,7 @@
-use Rattle.std.proofs.Common.{◌≡◌, ◌<◌, ◌∙◌, List, Bool, IfOk, length, refl, ap, sym, subst}
-use Rattle.std.specs.List.{list_any}
+use Rattle.std.proofs.Common.{◌<◌, ◌∙◌, List, length, ap, sym, subst}
 use Rattle.mg_value.specs.Payload.{Plain}
 use Rattle.mg_value.specs.Prefix.{StreamPrefix}
-use Rattle.mg_calc.specs.Equations.{Job, IsJob, IsSolution}
+use Rattle.mg_calc.specs.Equations.{Job, IsJob}
 use Rattle.mg_equations.specs.Rounds.{changes}
 use Rattle.mg_equations.proofs.Changing.{AreReached, room, told_change, told_solution, told_faults_are, few_faults, next_long, next_prefixes, next_many, reached_known, reached_further, less_room, reached_solution}
 use Rattle.mg_equations.proofs.solving.solve.Goals as goal
