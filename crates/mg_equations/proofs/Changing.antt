@@ -1,0 +1,235 @@
+-- Whether a round changes its streams, and that the rounds come to an end.
+use Rattle.std.proofs.Common.{◌≡◌, ℕ, zero, suc, ◌+◌, ◌-◌, ◌^◌, ◌<◌, ◌≤◌, ◌==◌, ◌&&◌, ◌||◌, Bool, true, false, not, List, [], ◌∷◌, ◌++◌, append-nil, All, map, Option, Some, None, option_map, length, length-append, Result, Ok, Err, IfOk, refl, sym, ap, ap₂, subst, ◌∙◌, arith, inl, inr, ◌⊎◌}
+use Rattle.std.specs.List.{AllByRecursion, list_any, filter_map, cons_option, enumerate_from}
+use Rattle.std.proofs.lemmas.Bool.{cases_lt}
+use Rattle.std.proofs.lemmas.Bool.Decides.{nat_tests, eqb_tells}
+use Rattle.std.proofs.lemmas.List.{nil_from_length, length-replicate, length-map}
+use Rattle.std.proofs.lemmas.List.Elements.{All-from_recursion, recursion_from_All}
+use Rattle.mg_time.specs.Time.{next, IsAllowed}
+use Rattle.mg_value.specs.Payload.{Plain}
+use Rattle.mg_value.specs.Prefix.{Stamped, StreamPrefix, IsPrefix, Ascends, first_time, empty_prefix}
+use Rattle.mg_value.specs.Extension.{IsExtendedBy, AreExtendedBy}
+use Rattle.mg_value.proofs.Extending.{same_prefix}
+use Rattle.mg_value.proofs.PrefixSteps.{next_above}
+use Rattle.mg_calc.specs.Equations.{Job, IsJob, outcome_of, next_round, round, MeetsEquations, IsSolution}
+use Rattle.mg_calc.proofs.Jobs.{any_state, job_known}
+use Rattle.mg_calc.proofs.Rounds.{equations_are_as_many}
+use Rattle.mg_calc.proofs.Solutions.{round_keeps, rounds_ascend}
+use Rattle.mg_calc.specs.declared.node_fault.NodeFault.{NodeFault}
+use Rattle.mg_calc.specs.declared.plan_node.PlanNode.{PlanNode}
+use Rattle.mg_calc.specs.Outcome.{Failure}
+use Rattle.mg_calc.specs.Meaning.{fault_of, faults}
+use Rattle.mg_equations.specs.declared.outcome.Failure.{Failure as CodeFailure}
+use Rattle.mg_equations.specs.declared.round.Round.{Round}
+use Rattle.mg_equations.specs.Seen.{fault_seen}
+use Rattle.mg_equations.specs.declared.solving.Streams.{Streams}
+use Rattle.mg_equations.specs.Rounds.{is_changed, changes, numbered_fault, IsRoundOf, IsKnownFrom}
+
+-- one stream
+pub unchanged_one : (s t : StreamPrefix Plain) → IsExtendedBy s t → is_changed s t ≡ false → s ≡ t
+unchanged_one s t e none =
+    let long : length s.packets ≡ length t.packets = grind (arith, nat_tests, none) in
+    let bound : s.bound ≡ t.bound = grind (arith, nat_tests, none) in
+    let further : e.further ≡ [] = nil_from_length e.further (let all = ap length e.packets in omega (arith, long, all, length-append s.packets e.further)) in
+    same_prefix s t (sym (e.packets ∙ (ap (λ ps. s.packets ++ ps) further ∙ append-nil s.packets))) bound
+
+changed_one : (s t : StreamPrefix Plain) → IsExtendedBy s t → is_changed s t ≡ true → length s.packets + s.bound < length t.packets + t.bound
+changed_one s t e some =
+    let up = e.bound in
+    let long : length t.packets ≡ length s.packets + length e.further = ap length e.packets ∙ length-append s.packets e.further in
+    elim (eqb_tells (length s.packets) (length t.packets)) [
+      | inr (test, other) ↦ omega (arith, up, long, other)
+      | inl (test, same) ↦ elim (eqb_tells s.bound t.bound) [
+        | inr (again, other) ↦ omega (arith, up, long, other)
+        | inl (again, bound) ↦ absurd (let P : Bool → Type 0 = λ b. not b ≡ true in let both : ((length s.packets == length t.packets) && (s.bound == t.bound)) ≡ true = rw (test, again) refl in let bad : false ≡ true = subst P both some in cc)
+      ]
+    ]
+
+stays_or_rises : (s t : StreamPrefix Plain) → IsExtendedBy s t → length s.packets + s.bound ≤ length t.packets + t.bound
+stays_or_rises s t e =
+    let up = e.bound in
+    let long : length t.packets ≡ length s.packets + length e.further = ap length e.packets ∙ length-append s.packets e.further in
+    omega (arith, up, long)
+
+pub or_none : (a b : Bool) → (a || b) ≡ false → (a ≡ false) × (b ≡ false)
+or_none true b none = absurd cc
+or_none false b none = (refl, none)
+
+-- all streams: where none is changed, they are the same
+pub unchanged : (xs ys : List (StreamPrefix Plain)) → AreExtendedBy xs ys → list_any (λ change. change) (changes xs ys) ≡ false → xs ≡ ys
+unchanged [] [] e none = refl
+unchanged [] (y ∷ ys) e none = absurd e
+unchanged (x ∷ xs) [] e none = absurd e
+unchanged (x ∷ xs) (y ∷ ys) e none =
+    let each = or_none (is_changed x y) (list_any (λ change. change) (changes xs ys)) none in
+    ap₂ (λ (s : StreamPrefix Plain) (ss : List (StreamPrefix Plain)). s ∷ ss) (unchanged_one x y e.0 each.0) (unchanged xs ys e.1 each.1)
+
+-- How far streams may still rise: a stream has at most as many packets as timestamps below its bound.
+abbrev pub room : List (StreamPrefix Plain) → ℕ
+room [] = 0
+room (s ∷ ss) = (2 ^ 65 - (length s.packets + s.bound)) + room ss
+
+few_packets : (ps : List (Stamped Plain)) (bound : ℕ) → AllByRecursion (λ p. IsAllowed p.at) ps → Ascends ps bound → length ps + first_time ps bound ≤ bound
+few_packets [] bound allowed ascends = omega arith
+few_packets (p ∷ ps) bound allowed ascends =
+    let rest = few_packets ps bound allowed.1 ascends.1 in
+    let above = next_above p.at allowed.0 in
+    let first = ascends.0 in
+    omega (arith, rest, above, first)
+
+has_room : (s : StreamPrefix Plain) → IsPrefix s → length s.packets + s.bound ≤ 2 ^ 65
+has_room s k =
+    let few = few_packets s.packets s.bound (recursion_from_All (λ (p : Stamped Plain). IsAllowed p.at) s.packets k.allowed) k.ascends in
+    let within : s.bound ≤ 18446744073709551615 = k.within in
+    omega (arith, few, within)
+
+room_stays : (xs ys : List (StreamPrefix Plain)) → AreExtendedBy xs ys → room ys ≤ room xs
+room_stays [] [] e = omega arith
+room_stays [] (y ∷ ys) e = absurd e
+room_stays (x ∷ xs) [] e = absurd e
+room_stays (x ∷ xs) (y ∷ ys) e =
+    let rest = room_stays xs ys e.1 in
+    let here = stays_or_rises x y e.0 in
+    omega (arith, rest, here)
+
+pub room_falls : (xs ys : List (StreamPrefix Plain)) → AreExtendedBy xs ys → AllByRecursion IsPrefix ys → list_any (λ change. change) (changes xs ys) ≡ true → room ys < room xs
+room_falls [] [] e k some = absurd cc
+room_falls [] (y ∷ ys) e k some = absurd e
+room_falls (x ∷ xs) [] e k some = absurd e
+room_falls (x ∷ xs) (y ∷ ys) e k some =
+    let most = has_room y k.0 in
+    elim (either (is_changed x y) (list_any (λ change. change) (changes xs ys)) some) [
+      | inl here ↦ (let up = changed_one x y e.0 here in let rest = room_stays xs ys e.1 in omega (arith, most, up, rest))
+      | inr later ↦ (let up = stays_or_rises x y e.0 in let rest = room_falls xs ys e.1 k.1 later in omega (arith, up, rest))
+    ]
+  where
+    either : (a b : Bool) → (a || b) ≡ true → (a ≡ true) ⊎ (b ≡ true)
+    either true b some = inl refl
+    either false b some = inr some
+
+other_than : (xs ys : List (StreamPrefix Plain)) → AreExtendedBy xs ys → AllByRecursion IsPrefix ys → list_any (λ change. change) (changes xs ys) ≡ true → ys ≡ xs → ⊥
+other_than xs ys e k some same =
+    let falls = room_falls xs ys e k some in
+    let rooms = ap room same in
+    omega (arith, falls, rooms)
+
+-- Streams that the rounds have come to: those of a round, and no earlier one meets the equations.
+pub record AreReached (job : Job) (streams : List (StreamPrefix Plain)) : Type 0 where
+  pub number : ℕ
+  pub is : streams ≡ round job number
+  pub first : (earlier : ℕ) → earlier < number → ¬ MeetsEquations job (round job earlier)
+
+pub reached_keep : (job : Job) (streams : List (StreamPrefix Plain)) → IsJob job → AreReached job streams → AllByRecursion IsPrefix streams
+reached_keep job streams is reached = subst (AllByRecursion IsPrefix) (sym reached.is) (round_keeps any_state job (job_known job is) reached.number)
+
+pub reached_prefixes : (job : Job) (streams : List (StreamPrefix Plain)) → IsJob job → AreReached job streams → All IsPrefix streams
+reached_prefixes job streams is reached = All-from_recursion IsPrefix streams (reached_keep job streams is reached)
+
+round_long : (job : Job) → IsJob job → (n : ℕ) → length (round job n) ≡ length job.plan.streams
+round_long job is zero = length-replicate (length job.plan.streams) empty_prefix
+round_long job is (suc n) = equations_are_as_many any_state job (round job n) (job_known job is) (round_keeps any_state job (job_known job is) n)
+
+pub reached_long : (job : Job) (streams : List (StreamPrefix Plain)) → IsJob job → AreReached job streams → length streams ≡ length job.plan.streams
+reached_long job streams is reached = ap length reached.is ∙ round_long job is reached.number
+
+next_extends : (job : Job) (streams next : List (StreamPrefix Plain)) → IsJob job → AreReached job streams → next ≡ next_round job streams → AreExtendedBy streams next
+next_extends job streams next is reached next_is =
+    let P : List (StreamPrefix Plain) → Type 0 = λ xs. AreExtendedBy xs next in
+    subst P (sym reached.is) (subst (AreExtendedBy (round job reached.number)) (sym (next_is ∙ ap (next_round job) reached.is)) (rounds_ascend any_state job (job_known job is) reached.number))
+
+next_keeps : (job : Job) (streams next : List (StreamPrefix Plain)) → IsJob job → AreReached job streams → next ≡ next_round job streams → AllByRecursion IsPrefix next
+next_keeps job streams next is reached next_is =
+    subst (AllByRecursion IsPrefix) (sym (next_is ∙ ap (next_round job) reached.is)) (round_keeps any_state job (job_known job is) (suc reached.number))
+
+pub next_long : (job : Job) (streams next : List (StreamPrefix Plain)) → IsJob job → AreReached job streams → next ≡ next_round job streams → length streams ≡ length next
+next_long job streams next is reached next_is =
+    reached_long job streams is reached ∙ sym (ap length (next_is ∙ ap (next_round job) reached.is) ∙ round_long job is (suc reached.number))
+
+-- a round that changes something is reached next, and leaves less room
+pub reached_further : (job : Job) (streams next : List (StreamPrefix Plain)) → IsJob job → AreReached job streams → next ≡ next_round job streams → list_any (λ change. change) (changes streams next) ≡ true → AreReached job next
+reached_further job streams next is reached next_is some = record {
+  number = suc reached.number;
+  is = next_is ∙ ap (next_round job) reached.is;
+  first = (λ earlier le meets. elim (cases_lt earlier reached.number) [
+    | inl before ↦ reached.first earlier before meets
+    | inr after ↦ (let here : earlier ≡ reached.number = omega (arith, le, after) in
+        let meets_here : MeetsEquations job streams = let M : List (StreamPrefix Plain) → Type 0 = MeetsEquations job in subst M (ap (round job) here ∙ sym reached.is) meets in
+        other_than streams next (next_extends job streams next is reached next_is) (next_keeps job streams next is reached next_is) some (next_is ∙ meets_here))
+  ]);
+}
+
+pub less_room : (job : Job) (streams next : List (StreamPrefix Plain)) → IsJob job → AreReached job streams → next ≡ next_round job streams → list_any (λ change. change) (changes streams next) ≡ true → room next < room streams
+less_room job streams next is reached next_is some =
+    room_falls streams next (next_extends job streams next is reached next_is) (next_keeps job streams next is reached next_is) some
+
+-- and one that changes nothing is the solution
+pub reached_solution : (job : Job) (streams next : List (StreamPrefix Plain)) → IsJob job → AreReached job streams → next ≡ next_round job streams → list_any (λ change. change) (changes streams next) ≡ false → IsSolution job streams
+reached_solution job streams next is reached next_is none = record {
+  number = reached.number;
+  reached = reached.is;
+  meets = sym (unchanged streams next (next_extends job streams next is reached next_is) none ∙ next_is);
+  first = reached.first;
+}
+
+-- what is told of the changes
+pub told_change : (streams next before now : List (StreamPrefix Plain)) (changed read : List Bool) (change : Bool) {told : Bool} → before ≡ streams → now ≡ next → changed ≡ changes before now → read ≡ changed
+    → change ≡ list_any (λ c. c) read → change ≡ told → list_any (λ c. c) (changes streams next) ≡ told
+told_change streams next before now changed read change {told} b n is r any test =
+    ap₂ (λ (xs ys : List (StreamPrefix Plain)). list_any (λ c. c) (changes xs ys)) (sym b) (sym n) ∙ (ap (list_any (λ c. c)) (sym is) ∙ (ap (list_any (λ c. c)) (sym r) ∙ (sym any ∙ test)))
+
+pub told_solution : {E : Type 0} (job : Job) (streams : List (StreamPrefix Plain)) (result : Result Streams E) → IfOk result (λ s. s.prefixes ≡ streams) → IsSolution job streams → IfOk result (λ s. IsSolution job s.prefixes)
+told_solution job streams (Ok s) is solution = subst (IsSolution job) (sym is) solution
+told_solution job streams (Err e) is solution = tt
+
+-- a round of a job, from the one before it
+pub reached_known : (job : Job) (streams : List (StreamPrefix Plain)) (round : Round) (changed : List Bool) → IsJob job → AreReached job streams → IsRoundOf job streams round → changed ≡ changes streams round.streams.items
+    → IsKnownFrom job round.streams.items changed round.sets.items round.faults.items
+reached_known job streams round changed is reached made changed_is = record {
+  before = streams;
+  prefixes = reached_prefixes job streams is reached;
+  next = made.next;
+  extended = next_extends job streams round.streams.items is reached made.next;
+  changed_are = changed_is;
+  sets_are = made.sets;
+  faults_are = made.faults;
+}
+
+-- the faults that are told are those of the nodes
+faults_told : (job : Job) (streams : List (StreamPrefix Plain)) (faults : List (Option CodeFailure)) (nodes : List PlanNode) (k : ℕ) → map fault_seen faults ≡ map (λ node. (outcome_of job streams node).fault) nodes
+    → filter_map numbered_fault (enumerate_from k faults) ≡ filter_map (fault_of job streams) (enumerate_from k nodes)
+faults_told job streams [] [] k same = refl
+faults_told job streams [] (node ∷ nodes) k same = absurd cc
+faults_told job streams (fault ∷ faults) [] k same = absurd cc
+faults_told job streams (fault ∷ faults) (node ∷ nodes) k same =
+    let first : fault_seen fault ≡ (outcome_of job streams node).fault = ap (λ (fs : List (Option Failure)). (elim fs [ [] ↦ fault_seen fault | f ∷ rest ↦ f ])) same in
+    let others : map fault_seen faults ≡ map (λ n. (outcome_of job streams n).fault) nodes = ap (λ (fs : List (Option Failure)). (elim fs [ [] ↦ map fault_seen faults | f ∷ rest ↦ rest ])) same in
+    ap₂ (λ (f : Option NodeFault) (fs : List NodeFault). cons_option f fs)
+    (numbered_is k fault ∙ ap (λ (f : Option Failure). option_map (λ failure. let n : NodeFault = record { node = k; phase = failure.phase; cause = failure.cause } in n) f) first)
+    (faults_told job streams faults nodes (k + 1) others)
+  where
+    numbered_is : (k : ℕ) (fault : Option CodeFailure) → numbered_fault (k, fault) ≡ option_map (λ failure. let n : NodeFault = record { node = k; phase = failure.phase; cause = failure.cause } in n) (fault_seen fault)
+    numbered_is k (Some failure) = refl
+    numbered_is k None = refl
+
+pub told_faults : (job : Job) (streams : List (StreamPrefix Plain)) (round : Round) → IsRoundOf job streams round → filter_map numbered_fault (enumerate_from 0 round.faults.items) ≡ faults job streams
+told_faults job streams round made = faults_told job streams round.faults.items job.plan.nodes 0 made.faults
+
+pub few_faults : (job : Job) (streams : List (StreamPrefix Plain)) (round : Round) → IsJob job → IsRoundOf job streams round → length round.faults.items < 2 ^ 32
+few_faults job streams round is made =
+    let many : length round.faults.items ≡ length job.plan.nodes =
+    sym (length-map round.faults.items fault_seen) ∙ (ap length made.faults ∙ length-map job.plan.nodes (λ node. (outcome_of job streams node).fault)) in
+    let few = is.plan.ranges.nodes in
+    let most : 4096 < 2 ^ 32 = omega arith in
+    omega (arith, many, few, most)
+
+pub told_faults_are : {E : Type 0} (job : Job) (streams : List (StreamPrefix Plain)) (round : Round) (result : Result Streams E) → IfOk result (λ s. s.prefixes ≡ streams)
+    → IfOk result (λ s. s.faults ≡ filter_map numbered_fault (enumerate_from 0 round.faults.items)) → IsRoundOf job streams round → IfOk result (λ s. s.faults ≡ faults job s.prefixes)
+told_faults_are job streams round (Ok s) is told made = told ∙ (told_faults job streams round made ∙ ap (faults job) (sym is))
+told_faults_are job streams round (Err e) is told made = tt
+
+-- what is handed on to the round after
+pub next_prefixes : (job : Job) (streams next : List (StreamPrefix Plain)) → IsJob job → AreReached job streams → next ≡ next_round job streams → All IsPrefix next
+next_prefixes job streams next is reached next_is = All-from_recursion IsPrefix next (next_keeps job streams next is reached next_is)
+
+pub next_many : (job : Job) (streams next : List (StreamPrefix Plain)) → IsJob job → AreReached job streams → next ≡ next_round job streams → length next ≡ length job.plan.streams
+next_many job streams next is reached next_is = sym (next_long job streams next is reached next_is) ∙ reached_long job streams is reached

@@ -1,0 +1,4 @@
+pub mod Changing
+pub mod OutcomeSteps
+pub mod RoundSteps
+pub mod LayingLemmas

@@ -1,0 +1,28 @@
+-- What contracts see of an outcome.
+use Rattle.std.specs.Prelude.{◌≡◌, List, Option, option_map}
+use Rattle.mg_calc.specs.Outcome.{Outcome as PlainOutcome, Failure as PlainFailure, failed}
+use Rattle.mg_value.specs.Payload.{Plain}
+use Rattle.mg_value.specs.Prefix.{StreamPrefix}
+use Rattle.mg_calc.specs.declared.cause.CalcFault.{CalcFault}
+use Rattle.mg_calc.specs.declared.cause.CalcFault.TheVariants.{Fault, OutOfMemory}
+use Rattle.mg_calc.specs.declared.node_fault.Phase.{Phase}
+use Rattle.mg_equations.specs.declared.outcome.Outcome.{Outcome}
+use Rattle.mg_equations.specs.declared.outcome.Failure.{Failure}
+
+abbrev pub failure_seen : Failure → PlainFailure
+failure_seen failure = record { phase = failure.phase; cause = failure.cause }
+
+abbrev pub fault_seen : Option Failure → Option PlainFailure
+fault_seen fault = option_map failure_seen fault
+
+abbrev pub seen : Outcome → PlainOutcome
+seen outcome = record { state = outcome.state; outputs = outcome.outputs.items; taken = outcome.taken; fault = fault_seen outcome.fault }
+
+-- an outcome with other outputs
+abbrev pub with_outputs : PlainOutcome → List (StreamPrefix Plain) → PlainOutcome
+with_outputs outcome outputs = record outcome { outputs = outputs }
+
+-- an outcome has become one that failed of a cause; want of memory is none
+abbrev pub Fails : CalcFault → Phase → PlainOutcome → PlainOutcome → Type 0
+Fails (Fault cause) phase before now = now ≡ failed phase cause before
+Fails OutOfMemory phase before now = ⊥

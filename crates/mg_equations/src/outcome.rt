@@ -1,0 +1,259 @@
+//! What becomes of a node: it is opened, shown its settled sets one after the other, and closed, and stops at its first
+//! fault (MediaPipe, Calculators).
+ghost use Rattle.std.specs.Prelude.{◌≡◌, ◌<◌, ◌^◌, ◌+◌, replicate, map, None, OnOk, IfOk};
+ghost use Rattle.mg_value.specs.Prefix.{empty_prefix, closed};
+ghost use Rattle.mg_calc.specs.Answer.{Answer, Gives, GivesEmission};
+ghost use Rattle.mg_calc.specs.Shape.{IsOuter, IsSource, calls_of};
+ghost use Rattle.mg_calc.specs.Law.{step};
+ghost use Rattle.mg_calc.specs.Laying.{laid_behind, all_raised};
+ghost use Rattle.mg_calc.specs.Outcome.{unopened, opened as the_opened, after_laying, after_call, shown, called, finished, ended, with_last_call};
+ghost use Rattle.mg_equations.specs.Seen.{seen, with_outputs, Fails};
+
+use crate::laying::{close_all, emission_fault, lay_all, raise_all};
+use crate::output::Output;
+use mg_calc::{
+    CalcFault, Cause, Emission, GivenList, Law, Phase, State, own_begin, own_step, source_step,
+};
+use mg_route::route_step;
+use mg_time::Timestamp;
+use mg_value::{InputSet, TimedSet};
+use std::alloc::{AllocError, Global};
+
+/// A fault: what a node was doing, and why it failed.
+#[derive(Clone, Copy, Debug, PartialEq, Eq)]
+pub struct Failure {
+    pub phase: Phase,
+    pub cause: Cause,
+}
+
+impl Failure {
+    /// A second fault of a node, where there is one.
+    pub fn again(fault: &Option<Failure>) -> Option<Failure>
+        ensures { result ≡ fault.now }
+    {
+        match fault {
+            Some(failure) => Some(Failure {
+                phase: failure.phase,
+                cause: failure.cause,
+            }),
+            None => None,
+        }
+    }
+}
+
+/// What a node has come to.
+#[derive(Debug, Drop)]
+pub struct Outcome {
+    /// What its calculator keeps.
+    pub state: State,
+    pub outputs: Vec<Output>,
+    /// How many sets or calls were taken, the one that failed included.
+    pub taken: u64,
+    pub fault: Option<Failure>,
+}
+
+// So many outputs of which nothing is known yet.
+fn empty_outputs(alloc: Global, count: u32) -> Result<Vec<Output>, AllocError>
+    ensures { IfOk result (λ outputs. outputs.items ≡ replicate count empty_prefix) }
+{
+    let mut outputs = Vec::with_capacity(alloc, count as usize)?;
+    for _ in 0..count {
+        outputs.push(Output::new(alloc))?;
+    }
+    Ok(outputs)
+}
+
+// A node of so many outputs before it is opened.
+fn before_open(alloc: Global, outputs: u32) -> Result<Outcome, AllocError>
+    ensures { IfOk result (λ outcome. seen outcome ≡ unopened outputs) }
+{
+    Ok(Outcome {
+        state: State::empty(),
+        outputs: empty_outputs(alloc, outputs)?,
+        taken: 0,
+        fault: None,
+    })
+}
+
+/// What a calculator that is shown sets gives at one.
+fn outer_step(
+    alloc: Global,
+    law: &Law,
+    state: &State,
+    at: Timestamp,
+    set: &InputSet,
+) -> Result<(State, Emission), CalcFault>
+    requires { IsOuter law.now }
+    ensures { Gives result (step law.now state.now at set.now) }
+{
+    match law {
+        Law::Pass
+        | Law::Gate { .. }
+        | Law::Mux { .. }
+        | Law::Cloner { .. }
+        | Law::Merge { .. }
+        | Law::Thin { .. } => route_step(alloc, law, state, at, set),
+        _ => own_step(alloc, law, state, at, set),
+    }
+}
+
+impl Outcome {
+    /// A node that was opened with side packets.
+    pub fn opened(
+        alloc: Global,
+        law: &Law,
+        offset: Option<i64>,
+        outputs: u32,
+        sides: &GivenList,
+    ) -> Result<Outcome, AllocError>
+        ensures { IfOk result (λ outcome. seen outcome ≡ the_opened law.now offset outputs sides.now) }
+    {
+        let mut outcome = before_open(alloc, outputs)?;
+        outcome.take(offset, &Phase::Open, own_begin(alloc, law, sides))?;
+        Ok(outcome)
+    }
+
+    /// Shows it a set: before that its outputs are raised to the set's time plus its offset. Once it has failed it stays.
+    pub fn show(
+        &mut self,
+        alloc: Global,
+        law: &Law,
+        offset: Option<i64>,
+        timed: &TimedSet,
+    ) -> Result<(), AllocError>
+        requires law { IsOuter law.now }
+        requires room { self.old.taken + 1 < 2 ^ 64 }
+        ensures { OnOk result (seen self.new ≡ shown law.now offset (seen self.old) timed.now) }
+    {
+        if self.fault.is_some() {
+            return Ok(());
+        }
+        self.raise(offset, timed.at);
+        self.taken += 1;
+        let answer = outer_step(alloc, law, &self.state, timed.at, &timed.set);
+        self.take(offset, &Phase::Process(timed.at), answer)
+    }
+
+    /// Shows it that no more sets come below a time: its outputs are raised, and where it is the end of all times, it is
+    /// closed. Once it has failed it stays.
+    pub fn end(
+        &mut self,
+        law: &Law,
+        offset: Option<i64>,
+        reached: Timestamp,
+    ) -> Result<(), AllocError>
+        ensures { OnOk result (seen self.new ≡ ended law.now offset reached (seen self.old)) }
+    {
+        if self.fault.is_some() {
+            return Ok(());
+        }
+        self.raise(offset, reached);
+        if reached == Timestamp::DONE {
+            self.finish(law, offset)
+        } else {
+            Ok(())
+        }
+    }
+
+    /// Calls it by number, if it is a source. Once it has failed it stays.
+    pub fn call(&mut self, alloc: Global, law: &Law, number: u64) -> Result<(), AllocError>
+        requires source { IsSource law.now }
+        requires number { number < calls_of law.now }
+        requires room { self.old.taken + 1 < 2 ^ 64 }
+        ensures { OnOk result (seen self.new ≡ called law.now (seen self.old) number) }
+    {
+        if self.fault.is_some() {
+            return Ok(());
+        }
+        self.taken += 1;
+        match source_step(alloc, law, &self.state, number) {
+            Ok(emission) => self.lay(None, &Phase::Call(number), &emission),
+            Err(fault) => self.fail(&Phase::Call(number), fault),
+        }
+    }
+
+    /// Closes its outputs, as after the last call of a source. Once it has failed it stays.
+    pub fn close(&mut self)
+        ensures { seen self.new ≡ with_last_call (seen self.old) }
+    {
+        if self.fault.is_none() {
+            close_all(&mut self.outputs);
+        }
+    }
+
+    // Calls Close, whose emission is laid before the outputs close.
+    fn finish(&mut self, law: &Law, offset: Option<i64>) -> Result<(), AllocError>
+        requires { (seen self.old).fault ≡ None }
+        ensures { OnOk result (seen self.new ≡ finished law.now offset (seen self.old)) }
+    {
+        match law {
+            Law::Scripted { last, .. } => {
+                self.lay(offset, &Phase::Close, last)?;
+                self.close();
+                Ok(())
+            }
+            _ => {
+                self.close();
+                Ok(())
+            }
+        }
+    }
+
+    // Takes the answer to a call of the calculator.
+    fn take(
+        &mut self,
+        offset: Option<i64>,
+        phase: &Phase,
+        answer: Result<(State, Emission), CalcFault>,
+    ) -> Result<(), AllocError>
+        ensures { (wanted : Answer) → Gives answer wanted → OnOk result (seen self.new ≡ after_call offset phase.now (seen self.old) wanted) }
+    {
+        match answer {
+            Ok((state, emission)) => {
+                self.state = state;
+                self.lay(offset, phase, &emission)
+            }
+            Err(fault) => self.fail(phase, fault),
+        }
+    }
+
+    // Lays an emission. Where it can't be laid, the node has failed, and the whole emission is dropped.
+    fn lay(
+        &mut self,
+        offset: Option<i64>,
+        phase: &Phase,
+        emission: &Emission,
+    ) -> Result<(), AllocError>
+        ensures { OnOk result (seen self.new ≡ after_laying phase.now (seen self.old) (laid_behind offset phase.now (seen self.old).outputs emission.now)) }
+    {
+        match emission_fault(offset, phase, &self.outputs, emission) {
+            Some(cause) => self.fail(phase, CalcFault::Fault(cause)),
+            None => {
+                lay_all(&mut self.outputs, emission)?;
+                Ok(())
+            }
+        }
+    }
+
+    // Fails of a cause. Want of memory is no cause.
+    fn fail(&mut self, phase: &Phase, fault: CalcFault) -> Result<(), AllocError>
+        ensures { OnOk result (Fails fault phase.now (seen self.old) (seen self.new)) }
+    {
+        match fault {
+            CalcFault::Fault(cause) => {
+                self.fault = Some(Failure {
+                    phase: *phase,
+                    cause,
+                });
+                Ok(())
+            }
+            CalcFault::OutOfMemory => Err(AllocError),
+        }
+    }
+
+    fn raise(&mut self, offset: Option<i64>, bound: Timestamp)
+        ensures { seen self.new ≡ with_outputs (seen self.old) (all_raised offset bound (seen self.old).outputs) }
+    {
+        raise_all(offset, bound, &mut self.outputs);
+    }
+}
