@@ -1,12 +1,10 @@
 //! Feeds: what each packet line answers, and what is taken then.
 
 use crate::table::{Calls, assert_rows};
-use mg_calc::{
-    Inputs, NumberList, Plan, PlanStream, PlanStreamList, Producer, Side, SideList, SideValue,
-};
+use mg_calc::{Inputs, Plan, PlanStream, PlanStreamList, Producer, Side, SideList, SideValue};
 use mg_feed::{Feed, generate, write_line};
 use mg_time::Timestamp;
-use mg_value::{BlockList, Kind, MgText, Packet, Payload, Prefix};
+use mg_value::{BlockList, Kind, MgText, NumberList, Packet, Payload, Prefix};
 use std::alloc::Global;
 use std::sync::Arc;
 use std::test::Fail;
