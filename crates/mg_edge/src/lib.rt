@@ -4,6 +4,7 @@
 #![tactic(auto)]
 
 mod folder_store;
+mod gate;
 pub mod laws;
 mod memory_sink;
 mod memory_source;
@@ -15,6 +16,7 @@ mod store;
 mod writer_sink;
 
 pub use folder_store::FolderStore;
+pub use gate::{Gate, StillGate};
 pub use memory_sink::MemorySink;
 pub use memory_source::MemorySource;
 pub use memory_store::MemoryStore;

@@ -1,4 +1,4 @@
-ghost use Rattle.std.specs.Prelude.{◌≡◌, ◌≢◌, Some, IfNone, ◌<◌, ◌≤◌, ◌+◌, ◌^◌, ◌↔◌, [], length, slice_get, option_map, OnOk, OnErr, IfErr, IsErrAnd, IsOk, MatchResult};
+ghost use Rattle.std.specs.Prelude.{◌≡◌, ◌≢◌, Some, IfNone, ◌<◌, ◌≤◌, ◌+◌, ◌^◌, ◌↔◌, [], length, slice_get, option_map, option_copied, OnOk, OnErr, IfErr, IsErrAnd, IsOk, MatchResult};
 ghost use Rattle.std.specs.VecDeque.{deque_len, deque_capacity};
 ghost use Rattle.mg_time.specs.Time.{pre_stream, post_stream, done, IsAllowed};
 ghost use Rattle.mg_value.specs.Payload.{Plain};
@@ -131,6 +131,13 @@ impl Queue {
         ensures rest { IsPrefix (rest_of self.now) }
     {
         Some(self.packets.front()?.at)
+    }
+
+    /// The packet that waits at a place, from 0 on.
+    pub fn get(&self, place: u64) -> Option<&Packet>
+        ensures { option_copied result ≡ slice_get self.now.packets place }
+    {
+        self.packets.get(place as usize)
     }
 
     /// The lowest timestamp that a further packet may have.
