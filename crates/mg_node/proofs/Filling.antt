@@ -1,0 +1,176 @@
+-- Outputs of graph inputs: all packets of a prefix, and what is given up of them.
+use Rattle.std.proofs.Common.{◌≡◌, ℕ, zero, suc, ◌+◌, ◌-◌, ◌<◌, ◌≤◌, max, List, [], ◌∷◌, ◌++◌, length, length-drop, map, true, false, take, drop, drop-drop, append-nil, append_assoc, add-one, get_or, All, option_map, Some, None, slice_get, eq-eqb, ap, sym, refl, subst, ◌∙◌, arith}
+use Rattle.std.proofs.lemmas.List.{take_more, take_all, drop_all}
+use Rattle.std.proofs.lemmas.List.Elements.{All-head}
+use Rattle.mg_time.specs.Time.{IsAllowed, next, pre_stream}
+use Rattle.mg_value.specs.Payload.{Plain}
+use Rattle.mg_value.specs.Prefix.{Stamped, StreamPrefix, IsPrefix, Ascends, first_time, empty_prefix}
+use Rattle.mg_stream.specs.Queue.{Waiting, StandsFor, count_of, IsLike, empty_queue, with_packet, popped, popped_at}
+use Rattle.mg_stream.specs.Pool.{Backlog, backlog_of, queue_of}
+use Rattle.mg_calc.specs.declared.plan.Plan.{Plan}
+use Rattle.mg_calc.specs.Plan.{IsValid}
+use Rattle.mg_node.specs.declared.role.Role.TheVariants.{Input}
+use Rattle.mg_node.specs.Views.{BenchView, EntryView, EngineView}
+use Rattle.mg_node.specs.Outputs.{without_first, kept_whole, input_engine}
+use Rattle.mg_node.specs.Job.{LoggedJob, Solves}
+use Rattle.mg_node.specs.Lawful.{of_input, LawfulEngine}
+use Rattle.mg_node.proofs.Leads.{row_at}
+
+-- what may follow a packet is at most the time of the one after it, or the bound
+next_ascends : (ps : List (Stamped Plain)) (b i : ℕ) (p : Stamped Plain) → Ascends ps b → i < length ps → get_or ps i p ≡ p → next p.at ≤ first_time (drop (suc i) ps) b
+next_ascends [] b i p r le is = absurd (omega (arith, le))
+next_ascends (x ∷ ps) b zero p r le is = (let same : x ≡ p = is in subst (λ (y : Stamped Plain). next y.at ≤ first_time ps b) same r.0)
+next_ascends (x ∷ ps) b (suc i) p r le is = next_ascends ps b i p r.1 (omega (arith, le)) is
+
+-- the first packets stand behind those of a queue, a number of them, and its bound is at most the next one's time
+pub record IsFilled (start q : Waiting Plain) (ps : List (Stamped Plain)) (i : ℕ) : Type 0 where
+  pub gone : q.gone ≡ start.gone
+  pub packets : q.packets ≡ start.packets ++ take i ps
+  pub bound : (b : ℕ) → Ascends ps b → start.bound ≤ first_time ps b → q.bound ≤ first_time (drop i ps) b
+
+pub filled_none : (q : Waiting Plain) (ps : List (Stamped Plain)) → IsFilled q q ps 0
+filled_none q ps = record { gone = refl; packets = sym (append-nil q.packets); bound = (λ b asc le. le) }
+
+pub filled_more : (start q r : Waiting Plain) (ps : List (Stamped Plain)) (i : ℕ) (p x : Stamped Plain) → IsFilled start q ps i → i < length ps → p ≡ get_or ps i p → x ≡ p → IsLike r (with_packet q x) → IsFilled start r ps (i + 1)
+filled_more start q r ps i p x f there is same like = record {
+  gone = like.gone ∙ f.gone;
+  packets = like.packets ∙ ap (λ (qs : List (Stamped Plain)). qs ++ x ∷ []) f.packets ∙ append_assoc start.packets (take i ps) (x ∷ [])
+      ∙ ap (λ (qs : List (Stamped Plain)). start.packets ++ qs) (ap (λ (y : Stamped Plain). take i ps ++ y ∷ []) (same ∙ is) ∙ sym (take_more ps i p there));
+  bound = (λ b asc le. subst (λ (n : ℕ). r.bound ≤ first_time (drop n ps) b) (sym (add-one i))
+      (subst (λ (n : ℕ). n ≤ first_time (drop (suc i) ps) b) (sym (like.bound ∙ ap (λ (y : Stamped Plain). next y.at) same)) (next_ascends ps b i p asc there (sym is))));
+}
+
+pub filled_all : (start q : Waiting Plain) (ps : List (Stamped Plain)) (i : ℕ) → IsFilled start q ps i → length ps ≤ i → (q.packets ≡ start.packets ++ ps) × ((b : ℕ) → Ascends ps b → start.bound ≤ first_time ps b → q.bound ≤ b)
+filled_all start q ps i f end = (
+  f.packets ∙ ap (λ (qs : List (Stamped Plain)). start.packets ++ qs) (take_all i ps end),
+  (λ b asc le. subst (λ (qs : List (Stamped Plain)). q.bound ≤ first_time qs b) (drop_all i ps end) (f.bound b asc le)),
+)
+
+-- a prefix begins at PreStream or above
+pub begins : (s : StreamPrefix Plain) → IsPrefix s → pre_stream ≤ first_time s.packets s.bound
+begins s is = by_packets s.packets is.allowed
+  where
+    by_packets : (ps : List (Stamped Plain)) → All (λ p. IsAllowed p.at) ps → pre_stream ≤ first_time ps s.bound
+    by_packets [] a = is.opened
+    by_packets (p ∷ ps) a = (let here : IsAllowed p.at = All-head (λ (q : Stamped Plain). IsAllowed q.at) p ps a in here.0)
+
+-- a filled queue has all of a prefix
+same_backlog : (a b : Backlog Plain) → a.gone ≡ b.gone → a.packets ≡ b.packets → a.bound ≡ b.bound → a ≡ b
+same_backlog a b gone packets bound = λ i. record { gone = gone i; packets = packets i; bound = bound i }
+
+pub filled : (s : StreamPrefix Plain) (fresh q r : Waiting Plain) → IsPrefix s → IsLike fresh empty_queue → q.gone ≡ fresh.gone → q.packets ≡ fresh.packets ++ s.packets
+    → ((b : ℕ) → Ascends s.packets b → fresh.bound ≤ first_time s.packets b → q.bound ≤ b) → r ≡ record q { bound = max q.bound s.bound } → backlog_of r ≡ kept_whole s
+filled s fresh q r is like gone packets bound raised =
+    let start = like.bound in
+    let first = begins s is in
+    let low : q.bound ≤ s.bound = bound s.bound is.ascends (omega (arith, start, first)) in
+    same_backlog (backlog_of r) (kept_whole s)
+    (ap (λ (w : Waiting Plain). w.gone) raised ∙ gone ∙ like.gone)
+    (ap (λ (w : Waiting Plain). w.packets) raised ∙ packets ∙ ap (λ (ps : List (Stamped Plain)). ps ++ s.packets) like.packets)
+    (ap (λ (w : Waiting Plain). w.bound) raised ∙ omega (arith, low))
+
+-- the engine of a graph input is lawful
+pub input_lawful : (job : LoggedJob) (streams : List (StreamPrefix Plain)) (plan : Plan) (input : ℕ) (s : StreamPrefix Plain) → input < length plan.inputs → IsPrefix s → job.job.plan ≡ plan → Solves job streams
+    → get_or streams input empty_prefix ≡ s → LawfulEngine job (of_input input) (input_engine input (get_or plan.inputs input 0) s)
+unfolding LawfulEngine
+input_lawful job streams plan input s there is same solves given =
+    let valid : IsValid plan = subst IsValid same solves.is_job.plan in
+    record {
+      streams = streams;
+      solves = solves;
+      there = subst (λ (p : Plan). input < length p.inputs) (sym same) there;
+      role = refl;
+      number_is = refl;
+      first = ap (λ (ns : List ℕ). get_or ns input 0) valid.inputs ∙ row_at 0 (length plan.inputs) input there ∙ omega arith;
+      kept = (subst (λ (t : StreamPrefix Plain). StandsFor (queue_of 0 (kept_whole s)) t) (sym given) (record { prefix = is; gone = omega arith; waiting = refl; bound = refl }), tt);
+      laid = refl;
+      claimed = refl;
+      window = refl;
+      idle = refl;
+      fault = refl;
+    }
+
+-- Giving up.
+
+-- a queue of which so many first packets are given up, and so many are to be
+pub record GivesUp (old now : Waiting Plain) (got : ℕ) : Type 0 where
+  pub from : old.gone ≤ now.gone
+  pub upto : now.gone ≤ max old.gone got
+  pub packets : now.packets ≡ drop (now.gone - old.gone) old.packets
+  pub bound : now.bound ≡ old.bound
+
+pub gives_none : (old : Waiting Plain) (got : ℕ) → GivesUp old old got
+gives_none old got = record { from = omega arith; upto = omega arith; packets = (let none : old.gone - old.gone ≡ 0 = omega arith in ap (λ (n : ℕ). drop n old.packets) (sym none)); bound = refl }
+
+popped_is : (q : Waiting Plain) (t : ℕ) → Some t ≡ option_map (λ p. p.at) (slice_get q.packets 0) → popped_at t q ≡ popped q
+popped_is q t first = by_packets q.packets refl
+  where
+    by_packets : (ps : List (Stamped Plain)) → q.packets ≡ ps → popped_at t q ≡ popped q
+    by_packets [] is = absurd (let e = rw is at first in cc)
+    by_packets (p ∷ ps) is =
+        (let f : Some t ≡ Some p.at = rw is at first in
+        let e : t ≡ p.at = cc in
+        rw (is, eq-eqb p.at t (sym e)) refl)
+
+pub gives_more : (old now : Waiting Plain) (got t : ℕ) → GivesUp old now got → now.gone < got → Some t ≡ option_map (λ p. p.at) (slice_get now.packets 0) → GivesUp old (popped_at t now) got
+gives_more old now got t g less first =
+    let from = g.from in
+    let upto = g.upto in
+    subst (λ (q : Waiting Plain). GivesUp old q got) (sym (popped_is now t first)) (record {
+      from = omega (arith, from);
+      upto = omega (arith, less);
+      packets = ap (λ (ps : List (Stamped Plain)). drop 1 ps) g.packets ∙ drop-drop 1 (now.gone - old.gone) old.packets ∙ ap (λ (n : ℕ). drop n old.packets) (omega (arith, from));
+      bound = g.bound;
+    })
+
+pub given_up : (old now : Waiting Plain) (got : ℕ) → GivesUp old now got → got ≤ now.gone → backlog_of now ≡ without_first got (backlog_of old)
+given_up old now got g enough =
+    let from = g.from in
+    let upto = g.upto in
+    same_backlog (backlog_of now) (without_first got (backlog_of old)) (omega (arith, from, upto, enough))
+    (g.packets ∙ ap (λ (n : ℕ). drop n old.packets) (omega (arith, from, upto, enough))) g.bound
+
+-- there is a packet to give up where not all are
+pub some_waits : (old now : Waiting Plain) (got : ℕ) → GivesUp old now got → got ≤ count_of old → now.gone < got → None ≡ option_map (λ p. p.at) (slice_get now.packets 0) → ⊥
+some_waits old now got g le less none = by_packets now.packets refl
+  where
+    by_packets : (ps : List (Stamped Plain)) → now.packets ≡ ps → ⊥
+    by_packets [] is = (let from = g.from in omega (arith, from, le, less, ap length (sym g.packets ∙ is), length-drop (now.gone - old.gone) old.packets))
+    by_packets (p ∷ ps) is = (let e = rw is at none in cc)
+
+-- the engine of a graph input, as the code makes it
+pub input_made : (input stream first : ℕ) (s : StreamPrefix Plain) (items : List (Waiting Plain)) (q : Waiting Plain) (window : List EntryView) (idle : List BenchView) → first ≡ stream → items ≡ q ∷ [] → backlog_of q ≡ kept_whole s → window ≡ [] → idle ≡ []
+    → (let e : EngineView = record {
+      role = Input;
+      node = input;
+      first = first;
+      offset = None;
+      in_flight = 0;
+      inputs = 0;
+      outputs = map backlog_of items;
+      laid = 0;
+      claimed = 0;
+      window = window;
+      idle = idle;
+      begun = true;
+      closed = false;
+      fault = None;
+    } in e) ≡ input_engine input stream s
+input_made input stream first s items q window idle e_first e_items e_whole e_window e_idle =
+    let outputs : map backlog_of items ≡ kept_whole s ∷ [] = ap (map backlog_of) e_items ∙ ap (λ (b : Backlog Plain). b ∷ []) e_whole in
+    λ i. record {
+      role = Input;
+      node = input;
+      first = e_first i;
+      offset = None;
+      in_flight = 0;
+      inputs = 0;
+      outputs = outputs i;
+      laid = 0;
+      claimed = 0;
+      window = e_window i;
+      idle = e_idle i;
+      begun = true;
+      closed = false;
+      fault = None;
+    }

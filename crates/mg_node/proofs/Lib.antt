@@ -1,0 +1,27 @@
+pub mod Horizons
+pub mod PortSteps
+pub mod Delivering
+pub mod Bringing
+pub mod Zips
+pub mod Arriving
+pub mod Performing
+pub mod Leads
+pub mod Claiming
+pub mod Beginning
+mod WorkedCell
+pub mod Filling
+pub mod Giving
+pub mod Unrun
+pub mod Claimable
+pub mod Stateless
+pub mod NodeSolution
+pub mod Answering
+pub mod Replying
+pub mod Handing
+pub mod ClaimsKeep
+pub mod Looping
+pub mod Closing
+pub mod AnswerKeeps
+pub mod Cells
+pub mod Shelving
+pub mod ShelfLaws

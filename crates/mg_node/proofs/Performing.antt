@@ -1,0 +1,137 @@
+-- A lawful work may be run, and is lawful once it is done.
+use Rattle.std.proofs.Common.{◌≡◌, ℕ, zero, suc, ◌<◌, List, [], ◌∷◌, ◌++◌, length, append-nil, append_assoc, All, Option, Some, None, option_map, slice_get, Result, Ok, Err, ap, sym, refl, subst, ◌∙◌}
+use Rattle.std.specs.List.{AllByRecursion}
+use Rattle.std.proofs.lemmas.List.Elements.{recursion_from_All}
+use Rattle.mg_value.specs.Payload.{Plain}
+use Rattle.mg_value.specs.Prefix.{Stamped}
+use Rattle.mg_calc.specs.declared.call.Call.{Call}
+use Rattle.mg_calc.specs.declared.cause.Cause.{Cause}
+use Rattle.mg_calc.specs.declared.cause.CalcFault.{CalcFault}
+use Rattle.mg_calc.specs.declared.cause.CalcFault.TheVariants.{Fault, OutOfMemory}
+use Rattle.mg_calc.specs.declared.emission.Laid.{Laid}
+use Rattle.mg_calc.specs.declared.law.Law.{Law}
+use Rattle.mg_calc.specs.declared.node_fault.Phase.{Phase}
+use Rattle.mg_calc.specs.declared.node_fault.Phase.TheVariants.{Open, Call as SourceCall, Process, Close}
+use Rattle.mg_calc.specs.declared.shape.Shape.{Shape}
+use Rattle.mg_calc.specs.Plan.{HasNumbers}
+use Rattle.mg_calc.specs.Shape.{IsOuter, IsSource, calls_of}
+use Rattle.mg_node.specs.Views.{BenchView, WorkView, OutcomeView}
+use Rattle.mg_node.specs.Job.{LoggedJob, IsTask, stage, calls_before, calls_in, log_after, first_log}
+use Rattle.mg_node.specs.Lawful.{IsWorkOf, LawfulWork, LawfulPerformed, HasAnswered, answer_in}
+use Rattle.mg_node.specs.Running.{MayRun, LogsPhase, HasRun, SomeJobHas, IsPerformed}
+
+-- what holds of all nodes holds of each
+pub of_node : {X : Type 0} (P : X → Type 0) (xs : List X) (i : ℕ) (x : X) → All P xs → slice_get xs i ≡ Some x → P x
+of_node {X} P xs i x all there = go xs i (recursion_from_All P xs all) there
+  where
+    go : (ys : List X) (j : ℕ) → AllByRecursion P ys → slice_get ys j ≡ Some x → P x
+    go [] j a there = absurd cc
+    go (y ∷ ys) zero a there = (let same : y ≡ x = cc in subst P same a.0)
+    go (y ∷ ys) (suc j) a there = go ys j a.1 there
+
+may_run_by : (job : LoggedJob) (o : OutcomeView) (w : IsWorkOf job o) (phase : Phase) → IsTask job.job w.streams w.node o.work.number phase o.work.bench.set → MayRun phase o.work.bench
+may_run_by job o w Open task = absurd task
+may_run_by job o w (SourceCall number) task =
+    let law : w.node.law ≡ o.work.bench.told.law = sym w.fits.same_law in
+    (subst IsSource law task.0, subst (λ (n : ℕ). n < calls_of o.work.bench.told.law) (sym task.1) (subst (λ (l : Law). o.work.number < calls_of l) law task.2))
+may_run_by job o w (Process at) task =
+    let has : HasNumbers w.node = of_node HasNumbers job.job.plan.nodes o.work.node w.node w.solves.is_job.plan.ports w.there in
+    (subst IsOuter (sym w.fits.same_law) task.0, w.places ∙ has.inputs ∙ ap (λ (s : Shape). length s.inputs) (sym w.fits.same_shape))
+may_run_by job o w Close task = tt
+
+may_run_of : (job : LoggedJob) (work : WorkView) → LawfulWork job work → MayRun work.phase work.bench
+unfolding LawfulWork
+may_run_of job work w = may_run_by job (record { work = work; answer = None }) w work.phase w.task
+
+pub may_run : (work : WorkView) → SomeJobHas work → MayRun work.phase work.bench
+may_run work h = may_run_of h.job work h.lawful
+
+-- the log after a run that found memory
+no_call : (log : Option (List Call)) → log ≡ option_map (λ calls. calls ++ []) log
+no_call None = refl
+no_call (Some calls) = ap Some (sym (append-nil calls))
+
+pub logged_well : (e : List Laid) (bench : BenchView) (now : Option (List Call)) (phase : Phase) → MayRun phase bench → LogsPhase (let r : Result (List Laid) CalcFault = Ok e in r) bench.told.log now phase bench.set
+    → now ≡ option_map (λ calls. calls ++ calls_in phase bench.set) bench.told.log
+logged_well e bench now Open may h = absurd may
+logged_well e bench now (SourceCall number) may h = h ∙ no_call bench.told.log
+logged_well e bench now (Process at) may h = h
+logged_well e bench now Close may h = h
+
+pub logged_fault : (cause : Cause) (bench : BenchView) (now : Option (List Call)) (phase : Phase) → MayRun phase bench → LogsPhase (let r : Result (List Laid) CalcFault = Err (Fault cause) in r) bench.told.log now phase bench.set
+    → now ≡ option_map (λ calls. calls ++ calls_in phase bench.set) bench.told.log
+logged_fault cause bench now Open may h = absurd may
+logged_fault cause bench now (SourceCall number) may h = h ∙ no_call bench.told.log
+logged_fault cause bench now (Process at) may h = h
+logged_fault cause bench now Close may h = h
+
+logged_none : (bench : BenchView) (now : Option (List Call)) (phase : Phase) → MayRun phase bench → LogsPhase (let r : Result (List Laid) CalcFault = Err OutOfMemory in r) bench.told.log now phase bench.set → now ≡ bench.told.log
+logged_none bench now Open may h = absurd may
+logged_none bench now (SourceCall number) may h = h
+logged_none bench now (Process at) may h = h
+logged_none bench now Close may h = h
+
+-- a work is done, with an emission or a cause
+pub performed_well : (work now : WorkView) (e : List Laid) → MayRun work.phase work.bench → HasRun (Ok e) work.phase work.bench now.bench → now ≡ record work { bench = now.bench } → IsPerformed work (record { work = now; answer = Ok e })
+performed_well work now e may h same = record {
+  same = same;
+  answer = h.answer;
+  log = logged_well e work.bench now.bench.told.log work.phase may h.log;
+  law = h.law;
+  shape = h.shape;
+  set = h.set;
+}
+
+pub performed_fault : (work now : WorkView) (cause : Cause) → MayRun work.phase work.bench → HasRun (Err (Fault cause)) work.phase work.bench now.bench → now ≡ record work { bench = now.bench } → IsPerformed work (record { work = now; answer = Err cause })
+performed_fault work now cause may h same = record {
+  same = same;
+  answer = (h.answer, h.kept);
+  log = logged_fault cause work.bench now.bench.told.log work.phase may h.log;
+  law = h.law;
+  shape = h.shape;
+  set = h.set;
+}
+
+-- and after want of memory it is as it was
+same_bench : (a b : BenchView) → a.told.law ≡ b.told.law → a.told.shape ≡ b.told.shape → a.told.state ≡ b.told.state → a.told.log ≡ b.told.log → a.set ≡ b.set → a ≡ b
+same_bench a b law shape state log set = λ i. record { told = record { law = law i; shape = shape i; state = state i; log = log i }; set = set i }
+
+pub unchanged : (work now : WorkView) → MayRun work.phase work.bench → HasRun (Err OutOfMemory) work.phase work.bench now.bench → now ≡ record work { bench = now.bench } → now ≡ work
+unchanged work now may h same =
+    let bench : now.bench ≡ work.bench = same_bench now.bench work.bench h.law h.shape h.kept (logged_none work.bench now.bench.told.log work.phase may h.log) h.set in
+    same ∙ ap (λ (b : BenchView). (let w : WorkView = record work { bench = b } in w)) bench
+
+-- Lawful.
+
+log_further : (first : Option (List Call)) (calls more : List Call) → option_map (λ c. c ++ more) (option_map (λ c. c ++ calls) first) ≡ option_map (λ c. c ++ (calls ++ more)) first
+log_further None calls more = refl
+log_further (Some c) calls more = ap Some (append_assoc c calls more)
+
+answered_from : (answer : Result (List Laid) Cause) (a b now : List Plain) (l m : Law) (phase : Phase) (set : List (Option (Stamped Plain))) → a ≡ b → l ≡ m → HasAnswered answer a now (answer_in l a phase set) → HasAnswered answer b now (answer_in m b phase set)
+answered_from answer a b now l m phase set same law h =
+    subst (λ (s : List Plain). HasAnswered answer s now (answer_in m s phase set)) same (subst (λ (k : Law). HasAnswered answer a now (answer_in k a phase set)) law h)
+
+performed_at : (job : LoggedJob) (work : WorkView) (bench : BenchView) (answer : Result (List Laid) Cause) → LawfulWork job work → IsPerformed work (record { work = record work { bench = bench }; answer = answer })
+    → LawfulPerformed job (record { work = record work { bench = bench }; answer = answer })
+unfolding LawfulWork LawfulPerformed
+performed_at job work bench answer w p = record {
+  streams = w.streams;
+  solves = w.solves;
+  node = w.node;
+  there = w.there;
+  fits = record { same_law = p.law ∙ w.fits.same_law; same_shape = p.shape ∙ w.fits.same_shape };
+  places = ap length p.set ∙ w.places;
+  task = subst (λ (set : List (Option (Stamped Plain))). IsTask job.job w.streams w.node work.number work.phase set) (sym p.set) w.task;
+  at_work = (
+    subst (λ (set : List (Option (Stamped Plain))). HasAnswered answer (stage job.job w.streams w.node work.number).state bench.told.state (answer_in w.node.law (stage job.job w.streams w.node work.number).state work.phase set)) (sym p.set)
+        (answered_from answer work.bench.told.state (stage job.job w.streams w.node work.number).state bench.told.state work.bench.told.law w.node.law work.phase work.bench.set w.at_work.0 w.fits.same_law p.answer),
+    p.log ∙ ap (option_map (λ calls. calls ++ calls_in work.phase work.bench.set)) w.at_work.1 ∙ log_further (first_log job w.node) (calls_before w.streams w.node work.number) (calls_in work.phase work.bench.set)
+        ∙ ap (λ (set : List (Option (Stamped Plain))). log_after job w.node (calls_before w.streams w.node work.number ++ calls_in work.phase set)) (sym p.set),
+  );
+}
+
+pub performed_lawful : (job : LoggedJob) (work now : WorkView) (answer : Result (List Laid) Cause) → LawfulWork job work → IsPerformed work (record { work = now; answer = answer }) → LawfulPerformed job (record { work = now; answer = answer })
+performed_lawful job work now answer w p =
+    let At : WorkView → Type 0 = λ v. IsPerformed work (record { work = v; answer = answer }) in
+    subst (λ (v : WorkView). LawfulPerformed job (record { work = v; answer = answer })) (sym p.same)
+    (performed_at job work now.bench answer w (subst At p.same p))

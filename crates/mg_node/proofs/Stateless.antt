@@ -1,0 +1,105 @@
+-- A node that keeps no state has none at any stage.
+use Rattle.std.proofs.Common.{◌≡◌, ℕ, ℤ, ◌+◌, true, List, [], ◌∷◌, length, take, Option, Some, None, Result, Ok, Err, IfOk, slice_get, refl, ap, sym, subst, ◌∙◌}
+use Rattle.std.specs.List.{AllByRecursion, fold}
+use Rattle.std.proofs.lemmas.List.{length-map}
+use Rattle.std.proofs.lemmas.List.Elements.{recursion_from_All}
+use Rattle.mg_value.specs.Payload.{Plain}
+use Rattle.mg_value.specs.Prefix.{StreamPrefix}
+use Rattle.mg_value.specs.Settled.{TimedSet, settled_sets}
+use Rattle.mg_value.proofs.Lemmas.{sets-places}
+use Rattle.mg_calc.specs.declared.cause.Cause.{Cause}
+use Rattle.mg_calc.specs.declared.emission.Laid.{Laid}
+use Rattle.mg_calc.specs.declared.law.Law.{Law}
+use Rattle.mg_calc.specs.declared.law.Law.TheVariants.{Cloner, Thin, Running, Count, SideOnce, Constants, Loopback, Tally, Scripted}
+use Rattle.mg_calc.specs.declared.node_fault.Phase.{Phase}
+use Rattle.mg_calc.specs.declared.node_fault.Phase.TheVariants.{Open, Process}
+use Rattle.mg_calc.specs.declared.plan_node.PlanNode.{PlanNode}
+use Rattle.mg_calc.specs.declared.shape.Shape.{Shape}
+use Rattle.mg_calc.specs.Answer.{Answer}
+use Rattle.mg_calc.specs.Law.{opening, step}
+use Rattle.mg_calc.specs.Laying.{laid_behind, all_raised}
+use Rattle.mg_calc.specs.Outcome.{Failure, Outcome, after_laying, after_call, unopened, opened, unless_failed, shown, shown_all}
+use Rattle.mg_calc.specs.Plan.{HasNumbers}
+use Rattle.mg_calc.specs.Shape.{IsShapeOf, FitsInputs, is_stateless}
+use Rattle.mg_calc.specs.State.{IsStateOf}
+use Rattle.mg_calc.specs.Equations.{Job, inputs_of, sides_of, stream_of}
+use Rattle.mg_calc.proofs.Counting.{all_of_first}
+use Rattle.mg_calc.proofs.StateForms.{stepped}
+use Rattle.mg_node.specs.Job.{LoggedJob, Solves, sets_of, stage_by, stage}
+use Rattle.mg_node.proofs.Performing.{of_node}
+
+-- such a law's states are empty
+form_empty : (law : Law) (state : List Plain) → is_stateless law ≡ true → IsStateOf law state → state ≡ []
+form_empty (Cloner lanes) state is h = absurd cc
+form_empty (Thin period) state is h = absurd cc
+form_empty Running state is h = absurd cc
+form_empty (SideOnce at) state is h = absurd cc
+form_empty Tally state is h = absurd cc
+form_empty (Scripted offset first steps last) state is h = absurd cc
+form_empty law state is h = h
+
+empty_form : (law : Law) (state : List Plain) → is_stateless law ≡ true → state ≡ [] → IsStateOf law state
+empty_form (Cloner lanes) state is h = absurd cc
+empty_form (Thin period) state is h = absurd cc
+empty_form Running state is h = absurd cc
+empty_form (SideOnce at) state is h = absurd cc
+empty_form Tally state is h = absurd cc
+empty_form (Scripted offset first steps last) state is h = absurd cc
+empty_form law state is h = h
+
+opens_empty : (law : Law) (sides : List (Option Plain)) (given : List Plain × List Laid) → is_stateless law ≡ true → opening law sides ≡ Ok given → given.0 ≡ []
+opens_empty (SideOnce at) sides given is h = absurd cc
+opens_empty (Scripted offset first steps last) sides given is h = absurd cc
+opens_empty law sides given is h = cc
+
+-- what a call leaves is the state before, or that of the answer
+laid_state : (P : List Plain → Type 0) (phase : Phase) (outcome : Outcome) (answer : Result (List (StreamPrefix Plain)) Cause) → P outcome.state → P (after_laying phase outcome answer).state
+laid_state P phase outcome (Ok outputs) h = h
+laid_state P phase outcome (Err cause) h = h
+
+call_state : (P : List Plain → Type 0) (offset : Option ℤ) (phase : Phase) (outcome : Outcome) (answer : Answer) → P outcome.state → ((given : List Plain × List Laid) → answer ≡ Ok given → P given.0) → P (after_call offset phase outcome answer).state
+call_state P offset phase outcome (Err cause) h k = h
+call_state P offset phase outcome (Ok given) h k = laid_state P phase (record outcome { state = given.0 }) (laid_behind offset phase outcome.outputs given.1) (k given refl)
+
+unless_state : (P : List Plain → Type 0) (fault : Option Failure) (outcome next : Outcome) → P outcome.state → P next.state → P (unless_failed fault outcome next).state
+unless_state P (Some failure) outcome next h k = h
+unless_state P None outcome next h k = k
+
+if_given : (P : List Plain → Type 0) (answer : Answer) (given : List Plain × List Laid) → IfOk answer (λ g. P g.0) → answer ≡ Ok given → P given.0
+if_given P (Ok g) given h e = (let same : g ≡ given = cc in subst (λ (x : List Plain × List Laid). P x.0) same h)
+if_given P (Err cause) given h e = absurd cc
+
+module _ (law : Law) (shape : Shape) (is : is_stateless law ≡ true) (of_law : IsShapeOf law shape) where
+  shown_empty : (offset : Option ℤ) (outcome : Outcome) (set : TimedSet Plain) → FitsInputs shape set.set → outcome.state ≡ [] → (shown law offset outcome set).state ≡ []
+  shown_empty offset outcome set fits empty =
+      let before : Outcome = record outcome { outputs = all_raised offset set.at outcome.outputs; taken = outcome.taken + 1 } in
+      unless_state (λ (s : List Plain). s ≡ []) outcome.fault outcome (after_call offset (Process set.at) before (step law outcome.state set.at set.set)) empty
+      (call_state (λ (s : List Plain). s ≡ []) offset (Process set.at) before (step law outcome.state set.at set.set) empty (λ given e.
+      form_empty law given.0 is (if_given (IsStateOf law) (step law outcome.state set.at set.set) given (stepped law shape outcome.state set.at set.set of_law fits (empty_form law outcome.state is empty)) e)))
+
+  all_empty : (offset : Option ℤ) (outcome : Outcome) (sets : List (TimedSet Plain)) → AllByRecursion (λ e. FitsInputs shape e.set) sets → outcome.state ≡ [] → (fold (shown law offset) outcome sets).state ≡ []
+  all_empty offset outcome [] fits empty = empty
+  all_empty offset outcome (set ∷ sets) fits empty = all_empty offset (shown law offset outcome set) sets fits.1 (shown_empty offset outcome set fits.0 empty)
+
+stage_sets : (law : Law) (job : Job) (streams : List (StreamPrefix Plain)) (node : PlanNode) (n : ℕ) → is_stateless law ≡ true
+    → stage_by law job streams node n ≡ shown_all node.law node.shape.offset (length node.outputs) (sides_of job node) (take n (sets_of streams node))
+stage_sets (Count count start apart) job streams node n is = absurd cc
+stage_sets (SideOnce at) job streams node n is = absurd cc
+stage_sets Constants job streams node n is = absurd cc
+stage_sets Loopback job streams node n is = absurd cc
+stage_sets law job streams node n is = refl
+
+pub stage_empty : (job : LoggedJob) (streams : List (StreamPrefix Plain)) (number : ℕ) (node : PlanNode) (n : ℕ) → Solves job streams → slice_get job.job.plan.nodes number ≡ Some node → node.shape.stateless ≡ true → (stage job.job streams node n).state ≡ []
+stage_empty job streams number node n solves there stateless =
+    let shape : IsShapeOf node.law node.shape = of_node (λ (m : PlanNode). IsShapeOf m.law m.shape) job.job.plan.nodes number node solves.is_job.plan.shapes there in
+    let has : HasNumbers node = of_node HasNumbers job.job.plan.nodes number node solves.is_job.plan.ports there in
+    let is : is_stateless node.law ≡ true = sym shape.stateless ∙ stateless in
+    let inputs = inputs_of streams node in
+    let long : length inputs ≡ length node.shape.inputs = length-map node.inputs (stream_of streams) ∙ has.inputs in
+    let fits : AllByRecursion (λ (e : TimedSet Plain). FitsInputs node.shape e.set) (settled_sets node.policy inputs) =
+    subst (λ (k : ℕ). AllByRecursion (λ (e : TimedSet Plain). length e.set ≡ k) (settled_sets node.policy inputs)) long (recursion_from_All (λ (e : TimedSet Plain). length e.set ≡ length inputs) (settled_sets node.policy inputs) (sets-places node.policy inputs)) in
+    let begun = opened node.law node.shape.offset (length node.outputs) (sides_of job.job node) in
+    let first : begun.state ≡ [] =
+    call_state (λ (s : List Plain). s ≡ []) node.shape.offset Open (unopened (length node.outputs)) (opening node.law (sides_of job.job node)) refl (λ given e. opens_empty node.law (sides_of job.job node) given is e) in
+    ap (λ (o : Outcome). o.state) (stage_sets node.law job.job streams node n is)
+    ∙ all_empty node.law node.shape is shape node.shape.offset begun (take n (sets_of streams node)) (all_of_first (λ (e : TimedSet Plain). FitsInputs node.shape e.set) n (sets_of streams node) fits) first

@@ -1,0 +1,5 @@
+use Rattle.mg_node.proofs.Bringing.{delivers}
+use Rattle.mg_node.proofs.delivery.deliver.Goals as goal
+
+pub returns-clause-moved : goal.returns-clause-moved
+returns-clause-moved c = delivers _ _ _ _ _ _ _ _ c.requires.port c.in-Ok.ensures.brought.0 c.in-Ok.ensures.brought.1 c.raise_behind-raised.ensures.raised c.raise_behind-raised.ensures.rose

@@ -1,0 +1,23 @@
+use Rattle.std.proofs.Common.{ℕ, ◌-◌, length, set, ap, sym, subst, ◌∙◌, arith}
+use Rattle.std.proofs.lemmas.Option.{slice_get_within}
+use Rattle.mg_node.specs.Views.{EngineView}
+use Rattle.mg_node.specs.Lawful.{LawfulEngine, of_node}
+use Rattle.mg_node.specs.Shelves.{back}
+use Rattle.mg_node.proofs.Shelving.{shelved_lawful, with_window}
+use Rattle.mg_node.proofs.engine.Engine.shelve.Goals as goal
+
+pub put_back-requires : goal.put_back-requires
+put_back-requires g c =
+    (let within = slice_get_within c.args.self.now.window _ c.requires.out.entry c.requires.out.there in
+    let laid = ap (λ (v : EngineView). v.laid) c.self.view_is in
+    let long = ap (λ (v : EngineView). length v.window) c.self.view_is in
+    omega (arith, within, c.number.ensures, laid, long))
+
+pub returns-clause-lawful : goal.returns-clause-lawful
+returns-clause-lawful g c = λ job number engine outcome.
+    subst (λ (v : EngineView). LawfulEngine job (of_node number) v)
+    (sym (ap (λ (v : EngineView). with_window v c.put_back.new.window.items) c.self.view_is
+    ∙ ap (with_window c.args.self.now)
+    (c.put_back.ensures.items ∙ ap (λ (k : ℕ). set c.self.inside.window.items (k - c.self.inside.laid) (back c.args.outcome)) c.number.ensures
+    ∙ ap (λ (v : EngineView). set v.window (c.args.outcome.work.number - v.laid) (back c.args.outcome)) c.self.view_is)))
+    (shelved_lawful job number c.args.self.now c.args.outcome c.requires.out engine outcome)

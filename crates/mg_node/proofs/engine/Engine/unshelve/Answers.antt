@@ -1,0 +1,5 @@
+use Rattle.mg_node.proofs.Shelving.{unshelved_all}
+use Rattle.mg_node.proofs.engine.Engine.unshelve.Goals as goal
+
+pub returns-clause-lawful : goal.returns-clause-lawful
+returns-clause-lawful g c = λ job owner engine. unshelved_all job owner c.args.self.now _ c.args.number c.take_shelf.result c.take_shelf.ensures.found c.take_shelf.ensures.taken engine

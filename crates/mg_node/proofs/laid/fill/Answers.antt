@@ -1,0 +1,17 @@
+use Rattle.mg_node.proofs.Filling.{filled_none, filled_more, filled_all}
+use Rattle.mg_node.proofs.laid.fill.Goals as goal
+
+pub loop-packet-init : goal.loop-packet-init
+loop-packet-init c = filled_none _ _
+
+pub loop-packet-preserved : goal.loop-packet-preserved
+loop-packet-preserved c = filled_more _ _ _ _ _ c.packet-item.result _ c.loop-packet.invariant c.loop-packet-test.true c.packet-item.is c.in_ok-try_clone.ensures c.in-Ok.ensures.ok
+
+pub returns-clause-gone : goal.returns-clause-gone
+returns-clause-gone c = c.loop-packet.invariant.gone
+
+pub returns-clause-packets : goal.returns-clause-packets
+returns-clause-packets c = (filled_all _ _ _ _ c.loop-packet.invariant c.loop-packet-test.false).0
+
+pub returns-clause-bound : goal.returns-clause-bound
+returns-clause-bound c = (filled_all _ _ _ _ c.loop-packet.invariant c.loop-packet-test.false).1

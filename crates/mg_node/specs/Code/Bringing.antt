@@ -1,0 +1,19 @@
+-- A delivery under way: so many packets of an output have come to a port that hadn't got them.
+use Rattle.std.specs.Prelude.{◌≡◌, ℕ, ◌<◌, ◌≤◌, take, drop, length, Result, Ok, Err, min}
+use Rattle.mg_value.specs.Payload.{Plain}
+use Rattle.mg_stream.specs.Queue.{Waiting}
+use Rattle.mg_node.specs.declared.waits.Waits.{Waits}
+use Rattle.mg_node.specs.Ports.{ports_in, port_queue, with_port, with_room}
+use Rattle.mg_node.specs.Delivery.{missing, with_packets, AreOfOne}
+
+pub record Brought (output : Waiting Plain) (port n : ℕ) (before now : Waits) : Type 0 where
+  pub there : port < ports_in now
+  pub of_one : AreOfOne output (port_queue now port)
+  pub within : n ≤ length (missing output (port_queue before port))
+  pub came : now ≡ with_port before port (with_room (with_packets (port_queue before port) (take n (missing output (port_queue before port)))) (port_queue now port).spare)
+  pub left : missing output (port_queue now port) ≡ drop n (missing output (port_queue before port))
+
+-- as many as there are, and may come; or fewer, where there is no memory
+abbrev pub BroughtAll : Result ℕ ℕ → Waiting Plain → ℕ → ℕ → Waits → Waits → Type 0
+BroughtAll (Ok n) output port most before now = Brought output port n before now × (n ≡ min most (length (missing output (port_queue before port))))
+BroughtAll (Err n) output port most before now = Brought output port n before now × (n < min most (length (missing output (port_queue before port))))

@@ -1,0 +1,72 @@
+-- Intakes: how they begin, and which input set is claimed next.
+use Rattle.std.specs.Prelude.{◌≡◌, ℕ, ◌+◌, ◌≤◌, List, replicate, length, Option, Some, None, slice_get, is_some, ⊤, if◌then◌else◌}
+use Rattle.mg_time.specs.Time.{done}
+use Rattle.mg_value.specs.Payload.{Plain}
+use Rattle.mg_value.specs.Prefix.{Stamped, StreamPrefix}
+use Rattle.mg_value.specs.Settled.{TimedSet, settled_sets}
+use Rattle.mg_stream.specs.Pool.{empty_backlog, queues_of}
+use Rattle.mg_policy.specs.Inbox.{next_set}
+use Rattle.mg_loopback.specs.Loopback.{IsFresh as IsFreshLoop, next_reply, replied, told}
+use Rattle.mg_loopback.specs.declared.answered.Answered.{Answered}
+use Rattle.mg_calc.specs.declared.law.Law.TheVariants.{Loopback}
+use Rattle.mg_calc.specs.declared.plan.Plan.{Plan}
+use Rattle.mg_calc.specs.declared.plan_node.PlanNode.{PlanNode}
+use Rattle.mg_node.specs.declared.waits.Waits.{Waits}
+use Rattle.mg_node.specs.declared.waits.Waits.TheVariants.{Sets, Loop}
+use Rattle.mg_node.specs.Views.{IntakeView}
+use Rattle.mg_node.specs.Job.{LoggedJob, ports_of, policy_of, law_of, streams_at}
+use Rattle.mg_node.specs.Lawful.{HoldsWaits, LawfulIntake}
+
+-- to a consumer nothing came yet: a loopback is one by its law, and every other has its policy and its ports
+abbrev pub HoldsNone : Plan → ℕ → Waits → Type 0
+HoldsNone plan consumer (Sets inbox) = ¬ (law_of plan consumer ≡ Some Loopback)
+    × (inbox ≡ record { policy = policy_of plan consumer; pool = record { ports = replicate (length (ports_of plan consumer)) empty_backlog; spare = 0 } })
+HoldsNone plan consumer (Loop held) = (law_of plan consumer ≡ Some Loopback) × IsFreshLoop held
+
+pub record IsFresh (plan : Plan) (consumer : ℕ) (intake : IntakeView) : Type 0 where
+  pub claimed : intake.claimed ≡ 0
+  pub holds : HoldsNone plan consumer intake.waits
+
+-- the input set that is claimed next, where there is one; a loopback has none
+abbrev pub next_set_of : Waits → Option (TimedSet Plain)
+next_set_of (Sets inbox) = next_set inbox.policy (queues_of inbox.pool)
+next_set_of (Loop held) = None
+
+-- there is a job of which an intake is a lawful part
+pub record SomeJobHasIntake (intake : IntakeView) : Type 0 where
+  pub job : LoggedJob
+  pub consumer : ℕ
+  pub lawful : LawfulIntake job consumer intake
+
+-- a consumer's set of a number shows these packets
+pub record HasSet (job : LoggedJob) (streams : List (StreamPrefix Plain)) (consumer number : ℕ) (set : List (Option (Stamped Plain))) : Type 0 where
+  pub at : ℕ
+  pub is : slice_get (settled_sets (policy_of job.job.plan consumer) (streams_at streams (ports_of job.job.plan consumer))) number ≡ Some (record { at = at; set = set })
+
+-- the next set of what waits is claimed: what waits then has one more claimed, which is still a number of 64 bits, and the set is
+-- that of its number in the solution
+pub record Claims (job : LoggedJob) (streams : List (StreamPrefix Plain)) (consumer claimed : ℕ) (now : Waits) (set : List (Option (Stamped Plain))) : Type 0 where
+  pub holds : HoldsWaits job streams consumer (claimed + 1) now
+  pub few : claimed + 1 ≤ done
+  pub shows : HasSet job streams consumer claimed set
+
+-- at a node nothing waits yet
+abbrev pub NoneWaits : PlanNode → Waits → Type 0
+NoneWaits node (Sets inbox) = ¬ (node.law ≡ Loopback) × (inbox ≡ record { policy = node.policy; pool = record { ports = replicate (length node.inputs) empty_backlog; spare = 0 } })
+NoneWaits node (Loop held) = (node.law ≡ Loopback) × IsFreshLoop held
+
+-- what waits is for sets, and not for a loopback
+abbrev pub HasSets : Waits → Type 0
+HasSets (Sets inbox) = ⊤
+HasSets (Loop held) = ⊥
+
+-- what waits is a loopback's
+abbrev pub HasLoop : Waits → Type 0
+HasLoop (Sets inbox) = ⊥
+HasLoop (Loop held) = ⊤
+
+-- the next packet of MAIN is answered, where it can be told; otherwise nothing changes
+abbrev pub AnswersBy : Waits → Answered → IntakeView → IntakeView → Type 0
+AnswersBy (Sets inbox) result before now = ⊥
+AnswersBy (Loop held) result before now =
+    (result ≡ told (next_reply held)) × (now ≡ (if is_some (next_reply held) then record { claimed = before.claimed + 1; waits = Loop (replied held) } else before))

@@ -1,0 +1,235 @@
+-- Lawful parts: what a part of a cell stands for in the solution of its job. Each predicate speaks of one part alone, by what
+-- contracts see of it. What two parts have to agree on stands apart, at the end.
+use Rattle.std.specs.Prelude.{◌≡◌, ℕ, ◌+◌, ◌<◌, ◌≤◌, Bool, true, false, List, [], ◌∷◌, ◌++◌, length, All, Option, Some, None, IfSome, IsSome, option_map, slice_get, slice_index_or, Result, Ok, Err, count_by as number_of, if◌then◌else◌}
+use Rattle.std.specs.List.{AllZip, range_with_len}
+use Rattle.mg_value.specs.Payload.{Plain}
+use Rattle.mg_value.specs.Prefix.{Stamped, StreamPrefix, empty_prefix}
+use Rattle.mg_value.specs.Extension.{AreExtendedBy}
+use Rattle.mg_stream.specs.Queue.{StandsFor}
+use Rattle.mg_stream.specs.Pool.{Backlog, queue_of, queues_of}
+use Rattle.mg_policy.specs.Inbox.{Gathered, StandAfter}
+use Rattle.mg_loopback.specs.Loopback.{Held}
+use Rattle.mg_loopback.specs.Standing.{StandsAfter}
+use Rattle.mg_calc.specs.declared.call.Call.{Call}
+use Rattle.mg_calc.specs.declared.call.Call.TheVariants.{Finished}
+use Rattle.mg_calc.specs.declared.cause.Cause.{Cause}
+use Rattle.mg_calc.specs.declared.emission.Laid.{Laid}
+use Rattle.mg_calc.specs.declared.law.Law.{Law}
+use Rattle.mg_calc.specs.declared.law.Law.TheVariants.{Loopback}
+use Rattle.mg_calc.specs.declared.node_fault.Phase.{Phase}
+use Rattle.mg_calc.specs.declared.node_fault.Phase.TheVariants.{Open, Call as SourceCall, Process, Close}
+use Rattle.mg_calc.specs.declared.plan_node.PlanNode.{PlanNode}
+use Rattle.mg_calc.specs.Answer.{Answer}
+use Rattle.mg_calc.specs.Law.{step, call, finish}
+use Rattle.mg_calc.specs.Outcome.{Outcome}
+use Rattle.mg_calc.specs.Plan.{FitsNode}
+use Rattle.mg_calc.specs.Equations.{outcome_of}
+use Rattle.mg_calc.specs.Meaning.{count_of}
+use Rattle.mg_node.specs.declared.role.Role.{Role}
+use Rattle.mg_node.specs.declared.role.Role.TheVariants.{Input, Source}
+use Rattle.mg_node.specs.declared.waits.Waits.{Waits}
+use Rattle.mg_node.specs.declared.waits.Waits.TheVariants.{Sets as WaitingSets, Loop as WaitingLoop}
+use Rattle.mg_node.specs.Views.{IntakeView, BenchView, WorkView, PerformedView, OutcomeView, EntryView, EngineView}
+use Rattle.mg_node.specs.Job.{LoggedJob, Solves, ports_of, policy_of, law_of, streams_at, role_of, stage, IsLast, IsTask, log_after, calls_before, calls_in}
+
+-- Intakes.
+
+-- what waits for sets: what came at each port is a prefix that the solution's stream at that port extends; of what came the
+-- first sets are claimed, a number of them, and what waits is the rest
+pub record HoldsSets (job : LoggedJob) (streams : List (StreamPrefix Plain)) (consumer claimed : ℕ) (inbox : Gathered) : Type 0 where
+  pub policy : inbox.policy ≡ policy_of job.job.plan consumer
+  pub came : List (StreamPrefix Plain)
+  pub extended : AreExtendedBy came (streams_at streams (ports_of job.job.plan consumer))
+  pub stands : StandAfter inbox.policy claimed (queues_of inbox.pool) came
+
+-- what waits at a loopback: what came at MAIN and LOOP are prefixes that the solution's streams extend; of these the first
+-- answers are given, a number of them
+pub record HoldsLoop (job : LoggedJob) (streams : List (StreamPrefix Plain)) (consumer claimed : ℕ) (held : Held Plain) : Type 0 where
+  pub main : StreamPrefix Plain
+  pub loop : StreamPrefix Plain
+  pub extended : AreExtendedBy (loop ∷ main ∷ []) (streams_at streams (ports_of job.job.plan consumer))
+  pub stands : StandsAfter claimed held main loop
+
+abbrev pub HoldsWaits : LoggedJob → List (StreamPrefix Plain) → ℕ → ℕ → Waits → Type 0
+HoldsWaits job streams consumer claimed (WaitingSets inbox) = ¬ (law_of job.job.plan consumer ≡ Some Loopback) × HoldsSets job streams consumer claimed inbox
+HoldsWaits job streams consumer claimed (WaitingLoop held) = (law_of job.job.plan consumer ≡ Some Loopback) × HoldsLoop job streams consumer claimed held
+
+pub record IsIntakeOf (job : LoggedJob) (consumer : ℕ) (view : IntakeView) : Type 0 where
+  pub streams : List (StreamPrefix Plain)
+  pub solves : Solves job streams
+  pub is_there : consumer ≤ length job.job.plan.nodes
+  pub holds : HoldsWaits job streams consumer view.claimed view.waits
+
+-- an intake of a consumer is lawful
+unfoldable pub LawfulIntake : LoggedJob → ℕ → IntakeView → Type 0
+LawfulIntake job consumer view = IsIntakeOf job consumer view
+
+-- Works.
+
+-- what a calculator gives in a phase, from a state, at a set
+abbrev pub answer_in : Law → List Plain → Phase → List (Option (Stamped Plain)) → Answer
+answer_in law state Open set = Ok (state, [])
+answer_in law state (SourceCall number) set = call law state number
+answer_in law state (Process at) set = step law state at set
+answer_in law state Close set = finish law state
+
+-- a calculator has answered: what it keeps is the new state of its answer, or still the old one where the answer is a cause
+abbrev pub HasAnswered : Result (List Laid) Cause → List Plain → List Plain → Answer → Type 0
+HasAnswered (Ok emission) before now answer = answer ≡ Ok (now, emission)
+HasAnswered (Err cause) before now answer = (answer ≡ Err cause) × (now ≡ before)
+
+-- what a calculator keeps, and what its log has, before a work and after it
+abbrev pub IsAtWork : LoggedJob → List (StreamPrefix Plain) → PlanNode → WorkView → Option (Result (List Laid) Cause) → Type 0
+IsAtWork job streams node work None =
+    (work.bench.told.state ≡ (stage job.job streams node work.number).state)
+    × (work.bench.told.log ≡ log_after job node (calls_before streams node work.number))
+IsAtWork job streams node work (Some answer) =
+    HasAnswered answer (stage job.job streams node work.number).state work.bench.told.state
+    (answer_in node.law (stage job.job streams node work.number).state work.phase work.bench.set)
+    × (work.bench.told.log ≡ log_after job node (calls_before streams node work.number ++ calls_in work.phase work.bench.set))
+
+-- a work that may have its answer: its calculator fits the node, it is one of the node's works, and its set is that of its number
+pub record IsWorkOf (job : LoggedJob) (view : OutcomeView) : Type 0 where
+  pub streams : List (StreamPrefix Plain)
+  pub solves : Solves job streams
+  pub node : PlanNode
+  pub there : slice_get job.job.plan.nodes view.work.node ≡ Some node
+  pub fits : FitsNode node view.work.bench.told.law view.work.bench.told.shape
+  pub places : length view.work.bench.set ≡ length node.inputs
+  pub task : IsTask job.job streams node view.work.number view.work.phase view.work.bench.set
+  pub at_work : IsAtWork job streams node view.work view.answer
+
+-- a work is lawful, and one with its outcome
+unfoldable pub LawfulOutcome : LoggedJob → OutcomeView → Type 0
+LawfulOutcome job view = IsWorkOf job view
+
+unfoldable pub LawfulWork : LoggedJob → WorkView → Type 0
+LawfulWork job view = IsWorkOf job (record { work = view; answer = None })
+
+unfoldable pub LawfulPerformed : LoggedJob → PerformedView → Type 0
+LawfulPerformed job view = IsWorkOf job (record { work = view.work; answer = Some view.answer })
+
+-- Engines.
+
+-- who has an engine: a node, or a graph input, each by its number
+pub data Owner : Type 0 where
+  of_node : ℕ → Owner
+  of_input : ℕ → Owner
+
+-- what an engine knows of its node
+pub record IsSetUp (node : PlanNode) (number : ℕ) (view : EngineView) : Type 0 where
+  pub role : view.role ≡ role_of node.law
+  pub number_is : view.node ≡ number
+  pub first : node.outputs ≡ range_with_len view.first (length node.outputs)
+  pub offset : view.offset ≡ node.shape.offset
+  pub in_flight : view.in_flight ≡ node.in_flight
+  pub inputs : view.inputs ≡ length node.inputs
+
+-- what was laid at some outputs, in whole: each output keeps the last packets of it, and gave the others up
+abbrev pub StandForAll : List (Backlog Plain) → List (StreamPrefix Plain) → Type 0
+StandForAll outputs whole = AllZip (λ output s. StandsFor (queue_of 0 output) s) outputs whole
+
+-- a prefix is another one, perhaps raised
+pub record IsRaised (s raised : StreamPrefix Plain) : Type 0 where
+  pub packets : raised.packets ≡ s.packets
+  pub bound : s.bound ≤ raised.bound
+
+-- what a node has come to once so many of its sets, calls or answers are laid, and perhaps its Close
+abbrev pub come_to : LoggedJob → List (StreamPrefix Plain) → PlanNode → ℕ → Bool → Outcome
+come_to job streams node laid closed = if closed then outcome_of job.job streams node else stage job.job streams node laid
+
+-- the calls that an engine's calculator has had by then
+abbrev pub calls_by : List (StreamPrefix Plain) → PlanNode → ℕ → Bool → List Call
+calls_by streams node laid closed = calls_before streams node laid ++ (if closed then Finished ∷ [] else [])
+
+-- a bench that no work has: its calculator fits the node and has the state that what is laid gives, and its log ends there
+pub record IsIdle (job : LoggedJob) (streams : List (StreamPrefix Plain)) (node : PlanNode) (laid : ℕ) (closed : Bool) (bench : BenchView) : Type 0 where
+  pub fits : FitsNode node bench.told.law bench.told.shape
+  pub places : length bench.set ≡ length node.inputs
+  pub state : bench.told.state ≡ (come_to job streams node laid closed).state
+  pub log : bench.told.log ≡ log_after job node (calls_by streams node laid closed)
+
+-- whether a phase is Close
+abbrev pub is_close : Phase → Bool
+is_close Close = true
+is_close phase = false
+
+-- an outcome that stands in a window is the work of its number there, and lawful
+pub record StandsAt (job : LoggedJob) (node number : ℕ) (phase : Phase) (outcome : OutcomeView) : Type 0 where
+  pub node_is : outcome.work.node ≡ node
+  pub number_is : outcome.work.number ≡ number
+  pub phase_is : outcome.work.phase ≡ phase
+  pub lawful : LawfulOutcome job outcome
+
+-- an entry of a window, by its number: it is claimed, unrun or performed. Only what was performed is committed, and Close is
+-- claimed once all else is laid.
+pub record IsEntry (job : LoggedJob) (streams : List (StreamPrefix Plain)) (node : PlanNode) (laid number : ℕ) (owner : ℕ) (entry : EntryView) : Type 0 where
+  pub set : List (Option (Stamped Plain))
+  pub task : IsTask job.job streams node number entry.phase set
+  pub outcome : IfSome entry.outcome (λ o. StandsAt job owner number entry.phase o)
+  pub committed : entry.committed ≡ true → IsSome entry.outcome × IfSome entry.outcome (λ o. IsSome o.answer)
+  pub close : entry.phase ≡ Close → number ≡ laid
+
+-- the engine of a node, with its first sets, calls or answers laid, and a number of them claimed
+pub record IsEngineOf (job : LoggedJob) (number : ℕ) (view : EngineView) : Type 0 where
+  pub streams : List (StreamPrefix Plain)
+  pub solves : Solves job streams
+  pub node : PlanNode
+  pub there : slice_get job.job.plan.nodes number ≡ Some node
+  pub set_up : IsSetUp node number view
+  pub begun : view.begun ≡ true
+  -- so many are laid as the node takes; and Close only behind all of them
+  pub claimed : view.laid ≤ view.claimed
+  pub taken : view.laid ≤ count_of job.job streams node
+  pub closed : view.closed ≡ true → IsLast job.job streams node view.laid
+  -- its outputs are those of what is laid, perhaps raised, and the solution's streams extend them; its fault is that of what
+  -- is laid
+  pub whole : List (StreamPrefix Plain)
+  pub kept : StandForAll view.outputs whole
+  pub raised : AllZip IsRaised (come_to job streams node view.laid view.closed).outputs whole
+  pub extended : AreExtendedBy whole (streams_at streams node.outputs)
+  pub fault : view.fault ≡ option_map (λ f. record { node = number; phase = f.phase; cause = f.cause }) (come_to job streams node view.laid view.closed).fault
+  -- the window has what is claimed and isn't laid, in order; each bench is with a work or idle
+  pub order : view.laid + length view.window ≡ view.claimed + number_of (λ e. is_close e.phase) view.window
+  pub entries : (i : ℕ) (entry : EntryView) → slice_get view.window i ≡ Some entry → IsEntry job streams node view.laid (view.laid + i) number entry
+  pub idle : All (IsIdle job streams node view.laid view.closed) view.idle
+  pub benches : length view.idle + length view.window ≡ view.in_flight
+
+-- the engine of a graph input: its one output is the solution's stream of that input
+pub record IsInputOf (job : LoggedJob) (number : ℕ) (view : EngineView) : Type 0 where
+  pub streams : List (StreamPrefix Plain)
+  pub solves : Solves job streams
+  pub there : number < length job.job.plan.inputs
+  pub role : view.role ≡ Input
+  pub number_is : view.node ≡ number
+  pub first : view.first ≡ number
+  pub kept : StandForAll view.outputs (slice_index_or streams number empty_prefix ∷ [])
+  pub laid : view.laid ≡ 0
+  pub claimed : view.claimed ≡ 0
+  pub window : view.window ≡ []
+  pub idle : view.idle ≡ []
+  pub fault : view.fault ≡ None
+
+-- an engine is lawful
+unfoldable pub LawfulEngine : LoggedJob → Owner → EngineView → Type 0
+LawfulEngine job (of_node number) view = IsEngineOf job number view
+LawfulEngine job (of_input number) view = IsInputOf job number view
+
+-- Cells.
+
+-- an engine and an intake agree: the sets or answers that one counts as claimed are those that the other does. A source's
+-- calls aren't claimed of its intake.
+abbrev pub AgreeBy : Role → ℕ → ℕ → Type 0
+AgreeBy (Source calls) claimed of_intake = of_intake ≡ 0
+AgreeBy role claimed of_intake = claimed ≡ of_intake
+
+abbrev pub Agree : EngineView → IntakeView → Type 0
+Agree engine intake = AgreeBy engine.role engine.claimed intake.claimed
+
+-- an engine and an intake are one cell: there is a job of which both are lawful parts of one node, and they agree
+pub record AreCell (engine : EngineView) (intake : IntakeView) : Type 0 where
+  pub job : LoggedJob
+  pub number : ℕ
+  pub lawful_engine : LawfulEngine job (of_node number) engine
+  pub lawful_intake : LawfulIntake job number intake
+  pub agree : Agree engine intake

@@ -1,0 +1,38 @@
+-- What an engine has laid at its outputs.
+use Rattle.std.specs.Prelude.{ℕ, ◌+◌, ◌-◌, [], ◌∷◌, length, drop, max, None, true, false, slice_index_or}
+use Rattle.mg_value.specs.Payload.{Plain}
+use Rattle.mg_value.specs.Prefix.{StreamPrefix}
+use Rattle.mg_stream.specs.Pool.{Backlog, empty_backlog}
+use Rattle.mg_node.specs.declared.role.Role.TheVariants.{Input}
+use Rattle.mg_node.specs.Views.{EngineView}
+
+-- how many packets were laid at an output, those that were given up included
+abbrev pub count_at : EngineView → ℕ → ℕ
+count_at engine output = (slice_index_or engine.outputs output empty_backlog).gone + length (slice_index_or engine.outputs output empty_backlog).packets
+
+-- an output of which so many first packets are given up, or as many as were before
+abbrev pub without_first : ℕ → Backlog Plain → Backlog Plain
+without_first got output = record { gone = max output.gone got; packets = drop (got - output.gone) output.packets; bound = output.bound }
+
+-- a prefix as an output of which all packets are kept
+abbrev pub kept_whole : StreamPrefix Plain → Backlog Plain
+kept_whole s = record { gone = 0; packets = s.packets; bound = s.bound }
+
+-- the engine of a graph input, by its number, its stream's, and what is known of it
+abbrev pub input_engine : ℕ → ℕ → StreamPrefix Plain → EngineView
+input_engine input stream s = record {
+  role = Input;
+  node = input;
+  first = stream;
+  offset = None;
+  in_flight = 0;
+  inputs = 0;
+  outputs = kept_whole s ∷ [];
+  laid = 0;
+  claimed = 0;
+  window = [];
+  idle = [];
+  begun = true;
+  closed = false;
+  fault = None;
+}

@@ -1,0 +1,41 @@
+-- Works that come back to their window, and are taken from it again.
+use Rattle.std.specs.Prelude.{◌≡◌, ℕ, ◌-◌, ◌≤◌, false, List, Option, Some, None, slice_get, slice_set, option_map, option_and_then, nat_lt, if◌then◌else◌}
+use Rattle.mg_node.specs.Views.{WorkView, PerformedView, OutcomeView, EntryView, EngineView}
+
+-- a work is out: its engine has claimed it, and its entry has no outcome
+pub record IsOut (engine : EngineView) (work : WorkView) : Type 0 where
+  pub node_is : work.node ≡ engine.node
+  pub laid : engine.laid ≤ work.number
+  pub entry : EntryView
+  pub there : slice_get engine.window (work.number - engine.laid) ≡ Some entry
+  pub out : entry.outcome ≡ None
+  pub phase_is : entry.phase ≡ work.phase
+
+-- an entry of a work that came back, and isn't committed
+abbrev pub back : OutcomeView → EntryView
+back outcome = record { phase = outcome.work.phase; outcome = Some outcome; committed = false }
+
+-- a work stands in its window again
+abbrev pub shelved : EngineView → OutcomeView → EngineView
+shelved engine outcome = record engine { window = slice_set engine.window (outcome.work.number - engine.laid) (back outcome) }
+
+-- what was performed, of an outcome
+abbrev pub performed_of : OutcomeView → Option PerformedView
+performed_of outcome = option_map (λ answer. record { work = outcome.work; answer = answer }) outcome.answer
+
+-- what stands in an entry as performed and not committed
+abbrev pub shelf_of : EntryView → Option PerformedView
+shelf_of entry = if entry.committed then None else option_and_then performed_of entry.outcome
+
+-- and in a window, under a number
+abbrev pub shelf_at : EngineView → ℕ → Option PerformedView
+shelf_at engine number = if nat_lt number engine.laid then None else option_and_then shelf_of (slice_get engine.window (number - engine.laid))
+
+-- it is taken: its entry is claimed again
+abbrev pub Taken : Option PerformedView → List EntryView → List EntryView → ℕ → Type 0
+Taken None window now place = now ≡ window
+Taken (Some p) window now place = now ≡ slice_set window place (record { phase = p.work.phase; outcome = None; committed = false })
+
+abbrev pub Unshelves : Option PerformedView → EngineView → EngineView → ℕ → Type 0
+Unshelves None engine engine_now number = engine_now ≡ engine
+Unshelves (Some p) engine engine_now number = engine_now ≡ record engine { window = slice_set engine.window (number - engine.laid) (record { phase = p.work.phase; outcome = None; committed = false }) }

@@ -1,0 +1,66 @@
+ghost use Rattle.std.specs.Prelude.{◌≡◌, length, IsSome};
+ghost use Rattle.mg_node.specs.Ports.{ports_in};
+ghost use Rattle.mg_node.specs.Intakes.{next_set_of, SomeJobHasIntake};
+ghost use Rattle.mg_node.specs.Claims.{Takes};
+ghost use Rattle.mg_node.specs.Running.{MayRun, HasRun};
+
+use crate::Intake;
+use mg_calc::{CalcFault, Calculator, Emission, Phase};
+use mg_route::Holder;
+use mg_value::InputSet;
+use std::alloc::Global;
+use std::marker::Model;
+
+/// What a work needs: a calculator, and a set for what it is shown. A set lies there from one work to the next, so that no work
+/// takes memory for one.
+#[derive(Drop)]
+pub struct Bench<C: Calculator> {
+    holder: Holder<C>,
+    set: InputSet,
+}
+
+impl<C: Calculator> Model for Bench<C> {
+    ghost use Rattle.mg_node.specs.Views.{BenchView};
+    ghost use Rattle.mg_node.specs.Codes.{bench_code};
+
+    ghost Value = { BenchView };
+
+    ghost coded = { bench_code };
+
+    ghost view = { λ b. record { told = b.holder; set = b.set } };
+}
+
+impl<C: Calculator> Bench<C> {
+    /// One of a calculator and a set.
+    pub fn new(holder: Holder<C>, set: InputSet) -> Bench<C>
+        ensures { result ≡ record { told = holder; set = set } }
+    {
+        Bench { holder, set }
+    }
+
+    /// Runs the calculator in a phase: it is shown the set, called by a number, or closed. Want of memory changes nothing.
+    pub(crate) fn run(&mut self, alloc: Global, phase: Phase) -> Result<Emission, CalcFault>
+        requires { MayRun phase self.old }
+        ensures { HasRun result phase self.old self.new }
+    {
+        match phase {
+            Phase::Open => unreachable!(),
+            Phase::Call(number) => self.holder.call(alloc, number),
+            Phase::Process(at) => self.holder.process(alloc, at, &self.set),
+            Phase::Close => self.holder.finish(alloc),
+        }
+    }
+
+    /// Takes the next input set of an intake, where there is one.
+    pub(crate) fn fill(&mut self, intake: &mut Intake)
+        requires places { length self.old.set ≡ ports_in intake.old.waits }
+        requires lawful { SomeJobHasIntake intake.old }
+        requires next { IsSome (next_set_of intake.old.waits) }
+        ensures takes { Takes intake.old intake.new self.new.set }
+        ensures told { self.new.told ≡ self.old.told }
+    {
+        if !intake.claim(&mut self.set) {
+            unreachable!()
+        }
+    }
+}

@@ -1,0 +1,21 @@
+use crate::Work;
+use mg_calc::Calculator;
+
+/// What a claim gives. The first that holds, in the order of the engine's rule, is answered.
+#[derive(Drop)]
+pub enum Claimed<C: Calculator> {
+    /// A work: one that came back unrun, or the next set, call or Close.
+    Work(Work<C>),
+    /// The loopback has answered the next packet of MAIN.
+    Answered,
+    /// Neither a set nor the end can be told yet.
+    NotReady,
+    /// As many works are claimed as may be.
+    InFlightFull,
+    /// No set comes any more, and the works that were claimed have to be laid before Close.
+    Draining,
+    /// The node has failed, or closed.
+    Ended,
+    /// There was no memory, and nothing has changed.
+    OutOfMemory,
+}

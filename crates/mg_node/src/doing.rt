@@ -1,0 +1,31 @@
+ghost use Rattle.std.specs.Prelude.{◌≡◌, IfOk, IfErr};
+ghost use Rattle.mg_node.specs.Job.{LoggedJob};
+ghost use Rattle.mg_node.specs.Lawful.{LawfulWork, LawfulPerformed};
+ghost use Rattle.mg_node.specs.Running.{SomeJobHas, IsPerformed};
+
+use crate::{Performed, Work};
+use mg_calc::{CalcFault, Calculator};
+use mg_edge::Gate;
+use std::alloc::Global;
+
+/// Does a work: its calculator is shown the set, called by its number, or closed. The gate is entered before and left after each
+/// call but Close. Where there is no memory, the work comes back as it was.
+pub fn perform<C: Calculator, G: Gate>(
+    alloc: Global,
+    work: Work<C>,
+    gate: &G,
+) -> Result<Performed<C>, Work<C>>
+    requires { SomeJobHas work }
+    ensures performed { IfOk result (λ p. IsPerformed work p) }
+    ensures unchanged { IfErr result (λ w. w ≡ work) }
+
+    // Lawful in, lawful out, for every job.
+    ensures lawful { (job : LoggedJob) → LawfulWork job work → IfOk result (λ p. LawfulPerformed job p) }
+{
+    let mut work = work;
+    match work.run(alloc, gate) {
+        Ok(emission) => Ok(Performed::new(work, Ok(emission))),
+        Err(CalcFault::Fault(cause)) => Ok(Performed::new(work, Err(cause))),
+        Err(CalcFault::OutOfMemory) => Err(work),
+    }
+}

@@ -1,0 +1,100 @@
+ghost use Rattle.std.specs.Prelude.{◌≡◌, Some, None, true, false, is_some};
+ghost use Rattle.mg_node.specs.Claims.{is_unrun};
+ghost use Rattle.mg_node.specs.Shelves.{back, shelf_of};
+
+use crate::{Outcome, Performed, Work};
+use mg_calc::{Calculator, Phase};
+use std::marker::Model;
+
+/// A work that was claimed and isn't laid. It is out, or its outcome stands here.
+#[derive(Drop)]
+pub struct Entry<C: Calculator> {
+    phase: Phase,
+    outcome: Option<Outcome<C>>,
+    committed: bool,
+}
+
+impl<C: Calculator> Model for Entry<C> {
+    ghost use Rattle.mg_node.specs.Views.{EntryView};
+    ghost use Rattle.mg_node.specs.Codes.{entry_code};
+
+    ghost Value = { EntryView };
+
+    ghost coded = { entry_code };
+
+    ghost view = { λ e. record { phase = e.phase; outcome = e.outcome; committed = e.committed } };
+}
+
+impl<C: Calculator> Entry<C> {
+    /// That of a work that is handed out.
+    pub(crate) fn out(phase: Phase) -> Entry<C>
+        ensures { result ≡ record { phase = phase; outcome = None; committed = false } }
+    {
+        Entry {
+            phase,
+            outcome: None,
+            committed: false,
+        }
+    }
+
+    /// Whether its work came back unrun.
+    pub(crate) fn is_unrun(&self) -> bool
+        ensures { result ≡ is_unrun self.now }
+    {
+        match &self.outcome {
+            Some(outcome) => outcome.is_unrun(),
+            None => false,
+        }
+    }
+
+    /// Hands out its work, which came back unrun.
+    pub(crate) fn hand_out(&mut self) -> Work<C>
+        requires { is_unrun self.old ≡ true }
+        ensures work { self.old.outcome ≡ Some (record { work = result; answer = None }) }
+        ensures left { self.new ≡ record { phase = self.old.phase; outcome = None; committed = false } }
+    {
+        self.committed = false;
+        match self.outcome.take() {
+            Some(outcome) => outcome.into_work(),
+            None => unreachable!(),
+        }
+    }
+
+    /// That of a work that came back.
+    pub(crate) fn back(outcome: Outcome<C>) -> Entry<C>
+        ensures { result ≡ back outcome }
+    {
+        Entry {
+            phase: outcome.phase(),
+            outcome: Some(outcome),
+            committed: false,
+        }
+    }
+
+    /// Whether its work stands here as performed, and not committed.
+    pub(crate) fn is_shelf(&self) -> bool
+        ensures { result ≡ is_some (shelf_of self.now) }
+    {
+        if self.committed {
+            return false;
+        }
+        match &self.outcome {
+            Some(outcome) => !outcome.is_unrun(),
+            None => false,
+        }
+    }
+
+    /// Takes what was performed, and stands here not committed.
+    pub(crate) fn take_shelf(&mut self) -> Performed<C>
+        requires { is_some (shelf_of self.old) ≡ true }
+        ensures found { shelf_of self.old ≡ Some result }
+        ensures left { self.new ≡ record { phase = result.work.phase; outcome = None; committed = false } }
+    {
+        let Some(outcome) = self.outcome.take() else {
+            unreachable!()
+        };
+        let performed = outcome.into_performed();
+        *self = Entry::out(performed.phase());
+        performed
+    }
+}

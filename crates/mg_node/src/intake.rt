@@ -1,0 +1,262 @@
+ghost use Rattle.std.specs.Prelude.{◌≡◌, ◌<◌, ◌≤◌, ◌+◌, ℕ, List, ◌^◌, true, false, length, replicate, slice_get, option_map, is_ok, is_some, IfOk, IfSome, IsTrue, IsSome, if◌then◌else◌, ◌↔◌};
+ghost use Rattle.std.specs.Bool.{OnTrue, OnFalse};
+ghost use Rattle.mg_value.specs.Payload.{Plain};
+ghost use Rattle.mg_value.specs.Prefix.{StreamPrefix};
+ghost use Rattle.mg_stream.specs.Queue.{count_of, with_packet, raised_to, MayCome};
+ghost use Rattle.mg_stream.specs.Pool.{empty_backlog};
+ghost use Rattle.mg_policy.specs.Inbox.{HasPorts};
+ghost use Rattle.mg_calc.specs.Plan.{IsValid};
+ghost use Rattle.mg_node.specs.Intakes.{NoneWaits, HoldsNone, IsFresh, next_set_of, SomeJobHasIntake, HasSet, HasSets, HasLoop, AnswersBy, Claims};
+ghost use Rattle.mg_policy.specs.declared.readiness.Readiness as Readiness;
+ghost use Rattle.mg_node.specs.Job.{LoggedJob, Solves};
+ghost use Rattle.mg_node.specs.Lawful.{HoldsWaits, LawfulIntake};
+ghost use Rattle.mg_node.specs.Ports.{ports_in, port_queue, with_port, with_room, IsNext, horizon_of};
+
+use crate::Waits;
+use mg_calc::{Law, Plan, PlanNode};
+use mg_loopback::{Answered, Loopback};
+use mg_policy::{Inbox, Readiness};
+use mg_time::Timestamp;
+use mg_value::{InputSet, Packet, Policy};
+use std::alloc::{AllocError, Global};
+use std::marker::Model;
+
+/// What waits at a node, and how many of its input sets were claimed.
+#[derive(Debug, Drop)]
+pub struct Intake {
+    waits: Waits,
+    claimed: u64,
+}
+
+impl Model for Intake {
+    ghost use Rattle.mg_node.specs.Views.{IntakeView};
+    ghost use Rattle.mg_node.specs.Codes.{intake_code};
+
+    ghost Value = { IntakeView };
+
+    ghost coded = { intake_code };
+
+    ghost view = { λ i. record { claimed = i.claimed; waits = i.waits } };
+}
+
+impl Intake {
+    /// That of a consumer of a plan, a node or the collector, to which nothing came yet.
+    pub fn new(alloc: Global, plan: &Plan, consumer: u32) -> Result<Intake, AllocError>
+        requires valid { IsValid plan.now }
+        requires consumer { consumer ≤ length plan.now.nodes }
+        ensures fresh { IfOk result (λ i. IsFresh plan.now consumer i) }
+
+        // It is lawful for every job of the plan.
+        ensures lawful { (job : LoggedJob) (streams : List (StreamPrefix Plain)) → job.job.plan ≡ plan.now → Solves job streams
+            → IfOk result (λ i. LawfulIntake job consumer i) }
+    {
+        let waits = waits_at(alloc, plan, consumer)?;
+        Ok(Intake { waits, claimed: 0 })
+    }
+
+    /// Claims the next input set, where there is one: it is then in `into`, and its packets are gone. Otherwise nothing changes. A
+    /// loopback has none.
+    pub fn claim(&mut self, into: &mut InputSet) -> bool
+        requires places { length into.old ≡ ports_in self.old.waits }
+        requires lawful { SomeJobHasIntake self.old }
+        ensures claimed { IsTrue result ↔ IsSome (next_set_of self.old.waits) }
+        ensures shown { IfSome (next_set_of self.old.waits) (λ e. into.new ≡ e.set) }
+        ensures counted { OnTrue result (self.new.claimed ≡ self.old.claimed + 1) }
+        ensures unchanged { OnFalse result ((self.new ≡ self.old) × (into.new ≡ into.old)) }
+        ensures places { length into.new ≡ length into.old }
+
+        // Lawful in, lawful out, for every job; and the set is that of its number in the solution.
+        ensures stays_lawful { (job : LoggedJob) (consumer : ℕ) → LawfulIntake job consumer self.old → LawfulIntake job consumer self.new }
+        ensures in_solution { (job : LoggedJob) (consumer : ℕ) (streams : List (StreamPrefix Plain)) → Solves job streams → LawfulIntake job consumer self.old
+            → OnTrue result (HasSet job streams consumer self.old.claimed into.new) }
+    {
+        if !claim_of(&mut self.waits, into) {
+            return false;
+        }
+        self.claimed += 1;
+        true
+    }
+
+    /// How many input sets were claimed, or packets of MAIN answered.
+    pub fn claimed(&self) -> u64
+        ensures { result ≡ self.now.claimed }
+    {
+        self.claimed
+    }
+
+    /// How many ports there are.
+    pub fn ports(&self) -> u32
+        ensures { result ≡ ports_in self.now.waits }
+    {
+        match &self.waits {
+            Waits::Sets(inbox) => inbox.ports(),
+            Waits::Loop(_) => 2,
+        }
+    }
+
+    /// The timestamp of the first packet that waits at a port.
+    pub fn first(&self, port: u32) -> Option<Timestamp>
+        requires { port < ports_in self.now.waits }
+        ensures { result ≡ option_map (λ p. p.at) (slice_get (port_queue self.now.waits port).packets 0) }
+    {
+        match &self.waits {
+            Waits::Sets(inbox) => inbox.first(port),
+            Waits::Loop(loopback) => loopback.first(port),
+        }
+    }
+
+    /// The lowest timestamp that a further packet of a port may have.
+    pub fn bound(&self, port: u32) -> Timestamp
+        requires { port < ports_in self.now.waits }
+        ensures { result ≡ (port_queue self.now.waits port).bound }
+    {
+        match &self.waits {
+            Waits::Sets(inbox) => inbox.bound(port),
+            Waits::Loop(loopback) => loopback.bound(port),
+        }
+    }
+
+    /// How many packets wait at a port.
+    pub fn waiting(&self, port: u32) -> u64
+        requires { port < ports_in self.now.waits }
+        ensures { result ≡ length (port_queue self.now.waits port).packets }
+    {
+        match &self.waits {
+            Waits::Sets(inbox) => inbox.waiting(port),
+            Waits::Loop(loopback) => loopback.waiting(port),
+        }
+    }
+
+    /// How many packets came at a port, those that are gone included.
+    pub fn count(&self, port: u32) -> u64
+        requires { port < ports_in self.now.waits }
+        ensures { result ≡ count_of (port_queue self.now.waits port) }
+    {
+        match &self.waits {
+            Waits::Sets(inbox) => inbox.count(port),
+            Waits::Loop(loopback) => loopback.count(port),
+        }
+    }
+
+    /// Whether there is a next input set, and at which time, or why there is none. It isn't asked of a loopback.
+    pub(crate) fn set_readiness(&self) -> Readiness
+        requires { HasSets self.now.waits }
+        ensures { IsNext self.now.waits result }
+    {
+        match &self.waits {
+            Waits::Sets(inbox) => inbox.readiness(),
+            Waits::Loop(_) => unreachable!(),
+        }
+    }
+
+    /// Whether a loopback is at its end: nothing waits on MAIN, and nothing comes there any more.
+    pub(crate) fn is_over(&self) -> bool
+        requires { HasLoop self.now.waits }
+        ensures yes { result ≡ true → IsNext self.now.waits Readiness.Close }
+        ensures no { result ≡ false → ¬ IsNext self.now.waits Readiness.Close }
+    {
+        match &self.waits {
+            Waits::Sets(_) => unreachable!(),
+            Waits::Loop(loopback) => loopback.waiting(1) == 0
+                && loopback.bound(1) == Timestamp::DONE,
+        }
+    }
+
+    /// Answers the next packet of MAIN of a loopback, where it can be told.
+    pub(crate) fn answer(&mut self) -> Answered
+        requires looped { HasLoop self.old.waits }
+        requires few { self.old.claimed + 1 < 2 ^ 64 }
+        ensures { AnswersBy self.old.waits result self.old self.new }
+    {
+        let answered = match &mut self.waits {
+            Waits::Sets(_) => unreachable!(),
+            Waits::Loop(loopback) => loopback.answer(),
+        };
+        if let Answered::NotYet = answered {
+            return answered;
+        }
+        self.claimed += 1;
+        answered
+    }
+
+    /// The time below which no further set is claimed, and no further answer given, whatever comes.
+    pub fn horizon(&self) -> Timestamp
+        ensures { result ≡ horizon_of self.now.waits }
+    {
+        match &self.waits {
+            Waits::Sets(inbox) => match inbox.readiness() {
+                Readiness::Ready { at } => at,
+                Readiness::Close => inbox.low(),
+                Readiness::NotReady => inbox.low(),
+            },
+            Waits::Loop(loopback) => loopback.out_bound(),
+        }
+    }
+
+    /// Puts a packet that may come behind those that wait at a port. Where there is no memory, nothing but the room changes.
+    pub(crate) fn put(&mut self, port: u32, packet: Packet) -> Result<(), AllocError>
+        requires port { port < ports_in self.old.waits }
+        requires may_come { MayCome (port_queue self.old.waits port) packet.at }
+        ensures { self.new ≡ record {
+          claimed = self.old.claimed;
+          waits = with_port self.old.waits port
+              (with_room (if is_ok result then with_packet (port_queue self.old.waits port) packet else port_queue self.old.waits port) (port_queue self.new.waits port).spare);
+        } }
+    {
+        let refused = match &mut self.waits {
+            Waits::Sets(inbox) => inbox.append(port, packet).is_err(),
+            Waits::Loop(loopback) => loopback.append(port, packet).is_err(),
+        };
+        if refused { Err(AllocError) } else { Ok(()) }
+    }
+
+    /// Raises the bound of a port.
+    pub(crate) fn raise(&mut self, port: u32, bound: Timestamp)
+        requires { port < ports_in self.old.waits }
+        ensures { self.new ≡ record { claimed = self.old.claimed; waits = with_port self.old.waits port (raised_to (port_queue self.old.waits port) bound) } }
+    {
+        match &mut self.waits {
+            Waits::Sets(inbox) => inbox.raise(port, bound),
+            Waits::Loop(loopback) => loopback.raise(port, bound),
+        }
+    }
+}
+
+/// What waits at a consumer to which nothing came yet.
+fn waits_at(alloc: Global, plan: &Plan, consumer: u32) -> Result<Waits, AllocError>
+    requires { IsValid plan.now }
+    ensures { IfOk result (λ w. HoldsNone plan.now consumer w) }
+{
+    let Some(node) = plan.nodes.get(consumer) else {
+        let inbox = Inbox::new(alloc, plan.outputs.len(), Policy::Default)?;
+        return Ok(Waits::Sets(inbox));
+    };
+    waits_of(alloc, node)
+}
+
+/// What waits at a node to which nothing came yet.
+fn waits_of(alloc: Global, node: &PlanNode) -> Result<Waits, AllocError>
+    requires { HasPorts node.now.policy (record { ports = replicate (length node.now.inputs) empty_backlog; spare = 0 }) }
+    ensures { IfOk result (λ w. NoneWaits node.now w) }
+{
+    if let Law::Loopback = node.law {
+        return Ok(Waits::Loop(Loopback::new(alloc)));
+    }
+    Ok(Waits::Sets(Inbox::new(alloc, node.inputs.len(), node.policy)?))
+}
+
+/// Claims the next input set of what waits, where there is one.
+fn claim_of(waits: &mut Waits, into: &mut InputSet) -> bool
+    requires { length into.old ≡ ports_in waits.old }
+    ensures claimed { IsTrue result ↔ IsSome (next_set_of waits.old) }
+    ensures shown { IfSome (next_set_of waits.old) (λ e. into.new ≡ e.set) }
+    ensures unchanged { OnFalse result ((waits.new ≡ waits.old) × (into.new ≡ into.old)) }
+    ensures places { length into.new ≡ length into.old }
+    ensures holds { (job : LoggedJob) (streams : List (StreamPrefix Plain)) (consumer k : ℕ) → HoldsWaits job streams consumer k waits.old
+        → OnTrue result (Claims job streams consumer k waits.new into.new) }
+{
+    match waits {
+        Waits::Sets(inbox) => inbox.claim(into),
+        Waits::Loop(_) => false,
+    }
+}

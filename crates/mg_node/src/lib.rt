@@ -1,0 +1,34 @@
+//! Cells: what waits at a node, and what works on it. Each node has an intake, which claims input sets, and an engine, which
+//! holds its calculator, the works that were claimed, and what was laid at its outputs.
+//! Answers to the definitions of `specs/Lawful.antt`.
+#![tactic(auto)]
+
+mod bench;
+mod claimed;
+mod delivered;
+mod delivery;
+mod doing;
+mod engine;
+mod entry;
+mod intake;
+mod laid;
+pub mod laws;
+mod outcome;
+mod performed;
+mod replied;
+mod role;
+mod waits;
+mod window;
+mod work;
+
+pub use bench::Bench;
+pub use claimed::Claimed;
+pub use delivered::Delivered;
+pub use doing::perform;
+pub use engine::Engine;
+pub use intake::Intake;
+pub use outcome::Outcome;
+pub use performed::Performed;
+pub use role::Role;
+pub use waits::Waits;
+pub use work::Work;

@@ -1,0 +1,96 @@
+ghost use Rattle.std.specs.Prelude.{◌≡◌, Some, None, true, false, is_some, if◌then◌else◌};
+ghost use Rattle.mg_node.specs.Shelves.{performed_of};
+
+use crate::{Performed, Work};
+use mg_calc::{Calculator, Cause, Emission, Phase};
+use std::marker::Model;
+
+/// What comes back of a work: it was performed, or it wasn't run.
+#[derive(Drop)]
+pub struct Outcome<C: Calculator> {
+    work: Work<C>,
+    answer: Option<Result<Emission, Cause>>,
+}
+
+impl<C: Calculator> Model for Outcome<C> {
+    ghost use Rattle.mg_node.specs.Views.{OutcomeView};
+    ghost use Rattle.mg_node.specs.Codes.{outcome_code};
+
+    ghost Value = { OutcomeView };
+
+    ghost coded = { outcome_code };
+
+    ghost view = { λ o. record { work = o.work; answer = o.answer } };
+}
+
+impl<C: Calculator> Outcome<C> {
+    /// Of a work that wasn't run.
+    pub fn unrun(work: Work<C>) -> Outcome<C>
+        ensures { result ≡ record { work = work; answer = None } }
+    {
+        Outcome { work, answer: None }
+    }
+
+    /// Of a work that was performed.
+    pub fn ran(performed: Performed<C>) -> Outcome<C>
+        ensures { result ≡ record { work = performed.work; answer = Some performed.answer } }
+    {
+        let (work, answer) = performed.into_parts();
+        Outcome {
+            work,
+            answer: Some(answer),
+        }
+    }
+
+    /// The node whose work it is.
+    pub fn node(&self) -> u32
+        ensures { result ≡ self.now.work.node }
+    {
+        self.work.node()
+    }
+
+    /// The work's number.
+    pub fn number(&self) -> u64
+        ensures { result ≡ self.now.work.number }
+    {
+        self.work.number()
+    }
+
+    /// What was to be done: Process, Call or Close.
+    pub fn phase(&self) -> Phase
+        ensures { result ≡ self.now.work.phase }
+    {
+        self.work.phase()
+    }
+
+    /// Whether the work wasn't run.
+    pub(crate) fn is_unrun(&self) -> bool
+        ensures { result ≡ (if is_some self.now.answer then false else true) }
+    {
+        match &self.answer {
+            Some(_) => false,
+            None => true,
+        }
+    }
+
+    /// The work, which wasn't run.
+    pub(crate) fn into_work(self) -> Work<C>
+        requires { self.answer ≡ None }
+        ensures { self ≡ record { work = result; answer = None } }
+    {
+        let Outcome { work, .. } = self;
+        work
+    }
+
+    /// What was performed.
+    pub(crate) fn into_performed(self) -> Performed<C>
+        requires { is_some self.answer ≡ true }
+        ensures { performed_of self ≡ Some result }
+    {
+        let Outcome { work, answer } = self;
+        match answer {
+            Some(answer) => Performed::new(work, answer),
+            None => unreachable!(),
+        }
+    }
+}

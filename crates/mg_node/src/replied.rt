@@ -1,0 +1,40 @@
+//! Answers of loopbacks, from the intake to the one output.
+ghost use Rattle.std.specs.Prelude.{◌≡◌, ◌<◌, ◌+◌, ◌^◌};
+ghost use Rattle.mg_node.specs.Intakes.{HasLoop};
+ghost use Rattle.mg_node.specs.Code.Replying.{MayLay, Replies};
+
+use crate::Intake;
+use crate::laid::lay_answer;
+use mg_loopback::Answered;
+use mg_stream::Queue;
+
+/// What became of the next answer.
+#[derive(Clone, Copy, Debug, PartialEq, Eq)]
+pub enum Replied {
+    /// It is laid.
+    Laid,
+    /// It can't be told yet.
+    NotYet,
+    /// There was no memory.
+    OutOfMemory,
+}
+
+/// Lays the answer to the next packet of MAIN, where it can be told.
+pub(crate) fn reply(output: &mut Queue, intake: &mut Intake) -> Replied
+    requires looped { HasLoop intake.old.waits }
+    requires few { intake.old.claimed + 1 < 2 ^ 64 }
+    requires may_lay { MayLay output.old intake.old.waits }
+    ensures { Replies result output.old output.new intake.old intake.new }
+{
+    if output.reserve(1).is_err() {
+        return Replied::OutOfMemory;
+    }
+    match intake.answer() {
+        Answered::NotYet => Replied::NotYet,
+        Answered::Silent { .. } => Replied::Laid,
+        Answered::Packet(packet) => {
+            lay_answer(output, packet);
+            Replied::Laid
+        }
+    }
+}

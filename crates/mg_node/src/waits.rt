@@ -1,0 +1,9 @@
+use mg_loopback::Loopback;
+use mg_policy::Inbox;
+
+/// What waits at a node: packets for its input sets, or those of a loopback.
+#[derive(Debug, Drop)]
+pub enum Waits {
+    Sets(Inbox),
+    Loop(Loopback),
+}

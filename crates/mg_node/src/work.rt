@@ -1,0 +1,78 @@
+ghost use Rattle.std.specs.Prelude.{◌≡◌};
+ghost use Rattle.mg_node.specs.Running.{MayRun, HasRun};
+
+use crate::Bench;
+use mg_calc::{CalcFault, Calculator, Emission, Phase};
+use mg_edge::Gate;
+use std::alloc::Global;
+use std::marker::Model;
+
+/// A set that was claimed, or a call of a source, or Close, with the calculator that is to work on it.
+#[derive(Drop)]
+pub struct Work<C: Calculator> {
+    node: u32,
+    number: u64,
+    phase: Phase,
+    bench: Bench<C>,
+}
+
+impl<C: Calculator> Model for Work<C> {
+    ghost use Rattle.mg_node.specs.Views.{WorkView};
+    ghost use Rattle.mg_node.specs.Codes.{work_code};
+
+    ghost Value = { WorkView };
+
+    ghost coded = { work_code };
+
+    ghost view = { λ w. record { node = w.node; number = w.number; phase = w.phase; bench = w.bench } };
+}
+
+impl<C: Calculator> Work<C> {
+    /// The work of a bench.
+    pub(crate) fn new(node: u32, number: u64, phase: Phase, bench: Bench<C>) -> Work<C>
+        ensures { result ≡ record { node = node; number = number; phase = phase; bench = bench } }
+    {
+        Work {
+            node,
+            number,
+            phase,
+            bench,
+        }
+    }
+
+    /// The node whose work it is.
+    pub fn node(&self) -> u32
+        ensures { result ≡ self.now.node }
+    {
+        self.node
+    }
+
+    /// Its number, counted from 0: that of its set or call. Close has the number behind the last one.
+    pub fn number(&self) -> u64
+        ensures { result ≡ self.now.number }
+    {
+        self.number
+    }
+
+    /// What is to be done: Process, Call or Close.
+    pub fn phase(&self) -> Phase
+        ensures { result ≡ self.now.phase }
+    {
+        self.phase
+    }
+
+    /// Runs its calculator in its phase, with the gate round each call but Close. Want of memory changes nothing.
+    pub(crate) fn run<G: Gate>(&mut self, alloc: Global, gate: &G) -> Result<Emission, CalcFault>
+        requires { MayRun self.old.phase self.old.bench }
+        ensures ran { HasRun result self.old.phase self.old.bench self.new.bench }
+        ensures same { self.new ≡ record self.old { bench = self.new.bench } }
+    {
+        if let Phase::Close = self.phase {
+            return self.bench.run(alloc, self.phase);
+        }
+        gate.enter(self.node, self.number);
+        let answer = self.bench.run(alloc, self.phase);
+        gate.leave(self.node, self.number);
+        answer
+    }
+}
