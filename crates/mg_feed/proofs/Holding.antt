@@ -1,5 +1,5 @@
 -- What a feed stands for as lines are accepted and packets are taken.
-use Rattle.std.proofs.Common.{◌≡◌, ◌||◌, ◌+◌, ℕ, zero, suc, List, [], ◌∷◌, ◌++◌, length, map, replicate, fold, Bool, true, false, if◌then◌else◌, Option, Some, None, option_and_then, refl, sym, ap, ◌∙◌, subst, append_assoc, append-nil, length-append}
+use Rattle.std.proofs.Common.{◌≡◌, ◌||◌, ◌+◌, ℕ, zero, suc, List, [], ◌∷◌, ◌++◌, length, map, replicate, fold, Bool, true, false, if◌then◌else◌, Option, Some, None, option_and_then, refl, sym, ap, ◌∙◌, subst, append_assoc, append-nil, length-append, arith}
 use Rattle.std.proofs.lemmas.Grind.{fold-append}
 use Rattle.std.specs.List.{list_all}
 use Rattle.mg_value.specs.Payload.{Plain}
@@ -83,6 +83,40 @@ refusal-seen lines ts v line stands =
     (ap (λ (g : State). before v.graph (length lines) g) stands.given
     ∙ rw (standings-behind ts v.given.streams, sym stands.taken, sym stands.number) refl)
 
+-- a line leaves as many streams
+length-stepped : {X : Type 0} (place : ℕ) (step : X → X) (xs : List X) → length (stepped place step xs) ≡ length xs
+length-stepped place step [] = refl
+length-stepped zero step (x ∷ xs) = refl
+length-stepped (suc place) step (x ∷ xs) = ap suc (length-stepped place step xs)
+
+length-stepped_at : {X : Type 0} (place : Option ℕ) (step : X → X) (xs : List X) → length (stepped_at place step xs) ≡ length xs
+length-stepped_at None step xs = refl
+length-stepped_at (Some place) step xs = length-stepped place step xs
+
+length-packets : (graph : GraphInputs) (time : ℕ) (vs : List Named) (ss : List (StreamPrefix Plain)) → length (with_packets graph time vs ss) ≡ length ss
+length-packets graph time [] ss = refl
+length-packets graph time (v ∷ vs) ss =
+    let step = λ (s : StreamPrefix Plain). appended s (record { at = time; value = plain_of v.value }) in
+    length-packets graph time vs (stepped_at (place_of graph.streams v.name) step ss) ∙ length-stepped_at (place_of graph.streams v.name) step ss
+
+length-form : (graph : GraphInputs) (given : State) (form : Form) → length (with_form graph given form).streams ≡ length given.streams
+length-form graph given (packets t vs) = length-packets graph (time_or_none t) vs given.streams
+length-form graph given (bound name t) = length-stepped_at (place_of graph.streams name) (λ s. raised s (time_or_none t)) given.streams
+length-form graph given (close name) = length-stepped_at (place_of graph.streams name) closed given.streams
+length-form graph given (side name v) = refl
+
+length-said : (graph : GraphInputs) (given : State) (said : Option Form) → length (with_said graph given said).streams ≡ length given.streams
+length-said graph given None = refl
+length-said graph given (Some form) = length-form graph given form
+
+length-by : (b : Bool) (given x : State) → length x.streams ≡ length given.streams → length (if b then given else x).streams ≡ length given.streams
+length-by true given x is = refl
+length-by false given x is = is
+
+length-line : (graph : GraphInputs) (given : State) (line : List ℕ) → length (with_line graph given line).streams ≡ length given.streams
+length-line graph given line =
+    length-by (list_all is_blank line) given (with_said graph given (option_and_then form_of (json_value line))) (length-said graph given (option_and_then form_of (json_value line)))
+
 pub stands-next : (lines : List (List ℕ)) (ts : List (List (Stamped Plain))) (v w : View) (line : List ℕ) → Stands lines ts v
     → line_refusal (before_seen v) line ≡ None → w ≡ with_next v (with_line v.graph v.given line)
     → (refusal v.graph lines line ≡ None) × Stands (lines ++ line ∷ []) ts w
@@ -92,11 +126,16 @@ stands-next lines ts v w line stands good is =
       number = ap (λ n. n + 1) stands.number ∙ sym (length-append lines (line ∷ []));
       good = AllGood-push v.graph [] lines line stands.good none;
       given = given_by-append v.graph lines (line ∷ []) ∙ ap (λ g. with_line v.graph g line) stands.given ∙ whole-line v.graph ts v.given line;
+      many = stands.many ∙ sym (length-line v.graph v.given line);
       taken = stands.taken;
     } in
     (none, subst (λ (x : View). Stands (lines ++ line ∷ []) ts x) (sym is) s)
 
 -- at the start
+length-behind : (n : ℕ) → length (replicate {A = List (Stamped Plain)} n []) ≡ length (replicate n (empty_prefix {X = Plain}))
+length-behind zero = refl
+length-behind (suc n) = ap suc (length-behind n)
+
 behind-nothing : (n : ℕ) → behind_all (replicate n []) (replicate n empty_prefix) ≡ replicate n empty_prefix
 behind-nothing zero = refl
 behind-nothing (suc n) = ap (λ l. empty_prefix ∷ l) (behind-nothing n)
@@ -111,6 +150,7 @@ stands-fresh graph v is = subst (λ (x : View). Stands [] (nothing_taken graph) 
   number = refl;
   good = tt;
   given = rw (behind-nothing (length graph.kinds)) refl;
+  many = length-behind (length graph.kinds);
   taken = nothing-some (length graph.kinds);
 })
 
@@ -119,6 +159,12 @@ behind-taken : (ts : List (List (Stamped Plain))) (ss : List (StreamPrefix Plain
 behind-taken [] ss = refl
 behind-taken (t ∷ ts) [] = refl
 behind-taken (t ∷ ts) (s ∷ ss) = rw (append-nil (t ++ s.packets), behind-taken ts ss) refl
+
+length-taken : (ts : List (List (Stamped Plain))) (ss : List (StreamPrefix Plain)) → length ts ≡ length ss → length (taken_with ts ss) ≡ length (map without_packets ss)
+length-taken [] [] is = refl
+length-taken [] (s ∷ ss) is = absurd (omega (arith, is))
+length-taken (t ∷ ts) [] is = absurd (omega (arith, is))
+length-taken (t ∷ ts) (s ∷ ss) is = let same : length ts ≡ length ss = omega (arith, is) in ap suc (length-taken ts ss same)
 
 taken-taken : (ts : List (List (Stamped Plain))) (ss : List (StreamPrefix Plain)) → all_taken (map has_some ts) ss ≡ map has_some (taken_with ts ss)
 taken-taken [] ss = refl
@@ -131,6 +177,24 @@ stands-taken lines ts v w stands is =
       number = stands.number;
       good = stands.good;
       given = stands.given ∙ rw (behind-taken ts v.given.streams) refl;
+      many = length-taken ts v.given.streams stands.many;
       taken = ap (λ t. all_taken t v.given.streams) stands.taken ∙ taken-taken ts v.given.streams;
     } in
     subst (λ (x : View). Stands lines (taken_with ts v.given.streams) x) (sym is) s
+
+-- where nothing was taken, the feed has all that its lines gave
+behind-none : (n : ℕ) (ss : List (StreamPrefix Plain)) → n ≡ length ss → behind_all (replicate n []) ss ≡ ss
+behind-none zero [] is = refl
+behind-none zero (s ∷ ss) is = absurd (omega (arith, is))
+behind-none (suc n) [] is = absurd (omega (arith, is))
+behind-none (suc n) (s ∷ ss) is = let same : n ≡ length ss = omega (arith, is) in ap (λ l. s ∷ l) (behind-none n ss same)
+
+length-none : (n : ℕ) → length (replicate {A = List (Stamped Plain)} n []) ≡ n
+length-none zero = refl
+length-none (suc n) = ap suc (length-none n)
+
+pub given-untaken : (lines : List (List ℕ)) (v : View) → Stands lines (nothing_taken v.graph) v → v.given ≡ given_by v.graph lines
+given-untaken lines v stands =
+    let n = length v.graph.kinds in
+    let many : n ≡ length v.given.streams = sym (length-none n) ∙ stands.many in
+    sym (stands.given ∙ ap (λ ss. record { streams = ss; sides = v.given.sides; named = v.given.named }) (behind-none n v.given.streams many))

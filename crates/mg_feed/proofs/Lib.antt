@@ -12,3 +12,9 @@ pub mod Sending
 pub mod Graphs
 pub mod Making
 pub mod OldLines
+pub mod Cutting
+pub mod Blocks
+pub mod Accepting
+pub mod Coming
+pub mod Moving
+pub mod Stepping

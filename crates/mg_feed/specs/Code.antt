@@ -6,3 +6,7 @@ pub mod Heard
 pub mod Due
 pub mod LineHead
 pub mod Graphs
+pub mod LineEnd
+pub mod Readers
+pub mod Filled
+pub mod Moves

@@ -1,7 +1,12 @@
 -- What a `Feed` stands for.
 use Rattle.mg_feed.specs.View.{View}
 use Rattle.mg_feed.specs.Seen.{collected}
+use Rattle.mg_feed.specs.Fed.{Fed}
+use Rattle.mg_feed.specs.Code.Readers.{reading_of}
 use Rattle.mg_feed.specs.declared.feed.Feed.{Feed}
 
 abbrev pub seen : Feed → View
 seen feed = collected feed.collected
+
+abbrev pub fed : Feed → Fed
+fed feed = record { view = seen feed; read = reading_of feed.reader }

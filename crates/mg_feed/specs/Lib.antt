@@ -13,5 +13,9 @@ pub mod FeedSeen
 pub mod Stands
 pub mod OldText
 pub mod Sent
+pub mod Fed
+pub mod Came
+pub mod Ran
+pub mod Batch
 -- What only the code's own functions say to one another. Nothing above rests on it.
 pub mod Code

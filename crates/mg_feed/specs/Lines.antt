@@ -1,6 +1,6 @@
 -- Lines of an input. A line ends with a line feed, which is no part of it. The last line of an input that has ended
 -- may lack its line feed.
-use Rattle.std.specs.Prelude.{ℕ, ◌==◌, List, [], ◌∷◌, if◌then◌else◌}
+use Rattle.std.specs.Prelude.{◌≡◌, ℕ, ◌==◌, List, [], ◌∷◌, ◌++◌, false, if◌then◌else◌}
 
 -- a byte put before the first part
 abbrev pub with_first : ℕ → List (List ℕ) → List (List ℕ)
@@ -32,3 +32,39 @@ whole_lines bytes = but_last (parts bytes)
 -- the lines of an input that has ended
 abbrev pub all_lines : List ℕ → List (List ℕ)
 all_lines bytes = but_empty_last (parts bytes)
+
+-- the bytes after the last line feed
+abbrev pub last_part : List (List ℕ) → List ℕ
+last_part [] = []
+last_part (part ∷ []) = part
+last_part (part ∷ next ∷ parts) = last_part (next ∷ parts)
+
+abbrev pub rest_of : List ℕ → List ℕ
+rest_of bytes = last_part (parts bytes)
+
+-- the bytes of an input that has ended, with the line feed that its last line may lack
+abbrev pub with_feed : List ℕ → List ℕ → List ℕ
+with_feed [] bytes = bytes
+with_feed (b ∷ rest) bytes = bytes ++ 10 ∷ []
+
+abbrev pub completed : List ℕ → List ℕ
+completed bytes = with_feed (rest_of bytes) bytes
+
+-- no byte is a line feed
+abbrev pub NoFeed : List ℕ → Type 0
+NoFeed [] = Unit {0}
+NoFeed (b ∷ bytes) = ((b == 10) ≡ false) × NoFeed bytes
+
+abbrev pub NoFeeds : List (List ℕ) → Type 0
+NoFeeds [] = Unit {0}
+NoFeeds (line ∷ lines) = NoFeed line × NoFeeds lines
+
+-- lines, each with its line feed behind it
+abbrev pub fed_lines : List (List ℕ) → List ℕ
+fed_lines [] = []
+fed_lines (line ∷ lines) = line ++ 10 ∷ fed_lines lines
+
+-- The bytes are these lines, each with its line feed behind it, and a rest.
+pub record IsCut (bytes : List ℕ) (lines : List (List ℕ)) (rest : List ℕ) : Type 0 where
+  pub whole : NoFeeds lines
+  pub is : bytes ≡ fed_lines lines ++ rest

@@ -20,11 +20,12 @@ behind_all [] ss = []
 behind_all (t ∷ ts) [] = []
 behind_all (t ∷ ts) (s ∷ ss) = behind t s ∷ behind_all ts ss
 
--- The feed accepted these lines. Of what they gave it has all but the packets that were taken.
+-- The feed accepted these lines. Of what they gave it has all but the packets that were taken, of each stream some.
 pub record Stands (lines : List (List ℕ)) (gone : List (List (Stamped Plain))) (v : View) : Type 0 where
   pub number : v.lines ≡ length lines
   pub good : AllGood v.graph [] lines
   pub given : given_by v.graph lines ≡ record { streams = behind_all gone v.given.streams; sides = v.given.sides; named = v.given.named }
+  pub many : length gone ≡ length v.given.streams
   pub taken : v.taken ≡ map has_some gone
 
 -- no packets of any stream

@@ -4,8 +4,7 @@ ghost use Rattle.std.specs.Arc.{arc_value};
 ghost use Rattle.serde_json.specs.View.{view};
 ghost use Rattle.mg_value.specs.Payload.{plain};
 ghost use Rattle.mg_calc.specs.Given.{given};
-ghost use Rattle.mg_feed.specs.Form.{is_blank, json_value};
-ghost use Rattle.mg_feed.specs.Accepted.{stepped};
+ghost use Rattle.mg_feed.specs.Accepted.{stepped, most_lines};
 
 use crate::due::{Due, lay, make_room};
 use crate::feed_stream::FeedStream;
@@ -13,6 +12,7 @@ use crate::form::{Form, form_by};
 use crate::graph::Graph;
 use crate::judge::{packet_by, payload_by};
 use crate::limits::{LONGEST_LINE, MOST_LINES};
+use crate::line_json::{is_blank_line, json_by};
 use crate::streams::{append_at, close_at, raise_at, standing_at};
 use crate::times::time_by;
 use crate::{LineFault, Standing};
@@ -38,6 +38,7 @@ pub struct Collected {
     ghost few_sides: { vec_len sides < 2 ^ 32 },
     ghost empty: { room.items ≡ [] },
     ghost enough: { vec_len streams ≤ vec_capacity room },
+    ghost few_lines: { lines ≤ most_lines },
 }
 
 impl Collected {
@@ -379,24 +380,4 @@ fn put_at(sides: &mut [Option<Arc<Payload>>], place: u32, payload: Arc<Payload>)
     if i < sides.len() {
         sides[i] = Some(payload);
     }
-}
-
-// The JSON value of a text.
-fn json_by(alloc: Global, text: &[u8]) -> Result<Value, LineFault>
-    ensures value { IfOk result (λ value. json_value text.now ≡ Some (view value)) }
-    ensures fault { IfErr result (λ fault. fault ≢ LineFault.OutOfMemory → (fault ≡ LineFault.NotJson) × (json_value text.now ≡ None)) }
-{
-    match Value::from_slice(alloc, text) {
-        Ok(value) => Ok(value),
-        Err(error) if error.is_memory() => Err(LineFault::OutOfMemory),
-        Err(_) => Err(LineFault::NotJson),
-    }
-}
-
-// Whether all its bytes are blanks.
-fn is_blank_line(line: &[u8]) -> bool
-    ensures { result ≡ list_all is_blank line.now }
-{
-    line.iter()
-        .all(|b| *b == b' ' || *b == b'\t' || *b == b'\r')
 }

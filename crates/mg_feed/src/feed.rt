@@ -1,6 +1,9 @@
-use crate::LineFault;
 use crate::collected::Collected;
+use crate::feed_end::Step;
+use crate::reader::Reader;
+use crate::{BatchEnd, FeedEnd, LineFault};
 use mg_calc::{Inputs, Plan};
+use mg_edge::{Got, Source};
 use std::alloc::{AllocError, Global};
 
 /// Takes the packet lines of an input, and gives what they say to a graph.
@@ -8,25 +11,39 @@ use std::alloc::{AllocError, Global};
 pub struct Feed {
     alloc: Global,
     collected: Collected,
+    reader: Reader,
 }
 
 impl Feed {
-    ghost use Rattle.std.specs.Prelude.{◌≡◌, ◌≢◌, [], ◌∷◌, ◌++◌, ℕ, List, None, Some, OnOk, OnErr, IfOk, IfErr};
+    ghost use Rattle.std.specs.Prelude.{◌≡◌, ◌≢◌, ◌≤◌, [], ◌∷◌, ◌++◌, false, ℕ, List, None, Some, OnOk, OnErr, IfOk, IfErr, length};
     ghost use Rattle.mg_value.specs.Payload.{Plain};
     ghost use Rattle.mg_value.specs.Prefix.{Stamped};
     ghost use Rattle.mg_feed.specs.Graph.{inputs_of};
     ghost use Rattle.mg_feed.specs.Accepted.{refusal};
     ghost use Rattle.mg_feed.specs.Given.{ended_streams};
     ghost use Rattle.mg_feed.specs.Stands.{Stands, nothing_taken, taken_with};
-    ghost use Rattle.mg_feed.specs.FeedSeen.{seen};
+    ghost use Rattle.mg_feed.specs.FeedSeen.{seen, fed};
+    ghost use Rattle.mg_feed.specs.Ran.{MetEnd, ReadsWithin, FailedBy};
+    ghost use Rattle.mg_feed.specs.Batch.{HasRead, HasReadBatch, most_kept, HasCause, BatchHasCause, BatchFailedBy};
+    ghost use Rattle.mg_feed.specs.Accepted.{most_lines};
+    ghost use Rattle.mg_feed.specs.Lines.{NoFeed};
+    ghost use Rattle.mg_feed.specs.Code.LineEnd.{EndsLine};
+    ghost use Rattle.mg_feed.specs.Code.Readers.{left_of};
+    ghost use Rattle.mg_feed.specs.Code.Moves.{TookNext, Stepped, SteppedLine, StopsBy};
 
     /// A feed for the inputs of a plan's graph, which accepted no line yet.
     pub fn new(alloc: Global, plan: &Plan) -> Result<Feed, AllocError>
         ensures graph { IfOk result (λ feed. (seen feed).graph ≡ inputs_of plan.now) }
         ensures stands { IfOk result (λ feed. Stands [] (nothing_taken (inputs_of plan.now)) (seen feed)) }
+        ensures unread { IfOk result (λ feed. (fed feed).read ≡ record { kept = []; ended = false }) }
     {
         let collected = Collected::new(alloc, plan)?;
-        Ok(Feed { alloc, collected })
+        let reader = Reader::new(alloc)?;
+        Ok(Feed {
+            alloc,
+            collected,
+            reader,
+        })
     }
 
     /// Takes the next line, without its line feed, or tells why it isn't good. A line that isn't taken leaves the feed as
@@ -38,6 +55,7 @@ impl Feed {
             → Stands lines gone (seen self.old) → refusal (seen self.old).graph lines text.now ≡ Some fault) }
         ensures unchanged { OnErr result (seen self.new ≡ seen self.old) }
         ensures graph { (seen self.new).graph ≡ (seen self.old).graph }
+        ensures read { (fed self.new).read ≡ (fed self.old).read }
     {
         self.collected.line(self.alloc, text)?;
         Ok(())
@@ -53,6 +71,7 @@ impl Feed {
             → Stands lines (taken_with gone (seen self.old).given.streams) (seen self.new)) }
         ensures unchanged { OnErr result (seen self.new ≡ seen self.old) }
         ensures graph { (seen self.new).graph ≡ (seen self.old).graph }
+        ensures read { (fed self.new).read ≡ (fed self.old).read }
     {
         let inputs = self.collected.take_inputs(self.alloc, ended)?;
         Ok(inputs)
@@ -64,7 +83,150 @@ impl Feed {
         ensures sides { result.sides ≡ (seen self).given.sides }
         ensures ended { result.ended ≡ ended }
     {
-        let Feed { alloc, collected } = self;
+        let Feed {
+            alloc,
+            collected,
+            reader,
+        } = self;
+        drop(reader);
         collected.into_inputs(alloc, ended)
+    }
+
+    /// Reads a source to its end, its first fault or the first line that isn't good, and takes the lines.
+    pub fn read_all<S: Source>(&mut self, source: &mut S) -> FeedEnd
+        ensures read { HasRead result (S.told source.old) (S.told source.new) (fed self.old) (fed self.new) }
+        ensures end { MetEnd (fed self.old).read.ended (fed self.new).read.ended (S.told source.old) (S.told source.new) }
+        ensures fault { FailedBy result (S.told source.old) (S.told source.new) }
+        ensures cause { HasCause result }
+        ensures reads { ReadsWithin 1 (S.told source.old).left (S.told source.new).left (S.told source.old).reads (S.told source.new).reads }
+        ensures few { (seen self.new).lines ≤ most_lines }
+        ensures small { length (fed self.new).read.kept ≤ most_kept }
+        ensures graph { (seen self.new).graph ≡ (seen self.old).graph }
+    {
+        match self.read_batch(source, u32::MAX) {
+            BatchEnd::More => unreachable!(),
+            BatchEnd::End(end) => end,
+        }
+    }
+
+    /// Reads a source until so many lines that name a stream were taken, or to its end, its first fault or the first line that
+    /// isn't good. What was read behind the last of these lines is kept for the next call. Once the source answered `End`
+    /// it isn't read again.
+    pub fn read_batch<S: Source>(&mut self, source: &mut S, most: u32) -> BatchEnd
+        ensures read { HasReadBatch most result (S.told source.old) (S.told source.new) (fed self.old) (fed self.new) }
+        ensures end { MetEnd (fed self.old).read.ended (fed self.new).read.ended (S.told source.old) (S.told source.new) }
+        ensures fault { BatchFailedBy result (S.told source.old) (S.told source.new) }
+        ensures cause { BatchHasCause result }
+        ensures reads { ReadsWithin 1 (S.told source.old).left (S.told source.new).left (S.told source.old).reads (S.told source.new).reads }
+        ensures few { (seen self.new).lines ≤ most_lines }
+        ensures small { length (fed self.new).read.kept ≤ most_kept }
+        ensures graph { (seen self.new).graph ≡ (seen self.old).graph }
+    {
+        let mut naming = 0;
+        'lines: while naming < most {
+            match self.step(source) {
+                Step::Line(named) => naming += u32::from(named),
+                Step::Read => {}
+                Step::Stop(end) => return BatchEnd::End(end),
+            }
+        }
+        BatchEnd::More
+    }
+
+    // Takes the next line of what was read, or reads on.
+    fn step<S: Source>(&mut self, source: &mut S) -> Step
+        ensures { Stepped result (S.told source.old) (S.told source.new) (fed self.old) (fed self.new) }
+    {
+        match self.reader.line_end() {
+            Some(end) => self.next_line(end),
+            None => self.read_on(source),
+        }
+    }
+
+    // Takes the next line, whose line feed is at this place of the block.
+    fn next_line(&mut self, end: usize) -> Step
+        requires { EndsLine (left_of self.old.reader) end }
+        ensures { SteppedLine result (fed self.old) (fed self.new) }
+    {
+        match self.take_line(end) {
+            Ok(named) => Step::Line(named),
+            Err(fault) => Step::Stop(self.stop_by(fault)),
+        }
+    }
+
+    fn take_line(&mut self, end: usize) -> Result<bool, LineFault>
+        requires { EndsLine (left_of self.old.reader) end }
+        ensures { TookNext result (fed self.old) (fed self.new) }
+    {
+        if self.reader.has_cut() {
+            self.cut_line(end)
+        } else {
+            self.whole_line(end)
+        }
+    }
+
+    // Takes the next line, which lies whole in the block.
+    fn whole_line(&mut self, end: usize) -> Result<bool, LineFault>
+        requires whole { self.old.reader.cut.items ≡ [] }
+        requires end { EndsLine (left_of self.old.reader) end }
+        ensures { TookNext result (fed self.old) (fed self.new) }
+    {
+        let named = self.collected.line(self.alloc, self.reader.front(end))?;
+        self.reader.pass(end + 1);
+        Ok(named)
+    }
+
+    // Takes the next line, which began in a block before this one.
+    fn cut_line(&mut self, end: usize) -> Result<bool, LineFault>
+        requires { EndsLine (left_of self.old.reader) end }
+        ensures { TookNext result (fed self.old) (fed self.new) }
+    {
+        self.reader.hold(end)?;
+        let named = self.collected.line(self.alloc, &self.reader.cut)?;
+        self.reader.pass_cut();
+        Ok(named)
+    }
+
+    // Reads the next block, where no line feed is left in this one.
+    fn read_on<S: Source>(&mut self, source: &mut S) -> Step
+        requires { NoFeed (left_of self.old.reader) }
+        ensures { Stepped result (S.told source.old) (S.told source.new) (fed self.old) (fed self.new) }
+    {
+        if self.reader.ended {
+            return Step::Stop(FeedEnd::Ended);
+        }
+        match self.reader.hold_rest() {
+            Ok(()) => self.fill(source),
+            Err(fault) => Step::Stop(self.stop_by(fault)),
+        }
+    }
+
+    // Reads the next block.
+    fn fill<S: Source>(&mut self, source: &mut S) -> Step
+        requires passed { left_of self.old.reader ≡ [] }
+        requires open { self.old.reader.ended ≡ false }
+        ensures { Stepped result (S.told source.old) (S.told source.new) (fed self.old) (fed self.new) }
+    {
+        match self.reader.fill(source) {
+            Got::Bytes(_) => Step::Read,
+            Got::End => Step::Read,
+            Got::Failed => Step::Stop(FeedEnd::Failed {
+                lines: self.collected.lines,
+            }),
+        }
+    }
+
+    // How the reading stops at a line that isn't good.
+    fn stop_by(&self, fault: LineFault) -> FeedEnd
+        ensures { StopsBy fault (seen self.now).lines result }
+    {
+        if fault == LineFault::OutOfMemory {
+            FeedEnd::OutOfMemory
+        } else {
+            FeedEnd::Refused {
+                line: self.collected.lines + 1,
+                cause: fault,
+            }
+        }
     }
 }

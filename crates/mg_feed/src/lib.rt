@@ -1,11 +1,13 @@
 //! Packet lines: what they give a graph's inputs, and the lines of what a graph puts out.
 //! Answers to the definitions of `specs/Form.antt`, `specs/Accepted.antt`, `specs/Output.antt` and `specs/Generated.antt`;
-//! what a feed stands for is in `specs/Stands.antt`.
+//! what a feed stands for is in `specs/Stands.antt`, and what of the bytes that it read in `specs/Came.antt` and
+//! `specs/Batch.antt`.
 #![tactic(auto)]
 
 mod collected;
 mod due;
 mod feed;
+mod feed_end;
 mod feed_stream;
 mod form;
 mod generating;
@@ -14,15 +16,18 @@ mod judge;
 pub mod laws;
 mod limits;
 mod line_fault;
+mod line_json;
 mod line_writer;
 mod places;
 mod put;
+mod reader;
 mod standing;
 mod streams;
 mod taking;
 mod times;
 
 pub use feed::Feed;
+pub use feed_end::{BatchEnd, FeedEnd};
 pub use generating::generate;
 pub use limits::{LONGEST_LINE, MOST_LINES};
 pub use line_fault::LineFault;

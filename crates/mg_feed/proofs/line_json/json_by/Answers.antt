@@ -1,7 +1,7 @@
 use Rattle.std.proofs.Common.{sym, ◌∙◌, refl}
 use Rattle.std.proofs.lemmas.Bool.{false≢true}
 use Rattle.mg_feed.proofs.Json.{json_value-read, json_value-refused}
-use Rattle.mg_feed.proofs.collected.json_by.Goals as goal
+use Rattle.mg_feed.proofs.line_json.json_by.Goals as goal
 
 pub returns-in-Ok-clause-value : goal.returns-in-Ok-clause-value
 returns-in-Ok-clause-value c = json_value-read _ _ c.in-Ok.ensures.ok.0 c.in-Ok.ensures.ok.1

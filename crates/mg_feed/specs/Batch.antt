@@ -1,0 +1,84 @@
+-- What a call that reads lines from a source leaves, by how it ended.
+use Rattle.std.specs.Prelude.{◌≡◌, ◌≢◌, ◌<◌, ◌⊎◌, ◌+◌, ⊤, ℕ, List, [], ◌++◌, length, count_by, Bool, true, None, Some}
+use Rattle.mg_value.specs.Payload.{Plain}
+use Rattle.mg_value.specs.Prefix.{Stamped}
+use Rattle.mg_edge.specs.Edge.{SourceTold}
+use Rattle.mg_edge.specs.Runs.{Gave}
+use Rattle.mg_feed.specs.Graph.{GraphInputs}
+use Rattle.mg_feed.specs.Lines.{all_lines, whole_lines, but_last}
+use Rattle.mg_feed.specs.Accepted.{names_stream, longest_line}
+use Rattle.mg_feed.specs.Fed.{Fed}
+use Rattle.mg_feed.specs.Came.{Came, Judged}
+use Rattle.mg_feed.specs.Ran.{Unfailed, FailedBy}
+use Rattle.mg_feed.specs.declared.reader.TheConstants.{BLOCK}
+use Rattle.mg_feed.specs.declared.line_fault.LineFault.TheVariants.{OutOfMemory as no_memory}
+use Rattle.mg_feed.specs.declared.feed_end.FeedEnd.{FeedEnd}
+use Rattle.mg_feed.specs.declared.feed_end.FeedEnd.TheVariants.{Ended, Failed, Refused, OutOfMemory}
+use Rattle.mg_feed.specs.declared.feed_end.BatchEnd.{BatchEnd}
+use Rattle.mg_feed.specs.declared.feed_end.BatchEnd.TheVariants.{More, End}
+
+-- What the end of an input says of all bytes that came, and of the lines that were accepted of them after the first ones:
+-- the source ended, and all lines are good; a read failed after these whole lines, all of them good; or this line is the
+-- first that isn't good, whatever bytes may follow, of which there are none where the source has ended.
+abbrev pub EndsAs : FeedEnd → GraphInputs → List (List ℕ) → List ℕ → List (List ℕ) → Bool → Type 0
+EndsAs Ended graph first came lines ended = (ended ≡ true) × (lines ≡ all_lines came) × Judged graph first (all_lines came) lines None
+EndsAs (Failed number) graph first came lines ended =
+    (number ≡ length (first ++ lines)) × (lines ≡ whole_lines came) × Judged graph first (whole_lines came) lines None
+EndsAs (Refused number cause) graph first came lines ended =
+    (more : List ℕ) → (ended ≡ true → more ≡ [])
+    → Judged graph first (all_lines (came ++ more)) lines (Some (record { number = number; fault = cause }))
+EndsAs OutOfMemory graph first came lines ended = ⊤
+
+-- the cause of a refusal is never want of memory
+abbrev pub HasCause : FeedEnd → Type 0
+HasCause Ended = ⊤
+HasCause (Failed number) = ⊤
+HasCause (Refused number cause) = cause ≢ no_memory
+HasCause OutOfMemory = ⊤
+
+-- A call that reads an input to its end: these bytes came, and of them and of those that were kept it took these lines.
+pub record HasRead (end : FeedEnd) (before now : SourceTold) (old new : Fed) : Type 0 where
+  pub came : List ℕ
+  pub taken : List (List ℕ)
+  pub gave : Gave before.left now.left came
+  pub number : new.view.lines ≡ old.view.lines + length taken
+  pub accepted : (first : List (List ℕ)) (past : List ℕ) (lines : List (List ℕ)) (gone : List (List (Stamped Plain))) → Came first past lines gone old
+      → Came first (past ++ came) (lines ++ taken) gone new × EndsAs end old.view.graph first (past ++ came) (lines ++ taken) new.read.ended
+
+-- the most bytes that a feed keeps: those of a line that isn't whole yet, and a block
+abbrev pub most_kept : ℕ
+most_kept = longest_line + BLOCK
+
+-- Batches --
+
+-- how many lines name a stream
+abbrev pub naming : List (List ℕ) → ℕ
+naming lines = count_by names_stream lines
+
+-- There is more behind a batch exactly where it took as many lines that name a stream as it may. The last of them is the
+-- batch's last line.
+abbrev pub Fills : BatchEnd → ℕ → List (List ℕ) → Type 0
+Fills More most taken = (naming taken ≡ most) × ((taken ≡ []) ⊎ (naming (but_last taken) < most))
+Fills (End end) most taken = naming taken < most
+
+abbrev pub BatchEndsAs : BatchEnd → GraphInputs → List (List ℕ) → List ℕ → List (List ℕ) → Bool → Type 0
+BatchEndsAs More graph first came lines ended = ⊤
+BatchEndsAs (End end) graph first came lines ended = EndsAs end graph first came lines ended
+
+abbrev pub BatchHasCause : BatchEnd → Type 0
+BatchHasCause More = ⊤
+BatchHasCause (End end) = HasCause end
+
+abbrev pub BatchFailedBy : BatchEnd → SourceTold → SourceTold → Type 0
+BatchFailedBy More before now = Unfailed before now
+BatchFailedBy (End end) before now = FailedBy end before now
+
+-- A call that reads a batch.
+pub record HasReadBatch (most : ℕ) (end : BatchEnd) (before now : SourceTold) (old new : Fed) : Type 0 where
+  pub came : List ℕ
+  pub taken : List (List ℕ)
+  pub gave : Gave before.left now.left came
+  pub number : new.view.lines ≡ old.view.lines + length taken
+  pub filled : Fills end most taken
+  pub accepted : (first : List (List ℕ)) (past : List ℕ) (lines : List (List ℕ)) (gone : List (List (Stamped Plain))) → Came first past lines gone old
+      → Came first (past ++ came) (lines ++ taken) gone new × BatchEndsAs end old.view.graph first (past ++ came) (lines ++ taken) new.read.ended

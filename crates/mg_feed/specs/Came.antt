@@ -1,0 +1,24 @@
+-- The bytes of an input that came to a feed, however it was cut into reads and batches, and the lines that it accepted of
+-- them.
+use Rattle.std.specs.Prelude.{◌≡◌, ℕ, List, ◌++◌, Bool, Option, if◌then◌else◌}
+use Rattle.mg_value.specs.Payload.{Plain}
+use Rattle.mg_value.specs.Prefix.{Stamped}
+use Rattle.mg_feed.specs.Graph.{GraphInputs}
+use Rattle.mg_feed.specs.Lines.{IsCut, completed}
+use Rattle.mg_feed.specs.Accepted.{Refused, accepted_after, first_refused_after}
+use Rattle.mg_feed.specs.Stands.{Stands}
+use Rattle.mg_feed.specs.Fed.{Fed}
+
+-- the bytes that came, and a line feed where the input has ended without one
+abbrev pub arrived : Bool → List ℕ → List ℕ
+arrived ended came = if ended then completed came else came
+
+-- After the first lines, which came in another way, the feed accepted these lines of the bytes that came. The bytes behind
+-- them are kept.
+pub record Came (first : List (List ℕ)) (came : List ℕ) (lines : List (List ℕ)) (gone : List (List (Stamped Plain))) (f : Fed) : Type 0 where
+  pub stands : Stands (first ++ lines) gone f.view
+  pub cut : IsCut (arrived f.read.ended came) lines f.read.kept
+
+-- Of all these lines, after the first ones, so many are accepted, and this is the first that isn't good, if there is one.
+abbrev pub Judged : GraphInputs → List (List ℕ) → List (List ℕ) → List (List ℕ) → Option Refused → Type 0
+Judged graph first all lines refused = (accepted_after graph first all ≡ lines) × (first_refused_after graph first all ≡ refused)

@@ -1,0 +1,42 @@
+-- What a read of a block leaves.
+use Rattle.std.specs.Prelude.{◌≡◌, ◌≤◌, ℕ, List, [], ◌++◌, length, true, false}
+use Rattle.mg_edge.specs.Edge.{SourceTold, CountsOne}
+use Rattle.mg_edge.specs.Runs.{Gave}
+use Rattle.mg_edge.specs.declared.source.Got.{Got}
+use Rattle.mg_edge.specs.declared.source.Got.TheVariants.{Bytes, End, Failed}
+use Rattle.mg_feed.specs.Lines.{with_feed}
+use Rattle.mg_feed.specs.Fed.{Reading}
+use Rattle.mg_feed.specs.Ran.{EndCame, Unfailed, ReadFailed}
+
+-- bytes came
+pub record GotBytes (old new : Reading) (before now : SourceTold) : Type 0 where
+  pub bytes : List ℕ
+  pub some : 1 ≤ length bytes
+  pub kept : new.kept ≡ old.kept ++ bytes
+  pub ended : new.ended ≡ false
+  pub gave : Gave before.left now.left bytes
+  pub ends : now.ends ≡ before.ends
+  pub counted : CountsOne before.reads now.reads
+  pub unfailed : Unfailed before now
+
+-- the source has ended
+pub record GotEnd (old new : Reading) (before now : SourceTold) : Type 0 where
+  pub kept : new.kept ≡ with_feed old.kept old.kept
+  pub ended : new.ended ≡ true
+  pub gave : Gave before.left now.left []
+  pub came : EndCame before now
+  pub counted : CountsOne before.reads now.reads
+  pub unfailed : Unfailed before now
+
+-- the read failed
+pub record GotFault (old new : Reading) (before now : SourceTold) : Type 0 where
+  pub same : new ≡ old
+  pub gave : Gave before.left now.left []
+  pub ends : now.ends ≡ before.ends
+  pub counted : CountsOne before.reads now.reads
+  pub failed : ReadFailed before now
+
+abbrev pub Filled : Got → Reading → Reading → SourceTold → SourceTold → Type 0
+Filled (Bytes n) old new before now = GotBytes old new before now
+Filled End old new before now = GotEnd old new before now
+Filled Failed old new before now = GotFault old new before now

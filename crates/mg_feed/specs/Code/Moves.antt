@@ -1,0 +1,111 @@
+-- The steps of a call that reads lines.
+use Rattle.std.specs.Prelude.{◌≡◌, ◌≢◌, ◌⊎◌, ◌≤◌, ◌<◌, ◌+◌, ◌*◌, ⊤, ℕ, List, [], ◌∷◌, ◌++◌, length, Bool, true, false, Option, None, Some, Result, Ok, Err}
+use Rattle.mg_value.specs.Payload.{Plain}
+use Rattle.mg_value.specs.Prefix.{Stamped}
+use Rattle.mg_edge.specs.Edge.{SourceTold}
+use Rattle.mg_edge.specs.Runs.{Gave}
+use Rattle.mg_feed.specs.Lines.{NoFeed}
+use Rattle.mg_feed.specs.Accepted.{with_line, line_refusal, names_stream, longest_line, most_lines}
+use Rattle.mg_feed.specs.View.{before_seen, with_next}
+use Rattle.mg_feed.specs.Fed.{Fed}
+use Rattle.mg_feed.specs.Came.{Came}
+use Rattle.mg_feed.specs.Ran.{MetEnd, Unfailed, FailedBy}
+use Rattle.mg_feed.specs.Batch.{EndsAs, HasCause}
+use Rattle.mg_feed.specs.declared.reader.TheConstants.{BLOCK}
+use Rattle.mg_feed.specs.declared.line_fault.LineFault.{LineFault}
+use Rattle.mg_feed.specs.declared.line_fault.LineFault.TheVariants.{OutOfMemory as no_memory}
+use Rattle.mg_feed.specs.declared.feed_end.FeedEnd.{FeedEnd}
+use Rattle.mg_feed.specs.declared.feed_end.FeedEnd.TheVariants.{Refused, OutOfMemory}
+use Rattle.mg_feed.specs.declared.feed_end.Step.{Step}
+use Rattle.mg_feed.specs.declared.feed_end.Step.TheVariants.{Line, Read, Stop}
+
+-- Lines --
+
+-- The next of the bytes that are kept is a line.
+pub record TookLine (named : Bool) (old new : Fed) : Type 0 where
+  pub line : List ℕ
+  pub cut : old.read.kept ≡ line ++ 10 ∷ new.read.kept
+  pub none : NoFeed line
+  pub names : named ≡ names_stream line
+  pub ended : new.read.ended ≡ old.read.ended
+  pub good : line_refusal (before_seen old.view) line ≡ None
+  pub view : new.view ≡ with_next old.view (with_line old.view.graph old.view.given line)
+
+-- The next line isn't good.
+pub record NextLine (fault : LineFault) (old : Fed) : Type 0 where
+  pub line : List ℕ
+  pub rest : List ℕ
+  pub cut : old.read.kept ≡ line ++ 10 ∷ rest
+  pub none : NoFeed line
+  pub bad : line_refusal (before_seen old.view) line ≡ Some fault
+
+-- What the next line came to. Where it isn't good the feed stays.
+abbrev pub TookNext : Result Bool LineFault → Fed → Fed → Type 0
+TookNext (Ok named) old new = TookLine named old new
+TookNext (Err fault) old new = (new ≡ old) × (fault ≢ no_memory → NextLine fault old)
+
+-- Steps --
+
+-- A feed grew by bytes that came and by lines that it accepted.
+abbrev pub Grows : Fed → Fed → List ℕ → List (List ℕ) → Type 0
+Grows old new came taken = (first : List (List ℕ)) (past : List ℕ) (lines : List (List ℕ)) (gone : List (List (Stamped Plain)))
+    → Came first past lines gone old → Came first (past ++ came) (lines ++ taken) gone new
+
+-- one, once the source has ended
+abbrev pub late : Bool → ℕ
+late true = 1
+late false = 0
+
+-- With each read at least one byte comes, but for the one that answers `End`.
+abbrev pub Spends : ℕ → ℕ → Option (List ℕ) → Option (List ℕ) → Option ℕ → Option ℕ → Type 0
+Spends a b None left was reads = ⊤
+Spends a b (Some bytes) left None reads = ⊤
+Spends a b (Some bytes) left (Some was) reads =
+    (rest : List ℕ) × (now : ℕ) × (left ≡ Some rest) × (reads ≡ Some now) × (now + length rest + a ≤ was + length bytes + b)
+
+-- what a feed and its source did so far, no read having failed
+pub record Moved (before now : SourceTold) (old new : Fed) (came : List ℕ) (taken : List (List ℕ)) : Type 0 where
+  pub gave : Gave before.left now.left came
+  pub grows : Grows old new came taken
+  pub graph : new.view.graph ≡ old.view.graph
+  pub number : new.view.lines ≡ old.view.lines + length taken
+  pub met : MetEnd old.read.ended new.read.ended before now
+  pub spent : Spends (late old.read.ended) (late new.read.ended) before.left now.left before.reads now.reads
+  pub unfailed : Unfailed before now
+
+-- a number that rises with each step
+abbrev pub weight : Fed → ℕ
+weight f = f.view.lines * (longest_line + 2) + length f.read.kept + late f.read.ended
+
+abbrev pub heaviest : ℕ
+heaviest = most_lines * (longest_line + 2) + longest_line + BLOCK + 1
+
+-- what the end of the reading says of all that came
+abbrev pub Ends : FeedEnd → Fed → Type 0
+Ends end f = (first : List (List ℕ)) (past : List ℕ) (lines : List (List ℕ)) (gone : List (List (Stamped Plain)))
+    → Came first past lines gone f → EndsAs end f.view.graph first past lines f.read.ended
+
+-- the reading stops
+pub record Stopped (end : FeedEnd) (before now : SourceTold) (old new : Fed) : Type 0 where
+  pub gave : Gave before.left now.left []
+  pub same : new ≡ old
+  pub met : MetEnd old.read.ended new.read.ended before now
+  pub spent : Spends (late old.read.ended) 1 before.left now.left before.reads now.reads
+  pub failed : FailedBy end before now
+  pub cause : HasCause end
+  pub ends : Ends end new
+
+-- how the reading stops at a line that isn't good, after so many lines
+abbrev pub StopsBy : LineFault → ℕ → FeedEnd → Type 0
+StopsBy fault lines end = ((fault ≡ no_memory) × (end ≡ OutOfMemory)) ⊎ ((fault ≢ no_memory) × (end ≡ Refused (lines + 1) fault))
+
+-- what a step over a line came to, and any step
+abbrev pub SteppedLine : Step → Fed → Fed → Type 0
+SteppedLine (Line named) old new = TookLine named old new
+SteppedLine Read old new = ⊥
+SteppedLine (Stop end) old new = (source : SourceTold) → Stopped end source source old new
+
+abbrev pub Stepped : Step → SourceTold → SourceTold → Fed → Fed → Type 0
+Stepped (Line named) before now old new = (now ≡ before) × TookLine named old new
+Stepped Read before now old new = (came : List ℕ) × Moved before now old new came [] × (weight old < weight new)
+Stepped (Stop end) before now old new = Stopped end before now old new

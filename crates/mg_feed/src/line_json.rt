@@ -1,0 +1,28 @@
+ghost use Rattle.std.specs.Prelude.{◌≡◌, ◌≢◌, IfOk, IfErr, None, Some};
+ghost use Rattle.std.specs.List.{list_all};
+ghost use Rattle.serde_json.specs.View.{view};
+ghost use Rattle.mg_feed.specs.Form.{is_blank, json_value};
+
+use crate::LineFault;
+use serde_json::Value;
+use std::alloc::Global;
+
+/// The JSON value of a text.
+pub fn json_by(alloc: Global, text: &[u8]) -> Result<Value, LineFault>
+    ensures value { IfOk result (λ value. json_value text.now ≡ Some (view value)) }
+    ensures fault { IfErr result (λ fault. fault ≢ LineFault.OutOfMemory → (fault ≡ LineFault.NotJson) × (json_value text.now ≡ None)) }
+{
+    match Value::from_slice(alloc, text) {
+        Ok(value) => Ok(value),
+        Err(error) if error.is_memory() => Err(LineFault::OutOfMemory),
+        Err(_) => Err(LineFault::NotJson),
+    }
+}
+
+/// Whether all its bytes are blanks.
+pub fn is_blank_line(line: &[u8]) -> bool
+    ensures { result ≡ list_all is_blank line.now }
+{
+    line.iter()
+        .all(|b| *b == b' ' || *b == b'\t' || *b == b'\r')
+}

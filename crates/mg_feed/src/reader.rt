@@ -1,0 +1,182 @@
+ghost use Rattle.std.specs.Prelude.{◌≡◌, ◌<◌, ◌≤◌, false, length, vec_len, IfOk, MatchOption};
+ghost use Rattle.mg_feed.specs.Lines.{NoFeed};
+ghost use Rattle.mg_feed.specs.Accepted.{longest_line};
+ghost use Rattle.mg_feed.specs.Code.LineEnd.{EndsLine, has_feed};
+ghost use Rattle.mg_feed.specs.declared.reader.TheConstants.{BLOCK};
+
+use crate::LineFault;
+use crate::limits::LONGEST_LINE;
+use memchr::memchr;
+use mg_edge::{Got, Source};
+use std::alloc::{AllocError, Global};
+
+/// How many bytes are read at once.
+pub const BLOCK: usize = 65_536;
+
+/// Reads a source in blocks, and finds the lines. A line that lies whole in a block stays there.
+#[derive(Drop)]
+pub struct Reader {
+    // The block that was read last. Of its bytes those from `at` up to `filled` weren't passed yet.
+    pub block: Vec<u8>,
+    pub at: usize,
+    pub filled: usize,
+    // The bytes before them that no line feed has ended yet.
+    pub cut: Vec<u8>,
+    // Whether the source answered `End`.
+    pub ended: bool,
+    ghost room: { 0 < vec_len block },
+    ghost small: { vec_len block ≤ BLOCK },
+    ghost ahead: { at ≤ filled },
+    ghost within: { filled ≤ vec_len block },
+    ghost none: { has_feed cut.items ≡ false },
+    ghost short: { length cut.items ≤ longest_line },
+}
+
+impl Reader {
+    ghost use Rattle.std.specs.Prelude.{◌≡◌, ◌≢◌, ◌<◌, ◌≤◌, ◌+◌, ◌++◌, ◌∷◌, [], true, false, ℕ, List, IfOk, IfErr, OnOk, OnErr, MatchOption, IsTrue, ◌↔◌, length, take, drop};
+    ghost use Rattle.mg_feed.specs.Lines.{NoFeed, with_feed};
+    ghost use Rattle.mg_feed.specs.Accepted.{longest_line};
+    ghost use Rattle.mg_feed.specs.Code.LineEnd.{EndsLine};
+    ghost use Rattle.mg_feed.specs.Code.Readers.{left_of, reading_of};
+    ghost use Rattle.mg_feed.specs.Code.Filled.{Filled};
+
+    /// A reader that read nothing yet.
+    pub fn new(alloc: Global) -> Result<Reader, AllocError>
+        ensures { IfOk result (λ reader. reading_of reader ≡ record { kept = []; ended = false }) }
+    {
+        let block = zeros(alloc, BLOCK)?;
+        Ok(Reader {
+            block,
+            at: 0,
+            filled: 0,
+            cut: Vec::new(alloc),
+            ended: false,
+        })
+    }
+
+    /// The bytes of the block that weren't passed yet.
+    pub fn left(&self) -> &[u8]
+        ensures { result.now ≡ left_of self.now }
+    {
+        &self.block[self.at..self.filled]
+    }
+
+    /// Where the next line feed of the block is.
+    pub fn line_end(&self) -> Option<usize>
+        ensures { MatchOption result (NoFeed (left_of self.now)) (EndsLine (left_of self.now)) }
+    {
+        line_end(self.left())
+    }
+
+    /// Whether the next line began in a block before this one.
+    pub fn has_cut(&self) -> bool
+        ensures { result ≡ false → self.now.cut.items ≡ [] }
+    {
+        !self.cut.is_empty()
+    }
+
+    /// The first bytes of the block that weren't passed yet.
+    pub fn front(&self, count: usize) -> &[u8]
+        requires { count ≤ length (left_of self.now) }
+        ensures { result.now ≡ take count (left_of self.now) }
+    {
+        self.left().split_at(count).0
+    }
+
+    /// Passes so many bytes of the block.
+    pub fn pass(&mut self, count: usize)
+        requires { count ≤ length (left_of self.old) }
+        ensures left { left_of self.new ≡ drop count (left_of self.old) }
+        ensures cut { self.new.cut.items ≡ self.old.cut.items }
+        ensures ended { self.new.ended ≡ self.old.ended }
+    {
+        self.at += count;
+    }
+
+    /// Keeps so many bytes of the block for the next line, or tells that the line is too long already.
+    pub fn hold(&mut self, count: usize) -> Result<(), LineFault>
+        requires within { count ≤ length (left_of self.old) }
+        requires none { NoFeed (take count (left_of self.old)) }
+        ensures reading { reading_of self.new ≡ reading_of self.old }
+        ensures held { OnOk result (self.new.cut.items ≡ self.old.cut.items ++ take count (left_of self.old)) }
+        ensures left { OnOk result (left_of self.new ≡ drop count (left_of self.old)) }
+        ensures fault { IfErr result (λ fault. fault ≢ LineFault.OutOfMemory → (fault ≡ LineFault.TooLong) × (longest_line < length self.old.cut.items + count)) }
+    {
+        if self.cut.len() + count > LONGEST_LINE {
+            return Err(LineFault::TooLong);
+        }
+        let piece = &self.block[self.at..self.at + count];
+        self.cut.extend_from_slice(piece)?;
+        self.at += count;
+        Ok(())
+    }
+
+    /// Keeps all bytes of the block for the next line, none of which is a line feed, or tells that the line is too long already.
+    pub fn hold_rest(&mut self) -> Result<(), LineFault>
+        requires { NoFeed (left_of self.old) }
+        ensures reading { reading_of self.new ≡ reading_of self.old }
+        ensures left { OnOk result (left_of self.new ≡ []) }
+        ensures fault { IfErr result (λ fault. fault ≢ LineFault.OutOfMemory → (fault ≡ LineFault.TooLong) × (longest_line < length (reading_of self.old).kept)) }
+    {
+        let count = self.filled - self.at;
+        self.hold(count)?;
+        Ok(())
+    }
+
+    /// Passes the line feed of a line that began in a block before this one, and the line.
+    pub fn pass_cut(&mut self)
+        requires { 1 ≤ length (left_of self.old) }
+        ensures left { left_of self.new ≡ drop 1 (left_of self.old) }
+        ensures cut { self.new.cut.items ≡ [] }
+        ensures ended { self.new.ended ≡ self.old.ended }
+    {
+        self.cut.clear();
+        self.at += 1;
+    }
+
+    /// Reads the next block of the source.
+    pub fn fill<S: Source>(&mut self, source: &mut S) -> Got
+        requires passed { left_of self.old ≡ [] }
+        requires open { self.old.ended ≡ false }
+        ensures filled { Filled result (reading_of self.old) (reading_of self.new) (S.told source.old) (S.told source.new) }
+    {
+        let got = source.read(&mut self.block);
+        match got {
+            Got::Bytes(count) => {
+                self.at = 0;
+                self.filled = count;
+            }
+            Got::End => self.finish(),
+            Got::Failed => {}
+        }
+        got
+    }
+
+    // The source has ended: the line feed comes that the last line lacks.
+    fn finish(&mut self)
+        requires { left_of self.old ≡ [] }
+        ensures ended { self.new.ended ≡ true }
+        ensures kept { (reading_of self.new).kept ≡ with_feed (reading_of self.old).kept (reading_of self.old).kept }
+    {
+        self.ended = true;
+        if !self.cut.is_empty() {
+            self.block[0] = b'\n';
+            self.at = 0;
+            self.filled = 1;
+        }
+    }
+}
+
+// The place of the first line feed.
+fn line_end(bytes: &[u8]) -> Option<usize>
+    ensures { MatchOption result (NoFeed bytes.now) (EndsLine bytes.now) }
+{
+    memchr(b'\n', bytes)
+}
+
+// So many zeros.
+fn zeros(alloc: Global, count: usize) -> Result<Vec<u8>, AllocError>
+    ensures { IfOk result (λ v. vec_len v ≡ count) }
+{
+    vec![in alloc; 0u8; count]
+}
