@@ -3,3 +3,8 @@ pub mod OwnFields
 pub mod PortLists
 pub mod Payloads
 pub mod Sorted
+pub mod Made
+pub mod InOrder
+pub mod InRow
+pub mod InRange
+pub mod FitLaws

@@ -17,6 +17,7 @@ mod value;
 mod word;
 
 pub use kind::{CalculatorKind, kind_named};
+pub use port_order::in_order;
 pub use ports::{Ports, has_just, kind_ports};
 pub use settings::{Settings, has_no_options, kind_settings};
 pub use shape::shape_of;
