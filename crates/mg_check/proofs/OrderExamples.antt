@@ -1,0 +1,22 @@
+-- Orders of a few nodes, to read the definition by.
+use Rattle.std.proofs.Common.{◌≡◌, List, [], ◌∷◌, refl}
+use Rattle.mg_check.specs.declared.ordering.Link.{Link}
+use Rattle.mg_check.specs.Order.{order_of, left_out}
+
+-- a source that feeds the last two nodes, of which the last feeds the one between
+abbrev fed : List Link
+fed = record { from = 1; to = 3 } ∷ record { from = 3; to = 2 } ∷ record { from = 1; to = 2 } ∷ []
+
+-- the source comes first, then the node that nobody feeds, and a node behind all that feed it
+in_order : order_of 4 (1 ∷ []) fed ≡ 1 ∷ 0 ∷ 3 ∷ 2 ∷ []
+in_order = refl
+
+-- two nodes that feed each other are left out, and so is one that waits for them
+abbrev ring : List Link
+ring = record { from = 1; to = 2 } ∷ record { from = 2; to = 1 } ∷ record { from = 2; to = 3 } ∷ []
+
+ring_order : order_of 4 (0 ∷ []) ring ≡ 0 ∷ []
+ring_order = refl
+
+ring_out : left_out 4 (0 ∷ []) ≡ 1 ∷ 2 ∷ 3 ∷ []
+ring_out = refl

@@ -1,0 +1,7 @@
+-- Those so far.
+use Rattle.std.proofs.Common.{◌≡◌}
+use Rattle.std.specs.List.{range_with_len}
+use Rattle.mg_check.proofs.counting.range_of.Given as goal
+
+abbrev pub invariant-loop-i : goal.invariant-loop-i
+invariant-loop-i l = l.numbers.items ≡ range_with_len l.first l.i

@@ -1,0 +1,8 @@
+-- With those that are left it comes to the same.
+use Rattle.std.proofs.Common.{◌≡◌, ◌++◌, drop}
+use Rattle.mg_kinds.specs.Laws.{names_of}
+use Rattle.mg_subgraph.specs.Refusals.{port_names}
+use Rattle.mg_check.proofs.gathering.add_ports.Given as goal
+
+abbrev pub invariant-loop-i : goal.invariant-loop-i
+invariant-loop-i l = names_of l.out.items ++ port_names (drop l.i l.ports) ≡ names_of l.fn.out.items ++ port_names l.ports

@@ -1,0 +1,7 @@
+-- With those that are left it comes to the same.
+use Rattle.std.proofs.Common.{◌≡◌, ◌++◌, drop, map}
+use Rattle.mg_check.specs.Code.Meets.{begun}
+use Rattle.mg_check.proofs.meeting.begin.Given as goal
+
+abbrev pub invariant-loop-kind : goal.invariant-loop-kind
+invariant-loop-kind l = l.mets.items ++ map begun (drop l.kind-index l.kinds) ≡ map begun l.kinds

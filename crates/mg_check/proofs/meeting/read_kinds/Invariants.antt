@@ -1,0 +1,9 @@
+-- With those that are left it comes to the same.
+use Rattle.std.proofs.Common.{◌≡◌, ◌++◌, drop}
+use Rattle.std.specs.List.{flat_map}
+use Rattle.mg_check.specs.DraftView.{drafts_view}
+use Rattle.mg_check.specs.Joining.{kinds}
+use Rattle.mg_check.proofs.meeting.read_kinds.Given as goal
+
+abbrev pub invariant-loop-draft : goal.invariant-loop-draft
+invariant-loop-draft l = l.kinds.items ++ flat_map (λ d. kinds d.shape.inputs) (drafts_view (drop l.draft-index l.drafts)) ≡ flat_map (λ d. kinds d.shape.inputs) (drafts_view l.drafts)

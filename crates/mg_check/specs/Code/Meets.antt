@@ -1,0 +1,34 @@
+-- What is known of a stream while the ports that read it are gone through: its kind so far, and whether two kinds clashed.
+use Rattle.std.specs.Prelude.{ℕ, List, [], ◌∷◌, false, not, ◌&&◌, ◌||◌, Option, None, Some, if◌then◌else◌, slice_get, slice_set, map, zip}
+use Rattle.mg_value.specs.declared.kind.Kind.{Kind}
+use Rattle.mg_calc.specs.declared.edge.Edge.{Edge}
+use Rattle.mg_check.specs.Meeting.{Reading, is_any, is_kind, met_kind, clashes}
+use Rattle.mg_check.specs.declared.met.Met.{Met}
+
+abbrev pub begun : Kind → Met
+begun kind = record { kind = kind; clash = false }
+
+abbrev pub meet : Met → Kind → Met
+meet met kind =
+    if is_any met.kind then record { kind = kind; clash = met.clash }
+    else record { kind = met.kind; clash = met.clash || not (is_any kind) && not (is_kind kind met.kind) }
+
+-- what is known of all streams after one more port, which reads the stream of a number
+abbrev pub meet_by : List Met → ℕ → Kind → Option Met → List Met
+meet_by mets stream kind None = mets
+meet_by mets stream kind (Some met) = slice_set mets stream (meet met kind)
+
+abbrev pub meet_at : List Met → ℕ → Kind → List Met
+meet_at mets stream kind = meet_by mets stream kind (slice_get mets stream)
+
+abbrev pub meet_all : List Met → List Reading → List Met
+meet_all mets [] = mets
+meet_all mets (r ∷ rs) = meet_all (meet_at mets r.stream r.kind) rs
+
+-- the ports that read streams, by the edges into them and their kinds
+abbrev pub readings_of : List Edge → List Kind → List Reading
+readings_of edges kinds = map (λ e. record { stream = e.0.stream; kind = e.1 }) (zip edges kinds)
+
+-- of kinds that met
+abbrev pub met_of : List Kind → Met
+met_of kinds = record { kind = met_kind kinds; clash = clashes kinds }

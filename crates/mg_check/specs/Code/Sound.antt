@@ -1,0 +1,42 @@
+-- What holds of the drafts of nodes that aren't refused.
+use Rattle.std.specs.Prelude.{◌≡◌, ◌≢◌, ◌≤◌, true, false, List, length, filter_map, All, AllPairs, IfSome, IsSome, IsSomeAnd, slice_get}
+use Rattle.mg_calc.specs.declared.law.Law.TheVariants.{Loopback}
+use Rattle.mg_calc.specs.declared.shape.OuterShape.{OuterShape}
+use Rattle.mg_calc.specs.Shape.{ParametersFit, IsShapeOf}
+use Rattle.mg_calc.specs.Plan.{MayHavePolicy}
+use Rattle.mg_check.specs.Drafts.{DraftView}
+
+-- a draft has a name for each port of its shape, and a constant for each side packet that it writes
+pub record HasNames (d : DraftView) : Type 0 where
+  pub inputs : length d.inputs ≡ length d.shape.inputs
+  pub outputs : length d.outputs ≡ length d.shape.outputs
+  pub sides : length d.sides ≡ length d.shape.sides
+  pub side_outputs : length d.side_outputs ≡ length d.constants
+
+-- how many sets of it may be in flight: from 1 to 64, but one where a calculator is handed in or keeps a state
+pub record HasFlight (d : DraftView) : Type 0 where
+  pub some : 1 ≤ d.in_flight
+  pub most : d.in_flight ≤ 64
+  pub boxed : IsSome d.box_number → d.in_flight ≡ 1
+  pub stateful : d.shape.stateless ≡ false → d.in_flight ≡ 1
+
+-- its law has parameters in their ranges, its shape is its law's, and it has a policy that its law may have; only an input of a loopback
+-- is back
+pub record IsSound (d : DraftView) : Type 0 where
+  pub names : HasNames d
+  pub parameters : ParametersFit d.law
+  pub shape : IsShapeOf d.law d.shape
+  pub flight : HasFlight d
+  pub policy : MayHavePolicy d.law d.policy
+  pub back : d.back ≡ true → d.law ≡ Loopback
+
+-- a calculator that is handed in has its law and shape
+pub record FitsDraft (d : DraftView) (outer : OuterShape) : Type 0 where
+  pub same_law : outer.law ≡ d.law
+  pub same_shape : outer.shape ≡ d.shape
+
+-- all drafts are so; no two have the same calculator that is handed in, and each that has one has its law and shape
+pub record AreSound (outers : List OuterShape) (ds : List DraftView) : Type 0 where
+  pub each : All IsSound ds
+  pub once : AllPairs ◌≢◌ (filter_map (λ d. d.box_number) ds)
+  pub fit : All (λ d. IfSome d.box_number (λ number. IsSomeAnd (slice_get outers number) (FitsDraft d))) ds

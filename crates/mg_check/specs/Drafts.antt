@@ -1,0 +1,135 @@
+-- What a node is before its streams and side packets have numbers, and what it is refused for by itself.
+use Rattle.std.specs.Prelude.{ℕ, ℤ, pos, negsuc, List, [], Bool, true, false, not, ◌&&◌, ◌==◌, nat_lt, Option, None, Some, option_map, is_none, unwrap_or, if◌then◌else◌, codes, map, position, find, filter_map}
+use Rattle.std.specs.List.{list_any}
+use Rattle.std.specs.Option.{option_and_then, option_or}
+use Rattle.std.specs.Str.{bytes_eq}
+use Rattle.mg_value.specs.Plain.{Plain}
+use Rattle.mg_value.specs.declared.policy.Policy.{Policy}
+use Rattle.mg_names.specs.Ports.{is_at}
+use Rattle.mg_names.specs.declared.port.Port.{Port}
+use Rattle.mg_config.specs.Config.{NodeView}
+use Rattle.mg_config.specs.declared.mark.Mark.{Mark}
+use Rattle.mg_calc.specs.declared.law.Law.{Law}
+use Rattle.mg_calc.specs.declared.law.Law.TheVariants.{Loopback}
+use Rattle.mg_calc.specs.declared.port_kind.PortKind.{PortKind}
+use Rattle.mg_calc.specs.declared.shape.Shape.{Shape}
+use Rattle.mg_calc.specs.declared.shape.OuterShape.{OuterShape}
+use Rattle.mg_kinds.specs.Tags.{tag_text}
+use Rattle.mg_kinds.specs.declared.tag.Tag.TheVariants.{Loop}
+use Rattle.mg_kinds.specs.Laws.{SettingsView}
+use Rattle.mg_kinds.specs.PortOrder.{in_order}
+use Rattle.mg_kinds.specs.declared.ports.Ports.{Ports}
+use Rattle.mg_check.specs.declared.node_kind.NodeKind.{NodeKind}
+use Rattle.mg_check.specs.declared.node_kind.NodeKind.TheVariants.{BuiltIn, Outer}
+use Rattle.mg_check.specs.Choosing.{Chosen, chosen, unknown_calculator, no_more_boxes}
+use Rattle.mg_check.specs.Fitting.{node_ports, node_settings, node_shape, policy_of}
+use Rattle.mg_check.specs.declared.fault.CheckFault.{CheckFault}
+use Rattle.mg_check.specs.declared.fault.CheckFault.TheVariants.{BadPorts, BadOptions, Unsupported}
+
+-- a node of a plan before its streams and side packets have numbers
+pub record DraftView : Type 0 where
+  pub label : List ℕ
+  pub law : Law
+  pub shape : Shape
+  -- the names at the ports of the shape, in its order
+  pub inputs : List (List ℕ)
+  pub outputs : List (List ℕ)
+  pub sides : List (List ℕ)
+  -- the side packets that it writes, and what they are
+  pub side_outputs : List (List ℕ)
+  pub constants : List Plain
+  pub in_flight : ℕ
+  pub box_number : Option ℕ
+  pub policy : Policy
+  -- whether LOOP is marked as a back edge, and whether another input is, or one that isn't there
+  pub back : Bool
+  pub misplaced : Bool
+
+-- the name at a port, and the names at ports
+abbrev pub name_at : List Port → PortKind → List ℕ
+name_at given p = unwrap_or (option_map (λ port. port.name) (find (is_at p.tag p.index) given)) []
+
+abbrev pub names_at : List Port → List PortKind → List (List ℕ)
+names_at given ps = map (name_at given) ps
+
+-- a node's name, or else its calculator
+abbrev pub label_of : NodeView → List ℕ
+label_of node = if bytes_eq node.name [] then node.calculator else node.name
+
+-- how many sets may be in flight: what the node says, from 1 to 64, but 1 where a calculator is handed in or keeps a state
+abbrev pub up_to_64 : ℤ → ℕ
+up_to_64 (pos n) = if n == 0 then 1 else (if nat_lt 64 n then 64 else n)
+up_to_64 (negsuc n) = 1
+
+abbrev pub flight_of : Option ℕ → Bool → ℤ → ℕ
+flight_of box_number stateless most = if is_none box_number && stateless then up_to_64 most else 1
+
+abbrev pub box_of : NodeKind → Option ℕ
+box_of (BuiltIn kind) = None
+box_of (Outer number) = Some number
+
+-- a mark is that of LOOP of a loopback
+abbrev pub is_loopback : Law → Bool
+is_loopback Loopback = true
+is_loopback rule = false
+
+abbrev pub is_at_loop : Law → Mark → Bool
+is_at_loop rule mark = is_loopback rule && bytes_eq mark.tag (tag_text Loop) && (mark.index == 0)
+
+-- the draft of a node of these ports, settings and policy, that looks so
+abbrev pub draft_with : NodeView → NodeKind → Ports → SettingsView → Policy → Shape → DraftView
+draft_with node kind ports settings policy shape = record {
+  label = label_of node;
+  law = settings.law;
+  shape = shape;
+  inputs = names_at node.inputs ports.inputs;
+  outputs = names_at node.outputs ports.outputs;
+  sides = names_at node.input_sides ports.sides;
+  side_outputs = names_at node.output_sides (in_order node.output_sides);
+  constants = settings.constants;
+  in_flight = flight_of (box_of kind) shape.stateless node.max_in_flight;
+  box_number = box_of kind;
+  policy = policy;
+  back = list_any (is_at_loop settings.law) node.back_marks;
+  misplaced = list_any (λ mark. not (is_at_loop settings.law mark)) node.back_marks;
+}
+
+-- that of a node, if nothing is wrong with it
+abbrev pub draft_of : List OuterShape → Chosen → Option DraftView
+draft_of outers c =
+    option_and_then (λ ports. option_and_then (λ settings. option_and_then (λ policy. option_map (draft_with c.node c.kind ports settings policy)
+    (node_shape outers c.node c.kind ports settings.law))
+    (policy_of settings.law c.node.handler))
+    (node_settings outers c.node c.kind))
+    (node_ports outers c.node c.kind)
+
+-- those of all nodes, if nothing is wrong with any
+abbrev pub drafts : List OuterShape → List NodeView → List DraftView
+drafts outers nodes = filter_map (draft_of outers) (chosen outers nodes)
+
+-- Refusals. The streams and side packets of a node don't fit its calculator.
+abbrev pub has_bad_ports : List OuterShape → Chosen → Bool
+has_bad_ports outers c = is_none (node_ports outers c.node c.kind)
+
+abbrev pub bad_ports : List OuterShape → List Chosen → Option CheckFault
+bad_ports outers cs = option_map BadPorts (position (has_bad_ports outers) cs)
+
+-- The options of a node aren't those of its calculator.
+abbrev pub has_bad_options : List OuterShape → Chosen → Bool
+has_bad_options outers c = is_none (node_settings outers c.node c.kind)
+
+abbrev pub bad_options : List OuterShape → List Chosen → Option CheckFault
+bad_options outers cs = option_map BadOptions (position (has_bad_options outers) cs)
+
+-- A node asks for an input policy that it can't have.
+abbrev pub is_unsupported : List OuterShape → Chosen → Bool
+is_unsupported outers c = is_none (option_and_then (λ settings. policy_of settings.law c.node.handler) (node_settings outers c.node c.kind))
+
+abbrev pub unsupported : List OuterShape → List Chosen → Option CheckFault
+unsupported outers cs = option_map (λ n. Unsupported n (codes "input_stream_handler")) (position (is_unsupported outers) cs)
+
+-- the first refusal of nodes by themselves
+abbrev pub node_refusal : List OuterShape → List NodeView → Option CheckFault
+node_refusal outers nodes =
+    option_or (unknown_calculator outers nodes) (option_or (no_more_boxes outers nodes) (option_or (bad_ports outers (chosen outers nodes))
+    (option_or (bad_options outers (chosen outers nodes)) (unsupported outers (chosen outers nodes)))))

@@ -1,0 +1,71 @@
+-- What a node is by its calculator: its ports, its law, its input policy. Each is there only where the node's own fields fit it.
+use Rattle.std.specs.Prelude.{ℕ, List, [], Bool, true, false, ◌&&◌, Option, None, Some, option_map, if◌then◌else◌, codes, slice_get}
+use Rattle.std.specs.Option.{option_and_then}
+use Rattle.std.specs.Str.{bytes_eq}
+use Rattle.mg_value.specs.declared.policy.Policy.{Policy}
+use Rattle.mg_value.specs.declared.policy.Policy.TheVariants.{Default, Mux}
+use Rattle.mg_config.specs.Config.{NodeView}
+use Rattle.mg_calc.specs.declared.law.Law.{Law}
+use Rattle.mg_calc.specs.declared.law.Law.TheVariants as law
+use Rattle.mg_calc.specs.declared.shape.Shape.{Shape}
+use Rattle.mg_calc.specs.declared.shape.OuterShape.{OuterShape}
+use Rattle.mg_kinds.specs.Ports.{has_just}
+use Rattle.mg_kinds.specs.Rows.{kind_ports, is_empty}
+use Rattle.mg_kinds.specs.Laws.{SettingsView, kind_settings, shape_with, has_no_options}
+use Rattle.mg_kinds.specs.declared.ports.Ports.{Ports}
+use Rattle.mg_check.specs.declared.node_kind.NodeKind.{NodeKind}
+use Rattle.mg_check.specs.declared.node_kind.NodeKind.TheVariants.{BuiltIn, Outer}
+
+-- a calculator that is handed in may have any law but those of sources, Constants and Loopback
+abbrev pub may_be_outer : Law → Bool
+may_be_outer (law.Count count start apart) = false
+may_be_outer (law.SideOnce at) = false
+may_be_outer law.Constants = false
+may_be_outer law.Loopback = false
+may_be_outer rule = true
+
+-- a node has just the ports of a calculator that is handed in, which may have its law, and writes no side packet
+abbrev pub fits_outer : NodeView → OuterShape → Bool
+fits_outer node outer =
+    may_be_outer outer.law && has_just node.inputs outer.shape.inputs && has_just node.outputs outer.shape.outputs
+    && has_just node.input_sides outer.shape.sides && is_empty node.output_sides
+
+abbrev pub outer_ports : NodeView → OuterShape → Option Ports
+outer_ports node outer =
+    if fits_outer node outer
+    then Some (record { inputs = outer.shape.inputs; outputs = outer.shape.outputs; sides = outer.shape.sides })
+    else None
+
+-- the ports that a node's calculator has there, if the node's streams and side packets fit it
+abbrev pub node_ports : List OuterShape → NodeView → NodeKind → Option Ports
+node_ports outers node (BuiltIn kind) = kind_ports kind node
+node_ports outers node (Outer number) = option_and_then (outer_ports node) (slice_get outers number)
+
+-- the law of a node, and the side packets that it writes, if its options are those of its calculator. One that is handed in has none.
+abbrev pub outer_settings : NodeView → OuterShape → Option SettingsView
+outer_settings node outer = if has_no_options node then Some (record { law = outer.law; constants = [] }) else None
+
+abbrev pub node_settings : List OuterShape → NodeView → NodeKind → Option SettingsView
+node_settings outers node (BuiltIn kind) = kind_settings kind node
+node_settings outers node (Outer number) = option_and_then (outer_settings node) (slice_get outers number)
+
+-- the input policy that a law has by itself, and the one that a node asks for by its handler, if it may have it
+-- (MediaPipe, Synchronization: input policies)
+abbrev pub own_policy : Law → Policy
+own_policy (law.Mux lanes) = Mux
+own_policy rule = Default
+
+abbrev pub mux_policy : Law → Option Policy
+mux_policy (law.Mux lanes) = Some Mux
+mux_policy rule = None
+
+abbrev pub policy_of : Law → List ℕ → Option Policy
+policy_of rule handler =
+    if bytes_eq handler [] then Some (own_policy rule)
+    else (if bytes_eq handler (codes "DefaultInputStreamHandler") then Some Default
+    else (if bytes_eq handler (codes "MuxInputStreamHandler") then mux_policy rule else None))
+
+-- what a node's calculator looks like
+abbrev pub node_shape : List OuterShape → NodeView → NodeKind → Ports → Law → Option Shape
+node_shape outers node (BuiltIn kind) ports rule = Some (shape_with node.calculator ports rule)
+node_shape outers node (Outer number) ports rule = option_map (λ outer. outer.shape) (slice_get outers number)

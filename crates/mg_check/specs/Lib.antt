@@ -1,0 +1,11 @@
+pub mod Choosing
+pub mod Fitting
+pub mod Drafts
+pub mod DraftView
+pub mod Names
+pub mod Meeting
+pub mod Order
+pub mod Joining
+pub mod Planning
+pub mod Check
+pub mod Code

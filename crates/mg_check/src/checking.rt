@@ -1,0 +1,31 @@
+ghost use Rattle.std.specs.Prelude.{◌≡◌, ◌≢◌, ◌≤◌, Ok, Err, IfOk, IfErr, All, length};
+ghost use Rattle.mg_config.specs.Config.{graph_view};
+ghost use Rattle.mg_calc.specs.Plan.{IsValid, OutersFit};
+ghost use Rattle.mg_check.specs.Check.{check_of, IsOuterShape};
+
+use crate::drafting::drafts_of;
+use crate::fault::CheckFault;
+use crate::planning::plan_with;
+use mg_calc::{OuterShape, Plan};
+use mg_config::GraphConfig;
+use std::alloc::Global;
+
+/// The plan of an expanded graph with the calculators that are handed in, or its first refusal (MediaPipe, Graphs). The
+/// causes go in the order of `CheckFault`; within one the first node is told, or the first stream or side packet: by its
+/// number where it has too many producers or kinds, and by its first reader where it has no producer.
+pub fn check(alloc: Global, config: &GraphConfig, outers: &[OuterShape]) -> Result<Plan, CheckFault>
+    // The graph was expanded, and each calculator that may be handed in has its law's shape.
+    requires few { length config.now.nodes ≤ 4096 }
+    requires outers { All IsOuterShape outers.now }
+
+    ensures ok { IfOk result (λ plan. check_of outers.now (graph_view config.now) ≡ Ok plan) }
+    ensures err { IfErr result (λ fault. fault ≢ CheckFault.OutOfMemory → check_of outers.now (graph_view config.now) ≡ Err fault) }
+
+    // A plan can be run, with the calculators that were handed in.
+    ensures valid { IfOk result IsValid }
+    ensures fit { IfOk result (λ plan. OutersFit plan outers.now) }
+{
+    let drafts = drafts_of(alloc, config.nodes.as_slice(), outers)?;
+    let plan = plan_with(alloc, config, drafts)?;
+    Ok(plan)
+}

@@ -1,0 +1,79 @@
+ghost use Rattle.std.specs.Prelude.{◌≡◌, ◌<◌, ◌^◌, ◌++◌, false, IfOk, OnOk, length};
+ghost use Rattle.std.specs.List.{flat_map, enumerate_from};
+ghost use Rattle.mg_config.specs.Config.{graph_view};
+ghost use Rattle.mg_kinds.specs.Laws.{names_of};
+ghost use Rattle.mg_subgraph.specs.Refusals.{port_names};
+ghost use Rattle.mg_check.specs.DraftView.{drafts_view};
+ghost use Rattle.mg_check.specs.Joining as joining;
+ghost use Rattle.mg_check.specs.Code.Edges.{edge_at, node_edges as of_nodes};
+
+use crate::counting::count_of;
+use crate::draft::Draft;
+use crate::gathering::port_texts;
+use crate::names::Names;
+use mg_calc::Edge;
+use mg_names::PortMap;
+use std::alloc::{AllocError, Global};
+
+fn edge_into(streams: &Names, node: u32, back: bool, port: u32, text: &str) -> Edge
+    ensures { result ≡ edge_at streams.now node back (port, text.now) }
+{
+    Edge {
+        stream: streams.number(text),
+        node,
+        port,
+        back: back && port == 0,
+    }
+}
+
+fn add_edges(
+    out: &mut Vec<Edge>,
+    streams: &Names,
+    node: u32,
+    back: bool,
+    inputs: &[&str],
+) -> Result<(), AllocError>
+    ensures { OnOk result (out.new.items ≡ out.old.items ++ joining.edges_into streams.now node back (names_of inputs.now)) }
+{
+    for port in 0..count_of(inputs)? {
+        let text = &inputs[port as usize];
+        out.push(edge_into(streams, node, back, port, *text))?;
+    }
+    Ok(())
+}
+
+/// The edges into nodes.
+pub(crate) fn node_edges(
+    alloc: Global,
+    streams: &Names,
+    drafts: &[Draft],
+) -> Result<Vec<Edge>, AllocError>
+    requires { length drafts.now < 2 ^ 32 }
+    ensures { IfOk result (λ edges. edges.items ≡ of_nodes streams.now 0 (drafts_view drafts.now)) }
+{
+    let mut edges = Vec::new(alloc);
+    for (node, draft) in drafts.iter().enumerate() {
+        add_edges(
+            &mut edges,
+            streams,
+            node as u32,
+            draft.back,
+            draft.inputs.as_slice(),
+        )?;
+    }
+    Ok(edges)
+}
+
+/// Puts the edges into the collector behind the others.
+pub(crate) fn add_collector(
+    alloc: Global,
+    edges: &mut Vec<Edge>,
+    streams: &Names,
+    node: u32,
+    outputs: &PortMap,
+) -> Result<(), AllocError>
+    ensures { OnOk result (edges.new.items ≡ edges.old.items ++ joining.edges_into streams.now node false (port_names outputs.now)) }
+{
+    let texts = port_texts(alloc, outputs)?;
+    add_edges(edges, streams, node, false, texts.as_slice())
+}

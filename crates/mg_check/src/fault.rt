@@ -1,0 +1,76 @@
+ghost use Rattle.std.specs.Prelude.{◌≡◌};
+ghost use Rattle.mg_check.specs.declared.fault.CheckFault.TheVariants.{OutOfMemory};
+
+use mg_value::{MgText, NumberList};
+use std::alloc::{AllocError, AllocFailed};
+use thiserror::Error;
+
+/// What a graph may have too many of.
+#[derive(Clone, Copy, Debug, PartialEq, Eq)]
+pub enum Many {
+    /// More than 16,384 edges.
+    Edges,
+    /// More than 256 graph outputs.
+    Outputs,
+}
+
+/// Why a graph has no plan. A node is named by its number in the expanded graph, from 0 on. Nothing is made, and the
+/// graph stays as it is.
+#[derive(Debug, Drop, Error)]
+pub enum CheckFault {
+    /// The calculator is neither built in nor one of those that are handed in.
+    #[error("node {node} has an unknown calculator")]
+    UnknownCalculator { node: u32 },
+    /// More nodes want a calculator than are handed in under its name.
+    #[error("{needs} nodes want one of {has} calculators {}", .name.as_str())]
+    NoMoreBoxes { name: MgText, has: u32, needs: u32 },
+    /// The streams or side packets of a node don't fit its calculator.
+    #[error("the ports of node {node} don't fit its calculator")]
+    BadPorts { node: u32 },
+    /// The options of a node aren't those of its calculator.
+    #[error("the options of node {node} aren't those of its calculator")]
+    BadOptions { node: u32 },
+    /// A node asks for an input policy that it can't have.
+    #[error("node {node} can't have its {}", .field.as_str())]
+    Unsupported { node: u32, field: MgText },
+    /// Two write the same stream, or the same side packet.
+    #[error("{} has two producers", .name.as_str())]
+    TwoProducers { name: MgText },
+    /// Nobody writes a stream that is read.
+    #[error("the stream {} has no producer", .name.as_str())]
+    NoProducer { name: MgText },
+    /// Nobody gives a side packet that is taken.
+    #[error("the side packet {} has no producer", .name.as_str())]
+    SideMissing { name: MgText },
+    /// Two ports of different kinds meet at a stream.
+    #[error("two kinds meet at the stream {}", .name.as_str())]
+    KindClash { name: MgText },
+    /// A back edge stands elsewhere than at LOOP of a loopback.
+    #[error("node {node} has a back edge that isn't a loopback's")]
+    BackEdgeMisplaced { node: u32 },
+    /// Nodes wait for each other.
+    #[error("nodes wait for each other")]
+    Cycle { nodes: NumberList },
+    /// There are too many edges or graph outputs.
+    #[error("there are too many")]
+    TooMany { what: Many },
+    /// There was no memory.
+    #[error("out of memory")]
+    OutOfMemory,
+}
+
+impl From<AllocError> for CheckFault {
+    ghost from_gives = { λ _ e. e ≡ OutOfMemory };
+
+    fn from(_error: AllocError) -> CheckFault {
+        CheckFault::OutOfMemory
+    }
+}
+
+impl<T: Drop> From<AllocFailed<T>> for CheckFault {
+    ghost from_gives = { λ _ e. e ≡ OutOfMemory };
+
+    fn from(_error: AllocFailed<T>) -> CheckFault {
+        CheckFault::OutOfMemory
+    }
+}

@@ -1,0 +1,110 @@
+ghost use Rattle.std.specs.Prelude.{◌≡◌, ◌≢◌, None, Some, IfOk, IfErr, OnOk, option_map};
+ghost use Rattle.std.specs.Option.{option_or};
+ghost use Rattle.mg_config.specs.Config.{graph_view};
+ghost use Rattle.mg_check.specs.DraftView.{drafts_view};
+ghost use Rattle.mg_check.specs.Names.{first_again};
+ghost use Rattle.mg_check.specs.Joining as joining;
+ghost use Rattle.mg_check.specs.Code.Refusing.{name_refusal, producer_refusal, AreJoint};
+
+use crate::draft::Draft;
+use crate::fault::CheckFault;
+use crate::gathering::{read_texts, side_texts, stream_texts, taken_texts};
+use crate::names::{Names, missing_in};
+use mg_config::GraphConfig;
+use mg_value::MgText;
+use std::alloc::{AllocError, Global};
+
+/// The names of a graph's streams, and of its side packets.
+#[derive(Drop)]
+pub(crate) struct Joint<'a> {
+    pub(crate) streams: Names<'a>,
+    pub(crate) sides: Names<'a>,
+}
+
+/// The names of a graph.
+pub(crate) fn joint_of<'a>(
+    alloc: Global,
+    graph: &'a GraphConfig,
+    drafts: &[Draft<'a>],
+) -> Result<Joint<'a>, AllocError>
+    ensures { IfOk result (λ joint. AreJoint joint (graph_view graph.now) (drafts_view drafts.now)) }
+{
+    let streams = Names::of(alloc, stream_texts(alloc, graph, drafts)?)?;
+    let sides = Names::of(alloc, side_texts(alloc, graph, drafts)?)?;
+    Ok(Joint { streams, sides })
+}
+
+fn again<'a>(streams: &Names<'a>, sides: &Names<'a>) -> Option<&'a str>
+    ensures { option_map (λ name. name.now) result ≡ option_or (first_again streams.now) (first_again sides.now) }
+{
+    match streams.again() {
+        Some(name) => Some(name),
+        None => sides.again(),
+    }
+}
+
+fn check_producers(alloc: Global, joint: &Joint) -> Result<(), CheckFault>
+    ensures ok { OnOk result (producer_refusal joint.now.streams joint.now.sides ≡ None) }
+    ensures err { IfErr result (λ fault. fault ≢ CheckFault.OutOfMemory → producer_refusal joint.now.streams joint.now.sides ≡ Some fault) }
+{
+    match again(&joint.streams, &joint.sides) {
+        Some(name) => Err(CheckFault::TwoProducers {
+            name: MgText::new(alloc, name)?,
+        }),
+        None => Ok(()),
+    }
+}
+
+fn check_streams(
+    alloc: Global,
+    graph: &GraphConfig,
+    drafts: &[Draft],
+    joint: &Joint,
+) -> Result<(), CheckFault>
+    requires { AreJoint joint.now (graph_view graph.now) (drafts_view drafts.now) }
+    ensures ok { OnOk result (joining.no_producer (graph_view graph.now) (drafts_view drafts.now) ≡ None) }
+    ensures err { IfErr result (λ fault. fault ≢ CheckFault.OutOfMemory → joining.no_producer (graph_view graph.now) (drafts_view drafts.now) ≡ Some fault) }
+{
+    let texts = read_texts(alloc, graph, drafts)?;
+    match missing_in(&joint.streams, texts.as_slice()) {
+        Some(name) => Err(CheckFault::NoProducer {
+            name: MgText::new(alloc, name)?,
+        }),
+        None => Ok(()),
+    }
+}
+
+fn check_sides(
+    alloc: Global,
+    graph: &GraphConfig,
+    drafts: &[Draft],
+    joint: &Joint,
+) -> Result<(), CheckFault>
+    requires { AreJoint joint.now (graph_view graph.now) (drafts_view drafts.now) }
+    ensures ok { OnOk result (joining.side_missing (graph_view graph.now) (drafts_view drafts.now) ≡ None) }
+    ensures err { IfErr result (λ fault. fault ≢ CheckFault.OutOfMemory → joining.side_missing (graph_view graph.now) (drafts_view drafts.now) ≡ Some fault) }
+{
+    let texts = taken_texts(alloc, graph, drafts)?;
+    match missing_in(&joint.sides, texts.as_slice()) {
+        Some(name) => Err(CheckFault::SideMissing {
+            name: MgText::new(alloc, name)?,
+        }),
+        None => Ok(()),
+    }
+}
+
+/// Looks for a name that two give, and for one that nobody gives.
+pub(crate) fn check_names(
+    alloc: Global,
+    graph: &GraphConfig,
+    drafts: &[Draft],
+    joint: &Joint,
+) -> Result<(), CheckFault>
+    requires { AreJoint joint.now (graph_view graph.now) (drafts_view drafts.now) }
+    ensures ok { OnOk result (name_refusal (graph_view graph.now) (drafts_view drafts.now) ≡ None) }
+    ensures err { IfErr result (λ fault. fault ≢ CheckFault.OutOfMemory → name_refusal (graph_view graph.now) (drafts_view drafts.now) ≡ Some fault) }
+{
+    check_producers(alloc, joint)?;
+    check_streams(alloc, graph, drafts, joint)?;
+    check_sides(alloc, graph, drafts, joint)
+}

@@ -1,0 +1,39 @@
+//! Validation of a configuration: its plan, by which it can be run, or its first refusal. `check` answers to `check_of`
+//! of `specs/Check.antt`; the plan is valid by `IsValid` of mg_calc.
+#![tactic(auto)]
+
+mod checking;
+mod choosing;
+mod counting;
+mod draft;
+mod drafting;
+mod edges;
+mod fault;
+mod fitting;
+mod gathering;
+mod groups;
+mod joint;
+mod judging;
+mod linking;
+mod marks;
+mod meeting;
+mod met;
+mod names;
+mod node_draft;
+mod node_kind;
+mod nodes;
+mod ordering;
+mod part;
+mod places;
+mod planning;
+mod port_texts;
+mod readers;
+mod sides;
+mod streams;
+mod taking;
+mod waiting;
+mod wiring;
+mod word;
+
+pub use checking::check;
+pub use fault::{CheckFault, Many};

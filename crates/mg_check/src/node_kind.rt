@@ -1,0 +1,10 @@
+use mg_kinds::CalculatorKind;
+
+/// Who does the work of a node.
+#[derive(Clone, Copy, Debug, PartialEq, Eq)]
+pub enum NodeKind {
+    /// A calculator that is built in.
+    BuiltIn(CalculatorKind),
+    /// The calculator of this number among those that are handed in.
+    Outer(u32),
+}
