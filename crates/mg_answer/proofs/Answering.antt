@@ -1,0 +1,307 @@
+-- What a run came to, by its status, and what follows of it.
+use Rattle.std.proofs.Common.{◌≡◌, ◌≢◌, ◌⊎◌, inl, inr, ℕ, List, [], ◌∷◌, ◌++◌, Bool, true, false, ◌&&◌, if◌then◌else◌, Option, None, Some, IfSome, refl, sym, ap, ◌∙◌, subst, arith, append-nil}
+use Rattle.mg_edge.specs.Edge.{SourceTold, SinkTold, Rose, one_more}
+use Rattle.mg_edge.specs.Runs.{Gave}
+use Rattle.mg_value.specs.Payload.{Plain}
+use Rattle.mg_value.specs.Prefix.{StreamPrefix}
+use Rattle.mg_calc.specs.declared.inputs.Inputs.{Inputs}
+use Rattle.mg_calc.specs.declared.plan.Plan.{Plan}
+use Rattle.mg_calc.specs.declared.node_fault.NodeFault.{NodeFault as Fault}
+use Rattle.mg_calc.specs.Equations.{Job, IsSolution}
+use Rattle.mg_calc.specs.Meaning.{faults, stalled}
+use Rattle.mg_feed.specs.Graph.{GraphInputs, inputs_of}
+use Rattle.mg_feed.specs.Ran.{EndCame, MetEnd, FailedBy}
+use Rattle.mg_feed.specs.Sent.{Sent}
+use Rattle.mg_answer.specs.Notes.{notes_of}
+use Rattle.mg_feed.specs.declared.feed_end.FeedEnd.{FeedEnd}
+use Rattle.mg_feed.specs.declared.feed_end.FeedEnd.TheVariants.{Ended, Failed, Refused, OutOfMemory as no_lines}
+use Rattle.mg_answer.specs.Text.{output_of}
+use Rattle.mg_answer.specs.Told.{status_of}
+use Rattle.mg_answer.specs.Answer.{Read, Answer, ended_input, inputs_by, job_of, answer_of, IsAnswer, AnswersEnded}
+use Rattle.mg_answer.specs.Devices.{Device, RunDevices, run_devices, TookFront, HasRisen, Unrisen, NoneFailed}
+use Rattle.mg_answer.specs.Ran.{CameAs, CameTo, Meets, RanAll, RanShort, TookSome, Ran, IsAnswered, IsOneOf}
+use Rattle.mg_answer.specs.Code.Answered.{WroteAll, WroteShort, WroteBy, Wrote, WroteSome}
+use Rattle.mg_answer.specs.Code.Gathered.{Gathered}
+use Rattle.mg_answer.specs.declared.run_status.RunStatus.{RunStatus}
+use Rattle.mg_answer.specs.declared.run_status.RunStatus.TheVariants.{Good, LineRefused, NodeFault, Stalled, ReadFault, WriteFault, OutOfMemory}
+use Rattle.mg_answer.proofs.Writing.{front-sent}
+
+-- The answer --
+
+abbrev plain_job : Plan → Inputs → Job
+plain_job plan inputs = record { plan = plan; inputs = inputs }
+
+-- an answer of the job is that of the plan over what was read
+is-answer : (plan : Plan) (inputs : Inputs) (end : FeedEnd) (read : Read) (streams : List (StreamPrefix Plain)) → inputs ≡ inputs_by (inputs_of plan) read → end ≡ read.end
+    → IsSolution (plain_job plan inputs) streams → IsAnswer plan read (answer_of (output_of plan streams) (plain_job plan inputs) end streams)
+is-answer plan inputs end read streams is ended solution = record {
+  streams = streams;
+  solution = subst (λ (i : Inputs). IsSolution (plain_job plan i) streams) is solution;
+  is = ap (λ (i : Inputs). answer_of (output_of plan streams) (plain_job plan i) end streams) is
+      ∙ ap (λ (e : FeedEnd). answer_of (output_of plan streams) (job_of plan read) e streams) ended;
+}
+
+ran-all : (plan : Plan) (input : Device SourceTold) (end : FeedEnd) (inputs : Inputs) (status : RunStatus) (output notes : Device SinkTold) (streams : List (StreamPrefix Plain))
+    → Gathered (inputs_of plan) input end inputs → IsSolution (plain_job plan inputs) streams
+    → WroteAll (answer_of (output_of plan streams) (plain_job plan inputs) end streams) status output notes → RanAll plan status (run_devices input output notes)
+ran-all plan input end inputs status output notes streams gathered solution wrote = record {
+  read = gathered.read;
+  input = gathered.came;
+  answer = answer_of (output_of plan streams) (plain_job plan inputs) end streams;
+  is = is-answer plan inputs end gathered.read streams gathered.given gathered.ended solution;
+  met = record { text = wrote.text; noted = wrote.noted; told = wrote.told };
+}
+
+ran-short : (plan : Plan) (input : Device SourceTold) (end : FeedEnd) (inputs : Inputs) (output notes : Device SinkTold) (streams : List (StreamPrefix Plain))
+    → Gathered (inputs_of plan) input end inputs → IsSolution (plain_job plan inputs) streams
+    → WroteShort (answer_of (output_of plan streams) (plain_job plan inputs) end streams) output notes → RanShort plan (run_devices input output notes)
+ran-short plan input end inputs output notes streams gathered solution wrote = record {
+  read = gathered.read;
+  input = gathered.came;
+  answer = answer_of (output_of plan streams) (plain_job plan inputs) end streams;
+  is = is-answer plan inputs end gathered.read streams gathered.given gathered.ended solution;
+  rose = wrote.rose;
+  front = wrote.front;
+  whole = wrote.whole;
+}
+
+took-some : (plan : Plan) (input : Device SourceTold) (end : FeedEnd) (inputs : Inputs) (output notes : Device SinkTold) (streams : List (StreamPrefix Plain))
+    → Gathered (inputs_of plan) input end inputs → IsSolution (plain_job plan inputs) streams → TookFront output (output_of plan streams) → TookSome plan (run_devices input output notes)
+took-some plan input end inputs output notes streams gathered solution front = record {
+  read = gathered.read;
+  input = gathered.came;
+  answer = answer_of (output_of plan streams) (plain_job plan inputs) end streams;
+  is = is-answer plan inputs end gathered.read streams gathered.given gathered.ended solution;
+  front = front;
+}
+
+ran-by : (plan : Plan) (input : Device SourceTold) (end : FeedEnd) (inputs : Inputs) (status : RunStatus) (output notes : Device SinkTold) (streams : List (StreamPrefix Plain))
+    → Gathered (inputs_of plan) input end inputs → IsSolution (plain_job plan inputs) streams
+    → WroteBy status (answer_of (output_of plan streams) (plain_job plan inputs) end streams) output notes → Ran plan status (run_devices input output notes)
+ran-by plan input end inputs Good output notes streams gathered solution by = ran-all plan input end inputs Good output notes streams gathered solution by
+ran-by plan input end inputs LineRefused output notes streams gathered solution by = ran-all plan input end inputs LineRefused output notes streams gathered solution by
+ran-by plan input end inputs NodeFault output notes streams gathered solution by = ran-all plan input end inputs NodeFault output notes streams gathered solution by
+ran-by plan input end inputs Stalled output notes streams gathered solution by = ran-all plan input end inputs Stalled output notes streams gathered solution by
+ran-by plan input end inputs ReadFault output notes streams gathered solution by = ran-all plan input end inputs ReadFault output notes streams gathered solution by
+ran-by plan input end inputs WriteFault output notes streams gathered solution by = ran-short plan input end inputs output notes streams gathered solution by
+ran-by plan input end inputs OutOfMemory output notes streams gathered solution by =
+    inr (took-some plan input end inputs output notes streams gathered solution (front-sent true output.before output.now (output_of plan streams) by.text))
+
+pub ran-wrote : (plan : Plan) (input : Device SourceTold) (end : FeedEnd) (inputs : Inputs) (status : RunStatus) (output notes : Device SinkTold)
+    → Gathered (inputs_of plan) input end inputs → Wrote (plain_job plan inputs) end status output notes → Ran plan status (run_devices input output notes)
+ran-wrote plan input end inputs status output notes gathered wrote = ran-by plan input end inputs status output notes wrote.streams gathered wrote.solution wrote.by
+
+pub ran-out : (plan : Plan) (input : Device SourceTold) (end : FeedEnd) (inputs : Inputs) (output notes : Device SinkTold)
+    → Gathered (inputs_of plan) input end inputs → WroteSome (plain_job plan inputs) output → Ran plan OutOfMemory (run_devices input output notes)
+ran-out plan input end inputs output notes gathered (inl untouched) = inl untouched
+ran-out plan input end inputs output notes gathered (inr wrote) = inr (took-some plan input end inputs output notes wrote.streams gathered wrote.solution wrote.front)
+
+-- What was written --
+
+wrote-all : (end : FeedEnd) (fs : List Fault) (ns : List ℕ) (answer : Answer) (output notes : Device SinkTold) → WroteAll answer (status_of end fs ns) output notes
+    → WroteBy (status_of end fs ns) answer output notes
+wrote-all Ended [] [] answer output notes wrote = wrote
+wrote-all Ended [] (n ∷ ns) answer output notes wrote = wrote
+wrote-all Ended (f ∷ fs) ns answer output notes wrote = wrote
+wrote-all (Failed lines) fs ns answer output notes wrote = wrote
+wrote-all (Refused line cause) fs ns answer output notes wrote = wrote
+wrote-all no_lines fs ns answer output notes wrote = wrote
+
+wrote-by : (end : FeedEnd) (fs : List Fault) (ns : List ℕ) (answer : Answer) (status : RunStatus) (written noted : Bool) (output notes : Device SinkTold)
+    → status ≡ status_of end fs ns → answer.status ≡ status_of end fs ns → Sent written output.before output.now answer.output → Sent noted notes.before notes.now answer.notes
+    → WroteBy (if written && noted then status else WriteFault) answer output notes
+wrote-by end fs ns answer status true true output notes is told text noted =
+    subst (λ (s : RunStatus). WroteBy s answer output notes) (sym is) (wrote-all end fs ns answer output notes (record { text = text; noted = noted; told = sym told }))
+wrote-by end fs ns answer status true false output notes is told text noted =
+    record { rose = inr noted.rose; front = front-sent true output.before output.now answer.output text; whole = inr text }
+wrote-by end fs ns answer status false noted' output notes is told text noted =
+    record { rose = inl text.rose; front = front-sent false output.before output.now answer.output text; whole = inl text.rose }
+
+wrote : (job : Job) (end : FeedEnd) (streams : List (StreamPrefix Plain)) (status result : RunStatus) (written noted : Bool) (output notes : Device SinkTold) → IsSolution job streams
+    → status ≡ status_of end (faults job streams) (stalled streams) → Sent written output.before output.now (output_of job.plan streams)
+    → Sent noted notes.before notes.now (notes_of job.plan end (faults job streams) streams) → result ≡ (if written && noted then status else WriteFault)
+    → Wrote job end result output notes
+wrote job end streams status result written noted output notes solution is text notes_text result_is = record {
+  streams = streams;
+  solution = solution;
+  by = subst (λ (s : RunStatus). WroteBy s (answer_of (output_of job.plan streams) job end streams) output notes) (sym result_is)
+      (wrote-by end (faults job streams) (stalled streams) (answer_of (output_of job.plan streams) job end streams) status written noted output notes is refl text notes_text);
+}
+
+-- the same, where the faults and the notes were computed
+pub wrote-told : (job : Job) (end : FeedEnd) (streams : List (StreamPrefix Plain)) (fs : List Fault) (status result : RunStatus) (written noted : Bool) (bytes said : List ℕ) (output notes : Device SinkTold)
+    → IsSolution job streams → fs ≡ faults job streams → status ≡ status_of end fs (stalled streams) → said ≡ notes_of job.plan end fs streams → bytes ≡ said
+    → Sent written output.before output.now (output_of job.plan streams) → Sent noted notes.before notes.now bytes → result ≡ (if written && noted then status else WriteFault)
+    → Wrote job end result output notes
+wrote-told job end streams fs status result written noted bytes said output notes solution fs_is is said_is bytes_is text sent result_is =
+    let told : status ≡ status_of end (faults job streams) (stalled streams) = is ∙ ap (λ l. status_of end l (stalled streams)) fs_is in
+    let noted_is : bytes ≡ notes_of job.plan end (faults job streams) streams = bytes_is ∙ (said_is ∙ ap (λ l. notes_of job.plan end l streams) fs_is) in
+    wrote job end streams status result written noted output notes solution told text
+    (subst (λ (l : List ℕ). Sent noted notes.before notes.now l) noted_is sent) result_is
+
+-- memory ran out after the output was written
+pub wrote-front : (job : Job) (streams : List (StreamPrefix Plain)) (written : Bool) (output : Device SinkTold) → IsSolution job streams → Sent written output.before output.now (output_of job.plan streams)
+    → WroteSome job output
+wrote-front job streams written output solution text =
+    inr (record { streams = streams; solution = solution; front = front-sent written output.before output.now (output_of job.plan streams) text })
+
+-- What follows --
+
+-- the status of an answer is told by how the input ended
+told-by : (plan : Plan) (status : RunStatus) (all : RunDevices) (ran : RanAll plan status all)
+    → (fs : List Fault) × (ns : List ℕ) × (status ≡ status_of ran.read.end fs ns)
+told-by plan status all ran =
+    (faults (job_of plan ran.read) ran.is.streams, stalled ran.is.streams, ran.met.told ∙ ap (λ (a : Answer). a.status) ran.is.is)
+
+-- the input was read, unless memory ran out
+pub ran-read : (plan : Plan) (status : RunStatus) (all : RunDevices) → Ran plan status all → status ≢ OutOfMemory → (read : Read) × CameTo (inputs_of plan) all.input read
+ran-read plan Good all ran some = (ran.read, ran.input)
+ran-read plan LineRefused all ran some = (ran.read, ran.input)
+ran-read plan NodeFault all ran some = (ran.read, ran.input)
+ran-read plan Stalled all ran some = (ran.read, ran.input)
+ran-read plan ReadFault all ran some = (ran.read, ran.input)
+ran-read plan WriteFault all ran some = (ran.read, ran.input)
+ran-read plan OutOfMemory all ran some = absurd (some refl)
+
+abbrev pub ended_statuses : List RunStatus
+ended_statuses = Good ∷ NodeFault ∷ Stalled ∷ []
+
+-- a status of a run whose input ended comes of no other end
+end-by : (end : FeedEnd) (status : RunStatus) (fs : List Fault) (ns : List ℕ) (graph : GraphInputs) (input : Device SourceTold) (came : List ℕ) (read : Read)
+    → status ≡ status_of end fs ns → IsOneOf status ended_statuses → CameAs end graph input came read → EndCame input.before input.now
+end-by Ended status fs ns graph input came read is one by = by.0
+end-by (Failed lines) status fs ns graph input came read is (inl e) by = cc
+end-by (Failed lines) status fs ns graph input came read is (inr (inl e)) by = cc
+end-by (Failed lines) status fs ns graph input came read is (inr (inr (inl e))) by = cc
+end-by (Failed lines) status fs ns graph input came read is (inr (inr (inr e))) by = absurd e
+end-by (Refused line cause) status fs ns graph input came read is (inl e) by = cc
+end-by (Refused line cause) status fs ns graph input came read is (inr (inl e)) by = cc
+end-by (Refused line cause) status fs ns graph input came read is (inr (inr (inl e))) by = cc
+end-by (Refused line cause) status fs ns graph input came read is (inr (inr (inr e))) by = absurd e
+end-by no_lines status fs ns graph input came read is one by = absurd by
+
+all-ended : (plan : Plan) (status : RunStatus) (all : RunDevices) → RanAll plan status all → IsOneOf status ended_statuses → EndCame all.input.before all.input.now
+all-ended plan status all ran one =
+    let told = told-by plan status all ran in
+    end-by ran.read.end status told.0 told.1 (inputs_of plan) all.input ran.input.came ran.read told.2 one ran.input.by
+
+no-one : (status : RunStatus) → (status ≡ WriteFault) ⊎ (status ≡ OutOfMemory) → IsOneOf status ended_statuses → ⊥
+no-one status (inl e) (inl f) = cc
+no-one status (inl e) (inr (inl f)) = cc
+no-one status (inl e) (inr (inr (inl f))) = cc
+no-one status (inl e) (inr (inr (inr f))) = f
+no-one status (inr e) (inl f) = cc
+no-one status (inr e) (inr (inl f)) = cc
+no-one status (inr e) (inr (inr (inl f))) = cc
+no-one status (inr e) (inr (inr (inr f))) = f
+
+pub ran-ended : (plan : Plan) (status : RunStatus) (all : RunDevices) → Ran plan status all → IsOneOf status ended_statuses → EndCame all.input.before all.input.now
+ran-ended plan Good all ran one = all-ended plan Good all ran one
+ran-ended plan LineRefused all ran one = all-ended plan LineRefused all ran one
+ran-ended plan NodeFault all ran one = all-ended plan NodeFault all ran one
+ran-ended plan Stalled all ran one = all-ended plan Stalled all ran one
+ran-ended plan ReadFault all ran one = all-ended plan ReadFault all ran one
+ran-ended plan WriteFault all ran one = absurd (no-one WriteFault (inl refl) one)
+ran-ended plan OutOfMemory all ran one = absurd (no-one OutOfMemory (inr refl) one)
+
+-- Faults --
+
+steady-risen : (a b : ℕ) → b ≡ a → HasRisen a b → ⊥
+steady-risen a b steady risen = absurd (omega (arith, steady, risen))
+
+one-unrisen : (a b : ℕ) → b ≡ one_more a → Unrisen a b → ⊥
+one-unrisen a b more un = absurd (omega (arith, more, un.0, un.1))
+
+rose-unrisen : (a b : ℕ) → Rose a b → Unrisen a b → ⊥
+rose-unrisen a b rose un = absurd (omega (arith, rose, un.0, un.1))
+
+abbrev pub read_statuses : List RunStatus
+read_statuses = ReadFault ∷ WriteFault ∷ OutOfMemory ∷ []
+
+failed-by : (end : FeedEnd) (status : RunStatus) (fs : List Fault) (ns : List ℕ) (before now : SourceTold) (graph : GraphInputs) (input : Device SourceTold) (came : List ℕ) (read : Read)
+    → status ≡ status_of end fs ns → FailedBy end before now → CameAs end graph input came read → HasRisen before.faults now.faults → IsOneOf status read_statuses
+failed-by Ended status fs ns before now graph input came read is un by risen = absurd (steady-risen before.faults now.faults un.steady risen)
+failed-by (Failed lines) status fs ns before now graph input came read is un by risen = inl is
+failed-by (Refused line cause) status fs ns before now graph input came read is un by risen = absurd (steady-risen before.faults now.faults un.steady risen)
+failed-by no_lines status fs ns before now graph input came read is un by risen = absurd by
+
+all-risen : (plan : Plan) (status : RunStatus) (all : RunDevices) → RanAll plan status all → HasRisen all.input.before.faults all.input.now.faults → IsOneOf status read_statuses
+all-risen plan status all ran risen =
+    let told = told-by plan status all ran in
+    failed-by ran.read.end status told.0 told.1 all.input.before all.input.now (inputs_of plan) all.input ran.input.came ran.read told.2 ran.input.faults ran.input.by risen
+
+pub read-risen : (plan : Plan) (status : RunStatus) (all : RunDevices) → Ran plan status all → HasRisen all.input.before.faults all.input.now.faults → IsOneOf status read_statuses
+read-risen plan Good all ran risen = all-risen plan Good all ran risen
+read-risen plan LineRefused all ran risen = all-risen plan LineRefused all ran risen
+read-risen plan NodeFault all ran risen = all-risen plan NodeFault all ran risen
+read-risen plan Stalled all ran risen = all-risen plan Stalled all ran risen
+read-risen plan ReadFault all ran risen = all-risen plan ReadFault all ran risen
+read-risen plan WriteFault all ran risen = inr (inl refl)
+read-risen plan OutOfMemory all ran risen = inr (inr (inl refl))
+
+abbrev pub WriteRisen : RunDevices → Type 0
+WriteRisen all = HasRisen all.output.before.faults all.output.now.faults ⊎ HasRisen all.notes.before.faults all.notes.now.faults
+
+write-steady : (plan : Plan) (status : RunStatus) (all : RunDevices) → RanAll plan status all → WriteRisen all → ⊥
+write-steady plan status all ran (inl risen) = steady-risen _ _ ran.met.text.steady risen
+write-steady plan status all ran (inr risen) = steady-risen _ _ ran.met.noted.steady risen
+
+pub write-risen : (plan : Plan) (status : RunStatus) (all : RunDevices) → Ran plan status all → WriteRisen all → IsOneOf status (WriteFault ∷ OutOfMemory ∷ [])
+write-risen plan Good all ran risen = absurd (write-steady plan Good all ran risen)
+write-risen plan LineRefused all ran risen = absurd (write-steady plan LineRefused all ran risen)
+write-risen plan NodeFault all ran risen = absurd (write-steady plan NodeFault all ran risen)
+write-risen plan Stalled all ran risen = absurd (write-steady plan Stalled all ran risen)
+write-risen plan ReadFault all ran risen = absurd (write-steady plan ReadFault all ran risen)
+write-risen plan WriteFault all ran risen = inl refl
+write-risen plan OutOfMemory all ran risen = inr (inl refl)
+
+-- The whole input --
+
+-- where the input tells its bytes, and no read failed, what was read is what an input comes to that ends after them
+none-left : (ended : Bool) (before now : SourceTold) (bytes left : List ℕ) → before.left ≡ Some bytes → now.left ≡ Some left → MetEnd false ended before now → ended ≡ true → left ≡ []
+none-left true before now bytes left is is_left met e = let none : now.left ≡ Some [] = subst (λ (o : Option (List ℕ)). IfSome o (λ _. now.left ≡ Some [])) is met.none in cc
+none-left false before now bytes left is is_left met e = cc
+
+whole-by : (end : FeedEnd) (graph : GraphInputs) (input : Device SourceTold) (came bytes left : List ℕ) (read : Read) → input.before.left ≡ Some bytes → input.now.left ≡ Some left → bytes ≡ came ++ left
+    → CameAs end graph input came read → FailedBy end input.before input.now → Unrisen input.before.faults input.now.faults → read ≡ ended_input graph bytes
+whole-by Ended graph input came bytes left read is is_left cut by failed un =
+    let none : input.now.left ≡ Some [] = subst (λ (o : Option (List ℕ)). IfSome o (λ _. input.now.left ≡ Some [])) is by.0.none in
+    let nothing : left ≡ [] = cc in
+    by.1 ∙ ap (ended_input graph) (sym (cut ∙ ap (λ l. came ++ l) nothing ∙ append-nil came))
+whole-by (Failed lines) graph input came bytes left read is is_left cut by failed un = absurd (one-unrisen input.before.faults input.now.faults failed.once un)
+whole-by (Refused line cause) graph input came bytes left read is is_left cut by failed un =
+    by.2 left (none-left by.0 input.before input.now bytes left is is_left by.1) ∙ ap (ended_input graph) (sym cut)
+whole-by no_lines graph input came bytes left read is is_left cut by failed un = absurd by
+
+whole-read : (graph : GraphInputs) (input : Device SourceTold) (read : Read) (bytes : List ℕ) → CameTo graph input read → input.before.left ≡ Some bytes
+    → Unrisen input.before.faults input.now.faults → read ≡ ended_input graph bytes
+whole-read graph input read bytes came is un =
+    let gave : Gave (Some bytes) input.now.left came.came = subst (λ (o : Option (List ℕ)). Gave o input.now.left came.came) is came.gave in
+    whole-by read.end graph input came.came bytes gave.0 read is gave.1 gave.2 came.by came.faults un
+
+all-answered : (plan : Plan) (status : RunStatus) (all : RunDevices) → RanAll plan status all → NoneFailed all → IsAnswered plan status all
+all-answered plan status all ran none = by all.input.before.left refl
+  where
+    by : (o : Option (List ℕ)) → all.input.before.left ≡ o → IfSome o (λ bytes. (answer : Answer) × AnswersEnded plan bytes answer × Meets answer status all)
+    by None is = tt
+    by (Some bytes) is = (
+      ran.answer,
+      subst (λ (r : Read). IsAnswer plan r ran.answer) (whole-read (inputs_of plan) all.input ran.read bytes ran.input is none.input) ran.is,
+      ran.met,
+    )
+
+short-failed : (plan : Plan) (all : RunDevices) → RanShort plan all → NoneFailed all → ⊥
+short-failed plan all ran none = by ran.rose
+  where
+    by : Rose all.output.before.faults all.output.now.faults ⊎ Rose all.notes.before.faults all.notes.now.faults → ⊥
+    by (inl rose) = rose-unrisen _ _ rose none.output
+    by (inr rose) = rose-unrisen _ _ rose none.notes
+
+pub ran-answered : (plan : Plan) (status : RunStatus) (all : RunDevices) → Ran plan status all → NoneFailed all → status ≢ OutOfMemory → IsAnswered plan status all
+ran-answered plan Good all ran none some = all-answered plan Good all ran none
+ran-answered plan LineRefused all ran none some = all-answered plan LineRefused all ran none
+ran-answered plan NodeFault all ran none some = all-answered plan NodeFault all ran none
+ran-answered plan Stalled all ran none some = all-answered plan Stalled all ran none
+ran-answered plan ReadFault all ran none some = all-answered plan ReadFault all ran none
+ran-answered plan WriteFault all ran none some = absurd (short-failed plan all ran none)
+ran-answered plan OutOfMemory all ran none some = absurd (some refl)

@@ -1,0 +1,86 @@
+-- What a feed that read an input hands to a graph.
+use Rattle.std.proofs.Common.{◌≡◌, ◌≢◌, ℕ, List, [], length, Bool, false, Option, refl, sym, ap, ◌∙◌, subst}
+use Rattle.mg_edge.specs.Edge.{SourceTold}
+use Rattle.mg_value.specs.Payload.{Plain}
+use Rattle.mg_value.specs.Prefix.{StreamPrefix}
+use Rattle.mg_calc.specs.declared.inputs.Inputs.{Inputs}
+use Rattle.mg_feed.specs.Graph.{GraphInputs}
+use Rattle.mg_feed.specs.Accepted.{State, given_by}
+use Rattle.mg_feed.specs.Given.{ended_streams}
+use Rattle.mg_feed.specs.Stands.{Stands, AllGood, nothing_taken}
+use Rattle.mg_feed.specs.Fed.{Fed, Reading}
+use Rattle.mg_feed.specs.Came.{Came}
+use Rattle.mg_feed.specs.Ran.{MetEnd, FailedBy}
+use Rattle.mg_feed.specs.Batch.{EndsAs, HasRead}
+use Rattle.mg_feed.proofs.Coming.{came-nothing}
+use Rattle.mg_feed.proofs.Holding.{given-untaken}
+use Rattle.mg_feed.specs.declared.feed_end.FeedEnd.{FeedEnd}
+use Rattle.mg_feed.specs.declared.feed_end.FeedEnd.TheVariants.{Ended, Failed, Refused, OutOfMemory}
+use Rattle.mg_answer.specs.Answer.{Read, end_by, is_ended}
+use Rattle.mg_answer.specs.Devices.{device}
+use Rattle.mg_answer.specs.Ran.{CameAs, CameTo}
+use Rattle.mg_answer.specs.Code.Gathered.{Gathered}
+
+abbrev read_of : List (List ℕ) → FeedEnd → Read
+read_of lines end = record { lines = lines; end = end }
+
+read-same : (lines lines' : List (List ℕ)) (end end' : FeedEnd) → lines ≡ lines' → end ≡ end' → read_of lines end ≡ read_of lines' end'
+read-same lines lines' end end' a b = ap (λ l. read_of l end) a ∙ ap (λ e. read_of lines' e) b
+
+-- what the bytes that came say, by how the reading ended
+came-as : (end : FeedEnd) (graph : GraphInputs) (before now : SourceTold) (came : List ℕ) (lines : List (List ℕ)) (ended : Bool) → end ≢ OutOfMemory
+    → EndsAs end graph [] came lines ended → MetEnd false ended before now → CameAs end graph (device before now) came (record { lines = lines; end = end })
+came-as Ended graph before now came lines ended some ends met =
+    (subst (λ (b : Bool). MetEnd false b before now) ends.0 met, read-same lines _ Ended _ (sym ends.2.0) (ap end_by (sym ends.2.1)))
+came-as (Failed number) graph before now came lines ended some ends met =
+    (read-same lines _ (Failed number) _ (sym ends.2.0) (ap Failed (ends.0 ∙ ap length ends.1)), ends.1)
+came-as (Refused number cause) graph before now came lines ended some ends met =
+    (ended, met, λ more fits. let judged = ends more fits in read-same lines _ (Refused number cause) _ (sym judged.0) (ap end_by (sym judged.1)))
+came-as OutOfMemory graph before now came lines ended some ends met = absurd (some refl)
+
+-- the bytes that came, and the lines that were accepted of them
+pub came-to : (graph : GraphInputs) (end : FeedEnd) (before now : SourceTold) (old new : Fed) → end ≢ OutOfMemory → old.view.graph ≡ graph → new.view.graph ≡ graph
+    → Stands [] (nothing_taken graph) old.view → old.read ≡ record { kept = []; ended = false } → HasRead end before now old new
+    → MetEnd old.read.ended new.read.ended before now → FailedBy end before now
+    → (lines : List (List ℕ)) × CameTo graph (device before now) (record { lines = lines; end = end }) × AllGood graph [] lines × (new.view.given ≡ given_by graph lines)
+came-to graph end before now old new some is_old is_new stands unread read met failed =
+    let first : Came [] [] [] (nothing_taken graph) old = came-nothing [] (nothing_taken graph) old unread stands in
+    let both = read.accepted [] [] [] (nothing_taken graph) first in
+    let came = both.0 in
+    let ends : EndsAs end graph [] read.came read.taken new.read.ended = subst (λ (g : GraphInputs). EndsAs end g [] read.came read.taken new.read.ended) is_old both.1 in
+    let met' : MetEnd false new.read.ended before now = subst (λ (r : Reading). MetEnd r.ended new.read.ended before now) unread met in
+    let now_stands : Stands read.taken (nothing_taken new.view.graph) new.view = subst (λ (g : GraphInputs). Stands read.taken (nothing_taken g) new.view) (sym is_new) came.stands in
+    let given : new.view.given ≡ given_by new.view.graph read.taken = given-untaken read.taken new.view now_stands in
+    let is_given : new.view.given ≡ given_by graph read.taken = given ∙ ap (λ g. given_by g read.taken) is_new in (
+      read.taken,
+      record { came = read.came; gave = read.gave; by = came-as end graph before now read.came read.taken new.read.ended some ends met'; faults = failed },
+      subst (λ (g : GraphInputs). AllGood g [] read.taken) is_new came.stands.good,
+      is_given,
+    )
+
+abbrev inputs_from : List (StreamPrefix Plain) → List (Option Plain) → Bool → Inputs
+inputs_from ss sides ended = record { streams = ss; sides = sides; ended = ended }
+
+inputs-same : (inputs : Inputs) (ss : List (StreamPrefix Plain)) (sides : List (Option Plain)) (ended : Bool) → inputs.streams ≡ ss → inputs.sides ≡ sides → inputs.ended ≡ ended
+    → inputs ≡ inputs_from ss sides ended
+inputs-same inputs ss sides ended a b c =
+    ap (λ l. inputs_from l inputs.sides inputs.ended) a ∙ ap (λ l. inputs_from ss l inputs.ended) b ∙ ap (λ e. inputs_from ss sides e) c
+
+pub gathered : (graph : GraphInputs) (end : FeedEnd) (before now : SourceTold) (old new : Fed) (b : Bool) (inputs : Inputs) → end ≢ OutOfMemory → old.view.graph ≡ graph → new.view.graph ≡ graph
+    → Stands [] (nothing_taken graph) old.view → old.read ≡ record { kept = []; ended = false } → HasRead end before now old new
+    → MetEnd old.read.ended new.read.ended before now → FailedBy end before now → b ≡ is_ended end
+    → inputs.streams ≡ ended_streams b new.view.given.streams → inputs.sides ≡ new.view.given.sides → inputs.ended ≡ b
+    → Gathered graph (device before now) end inputs
+gathered graph end before now old new b inputs some is_old is_new stands unread read met failed is_b streams sides ended =
+    let it = came-to graph end before now old new some is_old is_new stands unread read met failed in
+    let given = it.3 in
+    record {
+      read = record { lines = it.0; end = end };
+      came = it.1;
+      ended = refl;
+      given = inputs-same inputs (ended_streams (is_ended end) (given_by graph it.0).streams) (given_by graph it.0).sides (is_ended end)
+          (streams ∙ ap (λ c. ended_streams c new.view.given.streams) is_b ∙ ap (λ (s : State). ended_streams (is_ended end) s.streams) given)
+          (sides ∙ ap (λ (s : State). s.sides) given)
+          (ended ∙ is_b);
+      good = it.2;
+    }

@@ -1,0 +1,7 @@
+use Rattle.std.proofs.Common.{◌≡◌, ◌++◌, take}
+use Rattle.std.specs.List.{flat_map}
+use Rattle.mg_answer.specs.Notes.{stall_note}
+use Rattle.mg_answer.proofs.notes.put_stalled.Given as goal
+
+abbrev pub invariant-loop-number : goal.invariant-loop-number
+invariant-loop-number l = l.text.items ≡ l.fn.text.items ++ flat_map (stall_note l.plan l.streams) (take l.number-index l.stalled)

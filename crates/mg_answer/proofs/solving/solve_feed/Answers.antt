@@ -1,0 +1,28 @@
+use Rattle.std.proofs.Common.{subst}
+use Rattle.mg_feed.specs.Graph.{GraphInputs}
+use Rattle.mg_answer.specs.Devices.{device}
+use Rattle.mg_answer.specs.Code.Gathered.{Gathered}
+use Rattle.mg_answer.proofs.Fitting.{inputs-fit}
+use Rattle.mg_answer.proofs.Answering.{ran-wrote, ran-out}
+use Rattle.mg_answer.proofs.solving.solve_feed.Goals as goal
+
+pub answer-requires-clause-inputs : goal.answer-requires-clause-inputs
+answer-requires-clause-inputs g c =
+    let input = device (g.S.Source.told c.args.input.now) (g.S.Source.told c.read_inputs-end.new.input) in
+    let gathered = subst (λ (graph : GraphInputs). Gathered graph input c.read_inputs-end.result.0 c.read_inputs-end.result.1) c.requires.graph
+    (c.read_inputs-end.ensures (c.ran_out.ensures.0 c.if-ran_out.false)) in
+    inputs-fit c.args.plan.now gathered.read c.read_inputs-end.result.1 c.requires.plan gathered.good gathered.given
+
+pub returns-in-Ok : goal.returns-in-Ok
+returns-in-Ok g c =
+    let input = device (g.S.Source.told c.args.input.now) (g.S.Source.told c.read_inputs-end.new.input) in
+    let gathered = subst (λ (graph : GraphInputs). Gathered graph input c.read_inputs-end.result.0 c.read_inputs-end.result.1) c.requires.graph
+    (c.read_inputs-end.ensures (c.ran_out.ensures.0 c.if-ran_out.false)) in
+    ran-wrote c.args.plan.now input c.read_inputs-end.result.0 c.read_inputs-end.result.1 c.in-Ok.status _ _ gathered c.in-Ok.ensures
+
+pub returns : goal.returns
+returns g c =
+    let input = device (g.S.Source.told c.args.input.now) (g.S.Source.told c.read_inputs-end.new.input) in
+    let gathered = subst (λ (graph : GraphInputs). Gathered graph input c.read_inputs-end.result.0 c.read_inputs-end.result.1) c.requires.graph
+    (c.read_inputs-end.ensures (c.ran_out.ensures.0 c.if-ran_out.false)) in
+    ran-out c.args.plan.now input c.read_inputs-end.result.0 c.read_inputs-end.result.1 _ _ gathered c.in-Err.ensures

@@ -1,0 +1,15 @@
+-- A text that is written in blocks.
+use Rattle.std.specs.Prelude.{◌≡◌, ℕ, List, ◌++◌, Bool, true, false}
+use Rattle.mg_edge.specs.Edge.{SinkTold}
+use Rattle.mg_feed.specs.Sent.{SentAll, SentPart}
+
+-- Of a whole text so much was sent, this is kept, and the rest is still to come.
+pub record Pours (first now : SinkTold) (whole kept rest : List ℕ) : Type 0 where
+  pub sent : List ℕ
+  pub flows : SentAll first now sent
+  pub is : whole ≡ sent ++ (kept ++ rest)
+
+-- What was handed on of a text, and what is left of it. Where a write failed a front of it was.
+abbrev pub HandedOn : Bool → SinkTold → SinkTold → List ℕ → List ℕ → Type 0
+HandedOn true before now text left = (sent : List ℕ) × SentAll before now sent × (text ≡ sent ++ left)
+HandedOn false before now text left = SentPart before now text

@@ -1,0 +1,55 @@
+-- The devices of a run, and what the run did to each: what each told of itself before it, and tells now. What a source
+-- and a sink did is said by mg_feed's words for it (`specs/Ran.antt` and `specs/Sent.antt` there).
+use Rattle.std.specs.Prelude.{◌≡◌, ℕ, ◌^◌, ◌-◌, ◌<◌, List, ◌++◌}
+use Rattle.mg_edge.specs.Edge.{SourceTold, SinkTold}
+use Rattle.mg_edge.specs.Runs.{TookAll}
+use Rattle.mg_feed.specs.Sent.{SentAll}
+
+pub record Device (T : Type 0) : Type 0 where
+  pub before : T
+  pub now : T
+
+abbrev pub device : {T : Type 0} → T → T → Device T
+device before now = record { before = before; now = now }
+
+-- A device wasn't used.
+abbrev pub Untouched : {T : Type 0} → Device T → Type 0
+Untouched device = device.now ≡ device.before
+
+pub record RunDevices : Type 0 where
+  pub input : Device SourceTold
+  pub output : Device SinkTold
+  pub notes : Device SinkTold
+
+abbrev pub run_devices : Device SourceTold → Device SinkTold → Device SinkTold → RunDevices
+run_devices input output notes = record { input = input; output = output; notes = notes }
+
+-- Faults --
+
+-- A call has failed: the count of faults is higher.
+abbrev pub HasRisen : ℕ → ℕ → Type 0
+HasRisen before now = before < now
+
+-- No call has failed: the count of faults is as it was, and not at its type's end.
+abbrev pub Unrisen : ℕ → ℕ → Type 0
+Unrisen before now = (now ≡ before) × (now < 2 ^ 64 - 1)
+
+-- No device of a run failed.
+pub record NoneFailed (devices : RunDevices) : Type 0 where
+  pub input : Unrisen devices.input.before.faults devices.input.now.faults
+  pub output : Unrisen devices.output.before.faults devices.output.now.faults
+  pub notes : Unrisen devices.notes.before.faults devices.notes.now.faults
+
+-- Sinks --
+
+-- one text begins with the other
+abbrev pub IsFront : List ℕ → List ℕ → Type 0
+IsFront front text = (rest : List ℕ) × (text ≡ front ++ rest)
+
+-- A sink took a front of a text, and no more.
+abbrev pub TookFront : Device SinkTold → List ℕ → Type 0
+TookFront sink text = (front : List ℕ) × IsFront front text × TookAll sink.before.taken sink.now.taken front
+
+-- A sink took a whole text, and no write failed.
+abbrev pub TookText : Device SinkTold → List ℕ → Type 0
+TookText sink text = SentAll sink.before sink.now text

@@ -1,0 +1,119 @@
+-- The notes of a run, each one line whatever a label or a name holds.
+use Rattle.std.specs.Prelude.{ℕ, List, [], ◌++◌, slice_get, option_map, unwrap_or, codes, decimal}
+use Rattle.std.specs.List.{flat_map}
+use Rattle.mg_time.specs.Text.{time_text}
+use Rattle.mg_value.specs.Payload.{Plain}
+use Rattle.mg_value.specs.Prefix.{StreamPrefix}
+use Rattle.mg_value.specs.declared.value_fault.ValueFault.{ValueFault}
+use Rattle.mg_value.specs.declared.value_fault.ValueFault.TheVariants as values
+use Rattle.mg_calc.specs.declared.cause.Cause.{Cause}
+use Rattle.mg_calc.specs.declared.cause.Cause.TheVariants as causes
+use Rattle.mg_calc.specs.declared.node_fault.NodeFault.{NodeFault}
+use Rattle.mg_calc.specs.declared.node_fault.Phase.{Phase}
+use Rattle.mg_calc.specs.declared.node_fault.Phase.TheVariants.{Open, Call, Process, Close}
+use Rattle.mg_calc.specs.declared.plan.Plan.{Plan}
+use Rattle.mg_calc.specs.Equations.{stream_of}
+use Rattle.mg_calc.specs.Meaning.{stalled}
+use Rattle.mg_feed.specs.declared.line_fault.LineFault.{LineFault}
+use Rattle.mg_feed.specs.declared.line_fault.LineFault.TheVariants as lines
+use Rattle.mg_feed.specs.declared.feed_end.FeedEnd.{FeedEnd}
+use Rattle.mg_feed.specs.declared.feed_end.FeedEnd.TheVariants.{Ended, Failed, Refused, OutOfMemory}
+use Rattle.mg_answer.specs.Shown.{shown}
+use Rattle.mg_answer.specs.Text.{name_of}
+use Rattle.mg_answer.specs.Told.{status_of}
+use Rattle.mg_answer.specs.declared.run_status.RunStatus.{RunStatus}
+use Rattle.mg_answer.specs.declared.run_status.RunStatus.TheVariants as runs
+
+-- The input --
+
+-- why a value is no payload. Want of memory isn't noted
+abbrev pub value_name : ValueFault → List ℕ
+value_name values.Fraction = codes "Fraction"
+value_name values.Null = codes "Null"
+value_name values.TooDeep = codes "TooDeep"
+value_name values.TooWide = codes "TooWide"
+value_name values.OutOfMemory = []
+
+-- why a line isn't good
+abbrev pub line_refusal : LineFault → List ℕ
+line_refusal lines.NotJson = codes "NotJson"
+line_refusal lines.BadShape = codes "BadShape"
+line_refusal lines.UnknownStream = codes "UnknownStream"
+line_refusal lines.BadTimestamp = codes "BadTimestamp"
+line_refusal lines.NotAscending = codes "NotAscending"
+line_refusal lines.Closed = codes "Closed"
+line_refusal lines.KindMismatch = codes "KindMismatch"
+line_refusal (lines.BadValue cause) = codes "BadValue " ++ value_name cause
+line_refusal lines.TooLong = codes "TooLong"
+line_refusal lines.TooManyLines = codes "TooManyLines"
+line_refusal lines.SideLate = codes "SideLate"
+line_refusal lines.SideTwice = codes "SideTwice"
+line_refusal lines.NotAlone = codes "NotAlone"
+line_refusal lines.OutOfMemory = []
+
+abbrev pub line_note : ℕ → LineFault → List ℕ
+line_note line cause = codes "line " ++ decimal line ++ codes ": " ++ line_refusal cause ++ codes "\n"
+
+abbrev pub read_note : ℕ → List ℕ
+read_note lines = codes "read fault after line " ++ decimal lines ++ codes "\n"
+
+-- how an input ended, where it didn't end well
+abbrev pub end_note : FeedEnd → List ℕ
+end_note Ended = []
+end_note (Failed lines) = read_note lines
+end_note (Refused line cause) = line_note line cause
+end_note OutOfMemory = []
+
+-- The nodes --
+
+abbrev pub cause_name : Cause → List ℕ
+cause_name causes.Overflow = codes "Overflow"
+cause_name causes.BadSelect = codes "BadSelect"
+cause_name causes.WrongKind = codes "WrongKind"
+cause_name causes.NoSide = codes "NoSide"
+cause_name causes.NotAllowed = codes "NotAllowed"
+cause_name causes.NotAscending = codes "NotAscending"
+cause_name causes.NotAlone = codes "NotAlone"
+cause_name causes.BelowOffset = codes "BelowOffset"
+cause_name causes.EmitsInClose = codes "EmitsInClose"
+
+-- when a node failed
+abbrev pub phase_text : Phase → List ℕ
+phase_text Open = codes "open"
+phase_text (Call number) = codes "call " ++ decimal number
+phase_text (Process time) = codes "process " ++ time_text time
+phase_text Close = codes "close"
+
+-- the label of a node of a plan, by its number
+abbrev pub label_of : Plan → ℕ → List ℕ
+label_of plan number = unwrap_or (option_map (λ node. node.label) (slice_get plan.nodes number)) []
+
+-- a node's number and its label
+abbrev pub node_text : Plan → ℕ → List ℕ
+node_text plan number = codes "node " ++ decimal number ++ codes " " ++ shown (label_of plan number) ++ codes ": "
+
+abbrev pub fault_note : Plan → NodeFault → List ℕ
+fault_note plan fault = node_text plan fault.node ++ phase_text fault.phase ++ codes ": " ++ cause_name fault.cause ++ codes "\n"
+
+-- The streams --
+
+-- a stream that hasn't ended, and its bound
+abbrev pub stall_note : Plan → List (StreamPrefix Plain) → ℕ → List ℕ
+stall_note plan streams number =
+    codes "stalled: " ++ shown (name_of plan number) ++ codes " " ++ time_text (stream_of streams number).bound ++ codes "\n"
+
+-- the streams of these numbers are noted at one status alone
+abbrev pub stall_notes : RunStatus → Plan → List (StreamPrefix Plain) → List ℕ → List ℕ
+stall_notes runs.Good plan streams stalled = []
+stall_notes runs.LineRefused plan streams stalled = []
+stall_notes runs.NodeFault plan streams stalled = []
+stall_notes runs.Stalled plan streams stalled = flat_map (stall_note plan streams) stalled
+stall_notes runs.ReadFault plan streams stalled = []
+stall_notes runs.WriteFault plan streams stalled = []
+stall_notes runs.OutOfMemory plan streams stalled = []
+
+-- All notes of a run: how the input ended, then each node's fault in node order, then the streams that haven't ended, in
+-- stream order, exactly where this is the status.
+abbrev pub notes_of : Plan → FeedEnd → List NodeFault → List (StreamPrefix Plain) → List ℕ
+notes_of plan end faults streams =
+    end_note end ++ flat_map (fault_note plan) faults ++ stall_notes (status_of end faults (stalled streams)) plan streams (stalled streams)

@@ -1,0 +1,87 @@
+-- What a run came to, by its status.
+use Rattle.std.specs.Prelude.{◌≡◌, ℕ, ◌⊎◌, ◌++◌, List, [], ◌∷◌, Bool, true, false, IfSome}
+use Rattle.mg_edge.specs.Edge.{SourceTold, Rose}
+use Rattle.mg_edge.specs.Runs.{Gave}
+use Rattle.mg_calc.specs.declared.plan.Plan.{Plan}
+use Rattle.mg_feed.specs.Graph.{GraphInputs, inputs_of}
+use Rattle.mg_feed.specs.Lines.{whole_lines}
+use Rattle.mg_feed.specs.Ran.{EndCame, MetEnd, FailedBy}
+use Rattle.mg_feed.specs.declared.feed_end.FeedEnd.{FeedEnd}
+use Rattle.mg_feed.specs.declared.feed_end.FeedEnd.TheVariants.{Ended, Failed, Refused, OutOfMemory as no_lines}
+use Rattle.mg_answer.specs.Answer.{Read, Answer, ended_input, cut_input, IsAnswer, AnswersEnded}
+use Rattle.mg_answer.specs.Devices.{Device, RunDevices, Untouched, TookFront, TookText}
+use Rattle.mg_answer.specs.declared.run_status.RunStatus.{RunStatus}
+use Rattle.mg_answer.specs.declared.run_status.RunStatus.TheVariants.{WriteFault, OutOfMemory}
+
+-- The input --
+
+-- What the bytes that came in a call say of the input. It ended after them: the source answered `End`, and nothing of it is
+-- left where it tells that. Or one of their lines isn't good, whatever bytes may follow, of which there are none where the
+-- source has ended. Or a read failed after them, and their whole lines are all good.
+abbrev pub CameAs : FeedEnd → GraphInputs → Device SourceTold → List ℕ → Read → Type 0
+CameAs Ended graph input came read = EndCame input.before input.now × (read ≡ ended_input graph came)
+CameAs (Failed lines) graph input came read = (read ≡ cut_input graph came) × (read.lines ≡ whole_lines came)
+CameAs (Refused line cause) graph input came read =
+    (ended : Bool) × MetEnd false ended input.before input.now × ((more : List ℕ) → (ended ≡ true → more ≡ []) → read ≡ ended_input graph (came ++ more))
+CameAs no_lines graph input came read = ⊥
+
+-- An input was read to its end, to its first line that isn't good, or until a read failed, and came to this. A read failed
+-- exactly in the last of these cases, and nothing was read after it.
+pub record CameTo (graph : GraphInputs) (input : Device SourceTold) (read : Read) : Type 0 where
+  pub came : List ℕ
+  pub gave : Gave input.before.left input.now.left came
+  pub by : CameAs read.end graph input came read
+  pub faults : FailedBy read.end input.before input.now
+
+-- The run --
+
+-- The output and the notes took an answer's texts, and the status is the answer's.
+pub record Meets (answer : Answer) (status : RunStatus) (devices : RunDevices) : Type 0 where
+  pub text : TookText devices.output answer.output
+  pub noted : TookText devices.notes answer.notes
+  pub told : status ≡ answer.status
+
+-- The run met the answer over what its input came to.
+pub record RanAll (plan : Plan) (status : RunStatus) (devices : RunDevices) : Type 0 where
+  pub read : Read
+  pub input : CameTo (inputs_of plan) devices.input read
+  pub answer : Answer
+  pub is : IsAnswer plan read answer
+  pub met : Meets answer status devices
+
+-- A write failed, after the input was read. Where none to the output did, it took all of the answer's text.
+pub record RanShort (plan : Plan) (devices : RunDevices) : Type 0 where
+  pub read : Read
+  pub input : CameTo (inputs_of plan) devices.input read
+  pub answer : Answer
+  pub is : IsAnswer plan read answer
+  pub rose : Rose devices.output.before.faults devices.output.now.faults ⊎ Rose devices.notes.before.faults devices.notes.now.faults
+  pub front : TookFront devices.output answer.output
+  pub whole : Rose devices.output.before.faults devices.output.now.faults ⊎ TookText devices.output answer.output
+
+-- The output took a front of the answer's text over what the input came to.
+pub record TookSome (plan : Plan) (devices : RunDevices) : Type 0 where
+  pub read : Read
+  pub input : CameTo (inputs_of plan) devices.input read
+  pub answer : Answer
+  pub is : IsAnswer plan read answer
+  pub front : TookFront devices.output answer.output
+
+-- Memory ran out, before anything was written or after the input was read.
+abbrev pub RanOut : Plan → RunDevices → Type 0
+RanOut plan devices = Untouched devices.output ⊎ TookSome plan devices
+
+-- A run ended with this status.
+abbrev pub Ran : Plan → RunStatus → RunDevices → Type 0
+Ran plan WriteFault devices = RanShort plan devices
+Ran plan OutOfMemory devices = RanOut plan devices
+Ran plan status devices = RanAll plan status devices
+
+-- Where the input tells its bytes, the run met the answer over an input that ends after them.
+abbrev pub IsAnswered : Plan → RunStatus → RunDevices → Type 0
+IsAnswered plan status devices = IfSome devices.input.before.left (λ bytes. (answer : Answer) × AnswersEnded plan bytes answer × Meets answer status devices)
+
+-- a status is one of these
+abbrev pub IsOneOf : RunStatus → List RunStatus → Type 0
+IsOneOf status [] = ⊥
+IsOneOf status (s ∷ ss) = (status ≡ s) ⊎ IsOneOf status ss

@@ -1,0 +1,15 @@
+-- Texts that a note repeats.
+use Rattle.std.specs.Prelude.{ℕ, Bool, List, ◌∷◌, [], ◌||◌, ◌==◌, nat_lt, if◌then◌else◌}
+use Rattle.std.specs.List.{flat_map}
+use Rattle.mg_text.specs.Canonical.{escape}
+
+abbrev pub is_control : ℕ → Bool
+is_control b = nat_lt b 32 || b == 127
+
+-- A control byte is written with its escape in the canonical text: `\n`, `\r`, `\t` or three octal digits. All else, a
+-- backslash too, is written as it is.
+abbrev pub shown_byte : ℕ → List ℕ
+shown_byte b = if is_control b then escape b else b ∷ []
+
+abbrev pub shown : List ℕ → List ℕ
+shown text = flat_map shown_byte text
