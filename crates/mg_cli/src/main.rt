@@ -2,20 +2,26 @@
 //! All that it does is `mg_run::run_words`, whose contract says what that is.
 #![tactic(auto)]
 
+use mg_calc::Calculator;
 use mg_edge::{FolderStore, ReaderSource, WriterSink};
-use mg_run::{Status, run_words};
+use mg_run::{Status, run_words, tally_box};
 use mg_value::MgText;
 use std::alloc::AllocError;
 use std::env;
 use std::io::ErrorKind;
 use std::process::ExitCode;
 
+/// How many boxes are handed in.
+const BOXES: usize = 4;
+
 fn main(rt: HostRuntime) -> ExitCode {
-    let status = match words(&rt) {
-        Ok(words) => call(&rt, words.as_slice()),
-        Err(AllocError) => Status::OutOfMemory,
-    };
+    let status = status_of(&rt).unwrap_or(Status::OutOfMemory);
     ExitCode::from(status.number())
+}
+
+fn status_of(rt: &HostRuntime) -> Result<Status, AllocError> {
+    let words = words(rt)?;
+    call(rt, words.as_slice())
 }
 
 // The words after the program's name. Where one isn't UTF-8 there are none, which is no command either.
@@ -34,17 +40,24 @@ fn words(rt: &HostRuntime) -> Result<Vec<MgText>, AllocError> {
     }
 }
 
-// The top call over the files below the current folder and the standard streams.
-fn call(rt: &HostRuntime, words: &[MgText]) -> Status {
+// The top call over the files below the current folder and the standard streams, with boxes of its own.
+fn call(rt: &HostRuntime, words: &[MgText]) -> Result<Status, AllocError> {
+    let alloc = rt.alloc();
+    let mut boxes = Vec::new(alloc);
+    for _ in 0..BOXES {
+        let tally: Box<dyn Calculator + Send> = Box::new(alloc, tally_box(alloc, false)?)?;
+        boxes.push(tally)?;
+    }
     let Ok(files) = rt.clone() else {
-        return Status::OutOfMemory;
+        return Err(AllocError);
     };
-    run_words(
-        rt.alloc(),
+    Ok(run_words(
+        alloc,
         words,
         &mut FolderStore::new(files),
         &mut ReaderSource::new(rt.stdin()),
         &mut WriterSink::new(rt.stdout()),
         &mut WriterSink::new(rt.stderr()),
-    )
+        &mut boxes,
+    ))
 }

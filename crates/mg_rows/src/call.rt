@@ -4,8 +4,9 @@ use crate::choice::Choice;
 use crate::member::{list, number, numbers};
 use crate::text::{Texts, bytes_of};
 use anyhow::{Result, bail};
+use mg_calc::Calculator;
 use mg_edge::{MemorySink, MemorySource, MemoryStore};
-use mg_run::run_words;
+use mg_run::{run_words, tally_box};
 use mg_value::MgText;
 use serde_json::Value;
 use std::alloc::{AllocError, Global};
@@ -13,8 +14,11 @@ use std::alloc::{AllocError, Global};
 // The room of a sink where a case gives none: more than most texts take.
 const ROOM: u64 = 1 << 20;
 
-/// The names of what the devices count.
-pub const COUNTS: [&str; 9] = [
+// How many boxes a call is handed.
+const BOXES: usize = 4;
+
+/// The names of what is counted: by the devices, and of the boxes.
+pub const COUNTS: [&str; 11] = [
     "loads",
     "load_faults",
     "reads",
@@ -24,6 +28,8 @@ pub const COUNTS: [&str; 9] = [
     "write_faults",
     "note_writes",
     "note_faults",
+    "boxes",
+    "box_calls",
 ];
 
 /// What came of a call.
@@ -32,8 +38,8 @@ pub struct Outcome {
     pub output: Vec<u8>,
     pub notes: Vec<u8>,
     pub status: u8,
-    /// What the devices counted, in the order of `COUNTS`.
-    pub counts: [u64; 9],
+    /// What was counted, in the order of `COUNTS`.
+    pub counts: [u64; 11],
     /// The name of the load that failed last.
     pub failed_name: Option<String>,
 }
@@ -46,7 +52,7 @@ struct Devices {
     notes: MemorySink,
 }
 
-/// Makes one of a case's calls.
+/// Makes one of a case's calls. The status is the one to exit with.
 pub fn make_call(alloc: Global, texts: &Texts, case: &Value, choice: Choice) -> Result<Outcome> {
     let words = words_of(alloc, case, choice)?;
     let mut devices = Devices {
@@ -55,25 +61,30 @@ pub fn make_call(alloc: Global, texts: &Texts, case: &Value, choice: Choice) -> 
         output: sink_of(alloc, case, "room", "failing_writes")?,
         notes: sink_of(alloc, case, "notes_room", "failing_notes")?,
     };
-    let status = devices.call(alloc, &words);
-    Ok(devices.outcome(alloc, status)?)
+    let mut boxes = Vec::new(alloc);
+    for _ in 0..BOXES {
+        let tally: Box<dyn Calculator + Send> = Box::new(alloc, tally_box(alloc, true)?)?;
+        boxes.push(tally)?;
+    }
+    let status = run_words(
+        alloc,
+        &words,
+        &mut devices.store,
+        &mut devices.input,
+        &mut devices.output,
+        &mut devices.notes,
+        &mut boxes,
+    );
+    Ok(devices.outcome(alloc, status.number(), &boxes)?)
 }
 
 impl Devices {
-    // Calls the program. The status is the one to exit with.
-    fn call(&mut self, alloc: Global, words: &[MgText]) -> u8 {
-        let status = run_words(
-            alloc,
-            words,
-            &mut self.store,
-            &mut self.input,
-            &mut self.output,
-            &mut self.notes,
-        );
-        status.number()
-    }
-
-    fn outcome(&self, alloc: Global, status: u8) -> Result<Outcome, AllocError> {
+    fn outcome(
+        &self,
+        alloc: Global,
+        status: u8,
+        boxes: &[Box<dyn Calculator + Send>],
+    ) -> Result<Outcome, AllocError> {
         let counts = [
             self.store.loads(),
             self.store.faults(),
@@ -84,6 +95,8 @@ impl Devices {
             self.output.faults(),
             self.notes.writes(),
             self.notes.faults(),
+            boxes.len() as u64,
+            calls_of(boxes),
         ];
         let failed_name = match self.store.failed_name() {
             Some(name) => Some(String::from_str(alloc, name)?),
@@ -97,6 +110,15 @@ impl Devices {
             failed_name,
         })
     }
+}
+
+// How many calls some boxes had.
+fn calls_of(boxes: &[Box<dyn Calculator + Send>]) -> u64 {
+    let mut calls = 0u64;
+    for one in boxes {
+        calls = calls.saturating_add(one.log().len() as u64);
+    }
+    calls
 }
 
 // The words `run` and `g.pbtxt` where a case has none.

@@ -6,7 +6,7 @@ use Rattle.mg_run.proofs.Finishing.{front-nothing}
 use Rattle.mg_run.proofs.Together.{one-reading}
 use Rattle.mg_run.proofs.Loading.{of-loads}
 use Rattle.mg_run.proofs.Flowing.{rose-after}
-use Rattle.mg_run.specs.Command.{Command}
+use Rattle.mg_run.specs.Task.{Task}
 use Rattle.mg_run.specs.Files.{Files, AreFiles}
 use Rattle.mg_run.specs.Loads.{AreLoaded, LoadedAll, loads_of}
 use Rattle.mg_run.specs.Answer.{Job, refuse, show, merge, job_of, answer_of, answer, run_answer}
@@ -34,18 +34,18 @@ if-any (Some x) P all = all x
 front-none : (output : SinkTold) (text : List ℕ) → TookFront (device output output) text
 front-none output text = front-nothing (Some []) output (λ read. text)
 
-pub short-nothing : (command : Command) (store : Device StoreTold) (input : Device SourceTold) (output : SinkTold) (notes : Device SinkTold)
-    → CallShort command (devices store input (device output output) notes)
-short-nothing command store input output notes =
-    if-any (loads_of store.before.content command.files) _ (λ contents. if-any input.before.left _ (λ read files are. front-none output (answer command files read).output))
+pub short-nothing : (task : Task) (store : Device StoreTold) (input : Device SourceTold) (output : SinkTold) (notes : Device SinkTold)
+    → CallShort task (devices store input (device output output) notes)
+short-nothing task store input output notes =
+    if-any (loads_of store.before.content task.files) _ (λ contents. if-any input.before.left _ (λ read files are. front-none output (answer task files read).output))
 
 -- a run of the graph found no memory
-short-run : (command : Command) (names : List (List ℕ)) (input : Option (List ℕ)) (output : Device SinkTold) (contents : List (List ℕ)) → IsJob command contents (merge names)
+short-run : (task : Task) (names : List (List ℕ)) (input : Option (List ℕ)) (output : Device SinkTold) (contents : List (List ℕ)) → IsJob task contents (merge names)
     → IfSome input (λ read. TookFront output (run_answer names read).output)
-    → IfSome input (λ read. (files : Files) → AreFiles command.files contents files → TookFront output (answer command files read).output)
-short-run command names None output contents due took = tt
-short-run command names (Some read) output contents (files, are, same) took =
-    λ other other_are. subst (λ (job : Job). TookFront output (answer_of job read).output) (same ∙ ap (job_of command.verb) (one-reading command.files contents files other are other_are)) took
+    → IfSome input (λ read. (files : Files) → AreFiles task.files contents files → TookFront output (answer task files read).output)
+short-run task names None output contents due took = tt
+short-run task names (Some read) output contents (files, are, same) took =
+    λ other other_are. subst (λ (job : Job). TookFront output (answer_of job read).output) (same ∙ ap (job_of task) (one-reading task.files contents files other are other_are)) took
 
 -- The statuses of what was done.
 not-shown : (text : List ℕ) (status : Status) (all : Devices) → status ≢ Good → status ≢ WriteFault → WasShown text status all → ⊥
@@ -65,30 +65,30 @@ did-usage (refuse note) all did = let e = did.ended in cc
 did-usage (show text) all did = not-shown text Usage all (λ e. cc) (λ e. cc) did
 did-usage (merge names) all did = did
 
-did-short : (job : Job) (command : Command) (contents : List (List ℕ)) (all : Devices) → AreLoaded all.store.before.content command.files contents → IsJob command contents job
-    → Did job OutOfMemory all → CallShort command all
-did-short (refuse note) command contents all given due did = let e = did.ended in absurd (differ e)
+did-short : (job : Job) (task : Task) (contents : List (List ℕ)) (all : Devices) → AreLoaded all.store.before.content task.files contents → IsJob task contents job
+    → Did job OutOfMemory all → CallShort task all
+did-short (refuse note) task contents all given due did = let e = did.ended in absurd (differ e)
   where
     differ : OutOfMemory ≡ GraphRefused → ⊥
     differ e = cc
-did-short (show text) command contents all given due did = absurd (not-shown text OutOfMemory all (λ e. cc) (λ e. cc) did)
-did-short (merge names) command contents all given due did =
-    of-loads all.store.before.content command.files contents
-    (λ known. IfSome all.input.before.left (λ read. (files : Files) → AreFiles command.files known files → TookFront all.output (answer command files read).output))
-    given (short-run command names all.input.before.left all.output contents due did)
+did-short (show text) task contents all given due did = absurd (not-shown text OutOfMemory all (λ e. cc) (λ e. cc) did)
+did-short (merge names) task contents all given due did =
+    of-loads all.store.before.content task.files contents
+    (λ known. IfSome all.input.before.left (λ read. (files : Files) → AreFiles task.files known files → TookFront all.output (answer task files read).output))
+    given (short-run task names all.input.before.left all.output contents due did)
 
-pub called-did : (job : Job) (status : Status) (command : Command) (contents : List (List ℕ)) (all : Devices)
-    → LoadedAll command.files contents all.store → IsJob command contents job → Did job status all → Called status command all
-called-did job Good command contents all loaded due did = record { contents = contents; loaded = loaded; job = job; due = due; did = did }
-called-did job StoreFault command contents all loaded due did = absurd (did-store job all did)
-called-did job Usage command contents all loaded due did = absurd (did-usage job all did)
-called-did job GraphRefused command contents all loaded due did = record { contents = contents; loaded = loaded; job = job; due = due; did = did }
-called-did job LineRefused command contents all loaded due did = record { contents = contents; loaded = loaded; job = job; due = due; did = did }
-called-did job NodeFault command contents all loaded due did = record { contents = contents; loaded = loaded; job = job; due = due; did = did }
-called-did job Stalled command contents all loaded due did = record { contents = contents; loaded = loaded; job = job; due = due; did = did }
-called-did job ReadFault command contents all loaded due did = record { contents = contents; loaded = loaded; job = job; due = due; did = did }
-called-did job WriteFault command contents all loaded due did = record { contents = contents; loaded = loaded; job = job; due = due; did = did }
-called-did job OutOfMemory command contents all loaded due did = did-short job command contents all loaded.given due did
+pub called-did : (job : Job) (status : Status) (task : Task) (contents : List (List ℕ)) (all : Devices)
+    → LoadedAll task.files contents all.store → IsJob task contents job → Did job status all → Called status task all
+called-did job Good task contents all loaded due did = record { contents = contents; loaded = loaded; job = job; due = due; did = did }
+called-did job StoreFault task contents all loaded due did = absurd (did-store job all did)
+called-did job Usage task contents all loaded due did = absurd (did-usage job all did)
+called-did job GraphRefused task contents all loaded due did = record { contents = contents; loaded = loaded; job = job; due = due; did = did }
+called-did job LineRefused task contents all loaded due did = record { contents = contents; loaded = loaded; job = job; due = due; did = did }
+called-did job NodeFault task contents all loaded due did = record { contents = contents; loaded = loaded; job = job; due = due; did = did }
+called-did job Stalled task contents all loaded due did = record { contents = contents; loaded = loaded; job = job; due = due; did = did }
+called-did job ReadFault task contents all loaded due did = record { contents = contents; loaded = loaded; job = job; due = due; did = did }
+called-did job WriteFault task contents all loaded due did = record { contents = contents; loaded = loaded; job = job; due = due; did = did }
+called-did job OutOfMemory task contents all loaded due did = did-short job task contents all loaded.given due did
 
 -- What follows --
 
@@ -137,27 +137,27 @@ did-answer (show text) status all did none some =
 did-answer (merge names) status all did none some = ran-answer names status all did none some
 
 -- The answer of the job is that of the files' bytes and the input's.
-job-answered : (command : Command) (contents : List (List ℕ)) (status : Status) (job : Job) (input : Option (List ℕ)) (all : Devices) → IsJob command contents job
+job-answered : (task : Task) (contents : List (List ℕ)) (status : Status) (job : Job) (input : Option (List ℕ)) (all : Devices) → IsJob task contents job
     → IfSome input (λ read. Meets (answer_of job read) status all)
-    → IfSome input (λ read. (files : Files) × AreFiles command.files contents files × Meets (answer command files read) status all)
-job-answered command contents status job None all due meets = tt
-job-answered command contents status job (Some read) all (files, are, same) meets = (files, are, subst (λ (j : Job). Meets (answer_of j read) status all) same meets)
+    → IfSome input (λ read. (files : Files) × AreFiles task.files contents files × Meets (answer task files read) status all)
+job-answered task contents status job None all due meets = tt
+job-answered task contents status job (Some read) all (files, are, same) meets = (files, are, subst (λ (j : Job). Meets (answer_of j read) status all) same meets)
 
-call-answered : (status : Status) (command : Command) (all : Devices) → CallDid status command all → NoneFailed all → status ≢ OutOfMemory → IsAnswered status command all
-call-answered status command all called none some =
-    of-loads all.store.before.content command.files called.contents
-    (λ known. IfSome all.input.before.left (λ read. (files : Files) × AreFiles command.files known files × Meets (answer command files read) status all))
+call-answered : (status : Status) (task : Task) (all : Devices) → CallDid status task all → NoneFailed all → status ≢ OutOfMemory → IsAnswered status task all
+call-answered status task all called none some =
+    of-loads all.store.before.content task.files called.contents
+    (λ known. IfSome all.input.before.left (λ read. (files : Files) × AreFiles task.files known files × Meets (answer task files read) status all))
     called.loaded.given
-    (job-answered command called.contents status called.job all.input.before.left all called.due (did-answer called.job status all called.did none some))
+    (job-answered task called.contents status called.job all.input.before.left all called.due (did-answer called.job status all called.did none some))
 
-pub answered-from : (status : Status) (command : Command) (all : Devices) → Called status command all → NoneFailed all → status ≢ OutOfMemory → IsAnswered status command all
-answered-from Good command all called none some = call-answered Good command all called none some
-answered-from StoreFault command all called none some = absurd (unrisen-rose all.store.before.faults all.store.now.faults none.store (rose-after all.store.before.faults all.store.before.faults all.store.now.faults refl called.failed.once))
-answered-from Usage command all called none some = elim called [ ]
-answered-from GraphRefused command all called none some = call-answered GraphRefused command all called none some
-answered-from LineRefused command all called none some = call-answered LineRefused command all called none some
-answered-from NodeFault command all called none some = call-answered NodeFault command all called none some
-answered-from Stalled command all called none some = call-answered Stalled command all called none some
-answered-from ReadFault command all called none some = call-answered ReadFault command all called none some
-answered-from WriteFault command all called none some = call-answered WriteFault command all called none some
-answered-from OutOfMemory command all called none some = absurd (some refl)
+pub answered-from : (status : Status) (task : Task) (all : Devices) → Called status task all → NoneFailed all → status ≢ OutOfMemory → IsAnswered status task all
+answered-from Good task all called none some = call-answered Good task all called none some
+answered-from StoreFault task all called none some = absurd (unrisen-rose all.store.before.faults all.store.now.faults none.store (rose-after all.store.before.faults all.store.before.faults all.store.now.faults refl called.failed.once))
+answered-from Usage task all called none some = elim called [ ]
+answered-from GraphRefused task all called none some = call-answered GraphRefused task all called none some
+answered-from LineRefused task all called none some = call-answered LineRefused task all called none some
+answered-from NodeFault task all called none some = call-answered NodeFault task all called none some
+answered-from Stalled task all called none some = call-answered Stalled task all called none some
+answered-from ReadFault task all called none some = call-answered ReadFault task all called none some
+answered-from WriteFault task all called none some = call-answered WriteFault task all called none some
+answered-from OutOfMemory task all called none some = absurd (some refl)

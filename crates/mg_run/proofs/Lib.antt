@@ -13,6 +13,13 @@ pub mod Growing
 pub mod Standing
 pub mod Flowing
 pub mod Pouring
+pub mod Fewer
+pub mod Told
 pub mod Finishing
 pub mod Calling
 pub mod Risen
+pub mod Laid
+pub mod Singles
+pub mod Asking
+pub mod Getters
+pub mod Coming

@@ -1,14 +1,14 @@
 -- Which statuses a call may have whose devices failed.
 use Rattle.std.proofs.Common.{◌≡◌, ℕ, List, [], ◌∷◌, ◌⊎◌, inl, inr, refl, ap, arith}
 use Rattle.mg_edge.specs.Edge.{SourceTold, SinkTold}
-use Rattle.mg_run.specs.Command.{Command}
+use Rattle.mg_run.specs.Task.{Task}
 use Rattle.mg_run.specs.Answer.{Job, refuse, show, merge}
 use Rattle.mg_run.specs.Devices.{Device, Devices, Untouched, HasRisen, TookText, TookPart}
 use Rattle.mg_run.specs.Call.{WasShown, Ran, Did, Called, IsOneOf}
 use Rattle.mg_run.specs.declared.status.Status.{Status}
 use Rattle.mg_run.specs.declared.status.Status.TheVariants.{Good, StoreFault, Usage, GraphRefused, LineRefused, NodeFault, Stalled, ReadFault, WriteFault, OutOfMemory}
 
-risen-steady : (a b : ℕ) → HasRisen a b → b ≡ a → ⊥
+pub risen-steady : (a b : ℕ) → HasRisen a b → b ≡ a → ⊥
 risen-steady a b risen steady = absurd (omega (arith, steady, risen))
 
 risen-unread : (input : Device SourceTold) → HasRisen input.before.faults input.now.faults → Untouched input → ⊥
@@ -18,17 +18,17 @@ risen-unwritten : (sink : Device SinkTold) → HasRisen sink.before.faults sink.
 risen-unwritten sink risen untouched = risen-steady _ _ risen (ap (λ s. s.faults) untouched)
 
 -- The store's count rose.
-pub store-risen : (status : Status) (command : Command) (all : Devices) → Called status command all → HasRisen all.store.before.faults all.store.now.faults → IsOneOf status (StoreFault ∷ OutOfMemory ∷ [])
-store-risen Good command all called risen = absurd (risen-steady _ _ risen called.loaded.steady)
-store-risen StoreFault command all called risen = inl refl
-store-risen Usage command all called risen = elim called [ ]
-store-risen GraphRefused command all called risen = absurd (risen-steady _ _ risen called.loaded.steady)
-store-risen LineRefused command all called risen = absurd (risen-steady _ _ risen called.loaded.steady)
-store-risen NodeFault command all called risen = absurd (risen-steady _ _ risen called.loaded.steady)
-store-risen Stalled command all called risen = absurd (risen-steady _ _ risen called.loaded.steady)
-store-risen ReadFault command all called risen = absurd (risen-steady _ _ risen called.loaded.steady)
-store-risen WriteFault command all called risen = absurd (risen-steady _ _ risen called.loaded.steady)
-store-risen OutOfMemory command all called risen = inr (inl refl)
+pub store-risen : (status : Status) (task : Task) (all : Devices) → Called status task all → HasRisen all.store.before.faults all.store.now.faults → IsOneOf status (StoreFault ∷ OutOfMemory ∷ [])
+store-risen Good task all called risen = absurd (risen-steady _ _ risen called.loaded.steady)
+store-risen StoreFault task all called risen = inl refl
+store-risen Usage task all called risen = elim called [ ]
+store-risen GraphRefused task all called risen = absurd (risen-steady _ _ risen called.loaded.steady)
+store-risen LineRefused task all called risen = absurd (risen-steady _ _ risen called.loaded.steady)
+store-risen NodeFault task all called risen = absurd (risen-steady _ _ risen called.loaded.steady)
+store-risen Stalled task all called risen = absurd (risen-steady _ _ risen called.loaded.steady)
+store-risen ReadFault task all called risen = absurd (risen-steady _ _ risen called.loaded.steady)
+store-risen WriteFault task all called risen = absurd (risen-steady _ _ risen called.loaded.steady)
+store-risen OutOfMemory task all called risen = inr (inl refl)
 
 -- The input's count rose.
 abbrev read_statuses : List Status
@@ -51,17 +51,17 @@ read-did (refuse note) status all did risen = absurd (risen-unread all.input ris
 read-did (show text) status all did risen = absurd (risen-unread all.input risen did.unread)
 read-did (merge names) status all did risen = read-ran names status all did risen
 
-pub read-risen : (status : Status) (command : Command) (all : Devices) → Called status command all → HasRisen all.input.before.faults all.input.now.faults → IsOneOf status read_statuses
-read-risen Good command all called risen = read-did called.job Good all called.did risen
-read-risen StoreFault command all called risen = absurd (risen-unread all.input risen called.unread)
-read-risen Usage command all called risen = elim called [ ]
-read-risen GraphRefused command all called risen = read-did called.job GraphRefused all called.did risen
-read-risen LineRefused command all called risen = read-did called.job LineRefused all called.did risen
-read-risen NodeFault command all called risen = read-did called.job NodeFault all called.did risen
-read-risen Stalled command all called risen = read-did called.job Stalled all called.did risen
-read-risen ReadFault command all called risen = inl refl
-read-risen WriteFault command all called risen = inr (inl refl)
-read-risen OutOfMemory command all called risen = inr (inr (inl refl))
+pub read-risen : (status : Status) (task : Task) (all : Devices) → Called status task all → HasRisen all.input.before.faults all.input.now.faults → IsOneOf status read_statuses
+read-risen Good task all called risen = read-did called.job Good all called.did risen
+read-risen StoreFault task all called risen = absurd (risen-unread all.input risen called.unread)
+read-risen Usage task all called risen = elim called [ ]
+read-risen GraphRefused task all called risen = read-did called.job GraphRefused all called.did risen
+read-risen LineRefused task all called risen = read-did called.job LineRefused all called.did risen
+read-risen NodeFault task all called risen = read-did called.job NodeFault all called.did risen
+read-risen Stalled task all called risen = read-did called.job Stalled all called.did risen
+read-risen ReadFault task all called risen = inl refl
+read-risen WriteFault task all called risen = inr (inl refl)
+read-risen OutOfMemory task all called risen = inr (inr (inl refl))
 
 -- The output's count or the notes' rose.
 abbrev write_statuses : List Status
@@ -99,14 +99,14 @@ write-did (refuse note) status all did risen = inr (inl did.ended)
 write-did (show text) status all did risen = write-shown text status all did risen
 write-did (merge names) status all did risen = write-ran names status all did risen
 
-pub write-risen : (status : Status) (command : Command) (all : Devices) → Called status command all → EitherRisen all → IsOneOf status write_statuses
-write-risen Good command all called risen = write-did called.job Good all called.did risen
-write-risen StoreFault command all called risen = inl refl
-write-risen Usage command all called risen = elim called [ ]
-write-risen GraphRefused command all called risen = write-did called.job GraphRefused all called.did risen
-write-risen LineRefused command all called risen = write-did called.job LineRefused all called.did risen
-write-risen NodeFault command all called risen = write-did called.job NodeFault all called.did risen
-write-risen Stalled command all called risen = write-did called.job Stalled all called.did risen
-write-risen ReadFault command all called risen = write-did called.job ReadFault all called.did risen
-write-risen WriteFault command all called risen = inr (inr (inl refl))
-write-risen OutOfMemory command all called risen = inr (inr (inr (inl refl)))
+pub write-risen : (status : Status) (task : Task) (all : Devices) → Called status task all → EitherRisen all → IsOneOf status write_statuses
+write-risen Good task all called risen = write-did called.job Good all called.did risen
+write-risen StoreFault task all called risen = inl refl
+write-risen Usage task all called risen = elim called [ ]
+write-risen GraphRefused task all called risen = write-did called.job GraphRefused all called.did risen
+write-risen LineRefused task all called risen = write-did called.job LineRefused all called.did risen
+write-risen NodeFault task all called risen = write-did called.job NodeFault all called.did risen
+write-risen Stalled task all called risen = write-did called.job Stalled all called.did risen
+write-risen ReadFault task all called risen = write-did called.job ReadFault all called.did risen
+write-risen WriteFault task all called risen = inr (inr (inl refl))
+write-risen OutOfMemory task all called risen = inr (inr (inr (inl refl)))

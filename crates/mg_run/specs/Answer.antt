@@ -5,16 +5,21 @@ use Rattle.std.specs.Str.{bytes_eq}
 use Rattle.mg_text.specs.Canonical.{canonical}
 use Rattle.mg_config.specs.Config.{GraphView}
 use Rattle.mg_config.specs.Written.{tree_of}
-use Rattle.mg_run.specs.Command.{Command}
+use Rattle.mg_calc.specs.declared.plan.Plan.{Plan}
+use Rattle.mg_calc.specs.declared.shape.OuterShape.{OuterShape}
+use Rattle.mg_check.specs.Check.{check_of}
+use Rattle.mg_check.specs.declared.fault.CheckFault.{CheckFault}
+use Rattle.mg_run.specs.Task.{Task}
 use Rattle.mg_subgraph.specs.Expansion.{expansion_of}
 use Rattle.mg_subgraph.specs.declared.fault.ExpandFault.{ExpandFault}
 use Rattle.mg_run.specs.Files.{Files, graphs, no_graphs}
+use Rattle.mg_run.specs.CheckNotes.{check_note, check_text}
 use Rattle.mg_run.specs.Notes.{expand_note, unbuilt_note, line_note, read_note}
 use Rattle.mg_run.specs.Lines.{whole_lines, all_lines}
 use Rattle.mg_run.specs.Accepted.{Refused, accepted, first_refused, streams_of, ended_streams}
 use Rattle.mg_run.specs.Output.{output_of}
 use Rattle.mg_run.specs.declared.words.Verb.{Verb}
-use Rattle.mg_run.specs.declared.words.Verb.TheVariants.{Run, Expand}
+use Rattle.mg_run.specs.declared.words.Verb.TheVariants.{Run, Check, Expand}
 use Rattle.mg_run.specs.declared.status.Status.{Status}
 use Rattle.mg_run.specs.declared.status.Status.TheVariants.{Good, GraphRefused, LineRefused, ReadFault}
 
@@ -51,22 +56,35 @@ abbrev pub run_job : Option (List (List ℕ)) → Job
 run_job None = refuse unbuilt_note
 run_job (Some names) = merge names
 
-abbrev pub graph_job : Verb → GraphView → Job
-graph_job Run g = run_job (inputs_of (graph_text g))
-graph_job Expand g = show (graph_text g)
+-- A graph that is checked has a text that is written, or it is refused; one that is run is checked before.
+abbrev pub check_job : Result Plan CheckFault → Job
+check_job (Ok plan) = show (check_text plan)
+check_job (Err fault) = refuse (check_note fault)
 
-abbrev pub expanded_job : Verb → Result GraphView ExpandFault → Job
-expanded_job verb (Ok g) = graph_job verb g
-expanded_job verb (Err fault) = refuse (expand_note fault)
+abbrev pub checked_job : Result Plan CheckFault → List ℕ → Job
+checked_job (Ok plan) text = run_job (inputs_of text)
+checked_job (Err fault) text = refuse (check_note fault)
+
+abbrev pub graph_job : Verb → List OuterShape → GraphView → Job
+graph_job Run outers g = checked_job (check_of outers g) (graph_text g)
+graph_job Check outers g = check_job (check_of outers g)
+graph_job Expand outers g = show (graph_text g)
+
+abbrev pub expanded_job : Verb → List OuterShape → Result GraphView ExpandFault → Job
+expanded_job verb outers (Ok g) = graph_job verb outers g
+expanded_job verb outers (Err fault) = refuse (expand_note fault)
 
 -- The first graph is the main one, and it is expanded with the others as its library. A command always has a first.
-abbrev pub graphs_job : Verb → List GraphView → Job
-graphs_job verb [] = refuse []
-graphs_job verb (main ∷ library) = expanded_job verb (expansion_of main library)
+abbrev pub graphs_job : Verb → List OuterShape → List GraphView → Job
+graphs_job verb outers [] = refuse []
+graphs_job verb outers (main ∷ library) = expanded_job verb outers (expansion_of main library)
 
-abbrev pub job_of : Verb → Files → Job
-job_of verb (graphs gs) = graphs_job verb gs
-job_of verb (no_graphs note) = refuse note
+abbrev pub files_job : Verb → List OuterShape → Files → Job
+files_job verb outers (graphs gs) = graphs_job verb outers gs
+files_job verb outers (no_graphs note) = refuse note
+
+abbrev pub job_of : Task → Files → Job
+job_of task files = files_job task.verb task.outers files
 
 -- The answers --
 
@@ -101,5 +119,5 @@ answer_of (refuse note) input = record { output = []; notes = note; status = Gra
 answer_of (show text) input = record { output = text; notes = []; status = Good }
 answer_of (merge names) input = run_answer names input
 
-abbrev pub answer : Command → Files → List ℕ → Answer
-answer command files input = answer_of (job_of command.verb files) input
+abbrev pub answer : Task → Files → List ℕ → Answer
+answer task files input = answer_of (job_of task files) input

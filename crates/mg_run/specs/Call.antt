@@ -2,7 +2,9 @@
 use Rattle.std.specs.Prelude.{◌≡◌, ℕ, ◌⊎◌, List, [], ◌∷◌, IfSome}
 use Rattle.mg_edge.specs.Edge.{Rose}
 use Rattle.mg_edge.specs.Runs.{Gave, TookAll}
-use Rattle.mg_run.specs.Command.{Command}
+use Rattle.mg_calc.specs.declared.shape.OuterShape.{OuterShape}
+use Rattle.mg_run.specs.Task.{Task, task}
+use Rattle.mg_run.specs.Words.{Asked, asks_usage, asks_text, asks_command}
 use Rattle.mg_run.specs.Files.{Files, AreFiles}
 use Rattle.mg_run.specs.Loads.{LoadedAll, FailedAt, loads_of}
 use Rattle.mg_run.specs.Lines.{whole_lines}
@@ -21,12 +23,22 @@ pub record Meets (given : Answer) (status : Status) (devices : Devices) : Type 0
 
 -- What became of it --
 
--- The words were no command.
-pub record WasUsage (devices : Devices) : Type 0 where
-  pub noted : Noted devices.notes usage_note
+-- The words were no command, and the note says how the program is used. Where there was no memory to judge them, nothing
+-- was done.
+pub record WasUsage (status : Status) (devices : Devices) : Type 0 where
+  pub noted : ((status ≡ Usage) × Noted devices.notes usage_note) ⊎ ((status ≡ OutOfMemory) × Untouched devices.notes)
   pub unloaded : Untouched devices.store
   pub unread : Untouched devices.input
   pub unwritten : Untouched devices.output
+
+-- A text of the program's own was asked for: it was written, or a write of it failed. Where there was no memory to judge
+-- the words, nothing was done.
+pub record WasTold (text : List ℕ) (status : Status) (devices : Devices) : Type 0 where
+  pub written : ((status ≡ Good) × TookText devices.output text) ⊎ (((status ≡ WriteFault) × TookPart devices.output text)
+      ⊎ ((status ≡ OutOfMemory) × Untouched devices.output))
+  pub unloaded : Untouched devices.store
+  pub unread : Untouched devices.input
+  pub unnoted : Untouched devices.notes
 
 -- A file couldn't be loaded, the first such of these, and the note is of it.
 pub record WasUnloaded (files : List (List ℕ)) (devices : Devices) : Type 0 where
@@ -105,35 +117,41 @@ Did (show text) status devices = WasShown text status devices
 Did (merge names) status devices = Ran names status devices
 
 -- what a command has to do with the contents of its files
-abbrev pub IsJob : Command → List (List ℕ) → Job → Type 0
-IsJob command contents job = (files : Files) × AreFiles command.files contents files × (job ≡ job_of command.verb files)
+abbrev pub IsJob : Task → List (List ℕ) → Job → Type 0
+IsJob task contents job = (files : Files) × AreFiles task.files contents files × (job ≡ job_of task files)
 
 -- All files were loaded, and what the command has to do with them was done.
-pub record CallDid (status : Status) (command : Command) (devices : Devices) : Type 0 where
+pub record CallDid (status : Status) (task : Task) (devices : Devices) : Type 0 where
   pub contents : List (List ℕ)
-  pub loaded : LoadedAll command.files contents devices.store
+  pub loaded : LoadedAll task.files contents devices.store
   pub job : Job
-  pub due : IsJob command contents job
+  pub due : IsJob task contents job
   pub did : Did job status devices
 
 -- Memory ran out: the output took a front of what a call with enough of it gives.
-abbrev pub CallShort : Command → Devices → Type 0
-CallShort command devices =
-    IfSome (loads_of devices.store.before.content command.files) (λ contents. IfSome devices.input.before.left (λ read.
-    (files : Files) → AreFiles command.files contents files → TookFront devices.output (answer command files read).output))
+abbrev pub CallShort : Task → Devices → Type 0
+CallShort task devices =
+    IfSome (loads_of devices.store.before.content task.files) (λ contents. IfSome devices.input.before.left (λ read.
+    (files : Files) → AreFiles task.files contents files → TookFront devices.output (answer task files read).output))
 
 -- A call with a command ended with this status.
-abbrev pub Called : Status → Command → Devices → Type 0
-Called StoreFault command devices = WasUnloaded command.files devices
-Called Usage command devices = ⊥
-Called OutOfMemory command devices = CallShort command devices
-Called status command devices = CallDid status command devices
+abbrev pub Called : Status → Task → Devices → Type 0
+Called StoreFault task devices = WasUnloaded task.files devices
+Called Usage task devices = ⊥
+Called OutOfMemory task devices = CallShort task devices
+Called status task devices = CallDid status task devices
+
+-- A call ended with this status, by what its words ask for, where these calculators are handed in.
+abbrev pub Came : List OuterShape → Asked → Status → Devices → Type 0
+Came outers asks_usage status devices = WasUsage status devices
+Came outers (asks_text text) status devices = WasTold text status devices
+Came outers (asks_command command) status devices = Called status (task command outers) devices
 
 -- Where the devices tell the files' bytes and the input's, the call met the answer to them.
-abbrev pub IsAnswered : Status → Command → Devices → Type 0
-IsAnswered status command devices =
-    IfSome (loads_of devices.store.before.content command.files) (λ contents. IfSome devices.input.before.left (λ read.
-    (files : Files) × AreFiles command.files contents files × Meets (answer command files read) status devices))
+abbrev pub IsAnswered : Status → Task → Devices → Type 0
+IsAnswered status task devices =
+    IfSome (loads_of devices.store.before.content task.files) (λ contents. IfSome devices.input.before.left (λ read.
+    (files : Files) × AreFiles task.files contents files × Meets (answer task files read) status devices))
 
 -- a status is one of these
 abbrev pub IsOneOf : Status → List Status → Type 0

@@ -1,4 +1,5 @@
 -- What the code's own functions say to one another.
+pub mod Asked
 pub mod Said
 pub mod Job
 pub mod Reads

@@ -1,9 +1,9 @@
--- Which words are a command.
-use Rattle.std.specs.Prelude.{ℕ, List, [], ◌∷◌, ◌&&◌, Option, None, Some, option_map, codes, length, nat_lt, nat_le, if◌then◌else◌}
+-- What a command is.
+use Rattle.std.specs.Prelude.{ℕ, List, Option, None, Some, codes, if◌then◌else◌}
 use Rattle.std.specs.Str.{bytes_eq}
 use Rattle.mg_run.specs.declared.limits.TheConstants.{MOST_FILES}
 use Rattle.mg_run.specs.declared.words.Verb.{Verb}
-use Rattle.mg_run.specs.declared.words.Verb.TheVariants.{Run, Expand}
+use Rattle.mg_run.specs.declared.words.Verb.TheVariants.{Run, Check, Expand}
 
 -- what is done, and the names of the files: that of the main graph, and then those of its library
 pub record Command : Type 0 where
@@ -13,15 +13,13 @@ pub record Command : Type 0 where
 abbrev pub command : Verb → List (List ℕ) → Command
 command verb files = record { verb = verb; files = files }
 
+-- The words that are built so far: here a further one begins to be a command.
 abbrev pub verb_of : List ℕ → Option Verb
-verb_of word = if bytes_eq word (codes "run") then Some Run else (if bytes_eq word (codes "expand") then Some Expand else None)
+verb_of word =
+    if bytes_eq word (codes "run") then Some Run
+    else (if bytes_eq word (codes "check") then Some Check
+    else (if bytes_eq word (codes "expand") then Some Expand else None))
 
 -- the most files: the main graph, and 64 further ones
 abbrev pub most_files : ℕ
 most_files = MOST_FILES
-
--- The words are `run` or `expand`, and from one to so many file names.
-abbrev pub command_of : List (List ℕ) → Option Command
-command_of [] = None
-command_of (word ∷ files) =
-    if nat_lt 0 (length files) && nat_le (length files) most_files then option_map (λ verb. command verb files) (verb_of word) else None

@@ -1,16 +1,22 @@
 -- What the program means: whoever wants to know what is proved reads these files.
+pub mod CommandLine
 pub mod Command
+pub mod Task
+pub mod Help
+pub mod Words
 pub mod Status
 pub mod File
 pub mod Lines
 pub mod Reading
 pub mod Accepted
 pub mod Notes
+pub mod CheckNotes
 pub mod Files
 pub mod Output
 pub mod Answer
 pub mod Devices
 pub mod Loads
+pub mod Boxes
 pub mod Call
 -- What only the code's own functions say to one another. Nothing above rests on it.
 pub mod Code

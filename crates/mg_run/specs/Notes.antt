@@ -1,5 +1,7 @@
--- The notes, each a line.
-use Rattle.std.specs.Prelude.{ℕ, List, [], ◌++◌, Option, None, Some, codes, decimal}
+-- The notes, each one line whatever a graph or a word holds.
+use Rattle.std.specs.Prelude.{ℕ, Bool, List, [], ◌∷◌, ◌++◌, ◌||◌, ◌==◌, nat_lt, if◌then◌else◌, Option, None, Some, codes, decimal}
+use Rattle.std.specs.List.{flat_map}
+use Rattle.mg_text.specs.Canonical.{escape}
 use Rattle.mg_text.specs.declared.fault.TextFault.{TextFault}
 use Rattle.mg_text.specs.declared.fault.TextFault.TheVariants.{Syntax, TooDeep, TooLong, OutOfMemory}
 use Rattle.mg_names.specs.declared.fault.NameFault.{NameFault}
@@ -14,11 +16,26 @@ use Rattle.mg_run.specs.Accepted.{Refused}
 use Rattle.mg_run.specs.declared.line_fault.LineFault.{LineFault}
 use Rattle.mg_run.specs.declared.line_fault.LineFault.TheVariants.{NotYet, Closed, NotAscending}
 
+-- Texts that a note repeats --
+
+abbrev pub is_control : ℕ → Bool
+is_control b = nat_lt b 32 || b == 127
+
+-- A control byte is written with its escape in the canonical text: `\n`, `\r`, `\t` or three octal digits. All else, a
+-- backslash too, is written as it is.
+abbrev pub shown_byte : ℕ → List ℕ
+shown_byte b = if is_control b then escape b else b ∷ []
+
+abbrev pub shown : List ℕ → List ℕ
+shown text = flat_map shown_byte text
+
+-- The words or a file --
+
 abbrev pub usage_note : List ℕ
 usage_note = codes "usage: mg run|solve|check|expand|generate [--workers N] [--max-queue-size N] [--no-queue-limit] [--number N] [--report] GRAPH [SUBGRAPH...]\n"
 
 abbrev pub store_note : List ℕ → List ℕ
-store_note file = codes "store: " ++ file ++ codes "\n"
+store_note file = codes "store: " ++ shown file ++ codes "\n"
 
 -- A file or an expansion is refused --
 
@@ -39,25 +56,25 @@ cause_name names.OutOfMemory = []
 
 -- its fields are no configuration, and which
 abbrev pub config_refusal : ConfigFault → List ℕ
-config_refusal (configs.UnknownField path) = codes "UnknownField " ++ path
-config_refusal (configs.WrongShape path) = codes "WrongShape " ++ path
-config_refusal (configs.Repeated path) = codes "Repeated " ++ path
-config_refusal (configs.BadPort path cause) = codes "BadPort " ++ path ++ codes " " ++ cause_name cause
+config_refusal (configs.UnknownField path) = codes "UnknownField " ++ shown path
+config_refusal (configs.WrongShape path) = codes "WrongShape " ++ shown path
+config_refusal (configs.Repeated path) = codes "Repeated " ++ shown path
+config_refusal (configs.BadPort path cause) = codes "BadPort " ++ shown path ++ codes " " ++ cause_name cause
 config_refusal configs.OutOfMemory = []
 
 -- `stage` is what refuses the file: `text` or `config`
 abbrev pub file_note : List ℕ → List ℕ → List ℕ → List ℕ
-file_note file stage refusal = codes "refused: " ++ file ++ codes " " ++ stage ++ codes " " ++ refusal ++ codes "\n"
+file_note file stage refusal = codes "refused: " ++ shown file ++ codes " " ++ stage ++ codes " " ++ refusal ++ codes "\n"
 
 -- An expansion is refused: what for, and its fields, each after a space. A port is written as in a graph file.
 abbrev pub expand_refusal : ExpandFault → List ℕ
-expand_refusal (TypeTwice name) = codes "TypeTwice " ++ name
-expand_refusal (Recursive name) = codes "Recursive " ++ name
+expand_refusal (TypeTwice name) = codes "TypeTwice " ++ shown name
+expand_refusal (Recursive name) = codes "Recursive " ++ shown name
 expand_refusal TooManyNodes = codes "TooManyNodes"
-expand_refusal (ReservedName name) = codes "ReservedName " ++ name
-expand_refusal (PortShared owner name) = codes "PortShared " ++ owner ++ codes " " ++ name
-expand_refusal (BadField owner node field) = codes "BadField " ++ owner ++ codes " " ++ decimal node ++ codes " " ++ field
-expand_refusal (NoSuchPort owner node port) = codes "NoSuchPort " ++ owner ++ codes " " ++ decimal node ++ codes " " ++ text_of port
+expand_refusal (ReservedName name) = codes "ReservedName " ++ shown name
+expand_refusal (PortShared owner name) = codes "PortShared " ++ shown owner ++ codes " " ++ shown name
+expand_refusal (BadField owner node field) = codes "BadField " ++ shown owner ++ codes " " ++ decimal node ++ codes " " ++ shown field
+expand_refusal (NoSuchPort owner node port) = codes "NoSuchPort " ++ shown owner ++ codes " " ++ decimal node ++ codes " " ++ shown (text_of port)
 expand_refusal expansions.OutOfMemory = []
 
 abbrev pub expand_note : ExpandFault → List ℕ

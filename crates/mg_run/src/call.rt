@@ -1,17 +1,25 @@
-ghost use Rattle.std.specs.Prelude.{◌≡◌, ◌≢◌, ◌↔◌, ◌⊎◌, ◌∷◌, [], None, Some, IfSome};
-ghost use Rattle.mg_run.specs.Command.{command, command_of};
-ghost use Rattle.mg_run.specs.Devices.{Device, device, devices, Untouched, HasRisen, NoneFailed};
-ghost use Rattle.mg_run.specs.Call.{WasUsage, Called, Did, IsAnswered, IsOneOf};
+ghost use Rattle.std.specs.Prelude.{◌≡◌, ◌≢◌, ◌↔◌, All, ◌⊎◌, ℕ, List, ◌∷◌, [], IfSome, map};
+ghost use Rattle.mg_check.specs.Check.{IsOuterShape};
+ghost use Rattle.mg_run.specs.Command.{command};
+ghost use Rattle.mg_run.specs.Boxes.{outers_told};
+ghost use Rattle.mg_run.specs.Task.{task};
+ghost use Rattle.mg_run.specs.Words.{asks_usage, asks_text, asked_of, command_by, command_of};
+ghost use Rattle.mg_run.specs.Devices.{Device, device, devices, Untouched, HasRisen, NoneFailed, TookText, TookPart};
+ghost use Rattle.mg_run.specs.Call.{WasUsage, WasTold, Came, Called, Did, IsAnswered, IsOneOf};
+ghost use Rattle.mg_run.specs.Code.Asked.{asked_view};
 ghost use Rattle.mg_run.specs.Code.Job.{job_view, MayRead};
 ghost use Rattle.mg_edge.specs.Edge.{StoreTold};
 
 use crate::Status;
 use crate::fault::Fault;
+use crate::help::{help_text, version_text};
 use crate::job::{Job, job_of};
 use crate::load::load_all;
+use crate::outers::outers_of;
 use crate::put::put_all;
 use crate::run::run_graph;
-use crate::words::{USAGE, Verb, command_of};
+use crate::words::{Asked, USAGE, Verb, asked_of};
+use mg_calc::{Calculator, OuterShape};
 use mg_edge::{Sink, Source, Store};
 use mg_value::MgText;
 use std::alloc::Global;
@@ -24,15 +32,21 @@ pub fn run_words<S: Source, K: Sink, E: Sink, T: Store>(
     input: &mut S,
     output: &mut K,
     notes: &mut E,
+    boxes: &mut Vec<Box<dyn Calculator + Send>>,
 ) -> Status
     // The words are judged first, and no device matters to it.
-    ensures usage { (result ≡ Status.Usage) ↔ (command_of words.now ≡ None) }
-    ensures usage_note { command_of words.now ≡ None → WasUsage (devices
+    ensures usage { result ≢ Status.OutOfMemory → (result ≡ Status.Usage) ↔ (asked_of words.now ≡ asks_usage) }
+    ensures usage_note { asked_of words.now ≡ asks_usage → WasUsage result (devices
+        (device (T.told store.old) (T.told store.new)) (device (S.told input.old) (S.told input.new))
+        (device (K.told output.old) (K.told output.new)) (device (E.told notes.old) (E.told notes.new))) }
+
+    // The help and the version are texts that are written.
+    ensures told { (text : List ℕ) → asked_of words.now ≡ asks_text text → WasTold text result (devices
         (device (T.told store.old) (T.told store.new)) (device (S.told input.old) (S.told input.new))
         (device (K.told output.old) (K.told output.new)) (device (E.told notes.old) (E.told notes.new))) }
 
     // What each other status means.
-    ensures called { IfSome (command_of words.now) (λ command. Called result command (devices
+    ensures called { IfSome (command_of words.now) (λ command. Called result (task command (outers_told (map (λ b. (Calculator-box b).told b.value) boxes.old.items))) (devices
         (device (T.told store.old) (T.told store.new)) (device (S.told input.old) (S.told input.new))
         (device (K.told output.old) (K.told output.new)) (device (E.told notes.old) (E.told notes.new)))) }
 
@@ -41,10 +55,10 @@ pub fn run_words<S: Source, K: Sink, E: Sink, T: Store>(
     ensures answered { IfSome (command_of words.now) (λ command. let all = devices
         (device (T.told store.old) (T.told store.new)) (device (S.told input.old) (S.told input.new))
         (device (K.told output.old) (K.told output.new)) (device (E.told notes.old) (E.told notes.new)) in
-        NoneFailed all → result ≢ Status.OutOfMemory → IsAnswered result command all) }
+        NoneFailed all → result ≢ Status.OutOfMemory → IsAnswered result (task command (outers_told (map (λ b. (Calculator-box b).told b.value) boxes.old.items))) all) }
 
-    // An `expand` leaves the input as it was.
-    ensures unread { IfSome (command_of words.now) (λ command. command.verb ≡ Verb.Expand
+    // A `check` and an `expand` leave the input as it was.
+    ensures unread { IfSome (command_of words.now) (λ command. command.verb ≢ Verb.Run
         → Untouched (device (S.told input.old) (S.told input.new))) }
 
     // No fault of a device hides behind another status.
@@ -54,13 +68,94 @@ pub fn run_words<S: Source, K: Sink, E: Sink, T: Store>(
         → IsOneOf result (Status.ReadFault ∷ Status.WriteFault ∷ Status.OutOfMemory ∷ []) }
     ensures write_rose { HasRisen (K.told output.old).faults (K.told output.new).faults ⊎ HasRisen (E.told notes.old).faults (E.told notes.new).faults
         → IsOneOf result (Status.Usage ∷ Status.StoreFault ∷ Status.GraphRefused ∷ Status.WriteFault ∷ Status.OutOfMemory ∷ []) }
+
+    // The boxes come back in their order, and none had a call: no command that is built so far runs one.
+    ensures boxes { map (λ b. (Calculator-box b).told b.value) boxes.new.items ≡ map (λ b. (Calculator-box b).told b.value) boxes.old.items }
 {
-    match command_of(words) {
-        Some((verb, files)) => serve(alloc, verb, files, store, input, output, notes),
-        None => {
+    do_words(alloc, words, boxes, store, input, output, notes)
+}
+
+// Judges the words, and does what they ask for.
+fn do_words<C: Calculator, S: Source, K: Sink, E: Sink, T: Store>(
+    alloc: Global,
+    words: &[MgText],
+    boxes: &Vec<C>,
+    store: &mut T,
+    input: &mut S,
+    output: &mut K,
+    notes: &mut E,
+) -> Status
+    ensures came { Came (outers_told (map C.told boxes.now.items)) (asked_of words.now) result (devices
+        (device (T.told store.old) (T.told store.new)) (device (S.told input.old) (S.told input.new))
+        (device (K.told output.old) (K.told output.new)) (device (E.told notes.old) (E.told notes.new))) }
+    ensures unread { IfSome (command_of words.now) (λ command. command.verb ≢ Verb.Run
+        → Untouched (device (S.told input.old) (S.told input.new))) }
+{
+    match asked_of(alloc, words) {
+        Ok(asked) => do_asked(alloc, asked, boxes, store, input, output, notes),
+        Err(_) => Status::OutOfMemory,
+    }
+}
+
+fn do_asked<C: Calculator, S: Source, K: Sink, E: Sink, T: Store>(
+    alloc: Global,
+    asked: Asked,
+    boxes: &Vec<C>,
+    store: &mut T,
+    input: &mut S,
+    output: &mut K,
+    notes: &mut E,
+) -> Status
+    ensures came { Came (outers_told (map C.told boxes.now.items)) (asked_view asked) result (devices
+        (device (T.told store.old) (T.told store.new)) (device (S.told input.old) (S.told input.new))
+        (device (K.told output.old) (K.told output.new)) (device (E.told notes.old) (E.told notes.new))) }
+    ensures unread { IfSome (command_by (asked_view asked)) (λ command. command.verb ≢ Verb.Run
+        → Untouched (device (S.told input.old) (S.told input.new))) }
+{
+    match asked {
+        Asked::Command(verb, files) => do_command(
+            alloc, verb, &files, boxes, store, input, output, notes,
+        ),
+        Asked::Help => told(output, help_text()),
+        Asked::Version => told(output, version_text()),
+        Asked::Usage => {
             let _ = put_all(notes, USAGE);
             Status::Usage
         }
+    }
+}
+
+// Writes a text of the program's own.
+fn told<K: Sink>(output: &mut K, text: &[u8]) -> Status
+    ensures { ((result ≡ Status.Good) × TookText (device (K.told output.old) (K.told output.new)) text.now)
+        ⊎ ((result ≡ Status.WriteFault) × TookPart (device (K.told output.old) (K.told output.new)) text.now) }
+{
+    if put_all(output, text) {
+        Status::Good
+    } else {
+        Status::WriteFault
+    }
+}
+
+// Does what a command says, with these calculators at hand.
+fn do_command<C: Calculator, S: Source, K: Sink, E: Sink, T: Store>(
+    alloc: Global,
+    verb: Verb,
+    files: &[MgText],
+    boxes: &Vec<C>,
+    store: &mut T,
+    input: &mut S,
+    output: &mut K,
+    notes: &mut E,
+) -> Status
+    ensures called { Called result (task (command verb files.now) (outers_told (map C.told boxes.now.items))) (devices
+        (device (T.told store.old) (T.told store.new)) (device (S.told input.old) (S.told input.new))
+        (device (K.told output.old) (K.told output.new)) (device (E.told notes.old) (E.told notes.new))) }
+    ensures unread { verb ≢ Verb.Run → Untouched (device (S.told input.old) (S.told input.new)) }
+{
+    match outers_of(alloc, boxes.as_slice()) {
+        Ok(outers) => serve(alloc, verb, files, &outers, store, input, output, notes),
+        Err(_) => Status::OutOfMemory,
     }
 }
 
@@ -69,18 +164,20 @@ fn serve<S: Source, K: Sink, E: Sink, T: Store>(
     alloc: Global,
     verb: Verb,
     files: &[MgText],
+    outers: &[OuterShape],
     store: &mut T,
     input: &mut S,
     output: &mut K,
     notes: &mut E,
 ) -> Status
-    ensures called { Called result (command verb files.now) (devices
+    requires outers { All IsOuterShape outers.now }
+    ensures called { Called result (task (command verb files.now) outers.now) (devices
         (device (T.told store.old) (T.told store.new)) (device (S.told input.old) (S.told input.new))
         (device (K.told output.old) (K.told output.new)) (device (E.told notes.old) (E.told notes.new))) }
-    ensures unread { verb ≡ Verb.Expand → Untouched (device (S.told input.old) (S.told input.new)) }
+    ensures unread { verb ≢ Verb.Run → Untouched (device (S.told input.old) (S.told input.new)) }
 {
     match load_all(alloc, store, files) {
-        Ok(contents) => match job_of(alloc, verb, files, contents) {
+        Ok(contents) => match job_of(alloc, verb, outers, files, contents) {
             Ok(job) => do_job(alloc, job, input, output, notes),
             Err(_) => Status::OutOfMemory,
         },

@@ -1,17 +1,24 @@
 //! What a command has to do with the contents of its files.
-ghost use Rattle.std.specs.Prelude.{◌≡◌, ℕ, List, IfOk, Some, length, map, All};
+ghost use Rattle.std.specs.Prelude.{◌≡◌, ◌≢◌, ◌≤◌, ℕ, List, IfOk, IfErr, Ok, Err, Some, length, map, All};
 ghost use Rattle.mg_config.specs.Config.{graph_view};
 ghost use Rattle.mg_config.specs.Sound.{IsSound, IsPrintable};
-ghost use Rattle.mg_run.specs.Command.{Command, command};
+ghost use Rattle.mg_calc.specs.declared.shape.OuterShape.{OuterShape};
+ghost use Rattle.mg_check.specs.Check.{check_of, IsOuterShape};
+ghost use Rattle.mg_subgraph.specs.Expansion.{expansion_of};
+ghost use Rattle.mg_run.specs.Command.{command};
+ghost use Rattle.mg_run.specs.Task.{Task, task};
 ghost use Rattle.mg_run.specs.Answer as answers;
 ghost use Rattle.mg_run.specs.Code.Job.{job_view};
 ghost use Rattle.mg_run.specs.Code.Reads.{contents_of, AreNotedOf};
 ghost use Rattle.mg_run.specs.Call.{IsJob};
 
+use crate::check_note::{check_note, check_text};
 use crate::fault::Fault;
 use crate::files::graphs_of;
 use crate::note::expand_note;
 use crate::words::Verb;
+use mg_calc::OuterShape;
+use mg_check::{CheckFault, check};
 use mg_config::{GraphConfig, write};
 use mg_subgraph::expand;
 use mg_text::print;
@@ -32,20 +39,23 @@ pub enum Job {
 /// The note for a graph that isn't run so far.
 const NOT_YET: &[u8] = b"refused: NotYet\n";
 
-/// Reads the contents of the files of these names, and finds what the verb has to do with them.
+/// Reads the contents of the files of these names, and finds what the verb has to do with them, where these calculators
+/// are handed in.
 pub fn job_of(
     alloc: Global,
     verb: Verb,
+    outers: &[OuterShape],
     names: &[MgText],
     contents: Vec<Vec<u8>>,
 ) -> Result<Job, AllocError>
     requires each { length contents.items ≡ length names.now }
-    ensures { IfOk result (λ job. IsJob (command verb names.now) (contents_of contents.items) (job_view job)) }
+    requires outers { All IsOuterShape outers.now }
+    ensures { IfOk result (λ job. IsJob (task (command verb names.now) outers.now) (contents_of contents.items) (job_view job)) }
 {
     match graphs_of(alloc, names, &contents) {
         Ok(graphs) => {
             drop(contents);
-            graphs_job(alloc, verb, &graphs)
+            graphs_job(alloc, verb, outers, &graphs)
         }
         Err(fault) => refused(fault),
     }
@@ -53,7 +63,7 @@ pub fn job_of(
 
 // A file is refused, with the note that is known.
 fn refused(fault: Fault) -> Result<Job, AllocError>
-    ensures { IfOk result (λ job. (command : Command) (contents : List (List ℕ)) → AreNotedOf fault command.files contents → IsJob command contents (job_view job)) }
+    ensures { IfOk result (λ job. (task : Task) (contents : List (List ℕ)) → AreNotedOf fault task.files contents → IsJob task contents (job_view job)) }
 {
     match fault {
         Fault::Noted(note) => Ok(Job::Refuse(note)),
@@ -62,29 +72,89 @@ fn refused(fault: Fault) -> Result<Job, AllocError>
 }
 
 // The first graph is the main one, and the others are its library.
-fn graphs_job(alloc: Global, verb: Verb, graphs: &[GraphConfig]) -> Result<Job, AllocError>
+fn graphs_job(
+    alloc: Global,
+    verb: Verb,
+    outers: &[OuterShape],
+    graphs: &[GraphConfig],
+) -> Result<Job, AllocError>
     requires sound { All (λ graph. IsSound (graph_view graph)) graphs.now }
     requires printable { All (λ graph. IsPrintable (graph_view graph)) graphs.now }
-    ensures { IfOk result (λ job. job_view job ≡ answers.graphs_job verb (map graph_view graphs.now)) }
+    requires outers { All IsOuterShape outers.now }
+    ensures { IfOk result (λ job. job_view job ≡ answers.graphs_job verb outers.now (map graph_view graphs.now)) }
 {
     let [main, library @ ..] = graphs else {
         return Ok(Job::Refuse(Vec::new(alloc)));
     };
+    main_job(alloc, verb, outers, main, library)
+}
+
+fn main_job(
+    alloc: Global,
+    verb: Verb,
+    outers: &[OuterShape],
+    main: &GraphConfig,
+    library: &[GraphConfig],
+) -> Result<Job, AllocError>
+    requires sound { IsSound (graph_view main.now) }
+    requires printable { IsPrintable (graph_view main.now) }
+    requires sound_files { All (λ graph. IsSound (graph_view graph)) library.now }
+    requires printable_files { All (λ graph. IsPrintable (graph_view graph)) library.now }
+    requires outers { All IsOuterShape outers.now }
+    ensures { IfOk result (λ job. job_view job ≡ answers.expanded_job verb outers.now (expansion_of (graph_view main.now) (map graph_view library.now))) }
+{
     match expand(alloc, main, library) {
-        Ok(graph) => graph_job(alloc, verb, graph),
+        Ok(graph) => graph_job(alloc, verb, outers, graph),
         Err(fault) => Ok(Job::Refuse(expand_note(alloc, &fault)?)),
     }
 }
 
-fn graph_job(alloc: Global, verb: Verb, graph: GraphConfig) -> Result<Job, AllocError>
+fn graph_job(
+    alloc: Global,
+    verb: Verb,
+    outers: &[OuterShape],
+    graph: GraphConfig,
+) -> Result<Job, AllocError>
     requires sound { IsSound (graph_view graph) }
     requires printable { IsPrintable (graph_view graph) }
-    ensures { IfOk result (λ job. job_view job ≡ answers.graph_job verb (graph_view graph)) }
+    requires few { length graph.nodes ≤ 4096 }
+    requires outers { All IsOuterShape outers.now }
+    ensures { IfOk result (λ job. job_view job ≡ answers.graph_job verb outers.now (graph_view graph)) }
 {
-    let text = graph_text(alloc, graph)?;
     match verb {
-        Verb::Run => run_job(alloc, &text),
-        Verb::Expand => Ok(Job::Show(text)),
+        Verb::Run => checked_job(alloc, outers, graph),
+        Verb::Check => check_job(alloc, outers, &graph),
+        Verb::Expand => Ok(Job::Show(graph_text(alloc, graph)?)),
+    }
+}
+
+// A graph that has a plan is told, and any other is refused.
+fn check_job(alloc: Global, outers: &[OuterShape], graph: &GraphConfig) -> Result<Job, AllocError>
+    requires few { length graph.now.nodes ≤ 4096 }
+    requires outers { All IsOuterShape outers.now }
+    ensures { IfOk result (λ job. job_view job ≡ answers.check_job (check_of outers.now (graph_view graph.now))) }
+{
+    match check(alloc, graph, outers) {
+        Ok(plan) => Ok(Job::Show(check_text(alloc, &plan)?)),
+        Err(fault) => Ok(Job::Refuse(check_note(alloc, &fault)?)),
+    }
+}
+
+// A graph that is run is checked before.
+fn checked_job(alloc: Global, outers: &[OuterShape], graph: GraphConfig) -> Result<Job, AllocError>
+    requires sound { IsSound (graph_view graph) }
+    requires printable { IsPrintable (graph_view graph) }
+    requires few { length graph.nodes ≤ 4096 }
+    requires outers { All IsOuterShape outers.now }
+    ensures { IfOk result (λ job. job_view job ≡ answers.checked_job (check_of outers.now (graph_view graph)) (answers.graph_text (graph_view graph))) }
+{
+    match check(alloc, &graph, outers) {
+        Ok(plan) => {
+            drop(plan);
+            let text = graph_text(alloc, graph)?;
+            run_job(alloc, &text)
+        }
+        Err(fault) => Ok(Job::Refuse(check_note(alloc, &fault)?)),
     }
 }
 

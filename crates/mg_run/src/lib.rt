@@ -3,9 +3,12 @@
 #![tactic(auto)]
 
 mod call;
+mod check_note;
+mod command_line;
 mod fault;
 mod feed;
 mod files;
+mod help;
 mod job;
 pub mod laws;
 mod limits;
@@ -13,11 +16,15 @@ mod line_fault;
 mod load;
 mod merge;
 mod note;
+mod options;
+mod outers;
 mod pour;
 mod put;
 mod reading;
 mod run;
+mod shown;
 mod status;
+mod tally;
 mod words;
 mod write_line;
 
@@ -25,4 +32,5 @@ pub use call::run_words;
 pub use line_fault::LineFault;
 pub use reading::Said;
 pub use status::Status;
+pub use tally::tally_box;
 pub use words::Verb;

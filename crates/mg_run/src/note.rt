@@ -2,6 +2,7 @@ ghost use Rattle.std.specs.Prelude.{◌≡◌, ◌≢◌, ◌++◌, OnOk, IfOk, 
 ghost use Rattle.mg_run.specs.Notes as notes;
 
 use crate::LineFault;
+use crate::shown::put_shown;
 use itoa::Buffer;
 use mg_config::ConfigFault;
 use mg_names::{NameFault, print_port};
@@ -15,7 +16,7 @@ pub fn store_note(alloc: Global, file: &str) -> Result<Vec<u8>, AllocError>
     ensures { IfOk result (λ v. v.items ≡ notes.store_note file.now) }
 {
     let mut note = Vec::from_slice(alloc, b"store: ")?;
-    note.extend_from_slice(file.as_bytes())?;
+    put_shown(&mut note, file.as_bytes())?;
     note.extend_from_slice(b"\n")?;
     Ok(note)
 }
@@ -42,7 +43,7 @@ fn file_note(alloc: Global, file: &str, stage: &[u8], refusal: &[u8]) -> Result<
     ensures { IfOk result (λ v. v.items ≡ notes.file_note file.now stage.now refusal.now) }
 {
     let mut note = Vec::from_slice(alloc, b"refused: ")?;
-    note.extend_from_slice(file.as_bytes())?;
+    put_shown(&mut note, file.as_bytes())?;
     note.extend_from_slice(b" ")?;
     note.extend_from_slice(stage)?;
     note.extend_from_slice(b" ")?;
@@ -64,7 +65,7 @@ fn text_refusal(alloc: Global, fault: &TextFault) -> Result<Vec<u8>, AllocError>
 }
 
 // A refusal and its place.
-fn at_place(alloc: Global, refusal: &[u8], place: u32) -> Result<Vec<u8>, AllocError>
+pub(crate) fn at_place(alloc: Global, refusal: &[u8], place: u32) -> Result<Vec<u8>, AllocError>
     ensures { IfOk result (λ v. v.items ≡ refusal.now ++ decimal place) }
 {
     let mut digits = Buffer::new();
@@ -78,27 +79,27 @@ fn config_refusal(alloc: Global, fault: &ConfigFault) -> Result<Vec<u8>, AllocEr
     ensures text { IfOk result (λ v. v.items ≡ notes.config_refusal fault.now) }
 {
     match fault {
-        ConfigFault::UnknownField { path } => of_path(alloc, b"UnknownField ", path),
-        ConfigFault::WrongShape { path } => of_path(alloc, b"WrongShape ", path),
-        ConfigFault::Repeated { path } => of_path(alloc, b"Repeated ", path),
+        ConfigFault::UnknownField { path } => of_text(alloc, b"UnknownField ", path),
+        ConfigFault::WrongShape { path } => of_text(alloc, b"WrongShape ", path),
+        ConfigFault::Repeated { path } => of_text(alloc, b"Repeated ", path),
         ConfigFault::BadPort { path, cause } => port_refusal(alloc, path, *cause),
         ConfigFault::OutOfMemory => Err(AllocError),
     }
 }
 
-// A refusal and its path.
-fn of_path(alloc: Global, refusal: &[u8], path: &MgText) -> Result<Vec<u8>, AllocError>
-    ensures { IfOk result (λ v. v.items ≡ refusal.now ++ path.now) }
+// A refusal and what it is of.
+pub(crate) fn of_text(alloc: Global, refusal: &[u8], part: &MgText) -> Result<Vec<u8>, AllocError>
+    ensures { IfOk result (λ v. v.items ≡ refusal.now ++ notes.shown part.now) }
 {
     let mut text = Vec::from_slice(alloc, refusal)?;
-    text.extend_from_slice(path.as_bytes())?;
+    put_shown(&mut text, part.as_bytes())?;
     Ok(text)
 }
 
 fn port_refusal(alloc: Global, path: &MgText, cause: NameFault) -> Result<Vec<u8>, AllocError>
     ensures { IfOk result (λ v. v.items ≡ notes.config_refusal (ConfigFault.BadPort path.now cause)) }
 {
-    let mut text = of_path(alloc, b"BadPort ", path)?;
+    let mut text = of_text(alloc, b"BadPort ", path)?;
     text.extend_from_slice(b" ")?;
     text.extend_from_slice(cause_name(cause).as_bytes())?;
     Ok(text)
@@ -134,10 +135,10 @@ fn expand_refusal(alloc: Global, fault: &ExpandFault) -> Result<Vec<u8>, AllocEr
     ensures text { IfOk result (λ v. v.items ≡ notes.expand_refusal fault.now) }
 {
     match fault {
-        ExpandFault::TypeTwice { name } => of_path(alloc, b"TypeTwice ", name),
-        ExpandFault::Recursive { name } => of_path(alloc, b"Recursive ", name),
+        ExpandFault::TypeTwice { name } => of_text(alloc, b"TypeTwice ", name),
+        ExpandFault::Recursive { name } => of_text(alloc, b"Recursive ", name),
         ExpandFault::TooManyNodes => Vec::from_slice(alloc, b"TooManyNodes"),
-        ExpandFault::ReservedName { name } => of_path(alloc, b"ReservedName ", name),
+        ExpandFault::ReservedName { name } => of_text(alloc, b"ReservedName ", name),
         ExpandFault::PortShared { owner, name } => shared_refusal(alloc, owner, name),
         ExpandFault::BadField { owner, node, field } => {
             node_refusal(alloc, b"BadField ", owner, *node, field)
@@ -153,9 +154,9 @@ fn expand_refusal(alloc: Global, fault: &ExpandFault) -> Result<Vec<u8>, AllocEr
 fn shared_refusal(alloc: Global, owner: &MgText, name: &MgText) -> Result<Vec<u8>, AllocError>
     ensures { IfOk result (λ v. v.items ≡ notes.expand_refusal (ExpandFault.PortShared owner.now name.now)) }
 {
-    let mut text = of_path(alloc, b"PortShared ", owner)?;
+    let mut text = of_text(alloc, b"PortShared ", owner)?;
     text.extend_from_slice(b" ")?;
-    text.extend_from_slice(name.as_bytes())?;
+    put_shown(&mut text, name.as_bytes())?;
     Ok(text)
 }
 
@@ -167,13 +168,13 @@ fn node_refusal(
     node: u32,
     part: &MgText,
 ) -> Result<Vec<u8>, AllocError>
-    ensures { IfOk result (λ v. v.items ≡ refusal.now ++ owner.now ++ codes " " ++ decimal node ++ codes " " ++ part.now) }
+    ensures { IfOk result (λ v. v.items ≡ refusal.now ++ notes.shown owner.now ++ codes " " ++ decimal node ++ codes " " ++ notes.shown part.now) }
 {
-    let mut text = of_path(alloc, refusal, owner)?;
+    let mut text = of_text(alloc, refusal, owner)?;
     let number = at_place(alloc, b" ", node)?;
     text.extend_from_slice(&number)?;
     text.extend_from_slice(b" ")?;
-    text.extend_from_slice(part.as_bytes())?;
+    put_shown(&mut text, part.as_bytes())?;
     Ok(text)
 }
 

@@ -1,8 +1,17 @@
-ghost use Rattle.std.specs.Prelude.{◌≡◌, option_map};
+//! What the words of a command line ask for.
+ghost use Rattle.std.specs.Prelude.{◌≡◌, ◌≢◌, ◌++◌, ℕ, List, IfOk, OnOk, option_map, length, map};
+ghost use Rattle.clap.specs.Words.{found_of, rows_of};
 ghost use Rattle.mg_run.specs.Command as commands;
+ghost use Rattle.mg_run.specs.Words as asking;
+ghost use Rattle.mg_run.specs.Code.Asked.{asked_view};
 
+use crate::command_line::command;
 use crate::limits::MOST_FILES;
+use crate::options::Options;
+use clap::ArgMatches;
+use clap::error::ErrorKind;
 use mg_value::MgText;
+use std::alloc::{AllocError, Global};
 
 /// The note for words that are no command.
 pub const USAGE: &[u8] =
@@ -13,35 +22,147 @@ pub const USAGE: &[u8] =
 pub enum Verb {
     /// It is run over the input.
     Run,
+    /// It is checked.
+    Check,
     /// The text of its configuration is written.
     Expand,
 }
 
-/// What is done, and the names of the files, that of the main graph first. The words are `run` or `expand`, the main
-/// graph and at most 64 further files; no others are a command so far.
-pub fn command_of(words: &[MgText]) -> Option<(Verb, &[MgText])>
-    ensures { option_map (λ c. commands.command c.0 c.1.now) result ≡ commands.command_of words.now }
+/// What words ask for.
+#[derive(Debug, Drop)]
+pub enum Asked {
+    /// They are no command.
+    Usage,
+    /// The text on the program.
+    Help,
+    /// The program's version.
+    Version,
+    /// This is done with the graph of these files, that of the main graph first.
+    Command(Verb, Vec<MgText>),
+}
+
+/// What the words ask for, by the command line of `clap`.
+pub fn asked_of(alloc: Global, words: &[MgText]) -> Result<Asked, AllocError>
+    ensures { IfOk result (λ asked. asked_view asked ≡ asking.asked_of words.now) }
 {
-    let [word, files @ ..] = words else {
-        return None;
-    };
-    if files.is_empty() || files.len() > MOST_FILES {
-        return None;
+    let mut texts = Vec::new(alloc);
+    for word in words {
+        texts.push(word.as_str())?;
     }
-    match verb_of(word) {
-        Some(verb) => Some((verb, files)),
-        None => None,
+    asked_by(alloc, texts.as_slice())
+}
+
+fn asked_by<'a>(alloc: Global, words: &'a [&'a str]) -> Result<Asked, AllocError>
+    ensures { IfOk result (λ asked. asked_view asked ≡ asking.asked_of (map (λ word. word.now) words.now)) }
+{
+    let command = command(alloc)?;
+    match command.try_get_matches_from(words) {
+        Ok(matches) => asked_from(alloc, &matches),
+        Err(error) => asked_at(error.kind()),
     }
 }
 
-fn verb_of(word: &MgText) -> Option<Verb>
-    ensures { result ≡ commands.verb_of word.now }
+// What words ask for that `clap` doesn't take, by its reason.
+fn asked_at(kind: ErrorKind) -> Result<Asked, AllocError>
+    ensures some { OnOk result (kind ≢ ErrorKind.OutOfMemory) }
+    ensures asked { IfOk result (λ asked. asked_view asked ≡ asking.asked_at kind) }
 {
-    if word.is(b"run") {
-        Some(Verb::Run)
-    } else if word.is(b"expand") {
-        Some(Verb::Expand)
+    match kind {
+        ErrorKind::OutOfMemory => Err(AllocError),
+        ErrorKind::DisplayHelp => Ok(Asked::Help),
+        ErrorKind::DisplayVersion => Ok(Asked::Version),
+        _ => Ok(Asked::Usage),
+    }
+}
+
+// What words ask for that `clap` takes.
+fn asked_from(alloc: Global, matches: &ArgMatches<'_>) -> Result<Asked, AllocError>
+    ensures { IfOk result (λ asked. asked_view asked ≡ asking.asked_by (asking.command_in (asking.line_of (rows_of (found_of matches.now))))) }
+{
+    let files = files_of(alloc, matches)?;
+    let verb = verb_in(word_of(matches), files.len(), Options::of(matches));
+    Ok(asked_with(verb, files))
+}
+
+fn asked_with(verb: Option<Verb>, files: Vec<MgText>) -> Asked
+    ensures { asked_view result ≡ asking.asked_by (option_map (λ v. commands.command v files.items) verb) }
+{
+    match verb {
+        Some(verb) => Asked::Command(verb, files),
+        None => Asked::Usage,
+    }
+}
+
+// What is done, where the words are a command that is built so far.
+fn verb_in(word: &str, files: usize, options: Options) -> Option<Verb>
+    ensures { (all : List (List ℕ)) → length all ≡ files → option_map (λ v. commands.command v all) result ≡ asking.command_in (record { word = word.now; files = all; options = options }) }
+{
+    if keeps_rules(word, files, options) && options.are_none() {
+        verb_of(word)
     } else {
         None
     }
+}
+
+// What `clap` doesn't judge: how many files there are, and that `generate` has a number.
+fn keeps_rules(word: &str, files: usize, options: Options) -> bool
+    ensures { (all : List (List ℕ)) → length all ≡ files → result ≡ asking.keeps_rules (record { word = word.now; files = all; options = options }) }
+{
+    files <= MOST_FILES && (options.number.is_some() || word != "generate")
+}
+
+// What is built so far of COMMAND's words.
+fn verb_of(word: &str) -> Option<Verb>
+    ensures { result ≡ commands.verb_of word.now }
+{
+    match word {
+        "run" => Some(Verb::Run),
+        "check" => Some(Verb::Check),
+        "expand" => Some(Verb::Expand),
+        _ => None,
+    }
+}
+
+// COMMAND.
+fn word_of<'a>(matches: &ArgMatches<'a>) -> &'a str
+    ensures { result.now ≡ (asking.line_of (rows_of (found_of matches.now))).word }
+{
+    match matches.get_str("COMMAND") {
+        Some(word) => word,
+        None => "",
+    }
+}
+
+// The files, that of the main graph first.
+fn files_of(alloc: Global, matches: &ArgMatches<'_>) -> Result<Vec<MgText>, AllocError>
+    ensures { IfOk result (λ files. files.items ≡ (asking.line_of (rows_of (found_of matches.now))).files) }
+{
+    let mut files = Vec::new(alloc);
+    put_words(alloc, matches, "GRAPH", &mut files)?;
+    put_words(alloc, matches, "SUBGRAPH", &mut files)?;
+    Ok(files)
+}
+
+// Puts the words at the places of a name at the end of a list.
+fn put_words(
+    alloc: Global,
+    matches: &ArgMatches<'_>,
+    name: &str,
+    list: &mut Vec<MgText>,
+) -> Result<(), AllocError>
+    ensures { OnOk result (list.new.items ≡ list.old.items ++ asking.words_at name.now (rows_of (found_of matches.now))) }
+{
+    match matches.get_strs(name) {
+        Some(words) => put_texts(alloc, words, list),
+        None => Ok(()),
+    }
+}
+
+fn put_texts(alloc: Global, texts: &[&str], list: &mut Vec<MgText>) -> Result<(), AllocError>
+    ensures { OnOk result (list.new.items ≡ list.old.items ++ map (λ text. text.now) texts.now) }
+{
+    for text in texts {
+        list.push(MgText::new(alloc, text)?)?;
+    }
+    Ok(())
 }

@@ -7,6 +7,7 @@ use Rattle.mg_config.specs.Sound.{IsSound, IsPrintable}
 use Rattle.mg_config.specs.declared.graph.GraphConfig.{GraphConfig}
 use Rattle.mg_run.specs.Files.{graphs, AreGraphs}
 use Rattle.mg_run.specs.Command.{command}
+use Rattle.mg_run.specs.Task.{task}
 use Rattle.mg_run.specs.Answer as answers
 use Rattle.mg_run.specs.Code.Reads.{contents_of, AreNotedOf}
 use Rattle.mg_run.proofs.Together.{all-graphs}
@@ -28,10 +29,10 @@ returns-in-Ok c =
     let gs = map graph_view c.in-Ok.graphs.items in
     let are = subst (λ (contents : List (Vec ℕ)). AreGraphs (contents_of contents) gs) c.deref.ensures.value c.in-Ok.ensures.graphs in
     IfOk-weaker c.graphs_job.result _ _
-    (λ job same. (graphs gs, are, same ∙ ap (λ (configs : List GraphConfig). answers.graphs_job c.args.verb (map graph_view configs)) c.deref-in-Ok.ensures.value)) c.graphs_job.ensures
+    (λ job same. (graphs gs, are, same ∙ ap (λ (configs : List GraphConfig). answers.graphs_job c.args.verb c.args.outers.now (map graph_view configs)) c.deref-in-Ok.ensures.value)) c.graphs_job.ensures
 
 pub returns-in-Err : goal.returns-in-Err
 returns-in-Err c =
     IfOk-weaker c.refused.result _ _
-    (λ job due. due (command c.args.verb c.args.names.now) (contents_of c.args.contents.items)
+    (λ job due. due (task (command c.args.verb c.args.names.now) c.args.outers.now) (contents_of c.args.contents.items)
     (subst (λ (contents : List (Vec ℕ)). AreNotedOf c.in-Err.fault c.args.names.now (contents_of contents)) c.deref.ensures.value c.in-Err.ensures.refused)) c.refused.ensures

@@ -5,5 +5,5 @@ use Rattle.mg_run.specs.declared.fault.Fault.{Fault}
 use Rattle.mg_run.proofs.job.refused.Goals as goal
 
 pub returns-in-Noted : goal.returns-in-Noted
-returns-in-Noted c = λ command contents refused.
-    (no_graphs c.in-Noted.note.items, subst (λ (fault : Fault). AreNotedOf fault command.files contents) c.in-Noted.is refused, refl)
+returns-in-Noted c = λ task contents refused.
+    (no_graphs c.in-Noted.note.items, subst (λ (fault : Fault). AreNotedOf fault task.files contents) c.in-Noted.is refused, refl)

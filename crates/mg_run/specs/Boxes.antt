@@ -1,0 +1,30 @@
+-- The calculators that are handed in.
+use Rattle.std.specs.Prelude.{List, map, Bool, [], Option, None, Some, codes, pos, false, if◌then◌else◌}
+use Rattle.mg_value.specs.declared.kind.Kind.TheVariants.{Any, Int}
+use Rattle.mg_calc.specs.declared.law.Law.TheVariants.{Tally}
+use Rattle.mg_calc.specs.declared.shape.Shape.{Shape}
+use Rattle.mg_calc.specs.declared.shape.OuterShape.{OuterShape}
+use Rattle.mg_calc.specs.Shape.{untagged}
+use Rattle.mg_calc.specs.Told.{CalculatorTold}
+
+-- a TallyCalculator: one input of any kind, and one output, on which it counts the sets that it is shown
+abbrev pub tally_shape : Shape
+tally_shape = record {
+  name = codes "TallyCalculator";
+  inputs = untagged 1 Any;
+  outputs = untagged 1 Int;
+  sides = [];
+  offset = Some (pos 0);
+  stateless = false;
+}
+
+-- one that had no call; where it is telling it keeps a log
+abbrev pub new_tally : Bool → CalculatorTold
+new_tally telling = record { law = Tally; shape = tally_shape; state = []; log = if telling then Some [] else None }
+
+-- what is known of boxes before they are called: their shapes and laws
+abbrev pub outer_told : CalculatorTold → OuterShape
+outer_told told = record { shape = told.shape; law = told.law }
+
+abbrev pub outers_told : List CalculatorTold → List OuterShape
+outers_told boxes = map outer_told boxes

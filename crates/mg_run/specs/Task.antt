@@ -1,0 +1,13 @@
+-- What is to be done: a command, with the calculators that are handed in.
+use Rattle.std.specs.Prelude.{ℕ, List}
+use Rattle.mg_calc.specs.declared.shape.OuterShape.{OuterShape}
+use Rattle.mg_run.specs.Command.{Command}
+use Rattle.mg_run.specs.declared.words.Verb.{Verb}
+
+pub record Task : Type 0 where
+  pub verb : Verb
+  pub files : List (List ℕ)
+  pub outers : List OuterShape
+
+abbrev pub task : Command → List OuterShape → Task
+task command outers = record { verb = command.verb; files = command.files; outers = outers }

@@ -1,0 +1,28 @@
+//! What is known of the calculators that are handed in, before one is called.
+ghost use Rattle.std.specs.Prelude.{◌≡◌, All, IfOk, map};
+ghost use Rattle.mg_check.specs.Check.{IsOuterShape};
+ghost use Rattle.mg_run.specs.Boxes.{outer_told, outers_told};
+
+use mg_calc::{Calculator, OuterShape, TryClone};
+use std::alloc::{AllocError, Global};
+
+/// The shape and the law of each, in their order.
+pub fn outers_of<C: Calculator>(alloc: Global, boxes: &[C]) -> Result<Vec<OuterShape>, AllocError>
+    ensures outers { IfOk result (λ outers. outers.items ≡ outers_told (map C.told boxes.now)) }
+    ensures shaped { IfOk result (λ outers. All IsOuterShape outers.items) }
+{
+    let mut outers = Vec::new(alloc);
+    for calculator in boxes {
+        outers.push(outer_of(alloc, calculator)?)?;
+    }
+    Ok(outers)
+}
+
+fn outer_of<C: Calculator>(alloc: Global, calculator: &C) -> Result<OuterShape, AllocError>
+    ensures outer { IfOk result (λ outer. outer ≡ outer_told (C.told calculator.now)) }
+    ensures shaped { IfOk result IsOuterShape }
+{
+    let shape = calculator.shape().try_clone(alloc)?;
+    let law = calculator.law().try_clone(alloc)?;
+    Ok(OuterShape { shape, law })
+}
