@@ -9,9 +9,9 @@ use std::alloc::Global;
 use std::sync::Arc;
 use std::test::Fail;
 
-// A plan with nothing but inputs: streams, each with its kind, and the side packets `size` and `name`; `fixed` stands in the
-// graph.
-fn plan_of(alloc: Global, inputs: &[(&str, Kind)]) -> Result<Plan, Fail> {
+/// A plan with nothing but inputs: streams, each with its kind, and the side packets `size` and `name`; `fixed` stands in the
+/// graph.
+pub fn plan_of(alloc: Global, inputs: &[(&str, Kind)]) -> Result<Plan, Fail> {
     let streams = streams_of(alloc, inputs)?;
     let numbers = numbers_of(alloc, streams.len())?;
     let sides = sides_of(alloc)?;
@@ -91,8 +91,8 @@ impl Calls for Feeding {
     }
 }
 
-// The packets of each stream, as lines of the stream `s`, and its bound; and which side packets came.
-fn show_inputs(alloc: Global, inputs: &Inputs) -> Result<String, Fail> {
+/// The packets of each stream, as lines of the stream `s`, and its bound; and which side packets came.
+pub fn show_inputs(alloc: Global, inputs: &Inputs) -> Result<String, Fail> {
     let mut shown = String::new(alloc);
     for stream in inputs.streams.as_slice() {
         shown.push_str(show_prefix(alloc, stream)?.as_str())?;

@@ -5,6 +5,8 @@
 #[cfg(test)]
 mod calc;
 #[cfg(test)]
+mod check;
+#[cfg(test)]
 mod config;
 #[cfg(test)]
 mod config_written;
@@ -15,17 +17,25 @@ mod emissions;
 #[cfg(test)]
 mod feed;
 #[cfg(test)]
+mod feed_reading;
+#[cfg(test)]
 mod holder;
 #[cfg(test)]
 mod loopback;
 #[cfg(test)]
 mod names;
 #[cfg(test)]
+mod outers;
+#[cfg(test)]
 mod packets;
 #[cfg(test)]
 mod payload;
 #[cfg(test)]
+mod plans;
+#[cfg(test)]
 mod policy;
+#[cfg(test)]
+mod queues;
 #[cfg(test)]
 mod ready;
 #[cfg(test)]
@@ -44,6 +54,8 @@ mod subgraph;
 mod table;
 #[cfg(test)]
 mod text;
+#[cfg(test)]
+mod throttle;
 #[cfg(test)]
 mod time;
 #[cfg(test)]

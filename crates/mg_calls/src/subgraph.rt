@@ -1,9 +1,9 @@
 //! Expansions: graphs that use files, and why they are refused.
 
+use crate::plans::graph_of;
 use crate::table::{Calls, assert_rows};
-use mg_config::{GraphConfig, read};
+use mg_config::GraphConfig;
 use mg_subgraph::{ExpandFault, expand};
-use mg_text::parse;
 use std::alloc::{AllocError, Global};
 use std::test::Fail;
 
@@ -82,11 +82,6 @@ node { calculator: "F" input_stream: "A:a" } | type: "F" output_stream: "A:x" in
 node { calculator: "F" output_side_packet: "A:k" output_stream: "B:b" input_side_packet: "l" } | type: "F" input_stream: "B:x"=NoSuchPort main 0 B 0 b
 node { calculator: "F" output_side_packet: "A:k" input_side_packet: "l" } | type: "F" output_side_packet: "A:x"=NoSuchPort main 0  0 l
 node { calculator: "F" } | type: "G" node { calculator: "H" input_stream: "q" } | type: "F" node { calculator: "G" } node { calculator: "H" input_stream: "p" } | type: "H"=NoSuchPort G 0  0 q"#
-}
-
-fn graph_of(alloc: Global, text: &str) -> Result<GraphConfig, Fail> {
-    let tree = parse(alloc, text.as_bytes())?;
-    Ok(read(alloc, &tree)?)
 }
 
 // The graphs of a row: the one that is expanded, and then the files.
