@@ -1,93 +1,28 @@
-//! A loop for `bench/inbox` to time: so many input sets go through an inbox of so many ports, each with a packet at each
-//! port, while other packets wait at the first port. It prints how many sets were claimed.
+//! Two loops for the scripts of bench/ to time. With the word `lines` the packet lines of standard input are read and
+//! written again (`bench/lines`); with three numbers input sets go through an inbox (`bench/inbox`).
 #![tactic(auto)]
 
-ghost use Rattle.std.specs.Prelude.{◌≡◌, ◌<◌, length, OnOk};
+mod inbox;
+mod lines;
 
-use mg_policy::Inbox;
-use mg_time::Timestamp;
-use mg_value::{InputSet, Packet, Payload, Policy};
-use std::alloc::{AllocError, Global};
 use std::env;
 use std::process::ExitCode;
-use std::sync::Arc;
-
-/// What is to be measured.
-#[derive(Clone, Copy)]
-struct Load {
-    ports: u32,
-    sets: u32,
-    waiting: u32,
-}
 
 fn main(rt: HostRuntime) -> ExitCode {
-    let Some(load) = load_of(&rt) else {
-        return ExitCode::from(2);
-    };
-    match claimed(rt.alloc(), load) {
-        Ok(count) => match println!(rt; "{count}") {
-            Ok(()) => ExitCode::SUCCESS,
-            Err(_) => ExitCode::from(8),
-        },
-        Err(AllocError) => ExitCode::from(9),
+    if wants_lines(&rt) {
+        lines::run(&rt)
+    } else {
+        inbox::run(&rt)
     }
 }
 
-// The three numbers after the program's name.
-fn load_of(rt: &HostRuntime) -> Option<Load> {
-    let mut numbers = env::args(rt).ok()?.skip(1);
-    let ports = numbers.next()?.parse().ok()?;
-    let sets = numbers.next()?.parse().ok()?;
-    let waiting = numbers.next()?.parse().ok()?;
-    Some(Load {
-        ports,
-        sets,
-        waiting,
-    })
-}
-
-// How many sets were claimed.
-fn claimed(alloc: Global, load: Load) -> Result<u32, AllocError> {
-    let mut inbox = Inbox::new(alloc, load.ports, Policy::Default)?;
-    let mut set = InputSet::new(alloc, load.ports)?;
-    let payload = Arc::new(alloc, Payload::Int(7))?;
-    let first = fill(&mut inbox, load, &payload)?;
-    let mut count: u32 = 0;
-    for turn in 0..load.sets {
-        for port in first..load.ports {
-            put(&mut inbox, port, i64::from(turn), &payload)?;
-        }
-        if inbox.claim(&mut set) {
-            count = count.saturating_add(1);
-        }
-    }
-    Ok(count)
-}
-
-// Lets packets wait at the first port, later than all sets, if there are to be any. The first port that takes part in the
-// sets comes back.
-fn fill(inbox: &mut Inbox, load: Load, payload: &Arc<Payload>) -> Result<u32, AllocError>
-    requires { length inbox.old.pool.ports ≡ load.ports }
-    ensures { length inbox.new.pool.ports ≡ length inbox.old.pool.ports }
-{
-    if load.waiting == 0 || load.ports == 0 {
-        return Ok(0);
-    }
-    for turn in 0..load.waiting {
-        put(inbox, 0, i64::from(u32::MAX) + i64::from(turn), payload)?;
-    }
-    Ok(1)
-}
-
-// Puts a packet at a port of the inbox.
-fn put(inbox: &mut Inbox, port: u32, at: i64, payload: &Arc<Payload>) -> Result<(), AllocError>
-    requires { port < length inbox.old.pool.ports }
-    ensures { length inbox.new.pool.ports ≡ length inbox.old.pool.ports }
-{
-    let at = Timestamp::of_range(at).unwrap_or(Timestamp::MIN);
-    let payload = Arc::try_clone(payload)?;
-    match inbox.append(port, Packet { at, payload }) {
-        Ok(()) => Ok(()),
-        Err(_) => Err(AllocError),
+// Whether the first word after the program's name is `lines`.
+fn wants_lines(rt: &HostRuntime) -> bool {
+    match env::args(rt) {
+        Ok(words) => words
+            .skip(1)
+            .next()
+            .is_some_and(|word| word.as_str() == "lines"),
+        Err(_) => false,
     }
 }

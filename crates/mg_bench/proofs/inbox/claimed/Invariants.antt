@@ -1,5 +1,5 @@
 use Rattle.std.proofs.Common.{◌≡◌, length}
-use Rattle.mg_bench.proofs.claimed.Given as goal
+use Rattle.mg_bench.proofs.inbox.claimed.Given as goal
 
 abbrev pub invariant-loop-port : goal.invariant-loop-port
 invariant-loop-port l = length l.inbox.pool.ports ≡ l.load.ports
