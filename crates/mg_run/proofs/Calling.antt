@@ -9,9 +9,17 @@ use Rattle.mg_run.proofs.Flowing.{rose-after}
 use Rattle.mg_run.specs.Task.{Task}
 use Rattle.mg_run.specs.Files.{Files, AreFiles}
 use Rattle.mg_run.specs.Loads.{AreLoaded, LoadedAll, loads_of}
-use Rattle.mg_run.specs.Answer.{Job, refuse, show, merge, job_of, answer_of, answer, run_answer}
-use Rattle.mg_run.specs.Devices.{Device, device, Devices, devices, Untouched, Unrisen, NoneFailed, TookFront, TookText, TookPart, Noted}
-use Rattle.mg_run.specs.Call.{Meets, WasShown, Ran, Did, IsJob, CallDid, CallShort, Called, IsAnswered}
+use Rattle.mg_calc.specs.declared.plan.Plan.{Plan}
+use Rattle.mg_answer.specs.Answer as runs
+use Rattle.mg_answer.specs.Devices as running_devices
+use Rattle.mg_answer.specs.Ran as running
+use Rattle.mg_answer.specs.declared.run_status.RunStatus.{RunStatus}
+use Rattle.mg_answer.specs.declared.run_status.RunStatus.TheVariants as ended
+use Rattle.mg_answer.proofs.Answering.{ran-answered}
+use Rattle.mg_run.specs.Answer.{Answer, Job, refuse, show, merge, solve, job_of, answer_from, run_answer}
+use Rattle.mg_run.specs.Status.{status_from}
+use Rattle.mg_run.specs.Devices.{Device, device, Devices, devices, run_of, Untouched, Unrisen, NoneFailed, TookFront, TookText, TookPart, Noted}
+use Rattle.mg_run.specs.Call.{Meets, WasShown, Ran, Did, IsJob, CallDid, Short, CallShort, Called, MetAnswer, IsAnswered}
 use Rattle.mg_run.specs.Code.Flow.{Flows}
 use Rattle.mg_run.specs.declared.status.Status.{Status}
 use Rattle.mg_run.specs.declared.status.Status.TheVariants.{Good, StoreFault, Usage, GraphRefused, LineRefused, NodeFault, Stalled, ReadFault, WriteFault, OutOfMemory}
@@ -34,18 +42,23 @@ if-any (Some x) P all = all x
 front-none : (output : SinkTold) (text : List ℕ) → TookFront (device output output) text
 front-none output text = front-nothing (Some []) output (λ read. text)
 
+-- nothing was written of a job
+short-none : (job : Job) (store : Device StoreTold) (input : Device SourceTold) (output : SinkTold) (notes : Device SinkTold) → Short job (devices store input (device output output) notes)
+short-none (refuse note) store input output notes = front-none output []
+short-none (show text) store input output notes = front-none output text
+short-none (merge names) store input output notes = front-nothing input.before.left output (λ read. (run_answer names read).output)
+short-none (solve plan) store input output notes = inl refl
+
 pub short-nothing : (task : Task) (store : Device StoreTold) (input : Device SourceTold) (output : SinkTold) (notes : Device SinkTold)
     → CallShort task (devices store input (device output output) notes)
 short-nothing task store input output notes =
-    if-any (loads_of store.before.content task.files) _ (λ contents. if-any input.before.left _ (λ read files are. front-none output (answer task files read).output))
+    if-any (loads_of store.before.content task.files) _ (λ contents files are. short-none (job_of task files) store input output notes)
 
--- a run of the graph found no memory
-short-run : (task : Task) (names : List (List ℕ)) (input : Option (List ℕ)) (output : Device SinkTold) (contents : List (List ℕ)) → IsJob task contents (merge names)
-    → IfSome input (λ read. TookFront output (run_answer names read).output)
-    → IfSome input (λ read. (files : Files) → AreFiles task.files contents files → TookFront output (answer task files read).output)
-short-run task names None output contents due took = tt
-short-run task names (Some read) output contents (files, are, same) took =
-    λ other other_are. subst (λ (job : Job). TookFront output (answer_of job read).output) (same ∙ ap (job_of task) (one-reading task.files contents files other are other_are)) took
+-- what files of these contents are doesn't matter: there is one job
+short-files : (task : Task) (contents : List (List ℕ)) (job : Job) (all : Devices) → IsJob task contents job → Short job all
+    → (files : Files) → AreFiles task.files contents files → Short (job_of task files) all
+short-files task contents job all (files, are, same) took =
+    λ other other_are. subst (λ (j : Job). Short j all) (same ∙ ap (job_of task) (one-reading task.files contents files other are other_are)) took
 
 -- The statuses of what was done.
 not-shown : (text : List ℕ) (status : Status) (all : Devices) → status ≢ Good → status ≢ WriteFault → WasShown text status all → ⊥
@@ -55,27 +68,62 @@ not-shown text status all not_good not_failed shown = by shown.written
     by (inl good) = not_good good.0
     by (inr failed) = not_failed failed.0
 
+-- no run ends so
+no-store : (run : RunStatus) → StoreFault ≢ status_from run
+no-store ended.Good e = cc
+no-store ended.LineRefused e = cc
+no-store ended.NodeFault e = cc
+no-store ended.Stalled e = cc
+no-store ended.ReadFault e = cc
+no-store ended.WriteFault e = cc
+no-store ended.OutOfMemory e = cc
+
+no-usage : (run : RunStatus) → Usage ≢ status_from run
+no-usage ended.Good e = cc
+no-usage ended.LineRefused e = cc
+no-usage ended.NodeFault e = cc
+no-usage ended.Stalled e = cc
+no-usage ended.ReadFault e = cc
+no-usage ended.WriteFault e = cc
+no-usage ended.OutOfMemory e = cc
+
+-- a run for whose want of memory the call has its status
+no-memory : (run : RunStatus) → OutOfMemory ≡ status_from run → run ≡ ended.OutOfMemory
+no-memory ended.Good e = cc
+no-memory ended.LineRefused e = cc
+no-memory ended.NodeFault e = cc
+no-memory ended.Stalled e = cc
+no-memory ended.ReadFault e = cc
+no-memory ended.WriteFault e = cc
+no-memory ended.OutOfMemory e = refl
+
 did-store : (job : Job) (all : Devices) → Did job StoreFault all → ⊥
 did-store (refuse note) all did = let e = did.ended in cc
 did-store (show text) all did = not-shown text StoreFault all (λ e. cc) (λ e. cc) did
 did-store (merge names) all did = did
+did-store (solve plan) all did = no-store did.run did.told
 
 did-usage : (job : Job) (all : Devices) → Did job Usage all → ⊥
 did-usage (refuse note) all did = let e = did.ended in cc
 did-usage (show text) all did = not-shown text Usage all (λ e. cc) (λ e. cc) did
 did-usage (merge names) all did = did
+did-usage (solve plan) all did = no-usage did.run did.told
 
-did-short : (job : Job) (task : Task) (contents : List (List ℕ)) (all : Devices) → AreLoaded all.store.before.content task.files contents → IsJob task contents job
-    → Did job OutOfMemory all → CallShort task all
-did-short (refuse note) task contents all given due did = let e = did.ended in absurd (differ e)
+did-short : (job : Job) (all : Devices) → Did job OutOfMemory all → Short job all
+did-short (refuse note) all did = let e = did.ended in absurd (differ e)
   where
     differ : OutOfMemory ≡ GraphRefused → ⊥
     differ e = cc
-did-short (show text) task contents all given due did = absurd (not-shown text OutOfMemory all (λ e. cc) (λ e. cc) did)
-did-short (merge names) task contents all given due did =
+did-short (show text) all did = absurd (not-shown text OutOfMemory all (λ e. cc) (λ e. cc) did)
+did-short (merge names) all did = did
+did-short (solve plan) all did = subst (λ (run : RunStatus). running.Ran plan run (run_of all)) (no-memory did.run did.told) did.ran
+
+call-short : (job : Job) (task : Task) (contents : List (List ℕ)) (all : Devices) → AreLoaded all.store.before.content task.files contents → IsJob task contents job
+    → Did job OutOfMemory all → CallShort task all
+call-short job task contents all given due did =
     of-loads all.store.before.content task.files contents
-    (λ known. IfSome all.input.before.left (λ read. (files : Files) → AreFiles task.files known files → TookFront all.output (answer task files read).output))
-    given (short-run task names all.input.before.left all.output contents due did)
+    (λ known. (files : Files) → AreFiles task.files known files → Short (job_of task files) all)
+    given (short-files task contents job all due (did-short job all did))
 
 pub called-did : (job : Job) (status : Status) (task : Task) (contents : List (List ℕ)) (all : Devices)
     → LoadedAll task.files contents all.store → IsJob task contents job → Did job status all → Called status task all
@@ -88,7 +136,7 @@ called-did job NodeFault task contents all loaded due did = record { contents = 
 called-did job Stalled task contents all loaded due did = record { contents = contents; loaded = loaded; job = job; due = due; did = did }
 called-did job ReadFault task contents all loaded due did = record { contents = contents; loaded = loaded; job = job; due = due; did = did }
 called-did job WriteFault task contents all loaded due did = record { contents = contents; loaded = loaded; job = job; due = due; did = did }
-called-did job OutOfMemory task contents all loaded due did = did-short job task contents all loaded.given due did
+called-did job OutOfMemory task contents all loaded due did = call-short job task contents all loaded.given due did
 
 -- What follows --
 
@@ -103,10 +151,16 @@ took-noted : (notes : Device SinkTold) (note : List ℕ) → Unrisen notes.befor
 took-noted notes note same (inl whole) = whole
 took-noted notes note same (inr part) = absurd (unrisen-rose notes.before.faults notes.now.faults same part.rose)
 
-shown-answer : (text : List ℕ) (status : Status) (all : Devices) → WasShown text status all → NoneFailed all → (read : List ℕ) → Meets (answer_of (show text) read) status all
-shown-answer text status all shown none read = by shown.written
+abbrev refuse_answer : List ℕ → Answer
+refuse_answer note = record { output = []; notes = note; status = GraphRefused }
+
+abbrev show_answer : List ℕ → Answer
+show_answer text = record { output = text; notes = []; status = Good }
+
+shown-answer : (text : List ℕ) (status : Status) (all : Devices) → WasShown text status all → NoneFailed all → Meets (show_answer text) status all
+shown-answer text status all shown none = by shown.written
   where
-    by : ((status ≡ Good) × TookText all.output text) ⊎ ((status ≡ WriteFault) × TookPart all.output text) → Meets (answer_of (show text) read) status all
+    by : ((status ≡ Good) × TookText all.output text) ⊎ ((status ≡ WriteFault) × TookPart all.output text) → Meets (show_answer text) status all
     by (inl good) = record { text = good.1; noted = took-nothing all.notes shown.unnoted; ended = good.0 }
     by (inr failed) = absurd (unrisen-rose all.output.before.faults all.output.now.faults none.output failed.1.rose)
 
@@ -127,26 +181,47 @@ ran-answer names WriteFault all ran none some = absurd (neither ran.rose)
     neither (inr rose) = unrisen-rose all.notes.before.faults all.notes.now.faults none.notes rose
 ran-answer names OutOfMemory all ran none some = absurd (some refl)
 
+run-meets : (names : List (List ℕ)) (status : Status) (input : Option (List ℕ)) (all : Devices) → IfSome input (λ read. Meets (run_answer names read) status all)
+    → IfSome input (λ read. MetAnswer (merge names) read status all)
+run-meets names status None all meets = tt
+run-meets names status (Some read) all meets = (run_answer names read, refl, meets)
+
+graph-meets : (plan : Plan) (status : Status) (run : RunStatus) (input : Option (List ℕ)) (all : Devices) → status ≡ status_from run
+    → IfSome input (λ read. (answer : runs.Answer) × runs.AnswersEnded plan read answer × running.Meets answer run (run_of all))
+    → IfSome input (λ read. MetAnswer (solve plan) read status all)
+graph-meets plan status run None all told meets = tt
+graph-meets plan status run (Some read) all told (answer, is, met) =
+    (answer_from answer, (answer, is, refl), record { text = met.text; noted = met.noted; ended = told ∙ ap status_from met.told })
+
+some-run : (status : Status) (run : RunStatus) → status ≡ status_from run → status ≢ OutOfMemory → run ≢ ended.OutOfMemory
+some-run status run told some = λ is. some (told ∙ ap status_from is)
+
+none-run : (all : Devices) → NoneFailed all → running_devices.NoneFailed (run_of all)
+none-run all none = record { input = none.input; output = none.output; notes = none.notes }
+
 did-answer : (job : Job) (status : Status) (all : Devices) → Did job status all → NoneFailed all → status ≢ OutOfMemory
-    → IfSome all.input.before.left (λ read. Meets (answer_of job read) status all)
+    → IfSome all.input.before.left (λ read. MetAnswer job read status all)
 did-answer (refuse note) status all did none some =
-    if-any all.input.before.left (λ r. Meets (answer_of (refuse note) r) status all)
-    (λ r. record { text = took-nothing all.output did.unwritten; noted = took-noted all.notes note none.notes did.noted; ended = did.ended })
+    if-any all.input.before.left (λ r. MetAnswer (refuse note) r status all)
+    (λ r. (refuse_answer note, refl, record { text = took-nothing all.output did.unwritten; noted = took-noted all.notes note none.notes did.noted; ended = did.ended }))
 did-answer (show text) status all did none some =
-    if-any all.input.before.left (λ r. Meets (answer_of (show text) r) status all) (shown-answer text status all did none)
-did-answer (merge names) status all did none some = ran-answer names status all did none some
+    if-any all.input.before.left (λ r. MetAnswer (show text) r status all) (λ r. (show_answer text, refl, shown-answer text status all did none))
+did-answer (merge names) status all did none some = run-meets names status all.input.before.left all (ran-answer names status all did none some)
+did-answer (solve plan) status all did none some =
+    graph-meets plan status did.run all.input.before.left all did.told
+    (ran-answered plan did.run (run_of all) did.ran (none-run all none) (some-run status did.run did.told some))
 
 -- The answer of the job is that of the files' bytes and the input's.
 job-answered : (task : Task) (contents : List (List ℕ)) (status : Status) (job : Job) (input : Option (List ℕ)) (all : Devices) → IsJob task contents job
-    → IfSome input (λ read. Meets (answer_of job read) status all)
-    → IfSome input (λ read. (files : Files) × AreFiles task.files contents files × Meets (answer task files read) status all)
+    → IfSome input (λ read. MetAnswer job read status all)
+    → IfSome input (λ read. (files : Files) × AreFiles task.files contents files × MetAnswer (job_of task files) read status all)
 job-answered task contents status job None all due meets = tt
-job-answered task contents status job (Some read) all (files, are, same) meets = (files, are, subst (λ (j : Job). Meets (answer_of j read) status all) same meets)
+job-answered task contents status job (Some read) all (files, are, same) meets = (files, are, subst (λ (j : Job). MetAnswer j read status all) same meets)
 
 call-answered : (status : Status) (task : Task) (all : Devices) → CallDid status task all → NoneFailed all → status ≢ OutOfMemory → IsAnswered status task all
 call-answered status task all called none some =
     of-loads all.store.before.content task.files called.contents
-    (λ known. IfSome all.input.before.left (λ read. (files : Files) × AreFiles task.files known files × Meets (answer task files read) status all))
+    (λ known. IfSome all.input.before.left (λ read. (files : Files) × AreFiles task.files known files × MetAnswer (job_of task files) read status all))
     called.loaded.given
     (job-answered task called.contents status called.job all.input.before.left all called.due (did-answer called.job status all called.did none some))
 

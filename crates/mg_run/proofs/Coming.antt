@@ -1,16 +1,17 @@
 -- What a call came to, by what its words ask for.
-use Rattle.std.proofs.Common.{◌≡◌, ◌≢◌, ◌↔◌, ◌⊎◌, inl, inr, refl, ap, subst, ℕ, List, [], ◌∷◌, IfSome}
+use Rattle.std.proofs.Common.{◌≡◌, ◌≢◌, ◌↔◌, ◌⊎◌, inl, inr, refl, ap, subst, ℕ, true, false, List, [], ◌∷◌, IfSome}
 use Rattle.mg_edge.specs.Edge.{SourceTold, SinkTold, StoreTold}
 use Rattle.mg_calc.specs.declared.shape.OuterShape.{OuterShape}
 use Rattle.mg_run.specs.Task.{task}
 use Rattle.mg_run.specs.Words.{Asked, asks_usage, asks_text, asks_command, command_by}
-use Rattle.mg_run.specs.Devices.{device, Devices, devices, Untouched, HasRisen, NoneFailed, TookText, TookPart, Noted}
+use Rattle.mg_run.specs.Devices.{device, Devices, devices, Untouched, HasEnded, HasRisen, NoneFailed, TookText, TookPart, Noted}
 use Rattle.mg_run.specs.Notes.{usage_note}
 use Rattle.mg_run.specs.Call.{WasUsage, WasTold, Came, Called, IsAnswered, IsOneOf}
-use Rattle.mg_run.specs.declared.words.Verb.TheVariants.{Run}
+use Rattle.mg_run.specs.Command.{reads_input}
 use Rattle.mg_run.specs.declared.status.Status.{Status}
 use Rattle.mg_run.specs.declared.status.Status.TheVariants.{Good, StoreFault, Usage, GraphRefused, ReadFault, WriteFault, OutOfMemory}
 use Rattle.mg_run.proofs.Calling.{short-nothing, answered-from}
+use Rattle.mg_run.proofs.Ending.{ended_statuses, called-ended}
 use Rattle.mg_run.proofs.Risen.{store-risen, read-risen, write-risen, risen-steady}
 
 -- There was no memory to judge the words.
@@ -68,10 +69,18 @@ came-answered outers asks_usage status all came = tt
 came-answered outers (asks_text text) status all came = tt
 came-answered outers (asks_command command) status all came = answered-from status (task command outers) all came
 
-pub unread-nothing : (asked : Asked) (input : SourceTold) → IfSome (command_by asked) (λ command. command.verb ≢ Run → Untouched (device input input))
+pub unread-nothing : (asked : Asked) (input : SourceTold) → IfSome (command_by asked) (λ command. reads_input command.verb ≡ false → Untouched (device input input))
 unread-nothing asks_usage input = tt
 unread-nothing (asks_text text) input = tt
 unread-nothing (asks_command command) input = λ is. refl
+
+-- The input's end --
+
+pub came-ended : (outers : List OuterShape) (asked : Asked) (status : Status) (all : Devices) → Came outers asked status all
+    → IfSome (command_by asked) (λ command. reads_input command.verb ≡ true → IsOneOf status ended_statuses → HasEnded all.input)
+came-ended outers asks_usage status all came = tt
+came-ended outers (asks_text text) status all came = tt
+came-ended outers (asks_command command) status all came = called-ended status (task command outers) all came
 
 -- Faults --
 

@@ -1,7 +1,7 @@
 -- An expanded graph has no more nodes than there may be.
-use Rattle.std.proofs.Common.{◌≡◌, ◌≤◌, ◌+◌, ℕ, List, Bool, true, false, Option, None, Some, Ok, length, map, refl, sym, ap, ◌∙◌, subst, arith, if◌then◌else◌, nat_lt, ⊎_elim}
+use Rattle.std.proofs.Common.{◌≡◌, ◌≤◌, List, Bool, true, false, Option, None, Some, Ok, length, refl, ap, ◌∙◌, arith, if◌then◌else◌, nat_lt}
 use Rattle.std.proofs.lemmas.Bool.{ltb-false}
-use Rattle.mg_config.specs.Config.{GraphView, NodeView, graph_view, node_view}
+use Rattle.mg_config.specs.Config.{GraphView, graph_view, node_view}
 use Rattle.mg_config.specs.declared.graph.GraphConfig.{GraphConfig}
 use Rattle.mg_subgraph.specs.Expansion.{expansion_of}
 use Rattle.mg_subgraph.specs.Expanded.{expanded}

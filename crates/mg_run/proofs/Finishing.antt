@@ -7,7 +7,8 @@ use Rattle.mg_edge.proofs.Runs.{TookAll-start}
 use Rattle.mg_run.specs.Lines.{whole_lines, all_lines}
 use Rattle.mg_run.specs.Accepted.{Refused, accepted, first_refused, streams_of, ended_by}
 use Rattle.mg_run.specs.Output.{output_of}
-use Rattle.mg_run.specs.Notes.{line_note, read_note}
+use Rattle.mg_answer.specs.Notes.{read_note}
+use Rattle.mg_run.specs.Notes.{line_note}
 use Rattle.mg_run.specs.Answer.{line_status, run_answer, failed_answer}
 use Rattle.mg_run.specs.Devices.{Device, device, Devices, ReadFailed, HasEnded, IsFront, TookFront, TookText, TookPart}
 use Rattle.mg_run.specs.Call.{Meets, RanAll, TookRead, TookSome, RanShort, Ran}

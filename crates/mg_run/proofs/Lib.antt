@@ -17,6 +17,8 @@ pub mod Fewer
 pub mod Told
 pub mod Finishing
 pub mod Calling
+pub mod Ending
+pub mod OneAnswer
 pub mod Risen
 pub mod Laid
 pub mod Singles

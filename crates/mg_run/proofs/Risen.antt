@@ -1,9 +1,14 @@
 -- Which statuses a call may have whose devices failed.
-use Rattle.std.proofs.Common.{◌≡◌, ℕ, List, [], ◌∷◌, ◌⊎◌, inl, inr, refl, ap, arith}
+use Rattle.std.proofs.Common.{◌≡◌, ℕ, List, [], ◌∷◌, ◌⊎◌, inl, inr, refl, ap, ◌∙◌, arith}
 use Rattle.mg_edge.specs.Edge.{SourceTold, SinkTold}
 use Rattle.mg_run.specs.Task.{Task}
-use Rattle.mg_run.specs.Answer.{Job, refuse, show, merge}
-use Rattle.mg_run.specs.Devices.{Device, Devices, Untouched, HasRisen, TookText, TookPart}
+use Rattle.mg_answer.specs.Ran as running
+use Rattle.mg_answer.specs.declared.run_status.RunStatus.{RunStatus}
+use Rattle.mg_answer.specs.declared.run_status.RunStatus.TheVariants as ended
+use Rattle.mg_answer.proofs.Answering.{read-risen as run-read-risen, write-risen as run-write-risen}
+use Rattle.mg_run.specs.Answer.{Job, refuse, show, merge, solve}
+use Rattle.mg_run.specs.Status.{status_from}
+use Rattle.mg_run.specs.Devices.{Device, Devices, run_of, Untouched, HasRisen, TookText, TookPart}
 use Rattle.mg_run.specs.Call.{WasShown, Ran, Did, Called, IsOneOf}
 use Rattle.mg_run.specs.declared.status.Status.{Status}
 use Rattle.mg_run.specs.declared.status.Status.TheVariants.{Good, StoreFault, Usage, GraphRefused, LineRefused, NodeFault, Stalled, ReadFault, WriteFault, OutOfMemory}
@@ -46,10 +51,18 @@ read-ran names ReadFault all ran risen = inl refl
 read-ran names WriteFault all ran risen = inr (inl refl)
 read-ran names OutOfMemory all ran risen = inr (inr (inl refl))
 
+-- the status of a run as that of the call
+read-status : (status : Status) (run : RunStatus) → status ≡ status_from run → running.IsOneOf run (ended.ReadFault ∷ ended.WriteFault ∷ ended.OutOfMemory ∷ []) → IsOneOf status read_statuses
+read-status status run told (inl is) = inl (told ∙ ap status_from is)
+read-status status run told (inr (inl is)) = inr (inl (told ∙ ap status_from is))
+read-status status run told (inr (inr (inl is))) = inr (inr (inl (told ∙ ap status_from is)))
+read-status status run told (inr (inr (inr is))) = absurd is
+
 read-did : (job : Job) (status : Status) (all : Devices) → Did job status all → HasRisen all.input.before.faults all.input.now.faults → IsOneOf status read_statuses
 read-did (refuse note) status all did risen = absurd (risen-unread all.input risen did.unread)
 read-did (show text) status all did risen = absurd (risen-unread all.input risen did.unread)
 read-did (merge names) status all did risen = read-ran names status all did risen
+read-did (solve plan) status all did risen = read-status status did.run did.told (run-read-risen plan did.run (run_of all) did.ran risen)
 
 pub read-risen : (status : Status) (task : Task) (all : Devices) → Called status task all → HasRisen all.input.before.faults all.input.now.faults → IsOneOf status read_statuses
 read-risen Good task all called risen = read-did called.job Good all called.did risen
@@ -94,10 +107,16 @@ write-shown text status all shown risen = by shown.written risen
     by (inl good) (inl risen) = absurd (risen-steady _ _ risen good.1.steady)
     by (inl good) (inr risen) = absurd (risen-unwritten all.notes risen shown.unnoted)
 
+write-status : (status : Status) (run : RunStatus) → status ≡ status_from run → running.IsOneOf run (ended.WriteFault ∷ ended.OutOfMemory ∷ []) → IsOneOf status write_statuses
+write-status status run told (inl is) = inr (inr (inl (told ∙ ap status_from is)))
+write-status status run told (inr (inl is)) = inr (inr (inr (inl (told ∙ ap status_from is))))
+write-status status run told (inr (inr is)) = absurd is
+
 write-did : (job : Job) (status : Status) (all : Devices) → Did job status all → EitherRisen all → IsOneOf status write_statuses
 write-did (refuse note) status all did risen = inr (inl did.ended)
 write-did (show text) status all did risen = write-shown text status all did risen
 write-did (merge names) status all did risen = write-ran names status all did risen
+write-did (solve plan) status all did risen = write-status status did.run did.told (run-write-risen plan did.run (run_of all) did.ran risen)
 
 pub write-risen : (status : Status) (task : Task) (all : Devices) → Called status task all → EitherRisen all → IsOneOf status write_statuses
 write-risen Good task all called risen = write-did called.job Good all called.did risen

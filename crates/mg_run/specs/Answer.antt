@@ -1,6 +1,6 @@
--- What the program answers: the output text, the notes and the status, as a function of the command, of what its files
--- are, and of the input's bytes.
-use Rattle.std.specs.Prelude.{ℕ, List, [], ◌∷◌, Option, None, Some, Result, Ok, Err, length, codes, if◌then◌else◌}
+-- What the program answers: the output text, the notes and the status, by the command, by what its files are, and by the
+-- input's bytes. There is one answer (`src/laws.rt`).
+use Rattle.std.specs.Prelude.{◌≡◌, ℕ, List, [], ◌∷◌, Option, None, Some, Result, Ok, Err, length, codes, if◌then◌else◌}
 use Rattle.std.specs.Str.{bytes_eq}
 use Rattle.mg_text.specs.Canonical.{canonical}
 use Rattle.mg_config.specs.Config.{GraphView}
@@ -14,12 +14,15 @@ use Rattle.mg_subgraph.specs.Expansion.{expansion_of}
 use Rattle.mg_subgraph.specs.declared.fault.ExpandFault.{ExpandFault}
 use Rattle.mg_run.specs.Files.{Files, graphs, no_graphs}
 use Rattle.mg_run.specs.CheckNotes.{check_note, check_text}
-use Rattle.mg_run.specs.Notes.{expand_note, unbuilt_note, line_note, read_note}
+use Rattle.mg_answer.specs.Answer as runs
+use Rattle.mg_answer.specs.Notes.{read_note}
+use Rattle.mg_run.specs.Notes.{expand_note, unbuilt_note, line_note}
 use Rattle.mg_run.specs.Lines.{whole_lines, all_lines}
 use Rattle.mg_run.specs.Accepted.{Refused, accepted, first_refused, streams_of, ended_streams}
 use Rattle.mg_run.specs.Output.{output_of}
 use Rattle.mg_run.specs.declared.words.Verb.{Verb}
-use Rattle.mg_run.specs.declared.words.Verb.TheVariants.{Run, Check, Expand}
+use Rattle.mg_run.specs.declared.words.Verb.TheVariants.{Run, Solve, Check, Expand}
+use Rattle.mg_run.specs.Status.{status_from}
 use Rattle.mg_run.specs.declared.status.Status.{Status}
 use Rattle.mg_run.specs.declared.status.Status.TheVariants.{Good, GraphRefused, LineRefused, ReadFault}
 
@@ -46,17 +49,19 @@ inputs_of text =
 
 -- What is to be done --
 
--- A file or the expansion is refused, with a note; or a text is the output; or the graph is run whose inputs have these names.
+-- A file, the expansion or the graph is refused, with a note; or a text is the output; or the graph is run whose inputs have
+-- these names; or the graph of this plan is solved.
 pub data Job : Type 0 where
   refuse : List ℕ → Job
   show : List ℕ → Job
   merge : List (List ℕ) → Job
+  solve : Plan → Job
 
 abbrev pub run_job : Option (List (List ℕ)) → Job
 run_job None = refuse unbuilt_note
 run_job (Some names) = merge names
 
--- A graph that is checked has a text that is written, or it is refused; one that is run is checked before.
+-- A graph that is checked has a text that is written, or it is refused; one that is run or solved is checked before.
 abbrev pub check_job : Result Plan CheckFault → Job
 check_job (Ok plan) = show (check_text plan)
 check_job (Err fault) = refuse (check_note fault)
@@ -65,8 +70,13 @@ abbrev pub checked_job : Result Plan CheckFault → List ℕ → Job
 checked_job (Ok plan) text = run_job (inputs_of text)
 checked_job (Err fault) text = refuse (check_note fault)
 
+abbrev pub solve_job : Result Plan CheckFault → Job
+solve_job (Ok plan) = solve plan
+solve_job (Err fault) = refuse (check_note fault)
+
 abbrev pub graph_job : Verb → List OuterShape → GraphView → Job
 graph_job Run outers g = checked_job (check_of outers g) (graph_text g)
+graph_job Solve outers g = solve_job (check_of outers g)
 graph_job Check outers g = check_job (check_of outers g)
 graph_job Expand outers g = show (graph_text g)
 
@@ -113,11 +123,13 @@ failed_answer names came = record {
   status = ReadFault;
 }
 
--- what the program answers where an input of these bytes ends well
-abbrev pub answer_of : Job → List ℕ → Answer
-answer_of (refuse note) input = record { output = []; notes = note; status = GraphRefused }
-answer_of (show text) input = record { output = text; notes = []; status = Good }
-answer_of (merge names) input = run_answer names input
+-- what a run of a graph answers, as an answer of the program
+abbrev pub answer_from : runs.Answer → Answer
+answer_from given = record { output = given.output; notes = given.notes; status = status_from given.status }
 
-abbrev pub answer : Task → Files → List ℕ → Answer
-answer task files input = answer_of (job_of task files) input
+-- An answer is that of a job where an input of these bytes ends well.
+abbrev pub IsAnswerOf : Job → List ℕ → Answer → Type 0
+IsAnswerOf (refuse note) input given = given ≡ record { output = []; notes = note; status = GraphRefused }
+IsAnswerOf (show text) input given = given ≡ record { output = text; notes = []; status = Good }
+IsAnswerOf (merge names) input given = given ≡ run_answer names input
+IsAnswerOf (solve plan) input given = (of_run : runs.Answer) × runs.AnswersEnded plan input of_run × (given ≡ answer_from of_run)

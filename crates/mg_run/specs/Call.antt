@@ -2,6 +2,7 @@
 use Rattle.std.specs.Prelude.{◌≡◌, ℕ, ◌⊎◌, List, [], ◌∷◌, IfSome}
 use Rattle.mg_edge.specs.Edge.{Rose}
 use Rattle.mg_edge.specs.Runs.{Gave, TookAll}
+use Rattle.mg_calc.specs.declared.plan.Plan.{Plan}
 use Rattle.mg_calc.specs.declared.shape.OuterShape.{OuterShape}
 use Rattle.mg_run.specs.Task.{Task, task}
 use Rattle.mg_run.specs.Words.{Asked, asks_usage, asks_text, asks_command}
@@ -10,8 +11,11 @@ use Rattle.mg_run.specs.Loads.{LoadedAll, FailedAt, loads_of}
 use Rattle.mg_run.specs.Lines.{whole_lines}
 use Rattle.mg_run.specs.Accepted.{accepted}
 use Rattle.mg_run.specs.Notes.{usage_note, store_note}
-use Rattle.mg_run.specs.Answer.{Answer, Job, refuse, show, merge, job_of, answer, run_answer, failed_answer}
-use Rattle.mg_run.specs.Devices.{Devices, Untouched, ReadFailed, HasEnded, TookFront, TookText, TookPart, Noted}
+use Rattle.mg_answer.specs.Ran as runs
+use Rattle.mg_answer.specs.declared.run_status.RunStatus.{RunStatus}
+use Rattle.mg_run.specs.Answer.{Answer, Job, refuse, show, merge, solve, job_of, IsAnswerOf, run_answer, failed_answer}
+use Rattle.mg_run.specs.Devices.{Devices, run_of, Untouched, ReadFailed, HasEnded, TookFront, TookText, TookPart, Noted}
+use Rattle.mg_run.specs.Status.{status_from}
 use Rattle.mg_run.specs.declared.status.Status.{Status}
 use Rattle.mg_run.specs.declared.status.Status.TheVariants.{Good, StoreFault, Usage, GraphRefused, LineRefused, NodeFault, Stalled, ReadFault, WriteFault, OutOfMemory}
 
@@ -109,12 +113,20 @@ Ran names ReadFault devices = RanPart names devices
 Ran names WriteFault devices = RanShort names devices
 Ran names OutOfMemory devices = TookSome names devices
 
+-- The graph of this plan was run, and the call has the run's status. What each status of a run means, over an input that ended
+-- and over one of which a read failed, is said in mg_answer.
+pub record RanGraph (plan : Plan) (status : Status) (devices : Devices) : Type 0 where
+  pub run : RunStatus
+  pub told : status ≡ status_from run
+  pub ran : runs.Ran plan run (run_of devices)
+
 -- A call --
 
 abbrev pub Did : Job → Status → Devices → Type 0
 Did (refuse note) status devices = WasRefused note status devices
 Did (show text) status devices = WasShown text status devices
 Did (merge names) status devices = Ran names status devices
+Did (solve plan) status devices = RanGraph plan status devices
 
 -- what a command has to do with the contents of its files
 abbrev pub IsJob : Task → List (List ℕ) → Job → Type 0
@@ -128,11 +140,18 @@ pub record CallDid (status : Status) (task : Task) (devices : Devices) : Type 0 
   pub due : IsJob task contents job
   pub did : Did job status devices
 
--- Memory ran out: the output took a front of what a call with enough of it gives.
+-- Memory ran out: the output took a front of what is written where there is enough of it.
+abbrev pub Short : Job → Devices → Type 0
+Short (refuse note) devices = TookFront devices.output []
+Short (show text) devices = TookFront devices.output text
+Short (merge names) devices = TookSome names devices
+Short (solve plan) devices = runs.RanOut plan (run_of devices)
+
+-- Memory ran out in a call whose store tells the files' bytes.
 abbrev pub CallShort : Task → Devices → Type 0
 CallShort task devices =
-    IfSome (loads_of devices.store.before.content task.files) (λ contents. IfSome devices.input.before.left (λ read.
-    (files : Files) → AreFiles task.files contents files → TookFront devices.output (answer task files read).output))
+    IfSome (loads_of devices.store.before.content task.files) (λ contents.
+    (files : Files) → AreFiles task.files contents files → Short (job_of task files) devices)
 
 -- A call with a command ended with this status.
 abbrev pub Called : Status → Task → Devices → Type 0
@@ -147,11 +166,15 @@ Came outers asks_usage status devices = WasUsage status devices
 Came outers (asks_text text) status devices = WasTold text status devices
 Came outers (asks_command command) status devices = Called status (task command outers) devices
 
+-- The call met the answer of a job over an input that ends after these bytes.
+abbrev pub MetAnswer : Job → List ℕ → Status → Devices → Type 0
+MetAnswer job read status devices = (given : Answer) × IsAnswerOf job read given × Meets given status devices
+
 -- Where the devices tell the files' bytes and the input's, the call met the answer to them.
 abbrev pub IsAnswered : Status → Task → Devices → Type 0
 IsAnswered status task devices =
     IfSome (loads_of devices.store.before.content task.files) (λ contents. IfSome devices.input.before.left (λ read.
-    (files : Files) × AreFiles task.files contents files × Meets (answer task files read) status devices))
+    (files : Files) × AreFiles task.files contents files × MetAnswer (job_of task files) read status devices))
 
 -- a status is one of these
 abbrev pub IsOneOf : Status → List Status → Type 0

@@ -6,7 +6,7 @@ use Rattle.mg_check.specs.declared.fault.Many.{Many}
 use Rattle.mg_check.specs.declared.fault.Many.TheVariants.{Edges, Outputs}
 use Rattle.mg_check.specs.declared.fault.CheckFault.{CheckFault}
 use Rattle.mg_check.specs.declared.fault.CheckFault.TheVariants.{UnknownCalculator, NoMoreBoxes, BadPorts, BadOptions, Unsupported, TwoProducers, NoProducer, SideMissing, KindClash, BackEdgeMisplaced, Cycle, TooMany, OutOfMemory}
-use Rattle.mg_run.specs.Notes.{shown}
+use Rattle.mg_answer.specs.Shown.{shown}
 
 abbrev pub many_name : Many → List ℕ
 many_name Edges = codes "Edges"

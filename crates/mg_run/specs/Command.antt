@@ -1,9 +1,9 @@
 -- What a command is.
-use Rattle.std.specs.Prelude.{ℕ, List, Option, None, Some, codes, if◌then◌else◌}
+use Rattle.std.specs.Prelude.{ℕ, List, Bool, true, false, Option, None, Some, codes, if◌then◌else◌}
 use Rattle.std.specs.Str.{bytes_eq}
 use Rattle.mg_run.specs.declared.limits.TheConstants.{MOST_FILES}
 use Rattle.mg_run.specs.declared.words.Verb.{Verb}
-use Rattle.mg_run.specs.declared.words.Verb.TheVariants.{Run, Check, Expand}
+use Rattle.mg_run.specs.declared.words.Verb.TheVariants.{Run, Solve, Check, Expand}
 
 -- what is done, and the names of the files: that of the main graph, and then those of its library
 pub record Command : Type 0 where
@@ -17,8 +17,16 @@ command verb files = record { verb = verb; files = files }
 abbrev pub verb_of : List ℕ → Option Verb
 verb_of word =
     if bytes_eq word (codes "run") then Some Run
+    else (if bytes_eq word (codes "solve") then Some Solve
     else (if bytes_eq word (codes "check") then Some Check
-    else (if bytes_eq word (codes "expand") then Some Expand else None))
+    else (if bytes_eq word (codes "expand") then Some Expand else None)))
+
+-- whether the input is read, where no file is refused
+abbrev pub reads_input : Verb → Bool
+reads_input Run = true
+reads_input Solve = true
+reads_input Check = false
+reads_input Expand = false
 
 -- the most files: the main graph, and 64 further ones
 abbrev pub most_files : ℕ

@@ -1,7 +1,5 @@
 -- The notes, each one line whatever a graph or a word holds.
-use Rattle.std.specs.Prelude.{ℕ, Bool, List, [], ◌∷◌, ◌++◌, ◌||◌, ◌==◌, nat_lt, if◌then◌else◌, Option, None, Some, codes, decimal}
-use Rattle.std.specs.List.{flat_map}
-use Rattle.mg_text.specs.Canonical.{escape}
+use Rattle.std.specs.Prelude.{ℕ, List, [], ◌++◌, Option, None, Some, codes, decimal}
 use Rattle.mg_text.specs.declared.fault.TextFault.{TextFault}
 use Rattle.mg_text.specs.declared.fault.TextFault.TheVariants.{Syntax, TooDeep, TooLong, OutOfMemory}
 use Rattle.mg_names.specs.declared.fault.NameFault.{NameFault}
@@ -12,22 +10,10 @@ use Rattle.mg_names.specs.Ports.{text_of}
 use Rattle.mg_subgraph.specs.declared.fault.ExpandFault.{ExpandFault}
 use Rattle.mg_subgraph.specs.declared.fault.ExpandFault.TheVariants.{TypeTwice, Recursive, TooManyNodes, ReservedName, PortShared, BadField, NoSuchPort}
 use Rattle.mg_subgraph.specs.declared.fault.ExpandFault.TheVariants as expansions
+use Rattle.mg_answer.specs.Shown.{shown}
 use Rattle.mg_run.specs.Accepted.{Refused}
 use Rattle.mg_run.specs.declared.line_fault.LineFault.{LineFault}
 use Rattle.mg_run.specs.declared.line_fault.LineFault.TheVariants.{NotYet, Closed, NotAscending}
-
--- Texts that a note repeats --
-
-abbrev pub is_control : ℕ → Bool
-is_control b = nat_lt b 32 || b == 127
-
--- A control byte is written with its escape in the canonical text: `\n`, `\r`, `\t` or three octal digits. All else, a
--- backslash too, is written as it is.
-abbrev pub shown_byte : ℕ → List ℕ
-shown_byte b = if is_control b then escape b else b ∷ []
-
-abbrev pub shown : List ℕ → List ℕ
-shown text = flat_map shown_byte text
 
 -- The words or a file --
 
@@ -84,7 +70,7 @@ expand_note fault = codes "refused: expand " ++ expand_refusal fault ++ codes "\
 abbrev pub unbuilt_note : List ℕ
 unbuilt_note = codes "refused: NotYet\n"
 
--- A line is refused, or a read fails --
+-- A line is refused --
 
 abbrev pub fault_name : LineFault → List ℕ
 fault_name NotYet = codes "NotYet"
@@ -94,6 +80,3 @@ fault_name NotAscending = codes "NotAscending"
 abbrev pub line_note : Option Refused → List ℕ
 line_note None = []
 line_note (Some refused) = codes "line " ++ decimal refused.number ++ codes ": " ++ fault_name refused.fault ++ codes "\n"
-
-abbrev pub read_note : ℕ → List ℕ
-read_note lines = codes "read fault after line " ++ decimal lines ++ codes "\n"

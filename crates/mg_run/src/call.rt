@@ -1,13 +1,13 @@
-ghost use Rattle.std.specs.Prelude.{◌≡◌, ◌≢◌, ◌↔◌, All, ◌⊎◌, ℕ, List, ◌∷◌, [], IfSome, map};
+ghost use Rattle.std.specs.Prelude.{◌≡◌, ◌≢◌, ◌↔◌, true, false, All, ◌⊎◌, ℕ, List, ◌∷◌, [], IfSome, map};
 ghost use Rattle.mg_check.specs.Check.{IsOuterShape};
-ghost use Rattle.mg_run.specs.Command.{command};
+ghost use Rattle.mg_run.specs.Command.{command, reads_input};
 ghost use Rattle.mg_run.specs.Boxes.{outers_told};
 ghost use Rattle.mg_run.specs.Task.{task};
 ghost use Rattle.mg_run.specs.Words.{asks_usage, asks_text, asked_of, command_by, command_of};
-ghost use Rattle.mg_run.specs.Devices.{Device, device, devices, Untouched, HasRisen, NoneFailed, TookText, TookPart};
+ghost use Rattle.mg_run.specs.Devices.{Device, device, devices, Untouched, HasEnded, HasRisen, NoneFailed, TookText, TookPart};
 ghost use Rattle.mg_run.specs.Call.{WasUsage, WasTold, Came, Called, Did, IsAnswered, IsOneOf};
 ghost use Rattle.mg_run.specs.Code.Asked.{asked_view};
-ghost use Rattle.mg_run.specs.Code.Job.{job_view, MayRead};
+ghost use Rattle.mg_run.specs.Code.Job.{job_view, MayRead, CanBeDone};
 ghost use Rattle.mg_edge.specs.Edge.{StoreTold};
 
 use crate::Status;
@@ -17,7 +17,7 @@ use crate::job::{Job, job_of};
 use crate::load::load_all;
 use crate::outers::outers_of;
 use crate::put::put_all;
-use crate::run::run_graph;
+use crate::run::{run_graph, solve_graph};
 use crate::words::{Asked, USAGE, Verb, asked_of};
 use mg_calc::{Calculator, OuterShape};
 use mg_edge::{Sink, Source, Store};
@@ -58,8 +58,12 @@ pub fn run_words<S: Source, K: Sink, E: Sink, T: Store>(
         NoneFailed all → result ≢ Status.OutOfMemory → IsAnswered result (task command (outers_told (map (λ b. (Calculator-box b).told b.value) boxes.old.items))) all) }
 
     // A `check` and an `expand` leave the input as it was.
-    ensures unread { IfSome (command_of words.now) (λ command. command.verb ≢ Verb.Run
+    ensures unread { IfSome (command_of words.now) (λ command. reads_input command.verb ≡ false
         → Untouched (device (S.told input.old) (S.told input.new))) }
+
+    // A call that read the input and went well, or in which a node failed or a stream never closed, met the input's end.
+    ensures ended { IfSome (command_of words.now) (λ command. reads_input command.verb ≡ true
+        → IsOneOf result (Status.Good ∷ Status.NodeFault ∷ Status.Stalled ∷ []) → HasEnded (device (S.told input.old) (S.told input.new))) }
 
     // No fault of a device hides behind another status.
     ensures store_rose { HasRisen (T.told store.old).faults (T.told store.new).faults
@@ -88,7 +92,7 @@ fn do_words<C: Calculator, S: Source, K: Sink, E: Sink, T: Store>(
     ensures came { Came (outers_told (map C.told boxes.now.items)) (asked_of words.now) result (devices
         (device (T.told store.old) (T.told store.new)) (device (S.told input.old) (S.told input.new))
         (device (K.told output.old) (K.told output.new)) (device (E.told notes.old) (E.told notes.new))) }
-    ensures unread { IfSome (command_of words.now) (λ command. command.verb ≢ Verb.Run
+    ensures unread { IfSome (command_of words.now) (λ command. reads_input command.verb ≡ false
         → Untouched (device (S.told input.old) (S.told input.new))) }
 {
     match asked_of(alloc, words) {
@@ -109,7 +113,7 @@ fn do_asked<C: Calculator, S: Source, K: Sink, E: Sink, T: Store>(
     ensures came { Came (outers_told (map C.told boxes.now.items)) (asked_view asked) result (devices
         (device (T.told store.old) (T.told store.new)) (device (S.told input.old) (S.told input.new))
         (device (K.told output.old) (K.told output.new)) (device (E.told notes.old) (E.told notes.new))) }
-    ensures unread { IfSome (command_by (asked_view asked)) (λ command. command.verb ≢ Verb.Run
+    ensures unread { IfSome (command_by (asked_view asked)) (λ command. reads_input command.verb ≡ false
         → Untouched (device (S.told input.old) (S.told input.new))) }
 {
     match asked {
@@ -151,7 +155,7 @@ fn do_command<C: Calculator, S: Source, K: Sink, E: Sink, T: Store>(
     ensures called { Called result (task (command verb files.now) (outers_told (map C.told boxes.now.items))) (devices
         (device (T.told store.old) (T.told store.new)) (device (S.told input.old) (S.told input.new))
         (device (K.told output.old) (K.told output.new)) (device (E.told notes.old) (E.told notes.new))) }
-    ensures unread { verb ≢ Verb.Run → Untouched (device (S.told input.old) (S.told input.new)) }
+    ensures unread { reads_input verb ≡ false → Untouched (device (S.told input.old) (S.told input.new)) }
 {
     match outers_of(alloc, boxes.as_slice()) {
         Ok(outers) => serve(alloc, verb, files, &outers, store, input, output, notes),
@@ -174,7 +178,7 @@ fn serve<S: Source, K: Sink, E: Sink, T: Store>(
     ensures called { Called result (task (command verb files.now) outers.now) (devices
         (device (T.told store.old) (T.told store.new)) (device (S.told input.old) (S.told input.new))
         (device (K.told output.old) (K.told output.new)) (device (E.told notes.old) (E.told notes.new))) }
-    ensures unread { verb ≢ Verb.Run → Untouched (device (S.told input.old) (S.told input.new)) }
+    ensures unread { reads_input verb ≡ false → Untouched (device (S.told input.old) (S.told input.new)) }
 {
     match load_all(alloc, store, files) {
         Ok(contents) => match job_of(alloc, verb, outers, files, contents) {
@@ -196,6 +200,7 @@ fn do_job<S: Source, K: Sink, E: Sink>(
     output: &mut K,
     notes: &mut E,
 ) -> Status
+    requires { CanBeDone (job_view job) }
     ensures did { (store : Device StoreTold) → Did (job_view job) result (devices store
         (device (S.told input.old) (S.told input.new)) (device (K.told output.old) (K.told output.new)) (device (E.told notes.old) (E.told notes.new))) }
     ensures unread { MayRead (job_view job) ⊎ Untouched (device (S.told input.old) (S.told input.new)) }
@@ -213,5 +218,6 @@ fn do_job<S: Source, K: Sink, E: Sink>(
             }
         }
         Job::Merge(names) => run_graph(alloc, names, input, output, notes),
+        Job::Solve(plan) => solve_graph(alloc, &plan, input, output, notes),
     }
 }

@@ -1,12 +1,11 @@
 //! The note of a graph that the check refuses, and the text of one that it passes.
 ghost use Rattle.std.specs.Prelude.{◌≡◌, ◌≢◌, ◌++◌, OnOk, IfOk, decimal, codes};
 ghost use Rattle.std.specs.List.{flat_map};
-ghost use Rattle.mg_run.specs.Notes.{shown};
 ghost use Rattle.mg_run.specs.CheckNotes as notes;
 
 use crate::note::{at_place, of_text};
-use crate::shown::put_shown;
 use itoa::Buffer;
+use mg_answer::put_shown;
 use mg_calc::Plan;
 use mg_check::{CheckFault, Many};
 use mg_value::MgText;

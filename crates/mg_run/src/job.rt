@@ -8,7 +8,7 @@ ghost use Rattle.mg_subgraph.specs.Expansion.{expansion_of};
 ghost use Rattle.mg_run.specs.Command.{command};
 ghost use Rattle.mg_run.specs.Task.{Task, task};
 ghost use Rattle.mg_run.specs.Answer as answers;
-ghost use Rattle.mg_run.specs.Code.Job.{job_view};
+ghost use Rattle.mg_run.specs.Code.Job.{job_view, CanBeDone};
 ghost use Rattle.mg_run.specs.Code.Reads.{contents_of, AreNotedOf};
 ghost use Rattle.mg_run.specs.Call.{IsJob};
 
@@ -17,7 +17,7 @@ use crate::fault::Fault;
 use crate::files::graphs_of;
 use crate::note::expand_note;
 use crate::words::Verb;
-use mg_calc::OuterShape;
+use mg_calc::{OuterShape, Plan};
 use mg_check::{CheckFault, check};
 use mg_config::{GraphConfig, write};
 use mg_subgraph::expand;
@@ -34,6 +34,8 @@ pub enum Job {
     Show(Vec<u8>),
     /// The graph is run whose inputs have these names.
     Merge(BlockList<MgText>),
+    /// The graph of this plan is solved.
+    Solve(Plan),
 }
 
 /// The note for a graph that isn't run so far.
@@ -50,7 +52,8 @@ pub fn job_of(
 ) -> Result<Job, AllocError>
     requires each { length contents.items ≡ length names.now }
     requires outers { All IsOuterShape outers.now }
-    ensures { IfOk result (λ job. IsJob (task (command verb names.now) outers.now) (contents_of contents.items) (job_view job)) }
+    ensures due { IfOk result (λ job. IsJob (task (command verb names.now) outers.now) (contents_of contents.items) (job_view job)) }
+    ensures valid { IfOk result (λ job. CanBeDone (job_view job)) }
 {
     match graphs_of(alloc, names, &contents) {
         Ok(graphs) => {
@@ -63,7 +66,8 @@ pub fn job_of(
 
 // A file is refused, with the note that is known.
 fn refused(fault: Fault) -> Result<Job, AllocError>
-    ensures { IfOk result (λ job. (task : Task) (contents : List (List ℕ)) → AreNotedOf fault task.files contents → IsJob task contents (job_view job)) }
+    ensures valid { IfOk result (λ job. CanBeDone (job_view job)) }
+    ensures due { IfOk result (λ job. (task : Task) (contents : List (List ℕ)) → AreNotedOf fault task.files contents → IsJob task contents (job_view job)) }
 {
     match fault {
         Fault::Noted(note) => Ok(Job::Refuse(note)),
@@ -81,7 +85,8 @@ fn graphs_job(
     requires sound { All (λ graph. IsSound (graph_view graph)) graphs.now }
     requires printable { All (λ graph. IsPrintable (graph_view graph)) graphs.now }
     requires outers { All IsOuterShape outers.now }
-    ensures { IfOk result (λ job. job_view job ≡ answers.graphs_job verb outers.now (map graph_view graphs.now)) }
+    ensures due { IfOk result (λ job. job_view job ≡ answers.graphs_job verb outers.now (map graph_view graphs.now)) }
+    ensures valid { IfOk result (λ job. CanBeDone (job_view job)) }
 {
     let [main, library @ ..] = graphs else {
         return Ok(Job::Refuse(Vec::new(alloc)));
@@ -101,7 +106,8 @@ fn main_job(
     requires sound_files { All (λ graph. IsSound (graph_view graph)) library.now }
     requires printable_files { All (λ graph. IsPrintable (graph_view graph)) library.now }
     requires outers { All IsOuterShape outers.now }
-    ensures { IfOk result (λ job. job_view job ≡ answers.expanded_job verb outers.now (expansion_of (graph_view main.now) (map graph_view library.now))) }
+    ensures valid { IfOk result (λ job. CanBeDone (job_view job)) }
+    ensures due { IfOk result (λ job. job_view job ≡ answers.expanded_job verb outers.now (expansion_of (graph_view main.now) (map graph_view library.now))) }
 {
     match expand(alloc, main, library) {
         Ok(graph) => graph_job(alloc, verb, outers, graph),
@@ -119,12 +125,27 @@ fn graph_job(
     requires printable { IsPrintable (graph_view graph) }
     requires few { length graph.nodes ≤ 4096 }
     requires outers { All IsOuterShape outers.now }
-    ensures { IfOk result (λ job. job_view job ≡ answers.graph_job verb outers.now (graph_view graph)) }
+    ensures due { IfOk result (λ job. job_view job ≡ answers.graph_job verb outers.now (graph_view graph)) }
+    ensures valid { IfOk result (λ job. CanBeDone (job_view job)) }
 {
     match verb {
         Verb::Run => checked_job(alloc, outers, graph),
+        Verb::Solve => solve_job(alloc, outers, &graph),
         Verb::Check => check_job(alloc, outers, &graph),
         Verb::Expand => Ok(Job::Show(graph_text(alloc, graph)?)),
+    }
+}
+
+// A graph that has a plan is solved, and any other is refused.
+fn solve_job(alloc: Global, outers: &[OuterShape], graph: &GraphConfig) -> Result<Job, AllocError>
+    requires few { length graph.now.nodes ≤ 4096 }
+    requires outers { All IsOuterShape outers.now }
+    ensures due { IfOk result (λ job. job_view job ≡ answers.solve_job (check_of outers.now (graph_view graph.now))) }
+    ensures valid { IfOk result (λ job. CanBeDone (job_view job)) }
+{
+    match check(alloc, graph, outers) {
+        Ok(plan) => Ok(Job::Solve(plan)),
+        Err(fault) => Ok(Job::Refuse(check_note(alloc, &fault)?)),
     }
 }
 
@@ -132,7 +153,8 @@ fn graph_job(
 fn check_job(alloc: Global, outers: &[OuterShape], graph: &GraphConfig) -> Result<Job, AllocError>
     requires few { length graph.now.nodes ≤ 4096 }
     requires outers { All IsOuterShape outers.now }
-    ensures { IfOk result (λ job. job_view job ≡ answers.check_job (check_of outers.now (graph_view graph.now))) }
+    ensures due { IfOk result (λ job. job_view job ≡ answers.check_job (check_of outers.now (graph_view graph.now))) }
+    ensures valid { IfOk result (λ job. CanBeDone (job_view job)) }
 {
     match check(alloc, graph, outers) {
         Ok(plan) => Ok(Job::Show(check_text(alloc, &plan)?)),
@@ -146,7 +168,8 @@ fn checked_job(alloc: Global, outers: &[OuterShape], graph: GraphConfig) -> Resu
     requires printable { IsPrintable (graph_view graph) }
     requires few { length graph.nodes ≤ 4096 }
     requires outers { All IsOuterShape outers.now }
-    ensures { IfOk result (λ job. job_view job ≡ answers.checked_job (check_of outers.now (graph_view graph)) (answers.graph_text (graph_view graph))) }
+    ensures valid { IfOk result (λ job. CanBeDone (job_view job)) }
+    ensures due { IfOk result (λ job. job_view job ≡ answers.checked_job (check_of outers.now (graph_view graph)) (answers.graph_text (graph_view graph))) }
 {
     match check(alloc, &graph, outers) {
         Ok(plan) => {
@@ -170,7 +193,8 @@ fn graph_text(alloc: Global, graph: GraphConfig) -> Result<Vec<u8>, AllocError>
 }
 
 fn run_job(alloc: Global, text: &[u8]) -> Result<Job, AllocError>
-    ensures { IfOk result (λ job. job_view job ≡ answers.run_job (answers.inputs_of text.now)) }
+    ensures due { IfOk result (λ job. job_view job ≡ answers.run_job (answers.inputs_of text.now)) }
+    ensures valid { IfOk result (λ job. CanBeDone (job_view job)) }
 {
     match inputs_of(alloc, text)? {
         Some(names) => Ok(Job::Merge(names)),

@@ -5,7 +5,7 @@ ghost use Rattle.mg_config.specs.Config.{GraphView};
 ghost use Rattle.mg_subgraph.specs.Expansion.{expansion_of};
 ghost use Rattle.mg_run.specs.File.{File, graph, IsFile};
 ghost use Rattle.mg_run.specs.Files.{Files, AreGraphs, AreFiles};
-ghost use Rattle.mg_run.specs.Answer.{graph_text};
+ghost use Rattle.mg_run.specs.Answer.{Answer, Job, IsAnswerOf, graph_text};
 
 /// A content is one file at most: so what the program answers to it is one answer.
 pub fn one_file()
@@ -16,6 +16,11 @@ pub fn one_file()
 /// them is one answer.
 pub fn one_reading()
     ensures { (names contents : List (List ℕ)) (a b : Files) → AreFiles names contents a → AreFiles names contents b → a ≡ b }
+{}
+
+/// To the bytes of an input the program has one answer at most.
+pub fn one_answer()
+    ensures { (job : Job) (input : List ℕ) (a b : Answer) → IsAnswerOf job input a → IsAnswerOf job input b → a ≡ b }
 {}
 
 /// The text of a graph says the same graph again, where it isn't too long for a file.

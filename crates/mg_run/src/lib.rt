@@ -22,7 +22,6 @@ mod pour;
 mod put;
 mod reading;
 mod run;
-mod shown;
 mod status;
 mod tally;
 mod words;

@@ -1,9 +1,11 @@
 ghost use Rattle.std.specs.Prelude.{◌≡◌, ◌≢◌, ◌++◌, OnOk, IfOk, Some, codes, decimal};
+ghost use Rattle.mg_answer.specs.Shown.{shown};
+ghost use Rattle.mg_answer.specs.Notes.{read_note as the_read_note};
 ghost use Rattle.mg_run.specs.Notes as notes;
 
 use crate::LineFault;
-use crate::shown::put_shown;
 use itoa::Buffer;
+use mg_answer::put_shown;
 use mg_config::ConfigFault;
 use mg_names::{NameFault, print_port};
 use mg_subgraph::ExpandFault;
@@ -89,7 +91,7 @@ fn config_refusal(alloc: Global, fault: &ConfigFault) -> Result<Vec<u8>, AllocEr
 
 // A refusal and what it is of.
 pub(crate) fn of_text(alloc: Global, refusal: &[u8], part: &MgText) -> Result<Vec<u8>, AllocError>
-    ensures { IfOk result (λ v. v.items ≡ refusal.now ++ notes.shown part.now) }
+    ensures { IfOk result (λ v. v.items ≡ refusal.now ++ shown part.now) }
 {
     let mut text = Vec::from_slice(alloc, refusal)?;
     put_shown(&mut text, part.as_bytes())?;
@@ -168,7 +170,7 @@ fn node_refusal(
     node: u32,
     part: &MgText,
 ) -> Result<Vec<u8>, AllocError>
-    ensures { IfOk result (λ v. v.items ≡ refusal.now ++ notes.shown owner.now ++ codes " " ++ decimal node ++ codes " " ++ notes.shown part.now) }
+    ensures { IfOk result (λ v. v.items ≡ refusal.now ++ shown owner.now ++ codes " " ++ decimal node ++ codes " " ++ shown part.now) }
 {
     let mut text = of_text(alloc, refusal, owner)?;
     let number = at_place(alloc, b" ", node)?;
@@ -193,7 +195,7 @@ pub fn line_note(alloc: Global, number: u64, fault: LineFault) -> Result<Vec<u8>
 
 /// The note that a read failed after so many whole lines.
 pub fn read_note(alloc: Global, lines: u64) -> Result<Vec<u8>, AllocError>
-    ensures { IfOk result (λ v. v.items ≡ notes.read_note lines) }
+    ensures { IfOk result (λ v. v.items ≡ the_read_note lines) }
 {
     let mut digits = Buffer::new();
     let mut note = Vec::from_slice(alloc, b"read fault after line ")?;

@@ -3,16 +3,34 @@ ghost use Rattle.mg_run.specs.Code.Feed.{StandsFor};
 ghost use Rattle.mg_run.specs.Code.Verdict.{said_of, ended_as};
 ghost use Rattle.mg_edge.specs.Edge.{StoreTold};
 ghost use Rattle.mg_run.specs.Devices.{Device, device, devices};
-ghost use Rattle.mg_run.specs.Call.{Ran};
+ghost use Rattle.mg_calc.specs.Plan.{IsValid};
+ghost use Rattle.mg_run.specs.Call.{Ran, RanGraph};
 
 use crate::Status;
 use crate::feed::Feed;
 use crate::note::{line_note, read_note};
 use crate::pour::{Poured, pour};
 use crate::put::{flush, put_all};
+use mg_answer::solve_input;
+use mg_calc::Plan;
 use mg_edge::{Sink, Source};
 use mg_value::{BlockList, MgText};
 use std::alloc::{AllocError, Global};
+
+/// Solves the graph of a plan over the input.
+pub fn solve_graph<S: Source, K: Sink, E: Sink>(
+    alloc: Global,
+    plan: &Plan,
+    input: &mut S,
+    output: &mut K,
+    notes: &mut E,
+) -> Status
+    requires { IsValid plan.now }
+    ensures { (store : Device StoreTold) → RanGraph plan.now result (devices store
+        (device (S.told input.old) (S.told input.new)) (device (K.told output.old) (K.told output.new)) (device (E.told notes.old) (E.told notes.new))) }
+{
+    Status::from_run(solve_input(alloc, plan, input, output, notes))
+}
 
 /// Runs the graph whose inputs have these names over the input.
 pub fn run_graph<S: Source, K: Sink, E: Sink>(

@@ -1,5 +1,7 @@
 ghost use Rattle.std.specs.Prelude.{◌≡◌};
-ghost use Rattle.mg_run.specs.Status.{number_of};
+ghost use Rattle.mg_run.specs.Status.{number_of, status_from};
+
+use mg_answer::RunStatus;
 
 /// How a call ended.
 #[derive(Clone, Copy, Debug, PartialEq, Eq)]
@@ -27,6 +29,21 @@ pub enum Status {
 }
 
 impl Status {
+    /// The status of a call in which a run ended so.
+    pub fn from_run(run: RunStatus) -> Status
+        ensures { result ≡ status_from run }
+    {
+        match run {
+            RunStatus::Good => Status::Good,
+            RunStatus::LineRefused => Status::LineRefused,
+            RunStatus::NodeFault => Status::NodeFault,
+            RunStatus::Stalled => Status::Stalled,
+            RunStatus::ReadFault => Status::ReadFault,
+            RunStatus::WriteFault => Status::WriteFault,
+            RunStatus::OutOfMemory => Status::OutOfMemory,
+        }
+    }
+
     /// The number that the program exits with.
     pub fn number(self) -> u8
         ensures { result ≡ number_of self }

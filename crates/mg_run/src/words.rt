@@ -22,6 +22,8 @@ pub const USAGE: &[u8] =
 pub enum Verb {
     /// It is run over the input.
     Run,
+    /// Its equations are solved for the input.
+    Solve,
     /// It is checked.
     Check,
     /// The text of its configuration is written.
@@ -117,6 +119,7 @@ fn verb_of(word: &str) -> Option<Verb>
 {
     match word {
         "run" => Some(Verb::Run),
+        "solve" => Some(Verb::Solve),
         "check" => Some(Verb::Check),
         "expand" => Some(Verb::Expand),
         _ => None,

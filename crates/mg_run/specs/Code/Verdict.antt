@@ -1,7 +1,8 @@
 -- What a run says in the end, by what it came to and by the feed.
 use Rattle.std.specs.Prelude.{ℕ, ◌+◌, List, Option, option_map}
 use Rattle.mg_run.specs.Accepted.{Refused}
-use Rattle.mg_run.specs.Notes.{line_note, read_note}
+use Rattle.mg_answer.specs.Notes.{read_note}
+use Rattle.mg_run.specs.Notes.{line_note}
 use Rattle.mg_run.specs.Answer.{line_status}
 use Rattle.mg_run.specs.declared.feed.Feed.{Feed}
 use Rattle.mg_run.specs.declared.pour.Poured.{Poured}

@@ -1,6 +1,6 @@
 use Rattle.mg_run.specs.Words.{asked_of}
 use Rattle.mg_run.specs.Devices.{device, devices}
-use Rattle.mg_run.proofs.Coming.{came-usage, came-note, came-told, came-called, came-answered, came-store, came-read, came-write}
+use Rattle.mg_run.proofs.Coming.{came-usage, came-note, came-told, came-called, came-answered, came-ended, came-store, came-read, came-write}
 use Rattle.mg_run.proofs.call.run_words.Goals as goal
 
 pub returns-clause-usage : goal.returns-clause-usage
@@ -29,6 +29,12 @@ returns-clause-called g c = came-called _ (asked_of c.args.words.now) c.do_words
 
 pub returns-clause-answered : goal.returns-clause-answered
 returns-clause-answered g c = came-answered _ (asked_of c.args.words.now) c.do_words.result
+    (devices (device (g.T.Store.told c.args.store.now) (g.T.Store.told c.do_words.new.store)) (device (g.S.Source.told c.args.input.now) (g.S.Source.told c.do_words.new.input))
+    (device (g.K.Sink.told c.args.output.now) (g.K.Sink.told c.do_words.new.output)) (device (g.E.Sink.told c.args.notes.now) (g.E.Sink.told c.do_words.new.notes)))
+    c.do_words.ensures.came
+
+pub returns-clause-ended : goal.returns-clause-ended
+returns-clause-ended g c = came-ended _ (asked_of c.args.words.now) c.do_words.result
     (devices (device (g.T.Store.told c.args.store.now) (g.T.Store.told c.do_words.new.store)) (device (g.S.Source.told c.args.input.now) (g.S.Source.told c.do_words.new.input))
     (device (g.K.Sink.told c.args.output.now) (g.K.Sink.told c.do_words.new.output)) (device (g.E.Sink.told c.args.notes.now) (g.E.Sink.told c.do_words.new.notes)))
     c.do_words.ensures.came

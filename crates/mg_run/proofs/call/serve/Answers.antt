@@ -4,7 +4,9 @@ use Rattle.mg_run.specs.Command.{command}
 use Rattle.mg_run.specs.Task.{task}
 use Rattle.mg_run.specs.Code.Job.{job_view}
 use Rattle.mg_run.specs.Code.Reads.{contents_of}
-use Rattle.mg_run.proofs.Calling.{called-did}
+use Rattle.mg_run.specs.Devices.{device}
+use Rattle.mg_run.proofs.Calling.{called-did, short-nothing}
+use Rattle.mg_run.proofs.Ending.{unread-by}
 use Rattle.mg_run.proofs.Loading.{loaded-count}
 use Rattle.mg_run.proofs.call.serve.Goals as goal
 
@@ -18,4 +20,21 @@ job_of-requires g c = record {
 pub returns-in-Ok-job_of-clause-called : goal.returns-in-Ok-job_of-clause-called
 returns-in-Ok-job_of-clause-called g c =
     called-did (job_view c.in-Ok-job_of.job) c.do_job.result (task (command c.args.verb c.args.files.now) c.args.outers.now) (contents_of c.in-Ok.contents.items) _
-    c.in-Ok.ensures.all c.in-Ok-job_of.ensures (c.do_job.ensures.did _)
+    c.in-Ok.ensures.all c.in-Ok-job_of.ensures.due (c.do_job.ensures.did _)
+
+pub returns-in-Ok-job_of-clause-unread : goal.returns-in-Ok-job_of-clause-unread
+returns-in-Ok-job_of-clause-unread g c =
+    unread-by (task (command c.args.verb c.args.files.now) c.args.outers.now) (contents_of c.in-Ok.contents.items) (job_view c.in-Ok-job_of.job)
+    (device (g.S.Source.told c.args.input.now) (g.S.Source.told c.do_job.new.input)) c.in-Ok-job_of.ensures.due c.do_job.ensures.unread
+
+pub returns-in-Err-clause-called : goal.returns-in-Err-clause-called
+returns-in-Err-clause-called g c =
+    short-nothing (task (command c.args.verb c.args.files.now) c.args.outers.now) (device (g.T.Store.told c.args.store.now) (g.T.Store.told c.load_all.new.store))
+    (device (g.S.Source.told c.args.input.now) (g.S.Source.told c.args.input.now)) (g.K.Sink.told c.args.output.now)
+    (device (g.E.Sink.told c.args.notes.now) (g.E.Sink.told c.args.notes.now))
+
+pub returns-in-Err-OutOfMemory-clause-called : goal.returns-in-Err-OutOfMemory-clause-called
+returns-in-Err-OutOfMemory-clause-called g c =
+    short-nothing (task (command c.args.verb c.args.files.now) c.args.outers.now) (device (g.T.Store.told c.args.store.now) (g.T.Store.told c.load_all.new.store))
+    (device (g.S.Source.told c.args.input.now) (g.S.Source.told c.args.input.now)) (g.K.Sink.told c.args.output.now)
+    (device (g.E.Sink.told c.args.notes.now) (g.E.Sink.told c.args.notes.now))

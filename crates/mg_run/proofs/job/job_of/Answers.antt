@@ -24,15 +24,15 @@ graphs_job-requires-clause-printable c =
     subst (All {X = GraphConfig} (λ g. IsPrintable (graph_view g))) (sym c.deref-in-Ok.ensures.value)
     (all-graphs IsPrintable printable_graph (contents_of c.deref.result.now) c.in-Ok.graphs.items c.in-Ok.ensures.graphs)
 
-pub returns-in-Ok : goal.returns-in-Ok
-returns-in-Ok c =
+pub returns-in-Ok-clause-due : goal.returns-in-Ok-clause-due
+returns-in-Ok-clause-due c =
     let gs = map graph_view c.in-Ok.graphs.items in
     let are = subst (λ (contents : List (Vec ℕ)). AreGraphs (contents_of contents) gs) c.deref.ensures.value c.in-Ok.ensures.graphs in
     IfOk-weaker c.graphs_job.result _ _
-    (λ job same. (graphs gs, are, same ∙ ap (λ (configs : List GraphConfig). answers.graphs_job c.args.verb c.args.outers.now (map graph_view configs)) c.deref-in-Ok.ensures.value)) c.graphs_job.ensures
+    (λ job same. (graphs gs, are, same ∙ ap (λ (configs : List GraphConfig). answers.graphs_job c.args.verb c.args.outers.now (map graph_view configs)) c.deref-in-Ok.ensures.value)) c.graphs_job.ensures.due
 
-pub returns-in-Err : goal.returns-in-Err
-returns-in-Err c =
+pub returns-in-Err-clause-due : goal.returns-in-Err-clause-due
+returns-in-Err-clause-due c =
     IfOk-weaker c.refused.result _ _
     (λ job due. due (task (command c.args.verb c.args.names.now) c.args.outers.now) (contents_of c.args.contents.items)
-    (subst (λ (contents : List (Vec ℕ)). AreNotedOf c.in-Err.fault c.args.names.now (contents_of contents)) c.deref.ensures.value c.in-Err.ensures.refused)) c.refused.ensures
+    (subst (λ (contents : List (Vec ℕ)). AreNotedOf c.in-Err.fault c.args.names.now (contents_of contents)) c.deref.ensures.value c.in-Err.ensures.refused)) c.refused.ensures.due

@@ -4,6 +4,6 @@ use Rattle.mg_run.specs.Code.Reads.{AreNotedOf}
 use Rattle.mg_run.specs.declared.fault.Fault.{Fault}
 use Rattle.mg_run.proofs.job.refused.Goals as goal
 
-pub returns-in-Noted : goal.returns-in-Noted
-returns-in-Noted c = λ task contents refused.
+pub returns-in-Noted-clause-due : goal.returns-in-Noted-clause-due
+returns-in-Noted-clause-due c = λ task contents refused.
     (no_graphs c.in-Noted.note.items, subst (λ (fault : Fault). AreNotedOf fault task.files contents) c.in-Noted.is refused, refl)

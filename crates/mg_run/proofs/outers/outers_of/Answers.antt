@@ -1,8 +1,8 @@
-use Rattle.std.proofs.Common.{◌≡◌, All, map, List, [], ◌∷◌, ◌++◌, sym, subst}
+use Rattle.std.proofs.Common.{All, List, [], ◌∷◌, sym, subst}
 use Rattle.std.proofs.lemmas.List.Elements.{All-append, All-cons, All-nil}
 use Rattle.mg_calc.specs.declared.shape.OuterShape.{OuterShape}
 use Rattle.mg_check.specs.Check.{IsOuterShape}
-use Rattle.mg_run.specs.Boxes.{outer_told, outers_told}
+use Rattle.mg_run.specs.Boxes.{outer_told}
 use Rattle.mg_run.proofs.Told.{known-more}
 use Rattle.mg_run.proofs.outers.outers_of.Goals as goal
 

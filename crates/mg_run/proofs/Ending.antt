@@ -1,0 +1,176 @@
+-- Who reads the input, and that it met its end.
+use Rattle.std.proofs.Common.{◌≡◌, ℕ, List, [], ◌∷◌, true, false, Option, None, Some, Result, Ok, Err, ◌⊎◌, inl, inr, refl, sym, subst, arith}
+use Rattle.std.proofs.lemmas.Bool.{false≢true}
+use Rattle.mg_edge.specs.Edge.{SourceTold}
+use Rattle.mg_feed.specs.Ran.{EndCame}
+use Rattle.mg_config.specs.Config.{GraphView}
+use Rattle.mg_calc.specs.declared.plan.Plan.{Plan}
+use Rattle.mg_calc.specs.declared.shape.OuterShape.{OuterShape}
+use Rattle.mg_check.specs.Check.{check_of}
+use Rattle.mg_check.specs.declared.fault.CheckFault.{CheckFault}
+use Rattle.mg_subgraph.specs.Expansion.{expansion_of}
+use Rattle.mg_subgraph.specs.declared.fault.ExpandFault.{ExpandFault}
+use Rattle.mg_answer.specs.Ran as running
+use Rattle.mg_answer.specs.declared.run_status.RunStatus.{RunStatus}
+use Rattle.mg_answer.specs.declared.run_status.RunStatus.TheVariants as ended
+use Rattle.mg_answer.proofs.Answering.{ran-ended}
+use Rattle.mg_run.specs.Command.{reads_input}
+use Rattle.mg_run.specs.Task.{Task}
+use Rattle.mg_run.specs.Files.{Files, graphs, no_graphs}
+use Rattle.mg_run.specs.Status.{status_from}
+use Rattle.mg_run.specs.Answer.{Job, refuse, show, merge, solve, run_job, inputs_of, graph_text, checked_job, solve_job, check_job, graph_job, expanded_job, files_job}
+use Rattle.mg_run.specs.Devices.{Device, Devices, run_of, Untouched, HasEnded}
+use Rattle.mg_run.specs.Call.{Ran, Did, IsJob, CallDid, Called, IsOneOf}
+use Rattle.mg_run.specs.Code.Job.{MayRead}
+use Rattle.mg_run.specs.declared.words.Verb.{Verb}
+use Rattle.mg_run.specs.declared.words.Verb.TheVariants.{Run, Solve, Check, Expand}
+use Rattle.mg_run.specs.declared.status.Status.{Status}
+use Rattle.mg_run.specs.declared.status.Status.TheVariants.{Good, StoreFault, Usage, GraphRefused, LineRefused, NodeFault, Stalled, ReadFault, WriteFault, OutOfMemory}
+
+-- A check and an expansion don't read it.
+check-unread : (checked : Result Plan CheckFault) → MayRead (check_job checked) → ⊥
+check-unread (Ok plan) may = may
+check-unread (Err fault) may = may
+
+graph-unread : (verb : Verb) (outers : List OuterShape) (g : GraphView) → reads_input verb ≡ false → MayRead (graph_job verb outers g) → ⊥
+graph-unread Run outers g is may = false≢true (sym is)
+graph-unread Solve outers g is may = false≢true (sym is)
+graph-unread Check outers g is may = check-unread (check_of outers g) may
+graph-unread Expand outers g is may = may
+
+expanded-unread : (verb : Verb) (outers : List OuterShape) (expanded : Result GraphView ExpandFault) → reads_input verb ≡ false → MayRead (expanded_job verb outers expanded) → ⊥
+expanded-unread verb outers (Ok g) is may = graph-unread verb outers g is may
+expanded-unread verb outers (Err fault) is may = may
+
+files-unread : (verb : Verb) (outers : List OuterShape) (files : Files) → reads_input verb ≡ false → MayRead (files_job verb outers files) → ⊥
+files-unread verb outers (graphs []) is may = may
+files-unread verb outers (graphs (main ∷ library)) is may = expanded-unread verb outers (expansion_of main library) is may
+files-unread verb outers (no_graphs note) is may = may
+
+pub unread-by : (task : Task) (contents : List (List ℕ)) (job : Job) (input : Device SourceTold) → IsJob task contents job → MayRead job ⊎ Untouched input → reads_input task.verb ≡ false
+    → Untouched input
+unread-by task contents job input due (inr untouched) is = untouched
+unread-by task contents job input (files, are, same) (inl may) is = absurd (files-unread task.verb task.outers files is (subst MayRead same may))
+
+-- A run and a solution show no text but their own.
+abbrev IsShown : Job → Type 0
+IsShown (refuse note) = ⊥
+IsShown (show text) = Unit {0}
+IsShown (merge names) = ⊥
+IsShown (solve plan) = ⊥
+
+run-unshown : (names : Option (List (List ℕ))) → IsShown (run_job names) → ⊥
+run-unshown None shows = shows
+run-unshown (Some names) shows = shows
+
+checked-unshown : (checked : Result Plan CheckFault) (text : List ℕ) → IsShown (checked_job checked text) → ⊥
+checked-unshown (Ok plan) text shows = run-unshown (inputs_of text) shows
+checked-unshown (Err fault) text shows = shows
+
+solve-unshown : (checked : Result Plan CheckFault) → IsShown (solve_job checked) → ⊥
+solve-unshown (Ok plan) shows = shows
+solve-unshown (Err fault) shows = shows
+
+graph-unshown : (verb : Verb) (outers : List OuterShape) (g : GraphView) → reads_input verb ≡ true → IsShown (graph_job verb outers g) → ⊥
+graph-unshown Run outers g is shows = checked-unshown (check_of outers g) (graph_text g) shows
+graph-unshown Solve outers g is shows = solve-unshown (check_of outers g) shows
+graph-unshown Check outers g is shows = false≢true is
+graph-unshown Expand outers g is shows = false≢true is
+
+expanded-unshown : (verb : Verb) (outers : List OuterShape) (expanded : Result GraphView ExpandFault) → reads_input verb ≡ true → IsShown (expanded_job verb outers expanded) → ⊥
+expanded-unshown verb outers (Ok g) is shows = graph-unshown verb outers g is shows
+expanded-unshown verb outers (Err fault) is shows = shows
+
+files-unshown : (verb : Verb) (outers : List OuterShape) (files : Files) → reads_input verb ≡ true → IsShown (files_job verb outers files) → ⊥
+files-unshown verb outers (graphs []) is shows = shows
+files-unshown verb outers (graphs (main ∷ library)) is shows = expanded-unshown verb outers (expansion_of main library) is shows
+files-unshown verb outers (no_graphs note) is shows = shows
+
+-- The input's end --
+
+abbrev pub ended_statuses : List Status
+ended_statuses = Good ∷ NodeFault ∷ Stalled ∷ []
+
+refused-ended : (status : Status) → status ≡ GraphRefused → IsOneOf status ended_statuses → ⊥
+refused-ended status is (inl e) = cc
+refused-ended status is (inr (inl e)) = cc
+refused-ended status is (inr (inr (inl e))) = cc
+refused-ended status is (inr (inr (inr e))) = e
+
+line-ended : (status : Status) → status ≡ LineRefused → IsOneOf status ended_statuses → ⊥
+line-ended status is (inl e) = cc
+line-ended status is (inr (inl e)) = cc
+line-ended status is (inr (inr (inl e))) = cc
+line-ended status is (inr (inr (inr e))) = e
+
+read-ended : (status : Status) → status ≡ ReadFault → IsOneOf status ended_statuses → ⊥
+read-ended status is (inl e) = cc
+read-ended status is (inr (inl e)) = cc
+read-ended status is (inr (inr (inl e))) = cc
+read-ended status is (inr (inr (inr e))) = e
+
+write-ended : (status : Status) → status ≡ WriteFault → IsOneOf status ended_statuses → ⊥
+write-ended status is (inl e) = cc
+write-ended status is (inr (inl e)) = cc
+write-ended status is (inr (inr (inl e))) = cc
+write-ended status is (inr (inr (inr e))) = e
+
+short-ended : (status : Status) → status ≡ OutOfMemory → IsOneOf status ended_statuses → ⊥
+short-ended status is (inl e) = cc
+short-ended status is (inr (inl e)) = cc
+short-ended status is (inr (inr (inl e))) = cc
+short-ended status is (inr (inr (inr e))) = e
+
+merge-ended : (names : List (List ℕ)) (status : Status) (all : Devices) → Ran names status all → IsOneOf status ended_statuses → HasEnded all.input
+merge-ended names Good all ran one = ran.ended refl
+merge-ended names StoreFault all ran one = elim ran [ ]
+merge-ended names Usage all ran one = elim ran [ ]
+merge-ended names GraphRefused all ran one = elim ran [ ]
+merge-ended names LineRefused all ran one = absurd (line-ended LineRefused refl one)
+merge-ended names NodeFault all ran one = elim ran [ ]
+merge-ended names Stalled all ran one = elim ran [ ]
+merge-ended names ReadFault all ran one = absurd (read-ended ReadFault refl one)
+merge-ended names WriteFault all ran one = absurd (write-ended WriteFault refl one)
+merge-ended names OutOfMemory all ran one = absurd (short-ended OutOfMemory refl one)
+
+-- the status of a call as that of the run
+run-status : (status : Status) (run : RunStatus) → status ≡ status_from run → IsOneOf status ended_statuses → running.IsOneOf run (ended.Good ∷ ended.NodeFault ∷ ended.Stalled ∷ [])
+run-status status ended.Good told one = inl refl
+run-status status ended.LineRefused told one = absurd (line-ended status told one)
+run-status status ended.NodeFault told one = inr (inl refl)
+run-status status ended.Stalled told one = inr (inr (inl refl))
+run-status status ended.ReadFault told one = absurd (read-ended status told one)
+run-status status ended.WriteFault told one = absurd (write-ended status told one)
+run-status status ended.OutOfMemory told one = absurd (short-ended status told one)
+
+end-came : (input : Device SourceTold) → EndCame input.before input.now → HasEnded input
+end-came input came = record { rose = let more = came.rose in omega (arith, more); none = came.none }
+
+did-ended : (task : Task) (contents : List (List ℕ)) (job : Job) (status : Status) (all : Devices) → IsJob task contents job → Did job status all → reads_input task.verb ≡ true
+    → IsOneOf status ended_statuses → HasEnded all.input
+did-ended task contents (refuse note) status all due did reads one = absurd (refused-ended status did.ended one)
+did-ended task contents (show text) status all (files, are, same) did reads one = absurd (files-unshown task.verb task.outers files reads (subst IsShown same tt))
+did-ended task contents (merge names) status all due did reads one = merge-ended names status all did one
+did-ended task contents (solve plan) status all due did reads one =
+    end-came all.input (ran-ended plan did.run (run_of all) did.ran (run-status status did.run did.told one))
+
+call-ended : (status : Status) (task : Task) (all : Devices) → CallDid status task all → reads_input task.verb ≡ true → IsOneOf status ended_statuses → HasEnded all.input
+call-ended status task all called reads one = did-ended task called.contents called.job status all called.due called.did reads one
+
+store-ended : IsOneOf StoreFault ended_statuses → ⊥
+store-ended (inl e) = cc
+store-ended (inr (inl e)) = cc
+store-ended (inr (inr (inl e))) = cc
+store-ended (inr (inr (inr e))) = e
+
+pub called-ended : (status : Status) (task : Task) (all : Devices) → Called status task all → reads_input task.verb ≡ true → IsOneOf status ended_statuses → HasEnded all.input
+called-ended Good task all called reads one = call-ended Good task all called reads one
+called-ended StoreFault task all called reads one = absurd (store-ended one)
+called-ended Usage task all called reads one = elim called [ ]
+called-ended GraphRefused task all called reads one = call-ended GraphRefused task all called reads one
+called-ended LineRefused task all called reads one = call-ended LineRefused task all called reads one
+called-ended NodeFault task all called reads one = call-ended NodeFault task all called reads one
+called-ended Stalled task all called reads one = call-ended Stalled task all called reads one
+called-ended ReadFault task all called reads one = call-ended ReadFault task all called reads one
+called-ended WriteFault task all called reads one = call-ended WriteFault task all called reads one
+called-ended OutOfMemory task all called reads one = absurd (short-ended OutOfMemory refl one)
