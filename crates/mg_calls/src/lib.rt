@@ -15,6 +15,8 @@ mod edge;
 #[cfg(test)]
 mod emissions;
 #[cfg(test)]
+mod equations;
+#[cfg(test)]
 mod feed;
 #[cfg(test)]
 mod feed_reading;
