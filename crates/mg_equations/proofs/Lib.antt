@@ -1,4 +1,3 @@
 pub mod Changing
 pub mod OutcomeSteps
 pub mod RoundSteps
-pub mod LayingLemmas

@@ -18,7 +18,7 @@ use Rattle.mg_value.specs.Settled.{TimedSet, inputs_of as inputs_at}
 use Rattle.mg_calc.specs.Outcome.{Outcome, Failure, after_laying, after_call, unless_failed, shown, called, node_outcome}
 use Rattle.mg_calc.specs.declared.plan_node.PlanNode.{PlanNode}
 use Rattle.mg_calc.specs.Equations.{Job, sides_of, stream_of, inputs_of, outcome_by}
-use Rattle.mg_equations.proofs.LayingLemmas.{from_here}
+use Rattle.mg_route.proofs.LayingLemmas.{from_here}
 
 -- what is laid
 pub laid_well : (phase : Phase) (outcome : Outcome) (answer : Result (List (StreamPrefix Plain)) Cause) (outputs now : List (StreamPrefix Plain)) → answer ≡ Ok outputs → now ≡ outputs

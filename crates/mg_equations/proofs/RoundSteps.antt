@@ -25,7 +25,7 @@ use Rattle.mg_calc.specs.Meaning.{count_of, counts}
 use Rattle.mg_calc.proofs.Earlier.{at_place, get_map, some_same}
 use Rattle.mg_equations.specs.declared.round.Round.{Round}
 use Rattle.mg_equations.specs.Rounds.{AddsOutcome, AddsKept, IsKnownFrom, node_faults, changes}
-use Rattle.mg_equations.proofs.LayingLemmas.{from_here, at_end}
+use Rattle.mg_route.proofs.LayingLemmas.{from_here, at_end}
 use Rattle.mg_equations.proofs.Changing.{unchanged_one, or_none}
 
 -- what a node of a job has

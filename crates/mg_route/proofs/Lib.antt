@@ -1,3 +1,4 @@
 pub mod ClonerLemmas
+pub mod LayingLemmas
 pub mod PlaceLemmas
 pub mod Sent

@@ -1,3 +1,4 @@
 pub mod Held
 pub mod Logged
 pub mod Places
+pub mod Reasons

@@ -1,6 +1,6 @@
 use Rattle.std.proofs.Common.{arith}
 use Rattle.mg_value.specs.Prefix.{closed}
-use Rattle.mg_equations.proofs.LayingLemmas.{mapped_further}
+use Rattle.mg_route.proofs.LayingLemmas.{mapped_further}
 use Rattle.mg_equations.proofs.laying.close_all.Goals as goal
 
 pub loop-output-preserved : goal.loop-output-preserved

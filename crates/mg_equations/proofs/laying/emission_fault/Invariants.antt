@@ -1,7 +1,7 @@
 -- What is left decides.
 use Rattle.std.proofs.Common.{◌≡◌, drop}
 use Rattle.mg_calc.specs.Laying.{laid_behind}
-use Rattle.mg_equations.specs.Reasons.{reason_of}
+use Rattle.mg_route.specs.Reasons.{reason_of}
 use Rattle.mg_equations.proofs.laying.emission_fault.Given as goal
 
 abbrev pub invariant-loop-i : goal.invariant-loop-i

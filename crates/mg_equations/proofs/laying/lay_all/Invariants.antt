@@ -1,6 +1,6 @@
 -- The parts before the index are laid.
 use Rattle.std.proofs.Common.{◌≡◌, take}
-use Rattle.mg_equations.specs.Reasons.{all_laid_on}
+use Rattle.mg_route.specs.Reasons.{all_laid_on}
 use Rattle.mg_equations.proofs.laying.lay_all.Given as goal
 
 abbrev pub invariant-loop-i : goal.invariant-loop-i

@@ -7,7 +7,7 @@ use Rattle.mg_calc.specs.declared.emission.Laid.{Laid}
 use Rattle.mg_calc.specs.declared.node_fault.Phase.{Phase}
 use Rattle.mg_calc.specs.Laying.{laying_fault, unless, after, with_packets, raised_to, with_laid, laid_behind}
 use Rattle.mg_value.proofs.SetSteps.{mapped-more, mapped-later}
-use Rattle.mg_equations.specs.Reasons.{reason_of, laid_on, all_laid_on}
+use Rattle.mg_route.specs.Reasons.{reason_of, laid_each, laid_on, all_laid_on}
 
 -- what is left of a list from a place on
 pub from_here : {X : Type 0} (xs : List X) (i : ℕ) (x : X) → i < length xs → x ≡ get_or xs i x → drop i xs ≡ x ∷ drop (i + 1) xs
@@ -84,40 +84,40 @@ emission_passed offset phase outputs emission i output laid fault part so_far is
     so_far ∙ (both_here offset phase outputs emission i output laid part ∙ part_passed offset phase output (drop (i + 1) outputs) laid (drop (i + 1) emission) fault is none)
 
 -- What is laid, part by part.
-laid_more : (outputs : List (StreamPrefix Plain)) (emission : List Laid) (i : ℕ) (output : StreamPrefix Plain) (laid : Laid) → i < length emission → laid ≡ get_or emission i laid
-    → output ≡ get_or (all_laid_on outputs (take i emission)) i output → set (all_laid_on outputs (take i emission)) i (laid_on output laid) ≡ all_laid_on outputs (take (suc i) emission)
-laid_more outputs [] i output laid below is output_is = absurd (omega (arith, below))
-laid_more [] (e ∷ emission) zero output laid below is output_is = refl
-laid_more [] (e ∷ emission) (suc i) output laid below is output_is = refl
-laid_more (o ∷ outputs) (e ∷ emission) zero output laid below is output_is = ap₂ (λ (a : StreamPrefix Plain) (b : Laid). laid_on a b ∷ outputs) output_is is
-laid_more (o ∷ outputs) (e ∷ emission) (suc i) output laid below is output_is =
-    ap (λ (rest : List (StreamPrefix Plain)). laid_on o e ∷ rest) (laid_more outputs emission i output laid (omega (arith, below)) is output_is)
+laid_more : {X : Type 0} (f : X → Laid → X) (outputs : List X) (emission : List Laid) (i : ℕ) (output : X) (laid : Laid) → i < length emission → laid ≡ get_or emission i laid
+    → output ≡ get_or (laid_each f outputs (take i emission)) i output → set (laid_each f outputs (take i emission)) i (f output laid) ≡ laid_each f outputs (take (suc i) emission)
+laid_more f outputs [] i output laid below is output_is = absurd (omega (arith, below))
+laid_more f [] (e ∷ emission) zero output laid below is output_is = refl
+laid_more f [] (e ∷ emission) (suc i) output laid below is output_is = refl
+laid_more {X} f (o ∷ outputs) (e ∷ emission) zero output laid below is output_is = ap₂ (λ (a : X) (b : Laid). f a b ∷ outputs) output_is is
+laid_more {X} f (o ∷ outputs) (e ∷ emission) (suc i) output laid below is output_is =
+    ap (λ (rest : List X). f o e ∷ rest) (laid_more f outputs emission i output laid (omega (arith, below)) is output_is)
 
-pub laid_further : (outputs now : List (StreamPrefix Plain)) (emission : List Laid) (i : ℕ) (output new : StreamPrefix Plain) (laid : Laid) → now ≡ all_laid_on outputs (take i emission) → i < length emission → laid ≡ get_or emission i laid
-    → output ≡ get_or now i output → new ≡ laid_on (get_or now i output) laid → set now i new ≡ all_laid_on outputs (take (i + 1) emission)
-laid_further outputs now emission i output new laid so_far below is output_is new_is =
-    ap₂ (λ (xs : List (StreamPrefix Plain)) (s : StreamPrefix Plain). set xs i s) so_far (new_is ∙ ap (λ (s : StreamPrefix Plain). laid_on s laid) (sym output_is))
-    ∙ (laid_more outputs emission i output laid below is (output_is ∙ ap (λ (xs : List (StreamPrefix Plain)). get_or xs i output) so_far)
-    ∙ ap (λ (n : ℕ). all_laid_on outputs (take n emission)) (sym (add-one i)))
+pub laid_further : {X : Type 0} (f : X → Laid → X) (outputs now : List X) (emission : List Laid) (i : ℕ) (output new : X) (laid : Laid) → now ≡ laid_each f outputs (take i emission) → i < length emission → laid ≡ get_or emission i laid
+    → output ≡ get_or now i output → new ≡ f (get_or now i output) laid → set now i new ≡ laid_each f outputs (take (i + 1) emission)
+laid_further {X} f outputs now emission i output new laid so_far below is output_is new_is =
+    ap₂ (λ (xs : List X) (s : X). set xs i s) so_far (new_is ∙ ap (λ (s : X). f s laid) (sym output_is))
+    ∙ (laid_more f outputs emission i output laid below is (output_is ∙ ap (λ (xs : List X). get_or xs i output) so_far)
+    ∙ ap (λ (n : ℕ). laid_each f outputs (take n emission)) (sym (add-one i)))
 
 -- parts beyond the outputs lay nothing
-beyond : (outputs : List (StreamPrefix Plain)) (emission : List Laid) (i : ℕ) → length outputs ≤ i → all_laid_on outputs (take i emission) ≡ all_laid_on outputs (take (suc i) emission)
-beyond outputs [] zero over = refl
-beyond outputs [] (suc i) over = refl
-beyond [] (e ∷ emission) zero over = refl
-beyond [] (e ∷ emission) (suc i) over = refl
-beyond (o ∷ outputs) (e ∷ emission) zero over = absurd (omega (arith, over))
-beyond (o ∷ outputs) (e ∷ emission) (suc i) over = ap (λ (rest : List (StreamPrefix Plain)). laid_on o e ∷ rest) (beyond outputs emission i (omega (arith, over)))
+beyond : {X : Type 0} (f : X → Laid → X) (outputs : List X) (emission : List Laid) (i : ℕ) → length outputs ≤ i → laid_each f outputs (take i emission) ≡ laid_each f outputs (take (suc i) emission)
+beyond f outputs [] zero over = refl
+beyond f outputs [] (suc i) over = refl
+beyond f [] (e ∷ emission) zero over = refl
+beyond f [] (e ∷ emission) (suc i) over = refl
+beyond f (o ∷ outputs) (e ∷ emission) zero over = absurd (omega (arith, over))
+beyond {X} f (o ∷ outputs) (e ∷ emission) (suc i) over = ap (λ (rest : List X). f o e ∷ rest) (beyond f outputs emission i (omega (arith, over)))
 
-pub laid_long : (outputs : List (StreamPrefix Plain)) (emission : List Laid) → length (all_laid_on outputs emission) ≡ length outputs
-laid_long outputs [] = refl
-laid_long [] (e ∷ emission) = refl
-laid_long (o ∷ outputs) (e ∷ emission) = ap (λ (n : ℕ). suc n) (laid_long outputs emission)
+pub laid_long : {X : Type 0} (f : X → Laid → X) (outputs : List X) (emission : List Laid) → length (laid_each f outputs emission) ≡ length outputs
+laid_long f outputs [] = refl
+laid_long f [] (e ∷ emission) = refl
+laid_long f (o ∷ outputs) (e ∷ emission) = ap (λ (n : ℕ). suc n) (laid_long f outputs emission)
 
-pub laid_beyond : (outputs now : List (StreamPrefix Plain)) (emission : List Laid) (i : ℕ) → now ≡ all_laid_on outputs (take i emission) → length now ≤ i → now ≡ all_laid_on outputs (take (i + 1) emission)
-laid_beyond outputs now emission i so_far over =
-    so_far ∙ (beyond outputs emission i (let same = ap length so_far in omega (arith, same, over, laid_long outputs (take i emission)))
-    ∙ ap (λ (n : ℕ). all_laid_on outputs (take n emission)) (sym (add-one i)))
+pub laid_beyond : {X : Type 0} (f : X → Laid → X) (outputs now : List X) (emission : List Laid) (i : ℕ) → now ≡ laid_each f outputs (take i emission) → length now ≤ i → now ≡ laid_each f outputs (take (i + 1) emission)
+laid_beyond f outputs now emission i so_far over =
+    so_far ∙ (beyond f outputs emission i (let same = ap length so_far in omega (arith, same, over, laid_long f outputs (take i emission)))
+    ∙ ap (λ (n : ℕ). laid_each f outputs (take n emission)) (sym (add-one i)))
 
 where_passed : {A : Type 0} (fault : Option Cause) (answer : Result A Cause) (value : A) → reason_of (unless fault answer) ≡ None → (reason_of answer ≡ None → answer ≡ Ok value) → unless fault answer ≡ Ok value
 where_passed (Some cause) answer value none good = absurd cc
@@ -150,8 +150,8 @@ emission_laid offset phase (output ∷ outputs) (laid ∷ emission) none =
     ∙ ap (λ (answer : Result (List (StreamPrefix Plain)) Cause). after answer (λ others. Ok (laid_on output laid ∷ others))) others
 
 -- A list that is mapped in place, one further.
-pub mapped_further : (f : StreamPrefix Plain → StreamPrefix Plain) (xs now : List (StreamPrefix Plain)) (i : ℕ) (x new : StreamPrefix Plain) → i < length xs → x ≡ get_or now i x → new ≡ f (get_or now i x)
+pub mapped_further : {X : Type 0} (f : X → X) (xs now : List X) (i : ℕ) (x new : X) → i < length xs → x ≡ get_or now i x → new ≡ f (get_or now i x)
     → now ≡ map f (take i xs) ++ drop i xs → set now i new ≡ map f (take (i + 1) xs) ++ drop (i + 1) xs
-mapped_further f xs now i x new below is new_is so_far =
+mapped_further {X} f xs now i x new below is new_is so_far =
     ap (set now i) (new_is ∙ ap f (sym is))
-    ∙ mapped-more f xs now i x below (is ∙ (ap (λ (l : List (StreamPrefix Plain)). get_or l i x) so_far ∙ mapped-later f xs i x below)) so_far
+    ∙ mapped-more f xs now i x below (is ∙ (ap (λ (l : List X). get_or l i x) so_far ∙ mapped-later f xs i x below)) so_far
