@@ -37,7 +37,7 @@ laying_counts : (phase : Phase) (outcome : Outcome) (answer : Result (List (Stre
 laying_counts phase outcome (Ok outputs) = refl
 laying_counts phase outcome (Err cause) = refl
 
-call_counts : (offset : Option ℤ) (phase : Phase) (outcome : Outcome) (answer : Answer) → (after_call offset phase outcome answer).taken ≡ outcome.taken
+pub call_counts : (offset : Option ℤ) (phase : Phase) (outcome : Outcome) (answer : Answer) → (after_call offset phase outcome answer).taken ≡ outcome.taken
 call_counts offset phase outcome (Err cause) = refl
 call_counts offset phase outcome (Ok given) = laying_counts phase (record outcome { state = given.0 }) (laid_behind offset phase outcome.outputs given.1)
 
@@ -62,11 +62,11 @@ if_counts : (test : Bool) (a b : Outcome) (n : ℕ) → a.taken ≡ n → b.take
 if_counts true a b n e f = e
 if_counts false a b n e f = f
 
-end_counts_by : (fault : Option Failure) (outcome next : Outcome) → next.taken ≡ outcome.taken → (unless_failed fault outcome next).taken ≡ outcome.taken
+pub end_counts_by : (fault : Option Failure) (outcome next : Outcome) → next.taken ≡ outcome.taken → (unless_failed fault outcome next).taken ≡ outcome.taken
 end_counts_by (Some failure) outcome next e = refl
 end_counts_by None outcome next e = e
 
-end_counts : (law : Law) (offset : Option ℤ) (reached : ℕ) (outcome : Outcome) → (ended law offset reached outcome).taken ≡ outcome.taken
+pub end_counts : (law : Law) (offset : Option ℤ) (reached : ℕ) (outcome : Outcome) → (ended law offset reached outcome).taken ≡ outcome.taken
 end_counts law offset reached outcome =
     let before : Outcome = record outcome { outputs = all_raised offset reached outcome.outputs } in
     end_counts_by outcome.fault outcome (with_reach law offset reached outcome)

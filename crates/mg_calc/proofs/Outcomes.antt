@@ -38,11 +38,11 @@ unless_extends (Some failure) outcome next e = all_by_themselves outcome.outputs
 unless_extends None outcome next e = e
 
 -- where nothing failed, what comes next
-goes_on : (fault : Option Failure) (outcome next : Outcome) → fault ≡ None → unless_failed fault outcome next ≡ next
+pub goes_on : (fault : Option Failure) (outcome next : Outcome) → fault ≡ None → unless_failed fault outcome next ≡ next
 goes_on (Some failure) outcome next h = absurd cc
 goes_on None outcome next h = refl
 
-stays : (fault : Option Failure) (outcome next : Outcome) (failure : Failure) → fault ≡ Some failure → unless_failed fault outcome next ≡ outcome
+pub stays : (fault : Option Failure) (outcome next : Outcome) (failure : Failure) → fault ≡ Some failure → unless_failed fault outcome next ≡ outcome
 stays (Some other) outcome next failure h = refl
 stays None outcome next failure h = absurd cc
 
@@ -195,7 +195,7 @@ end_keeps law Good offset reached outcome times le k =
       | inr (failure, h) ↦ subst (λ (o : Outcome). AllByRecursion IsPrefix o.outputs) (sym (stays outcome.fault outcome (with_reach law offset reached outcome) failure h)) k.prefixes
     ]
 
-end_extends : (law : Law) (Good : List Plain → Type 0) (offset : Option ℤ) (reached : ℕ) (outcome : Outcome) → KeepsTimes law Good → reached ≤ done → IsKept Good outcome
+pub end_extends : (law : Law) (Good : List Plain → Type 0) (offset : Option ℤ) (reached : ℕ) (outcome : Outcome) → KeepsTimes law Good → reached ≤ done → IsKept Good outcome
     → AreExtendedBy outcome.outputs (ended law offset reached outcome).outputs
 end_extends law Good offset reached outcome times le k =
     elim (fault_cases outcome.fault) [
@@ -215,7 +215,7 @@ pub record Further (low high : ℕ) (sets : List (TimedSet Plain)) : Type 0 wher
 not_done : (law : Law) (offset : Option ℤ) (reached : ℕ) (outcome : Outcome) → (reached == done) ≡ false → with_reach law offset reached outcome ≡ before_end offset reached outcome
 not_done law offset reached outcome h = rw h refl
 
-raised_extends_end : (law : Law) (Good : List Plain → Type 0) (offset : Option ℤ) (low high : ℕ) (outcome : Outcome) (sets : List (TimedSet Plain)) → KeepsTimes law Good → Further low high sets
+pub raised_extends_end : (law : Law) (Good : List Plain → Type 0) (offset : Option ℤ) (low high : ℕ) (outcome : Outcome) (sets : List (TimedSet Plain)) → KeepsTimes law Good → Further low high sets
     → IsKept Good outcome → IsKept Good (fold (shown law offset) outcome sets) → outcome.fault ≡ None
     → AreExtendedBy (all_raised offset low outcome.outputs) (ended law offset high (fold (shown law offset) outcome sets)).outputs
 raised_extends_end law Good offset low high outcome [] times f k l h =
@@ -265,7 +265,7 @@ call_by_number_keeps law Good outcome number times k =
     unless_keeps Good outcome.fault outcome _ k (λ h.
     call_keeps Good None (Call number) (record outcome { taken = outcome.taken + 1 }) (call law outcome.state number) k.prefixes (λ given e. times.calls outcome.state number given (k.good h) e))
 
-calls_keep : (law : Law) (Good : List Plain → Type 0) (outcome : Outcome) (numbers : List ℕ) → KeepsTimes law Good → IsKept Good outcome → IsKept Good (fold (called law) outcome numbers)
+pub calls_keep : (law : Law) (Good : List Plain → Type 0) (outcome : Outcome) (numbers : List ℕ) → KeepsTimes law Good → IsKept Good outcome → IsKept Good (fold (called law) outcome numbers)
 calls_keep law Good outcome [] times k = k
 calls_keep law Good outcome (number ∷ numbers) times k = calls_keep law Good (called law outcome number) numbers times (call_by_number_keeps law Good outcome number times k)
 
@@ -282,7 +282,7 @@ source_keeps law Good calls outputs sides times =
 opened_extends : (law : Law) (offset : Option ℤ) (outputs : ℕ) (sides : List (Option Plain)) → AreExtendedBy (replicate outputs empty_prefix) (opened law offset outputs sides).outputs
 opened_extends law offset outputs sides = call_extends offset Open (unopened outputs) (opening law sides)
 
-calls_extend : (law : Law) (outcome : Outcome) (numbers : List ℕ) → AreExtendedBy outcome.outputs (fold (called law) outcome numbers).outputs
+pub calls_extend : (law : Law) (outcome : Outcome) (numbers : List ℕ) → AreExtendedBy outcome.outputs (fold (called law) outcome numbers).outputs
 calls_extend law outcome [] = all_by_themselves outcome.outputs
 calls_extend law outcome (number ∷ numbers) =
     all_further outcome.outputs (called law outcome number).outputs _
@@ -290,7 +290,7 @@ calls_extend law outcome (number ∷ numbers) =
     (call_extends None (Call number) (record outcome { taken = outcome.taken + 1 }) (call law outcome.state number)))
     (calls_extend law (called law outcome number) numbers)
 
-last_call_extends : (fault : Option Failure) (outcome : Outcome) → AllByRecursion IsPrefix outcome.outputs → AreExtendedBy outcome.outputs (unless_failed fault outcome (record outcome { outputs = map closed outcome.outputs })).outputs
+pub last_call_extends : (fault : Option Failure) (outcome : Outcome) → AllByRecursion IsPrefix outcome.outputs → AreExtendedBy outcome.outputs (unless_failed fault outcome (record outcome { outputs = map closed outcome.outputs })).outputs
 last_call_extends (Some failure) outcome k = all_by_themselves outcome.outputs
 last_call_extends None outcome k = close_extends outcome.outputs k
 

@@ -27,6 +27,7 @@ use Rattle.mg_node.specs.Lawful.{HoldsWaits, IsIntakeOf, LawfulIntake, is_close,
 use Rattle.mg_node.specs.Claims.{MayClaim, with_answer, TakesAnswer}
 use Rattle.mg_node.proofs.Answering.{IsLoopCell, HasOne, loop_stage, loop_cell_by, next_in, one_of, into_is, stream_is, parts_of, follows, may_come_by}
 use Rattle.mg_node.proofs.Delivering.{GoesOn}
+use Rattle.mg_node.proofs.Stages.{loop_has_no_fault}
 
 -- The base, with one answer more.
 all_appended-snoc : (s : StreamPrefix Plain) (ps : List (Stamped Plain)) (p : Stamped Plain) → all_appended s (ps ++ p ∷ []) ≡ appended (all_appended s ps) p
@@ -90,9 +91,6 @@ lays_nothing job number engine stream w main loop k r one low at is =
     }
 
 -- A loopback keeps nothing, has no fault, and is shown no sets.
-stage_fault : (law : Law) (job : Job) (streams : List (StreamPrefix Plain)) (node : PlanNode) (n : ℕ) → law ≡ Loopback → (stage_by law job streams node n).fault ≡ None
-stage_fault law job streams node n is = subst (λ (l : Law). (stage_by l job streams node n).fault ≡ None) (sym is) refl
-
 stage_state : (law : Law) (job : Job) (streams : List (StreamPrefix Plain)) (node : PlanNode) (n : ℕ) → law ≡ Loopback → (stage_by law job streams node n).state ≡ []
 stage_state law job streams node n is = subst (λ (l : Law). (stage_by l job streams node n).state ≡ []) (sym is) refl
 
@@ -144,8 +142,8 @@ answered_engine job number engine held r cell next =
     let none : number_of (λ (e : EntryView). is_close e.phase) engine.window ≡ 0 = ap (number_of (λ (e : EntryView). is_close e.phase)) cell.laid in
     let base : (come_to job h.streams h.node (engine.laid + 1) engine.closed).outputs ≡ answered (engine.laid + 1) main loop ∷ [] =
     ap (λ (b : Bool). (come_to job h.streams h.node (engine.laid + 1) b).outputs) cell.going ∙ loop_stage h.node.law job.job h.streams h.node (engine.laid + 1) cell.law in
-    let fault_before : (come_to job h.streams h.node engine.laid engine.closed).fault ≡ None = ap (λ (b : Bool). (come_to job h.streams h.node engine.laid b).fault) cell.going ∙ stage_fault h.node.law job.job h.streams h.node engine.laid cell.law in
-    let fault_after : (come_to job h.streams h.node (engine.laid + 1) engine.closed).fault ≡ None = ap (λ (b : Bool). (come_to job h.streams h.node (engine.laid + 1) b).fault) cell.going ∙ stage_fault h.node.law job.job h.streams h.node (engine.laid + 1) cell.law in
+    let fault_before : (come_to job h.streams h.node engine.laid engine.closed).fault ≡ None = ap (λ (b : Bool). (come_to job h.streams h.node engine.laid b).fault) cell.going ∙ loop_has_no_fault h.node.law job.job h.streams h.node engine.laid cell.law in
+    let fault_after : (come_to job h.streams h.node (engine.laid + 1) engine.closed).fault ≡ None = ap (λ (b : Bool). (come_to job h.streams h.node (engine.laid + 1) b).fault) cell.going ∙ loop_has_no_fault h.node.law job.job h.streams h.node (engine.laid + 1) cell.law in
     record {
       streams = h.streams;
       solves = h.solves;

@@ -56,15 +56,16 @@ parts_of (x ∷ rs) (suc k) r p at is =
     cons_front None xs ys = refl
     cons_front (Some y) xs ys = refl
 
+-- what stands behind the same
+pub same_rest : {X : Type 0} (xs us vs : List X) → xs ++ us ≡ xs ++ vs → us ≡ vs
+same_rest [] us vs e = e
+same_rest (x ∷ xs) us vs e = same_rest xs us vs cc
+
 -- the next packet of a stream that extends what is laid
 pub follows : (stream w : StreamPrefix Plain) (p : Stamped Plain) (more : List (Stamped Plain)) → IsPrefix stream → IsExtendedBy w stream → stream.packets ≡ w.packets ++ p ∷ more → GoesOn stream w p
 follows stream w p more is e same =
     let rest : e.further ≡ p ∷ more = same_rest w.packets e.further (p ∷ more) (sym e.packets ∙ same) in
     goes_on_by stream w p more is same (subst (λ (ps : List (Stamped Plain)). All (λ q. w.bound ≤ q.at) ps) rest e.above)
-  where
-    same_rest : (xs us vs : List (Stamped Plain)) → xs ++ us ≡ xs ++ vs → us ≡ vs
-    same_rest [] us vs e = e
-    same_rest (x ∷ xs) us vs e = same_rest xs us vs (cc)
 
 pub may_come_by : (q : Waiting Plain) (s : StreamPrefix Plain) (p : Stamped Plain) → StandsFor q s → MayFollow s p → MayCome q p.at
 may_come_by q s p h may = record {
@@ -116,7 +117,7 @@ loop_cell_by job number engine intake held h i agree role waits may =
     }
 
 -- the stream of a loopback in the solution
-loop_outcome : (law : Law) (job : Job) (streams : List (StreamPrefix Plain)) (node : PlanNode) → law ≡ Loopback → (outcome_by law job streams node).outputs ≡ loopback (main_of streams node) (loop_of streams node) ∷ []
+pub loop_outcome : (law : Law) (job : Job) (streams : List (StreamPrefix Plain)) (node : PlanNode) → law ≡ Loopback → (outcome_by law job streams node).outputs ≡ loopback (main_of streams node) (loop_of streams node) ∷ []
 loop_outcome law job streams node is = subst (λ (l : Law). (outcome_by l job streams node).outputs ≡ loopback (main_of streams node) (loop_of streams node) ∷ []) (sym is) refl
 
 pub loop_stage : (law : Law) (job : Job) (streams : List (StreamPrefix Plain)) (node : PlanNode) (n : ℕ) → law ≡ Loopback → (stage_by law job streams node n).outputs ≡ answered n (main_of streams node) (loop_of streams node) ∷ []

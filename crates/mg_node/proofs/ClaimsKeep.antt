@@ -177,7 +177,7 @@ source_law Constants calls claimed e less = absurd (let none : 0 ≡ calls = cc 
 source_law Loopback calls claimed e less = absurd cc
 source_law law calls claimed e less = absurd cc
 
-count_calls : (law : Law) (streams : List (StreamPrefix Plain)) (node : PlanNode) → IsSource law → count_by law streams node ≡ calls_of node.law
+pub count_calls : (law : Law) (streams : List (StreamPrefix Plain)) (node : PlanNode) → IsSource law → count_by law streams node ≡ calls_of node.law
 count_calls (Count count start step) streams node is = refl
 count_calls (SideOnce at) streams node is = refl
 count_calls law streams node is = absurd is

@@ -1,11 +1,11 @@
 -- Close is claimed once no more works come: it is the node's last.
-use Rattle.std.proofs.Common.{◌≡◌, ℕ, ◌+◌, ◌≤◌, Bool, true, false, List, [], ◌∷◌, length, length-drop, map, drop, All, Option, Some, None, Result, Ok, Err, option_map, unwrap_or, slice_get, count_by as number_of, ◌||◌, is_some, get_or, ap, sym, refl, subst, ◌∙◌, arith}
+use Rattle.std.proofs.Common.{◌≡◌, ℕ, ◌+◌, ◌≤◌, Bool, true, false, List, [], ◌∷◌, length, length-drop, map, drop, All, Option, Some, None, Result, Ok, Err, option_map, unwrap_or, slice_get, count_by as number_of, ◌||◌, is_some, ap, sym, refl, subst, ◌∙◌, arith}
 use Rattle.std.specs.List.{fold, range_with_len}
 use Rattle.std.proofs.lemmas.List.FromFn.{length-range_with_len}
 use Rattle.std.proofs.lemmas.List.Elements.{All-from_recursion}
 use Rattle.mg_time.specs.Time.{done}
 use Rattle.mg_value.specs.Payload.{Plain}
-use Rattle.mg_value.specs.Prefix.{StreamPrefix, IsPrefix, empty_prefix, closed}
+use Rattle.mg_value.specs.Prefix.{StreamPrefix, IsPrefix, closed}
 use Rattle.mg_value.specs.Extension.{IsExtendedBy, AreExtendedBy}
 use Rattle.mg_value.specs.Loopback.{replies}
 use Rattle.mg_value.specs.Settled.{settled_sets, reach}
@@ -34,7 +34,7 @@ use Rattle.mg_calc.specs.Shape.{calls_of}
 use Rattle.mg_calc.specs.Equations.{Job, inputs_of, sides_of, outcome_by}
 use Rattle.mg_calc.specs.Meaning.{count_of}
 use Rattle.mg_calc.proofs.Jobs.{any_state, job_known}
-use Rattle.mg_calc.proofs.Rounds.{streams_are_prefixes, stream_is_prefix}
+use Rattle.mg_calc.proofs.Rounds.{stream_extends, streams_are_prefixes, stream_is_prefix}
 use Rattle.mg_calc.proofs.Solutions.{solution_keeps, one_solution}
 use Rattle.mg_node.specs.declared.role.Role.{Role}
 use Rattle.mg_node.specs.declared.role.Role.TheVariants.{Input, Source, Loop as LoopRole, Sets as SetsRole}
@@ -148,7 +148,7 @@ loop_last law streams node k is count over = subst (λ (l : Law). (k ≡ count_b
 
 -- By its role.
 
-law_is_loop : (o : Option PlanNode) (node : PlanNode) → o ≡ Some node → option_map (λ n. n.law) o ≡ Some Loopback → node.law ≡ Loopback
+pub law_is_loop : (o : Option PlanNode) (node : PlanNode) → o ≡ Some node → option_map (λ n. n.law) o ≡ Some Loopback → node.law ≡ Loopback
 law_is_loop None node is law = absurd cc
 law_is_loop (Some m) node is law = (let same : m ≡ node = cc in let here : m.law ≡ Loopback = cc in ap (λ (n : PlanNode). n.law) (sym same) ∙ here)
 
@@ -170,20 +170,12 @@ loop_close : (job : LoggedJob) (number : ℕ) (streams : List (StreamPrefix Plai
 loop_close job number streams node k (Sets inbox) solves there role holds next = absurd (holds.0 (ap (λ (o : Option PlanNode). option_map (λ n. n.law) o) there ∙ ap Some (loop_law node.law role)))
 loop_close job number streams node k (Loop held) solves there role holds next =
     let at : streams_at streams (ports_of job.job.plan number) ≡ inputs_of streams node = ap (λ (o : Option PlanNode). streams_at streams (unwrap_or (option_map (λ n. n.inputs) o) job.job.plan.outputs)) there in
-    let both : AreExtendedBy (holds.1.loop ∷ holds.1.main ∷ []) (inputs_of streams node) = subst (AreExtendedBy (holds.1.loop ∷ holds.1.main ∷ [])) at holds.1.extended in
+    let came : List (StreamPrefix Plain) = holds.1.loop ∷ holds.1.main ∷ [] in
+    let both : AreExtendedBy came (inputs_of streams node) = subst (AreExtendedBy came) at holds.1.extended in
     let prefixes = solution_keeps any_state job.job (job_known job.job solves.is_job) streams solves.solution in
     let wider : IsPrefix (main_of streams node) = stream_is_prefix (inputs_of streams node) 1 (streams_are_prefixes streams node.inputs prefixes) in
-    let ended = loop_over k held holds.1.main holds.1.loop (main_of streams node) (loop_of streams node) wider holds.1.stands (second (inputs_of streams node) both) (first (inputs_of streams node) both) next.0 next.1 in
+    let ended = loop_over k held holds.1.main holds.1.loop (main_of streams node) (loop_of streams node) wider holds.1.stands (stream_extends came (inputs_of streams node) 1 both) (stream_extends came (inputs_of streams node) 0 both) next.0 next.1 in
     loop_last node.law streams node k (loop_law node.law role) ended.0 (ended.1, ended.2)
-  where
-    first : (ss : List (StreamPrefix Plain)) → AreExtendedBy (holds.1.loop ∷ holds.1.main ∷ []) ss → IsExtendedBy holds.1.loop (get_or ss 0 empty_prefix)
-    first [] e = absurd e
-    first (s ∷ ss) e = e.0
-
-    second : (ss : List (StreamPrefix Plain)) → AreExtendedBy (holds.1.loop ∷ holds.1.main ∷ []) ss → IsExtendedBy holds.1.main (get_or ss 1 empty_prefix)
-    second [] e = absurd e
-    second (s ∷ []) e = absurd e.1
-    second (s ∷ t ∷ ss) e = e.1.0
 
 close_by : (job : LoggedJob) (number : ℕ) (engine : EngineView) (intake : IntakeView) (h : IsEngineOf job number engine) (i : IsIntakeOf job number intake) (r : Role) → engine.role ≡ r → AgreeBy r engine.claimed intake.claimed → engine.laid ≡ engine.claimed → IsOver r engine.claimed intake.waits
     → (engine.claimed ≡ count_of_all h.streams h.node) × IsOverBy h.node.law h.streams h.node
@@ -204,12 +196,12 @@ close_by job number engine intake h i SetsRole role agree laid over =
     sets_close job number h.streams h.node engine.claimed intake.waits h.solves h.there (sym h.set_up.role ∙ role) holds over
 close_by job number engine intake h i Input role agree laid over = absurd (never_input h.node.law (sym h.set_up.role ∙ role))
 
-no_fault : (fault : Option NodeFault) (f : Option Failure) (number : ℕ) → is_some fault ≡ false → fault ≡ option_map (λ g. record { node = number; phase = g.phase; cause = g.cause }) f → f ≡ None
+pub no_fault : (fault : Option NodeFault) (f : Option Failure) (number : ℕ) → is_some fault ≡ false → fault ≡ option_map (λ g. record { node = number; phase = g.phase; cause = g.cause }) f → f ≡ None
 no_fault fault None number none is = refl
 no_fault None (Some g) number none is = absurd cc
 no_fault (Some x) (Some g) number none is = absurd cc
 
-second_not : (a b : Bool) → (a || b) ≡ false → (a ≡ false) × (b ≡ false)
+pub second_not : (a b : Bool) → (a || b) ≡ false → (a ≡ false) × (b ≡ false)
 second_not false b e = (refl, e)
 second_not true b e = absurd cc
 

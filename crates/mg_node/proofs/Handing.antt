@@ -1,5 +1,5 @@
 -- A work that is claimed is lawful, and so is its engine.
-use Rattle.std.proofs.Common.{◌≡◌, ℕ, zero, suc, ◌+◌, ◌<◌, Bool, true, false, cond, List, [], ◌∷◌, ◌++◌, length, length-append, append-nil, Option, Some, None, IsSome, option_map, slice_get, count_by as number_of, inl, inr, ◌⊎◌, ap, sym, refl, subst, ◌∙◌, arith, if◌then◌else◌, rules}
+use Rattle.std.proofs.Common.{◌≡◌, ℕ, zero, suc, ◌+◌, ◌<◌, Bool, true, false, cond, List, [], ◌∷◌, ◌++◌, length, length-append, append-nil, Option, Some, None, option_map, slice_get, count_by as number_of, inl, inr, ◌⊎◌, ap, sym, refl, subst, ◌∙◌, arith, if◌then◌else◌}
 use Rattle.std.specs.List.{AllByRecursion}
 use Rattle.std.proofs.lemmas.List.Sums.{sum_by-append, sum_by-cons}
 use Rattle.std.proofs.lemmas.List.Elements.{recursion_from_All, All-from_recursion}
@@ -8,13 +8,11 @@ use Rattle.mg_value.specs.Prefix.{Stamped, StreamPrefix}
 use Rattle.mg_calc.specs.declared.node_fault.Phase.{Phase}
 use Rattle.mg_calc.specs.declared.node_fault.Phase.TheVariants.{Open, Call as SourceCall, Process, Close}
 use Rattle.mg_calc.specs.declared.plan_node.PlanNode.{PlanNode}
-use Rattle.mg_calc.specs.Plan.{FlightFits}
 use Rattle.mg_node.specs.Views.{BenchView, EntryView, EngineView}
-use Rattle.mg_node.specs.Job.{LoggedJob, IsTask, IsLast, count_of_all, stage, first_log, log_after, calls_before}
+use Rattle.mg_node.specs.Job.{LoggedJob, IsTask, IsLast, count_of_all, stage, log_after, calls_before}
 use Rattle.mg_node.specs.Lawful.{is_close, IsIdle, IsEntry, come_to, calls_by, IsEngineOf, LawfulWork}
 use Rattle.mg_node.proofs.Delivering.{last_have}
-use Rattle.mg_node.proofs.Performing.{of_node as at_node}
-use Rattle.mg_node.proofs.Stateless.{stage_empty}
+use Rattle.mg_node.proofs.Stateless.{stage_empty, KeepsNothing, several_keep_nothing}
 
 -- a further entry
 snoc_get : {X : Type 0} (xs : List X) (y : X) (i : ℕ) (x : X) → slice_get (xs ++ y ∷ []) i ≡ Some x → (slice_get xs i ≡ Some x) ⊎ ((i ≡ length xs) × (y ≡ x))
@@ -118,14 +116,6 @@ one_or_none : {X : Type 0} (xs : List X) → (xs ≡ []) ⊎ (0 < length xs)
 one_or_none [] = inl refl
 one_or_none (x ∷ xs) = inr (omega arith)
 
-no_box : (o : Option ℕ) → (IsSome o → ⊥) → o ≡ None
-no_box None never = refl
-no_box (Some n) never = absurd (never (search rules))
-
-stateless_by : (b : Bool) → (b ≡ false → ⊥) → b ≡ true
-stateless_by true never = refl
-stateless_by false never = absurd (never refl)
-
 pub record KeepsAll (job : LoggedJob) (streams : List (StreamPrefix Plain)) (node : PlanNode) (claimed : ℕ) (bench : BenchView) : Type 0 where
   pub state : bench.told.state ≡ (stage job.job streams node claimed).state
   pub log : bench.told.log ≡ log_after job node (calls_before streams node claimed)
@@ -145,11 +135,10 @@ keeps_all job number engine bench h going room none idle =
             log = log ∙ ap (λ (k : ℕ). log_after job h.node (calls_before h.streams h.node k)) same;
           })
       | inr some ↦
-          (let flight : FlightFits h.node = at_node FlightFits job.job.plan.nodes number h.node h.solves.is_job.plan.flights h.there in
-          let in_flight = h.set_up.in_flight in
-          let stateless : h.node.shape.stateless ≡ true = stateless_by h.node.shape.stateless (λ e. (let one = flight.stateful e in omega (arith, one, some, room, in_flight))) in
-          let box : h.node.box_number ≡ None = no_box h.node.box_number (λ s. (let one = flight.boxed s in omega (arith, one, some, room, in_flight))) in
-          let first : first_log job h.node ≡ None = rw box refl in
+          (let in_flight = h.set_up.in_flight in
+          let nothing : KeepsNothing job h.node = several_keep_nothing job number h.node h.solves.is_job h.there (omega (arith, some, room, in_flight)) in
+          let stateless = nothing.stateless in
+          let first = nothing.unlogged in
           record {
             state = state ∙ stage_empty job h.streams number h.node engine.laid h.solves h.there stateless ∙ sym (stage_empty job h.streams number h.node engine.claimed h.solves h.there stateless);
             log = log ∙ ap (option_map (λ c. c ++ calls_before h.streams h.node engine.laid)) first ∙ sym (ap (option_map (λ c. c ++ calls_before h.streams h.node engine.claimed)) first);

@@ -10,6 +10,8 @@ pub mod Claiming
 pub mod Beginning
 mod WorkedCell
 pub mod Filling
+pub mod Making
+pub mod Advancing
 pub mod Giving
 pub mod Unrun
 pub mod Claimable
@@ -25,3 +27,22 @@ pub mod AnswerKeeps
 pub mod Cells
 pub mod Shelving
 pub mod ShelfLaws
+pub mod LayingRaised
+pub mod LayingAll
+pub mod Turns
+pub mod LaidFronts
+pub mod CommitKeeps
+pub mod Stages
+pub mod StageCounts
+pub mod StageStreams
+pub mod TaskLogs
+pub mod Turning
+pub mod RaisedOutputs
+pub mod NothingBelow
+pub mod AdvanceKeeps
+pub mod LeastTime
+pub mod LayingBehind
+pub mod FrontSteps
+pub mod EngineFronts
+pub mod EngineOpening
+pub mod BeginKeeps

@@ -52,7 +52,7 @@ answers_of (Sets inbox) result before now h = absurd h
 answers_of (Loop held) result before now h = record { held = held; waits_is = refl; told_is = h.0; now_is = h.1 }
 
 -- two queues that differ in their room alone
-same_backlog : (q r : Waiting Plain) → IsLike q r → backlog_of q ≡ backlog_of r
+pub same_backlog : (q r : Waiting Plain) → IsLike q r → backlog_of q ≡ backlog_of r
 same_backlog q r like = λ i. record { gone = like.gone i; packets = like.packets i; bound = like.bound i }
 
 -- a packet is laid

@@ -1,5 +1,5 @@
 -- Works that come back to their window, and are taken from it, leave an engine lawful for every job.
-use Rattle.std.proofs.Common.{◌≡◌, ℕ, ◌+◌, ◌-◌, ◌≤◌, Bool, true, false, List, set, Option, Some, None, IfSome, option_map, option_and_then, Result, slice_get, nat_lt, inl, inr, ap, sym, refl, subst, ◌∙◌, arith, if◌then◌else◌}
+use Rattle.std.proofs.Common.{◌≡◌, ℕ, ◌+◌, ◌-◌, ◌≤◌, Bool, true, false, List, set, Option, Some, None, IfSome, IsSome, option_map, option_and_then, Result, slice_get, nat_lt, inl, inr, ap, sym, refl, subst, ◌∙◌, arith, if◌then◌else◌}
 use Rattle.std.proofs.lemmas.List.{length-set}
 use Rattle.std.proofs.lemmas.Bool.Decides.{nat_tests}
 use Rattle.mg_calc.specs.declared.cause.Cause.{Cause}
@@ -11,8 +11,9 @@ use Rattle.mg_node.specs.Lawful.{is_close, IsWorkOf, StandsAt, IsEntry, IsEngine
 use Rattle.mg_node.specs.Shelves.{IsOut, back, shelved, performed_of, shelf_of, shelf_at, Taken, Unshelves}
 use Rattle.mg_node.proofs.ClaimsKeep.{set_get, number_set}
 
--- an entry is put in place of one of the same phase: it isn't committed, and its outcome, if there is one, stands there
-entry_engine : (job : LoggedJob) (number : ℕ) (engine : EngineView) (place : ℕ) (entry now : EntryView) → IsEngineOf job number engine → slice_get engine.window place ≡ Some entry → now.phase ≡ entry.phase → now.committed ≡ false
+-- an entry is put in place of one of the same phase: its outcome, if there is one, stands there, and it is committed only with an
+-- answer
+pub entry_engine : (job : LoggedJob) (number : ℕ) (engine : EngineView) (place : ℕ) (entry now : EntryView) → IsEngineOf job number engine → slice_get engine.window place ≡ Some entry → now.phase ≡ entry.phase → (now.committed ≡ true → IsSome now.outcome × IfSome now.outcome (λ o. IsSome o.answer))
     → IfSome now.outcome (λ o. StandsAt job number (engine.laid + place) now.phase o) → IsEngineOf job number (record engine { window = set engine.window place now })
 entry_engine job number engine place entry now h there phase committed stands =
     let order = h.order in
@@ -48,7 +49,7 @@ entry_engine job number engine place entry now h there phase committed stands =
       set = e.set;
       task = subst (λ (p : Phase). IsTask job.job h.streams h.node (engine.laid + place) p e.set) (sym phase) e.task;
       outcome = stands;
-      committed = (λ c. absurd (let no : true ≡ false = sym c ∙ committed in cc));
+      committed = committed;
       close = (λ c. e.close (sym phase ∙ c));
     }
 
@@ -56,7 +57,7 @@ pub shelved_lawful : (job : LoggedJob) (number : ℕ) (engine : EngineView) (out
 unfolding LawfulEngine
 shelved_lawful job number engine outcome out h o =
     let laid = out.laid in
-    entry_engine job number engine (outcome.work.number - engine.laid) out.entry (back outcome) h out.there (sym out.phase_is) refl
+    entry_engine job number engine (outcome.work.number - engine.laid) out.entry (back outcome) h out.there (sym out.phase_is) (λ c. absurd cc)
     (record { node_is = out.node_is ∙ h.set_up.number_is; number_is = omega (arith, laid); phase_is = refl; lawful = o })
 
 -- what is found in an entry
@@ -65,17 +66,23 @@ pub record IsFound (entry : EntryView) (p : PerformedView) : Type 0 where
   pub there : entry.outcome ≡ Some outcome
   pub performed : outcome ≡ record { work = p.work; answer = Some p.answer }
 
-found_by : (committed : Bool) (o : Option OutcomeView) (p : PerformedView) → (if committed then None else option_and_then performed_of o) ≡ Some p → (x : OutcomeView) × (o ≡ Some x) × (x ≡ record { work = p.work; answer = Some p.answer })
-found_by true o p e = absurd cc
-found_by false None p e = absurd cc
-found_by false (Some x) p e = by_answer x.answer refl e
+-- an outcome that was performed
+pub performed_is : (o : Option OutcomeView) (p : PerformedView) → option_and_then performed_of o ≡ Some p → (x : OutcomeView) × (o ≡ Some x) × (x ≡ record { work = p.work; answer = Some p.answer })
+performed_is None p e = absurd cc
+performed_is (Some x) p e = by_answer x.answer refl e
   where
     by_answer : (a : Option (Result (List Laid) Cause)) → x.answer ≡ a → option_map (λ b. record { work = x.work; answer = b }) x.answer ≡ Some p → (y : OutcomeView) × (Some x ≡ Some y) × (y ≡ record { work = p.work; answer = Some p.answer })
-    by_answer None is e = absurd (let f : None ≡ Some p = rw is at e in cc)
+    by_answer None is e =
+        let f : None ≡ Some p = rw is at e in
+        absurd cc
     by_answer (Some b) is e =
         let f : Some (record { work = x.work; answer = b }) ≡ Some p = rw is at e in
         let same : (let q : PerformedView = record { work = x.work; answer = b } in q) ≡ p = cc in
         (x, refl, ((λ i. record { work = x.work; answer = is i }) ∙ ap (λ (q : PerformedView). (let y : OutcomeView = record { work = q.work; answer = Some q.answer } in y)) same))
+
+found_by : (committed : Bool) (o : Option OutcomeView) (p : PerformedView) → (if committed then None else option_and_then performed_of o) ≡ Some p → (x : OutcomeView) × (o ≡ Some x) × (x ≡ record { work = p.work; answer = Some p.answer })
+found_by true o p e = absurd cc
+found_by false o p e = performed_is o p e
 
 found_at : (engine : EngineView) (number : ℕ) (p : PerformedView) → shelf_at engine number ≡ Some p → (engine.laid ≤ number) × (entry : EntryView) × (slice_get engine.window (number - engine.laid) ≡ Some entry) × IsFound entry p
 found_at engine number p e = by_low (nat_lt number engine.laid) refl e
@@ -97,7 +104,7 @@ unshelved_lawful job owner engine engine_now number p found now h =
     let stands : StandsAt job owner (engine.laid + (number - engine.laid)) it.1.phase it.3.outcome =
     subst (λ (o : Option OutcomeView). IfSome o (λ x. StandsAt job owner (engine.laid + (number - engine.laid)) it.1.phase x)) it.3.there (h.entries (number - engine.laid) it.1 it.2).outcome in
     let phase : p.work.phase ≡ it.1.phase = ap (λ (o : OutcomeView). o.work.phase) (sym it.3.performed) ∙ stands.phase_is in (
-      subst (λ (v : EngineView). IsEngineOf job owner v) (sym now) (entry_engine job owner engine (number - engine.laid) it.1 (record { phase = p.work.phase; outcome = None; committed = false }) h it.2 phase refl tt),
+      subst (λ (v : EngineView). IsEngineOf job owner v) (sym now) (entry_engine job owner engine (number - engine.laid) it.1 (record { phase = p.work.phase; outcome = None; committed = false }) h it.2 phase (λ c. absurd cc) tt),
       subst (λ (o : OutcomeView). IsWorkOf job o) it.3.performed stands.lawful,
     )
 

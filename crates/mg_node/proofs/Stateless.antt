@@ -1,5 +1,5 @@
 -- A node that keeps no state has none at any stage.
-use Rattle.std.proofs.Common.{◌≡◌, ℕ, ℤ, ◌+◌, true, List, [], ◌∷◌, length, take, Option, Some, None, Result, Ok, Err, IfOk, slice_get, refl, ap, sym, subst, ◌∙◌}
+use Rattle.std.proofs.Common.{◌≡◌, ℕ, ℤ, ◌+◌, ◌<◌, Bool, true, false, List, [], ◌∷◌, length, take, Option, Some, None, IsSome, Result, Ok, Err, IfOk, slice_get, refl, ap, sym, subst, ◌∙◌, arith, rules}
 use Rattle.std.specs.List.{AllByRecursion, fold}
 use Rattle.std.proofs.lemmas.List.{length-map}
 use Rattle.std.proofs.lemmas.List.Elements.{recursion_from_All}
@@ -19,13 +19,13 @@ use Rattle.mg_calc.specs.Answer.{Answer}
 use Rattle.mg_calc.specs.Law.{opening, step}
 use Rattle.mg_calc.specs.Laying.{laid_behind, all_raised}
 use Rattle.mg_calc.specs.Outcome.{Failure, Outcome, after_laying, after_call, unopened, opened, unless_failed, shown, shown_all}
-use Rattle.mg_calc.specs.Plan.{HasNumbers}
+use Rattle.mg_calc.specs.Plan.{HasNumbers, FlightFits}
 use Rattle.mg_calc.specs.Shape.{IsShapeOf, FitsInputs, is_stateless}
 use Rattle.mg_calc.specs.State.{IsStateOf}
-use Rattle.mg_calc.specs.Equations.{Job, inputs_of, sides_of, stream_of}
+use Rattle.mg_calc.specs.Equations.{Job, IsJob, inputs_of, sides_of, stream_of}
 use Rattle.mg_calc.proofs.Counting.{all_of_first}
 use Rattle.mg_calc.proofs.StateForms.{stepped}
-use Rattle.mg_node.specs.Job.{LoggedJob, Solves, sets_of, stage_by, stage}
+use Rattle.mg_node.specs.Job.{LoggedJob, Solves, sets_of, stage_by, stage, first_log}
 use Rattle.mg_node.proofs.Performing.{of_node}
 
 -- such a law's states are empty
@@ -103,3 +103,25 @@ stage_empty job streams number node n solves there stateless =
     call_state (λ (s : List Plain). s ≡ []) node.shape.offset Open (unopened (length node.outputs)) (opening node.law (sides_of job.job node)) refl (λ given e. opens_empty node.law (sides_of job.job node) given is e) in
     ap (λ (o : Outcome). o.state) (stage_sets node.law job.job streams node n is)
     ∙ all_empty node.law node.shape is shape node.shape.offset begun (take n (sets_of streams node)) (all_of_first (λ (e : TimedSet Plain). FitsInputs node.shape e.set) n (sets_of streams node) fits) first
+
+-- Several works are in flight only where a node's calculators keep nothing and have no logs.
+no_box : (o : Option ℕ) → (IsSome o → ⊥) → o ≡ None
+no_box None never = refl
+no_box (Some n) never = absurd (never (search rules))
+
+stateless_by : (b : Bool) → (b ≡ false → ⊥) → b ≡ true
+stateless_by true never = refl
+stateless_by false never = absurd (never refl)
+
+pub record KeepsNothing (job : LoggedJob) (node : PlanNode) : Type 0 where
+  pub stateless : node.shape.stateless ≡ true
+  pub unlogged : first_log job node ≡ None
+
+pub several_keep_nothing : (job : LoggedJob) (number : ℕ) (node : PlanNode) → IsJob job.job → slice_get job.job.plan.nodes number ≡ Some node → 1 < node.in_flight → KeepsNothing job node
+several_keep_nothing job number node is_job there several =
+    let flight : FlightFits node = of_node FlightFits job.job.plan.nodes number node is_job.plan.flights there in
+    let box : node.box_number ≡ None = no_box node.box_number (λ s. (let one = flight.boxed s in omega (arith, one, several))) in
+    record {
+      stateless = stateless_by node.shape.stateless (λ e. (let one = flight.stateful e in omega (arith, one, several)));
+      unlogged = rw box refl;
+    }

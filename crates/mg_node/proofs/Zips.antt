@@ -43,3 +43,18 @@ pub map-set : {X Y : Type 0} (f : X → Y) (xs : List X) (i : ℕ) (x : X) → m
 map-set f [] i x = refl
 map-set f (u ∷ xs) zero x = refl
 map-set {X} {Y} f (u ∷ xs) (suc i) x = ap (λ (ys : List Y). f u ∷ ys) (map-set f xs i x)
+
+-- a pair at a place, where there is one
+pub zip_put : {X Y : Type 0} (R : X → Y → Type 0) (xs : List X) (ys : List Y) (i : ℕ) (x : X) (y : Y) → AllZip R xs ys → (i < length xs → R x y) → AllZip R (set xs i x) (set ys i y)
+zip_put R [] [] i x y z r = z
+zip_put R [] (v ∷ ys) i x y z r = absurd z
+zip_put R (u ∷ xs) [] i x y z r = absurd z
+zip_put R (u ∷ xs) (v ∷ ys) zero x y z r = (r (omega arith), z.1)
+zip_put R (u ∷ xs) (v ∷ ys) (suc i) x y z r = (z.0, zip_put R xs ys i x y z.1 (λ le. r (omega (arith, le))))
+
+-- both mapped
+pub zip_both : {X Y : Type 0} (R : X → Y → Type 0) (f : X → X) (g : Y → Y) (xs : List X) (ys : List Y) → ((x : X) (y : Y) → R x y → R (f x) (g y)) → AllZip R xs ys → AllZip R (map f xs) (map g ys)
+zip_both R f g [] [] w z = z
+zip_both R f g [] (y ∷ ys) w z = absurd z
+zip_both R f g (x ∷ xs) [] w z = absurd z
+zip_both R f g (x ∷ xs) (y ∷ ys) w z = (w x y z.0, zip_both R f g xs ys w z.1)

@@ -1,8 +1,12 @@
 -- What waits at the ports of an intake, of either kind, and what may be claimed of it next.
-use Rattle.std.specs.Prelude.{◌≡◌, ℕ, ◌==◌, length, [], Option, Some, None, IsSomeAnd, if◌then◌else◌}
+use Rattle.std.specs.Prelude.{◌≡◌, ℕ, ◌==◌, length, List, [], Option, Some, None, IsSomeAnd, if◌then◌else◌}
 use Rattle.mg_time.specs.Time.{done}
 use Rattle.mg_value.specs.Payload.{Plain}
-use Rattle.mg_value.specs.Settled.{TimedSet, reach}
+use Rattle.mg_value.specs.Prefix.{StreamPrefix, first_time}
+use Rattle.mg_value.specs.Settled.{TimedSet, select_of, reach}
+use Rattle.mg_value.specs.FirstSet.{earliest}
+use Rattle.mg_value.specs.declared.policy.Policy.{Policy}
+use Rattle.mg_value.specs.declared.policy.Policy.TheVariants.{Default, Mux}
 use Rattle.mg_stream.specs.Queue.{Waiting}
 use Rattle.mg_stream.specs.Pool.{queue_at, queues_of, with_queue}
 use Rattle.mg_policy.specs.Inbox.{rests, next_set, Tells}
@@ -46,6 +50,11 @@ IsNext (Loop held) NotReady = (next_reply held ≡ None) × ¬ ((held.main.packe
 abbrev pub next_time : Option (TimedSet Plain) → ℕ → ℕ
 next_time None reached = reached
 next_time (Some e) reached = e.at
+
+-- the first time at which a packet waits, and Done where none does: by default on any port, and under Mux on SELECT
+abbrev pub first_waiting : Policy → List (StreamPrefix Plain) → ℕ
+first_waiting Default ss = earliest ss
+first_waiting Mux ss = first_time (select_of ss).packets done
 
 -- below this time no further set is claimed, and no further answer given: the time of the next set, or the reach where there is
 -- none; and for a loopback the time up to which its stream is told

@@ -1,11 +1,15 @@
-ghost use Rattle.std.specs.Prelude.{◌≡◌, length, IsSome};
+ghost use Rattle.std.specs.Prelude.{◌≡◌, length, IsSome, IfSome, IfNone, OnErr};
+ghost use Rattle.mg_calc.specs.Answer.{GivesEmission};
+ghost use Rattle.mg_calc.specs.Law.{opening};
+ghost use Rattle.mg_calc.specs.Told.{Logs};
 ghost use Rattle.mg_node.specs.Ports.{ports_in};
 ghost use Rattle.mg_node.specs.Intakes.{next_set_of, SomeJobHasIntake};
 ghost use Rattle.mg_node.specs.Claims.{Takes};
 ghost use Rattle.mg_node.specs.Running.{MayRun, HasRun};
+ghost use Rattle.mg_node.specs.Begun.{IsOpened};
 
 use crate::Intake;
-use mg_calc::{CalcFault, Calculator, Emission, Phase};
+use mg_calc::{CalcFault, Calculator, Call, Cause, Emission, GivenList, Phase};
 use mg_route::Holder;
 use mg_value::InputSet;
 use std::alloc::Global;
@@ -36,6 +40,35 @@ impl<C: Calculator> Bench<C> {
         ensures { result ≡ record { told = holder; set = set } }
     {
         Bench { holder, set }
+    }
+
+    /// Opens the calculator with side packets. Want of memory changes nothing.
+    pub(crate) fn begin(&mut self, alloc: Global, sides: &GivenList) -> Result<Emission, CalcFault>
+        ensures answer { GivesEmission result self.new.told.state (opening self.old.told.law sides.now) }
+        ensures kept { OnErr result (self.new.told.state ≡ self.old.told.state) }
+        ensures log { Logs result self.old.told.log self.new.told.log Call.Begun }
+        ensures law { self.new.told.law ≡ self.old.told.law }
+        ensures shape { self.new.told.shape ≡ self.old.told.shape }
+        ensures set { self.new.set ≡ self.old.set }
+    {
+        self.holder.begin(alloc, sides)
+    }
+
+    /// Opens the calculator, and tells what it answers, where there is memory for that. Want of memory changes nothing.
+    pub(crate) fn open(
+        &mut self,
+        alloc: Global,
+        sides: &GivenList,
+    ) -> Option<Result<Emission, Cause>>
+        ensures opened { IfSome result (λ answer. IsOpened self.old.told self.new.told sides.now answer) }
+        ensures set { self.new.set ≡ self.old.set }
+        ensures unchanged { IfNone result (self.new ≡ self.old) }
+    {
+        match self.begin(alloc, sides) {
+            Ok(emission) => Some(Ok(emission)),
+            Err(CalcFault::Fault(cause)) => Some(Err(cause)),
+            Err(CalcFault::OutOfMemory) => None,
+        }
     }
 
     /// Runs the calculator in a phase: it is shown the set, called by a number, or closed. Want of memory changes nothing.

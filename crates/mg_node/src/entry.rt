@@ -1,9 +1,13 @@
 ghost use Rattle.std.specs.Prelude.{◌≡◌, Some, None, true, false, is_some};
 ghost use Rattle.mg_node.specs.Claims.{is_unrun};
+ghost use Rattle.mg_node.specs.Views.{PerformedView};
 ghost use Rattle.mg_node.specs.Shelves.{back, shelf_of};
+ghost use Rattle.mg_node.specs.Begun.{opened_entry};
+ghost use Rattle.mg_node.specs.Commits.{committed_entry, ready_of};
+ghost use Rattle.mg_node.specs.Code.QueueLaying.{packets_by};
 
-use crate::{Outcome, Performed, Work};
-use mg_calc::{Calculator, Phase};
+use crate::{Bench, Outcome, Performed, Work};
+use mg_calc::{Calculator, Cause, Emission, Phase};
 use std::marker::Model;
 
 /// A work that was claimed and isn't laid. It is out, or its outcome stands here.
@@ -37,6 +41,13 @@ impl<C: Calculator> Entry<C> {
         }
     }
 
+    /// What is to be done: Process, Call or Close.
+    pub(crate) fn phase(&self) -> Phase
+        ensures { result ≡ self.now.phase }
+    {
+        self.phase
+    }
+
     /// Whether its work came back unrun.
     pub(crate) fn is_unrun(&self) -> bool
         ensures { result ≡ is_unrun self.now }
@@ -68,6 +79,72 @@ impl<C: Calculator> Entry<C> {
             phase: outcome.phase(),
             outcome: Some(outcome),
             committed: false,
+        }
+    }
+
+    /// That of a work that came back: what was performed is committed.
+    pub(crate) fn committed(outcome: Outcome<C>) -> Entry<C>
+        ensures { result ≡ committed_entry outcome }
+    {
+        let committed = !outcome.is_unrun();
+        Entry {
+            committed,
+            ..Entry::back(outcome)
+        }
+    }
+
+    /// That of a node's calculator that was opened, and of what it answered.
+    pub(crate) fn opened(node: u32, bench: Bench<C>, answer: Result<Emission, Cause>) -> Entry<C>
+        ensures { result ≡ opened_entry node bench answer }
+    {
+        let work = Work::new(node, 0, Phase::Open, bench);
+        Entry::committed(Outcome::ran(Performed::new(work, answer)))
+    }
+
+    /// Whether what was performed is committed.
+    pub(crate) fn is_ready(&self) -> bool
+        ensures { result ≡ is_some (ready_of self.now) }
+    {
+        if !self.committed {
+            return false;
+        }
+        match &self.outcome {
+            Some(outcome) => !outcome.is_unrun(),
+            None => false,
+        }
+    }
+
+    /// How many packets were emitted at an output, where it is ready.
+    pub(crate) fn packets_at(&self, output: u32) -> u32
+        ensures { (p : PerformedView) → ready_of self.now ≡ Some p → result ≡ packets_by output p.answer }
+    {
+        match &self.outcome {
+            Some(outcome) => outcome.packets_at(output),
+            None => 0,
+        }
+    }
+
+    /// What was performed, where it is ready.
+    pub(crate) fn into_performed(self) -> Performed<C>
+        requires { is_some (ready_of self) ≡ true }
+        ensures { ready_of self ≡ Some result }
+    {
+        let Entry { outcome, .. } = self;
+        match outcome {
+            Some(outcome) => outcome.into_performed(),
+            None => unreachable!(),
+        }
+    }
+
+    /// The work that came back to it.
+    pub(crate) fn into_outcome(self) -> Outcome<C>
+        requires { is_some self.outcome ≡ true }
+        ensures { self.outcome ≡ Some result }
+    {
+        let Entry { outcome, .. } = self;
+        match outcome {
+            Some(outcome) => outcome,
+            None => unreachable!(),
         }
     }
 

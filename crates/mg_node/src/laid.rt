@@ -1,10 +1,10 @@
 //! Queues of what was laid at an output.
-ghost use Rattle.std.specs.Prelude.{◌≡◌, ◌<◌, ◌≤◌, ◌++◌, ℕ, Some, IfOk, OnOk};
+ghost use Rattle.std.specs.Prelude.{◌≡◌, ◌<◌, ◌≤◌, ◌++◌, ℕ, IfOk, OnOk};
 ghost use Rattle.mg_value.specs.Prefix.{IsPrefix, Ascends, first_time};
 ghost use Rattle.mg_stream.specs.Pool.{backlog_of};
 ghost use Rattle.mg_stream.specs.Queue.{count_of, MayCome};
-ghost use Rattle.mg_node.specs.Claims.{behind};
 ghost use Rattle.mg_node.specs.Outputs.{without_first, kept_whole};
+ghost use Rattle.mg_node.specs.Code.QueueLaying.{appended};
 
 use mg_stream::Queue;
 use mg_value::{Packet, Prefix};
@@ -48,11 +48,11 @@ pub(crate) fn give_up(queue: &mut Queue, got: u64)
     }
 }
 
-/// Puts an answer behind an output that has room.
-pub(crate) fn lay_answer(output: &mut Queue, packet: Packet)
+/// Puts a packet behind those of an output that has room for it.
+pub(crate) fn append(output: &mut Queue, packet: Packet)
     requires may_come { MayCome output.old packet.at }
     requires room { 0 < output.old.spare }
-    ensures { backlog_of output.new ≡ behind (Some packet) (backlog_of output.old) }
+    ensures { output.new ≡ appended output.old packet }
 {
     let Ok(()) = output.append(packet) else {
         unreachable!()

@@ -1,6 +1,10 @@
-ghost use Rattle.std.specs.Prelude.{◌≡◌, Some, None, true, false, is_some, if◌then◌else◌};
+ghost use Rattle.std.specs.Prelude.{◌≡◌, Some, None, true, false, List, Result, is_some, if◌then◌else◌};
+ghost use Rattle.mg_calc.specs.declared.cause.Cause.{Cause};
+ghost use Rattle.mg_calc.specs.declared.emission.Laid.{Laid};
 ghost use Rattle.mg_node.specs.Shelves.{performed_of};
+ghost use Rattle.mg_node.specs.Code.QueueLaying.{packets_by};
 
+use crate::laying::packets_in;
 use crate::{Performed, Work};
 use mg_calc::{Calculator, Cause, Emission, Phase};
 use std::marker::Model;
@@ -70,6 +74,17 @@ impl<C: Calculator> Outcome<C> {
         match &self.answer {
             Some(_) => false,
             None => true,
+        }
+    }
+
+    /// How many packets were emitted at an output.
+    pub(crate) fn packets_at(&self, output: u32) -> u32
+        ensures { (answer : Result (List Laid) Cause) → self.now.answer ≡ Some answer → result ≡ packets_by output answer }
+    {
+        match &self.answer {
+            Some(Ok(emission)) => packets_in(emission, output),
+            Some(Err(_)) => 0,
+            None => 0,
         }
     }
 

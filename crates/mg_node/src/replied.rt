@@ -4,7 +4,7 @@ ghost use Rattle.mg_node.specs.Intakes.{HasLoop};
 ghost use Rattle.mg_node.specs.Code.Replying.{MayLay, Replies};
 
 use crate::Intake;
-use crate::laid::lay_answer;
+use crate::laid::append;
 use mg_loopback::Answered;
 use mg_stream::Queue;
 
@@ -33,7 +33,7 @@ pub(crate) fn reply(output: &mut Queue, intake: &mut Intake) -> Replied
         Answered::NotYet => Replied::NotYet,
         Answered::Silent { .. } => Replied::Laid,
         Answered::Packet(packet) => {
-            lay_answer(output, packet);
+            append(output, packet);
             Replied::Laid
         }
     }

@@ -1,13 +1,16 @@
 //! The works of an engine that were claimed and aren't laid.
-ghost use Rattle.std.specs.Prelude.{◌≡◌, ◌<◌, length, slice_get, slice_set, Some, None, [], true, false, option_and_then};
+ghost use Rattle.std.specs.Prelude.{◌≡◌, ◌<◌, length, slice_get, slice_set, Some, None, [], true, false, is_some, option_and_then, IsSomeAnd};
 ghost use Rattle.std.specs.VecDeque.{deque_len, deque_capacity};
 ghost use Rattle.mg_node.specs.Claims.{first_unrun as first_unrun_from, HandsOut};
 ghost use Rattle.mg_node.specs.Shelves.{back, shelf_of, Taken};
+ghost use Rattle.mg_node.specs.Commits.{committed_entry};
+ghost use Rattle.mg_node.specs.Code.FrontLaying.{starts_ready};
 
 use crate::entry::Entry;
 use crate::{Outcome, Performed, Work};
-use mg_calc::Calculator;
+use mg_calc::{Calculator, Phase};
 use std::collections::VecDeque;
+use std::mem;
 
 /// The place of the first entry whose work came back unrun.
 #[tactic(auto, using(crate::proofs::Unrun::unrun_here, crate::proofs::Unrun::unrun_next, crate::proofs::Unrun::unrun_none))]
@@ -52,6 +55,48 @@ pub(crate) fn put_back<C: Calculator>(
     ensures capacity { deque_capacity window.new ≡ deque_capacity window.old }
 {
     window[place] = Entry::back(outcome);
+}
+
+/// Puts a work that came back into its place, and commits what was performed.
+pub(crate) fn put_committed<C: Calculator>(
+    window: &mut VecDeque<Entry<C>>,
+    place: usize,
+    outcome: Outcome<C>,
+)
+    requires { place < length window.old.items }
+    ensures items { window.new.items ≡ slice_set window.old.items place (committed_entry outcome) }
+    ensures len { deque_len window.new ≡ deque_len window.old }
+    ensures capacity { deque_capacity window.new ≡ deque_capacity window.old }
+{
+    window[place] = Entry::committed(outcome);
+}
+
+/// Takes a work out of its place again, which leaves it as claimed.
+pub(crate) fn take_back<C: Calculator>(
+    window: &mut VecDeque<Entry<C>>,
+    place: usize,
+    phase: Phase,
+) -> Outcome<C>
+    requires place { place < length window.old.items }
+    requires there { IsSomeAnd (slice_get window.old.items place) (λ e. is_some e.outcome ≡ true) }
+    ensures outcome { option_and_then (λ e. e.outcome) (slice_get window.old.items place) ≡ Some result }
+    ensures items { window.new.items ≡ slice_set window.old.items place (record { phase = phase; outcome = None; committed = false }) }
+    ensures len { deque_len window.new ≡ deque_len window.old }
+    ensures capacity { deque_capacity window.new ≡ deque_capacity window.old }
+{
+    let entry = mem::replace(&mut window[place], Entry::out(phase));
+    entry.into_outcome()
+}
+
+/// Whether the first entry is ready to be laid.
+#[tactic(auto, using(crate::proofs::FrontSteps::ready_first, crate::proofs::FrontSteps::ready_none))]
+pub(crate) fn is_ready<C: Calculator>(window: &VecDeque<Entry<C>>) -> bool
+    ensures { result ≡ starts_ready window.now.items }
+{
+    if is_empty(window) {
+        return false;
+    }
+    window[0].is_ready()
 }
 
 /// Takes what stands at a place as performed and not committed.

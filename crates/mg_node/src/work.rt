@@ -61,6 +61,14 @@ impl<C: Calculator> Work<C> {
         self.phase
     }
 
+    /// The bench where it was done.
+    pub(crate) fn into_bench(self) -> Bench<C>
+        ensures { result ≡ self.bench }
+    {
+        let Work { bench, .. } = self;
+        bench
+    }
+
     /// Runs its calculator in its phase, with the gate round each call but Close. Want of memory changes nothing.
     pub(crate) fn run<G: Gate>(&mut self, alloc: Global, gate: &G) -> Result<Emission, CalcFault>
         requires { MayRun self.old.phase self.old.bench }

@@ -1,0 +1,130 @@
+-- How an engine is begun: its calculator is opened, and what that emits is laid.
+use Rattle.std.proofs.Common.{◌≡◌, ℕ, zero, suc, ℤ, ◌+◌, ◌-◌, ◌<◌, ◌^◌, List, [], ◌∷◌, ◌++◌, length, length-append, map, drop, replicate, Option, None, option_map, Result, Ok, Err, inl, inr, refl, ap, sym, subst, ◌∙◌, arith, true}
+use Rattle.std.proofs.lemmas.List.{same_from_push}
+use Rattle.mg_value.specs.Payload.{Plain}
+use Rattle.mg_value.specs.Prefix.{StreamPrefix, empty_prefix}
+use Rattle.mg_value.proofs.Lemmas.{empty_is_prefix}
+use Rattle.mg_stream.specs.Queue.{StandsFor}
+use Rattle.mg_stream.specs.Pool.{Backlog, queue_of, empty_backlog}
+use Rattle.mg_calc.specs.declared.cause.Cause.{Cause}
+use Rattle.mg_calc.specs.declared.emission.Laid.{Laid}
+use Rattle.mg_calc.specs.declared.law.Law.{Law}
+use Rattle.mg_calc.specs.declared.node_fault.Phase.TheVariants.{Open}
+use Rattle.mg_calc.specs.declared.plan_node.PlanNode.{PlanNode}
+use Rattle.mg_calc.specs.Answer.{Answer}
+use Rattle.mg_calc.specs.Law.{opening}
+use Rattle.mg_calc.specs.Laying.{after, laid_behind}
+use Rattle.mg_calc.specs.Outcome.{after_laying, after_call}
+use Rattle.mg_calc.specs.Told.{CalculatorTold}
+use Rattle.mg_node.specs.Views.{BenchView, EntryView, EngineView}
+use Rattle.mg_node.specs.Lawful.{StandForAll, HasAnswered}
+use Rattle.mg_node.specs.Commits.{laid_by, outputs_by, failure_by, fault_at}
+use Rattle.mg_node.specs.Outputs.{kept_whole}
+use Rattle.mg_node.specs.Fresh.{own_told, bench_of, fresh_engine}
+use Rattle.mg_node.specs.Begun.{IsOpened, opened_entry, own_benches, HasOpened, IsUnbegun, opened_node, HasBegun, SomeUnbegun, IsNew}
+use Rattle.mg_node.specs.Code.FrontLaying.{counted_in, HasWhole, LaysFront}
+
+-- The calculator is opened.
+
+pub opened_so : (e view : EngineView) (node : PlanNode) (number : ℕ) (told : CalculatorTold) (sides : List (Option Plain)) (answer : Result (List Laid) Cause) (bench bench_now : BenchView) (idle : List BenchView) → e ≡ fresh_engine node number told
+    → e.idle ≡ idle ++ bench ∷ [] → bench_now.set ≡ bench.set → IsOpened bench.told bench_now.told sides answer → view ≡ record e { window = e.window ++ opened_entry e.node bench_now answer ∷ []; idle = idle } → HasOpened node number told sides view
+opened_so e view node number told sides answer bench bench_now idle is idle_is set opened view_is =
+    let cut = same_from_push idle (replicate (node.in_flight - 1) (bench_of node (own_told node))) bench (bench_of node told) (sym idle_is ∙ ap (λ (v : EngineView). v.idle) is) in
+    let set_is : bench_now.set ≡ (bench_of node told).set = set ∙ ap (λ (b : BenchView). b.set) cut.1 in
+    record {
+      now = bench_now.told;
+      answer = answer;
+      opened = subst (λ (b : BenchView). IsOpened b.told bench_now.told sides answer) cut.1 opened;
+      is = view_is ∙ (λ i. record (is i) { window = (is i).window ++ opened_entry (is i).node (record { told = bench_now.told; set = set_is i }) answer ∷ []; idle = cut.0 i });
+    }
+
+-- One whose window is empty wasn't opened, and has a calculator.
+pub fresh_empty : (node : PlanNode) (number : ℕ) (told : CalculatorTold) (sides : List (Option Plain)) (view : EngineView) → IsUnbegun node number told sides view → view.window ≡ [] → view ≡ fresh_engine node number told
+fresh_empty node number told sides view (inl fresh) none = fresh
+fresh_empty node number told sides view (inr opened) none = absurd (let e = sym none ∙ ap (λ (v : EngineView). v.window) opened.is in cc)
+
+pub opened_some : (node : PlanNode) (number : ℕ) (told : CalculatorTold) (sides : List (Option Plain)) (view : EngineView) → IsUnbegun node number told sides view → 0 < length view.window → HasOpened node number told sides view
+opened_some node number told sides view (inl fresh) some = absurd (let none = ap (λ (v : EngineView). length v.window) fresh in omega (arith, some, none))
+opened_some node number told sides view (inr opened) some = opened
+
+pub bench_there : (sides : List (Option Plain)) (view : EngineView) → SomeUnbegun sides view → view.window ≡ [] → 0 < length view.idle
+bench_there sides view h none =
+    let fresh = fresh_empty h.node h.number h.told sides view h.unbegun none in
+    let same : length view.idle ≡ length (replicate (h.node.in_flight - 1) (bench_of h.node (own_told h.node)) ++ bench_of h.node h.told ∷ []) = ap (λ (v : EngineView). length v.idle) fresh in
+    omega (arith, same, length-append (replicate (h.node.in_flight - 1) (bench_of h.node (own_told h.node))) (bench_of h.node h.told ∷ []))
+
+-- What it emitted may be laid.
+
+fresh_stand : (k : ℕ) → StandForAll (replicate k empty_backlog) (replicate k empty_prefix)
+fresh_stand zero = tt
+fresh_stand (suc k) = (record { prefix = empty_is_prefix; gone = omega arith; waiting = refl; bound = refl }, fresh_stand k)
+
+pub opened_whole : (node : PlanNode) (number : ℕ) (told : CalculatorTold) (sides : List (Option Plain)) (view : EngineView) → HasOpened node number told sides view → HasWhole view
+opened_whole node number told sides view h = subst HasWhole (sym h.is) (record { whole = replicate (length node.outputs) empty_prefix; stand = fresh_stand (length node.outputs); own = tt })
+
+pub opened_few : (node : PlanNode) (number : ℕ) (told : CalculatorTold) (sides : List (Option Plain)) (view : EngineView) → HasOpened node number told sides view → view.laid + counted_in view.window < 2 ^ 64
+opened_few node number told sides view h = (let none : view.laid + counted_in view.window ≡ 0 = ap (λ (v : EngineView). v.laid + counted_in v.window) h.is in omega (arith, none))
+
+-- It is laid.
+
+by_laid : (outputs : List (StreamPrefix Plain)) (now : List Plain) (r : Result (List (StreamPrefix Plain)) Cause)
+    → (let o = after_laying Open (record { state = now; outputs = outputs; taken = 0; fault = None }) r in
+    (now ≡ o.state) × (outputs_by outputs (after r (λ longer. Ok longer)) ≡ o.outputs) × (failure_by Open (after r (λ longer. Ok longer)) ≡ o.fault))
+by_laid outputs now (Ok longer) = (refl, refl, refl)
+by_laid outputs now (Err cause) = (refl, refl, refl)
+
+abbrev WasOpened : Option ℤ → List (StreamPrefix Plain) → Result (List Laid) Cause → List Plain → Answer → Type 0
+WasOpened offset outputs answer now given = (
+    let o = after_call offset Open (record { state = []; outputs = outputs; taken = 0; fault = None }) given in
+    (now ≡ o.state) × (outputs_by outputs (laid_by offset Open outputs answer) ≡ o.outputs) × (failure_by Open (laid_by offset Open outputs answer) ≡ o.fault))
+
+opened_by : (offset : Option ℤ) (outputs : List (StreamPrefix Plain)) (answer : Result (List Laid) Cause) (before now : List Plain) (given : Answer) → HasAnswered answer before now given → before ≡ [] → WasOpened offset outputs answer now given
+opened_by offset outputs (Ok emission) before now given h none = subst (WasOpened offset outputs (Ok emission) now) (sym h) (by_laid outputs now (laid_behind offset Open outputs emission))
+opened_by offset outputs (Err cause) before now given h none = subst (WasOpened offset outputs (Err cause) now) (sym h.0) (h.1 ∙ none, refl, refl)
+
+kept_one : (b : Backlog Plain) (s : StreamPrefix Plain) → StandsFor (queue_of 0 b) s → b.gone ≡ 0 → b ≡ kept_whole s
+kept_one b s h none = λ i. record { gone = none i; packets = (h.waiting ∙ ap (λ (n : ℕ). drop n s.packets) none) i; bound = h.bound i }
+
+kept_all : (bs : List (Backlog Plain)) (ss : List (StreamPrefix Plain)) (k : ℕ) → StandForAll bs ss → map (λ b. b.gone) bs ≡ map (λ b. b.gone) (replicate k (empty_backlog {X = Plain})) → bs ≡ map kept_whole ss
+kept_all [] [] k z none = refl
+kept_all [] (s ∷ ss) k z none = absurd z
+kept_all (b ∷ bs) [] k z none = absurd z
+kept_all (b ∷ bs) (s ∷ ss) zero z none = absurd cc
+kept_all (b ∷ bs) (s ∷ ss) (suc k) z none =
+    let first : b.gone ≡ 0 = cc in
+    let others : map (λ b. b.gone) bs ≡ map (λ b. b.gone) (replicate k (empty_backlog {X = Plain})) = cc in
+    λ i. kept_one b s z.0 first i ∷ kept_all bs ss k z.1 others i
+
+pub begun_so : (node : PlanNode) (number : ℕ) (told : CalculatorTold) (sides : List (Option Plain)) (before mid now : EngineView) (n : ℕ) → IsNew node told → HasOpened node number told sides before → LaysFront n before mid → now ≡ record mid { begun = true }
+    → HasBegun node number told sides now
+begun_so node number told sides before mid now n new h lays is =
+    let k = length node.outputs in
+    let whole = replicate k (empty_prefix {X = Plain}) in
+    let laid : LaysFront n (record (fresh_engine node number told) { window = opened_entry number (bench_of node h.now) h.answer ∷ []; idle = own_benches node }) mid = subst (λ (v : EngineView). LaysFront n v mid) h.is lays in
+    let front = laid.front whole (fresh_stand k) in
+    let answered : HasAnswered h.answer told.state h.now.state (opening node.law sides) = subst (λ (l : Law). HasAnswered h.answer told.state h.now.state (opening l sides)) new.fits.same_law h.opened.answered in
+    let o = opened_by node.shape.offset whole h.answer told.state h.now.state (opening node.law sides) answered new.state in
+    let outputs : mid.outputs ≡ map kept_whole (opened_node node sides).outputs = kept_all mid.outputs _ k front.outputs front.given_up ∙ ap (map kept_whole) o.1 in
+    record {
+      now = h.now;
+      state = o.0;
+      log = h.opened.log;
+      law = h.opened.law;
+      shape = h.opened.shape;
+      is = is
+          ∙ (λ i. record (front.others i) { begun = true })
+          ∙ (λ i. record (fresh_engine node number told) { outputs = outputs i; idle = own_benches node ++ bench_of node h.now ∷ []; begun = true; fault = option_map (fault_at number) (o.2 i) });
+    }
+
+-- What the code leaves.
+
+abbrev pub with_window_idle : EngineView → List EntryView → List BenchView → EngineView
+with_window_idle engine window idle = record engine { window = window; idle = idle }
+
+abbrev pub with_begun : EngineView → EngineView
+with_begun engine = record engine { begun = true }
+
+pub window_opened : (engine : EngineView) (items now : List EntryView) (node : ℕ) (bench : BenchView) (answer : Result (List Laid) Cause) (entry : EntryView) → now ≡ items ++ entry ∷ [] → entry ≡ opened_entry node bench answer → items ≡ engine.window → node ≡ engine.node
+    → now ≡ engine.window ++ opened_entry engine.node bench answer ∷ []
+window_opened engine items now node bench answer entry pushed is window node_is =
+    pushed ∙ ap (λ (x : EntryView). items ++ x ∷ []) (is ∙ ap (λ (n : ℕ). opened_entry n bench answer) node_is) ∙ ap (λ (es : List EntryView). es ++ opened_entry engine.node bench answer ∷ []) window

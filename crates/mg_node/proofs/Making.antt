@@ -1,0 +1,62 @@
+-- How the engine of a node is made.
+use Rattle.std.proofs.Common.{◌≡◌, ℕ, ◌-◌, ◌<◌, List, [], ◌∷◌, ◌++◌, length, replicate, Option, Some, None, false, slice_get, get_or, inl, ap, sym, ◌∙◌}
+use Rattle.mg_value.specs.Payload.{Plain}
+use Rattle.mg_value.specs.Prefix.{Stamped}
+use Rattle.mg_stream.specs.Pool.{Backlog, empty_backlog}
+use Rattle.mg_calc.specs.declared.plan_node.PlanNode.{PlanNode}
+use Rattle.mg_calc.specs.Told.{CalculatorTold}
+use Rattle.mg_calc.proofs.Earlier.{get_or_some}
+use Rattle.mg_node.specs.declared.role.Role.{Role}
+use Rattle.mg_node.specs.Views.{BenchView, EntryView, EngineView}
+use Rattle.mg_node.specs.Job.{role_of, LoggedJob}
+use Rattle.mg_node.specs.Fresh.{own_told, bench_of, benches_of, fresh_engine}
+use Rattle.mg_node.specs.Begun.{IsHanded, LawfulUnbegun}
+
+-- what is read of a list at a place is there
+pub read_at : {X : Type 0} (xs ys : List X) (i : ℕ) (x : X) → xs ≡ ys → i < length ys → x ≡ get_or xs i x → slice_get ys i ≡ Some x
+read_at {X} xs ys i x same less is = get_or_some ys i x less (sym (is ∙ ap (λ (zs : List X). get_or zs i x) same))
+
+-- what is there is one
+pub some_same : {X : Type 0} (o : Option X) (x y : X) → o ≡ Some x → o ≡ Some y → x ≡ y
+some_same {X} o x y a b = (let same : Some x ≡ Some y = sym a ∙ b in cc)
+
+-- the engine of such parts
+abbrev pub engine_of : PlanNode → ℕ → Role → ℕ → ℕ → List (Backlog Plain) → List EntryView → List BenchView → EngineView
+engine_of node number role first inputs outputs window idle = record {
+  role = role;
+  node = number;
+  first = first;
+  offset = node.shape.offset;
+  in_flight = node.in_flight;
+  inputs = inputs;
+  outputs = outputs;
+  laid = 0;
+  claimed = 0;
+  window = window;
+  idle = idle;
+  begun = false;
+  closed = false;
+  fault = None;
+}
+
+-- the benches: those of the node's own calculators, and the one of what is handed in
+pub benches_made : (node : PlanNode) (told : CalculatorTold) (count : ℕ) (own idle : List BenchView) (bench : BenchView) (set : List (Option (Stamped Plain))) (ports : ℕ) → count ≡ node.in_flight - 1
+    → own ≡ replicate count (bench_of node (own_told node)) → set ≡ replicate ports None → ports ≡ length node.inputs → bench ≡ record { told = told; set = set } → idle ≡ own ++ bench ∷ [] → idle ≡ benches_of node told
+benches_made node told count own idle bench set ports counted own_is set_is ports_is bench_is idle_is =
+    let nothing : Option (Stamped Plain) = None in
+    let whole : bench ≡ bench_of node told = bench_is ∙ (λ i. record { told = told; set = (set_is ∙ ap (λ (n : ℕ). replicate n nothing) ports_is) i }) in
+    idle_is ∙ ap (λ (bs : List BenchView). bs ++ bench ∷ []) (own_is ∙ ap (λ (n : ℕ). replicate n (bench_of node (own_told node))) counted)
+    ∙ ap (λ (b : BenchView). replicate (node.in_flight - 1) (bench_of node (own_told node)) ++ b ∷ []) whole
+
+pub engine_made : (node planned : PlanNode) (number : ℕ) (told : CalculatorTold) (role : Role) (first inputs outs : ℕ) (outputs : List (Backlog Plain)) (window : List EntryView) (idle : List BenchView) → node ≡ planned
+    → role ≡ role_of node.law → first ≡ get_or node.outputs 0 0 → inputs ≡ length node.inputs → outs ≡ length node.outputs → outputs ≡ replicate outs empty_backlog → window ≡ [] → idle ≡ benches_of node told
+    → engine_of node number role first inputs outputs window idle ≡ fresh_engine planned number told
+engine_made node planned number told role first inputs outs outputs window idle same role_is first_is inputs_is outs_is outputs_is window_is idle_is =
+    let made : engine_of node number role first inputs outputs window idle ≡ fresh_engine node number told =
+    (λ i. engine_of node number (role_is i) (first_is i) (inputs_is i) ((outputs_is ∙ ap (λ (n : ℕ). replicate n (empty_backlog {X = Plain})) outs_is) i) (window_is i) (idle_is i)) in
+    made ∙ ap (λ (n : PlanNode). fresh_engine n number told) same
+
+-- it is one that isn't begun, for each job that has its calculator
+pub fresh_unbegun : (job : LoggedJob) (number : ℕ) (node : PlanNode) (told : CalculatorTold) (view : EngineView) → IsHanded job number node told → view ≡ fresh_engine node number told → LawfulUnbegun job number view
+unfolding LawfulUnbegun
+fresh_unbegun job number node told view handed is = record { node = node; told = told; handed = handed; unbegun = inl is }

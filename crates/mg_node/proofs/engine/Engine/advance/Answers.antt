@@ -1,0 +1,9 @@
+use Rattle.std.proofs.Common.{subst, sym}
+use Rattle.mg_node.specs.Views.{EngineView}
+use Rattle.mg_node.specs.Lawful.{LawfulEngine, of_node}
+use Rattle.mg_node.proofs.AdvanceKeeps.{advance_lawful}
+use Rattle.mg_node.proofs.engine.Engine.advance.Goals as goal
+
+pub returns-clause-lawful : goal.returns-clause-lawful
+returns-clause-lawful g c = λ job number engine intake agree.
+    subst (λ (v : EngineView). LawfulEngine job (of_node number) v) (sym c.raise_outputs.ensures.advanced) (advance_lawful job number c.args.self.now c.args.intake.now engine intake agree)

@@ -1,0 +1,6 @@
+use Rattle.mg_node.proofs.CommitKeeps.{result_lawful}
+use Rattle.mg_node.proofs.engine.Engine.commit.Goals as goal
+
+pub returns-clause-lawful : goal.returns-clause-lawful
+returns-clause-lawful g c = λ job number engine outcome.
+    result_lawful job number c.args.outcome c.commit_outcome.result c.args.self.now c.commit_outcome.new.self c.requires.out engine outcome c.commit_outcome.ensures.commits c.commit_outcome.ensures.unchanged

@@ -1,0 +1,8 @@
+use Rattle.std.proofs.Common.{arith}
+use Rattle.mg_node.specs.Code.QueueLaying.{closed_queue}
+use Rattle.mg_route.proofs.LayingLemmas.{mapped_further}
+use Rattle.mg_node.proofs.laying.close_all.Goals as goal
+
+pub loop-output-preserved : goal.loop-output-preserved
+loop-output-preserved c =
+    mapped_further closed_queue c.args.outputs.now c.loop-output.outputs c.loop-output.output-index c.output-item.result _ (omega arith) c.output-item.is c.close.ensures.closed c.loop-output.invariant

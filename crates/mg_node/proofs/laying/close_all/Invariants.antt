@@ -1,0 +1,7 @@
+-- Those before the index are closed.
+use Rattle.std.proofs.Common.{◌≡◌, ◌++◌, map, take, drop}
+use Rattle.mg_node.specs.Code.QueueLaying.{closed_queue}
+use Rattle.mg_node.proofs.laying.close_all.Given as goal
+
+abbrev pub invariant-loop-output : goal.invariant-loop-output
+invariant-loop-output l = l.outputs ≡ map closed_queue (take l.output-index l.fn.outputs) ++ drop l.output-index l.fn.outputs

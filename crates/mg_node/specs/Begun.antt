@@ -1,0 +1,97 @@
+-- How the engine of a node is begun: its calculator is opened with the node's side packets, and what it emits is laid. Where there
+-- is no memory for that, the calculator was opened all the same and isn't opened again: its answer stands in the window till then.
+use Rattle.std.specs.Prelude.{◌≡◌, ℕ, ◌-◌, ◌⊎◌, List, [], ◌∷◌, ◌++◌, length, map, replicate, Option, Some, option_map, Result, true, slice_get}
+use Rattle.mg_value.specs.Payload.{Plain}
+use Rattle.mg_calc.specs.declared.call.Call.TheVariants.{Begun}
+use Rattle.mg_calc.specs.declared.cause.Cause.{Cause}
+use Rattle.mg_calc.specs.declared.emission.Laid.{Laid}
+use Rattle.mg_calc.specs.declared.node_fault.Phase.TheVariants.{Open}
+use Rattle.mg_calc.specs.declared.plan_node.PlanNode.{PlanNode}
+use Rattle.mg_calc.specs.Equations.{sides_of}
+use Rattle.mg_calc.specs.Law.{opening}
+use Rattle.mg_calc.specs.Outcome.{Outcome, opened}
+use Rattle.mg_calc.specs.Plan.{FitsNode}
+use Rattle.mg_calc.specs.Told.{CalculatorTold, with_call}
+use Rattle.mg_node.specs.Views.{BenchView, EntryView, EngineView}
+use Rattle.mg_node.specs.Job.{LoggedJob, first_log}
+use Rattle.mg_node.specs.Lawful.{HasAnswered}
+use Rattle.mg_node.specs.Outputs.{kept_whole}
+use Rattle.mg_node.specs.Fresh.{own_told, bench_of, fresh_engine}
+
+-- a calculator was opened with side packets: it has answered what its law gives, kept the new state, and has the call in its log
+pub record IsOpened (before now : CalculatorTold) (sides : List (Option Plain)) (answer : Result (List Laid) Cause) : Type 0 where
+  pub answered : HasAnswered answer before.state now.state (opening before.law sides)
+  pub log : now.log ≡ with_call before.log Begun
+  pub law : now.law ≡ before.law
+  pub shape : now.shape ≡ before.shape
+
+-- the entry of what it answered
+abbrev pub opened_entry : ℕ → BenchView → Result (List Laid) Cause → EntryView
+opened_entry number bench answer = record {
+  phase = Open;
+  outcome = Some (record { work = record { node = number; number = 0; phase = Open; bench = bench }; answer = Some answer });
+  committed = true;
+}
+
+-- the benches with the node's own calculators, which aren't opened: they keep nothing
+abbrev pub own_benches : PlanNode → List BenchView
+own_benches node = replicate (node.in_flight - 1) (bench_of node (own_told node))
+
+-- an engine whose calculator was opened, and what it emitted isn't laid
+pub record HasOpened (node : PlanNode) (number : ℕ) (told : CalculatorTold) (sides : List (Option Plain)) (view : EngineView) : Type 0 where
+  pub now : CalculatorTold
+  pub answer : Result (List Laid) Cause
+  pub opened : IsOpened told now sides answer
+  pub is : view ≡ record (fresh_engine node number told) { window = opened_entry number (bench_of node now) answer ∷ []; idle = own_benches node }
+
+-- an engine that isn't begun
+abbrev pub IsUnbegun : PlanNode → ℕ → CalculatorTold → List (Option Plain) → EngineView → Type 0
+IsUnbegun node number told sides view = (view ≡ fresh_engine node number told) ⊎ HasOpened node number told sides view
+
+-- what a node has come to once it is opened
+abbrev pub opened_node : PlanNode → List (Option Plain) → Outcome
+opened_node node sides = opened node.law node.shape.offset (length node.outputs) sides
+
+-- an engine that is begun: what Open emits is laid, or its fault is kept
+pub record HasBegun (node : PlanNode) (number : ℕ) (told : CalculatorTold) (sides : List (Option Plain)) (view : EngineView) : Type 0 where
+  pub now : CalculatorTold
+  pub state : now.state ≡ (opened_node node sides).state
+  pub log : now.log ≡ with_call told.log Begun
+  pub law : now.law ≡ told.law
+  pub shape : now.shape ≡ told.shape
+  pub is : view ≡ record (fresh_engine node number told) {
+    outputs = map kept_whole (opened_node node sides).outputs;
+    idle = own_benches node ++ bench_of node now ∷ [];
+    begun = true;
+    fault = option_map (λ f. record { node = number; phase = f.phase; cause = f.cause }) (opened_node node sides).fault;
+  }
+
+-- the calculator that a job has for a node, at its start: it fits the node, keeps nothing yet, and its log is the job's
+pub record IsHanded (job : LoggedJob) (number : ℕ) (node : PlanNode) (told : CalculatorTold) : Type 0 where
+  pub there : slice_get job.job.plan.nodes number ≡ Some node
+  pub fits : FitsNode node told.law told.shape
+  pub state : told.state ≡ []
+  pub log : told.log ≡ first_log job node
+
+-- an engine of a node that isn't begun is lawful: it is that of what the job has for the node, and was opened with its side packets
+pub record IsUnbegunOf (job : LoggedJob) (number : ℕ) (view : EngineView) : Type 0 where
+  pub node : PlanNode
+  pub told : CalculatorTold
+  pub handed : IsHanded job number node told
+  pub unbegun : IsUnbegun node number told (sides_of job.job node) view
+
+unfoldable pub LawfulUnbegun : LoggedJob → ℕ → EngineView → Type 0
+LawfulUnbegun job number view = IsUnbegunOf job number view
+
+-- an engine isn't begun: there are a node, its number and a calculator of which it is made, and with these side packets it was opened
+-- if it was
+pub record SomeUnbegun (sides : List (Option Plain)) (view : EngineView) : Type 0 where
+  pub node : PlanNode
+  pub number : ℕ
+  pub told : CalculatorTold
+  pub unbegun : IsUnbegun node number told sides view
+
+-- a calculator before it is opened: it has its node's law and shape, and keeps nothing
+pub record IsNew (node : PlanNode) (told : CalculatorTold) : Type 0 where
+  pub fits : FitsNode node told.law told.shape
+  pub state : told.state ≡ []

@@ -1,0 +1,136 @@
+-- Commits: what was performed is laid in the order of the sets, whatever the order in which it comes back. Outputs are spoken of by
+-- whole prefixes that they stand for, since packets may have been given up.
+use Rattle.std.specs.Prelude.{◌≡◌, ℕ, ℤ, ◌+◌, ◌-◌, ◌||◌, Bool, List, [], ◌∷◌, ◌++◌, map, Option, Some, None, option_map, option_and_then, is_some, Result, Ok, Err, slice_set, if◌then◌else◌}
+use Rattle.mg_time.specs.Time.{done}
+use Rattle.mg_value.specs.Payload.{Plain}
+use Rattle.mg_value.specs.Prefix.{StreamPrefix, closed}
+use Rattle.mg_calc.specs.declared.cause.Cause.{Cause}
+use Rattle.mg_calc.specs.declared.emission.Laid.{Laid}
+use Rattle.mg_calc.specs.declared.node_fault.NodeFault.{NodeFault}
+use Rattle.mg_calc.specs.declared.node_fault.Phase.{Phase}
+use Rattle.mg_calc.specs.declared.node_fault.Phase.TheVariants.{Call, Process, Close}
+use Rattle.mg_calc.specs.Laying.{all_raised, laid_behind, after}
+use Rattle.mg_calc.specs.Outcome.{Failure}
+use Rattle.mg_node.specs.Views.{BenchView, PerformedView, OutcomeView, EntryView, EngineView}
+use Rattle.mg_node.specs.Job.{LoggedJob}
+use Rattle.mg_node.specs.Lawful.{of_node, LawfulEngine, StandForAll, is_close}
+use Rattle.mg_node.specs.Shelves.{back, performed_of}
+
+-- before a set, outputs are raised to its time plus the offset, and before Close to the end of all times
+abbrev pub raised_before : Option ℤ → Phase → List (StreamPrefix Plain) → List (StreamPrefix Plain)
+raised_before offset (Process at) outputs = all_raised offset at outputs
+raised_before offset Close outputs = all_raised offset done outputs
+raised_before offset phase outputs = outputs
+
+-- behind Close all outputs close
+abbrev pub closed_after : Phase → List (StreamPrefix Plain) → List (StreamPrefix Plain)
+closed_after Close outputs = map closed outputs
+closed_after phase outputs = outputs
+
+-- the outputs once an answer is laid, or the cause why it can't be
+abbrev pub laid_by : Option ℤ → Phase → List (StreamPrefix Plain) → Result (List Laid) Cause → Result (List (StreamPrefix Plain)) Cause
+laid_by offset phase outputs answer =
+    after answer (λ emission. after (laid_behind offset phase outputs emission) (λ longer. Ok (closed_after phase longer)))
+
+-- a fault leaves the outputs as they were raised
+abbrev pub outputs_by : List (StreamPrefix Plain) → Result (List (StreamPrefix Plain)) Cause → List (StreamPrefix Plain)
+outputs_by raised (Ok outputs) = outputs
+outputs_by raised (Err cause) = raised
+
+abbrev pub failure_by : Phase → Result (List (StreamPrefix Plain)) Cause → Option Failure
+failure_by phase (Ok outputs) = None
+failure_by phase (Err cause) = Some (record { phase = phase; cause = cause })
+
+-- how many sets or calls are laid in a phase: Open and Close aren't counted
+abbrev pub counted : Phase → ℕ
+counted (Call number) = 1
+counted (Process at) = 1
+counted phase = 0
+
+-- what laying changes of an engine: its outputs in whole, how many sets or calls were laid, what is claimed and isn't laid, the
+-- benches that no work has, whether Close was laid, and the fault
+pub record Front : Type 0 where
+  pub outputs : List (StreamPrefix Plain)
+  pub laid : ℕ
+  pub window : List EntryView
+  pub idle : List BenchView
+  pub closed : Bool
+  pub fault : Option Failure
+
+-- an answer is laid, and its bench is free again; these entries are left
+abbrev pub answer_laid : Option ℤ → Phase → BenchView → Result (List Laid) Cause → List EntryView → Front → Front
+answer_laid offset phase bench answer rest front = record {
+  outputs = outputs_by (raised_before offset phase front.outputs) (laid_by offset phase (raised_before offset phase front.outputs) answer);
+  laid = front.laid + counted phase;
+  window = rest;
+  idle = front.idle ++ bench ∷ [];
+  closed = is_close phase;
+  fault = failure_by phase (laid_by offset phase (raised_before offset phase front.outputs) answer);
+}
+
+-- a node that has failed or is closed lays nothing more
+abbrev pub has_stopped : Front → Bool
+has_stopped front = front.closed || is_some front.fault
+
+-- an entry that is committed has what was performed; every other one isn't ready
+abbrev pub ready_of : EntryView → Option PerformedView
+ready_of entry = if entry.committed then option_and_then performed_of entry.outcome else None
+
+-- what is made of what was performed, or something else where an entry isn't ready
+abbrev pub with_ready : {A : Type 0} → Option PerformedView → A → (PerformedView → A) → A
+with_ready None none go = none
+with_ready (Some p) none go = go p
+
+-- what is committed at the front of a window is laid, one entry after the other, until the first that isn't ready or at which the
+-- node fails or closes
+abbrev pub front_laid : Option ℤ → List EntryView → Front → Front
+front_laid offset [] front = front
+front_laid offset (entry ∷ entries) front =
+    if has_stopped front then front
+    else with_ready (ready_of entry) front (λ p. front_laid offset entries (answer_laid offset entry.phase p.work.bench p.answer entries front))
+
+-- a work comes back to its window, and what was performed is committed
+abbrev pub committed_entry : OutcomeView → EntryView
+committed_entry outcome = record (back outcome) { committed = is_some outcome.answer }
+
+abbrev pub window_with : EngineView → OutcomeView → List EntryView
+window_with engine outcome = slice_set engine.window (outcome.work.number - engine.laid) (committed_entry outcome)
+
+-- an engine's front, where its outputs stand for these prefixes and its window is this one
+abbrev pub front_of : EngineView → List EntryView → List (StreamPrefix Plain) → Front
+front_of engine window whole = record {
+  outputs = whole;
+  laid = engine.laid;
+  window = window;
+  idle = engine.idle;
+  closed = engine.closed;
+  fault = option_map (λ f. record { phase = f.phase; cause = f.cause }) engine.fault;
+}
+
+abbrev pub fault_at : ℕ → Failure → NodeFault
+fault_at node f = record { node = node; phase = f.phase; cause = f.cause }
+
+-- an engine whose front has come to this: its outputs stand for the front's, and nothing was given up
+pub record HasFront (before now : EngineView) (front : Front) : Type 0 where
+  pub outputs : StandForAll now.outputs front.outputs
+  pub given_up : map (λ b. b.gone) now.outputs ≡ map (λ b. b.gone) before.outputs
+  pub others : now ≡ record before {
+    outputs = now.outputs;
+    laid = front.laid;
+    window = front.window;
+    idle = front.idle;
+    closed = front.closed;
+    fault = option_map (fault_at before.node) front.fault;
+  }
+
+-- a commit: the work comes back to its window, and what is committed at the front is laid; so many sets or calls with it
+pub record Commits (outcome : OutcomeView) (laid : ℕ) (before now : EngineView) : Type 0 where
+  pub counted : now.laid ≡ before.laid + laid
+  pub front : (whole : List (StreamPrefix Plain)) → StandForAll before.outputs whole
+      → HasFront before now (front_laid before.offset (window_with before outcome) (front_of before (window_with before outcome) whole))
+
+-- there is a job for which the engine of a node is lawful
+pub record SomeJobHasEngine (engine : EngineView) : Type 0 where
+  pub job : LoggedJob
+  pub number : ℕ
+  pub lawful : LawfulEngine job (of_node number) engine

@@ -1,0 +1,56 @@
+//! How outputs are raised by what waits.
+ghost use Rattle.std.specs.Prelude.{◌≡◌, ℕ};
+ghost use Rattle.mg_node.specs.Job.{LoggedJob};
+ghost use Rattle.mg_node.specs.Lawful.{LawfulEngine, LawfulIntake, of_node, Agree, AreCell};
+ghost use Rattle.mg_node.specs.Advances.{advance_bound, advanced, is_advanced};
+
+use super::Engine;
+use crate::Intake;
+use crate::raising::{moves_one, raise_all, raised_by, until_claimed};
+use mg_calc::Calculator;
+use mg_time::Timestamp;
+
+impl<C: Calculator> Engine<C> {
+    /// Raises the bounds of the outputs as far as what waits at the node tells, and answers whether that moved one of them. Each is
+    /// raised to the least of these times, moved by the node's offset: how far the node's input sets reach, that of the first packet
+    /// that waits (under the policy Mux, on SELECT), and that of the first set that is claimed and not laid. Those of a loopback are
+    /// raised as far as its stream is told. An engine that has failed or closed raises nothing, and neither does one whose node has no
+    /// offset and isn't a loopback. (MediaPipe, Synchronization: timestamp bounds.)
+    pub fn advance(&mut self, intake: &Intake) -> bool
+        requires cell { AreCell self.old intake.now }
+        ensures advanced { self.new ≡ advanced self.old intake.now.waits }
+        ensures moved { result ≡ is_advanced self.old intake.now.waits }
+
+        // Lawful in, lawful out, for every job.
+        ensures lawful { (job : LoggedJob) (number : ℕ) → LawfulEngine job (of_node number) self.old → LawfulIntake job number intake.now → Agree self.old intake.now
+            → LawfulEngine job (of_node number) self.new }
+    {
+        self.raise_outputs(intake)
+    }
+
+    // Raises the outputs as far as what waits tells, and answers whether that moves one of them.
+    fn raise_outputs(&mut self, intake: &Intake) -> bool
+        ensures advanced { self.new ≡ advanced self.old intake.now.waits }
+        ensures moved { result ≡ is_advanced self.old intake.now.waits }
+    {
+        match self.advance_bound(intake) {
+            Some(bound) => {
+                let moved = moves_one(&self.outputs, bound);
+                raise_all(&mut self.outputs, bound);
+                moved
+            }
+            None => false,
+        }
+    }
+
+    // The bound to which the outputs are raised, where they are.
+    fn advance_bound(&self, intake: &Intake) -> Option<Timestamp>
+        ensures { result ≡ advance_bound self.now intake.now.waits }
+    {
+        if self.has_ended() {
+            return None;
+        }
+        let until = until_claimed(&self.window, intake.horizon());
+        raised_by(self.role, self.offset, until)
+    }
+}

@@ -1,0 +1,133 @@
+//! How works are claimed.
+ghost use Rattle.std.specs.Prelude.{◌≡◌, ◌<◌, ◌+◌, ℕ, ◌^◌, length, Some};
+ghost use Rattle.mg_node.specs.Views.{IntakeView};
+ghost use Rattle.mg_node.specs.Job.{LoggedJob};
+ghost use Rattle.mg_node.specs.Lawful.{of_node, Agree, LawfulEngine, LawfulIntake, AreCell};
+ghost use Rattle.mg_node.specs.Claims.{LawfulClaim, MayClaim, IsOver, Hands, Claims};
+ghost use Rattle.mg_node.specs.declared.role.Role as Role;
+
+use super::Engine;
+use crate::entry::Entry;
+use crate::replied::{Replied, reply};
+use crate::window::{first_unrun, hand_out, is_empty};
+use crate::{Bench, Claimed, Intake, Role, Work};
+use mg_calc::{Calculator, Phase};
+use mg_policy::Readiness;
+
+impl<C: Calculator> Engine<C> {
+    /// Claims the next work. The first of these that holds is answered: `Ended`, where the node has failed or closed; `Work` with
+    /// the first work that came back unrun; `InFlightFull`, where as many works are claimed as may be; `Draining`, where no set
+    /// comes any more and works are still to be laid; `NotReady`, where neither a set nor the end can be told; `Answered`, where
+    /// the loopback has answered; `Work` with the next set, call or Close. Only a loopback's answer takes memory.
+    pub fn claim(&mut self, intake: &mut Intake) -> Claimed<C>
+        requires cell { AreCell self.old intake.old }
+        ensures claims { Claims result self.old self.new intake.old intake.new }
+
+        // Lawful in, lawful out, for every job.
+        ensures lawful { (job : LoggedJob) (number : ℕ) → LawfulEngine job (of_node number) self.old → LawfulIntake job number intake.old
+            → Agree self.old intake.old → LawfulClaim job number result self.new intake.new }
+    {
+        self.claim_next(intake)
+    }
+
+    // Claims the next work, and tells what that leaves.
+    fn claim_next(&mut self, intake: &mut Intake) -> Claimed<C>
+        requires cell { AreCell self.old intake.old }
+        ensures { Claims result self.old self.new intake.old intake.new }
+    {
+        if self.has_ended() {
+            return Claimed::Ended;
+        }
+        if let Some(place) = first_unrun(&self.window) {
+            return Claimed::Work(hand_out(&mut self.window, place));
+        }
+        if self.window.len() >= self.in_flight as usize {
+            return Claimed::InFlightFull;
+        }
+        match self.role {
+            Role::Input => unreachable!(),
+            Role::Source { calls } => self.claim_call(calls),
+            Role::Loop => self.claim_answer(intake),
+            Role::Sets => self.claim_set(intake),
+        }
+    }
+
+    // Claims the next call of a source.
+    fn claim_call(&mut self, calls: u32) -> Claimed<C>
+        requires may { MayClaim self.old }
+        requires role { self.old.role ≡ Role.Source calls }
+        ensures { (intake : IntakeView) → Claims result self.old self.new intake intake }
+    {
+        let number = self.claimed;
+        if number >= u64::from(calls) {
+            return self.claim_close();
+        }
+        let bench = self.take_bench(Phase::Call(number), 1);
+        Claimed::Work(Work::new(self.node, number, Phase::Call(number), bench))
+    }
+
+    // Claims the next set.
+    fn claim_set(&mut self, intake: &mut Intake) -> Claimed<C>
+        requires may { MayClaim self.old }
+        requires role { self.old.role ≡ Role.Sets }
+        requires cell { AreCell self.old intake.old }
+        ensures { Claims result self.old self.new intake.old intake.new }
+    {
+        match intake.set_readiness() {
+            Readiness::NotReady => Claimed::NotReady,
+            Readiness::Close => self.claim_close(),
+            Readiness::Ready { at } => {
+                let number = self.claimed;
+                let mut bench = self.take_bench(Phase::Process(at), 1);
+                bench.fill(intake);
+                Claimed::Work(Work::new(self.node, number, Phase::Process(at), bench))
+            }
+        }
+    }
+
+    // Answers the next packet of MAIN, and lays its answer.
+    fn claim_answer(&mut self, intake: &mut Intake) -> Claimed<C>
+        requires may { MayClaim self.old }
+        requires role { self.old.role ≡ Role.Loop }
+        requires cell { AreCell self.old intake.old }
+        ensures { Claims result self.old self.new intake.old intake.new }
+    {
+        if intake.is_over() {
+            return self.claim_close();
+        }
+        match reply(&mut self.outputs[0], intake) {
+            Replied::NotYet => Claimed::NotReady,
+            Replied::OutOfMemory => Claimed::OutOfMemory,
+            Replied::Laid => {
+                self.laid += 1;
+                self.claimed += 1;
+                Claimed::Answered
+            }
+        }
+    }
+
+    // Claims Close, once all else is laid.
+    fn claim_close(&mut self) -> Claimed<C>
+        requires { MayClaim self.old }
+        ensures { (intake : IntakeView) → IsOver self.old.role self.old.claimed intake.waits → Claims result self.old self.new intake intake }
+    {
+        if !is_empty(&self.window) {
+            return Claimed::Draining;
+        }
+        let number = self.claimed;
+        let bench = self.take_bench(Phase::Close, 0);
+        Claimed::Work(Work::new(self.node, number, Phase::Close, bench))
+    }
+
+    // Takes the last idle bench for a work that is handed out.
+    fn take_bench(&mut self, phase: Phase, more: u64) -> Bench<C>
+        requires room { length self.old.window < self.old.in_flight }
+        requires fits { self.old.claimed + more < 2 ^ 64 }
+        ensures { Hands self.old self.new phase more result }
+    {
+        let bench = self.idle.take_last();
+        self.window.push_back_reserved(Entry::out(phase));
+        self.claimed += more;
+        bench
+    }
+}

@@ -1,0 +1,43 @@
+//! What an engine gives of what was laid.
+ghost use Rattle.std.specs.Prelude.{◌≡◌, ◌<◌, ◌≤◌, length, slice_get, slice_set, Some, slice_index_or};
+ghost use Rattle.mg_stream.specs.Pool.{empty_backlog};
+ghost use Rattle.mg_node.specs.Job.{LoggedJob, ports_of};
+ghost use Rattle.mg_node.specs.Lawful.{Owner, LawfulEngine, LawfulIntake};
+ghost use Rattle.mg_node.specs.Outputs.{count_at, without_first};
+ghost use Rattle.mg_node.specs.Delivery.{Delivers};
+ghost use Rattle.mg_node.specs.Leading.{output_at, Leads};
+
+use super::Engine;
+use crate::delivery::deliver;
+use crate::laid::give_up;
+use crate::{Delivered, Intake};
+use mg_calc::{Calculator, Edge};
+
+impl<C: Calculator> Engine<C> {
+    /// Brings at most so many packets along an edge to the port that hasn't got them, and the bound once all are there. Nothing
+    /// of the engine changes.
+    pub fn deliver(&self, edge: Edge, intake: &mut Intake, most: u32) -> Delivered
+        requires { Leads self.now edge intake.old }
+        ensures moved { Delivers result (output_at self.now edge) edge.port most intake.old.waits intake.new.waits }
+        ensures claimed { intake.new.claimed ≡ intake.old.claimed }
+
+        // Lawful in, lawful out, for every job.
+        ensures lawful { (job : LoggedJob) (owner : Owner) → LawfulEngine job owner self.now → LawfulIntake job edge.node intake.old
+            → slice_get (ports_of job.job.plan edge.node) edge.port ≡ Some edge.stream → LawfulIntake job edge.node intake.new }
+    {
+        let output = &self.outputs[(edge.stream - self.first) as usize];
+        deliver(output, intake, edge.port, most)
+    }
+
+    /// Gives up packets of an output that all its edges have got: the first ones, until so many in all are given up.
+    pub fn give_up(&mut self, output: u32, got: u64)
+        requires output { output < length self.old.outputs }
+        requires laid { got ≤ count_at self.old output }
+        ensures given_up { self.new ≡ record self.old { outputs = slice_set self.old.outputs output (without_first got (slice_index_or self.old.outputs output empty_backlog)) } }
+
+        // Lawful in, lawful out, for every job.
+        ensures lawful { (job : LoggedJob) (owner : Owner) → LawfulEngine job owner self.old → LawfulEngine job owner self.new }
+    {
+        give_up(&mut self.outputs[output as usize], got);
+    }
+}

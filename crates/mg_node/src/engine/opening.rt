@@ -1,0 +1,76 @@
+//! How an engine is begun: its calculator is opened once, and what it emits is laid.
+ghost use Rattle.std.specs.Prelude.{◌≡◌, ◌<◌, ℕ, List, length, slice_get, Some, OnOk, OnErr, []};
+ghost use Rattle.mg_value.specs.Payload.{Plain};
+ghost use Rattle.mg_value.specs.Prefix.{StreamPrefix};
+ghost use Rattle.mg_calc.specs.declared.plan_node.PlanNode.{PlanNode};
+ghost use Rattle.mg_calc.specs.Told.{CalculatorTold};
+ghost use Rattle.mg_calc.specs.Equations.{sides_of};
+ghost use Rattle.mg_node.specs.Job.{LoggedJob, Solves};
+ghost use Rattle.mg_node.specs.Lawful.{of_node, LawfulEngine};
+ghost use Rattle.mg_node.specs.Fresh.{fresh_engine};
+ghost use Rattle.mg_node.specs.Begun.{IsUnbegun, HasOpened, HasBegun, LawfulUnbegun, SomeUnbegun, IsNew};
+
+use super::Engine;
+use crate::entry::Entry;
+use crate::window::is_empty;
+use mg_calc::{Calculator, GivenList};
+use std::alloc::AllocError;
+
+impl<C: Calculator> Engine<C> {
+    /// Begins the engine of a node: its calculator is opened with the node's side packets, and what it emits is laid. Where there is no
+    /// memory the engine isn't begun, and this may be called again; a calculator that was opened isn't opened again then.
+    pub fn begin(&mut self, sides: &GivenList) -> Result<(), AllocError>
+        requires { SomeUnbegun sides.now self.old }
+        ensures begun { (node : PlanNode) (number : ℕ) (told : CalculatorTold) → IsNew node told → IsUnbegun node number told sides.now self.old
+            → OnOk result (HasBegun node number told sides.now self.new) }
+        ensures unbegun { (node : PlanNode) (number : ℕ) (told : CalculatorTold) → IsUnbegun node number told sides.now self.old
+            → OnErr result (IsUnbegun node number told sides.now self.new) }
+
+        // It is lawful for every job that has its calculator and these side packets, or lawful as one that isn't begun.
+        ensures lawful { (job : LoggedJob) (number : ℕ) (node : PlanNode) (streams : List (StreamPrefix Plain)) → Solves job streams → slice_get job.job.plan.nodes number ≡ Some node
+            → sides.now ≡ sides_of job.job node → LawfulUnbegun job number self.old → OnOk result (LawfulEngine job (of_node number) self.new) }
+        ensures lawful_unbegun { (job : LoggedJob) (number : ℕ) (node : PlanNode) → slice_get job.job.plan.nodes number ≡ Some node
+            → sides.now ≡ sides_of job.job node → LawfulUnbegun job number self.old → OnErr result (LawfulUnbegun job number self.new) }
+    {
+        self.open_once(sides)?;
+        self.lay_front()?;
+        self.begun = true;
+        Ok(())
+    }
+
+    // Opens the calculator, where it wasn't opened.
+    fn open_once(&mut self, sides: &GivenList) -> Result<(), AllocError>
+        requires { SomeUnbegun sides.now self.old }
+        ensures opened { (node : PlanNode) (number : ℕ) (told : CalculatorTold) → IsUnbegun node number told sides.now self.old
+            → OnOk result (HasOpened node number told sides.now self.new) }
+        ensures unchanged { OnErr result (self.new ≡ self.old) }
+    {
+        if is_empty(&self.window) {
+            self.open(sides)
+        } else {
+            Ok(())
+        }
+    }
+
+    // Opens the calculator, and keeps its answer in the window.
+    fn open(&mut self, sides: &GivenList) -> Result<(), AllocError>
+        requires window { self.old.window ≡ [] }
+        requires bench { 0 < length self.old.idle }
+        ensures opened { (node : PlanNode) (number : ℕ) (told : CalculatorTold) → self.old ≡ fresh_engine node number told
+            → OnOk result (HasOpened node number told sides.now self.new) }
+        ensures unchanged { OnErr result (self.new ≡ self.old) }
+    {
+        let mut bench = self.idle.take_last();
+        match bench.open(self.alloc, sides) {
+            Some(answer) => {
+                let entry = Entry::opened(self.node, bench, answer);
+                self.window.push_back_reserved(entry);
+                Ok(())
+            }
+            None => {
+                self.idle.push_reserved(bench);
+                Err(AllocError)
+            }
+        }
+    }
+}

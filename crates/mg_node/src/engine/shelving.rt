@@ -1,0 +1,48 @@
+//! How works come back to their window as they are, and leave it.
+ghost use Rattle.std.specs.Prelude.{◌≡◌, ◌<◌, ℕ, IfSome};
+ghost use Rattle.mg_node.specs.Job.{LoggedJob};
+ghost use Rattle.mg_node.specs.Lawful.{of_node, LawfulEngine, LawfulOutcome, LawfulPerformed};
+ghost use Rattle.mg_node.specs.Shelves.{IsOut, shelved, shelf_at, Unshelves};
+
+use super::Engine;
+use crate::window::{put_back, take_shelf};
+use crate::{Outcome, Performed};
+use mg_calc::Calculator;
+
+impl<C: Calculator> Engine<C> {
+    /// Takes back a work that is out, as it is: it stands in its window as unrun, or as performed and not committed.
+    pub fn shelve(&mut self, outcome: Outcome<C>)
+        requires out { IsOut self.old outcome.work }
+        ensures shelved { self.new ≡ shelved self.old outcome }
+
+        // Lawful in, lawful out, for every job.
+        ensures lawful { (job : LoggedJob) (number : ℕ) → LawfulEngine job (of_node number) self.old → LawfulOutcome job outcome
+            → LawfulEngine job (of_node number) self.new }
+    {
+        let place = (outcome.number() - self.laid) as usize;
+        put_back(&mut self.window, place, outcome);
+    }
+
+    /// Takes the work of a number out of its window, where it stands there as performed and not committed. It is then out.
+    pub fn unshelve(&mut self, number: u64) -> Option<Performed<C>>
+        ensures found { result ≡ shelf_at self.old number }
+        ensures taken { Unshelves result self.old self.new number }
+
+        // Lawful in, lawful out, for every job.
+        ensures lawful { (job : LoggedJob) (owner : ℕ) → LawfulEngine job (of_node owner) self.old
+            → LawfulEngine job (of_node owner) self.new × IfSome result (λ p. LawfulPerformed job p) }
+    {
+        self.take_shelf(number)
+    }
+
+    // Takes it, and tells what that leaves.
+    fn take_shelf(&mut self, number: u64) -> Option<Performed<C>>
+        ensures found { result ≡ shelf_at self.old number }
+        ensures taken { Unshelves result self.old self.new number }
+    {
+        if number < self.laid {
+            return None;
+        }
+        take_shelf(&mut self.window, number - self.laid)
+    }
+}

@@ -1,0 +1,192 @@
+//! How what a call emits is put behind the queues of a node's outputs (MediaPipe, Calculators and Synchronization). Its packets are
+//! moved there, into room that was made before, so that laying takes no memory.
+ghost use Rattle.std.specs.Prelude.{◌≡◌, ◌<◌, ◌≤◌, List, length, map, Ok, slice_index_or, slice_set};
+ghost use Rattle.mg_time.specs.Time.{done};
+ghost use Rattle.mg_value.specs.Payload.{Plain};
+ghost use Rattle.mg_value.specs.Prefix.{StreamPrefix};
+ghost use Rattle.mg_stream.specs.Queue.{StandsFor, empty_queue};
+ghost use Rattle.mg_calc.specs.Laying.{with_packets, laid_behind};
+ghost use Rattle.mg_route.specs.Reasons.{reason_of, laid_each, all_laid_on};
+ghost use Rattle.mg_node.specs.Commits.{raised_before};
+ghost use Rattle.mg_node.specs.Code.QueueLaying.{Stand, StandForSome, all_appended, MayAllCome, with_part, MayBeLaid, HasTime, raised_queues, queues_before, closed_queue, queues_after, IsTimed, HasRoomFor, packets_in as packets_in_part, IsLaid};
+
+use crate::laid::append;
+use crate::raising::raise_all;
+use mg_calc::{Cause, Emission, Laid, Phase};
+use mg_route::packets_fault;
+use mg_stream::Queue;
+use mg_time::Timestamp;
+use mg_time::laws::done_is_greatest;
+use mg_value::PacketList;
+
+/// Lays an answer behind outputs that have room for it, or tells the cause why it can't be. Before that they are raised.
+pub(crate) fn lay(
+    offset: Option<i64>,
+    phase: &Phase,
+    outputs: &mut [Queue],
+    answer: Result<Emission, Cause>,
+) -> Option<Cause>
+    requires stands { StandForSome outputs.old }
+    requires room { HasRoomFor outputs.old answer }
+    ensures { IsLaid offset phase.now (raised_before offset phase.now) answer outputs.old outputs.new result }
+{
+    raise_before(offset, phase, outputs);
+    match answer {
+        Ok(emission) => lay_emission(offset, phase, outputs, emission),
+        Err(cause) => Some(cause),
+    }
+}
+
+/// How many packets an emission has at an output.
+pub(crate) fn packets_in(emission: &Emission, output: u32) -> u32
+    ensures { result ≡ packets_in_part output emission.now }
+{
+    match emission.get(output) {
+        Some(laid) => laid.packets.len(),
+        None => 0,
+    }
+}
+
+// Raises outputs before an answer of a phase is laid.
+fn raise_before(offset: Option<i64>, phase: &Phase, outputs: &mut [Queue])
+    ensures queues { outputs.new ≡ queues_before offset phase.now outputs.old }
+    ensures timed { IsTimed phase.now }
+{
+    match phase {
+        Phase::Open => {}
+        Phase::Call(_) => {}
+        Phase::Process(at) => raise_by(offset, *at, outputs),
+        Phase::Close => raise_by(offset, Timestamp::DONE, outputs),
+    }
+}
+
+// Raises the outputs of a node with an offset to a time moved by it.
+fn raise_by(offset: Option<i64>, at: Timestamp, outputs: &mut [Queue])
+    ensures queues { outputs.new ≡ raised_queues offset at outputs.old }
+    ensures timed { at ≤ done }
+{
+    done_is_greatest(at);
+    if let Some(offset) = offset {
+        raise_all(outputs, at.shift(offset));
+    }
+}
+
+// Lays an emission behind outputs, all of it or nothing.
+fn lay_emission(
+    offset: Option<i64>,
+    phase: &Phase,
+    outputs: &mut [Queue],
+    emission: Emission,
+) -> Option<Cause>
+    requires stands { StandForSome outputs.old }
+    requires room { HasRoomFor outputs.old (Ok emission) }
+    ensures { IsLaid offset phase.now (λ whole. whole) (Ok emission) outputs.old outputs.new result }
+{
+    if let Some(cause) = emission_fault(offset, phase, outputs, &emission) {
+        return Some(cause);
+    }
+    lay_all(outputs, emission);
+    close_behind(phase, outputs);
+    None
+}
+
+// Why packets can't be put behind an output, one after the other.
+fn output_fault(
+    offset: Option<i64>,
+    phase: &Phase,
+    output: &Queue,
+    packets: &PacketList,
+) -> Option<Cause>
+    ensures { (whole : StreamPrefix Plain) → StandsFor output.now whole → result ≡ reason_of (with_packets offset phase.now whole packets.now) }
+{
+    packets_fault(offset, phase, output.bound(), output.count() > 0, packets)
+}
+
+// Why an emission can't be put behind outputs, if there is a reason.
+fn emission_fault(
+    offset: Option<i64>,
+    phase: &Phase,
+    outputs: &[Queue],
+    emission: &Emission,
+) -> Option<Cause>
+    ensures { (whole : List (StreamPrefix Plain)) → Stand outputs.now whole → result ≡ reason_of (laid_behind offset phase.now whole emission.now) }
+{
+    for (i, laid) in emission.as_slice().iter().enumerate() {
+        if i >= outputs.len() {
+            return None;
+        }
+        let fault = output_fault(offset, phase, &outputs[i], &laid.packets);
+        if fault.is_some() {
+            return fault;
+        }
+    }
+    None
+}
+
+// Puts packets behind those of an output, which has room for them.
+fn append_all(output: &mut Queue, packets: PacketList)
+    requires { MayAllCome output.old packets }
+    ensures { output.new ≡ all_appended output.old packets }
+{
+    for packet in packets.into_vec() {
+        append(output, packet);
+    }
+}
+
+// Puts what is emitted at an output behind it.
+fn lay_part(output: &mut Queue, laid: Laid)
+    requires { MayAllCome output.old laid.packets }
+    ensures laid { output.new ≡ with_part output.old laid }
+    ensures timed { HasTime laid }
+{
+    let Laid { packets, bound } = laid;
+    append_all(output, packets);
+    if let Some(bound) = bound {
+        done_is_greatest(bound);
+        output.raise(bound);
+    }
+}
+
+// Puts what is emitted at the output of a place behind it, where there is such an output.
+fn lay_at(outputs: &mut [Queue], place: usize, laid: Laid)
+    requires { place < length outputs.old → MayAllCome (slice_index_or outputs.old place empty_queue) laid.packets }
+    ensures laid { outputs.new ≡ slice_set outputs.old place (with_part (slice_index_or outputs.old place empty_queue) laid) }
+    ensures timed { place < length outputs.old → HasTime laid }
+{
+    if place < outputs.len() {
+        lay_part(&mut outputs[place], laid);
+    }
+}
+
+// Puts an emission behind outputs, each its own part, from the last on.
+fn lay_all(outputs: &mut [Queue], emission: Emission)
+    requires { MayBeLaid outputs.old emission }
+    ensures laid { outputs.new ≡ laid_each with_part outputs.old emission }
+    ensures stands { (whole : List (StreamPrefix Plain)) → Stand outputs.old whole → Stand outputs.new (all_laid_on whole emission) }
+{
+    let mut parts = emission.into_vec();
+    while let Some(laid) = parts.pop() {
+        lay_at(outputs, parts.len(), laid);
+    }
+}
+
+// Closes outputs behind Close.
+fn close_behind(phase: &Phase, outputs: &mut [Queue])
+    ensures { outputs.new ≡ queues_after phase.now outputs.old }
+{
+    match phase {
+        Phase::Open => {}
+        Phase::Call(_) => {}
+        Phase::Process(_) => {}
+        Phase::Close => close_all(outputs),
+    }
+}
+
+// Closes outputs.
+fn close_all(outputs: &mut [Queue])
+    ensures { outputs.new ≡ map closed_queue outputs.old }
+{
+    for output in outputs.iter_mut() {
+        output.close();
+    }
+}

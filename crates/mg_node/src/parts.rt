@@ -1,0 +1,79 @@
+//! What the engine of a node is made of.
+ghost use Rattle.std.specs.Prelude.{◌≡◌, ◌<◌, ◌≤◌, map, length, replicate, [], IfOk, slice_index_or, vec_len, vec_capacity};
+ghost use Rattle.std.specs.VecDeque.{deque_len, deque_capacity};
+ghost use Rattle.mg_stream.specs.Pool.{backlog_of, empty_backlog};
+ghost use Rattle.mg_calc.specs.Shape.{ParametersFit, IsShapeOf};
+ghost use Rattle.mg_node.specs.Job.{role_of as role_by};
+ghost use Rattle.mg_node.specs.Fresh.{own_told, bench_of};
+
+use crate::{Bench, Role};
+use mg_calc::{Calculator, Law, PlanNode};
+use mg_route::{Builtin, Holder};
+use mg_stream::Queue;
+use mg_value::{InputSet, NumberList};
+use std::alloc::{AllocError, Global};
+
+/// How the engine of a law comes by its works.
+pub(crate) fn role_of(law: &Law) -> Role
+    ensures { result ≡ role_by law.now }
+{
+    match law {
+        Law::Count { count, .. } => Role::Source { calls: *count },
+        Law::SideOnce { .. } => Role::Source { calls: 1 },
+        Law::Constants => Role::Source { calls: 0 },
+        Law::Loopback => Role::Loop,
+        _ => Role::Sets,
+    }
+}
+
+/// The first of some numbers, or 0 where there is none.
+pub(crate) fn first_of(numbers: &NumberList) -> u32
+    ensures { result ≡ slice_index_or numbers.now 0 0 }
+{
+    if numbers.is_empty() {
+        return 0;
+    }
+    numbers.as_slice()[0]
+}
+
+/// Outputs at which nothing was laid, so many.
+pub(crate) fn empty_outputs(alloc: Global, count: u32) -> Result<Vec<Queue>, AllocError>
+    ensures items { IfOk result (λ v. map backlog_of v.items ≡ replicate count empty_backlog) }
+    ensures len { IfOk result (λ v. vec_len v ≡ count) }
+{
+    let mut outputs = Vec::with_capacity(alloc, count as usize)?;
+    for _ in 0..count {
+        outputs.push_reserved(Queue::new(alloc));
+    }
+    Ok(outputs)
+}
+
+// A bench of one of a node's own calculators.
+fn own_bench<C: Calculator>(alloc: Global, node: &PlanNode) -> Result<Bench<C>, AllocError>
+    requires ranges { ParametersFit node.now.law }
+    requires of_law { IsShapeOf node.now.law node.now.shape }
+    ensures { IfOk result (λ b. b ≡ bench_of node.now (own_told node.now)) }
+{
+    let builtin = Builtin::new(alloc, &node.law, &node.shape)?;
+    let set = InputSet::new(alloc, node.inputs.len())?;
+    Ok(Bench::new(Holder::own(builtin), set))
+}
+
+/// Benches of a node's own calculators, so many, with room for one more.
+pub(crate) fn own_benches<C: Calculator>(
+    alloc: Global,
+    node: &PlanNode,
+    count: u32,
+) -> Result<Vec<Bench<C>>, AllocError>
+    requires ranges { ParametersFit node.now.law }
+    requires of_law { IsShapeOf node.now.law node.now.shape }
+    ensures items { IfOk result (λ v. v.items ≡ replicate count (bench_of node.now (own_told node.now))) }
+    ensures len { IfOk result (λ v. vec_len v ≡ count) }
+    ensures room { IfOk result (λ v. count < vec_capacity v) }
+{
+    let mut benches = Vec::with_capacity(alloc, count as usize + 1)?;
+    for _ in 0..count {
+        benches.push_reserved(own_bench(alloc, node)?);
+    }
+    Ok(benches)
+}

@@ -1,0 +1,83 @@
+//! How far outputs are raised by what waits.
+ghost use Rattle.std.specs.Prelude.{◌≡◌, nat_lt, min, map};
+ghost use Rattle.mg_stream.specs.Pool.{backlog_of};
+ghost use Rattle.mg_stream.specs.Queue.{raised_to};
+ghost use Rattle.mg_node.specs.Advances.{any_moved, until_phase, until_claimed as until_claimed_in, raised_by as raised_by_role};
+
+use crate::Role;
+use crate::entry::Entry;
+use crate::window::is_empty;
+use mg_calc::{Calculator, Phase};
+use mg_stream::Queue;
+use mg_time::Timestamp;
+use std::collections::VecDeque;
+
+fn is_below(output: &Queue, bound: Timestamp) -> bool
+    ensures { result ≡ nat_lt output.now.bound bound }
+{
+    output.bound() < bound
+}
+
+/// Whether a bound is higher than that of one of some outputs.
+#[tactic(auto, using(crate::proofs::Advancing::moved_here, crate::proofs::Advancing::moved_next, crate::proofs::Advancing::moved_none))]
+pub(crate) fn moves_one(outputs: &[Queue], bound: Timestamp) -> bool
+    ensures { result ≡ any_moved bound (map backlog_of outputs.now) }
+{
+    for i in 0..outputs.len() {
+        if is_below(&outputs[i], bound) {
+            return true;
+        }
+    }
+    false
+}
+
+/// Raises outputs to a bound.
+pub(crate) fn raise_all(outputs: &mut [Queue], bound: Timestamp)
+    ensures { outputs.new ≡ map (λ q. raised_to q bound) outputs.old }
+{
+    for output in outputs.iter_mut() {
+        output.raise(bound);
+    }
+}
+
+fn lesser(a: Timestamp, b: Timestamp) -> Timestamp
+    ensures { result ≡ min a b }
+{
+    if a < b { a } else { b }
+}
+
+fn until(phase: Phase, time: Timestamp) -> Timestamp
+    ensures { result ≡ until_phase phase time }
+{
+    match phase {
+        Phase::Process(at) => lesser(at, time),
+        _ => time,
+    }
+}
+
+/// The lesser of a time and that of the first claimed set.
+#[tactic(auto, using(crate::proofs::Advancing::until_first, crate::proofs::Advancing::until_none))]
+pub(crate) fn until_claimed<C: Calculator>(
+    window: &VecDeque<Entry<C>>,
+    time: Timestamp,
+) -> Timestamp
+    ensures { result ≡ until_claimed_in window.now.items time }
+{
+    if is_empty(window) {
+        return time;
+    }
+    until(window[0].phase(), time)
+}
+
+/// The bound to which the outputs of a node are raised.
+pub(crate) fn raised_by(role: Role, offset: Option<i64>, time: Timestamp) -> Option<Timestamp>
+    ensures { result ≡ raised_by_role role offset time }
+{
+    match role {
+        Role::Loop => Some(time),
+        _ => match offset {
+            Some(offset) => Some(time.shift(offset)),
+            None => None,
+        },
+    }
+}
