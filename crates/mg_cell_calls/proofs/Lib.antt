@@ -1,0 +1,6 @@
+pub mod WorksOut
+pub mod Keeping
+pub mod Making
+pub mod Cells
+pub mod Edges
+pub mod Scripting

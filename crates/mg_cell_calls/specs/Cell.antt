@@ -1,0 +1,25 @@
+-- The cell of a plan's first node, with the collector behind it, as the tests drive it: each of its parts is lawful for the job that
+-- the plan and its inputs make, and between two calls no work is out.
+use Rattle.std.specs.Prelude.{◌≡◌, [], map, All, length}
+use Rattle.mg_calc.specs.declared.plan.Plan.{Plan}
+use Rattle.mg_calc.specs.declared.inputs.Inputs.{Inputs}
+use Rattle.mg_calc.specs.Equations.{IsJob}
+use Rattle.mg_node.specs.Views.{IntakeView, EngineView}
+use Rattle.mg_node.specs.Job.{LoggedJob}
+use Rattle.mg_node.specs.Lawful.{LawfulEngine, LawfulIntake, Agree, of_node}
+
+-- the job of a plan and its inputs; no calculator keeps a log
+abbrev pub job_of : Plan → Inputs → LoggedJob
+job_of plan inputs = record { job = record { plan = plan; inputs = inputs }; logs = [] }
+
+-- an engine has given up no packet of its outputs
+abbrev pub KeepsAll : EngineView → Type 0
+KeepsAll engine = All (λ n. n ≡ 0) (map (λ b. b.gone) engine.outputs)
+
+pub record IsCell (plan : Plan) (inputs : Inputs) (engine : EngineView) (intake sink : IntakeView) : Type 0 where
+  pub is_job : IsJob (record { plan = plan; inputs = inputs })
+  pub lawful_engine : LawfulEngine (job_of plan inputs) (of_node 0) engine
+  pub lawful_intake : LawfulIntake (job_of plan inputs) 0 intake
+  pub agree : Agree engine intake
+  pub lawful_sink : LawfulIntake (job_of plan inputs) (length plan.nodes) sink
+  pub keeps : KeepsAll engine

@@ -1,0 +1,113 @@
+//! The cell of a plan's first node, and how it is made.
+ghost use Rattle.std.specs.Prelude.{◌≡◌, ◌<◌, ◌≤◌, length, slice_get, Some, IfOk, OnOk, [], true};
+ghost use Rattle.mg_calc.specs.Plan.{IsValid, InputsFit};
+ghost use Rattle.mg_calc.specs.Equations.{IsJob};
+ghost use Rattle.mg_calc.specs.declared.plan_node.PlanNode.{PlanNode};
+ghost use Rattle.mg_node.specs.Fresh.{own_told, fresh_engine};
+ghost use Rattle.mg_node.specs.Lawful.{LawfulEngine, LawfulIntake, of_node};
+ghost use Rattle.mg_cell_calls.specs.Cell.{IsCell, KeepsAll, job_of};
+
+use mg_calc::{GivenList, Inputs, Plan};
+use mg_node::{Engine, Intake};
+use mg_route::{Builtin, Holder, LawBox};
+use mg_value::are_prefixes;
+use std::alloc::Global;
+use std::test::Fail;
+
+/// The first node of a plan: what waits there, and what works there; and the intake of the collector, which reads its outputs.
+#[derive(Drop)]
+pub(crate) struct Cell {
+    pub(crate) plan: Plan,
+    pub(crate) inputs: Inputs,
+    pub(crate) engine: Engine<LawBox>,
+    pub(crate) intake: Intake,
+    pub(crate) sink: Intake,
+}
+
+// Whether inputs fit a plan without side packets.
+fn do_fit(plan: &Plan, inputs: &Inputs) -> bool
+    ensures { result ≡ true → InputsFit plan.now inputs.now }
+{
+    plan.sides.is_empty()
+        && inputs.sides.is_empty()
+        && inputs.streams.len() == plan.inputs.len()
+        && are_prefixes(&inputs.streams)
+}
+
+// A calculator of the law of a plan's first node.
+fn holder_of(alloc: Global, plan: &Plan) -> Result<Holder<LawBox>, Fail>
+    requires { IsValid plan.now }
+    ensures told { IfOk result (λ h. (node : PlanNode) → slice_get plan.now.nodes 0 ≡ Some node → h ≡ own_told node) }
+    ensures there { OnOk result (0 < length plan.now.nodes) }
+{
+    let node = plan.nodes.get(0).ok_or("no node")?;
+    let builtin = Builtin::new(alloc, &node.law, &node.shape)?;
+    Ok(Holder::own(builtin))
+}
+
+// The engine of a plan's first node, which isn't begun. The node has no side packets.
+fn unbegun(alloc: Global, plan: &Plan) -> Result<Engine<LawBox>, Fail>
+    requires { IsValid plan.now }
+    ensures fresh { IfOk result (λ e. (node : PlanNode) → slice_get plan.now.nodes 0 ≡ Some node → (node.sides ≡ []) × (e ≡ fresh_engine node 0 (own_told node))) }
+    ensures there { OnOk result (0 < length plan.now.nodes) }
+{
+    let holder = holder_of(alloc, plan)?;
+    let node = plan.nodes.get(0).ok_or("no node")?;
+    if !node.sides.is_empty() {
+        return Err(Fail::from("a node with side packets"));
+    }
+    match Engine::new(alloc, plan, 0, holder) {
+        Ok(engine) => Ok(engine),
+        Err(_) => Err(Fail::from("no memory")),
+    }
+}
+
+// No side packets.
+fn no_sides(alloc: Global) -> Result<GivenList, Fail>
+    ensures { IfOk result (λ sides. sides ≡ []) }
+{
+    Ok(GivenList::from_vec(Vec::new(alloc))?)
+}
+
+// The engine of a plan's first node, which is begun.
+fn engine_of(alloc: Global, plan: &Plan, inputs: &Inputs) -> Result<Engine<LawBox>, Fail>
+    requires { IsJob (record { plan = plan.now; inputs = inputs.now }) }
+    ensures lawful { IfOk result (λ e. LawfulEngine (job_of plan.now inputs.now) (of_node 0) e) }
+    ensures none { IfOk result (λ e. e.claimed ≡ 0) }
+    ensures keeps { IfOk result (λ e. KeepsAll e) }
+{
+    let mut engine = unbegun(alloc, plan)?;
+    let sides = no_sides(alloc)?;
+    engine.begin(&sides)?;
+    Ok(engine)
+}
+
+// The intake of a consumer, to which nothing came.
+fn intake_of(alloc: Global, plan: &Plan, inputs: &Inputs, consumer: u32) -> Result<Intake, Fail>
+    requires job { IsJob (record { plan = plan.now; inputs = inputs.now }) }
+    requires consumer { consumer ≤ length plan.now.nodes }
+    ensures lawful { IfOk result (λ i. LawfulIntake (job_of plan.now inputs.now) consumer i) }
+    ensures none { IfOk result (λ i. i.claimed ≡ 0) }
+{
+    Ok(Intake::new(alloc, plan, consumer)?)
+}
+
+/// The cell of a plan's first node, which is begun, and to which nothing came.
+pub(crate) fn cell_of(alloc: Global, plan: Plan, inputs: Inputs) -> Result<Cell, Fail>
+    requires { IsValid plan }
+    ensures { IfOk result (λ c. IsCell c.plan c.inputs c.engine c.intake c.sink) }
+{
+    if !do_fit(&plan, &inputs) {
+        return Err(Fail::from("inputs don't fit"));
+    }
+    let engine = engine_of(alloc, &plan, &inputs)?;
+    let intake = intake_of(alloc, &plan, &inputs, 0)?;
+    let sink = intake_of(alloc, &plan, &inputs, plan.nodes.len())?;
+    Ok(Cell {
+        plan,
+        inputs,
+        engine,
+        intake,
+        sink,
+    })
+}

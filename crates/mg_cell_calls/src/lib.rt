@@ -1,0 +1,31 @@
+//! The tests of cells: the first node of a graph with its intake and its engine, and the collector behind it, driven call by call
+//! through tables. There is nothing else here, so that no other crate is proved a second time with its tests, and they stand
+//! apart from those of the crates below, which take longest.
+#![tactic(auto)]
+
+#[cfg(test)]
+mod cell;
+#[cfg(test)]
+mod faults;
+#[cfg(test)]
+mod feeds;
+#[cfg(test)]
+mod laying;
+#[cfg(test)]
+mod loops;
+#[cfg(test)]
+mod plans;
+#[cfg(test)]
+mod rows;
+#[cfg(test)]
+mod scripted;
+#[cfg(test)]
+mod shown;
+#[cfg(test)]
+mod sink;
+#[cfg(test)]
+mod streams;
+#[cfg(test)]
+mod windows;
+#[cfg(test)]
+mod works;

@@ -1,0 +1,79 @@
+//! How what a cell answers is written in tables: a packet as its number, `@` and its timestamp.
+use crate::works::Idle;
+use mg_calc::{NodeFault, Phase};
+use mg_node::Delivered;
+use mg_time::Timestamp;
+use mg_value::{InputSet, Payload};
+use std::alloc::Global;
+use std::test::Fail;
+
+/// The text of a timestamp.
+pub(crate) fn show_time(alloc: Global, time: Timestamp) -> Result<String, Fail> {
+    Ok(String::from_utf8(time.print_text(alloc)?)?)
+}
+
+/// The packets at the ports of a set.
+pub(crate) fn show_set(alloc: Global, set: &InputSet) -> Result<String, Fail> {
+    let mut shown = String::new(alloc);
+    for port in 0..set.len() {
+        if port > 0 {
+            shown.push_str(" ")?;
+        }
+        match set.get(port) {
+            None => shown.push_str("-")?,
+            Some(packet) => {
+                let at = show_time(alloc, packet.at)?;
+                write!(shown, "{}@{}", number_of(&packet.payload), at.as_str())?;
+            }
+        }
+    }
+    Ok(shown)
+}
+
+fn number_of(payload: &Payload) -> i64 {
+    match payload {
+        Payload::Int(number) => *number,
+        _ => i64::MIN,
+    }
+}
+
+/// What a delivery moved.
+pub(crate) fn show_delivered(alloc: Global, delivered: Delivered) -> Result<String, Fail> {
+    match delivered {
+        Delivered::Moved { packets, raised } => Ok(format!(in alloc; "{packets} {raised}")?),
+        Delivered::OutOfMemory { .. } => Err(Fail::from("no memory")),
+    }
+}
+
+/// A work's number and phase.
+pub(crate) fn show_work(alloc: Global, number: u64, phase: Phase) -> Result<String, Fail> {
+    let phase = show_phase(alloc, phase)?;
+    Ok(format!(in alloc; "{number} {}", phase.as_str())?)
+}
+
+/// Why there is no work.
+pub(crate) fn show_idle(alloc: Global, idle: Idle) -> Result<String, Fail> {
+    Ok(format!(in alloc; "{idle:?}")?)
+}
+
+/// A phase, with the time of its set.
+fn show_phase(alloc: Global, phase: Phase) -> Result<String, Fail> {
+    match phase {
+        Phase::Open => Ok(String::from_str(alloc, "open")?),
+        Phase::Call(_) => Ok(String::from_str(alloc, "call")?),
+        Phase::Process(at) => {
+            let at = show_time(alloc, at)?;
+            Ok(format!(in alloc; "at {}", at.as_str())?)
+        }
+        Phase::Close => Ok(String::from_str(alloc, "close")?),
+    }
+}
+
+/// A fault, or `-`.
+pub(crate) fn show_fault(alloc: Global, fault: Option<NodeFault>) -> Result<String, Fail> {
+    let Some(fault) = fault else {
+        return Ok(String::from_str(alloc, "-")?);
+    };
+    let phase = show_phase(alloc, fault.phase)?;
+    Ok(format!(in alloc; "{} {:?}", phase.as_str(), fault.cause)?)
+}
