@@ -46,3 +46,7 @@ pub mod FrontSteps
 pub mod EngineFronts
 pub mod EngineOpening
 pub mod BeginKeeps
+pub mod Growing
+pub mod IntakesGrow
+pub mod FrontGrows
+pub mod ClaimsGrow

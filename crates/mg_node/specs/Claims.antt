@@ -19,6 +19,7 @@ use Rattle.mg_node.specs.declared.claimed.Claimed.TheVariants.{Work, Answered, N
 use Rattle.mg_node.specs.Views.{IntakeView, BenchView, WorkView, OutcomeView, EntryView, EngineView}
 use Rattle.mg_node.specs.Ports.{IsNext}
 use Rattle.mg_node.specs.Intakes.{next_set_of, HasSet}
+use Rattle.mg_node.specs.IntakeStanding.{IntakeGrows}
 use Rattle.mg_node.specs.Job.{LoggedJob, Solves}
 use Rattle.mg_node.specs.Lawful.{LawfulIntake, LawfulEngine, LawfulWork, of_node, Agree}
 
@@ -49,10 +50,11 @@ IsEarly (Source calls) waits = ⊥
 IsEarly role waits = IsNext waits NotYet
 
 -- the next input set of an intake is taken: it shows these packets, which are those of its number in the solution of every job for
--- which the intake is lawful, and it stays lawful
+-- which the intake is lawful, and it stays lawful; and its standing only grows
 pub record Takes (intake now : IntakeView) (set : List (Option (Stamped Plain))) : Type 0 where
   pub shown : IsSomeAnd (next_set_of intake.waits) (λ e. set ≡ e.set)
   pub counted : now.claimed ≡ intake.claimed + 1
+  pub grows : IntakeGrows intake now
   pub stays_lawful : (job : LoggedJob) (consumer : ℕ) → LawfulIntake job consumer intake → LawfulIntake job consumer now
   pub in_solution : (job : LoggedJob) (consumer : ℕ) (streams : List (StreamPrefix Plain)) → Solves job streams → LawfulIntake job consumer intake → HasSet job streams consumer intake.claimed set
 

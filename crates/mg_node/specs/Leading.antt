@@ -1,17 +1,17 @@
 -- Deliveries between cells: an edge leads from an engine's output to a port of an intake.
-use Rattle.std.specs.Prelude.{◌≡◌, ◌+◌, ◌-◌, ◌<◌, ◌≤◌, length, Some, slice_get, slice_index_or}
+use Rattle.std.specs.Prelude.{◌≡◌, ◌+◌, ◌-◌, ◌<◌, ◌≤◌, length, Some, slice_get}
 use Rattle.mg_value.specs.Payload.{Plain}
 use Rattle.mg_stream.specs.Queue.{Waiting, count_of}
-use Rattle.mg_stream.specs.Pool.{empty_backlog, queue_of}
 use Rattle.mg_calc.specs.declared.edge.Edge.{Edge}
 use Rattle.mg_node.specs.Views.{IntakeView, EngineView}
 use Rattle.mg_node.specs.Ports.{port_queue}
+use Rattle.mg_node.specs.Outputs.{laid_at}
 use Rattle.mg_node.specs.Job.{LoggedJob, ports_of}
 use Rattle.mg_node.specs.Lawful.{Owner, LawfulEngine, LawfulIntake}
 
 -- what an engine has at the output whose stream an edge carries
 abbrev pub output_at : EngineView → Edge → Waiting Plain
-output_at engine e = queue_of 0 (slice_index_or engine.outputs (e.stream - engine.first) empty_backlog)
+output_at engine e = laid_at engine (e.stream - engine.first)
 
 -- an engine's outputs have the stream of an edge
 pub record HasStream (engine : EngineView) (e : Edge) : Type 0 where

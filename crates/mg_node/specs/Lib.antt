@@ -5,7 +5,9 @@ pub mod Ports
 pub mod Intakes
 pub mod Delivery
 pub mod Outputs
+pub mod IntakeStanding
 pub mod Claims
+pub mod Standing
 pub mod Fresh
 pub mod Begun
 pub mod Advances

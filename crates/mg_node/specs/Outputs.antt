@@ -2,9 +2,14 @@
 use Rattle.std.specs.Prelude.{ℕ, ◌+◌, ◌-◌, [], ◌∷◌, length, drop, max, None, true, false, slice_index_or}
 use Rattle.mg_value.specs.Payload.{Plain}
 use Rattle.mg_value.specs.Prefix.{StreamPrefix}
-use Rattle.mg_stream.specs.Pool.{Backlog, empty_backlog}
+use Rattle.mg_stream.specs.Queue.{Waiting}
+use Rattle.mg_stream.specs.Pool.{Backlog, empty_backlog, queue_of}
 use Rattle.mg_node.specs.declared.role.Role.TheVariants.{Input}
 use Rattle.mg_node.specs.Views.{EngineView}
+
+-- what was laid at an output, as a queue: the packets that are kept, how many were given up, and the bound
+abbrev pub laid_at : EngineView → ℕ → Waiting Plain
+laid_at engine output = queue_of 0 (slice_index_or engine.outputs output empty_backlog)
 
 -- how many packets were laid at an output, those that were given up included
 abbrev pub count_at : EngineView → ℕ → ℕ

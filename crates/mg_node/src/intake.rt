@@ -10,6 +10,7 @@ ghost use Rattle.mg_node.specs.Intakes.{NoneWaits, HoldsNone, IsFresh, next_set_
 ghost use Rattle.mg_policy.specs.declared.readiness.Readiness as Readiness;
 ghost use Rattle.mg_node.specs.Job.{LoggedJob, Solves};
 ghost use Rattle.mg_node.specs.Lawful.{HoldsWaits, LawfulIntake};
+ghost use Rattle.mg_node.specs.IntakeStanding.{HasGrown, IntakeGrows};
 ghost use Rattle.mg_node.specs.Ports.{ports_in, port_queue, with_port, with_room, IsNext, horizon_of};
 
 use crate::Waits;
@@ -64,6 +65,9 @@ impl Intake {
         ensures counted { OnTrue result (self.new.claimed ≡ self.old.claimed + 1) }
         ensures unchanged { OnFalse result ((self.new ≡ self.old) × (into.new ≡ into.old)) }
         ensures places { length into.new ≡ length into.old }
+
+        // Its standing only grows.
+        ensures grows { IntakeGrows self.old self.new }
 
         // Lawful in, lawful out, for every job; and the set is that of its number in the solution.
         ensures stays_lawful { (job : LoggedJob) (consumer : ℕ) → LawfulIntake job consumer self.old → LawfulIntake job consumer self.new }
@@ -254,6 +258,8 @@ fn claim_of(waits: &mut Waits, into: &mut InputSet) -> bool
     ensures places { length into.new ≡ length into.old }
     ensures holds { (job : LoggedJob) (streams : List (StreamPrefix Plain)) (consumer k : ℕ) → HoldsWaits job streams consumer k waits.old
         → OnTrue result (Claims job streams consumer k waits.new into.new) }
+    ensures grow { (job : LoggedJob) (streams : List (StreamPrefix Plain)) (consumer k port : ℕ) → HoldsWaits job streams consumer k waits.old
+        → HasGrown (port_queue waits.old port) (port_queue waits.new port) }
 {
     match waits {
         Waits::Sets(inbox) => inbox.claim(into),

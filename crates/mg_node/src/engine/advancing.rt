@@ -2,6 +2,7 @@
 ghost use Rattle.std.specs.Prelude.{◌≡◌, ℕ};
 ghost use Rattle.mg_node.specs.Job.{LoggedJob};
 ghost use Rattle.mg_node.specs.Lawful.{LawfulEngine, LawfulIntake, of_node, Agree, AreCell};
+ghost use Rattle.mg_node.specs.Standing.{EngineGrows};
 ghost use Rattle.mg_node.specs.Advances.{advance_bound, advanced, is_advanced};
 
 use super::Engine;
@@ -20,6 +21,9 @@ impl<C: Calculator> Engine<C> {
         requires cell { AreCell self.old intake.now }
         ensures advanced { self.new ≡ advanced self.old intake.now.waits }
         ensures moved { result ≡ is_advanced self.old intake.now.waits }
+
+        // Its standing only grows.
+        ensures grows { EngineGrows self.old self.new }
 
         // Lawful in, lawful out, for every job.
         ensures lawful { (job : LoggedJob) (number : ℕ) → LawfulEngine job (of_node number) self.old → LawfulIntake job number intake.now → Agree self.old intake.now

@@ -4,6 +4,8 @@ ghost use Rattle.mg_node.specs.Views.{IntakeView};
 ghost use Rattle.mg_node.specs.Job.{LoggedJob};
 ghost use Rattle.mg_node.specs.Lawful.{of_node, Agree, LawfulEngine, LawfulIntake, AreCell};
 ghost use Rattle.mg_node.specs.Claims.{LawfulClaim, MayClaim, IsOver, Hands, Claims};
+ghost use Rattle.mg_node.specs.IntakeStanding.{IntakeGrows};
+ghost use Rattle.mg_node.specs.Standing.{EngineGrows};
 ghost use Rattle.mg_node.specs.declared.role.Role as Role;
 
 use super::Engine;
@@ -22,6 +24,10 @@ impl<C: Calculator> Engine<C> {
     pub fn claim(&mut self, intake: &mut Intake) -> Claimed<C>
         requires cell { AreCell self.old intake.old }
         ensures claims { Claims result self.old self.new intake.old intake.new }
+
+        // The standing of both only grows.
+        ensures grows { EngineGrows self.old self.new }
+        ensures intake_grows { IntakeGrows intake.old intake.new }
 
         // Lawful in, lawful out, for every job.
         ensures lawful { (job : LoggedJob) (number : ℕ) → LawfulEngine job (of_node number) self.old → LawfulIntake job number intake.old

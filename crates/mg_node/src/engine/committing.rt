@@ -4,6 +4,7 @@ ghost use Rattle.mg_node.specs.Job.{LoggedJob};
 ghost use Rattle.mg_node.specs.Lawful.{of_node, LawfulEngine, LawfulOutcome};
 ghost use Rattle.mg_node.specs.Shelves.{IsOut};
 ghost use Rattle.mg_node.specs.Commits.{SomeJobHasEngine, Commits, window_with};
+ghost use Rattle.mg_node.specs.Standing.{EngineGrows};
 ghost use Rattle.mg_node.specs.Code.FrontLaying.{counted_in, HasWhole, LaysFront};
 
 use super::Engine;
@@ -24,6 +25,9 @@ impl<C: Calculator> Engine<C> {
         ensures commits { IfOk result (λ n. Commits outcome n self.old self.new) }
         ensures returned { IfErr result (λ o. o ≡ outcome) }
         ensures unchanged { OnErr result (self.new ≡ self.old) }
+
+        // Its standing only grows.
+        ensures grows { EngineGrows self.old self.new }
 
         // Lawful in, lawful out, for every job.
         ensures lawful { (job : LoggedJob) (number : ℕ) → LawfulEngine job (of_node number) self.old → LawfulOutcome job outcome

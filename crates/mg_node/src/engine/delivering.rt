@@ -5,6 +5,8 @@ ghost use Rattle.mg_node.specs.Job.{LoggedJob, ports_of};
 ghost use Rattle.mg_node.specs.Lawful.{Owner, LawfulEngine, LawfulIntake};
 ghost use Rattle.mg_node.specs.Outputs.{count_at, without_first};
 ghost use Rattle.mg_node.specs.Delivery.{Delivers};
+ghost use Rattle.mg_node.specs.IntakeStanding.{IntakeGrows};
+ghost use Rattle.mg_node.specs.Standing.{EngineGrows};
 ghost use Rattle.mg_node.specs.Leading.{output_at, Leads};
 
 use super::Engine;
@@ -21,6 +23,9 @@ impl<C: Calculator> Engine<C> {
         ensures moved { Delivers result (output_at self.now edge) edge.port most intake.old.waits intake.new.waits }
         ensures claimed { intake.new.claimed ≡ intake.old.claimed }
 
+        // The intake's standing only grows.
+        ensures grows { IntakeGrows intake.old intake.new }
+
         // Lawful in, lawful out, for every job.
         ensures lawful { (job : LoggedJob) (owner : Owner) → LawfulEngine job owner self.now → LawfulIntake job edge.node intake.old
             → slice_get (ports_of job.job.plan edge.node) edge.port ≡ Some edge.stream → LawfulIntake job edge.node intake.new }
@@ -34,6 +39,9 @@ impl<C: Calculator> Engine<C> {
         requires output { output < length self.old.outputs }
         requires laid { got ≤ count_at self.old output }
         ensures given_up { self.new ≡ record self.old { outputs = slice_set self.old.outputs output (without_first got (slice_index_or self.old.outputs output empty_backlog)) } }
+
+        // Its standing only grows.
+        ensures grows { EngineGrows self.old self.new }
 
         // Lawful in, lawful out, for every job.
         ensures lawful { (job : LoggedJob) (owner : Owner) → LawfulEngine job owner self.old → LawfulEngine job owner self.new }

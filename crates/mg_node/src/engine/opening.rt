@@ -7,6 +7,7 @@ ghost use Rattle.mg_calc.specs.Told.{CalculatorTold};
 ghost use Rattle.mg_calc.specs.Equations.{sides_of};
 ghost use Rattle.mg_node.specs.Job.{LoggedJob, Solves};
 ghost use Rattle.mg_node.specs.Lawful.{of_node, LawfulEngine};
+ghost use Rattle.mg_node.specs.Standing.{EngineGrows};
 ghost use Rattle.mg_node.specs.Fresh.{fresh_engine};
 ghost use Rattle.mg_node.specs.Begun.{IsUnbegun, HasOpened, HasBegun, LawfulUnbegun, SomeUnbegun, IsNew};
 
@@ -25,6 +26,9 @@ impl<C: Calculator> Engine<C> {
             → OnOk result (HasBegun node number told sides.now self.new) }
         ensures unbegun { (node : PlanNode) (number : ℕ) (told : CalculatorTold) → IsUnbegun node number told sides.now self.old
             → OnErr result (IsUnbegun node number told sides.now self.new) }
+
+        // Its standing only grows.
+        ensures grows { EngineGrows self.old self.new }
 
         // It is lawful for every job that has its calculator and these side packets, or lawful as one that isn't begun.
         ensures lawful { (job : LoggedJob) (number : ℕ) (node : PlanNode) (streams : List (StreamPrefix Plain)) → Solves job streams → slice_get job.job.plan.nodes number ≡ Some node

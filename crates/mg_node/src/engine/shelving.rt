@@ -2,6 +2,7 @@
 ghost use Rattle.std.specs.Prelude.{◌≡◌, ◌<◌, ℕ, IfSome};
 ghost use Rattle.mg_node.specs.Job.{LoggedJob};
 ghost use Rattle.mg_node.specs.Lawful.{of_node, LawfulEngine, LawfulOutcome, LawfulPerformed};
+ghost use Rattle.mg_node.specs.Standing.{EngineGrows};
 ghost use Rattle.mg_node.specs.Shelves.{IsOut, shelved, shelf_at, Unshelves};
 
 use super::Engine;
@@ -15,6 +16,9 @@ impl<C: Calculator> Engine<C> {
         requires out { IsOut self.old outcome.work }
         ensures shelved { self.new ≡ shelved self.old outcome }
 
+        // Its standing only grows.
+        ensures grows { EngineGrows self.old self.new }
+
         // Lawful in, lawful out, for every job.
         ensures lawful { (job : LoggedJob) (number : ℕ) → LawfulEngine job (of_node number) self.old → LawfulOutcome job outcome
             → LawfulEngine job (of_node number) self.new }
@@ -27,6 +31,9 @@ impl<C: Calculator> Engine<C> {
     pub fn unshelve(&mut self, number: u64) -> Option<Performed<C>>
         ensures found { result ≡ shelf_at self.old number }
         ensures taken { Unshelves result self.old self.new number }
+
+        // Its standing only grows.
+        ensures grows { EngineGrows self.old self.new }
 
         // Lawful in, lawful out, for every job.
         ensures lawful { (job : LoggedJob) (owner : ℕ) → LawfulEngine job (of_node owner) self.old

@@ -2,7 +2,11 @@ use Rattle.std.proofs.Common.{subst, sym}
 use Rattle.mg_node.specs.Views.{EngineView}
 use Rattle.mg_node.specs.Lawful.{LawfulEngine, of_node}
 use Rattle.mg_node.proofs.AdvanceKeeps.{advance_lawful}
+use Rattle.mg_node.proofs.Growing.{advance_grows}
 use Rattle.mg_node.proofs.engine.Engine.advance.Goals as goal
+
+pub returns-clause-grows : goal.returns-clause-grows
+returns-clause-grows g c = advance_grows c.args.self.now _ c.args.intake.now.waits c.raise_outputs.ensures.advanced
 
 pub returns-clause-lawful : goal.returns-clause-lawful
 returns-clause-lawful g c = λ job number engine intake agree.

@@ -1,5 +1,12 @@
 use Rattle.mg_node.proofs.Cells.{claim_lawful}
+use Rattle.mg_node.proofs.ClaimsGrow.{claim_grows}
 use Rattle.mg_node.proofs.engine.Engine.claim.Goals as goal
+
+pub returns-clause-grows : goal.returns-clause-grows
+returns-clause-grows g c = (claim_grows c.claim_next.result _ _ _ _ c.requires.cell c.claim_next.ensures).engine_grows
+
+pub returns-clause-intake_grows : goal.returns-clause-intake_grows
+returns-clause-intake_grows g c = (claim_grows c.claim_next.result _ _ _ _ c.requires.cell c.claim_next.ensures).intake_grows
 
 pub returns-clause-lawful : goal.returns-clause-lawful
 returns-clause-lawful g c = λ job number engine intake agree. claim_lawful job number c.claim_next.result _ _ _ _ engine intake agree c.claim_next.ensures

@@ -1,5 +1,9 @@
 use Rattle.mg_node.proofs.CommitKeeps.{result_lawful}
+use Rattle.mg_node.proofs.FrontGrows.{commit_grows}
 use Rattle.mg_node.proofs.engine.Engine.commit.Goals as goal
+
+pub returns-clause-grows : goal.returns-clause-grows
+returns-clause-grows g c = commit_grows c.args.outcome c.commit_outcome.result c.args.self.now c.commit_outcome.new.self c.requires.lawful c.commit_outcome.ensures.commits c.commit_outcome.ensures.unchanged
 
 pub returns-clause-lawful : goal.returns-clause-lawful
 returns-clause-lawful g c = λ job number engine outcome.

@@ -1,5 +1,9 @@
 use Rattle.mg_node.proofs.Shelving.{unshelved_all}
+use Rattle.mg_node.proofs.Growing.{unshelving_grows}
 use Rattle.mg_node.proofs.engine.Engine.unshelve.Goals as goal
+
+pub returns-clause-grows : goal.returns-clause-grows
+returns-clause-grows g c = unshelving_grows c.take_shelf.result c.args.self.now _ c.args.number c.take_shelf.ensures.taken
 
 pub returns-clause-lawful : goal.returns-clause-lawful
 returns-clause-lawful g c = λ job owner engine. unshelved_all job owner c.args.self.now _ c.args.number c.take_shelf.result c.take_shelf.ensures.found c.take_shelf.ensures.taken engine

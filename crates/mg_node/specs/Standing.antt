@@ -1,0 +1,15 @@
+-- The standing of an engine, which others may have been told: it only grows, number by number.
+use Rattle.std.specs.Prelude.{◌≡◌, ℕ, ◌≤◌, true}
+use Rattle.mg_node.specs.Views.{EngineView}
+use Rattle.mg_node.specs.Outputs.{laid_at}
+use Rattle.mg_node.specs.Claims.{has_ended}
+use Rattle.mg_node.specs.IntakeStanding.{HasGrown}
+
+-- the standing of an engine: how many sets, calls or answers are laid and how many are claimed; whether its node has failed or closed,
+-- which it stays; and of each output how many packets were laid, those that were given up included, and the bound. A number past the
+-- last output stands for one at which nothing is laid.
+pub record EngineGrows (before now : EngineView) : Type 0 where
+  pub laid : before.laid ≤ now.laid
+  pub claimed : before.claimed ≤ now.claimed
+  pub ended : has_ended before ≡ true → has_ended now ≡ true
+  pub outputs : (output : ℕ) → HasGrown (laid_at before output) (laid_at now output)
