@@ -2,7 +2,7 @@ ghost use Rattle.std.specs.Prelude.{◌≡◌, ◌<◌, ◌^◌, ◌==◌, map, 
 ghost use Rattle.mg_calc.specs.Given.{given};
 
 use mg_value::Payload;
-use std::alloc::AllocFailed;
+use std::alloc::{AllocError, AllocFailed, Global};
 use std::marker::Model;
 use std::sync::Arc;
 
@@ -42,6 +42,21 @@ impl GivenList {
         } else {
             Err(AllocFailed { value: places })
         }
+    }
+
+    /// A second list, which shares the payloads.
+    pub fn try_clone(&self, alloc: Global) -> Result<GivenList, AllocError>
+        ensures { IfOk result (λ copy. copy ≡ self.now) }
+    {
+        let mut places = Vec::with_capacity(alloc, self.places.len())?;
+        for place in self.places.as_slice() {
+            let again = match place {
+                Some(payload) => Some(Arc::try_clone(payload)?),
+                None => None,
+            };
+            places.push(again)?;
+        }
+        Ok(GivenList::from_vec(places)?)
     }
 
     /// How many places there are.

@@ -105,6 +105,14 @@ impl Queues {
         Ok(text)
     }
 
+    fn full(&self) -> &'static str {
+        if self.limits.is_any_full() {
+            "yes"
+        } else {
+            "no"
+        }
+    }
+
     #[tactic(auto, using(crate::proofs::QueueCounts::length_relaxed))]
     fn relax(&mut self) {
         self.limits.relax();
@@ -129,6 +137,9 @@ impl Calls for Queues {
         let (name, number) = call.split_once(' ').unwrap_or((call, ""));
         if name == "limits" {
             return Ok(self.show_limits(alloc)?);
+        }
+        if name == "full" {
+            return Ok(String::from_str(alloc, self.full())?);
         }
         self.change(name, number)?;
         Ok(self.throttled(alloc)?)

@@ -3,8 +3,8 @@
 use crate::packets::{packet_of, show_packet, show_set, text_of, time_of};
 use crate::table::{Calls, assert_rows};
 use mg_value::{
-    NumberList, Packet, PacketList, Policy, Prefix, PrefixList, TimedSetList, answered,
-    are_prefixes, loopback, reach, settled_sets,
+    NumberList, Packet, PacketList, Policy, Prefix, PrefixList, Rest, TimedSetList, are_prefixes,
+    loopback, reach, rests_of, settled_sets, take_answers,
 };
 use std::alloc::Global;
 use std::process::Abort;
@@ -152,7 +152,8 @@ fn show_settled(
     }
     let sets = settled_sets(alloc, policy, streams, ports)?;
     let mut shown = show_sets(alloc, &sets)?;
-    let reach = text_of(alloc, reach(policy, streams, ports))?;
+    let rests = rests_of(alloc, streams, ports)?;
+    let reach = text_of(alloc, reach(policy, rests.as_slice()))?;
     write!(shown, "reach {}", reach.as_str())?;
     Ok(shown)
 }
@@ -184,7 +185,9 @@ fn show_loop(alloc: Global, main: &Prefix, back: &Prefix) -> Result<String, Fail
     if !main.is_prefix() || !back.is_prefix() {
         return Err(Fail::from("no streams of a loopback"));
     }
-    let count = answered(main, back);
+    let (mut left, mut heard) = (Rest::of(main), Rest::of(back));
+    take_answers(alloc, None, &mut left, &mut heard)?;
+    let count = main.packets.len() as usize - left.len();
     let stream = show_stream(alloc, &loopback(alloc, main, back)?)?;
     Ok(format!(in alloc; "{} of {count}", stream.as_str())?)
 }

@@ -164,9 +164,9 @@ fn graphs_are_refused(rt: HostRuntime) -> Result<(), Fail> {
 
 // A file whose nodes are so many of another.
 fn file_of(alloc: Global, name: u32, count: u32, other: u32) -> Result<GraphConfig, Fail> {
-    let mut text = format!(in alloc; "type: \"T{name}\"")?;
+    let mut text = format!(in alloc; "type: \"Type{name}\"")?;
     for _ in 0..count {
-        write!(text, " node {{ calculator: \"T{other}\" }}")?;
+        write!(text, " node {{ calculator: \"Type{other}\" }}")?;
     }
     graph_of(alloc, text.as_str())
 }
@@ -182,7 +182,7 @@ fn chain(alloc: Global, length: u32, count: u32, last: u32) -> Result<Vec<GraphC
 }
 
 fn expand_chain(alloc: Global, length: u32, count: u32, last: u32) -> Result<String, Fail> {
-    let main = graph_of(alloc, "node { calculator: \"T0\" }")?;
+    let main = graph_of(alloc, "node { calculator: \"Type0\" }")?;
     let files = chain(alloc, length, count, last)?;
     let answer = expand(alloc, &main, files.as_slice());
     match answer {

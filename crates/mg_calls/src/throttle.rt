@@ -18,12 +18,15 @@ node { calculator: "MergeCalculator" input_stream: "f" input_stream: "n" output_
 }
 
 // A call a row, and after `=` what it answers: the feeders that are throttled then, and `-` where there is none. `limits`
-// shows the limit of each edge, and `-` where it has none.
+// shows the limit of each edge, and `-` where it has none, and `full` whether a queue is full.
 fn one_source() -> &'static str {
     "note 2 0=-
+full=no
 limits=1 1 1 1
 note 2 1=0
+full=yes
 relax=-
+full=no
 limits=1 1 2 1
 note 2 2=0
 note 2 1=-
@@ -41,6 +44,7 @@ note 3 7=-
 relax=-
 limits=1 1 1 1
 note 3 1000=-
+full=no
 stop 2=-
 note 3 0=-"
 }

@@ -10,6 +10,7 @@ use Rattle.mg_node.specs.Views.{IntakeView, EngineView}
 use Rattle.mg_node.specs.Job.{LoggedJob, ports_of}
 use Rattle.mg_node.specs.Lawful.{of_node, of_input, LawfulEngine, LawfulIntake}
 use Rattle.mg_node.specs.Leading.{Leads}
+use Rattle.mg_node.proofs.Knowing.{engine_known}
 use Rattle.mg_cell_calls.specs.Cell.{job_of, KeepsAll, IsCell}
 use Rattle.mg_cell_calls.proofs.Keeping.{none_gone}
 
@@ -23,19 +24,15 @@ node_stream plan node port stream there at = ap (λ (o : Option PlanNode). slice
 pub out_stream : (plan : Plan) (port stream : ℕ) → slice_get plan.outputs port ≡ Some stream → slice_get (ports_of plan (length plan.nodes)) port ≡ Some stream
 out_stream plan port stream at = ap (λ (o : Option PlanNode). slice_get (unwrap_or (option_map (λ n. n.inputs) o) plan.outputs) port) (slice_get_past plan.nodes (length plan.nodes) (omega arith)) ∙ at
 
-some_same : {X : Type 0} (x y : X) → Some x ≡ Some y → x ≡ y
-some_same x y e = cc
-
 first_of_row : (a n first : ℕ) → slice_get (range_with_len a n) 0 ≡ Some first → a ≡ first
 first_of_row a zero first e = absurd cc
 first_of_row a (suc n) first e = cc
 
 -- the first output's stream
 pub first_is : (job : LoggedJob) (engine : EngineView) (node : PlanNode) (first : ℕ) → LawfulEngine job (of_node 0) engine → slice_get job.job.plan.nodes 0 ≡ Some node → slice_get node.outputs 0 ≡ Some first → engine.first ≡ first
-unfolding LawfulEngine
 first_is job engine node first h there at =
-    let same : h.node ≡ node = some_same h.node node (sym h.there ∙ there) in
-    first_of_row engine.first (length h.node.outputs) first (ap (λ (ns : List ℕ). slice_get ns 0) (sym h.set_up.first) ∙ ap (λ (n : PlanNode). slice_get n.outputs 0) same ∙ at)
+    let known = engine_known job 0 engine node h there in
+    first_of_row engine.first (length node.outputs) first (ap (λ (ns : List ℕ). slice_get ns 0) (sym known.set_up.first) ∙ at)
 
 pub feed_leads : (plan : Plan) (inputs : Inputs) (engine feed : EngineView) (intake sink : IntakeView) (node : PlanNode) (port stream : ℕ) → IsCell plan inputs engine intake sink → slice_get plan.nodes 0 ≡ Some node → slice_get node.inputs port ≡ Some stream
     → LawfulEngine (job_of plan inputs) (of_input stream) feed → feed.first ≡ stream → length feed.outputs ≡ 1 → KeepsAll feed → Leads feed (edge_of stream 0 port) intake

@@ -6,10 +6,7 @@ use Rattle.mg_value.specs.Payload.{Plain}
 use Rattle.mg_value.specs.Prefix.{StreamPrefix}
 use Rattle.mg_stream.specs.Pool.{Backlog, empty_backlog}
 use Rattle.mg_node.specs.declared.waits.Waits.{Waits}
-use Rattle.mg_node.specs.Views.{OutcomeView, EngineView}
-use Rattle.mg_node.specs.Job.{LoggedJob}
-use Rattle.mg_node.specs.Lawful.{of_node, LawfulEngine}
-use Rattle.mg_node.specs.Commits.{Commits}
+use Rattle.mg_node.specs.Views.{EngineView}
 use Rattle.mg_node.specs.Advances.{advanced, advance_bound, raised_output}
 use Rattle.mg_node.specs.Outputs.{kept_whole}
 use Rattle.mg_cell_calls.specs.Cell.{KeepsAll}
@@ -28,20 +25,6 @@ raised_gone (Some bound) b = refl
 all_raised_gone : (bound : Option ℕ) (bs : List (Backlog Plain)) → map (λ b. b.gone) (map (raised_output bound) bs) ≡ map (λ b. b.gone) bs
 all_raised_gone bound [] = refl
 all_raised_gone bound (b ∷ bs) = ap (λ (n : ℕ). n ∷ map (λ (c : Backlog Plain). c.gone) (map (raised_output bound) bs)) (raised_gone bound b) ∙ ap (λ (ns : List ℕ). b.gone ∷ ns) (all_raised_gone bound bs)
-
--- a commit
-pub committed_gone : (job : LoggedJob) (number : ℕ) (outcome : OutcomeView) (n : ℕ) (engine engine_now : EngineView) → LawfulEngine job (of_node number) engine → Commits outcome n engine engine_now → gone_of engine_now ≡ gone_of engine
-unfolding LawfulEngine
-committed_gone job number outcome n engine engine_now h c = (c.front h.whole h.kept).given_up
-
--- it changes neither the role nor how many sets are claimed
-pub committed_role : (job : LoggedJob) (number : ℕ) (outcome : OutcomeView) (n : ℕ) (engine engine_now : EngineView) → LawfulEngine job (of_node number) engine → Commits outcome n engine engine_now → engine_now.role ≡ engine.role
-unfolding LawfulEngine
-committed_role job number outcome n engine engine_now h c = ap (λ (v : EngineView). v.role) (c.front h.whole h.kept).others
-
-pub committed_claimed : (job : LoggedJob) (number : ℕ) (outcome : OutcomeView) (n : ℕ) (engine engine_now : EngineView) → LawfulEngine job (of_node number) engine → Commits outcome n engine engine_now → engine_now.claimed ≡ engine.claimed
-unfolding LawfulEngine
-committed_claimed job number outcome n engine engine_now h c = ap (λ (v : EngineView). v.claimed) (c.front h.whole h.kept).others
 
 -- an advance
 pub advanced_gone : (engine engine_now : EngineView) (waits : Waits) → engine_now ≡ advanced engine waits → gone_of engine_now ≡ gone_of engine

@@ -1,4 +1,3 @@
-pub mod WorksOut
 pub mod Keeping
 pub mod Making
 pub mod Cells

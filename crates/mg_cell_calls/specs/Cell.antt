@@ -1,16 +1,23 @@
 -- The cell of a plan's first node, with the collector behind it, as the tests drive it: each of its parts is lawful for the job that
 -- the plan and its inputs make, and between two calls no work is out.
-use Rattle.std.specs.Prelude.{◌≡◌, [], map, All, length}
+use Rattle.std.specs.Prelude.{◌≡◌, [], map, All, length, is_some}
 use Rattle.mg_calc.specs.declared.plan.Plan.{Plan}
 use Rattle.mg_calc.specs.declared.inputs.Inputs.{Inputs}
+use Rattle.mg_calc.specs.declared.plan_node.PlanNode.{PlanNode}
 use Rattle.mg_calc.specs.Equations.{IsJob}
+use Rattle.mg_route.specs.HolderView.{HolderView}
 use Rattle.mg_node.specs.Views.{IntakeView, EngineView}
 use Rattle.mg_node.specs.Job.{LoggedJob}
 use Rattle.mg_node.specs.Lawful.{LawfulEngine, LawfulIntake, Agree, of_node}
+use Rattle.mg_node.specs.Fresh.{own_told}
 
 -- the job of a plan and its inputs; no calculator keeps a log
 abbrev pub job_of : Plan → Inputs → LoggedJob
 job_of plan inputs = record { job = record { plan = plan; inputs = inputs }; logs = [] }
+
+-- the calculator of a node, which is handed in where the node is given one
+abbrev pub held_of : PlanNode → HolderView
+held_of node = record (own_told node) { handed = is_some node.box_number }
 
 -- an engine has given up no packet of its outputs
 abbrev pub KeepsAll : EngineView → Type 0

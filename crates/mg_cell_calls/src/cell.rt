@@ -1,13 +1,14 @@
 //! The cell of a plan's first node, and how it is made.
-ghost use Rattle.std.specs.Prelude.{◌≡◌, ◌<◌, ◌≤◌, length, slice_get, Some, IfOk, OnOk, [], true};
+ghost use Rattle.std.specs.Prelude.{◌≡◌, ◌<◌, ◌≤◌, length, slice_get, Some, None, IfOk, OnOk, [], true};
+ghost use Rattle.mg_calc.specs.Shape.{IsOuter, ParametersFit, IsShapeOf};
 ghost use Rattle.mg_calc.specs.Plan.{IsValid, InputsFit};
 ghost use Rattle.mg_calc.specs.Equations.{IsJob};
 ghost use Rattle.mg_calc.specs.declared.plan_node.PlanNode.{PlanNode};
-ghost use Rattle.mg_node.specs.Fresh.{own_told, fresh_engine};
+ghost use Rattle.mg_node.specs.Fresh.{fresh_engine};
 ghost use Rattle.mg_node.specs.Lawful.{LawfulEngine, LawfulIntake, of_node};
-ghost use Rattle.mg_cell_calls.specs.Cell.{IsCell, KeepsAll, job_of};
+ghost use Rattle.mg_cell_calls.specs.Cell.{IsCell, KeepsAll, job_of, held_of};
 
-use mg_calc::{GivenList, Inputs, Plan};
+use mg_calc::{GivenList, Inputs, Law, OuterShape, Plan, PlanNode, TryClone};
 use mg_node::{Engine, Intake};
 use mg_route::{Builtin, Holder, LawBox};
 use mg_value::are_prefixes;
@@ -34,21 +35,61 @@ fn do_fit(plan: &Plan, inputs: &Inputs) -> bool
         && are_prefixes(&inputs.streams)
 }
 
-// A calculator of the law of a plan's first node.
+// Whether a calculator of a law may be handed in.
+fn is_outer(law: &Law) -> bool
+    ensures { result ≡ true → IsOuter law.now }
+{
+    match law {
+        Law::Count { .. } => false,
+        Law::SideOnce { .. } => false,
+        Law::Constants => false,
+        Law::Loopback => false,
+        _ => true,
+    }
+}
+
+// A box of the law of a node.
+fn box_of(alloc: Global, node: &PlanNode) -> Result<LawBox, Fail>
+    requires ranges { ParametersFit node.now.law }
+    requires of_law { IsShapeOf node.now.law node.now.shape }
+    ensures { IfOk result (λ b. b ≡ record { law = node.now.law; shape = node.now.shape; state = []; log = None }) }
+{
+    if !is_outer(&node.law) {
+        return Err(Fail::from("no calculator that is handed in has this law"));
+    }
+    let outer = OuterShape {
+        shape: node.shape.try_clone(alloc)?,
+        law: node.law.try_clone(alloc)?,
+    };
+    Ok(LawBox::new(alloc, outer, false)?)
+}
+
+// A calculator of a node: a box where one is handed in, which tells no log.
+fn calculator_of(alloc: Global, node: &PlanNode) -> Result<Holder<LawBox>, Fail>
+    requires ranges { ParametersFit node.now.law }
+    requires of_law { IsShapeOf node.now.law node.now.shape }
+    ensures { IfOk result (λ h. h ≡ held_of node.now) }
+{
+    if node.box_number.is_some() {
+        return Ok(Holder::outer(box_of(alloc, node)?));
+    }
+    Ok(Holder::own(Builtin::new(alloc, &node.law, &node.shape)?))
+}
+
+// A calculator of a plan's first node.
 fn holder_of(alloc: Global, plan: &Plan) -> Result<Holder<LawBox>, Fail>
     requires { IsValid plan.now }
-    ensures told { IfOk result (λ h. (node : PlanNode) → slice_get plan.now.nodes 0 ≡ Some node → h ≡ own_told node) }
+    ensures told { IfOk result (λ h. (node : PlanNode) → slice_get plan.now.nodes 0 ≡ Some node → h ≡ held_of node) }
     ensures there { OnOk result (0 < length plan.now.nodes) }
 {
     let node = plan.nodes.get(0).ok_or("no node")?;
-    let builtin = Builtin::new(alloc, &node.law, &node.shape)?;
-    Ok(Holder::own(builtin))
+    calculator_of(alloc, node)
 }
 
 // The engine of a plan's first node, which isn't begun. The node has no side packets.
 fn unbegun(alloc: Global, plan: &Plan) -> Result<Engine<LawBox>, Fail>
     requires { IsValid plan.now }
-    ensures fresh { IfOk result (λ e. (node : PlanNode) → slice_get plan.now.nodes 0 ≡ Some node → (node.sides ≡ []) × (e ≡ fresh_engine node 0 (own_told node))) }
+    ensures fresh { IfOk result (λ e. (node : PlanNode) → slice_get plan.now.nodes 0 ≡ Some node → (node.sides ≡ []) × (e ≡ fresh_engine node 0 (held_of node))) }
     ensures there { OnOk result (0 < length plan.now.nodes) }
 {
     let holder = holder_of(alloc, plan)?;

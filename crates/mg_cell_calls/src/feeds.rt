@@ -1,5 +1,5 @@
 //! Cells of built-in calculators: what each call answers, until the node closes.
-use crate::cell::cell_of;
+use crate::cell::{Cell, cell_of};
 use crate::plans::{inputs_of, plan_of};
 use crate::rows::assert_rows;
 use mg_calc::OuterShape;
@@ -7,7 +7,8 @@ use std::alloc::Global;
 use std::process::Abort;
 use std::test::Fail;
 
-/// The table of the first node of a graph, over some packet lines, whose input has ended or not.
+/// The table of the first node of a graph, over some packet lines, whose input has ended or not. No calculator was handed in,
+/// and none comes back.
 pub(crate) fn assert_cell(
     rt: &impl Abort,
     alloc: Global,
@@ -20,7 +21,13 @@ pub(crate) fn assert_cell(
     let plan = plan_of(alloc, graph, outers)?;
     let inputs = inputs_of(alloc, &plan, lines, ended)?;
     let mut cell = cell_of(alloc, plan, inputs)?;
-    assert_rows(rt, alloc, &mut cell, rows)
+    assert_rows(rt, alloc, &mut cell, rows)?;
+    let Cell { engine, .. } = cell;
+    assert!(rt;
+        engine.into_calculator().is_none(),
+        "a calculator came back"
+    );
+    Ok(())
 }
 
 fn pass() -> &'static str {

@@ -1,7 +1,7 @@
 //! What a calculator emits is laid as a whole, or not at all where one packet of it can't be.
 ghost use Rattle.mg_check.specs.Check.{IsOuterShape};
 
-use crate::cell::cell_of;
+use crate::cell::{Cell, cell_of};
 use crate::plans::{inputs_of, plan_of};
 use crate::rows::assert_rows;
 use crate::scripted::scripted;
@@ -10,7 +10,7 @@ use std::alloc::Global;
 use std::process::Abort;
 use std::test::Fail;
 
-// The table of a node that emits what a calculator says, over one packet at 5.
+// The table of a node that emits what a calculator says, over one packet at 5. The calculator comes back at the end.
 fn assert_laid(rt: &impl Abort, alloc: Global, outer: OuterShape, rows: &str) -> Result<(), Fail>
     requires { IsOuterShape outer }
 {
@@ -21,7 +21,13 @@ node { calculator: "Scripted" input_stream: "in" output_stream: "out" }"#;
     let lines = r#"{"stream":"in","ts":5,"value":70}"#;
     let inputs = inputs_of(alloc, &plan, lines, true)?;
     let mut cell = cell_of(alloc, plan, inputs)?;
-    assert_rows(rt, alloc, &mut cell, rows)
+    assert_rows(rt, alloc, &mut cell, rows)?;
+    let Cell { engine, .. } = cell;
+    assert!(rt;
+        engine.into_calculator().is_some(),
+        "the calculator is lost"
+    );
+    Ok(())
 }
 
 #[test]

@@ -11,6 +11,7 @@ node { calculator: "PreviousLoopbackCalculator" input_stream: "MAIN:main" input_
 fn looped() -> &'static str {
     "work=NotReady
 deliver 1 2=2 false
+held=2 0
 work=Answered
 output 0=0 PreStream
 work=NotReady

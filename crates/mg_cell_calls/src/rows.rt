@@ -7,7 +7,8 @@
 //! - `commit NUMBER` commits what was performed: how many sets or calls were laid.
 //! - `advance` raises the outputs: whether one moved.
 //! - `take` takes a set of the collector; `laid` tells how many sets or calls were laid; `output NUMBER` how many packets an output has,
-//!   and its bound; `waits PORT` how many packets wait at a port; `fault` the node's fault.
+//!   and its bound; `waits PORT` how many packets wait at a port, and `held` how many at all ports and all outputs; `fault` the node's
+//!   fault.
 ghost use Rattle.std.specs.Prelude.{OnOk};
 ghost use Rattle.mg_cell_calls.specs.Cell.{IsCell};
 
@@ -44,6 +45,7 @@ fn asked(alloc: Global, cell: &Cell, name: &str, words: &str) -> Result<String, 
         "laid" => Ok(format!(in alloc; "{}", cell.engine.laid())?),
         "fault" => show_fault(alloc, cell.engine.fault()),
         "output" => show_output(alloc, cell, words.parse::<u32>()?),
+        "held" => Ok(format!(in alloc; "{} {}", cell.intake.held(), cell.engine.held())?),
         "waits" => show_waiting(alloc, cell, words.parse::<u32>()?),
         _ => Err(Fail::from("no such call")),
     }

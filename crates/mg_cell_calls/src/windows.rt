@@ -15,13 +15,16 @@ node { calculator: "IntMapCalculator" input_stream: "in" output_stream: "out" ma
 // The second set is committed before the first.
 fn crossed() -> &'static str {
     "deliver 0 10=2 true
+held=2 0
 work=0 at 1
+held=1 0
 work=1 at 2
 commit 1=0
 output 0=0 PreStream
 commit 1=no such work
 commit 0=2
 commit 0=no such work
+held=0 2
 output 0=2 3
 out 0 10=2 false
 take=15@1

@@ -15,15 +15,8 @@ use Rattle.mg_calc.specs.Equations.{Job, IsJob, outcome_of, next_round, round, M
 use Rattle.mg_calc.proofs.Jobs.{any_state, job_known}
 use Rattle.mg_calc.proofs.Rounds.{equations_are_as_many}
 use Rattle.mg_calc.proofs.Solutions.{round_keeps, rounds_ascend}
-use Rattle.mg_calc.specs.declared.node_fault.NodeFault.{NodeFault}
-use Rattle.mg_calc.specs.declared.plan_node.PlanNode.{PlanNode}
-use Rattle.mg_calc.specs.Outcome.{Failure}
-use Rattle.mg_calc.specs.Meaning.{fault_of, faults}
-use Rattle.mg_equations.specs.declared.outcome.Failure.{Failure as CodeFailure}
-use Rattle.mg_equations.specs.declared.round.Round.{Round}
-use Rattle.mg_equations.specs.Seen.{fault_seen}
 use Rattle.mg_equations.specs.declared.solving.Streams.{Streams}
-use Rattle.mg_equations.specs.Rounds.{is_changed, changes, numbered_fault, IsRoundOf, IsKnownFrom}
+use Rattle.mg_equations.specs.Changes.{is_changed, changes}
 
 -- one stream
 pub unchanged_one : (s t : StreamPrefix Plain) → IsExtendedBy s t → is_changed s t ≡ false → s ≡ t
@@ -132,7 +125,7 @@ round_long job is (suc n) = equations_are_as_many any_state job (round job n) (j
 pub reached_long : (job : Job) (streams : List (StreamPrefix Plain)) → IsJob job → AreReached job streams → length streams ≡ length job.plan.streams
 reached_long job streams is reached = ap length reached.is ∙ round_long job is reached.number
 
-next_extends : (job : Job) (streams next : List (StreamPrefix Plain)) → IsJob job → AreReached job streams → next ≡ next_round job streams → AreExtendedBy streams next
+pub next_extends : (job : Job) (streams next : List (StreamPrefix Plain)) → IsJob job → AreReached job streams → next ≡ next_round job streams → AreExtendedBy streams next
 next_extends job streams next is reached next_is =
     let P : List (StreamPrefix Plain) → Type 0 = λ xs. AreExtendedBy xs next in
     subst P (sym reached.is) (subst (AreExtendedBy (round job reached.number)) (sym (next_is ∙ ap (next_round job) reached.is)) (rounds_ascend any_state job (job_known job is) reached.number))
@@ -171,61 +164,9 @@ reached_solution job streams next is reached next_is none = record {
   first = reached.first;
 }
 
--- what is told of the changes
-pub told_change : (streams next before now : List (StreamPrefix Plain)) (changed read : List Bool) (change : Bool) {told : Bool} → before ≡ streams → now ≡ next → changed ≡ changes before now → read ≡ changed
-    → change ≡ list_any (λ c. c) read → change ≡ told → list_any (λ c. c) (changes streams next) ≡ told
-told_change streams next before now changed read change {told} b n is r any test =
-    ap₂ (λ (xs ys : List (StreamPrefix Plain)). list_any (λ c. c) (changes xs ys)) (sym b) (sym n) ∙ (ap (list_any (λ c. c)) (sym is) ∙ (ap (list_any (λ c. c)) (sym r) ∙ (sym any ∙ test)))
-
 pub told_solution : {E : Type 0} (job : Job) (streams : List (StreamPrefix Plain)) (result : Result Streams E) → IfOk result (λ s. s.prefixes ≡ streams) → IsSolution job streams → IfOk result (λ s. IsSolution job s.prefixes)
 told_solution job streams (Ok s) is solution = subst (IsSolution job) (sym is) solution
 told_solution job streams (Err e) is solution = tt
-
--- a round of a job, from the one before it
-pub reached_known : (job : Job) (streams : List (StreamPrefix Plain)) (round : Round) (changed : List Bool) → IsJob job → AreReached job streams → IsRoundOf job streams round → changed ≡ changes streams round.streams.items
-    → IsKnownFrom job round.streams.items changed round.sets.items round.faults.items
-reached_known job streams round changed is reached made changed_is = record {
-  before = streams;
-  prefixes = reached_prefixes job streams is reached;
-  next = made.next;
-  extended = next_extends job streams round.streams.items is reached made.next;
-  changed_are = changed_is;
-  sets_are = made.sets;
-  faults_are = made.faults;
-}
-
--- the faults that are told are those of the nodes
-faults_told : (job : Job) (streams : List (StreamPrefix Plain)) (faults : List (Option CodeFailure)) (nodes : List PlanNode) (k : ℕ) → map fault_seen faults ≡ map (λ node. (outcome_of job streams node).fault) nodes
-    → filter_map numbered_fault (enumerate_from k faults) ≡ filter_map (fault_of job streams) (enumerate_from k nodes)
-faults_told job streams [] [] k same = refl
-faults_told job streams [] (node ∷ nodes) k same = absurd cc
-faults_told job streams (fault ∷ faults) [] k same = absurd cc
-faults_told job streams (fault ∷ faults) (node ∷ nodes) k same =
-    let first : fault_seen fault ≡ (outcome_of job streams node).fault = ap (λ (fs : List (Option Failure)). (elim fs [ [] ↦ fault_seen fault | f ∷ rest ↦ f ])) same in
-    let others : map fault_seen faults ≡ map (λ n. (outcome_of job streams n).fault) nodes = ap (λ (fs : List (Option Failure)). (elim fs [ [] ↦ map fault_seen faults | f ∷ rest ↦ rest ])) same in
-    ap₂ (λ (f : Option NodeFault) (fs : List NodeFault). cons_option f fs)
-    (numbered_is k fault ∙ ap (λ (f : Option Failure). option_map (λ failure. let n : NodeFault = record { node = k; phase = failure.phase; cause = failure.cause } in n) f) first)
-    (faults_told job streams faults nodes (k + 1) others)
-  where
-    numbered_is : (k : ℕ) (fault : Option CodeFailure) → numbered_fault (k, fault) ≡ option_map (λ failure. let n : NodeFault = record { node = k; phase = failure.phase; cause = failure.cause } in n) (fault_seen fault)
-    numbered_is k (Some failure) = refl
-    numbered_is k None = refl
-
-pub told_faults : (job : Job) (streams : List (StreamPrefix Plain)) (round : Round) → IsRoundOf job streams round → filter_map numbered_fault (enumerate_from 0 round.faults.items) ≡ faults job streams
-told_faults job streams round made = faults_told job streams round.faults.items job.plan.nodes 0 made.faults
-
-pub few_faults : (job : Job) (streams : List (StreamPrefix Plain)) (round : Round) → IsJob job → IsRoundOf job streams round → length round.faults.items < 2 ^ 32
-few_faults job streams round is made =
-    let many : length round.faults.items ≡ length job.plan.nodes =
-    sym (length-map round.faults.items fault_seen) ∙ (ap length made.faults ∙ length-map job.plan.nodes (λ node. (outcome_of job streams node).fault)) in
-    let few = is.plan.ranges.nodes in
-    let most : 4096 < 2 ^ 32 = omega arith in
-    omega (arith, many, few, most)
-
-pub told_faults_are : {E : Type 0} (job : Job) (streams : List (StreamPrefix Plain)) (round : Round) (result : Result Streams E) → IfOk result (λ s. s.prefixes ≡ streams)
-    → IfOk result (λ s. s.faults ≡ filter_map numbered_fault (enumerate_from 0 round.faults.items)) → IsRoundOf job streams round → IfOk result (λ s. s.faults ≡ faults job s.prefixes)
-told_faults_are job streams round (Ok s) is told made = told ∙ (told_faults job streams round made ∙ ap (faults job) (sym is))
-told_faults_are job streams round (Err e) is told made = tt
 
 -- what is handed on to the round after
 pub next_prefixes : (job : Job) (streams next : List (StreamPrefix Plain)) → IsJob job → AreReached job streams → next ≡ next_round job streams → All IsPrefix next

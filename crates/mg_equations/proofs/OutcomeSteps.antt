@@ -1,10 +1,11 @@
 -- What becomes of a node, step by step.
-use Rattle.std.proofs.Common.{◌≡◌, ℕ, suc, ℤ, ◌+◌, ◌-◌, ◌<◌, ◌≤◌, List, [], ◌∷◌, map, All, drop, get_or, length, Option, Some, None, Result, Ok, Err, refl, sym, ap, ap₂, ◌∙◌, arith}
+use Rattle.std.proofs.Common.{◌≡◌, ℕ, zero, suc, option_map, ℤ, ◌+◌, ◌-◌, ◌<◌, ◌≤◌, List, [], ◌∷◌, map, All, drop, get_or, length, Option, Some, None, Result, Ok, Err, refl, sym, ap, ap₂, ◌∙◌, arith}
 use Rattle.std.specs.List.{AllByRecursion, fold, range_with_len}
 use Rattle.std.proofs.lemmas.List.{get_or_default}
 use Rattle.std.proofs.lemmas.List.Elements.{recursion_from_All}
 use Rattle.mg_value.specs.Payload.{Plain}
-use Rattle.mg_value.specs.Prefix.{StreamPrefix, closed, empty_prefix}
+use Rattle.mg_value.specs.Prefix.{Stamped, StreamPrefix, closed, empty_prefix}
+use Rattle.mg_value.specs.Loopback.{last_of}
 use Rattle.mg_calc.specs.declared.cause.Cause.{Cause}
 use Rattle.mg_calc.specs.declared.node_fault.Phase.{Phase}
 use Rattle.mg_calc.specs.declared.node_fault.Phase.TheVariants.{Call, Process}
@@ -32,7 +33,7 @@ laying_counts : (phase : Phase) (outcome : Outcome) (answer : Result (List (Stre
 laying_counts phase outcome (Ok outputs) = refl
 laying_counts phase outcome (Err cause) = refl
 
-call_counts : (offset : Option ℤ) (phase : Phase) (outcome : Outcome) (answer : Answer) → (after_call offset phase outcome answer).taken ≡ outcome.taken
+pub call_counts : (offset : Option ℤ) (phase : Phase) (outcome : Outcome) (answer : Answer) → (after_call offset phase outcome answer).taken ≡ outcome.taken
 call_counts offset phase outcome (Err cause) = refl
 call_counts offset phase outcome (Ok given) = laying_counts phase (record outcome { state = given.0 }) (laid_behind offset phase outcome.outputs given.1)
 
@@ -40,7 +41,7 @@ unless_counts : (fault : Option Failure) (outcome next : Outcome) → next.taken
 unless_counts (Some failure) outcome next e = omega arith
 unless_counts None outcome next e = omega (arith, e)
 
-shown_counts : (law : Law) (offset : Option ℤ) (outcome : Outcome) (set : TimedSet Plain) → (shown law offset outcome set).taken ≤ outcome.taken + 1
+pub shown_counts : (law : Law) (offset : Option ℤ) (outcome : Outcome) (set : TimedSet Plain) → (shown law offset outcome set).taken ≤ outcome.taken + 1
 shown_counts law offset outcome set =
     let before : Outcome = record outcome { outputs = all_raised offset set.at outcome.outputs; taken = outcome.taken + 1 } in
     unless_counts outcome.fault outcome (after_call offset (Process set.at) before (step law outcome.state set.at set.set)) (call_counts offset (Process set.at) before (step law outcome.state set.at set.set))
@@ -53,7 +54,7 @@ called_counts law outcome number =
 -- A node that was shown the sets so far: with the others it comes to the same.
 pub record IsShown (law : Law) (offset : Option ℤ) (begun outcome : Outcome) (sets : List (TimedSet Plain)) (i : ℕ) : Type 0 where
   pub same : fold (shown law offset) outcome (drop i sets) ≡ fold (shown law offset) begun sets
-  pub counted : outcome.taken ≤ i
+  pub counted : outcome.taken ≤ begun.taken + i
 
 pub shown_further : (law : Law) (offset : Option ℤ) (begun outcome next : Outcome) (sets : List (TimedSet Plain)) (i : ℕ) (set : TimedSet Plain) → IsShown law offset begun outcome sets i → i < length sets → set ≡ get_or sets i set
     → next ≡ shown law offset outcome set → IsShown law offset begun next sets (i + 1)
@@ -98,3 +99,16 @@ pub outer_outcome : (law : Law) (job : Job) (streams : List (StreamPrefix Plain)
 outer_outcome law job streams node sides outer there same =
     ap₂ (λ (s : List (Option Plain)) (inputs : List (StreamPrefix Plain)). node_outcome node.law node.shape.offset node.policy (length node.outputs) s inputs) same (inputs_are streams node.inputs there)
     ∙ sym (outer_by law job streams node outer)
+
+-- the time of the last packet of those that are read
+last_is : (m : ℕ) (o : Option (Stamped Plain)) (ps : List (Stamped Plain)) (d : Stamped Plain) → m < length ps → last_of o (suc m) ps ≡ Some (get_or ps m d)
+last_is m o [] d below = absurd (omega (arith, below))
+last_is zero o (p ∷ ps) d below = refl
+last_is (suc m) o (p ∷ ps) d below = last_is m (Some p) ps d (omega (arith, below))
+
+pub last_time_is : (n t : ℕ) (ps : List (Stamped Plain)) (p : Stamped Plain) → 0 < n → n ≤ length ps → p ≡ get_or ps (n - 1) p → t ≡ p.at → Some t ≡ option_map (λ q. q.at) (last_of None n ps)
+last_time_is n t ps p some few is time =
+    let more : n ≡ suc (n - 1) = omega (arith, some) in
+    ap (λ (u : ℕ). Some u) time
+    ∙ ap (λ (q : Stamped Plain). option_map (λ r. r.at) (Some q)) is
+    ∙ ap (option_map (λ (q : Stamped Plain). q.at)) (sym (ap (λ (k : ℕ). last_of None k ps) more ∙ last_is (n - 1) None ps p (omega (arith, some, few))))

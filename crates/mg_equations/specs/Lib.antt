@@ -1,2 +1,5 @@
+pub mod Begun
+pub mod Changes
+pub mod Progress
 pub mod Rounds
 pub mod Seen

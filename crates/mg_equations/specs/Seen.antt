@@ -1,8 +1,8 @@
 -- What contracts see of an outcome.
-use Rattle.std.specs.Prelude.{◌≡◌, List, Option, option_map}
+use Rattle.std.specs.Prelude.{◌≡◌, ℕ, List, [], ◌∷◌, ◌++◌, Option, option_map, slice_index_or}
 use Rattle.mg_calc.specs.Outcome.{Outcome as PlainOutcome, Failure as PlainFailure, failed}
 use Rattle.mg_value.specs.Payload.{Plain}
-use Rattle.mg_value.specs.Prefix.{StreamPrefix}
+use Rattle.mg_value.specs.Prefix.{Stamped, StreamPrefix, empty_prefix}
 use Rattle.mg_calc.specs.declared.cause.CalcFault.{CalcFault}
 use Rattle.mg_calc.specs.declared.cause.CalcFault.TheVariants.{Fault, OutOfMemory}
 use Rattle.mg_calc.specs.declared.node_fault.Phase.{Phase}
@@ -21,6 +21,13 @@ seen outcome = record { state = outcome.state; outputs = outcome.outputs.items; 
 -- an outcome with other outputs
 abbrev pub with_outputs : PlainOutcome → List (StreamPrefix Plain) → PlainOutcome
 with_outputs outcome outputs = record outcome { outputs = outputs }
+
+-- an outcome whose one output has further packets, up to a bound, and which has taken so many
+abbrev pub with_answers : PlainOutcome → List (Stamped Plain) → ℕ → ℕ → PlainOutcome
+with_answers outcome packets bound taken = record outcome {
+  outputs = record { packets = (slice_index_or outcome.outputs 0 empty_prefix).packets ++ packets; bound = bound } ∷ [];
+  taken = taken;
+}
 
 -- an outcome has become one that failed of a cause; want of memory is none
 abbrev pub Fails : CalcFault → Phase → PlainOutcome → PlainOutcome → Type 0

@@ -1,13 +1,13 @@
 //! What becomes of a node: it is opened, shown its settled sets one after the other, and closed, and stops at its first
 //! fault (MediaPipe, Calculators).
-ghost use Rattle.std.specs.Prelude.{◌≡◌, ◌<◌, ◌^◌, ◌+◌, replicate, map, None, OnOk, IfOk};
+ghost use Rattle.std.specs.Prelude.{◌≡◌, ◌<◌, ◌^◌, ◌+◌, replicate, map, length, None, OnOk, IfOk};
 ghost use Rattle.mg_value.specs.Prefix.{empty_prefix, closed};
 ghost use Rattle.mg_calc.specs.Answer.{Answer, Gives, GivesEmission};
 ghost use Rattle.mg_calc.specs.Shape.{IsOuter, IsSource, calls_of};
 ghost use Rattle.mg_calc.specs.Law.{step};
 ghost use Rattle.mg_calc.specs.Laying.{laid_behind, all_raised};
 ghost use Rattle.mg_calc.specs.Outcome.{unopened, opened as the_opened, after_laying, after_call, shown, called, finished, ended, with_last_call};
-ghost use Rattle.mg_equations.specs.Seen.{seen, with_outputs, Fails};
+ghost use Rattle.mg_equations.specs.Seen.{seen, with_outputs, with_answers, Fails};
 
 use crate::laying::{close_all, emission_fault, lay_all, raise_all};
 use crate::output::Output;
@@ -16,7 +16,7 @@ use mg_calc::{
 };
 use mg_route::route_step;
 use mg_time::Timestamp;
-use mg_value::{InputSet, TimedSet};
+use mg_value::{InputSet, PacketList, TimedSet};
 use std::alloc::{AllocError, Global};
 
 /// A fault: what a node was doing, and why it failed.
@@ -24,21 +24,6 @@ use std::alloc::{AllocError, Global};
 pub struct Failure {
     pub phase: Phase,
     pub cause: Cause,
-}
-
-impl Failure {
-    /// A second fault of a node, where there is one.
-    pub fn again(fault: &Option<Failure>) -> Option<Failure>
-        ensures { result ≡ fault.now }
-    {
-        match fault {
-            Some(failure) => Some(Failure {
-                phase: failure.phase,
-                cause: failure.cause,
-            }),
-            None => None,
-        }
-    }
 }
 
 /// What a node has come to.
@@ -61,18 +46,6 @@ fn empty_outputs(alloc: Global, count: u32) -> Result<Vec<Output>, AllocError>
         outputs.push(Output::new(alloc))?;
     }
     Ok(outputs)
-}
-
-// A node of so many outputs before it is opened.
-fn before_open(alloc: Global, outputs: u32) -> Result<Outcome, AllocError>
-    ensures { IfOk result (λ outcome. seen outcome ≡ unopened outputs) }
-{
-    Ok(Outcome {
-        state: State::empty(),
-        outputs: empty_outputs(alloc, outputs)?,
-        taken: 0,
-        fault: None,
-    })
 }
 
 /// What a calculator that is shown sets gives at one.
@@ -98,6 +71,18 @@ fn outer_step(
 }
 
 impl Outcome {
+    /// A node of so many outputs before it is opened.
+    pub fn before_open(alloc: Global, outputs: u32) -> Result<Outcome, AllocError>
+        ensures { IfOk result (λ outcome. seen outcome ≡ unopened outputs) }
+    {
+        Ok(Outcome {
+            state: State::empty(),
+            outputs: empty_outputs(alloc, outputs)?,
+            taken: 0,
+            fault: None,
+        })
+    }
+
     /// A node that was opened with side packets.
     pub fn opened(
         alloc: Global,
@@ -108,7 +93,7 @@ impl Outcome {
     ) -> Result<Outcome, AllocError>
         ensures { IfOk result (λ outcome. seen outcome ≡ the_opened law.now offset outputs sides.now) }
     {
-        let mut outcome = before_open(alloc, outputs)?;
+        let mut outcome = Outcome::before_open(alloc, outputs)?;
         outcome.take(offset, &Phase::Open, own_begin(alloc, law, sides))?;
         Ok(outcome)
     }
@@ -179,6 +164,21 @@ impl Outcome {
         if self.fault.is_none() {
             close_all(&mut self.outputs);
         }
+    }
+
+    /// Puts further answers behind its one output, up to a bound, as a loopback that has answered so many packets.
+    pub fn answer(
+        &mut self,
+        packets: &PacketList,
+        bound: Timestamp,
+        taken: u64,
+    ) -> Result<(), AllocError>
+        requires { length self.old.outputs.items ≡ 1 }
+        ensures { OnOk result (seen self.new ≡ with_answers (seen self.old) packets.now bound taken) }
+    {
+        self.outputs[0].extend(packets.as_slice(), bound)?;
+        self.taken = taken;
+        Ok(())
     }
 
     // Calls Close, whose emission is laid before the outputs close.

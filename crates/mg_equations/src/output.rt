@@ -1,12 +1,15 @@
-ghost use Rattle.std.specs.Prelude.{◌≡◌, nat_lt, length, IfOk, OnOk};
+ghost use Rattle.std.specs.Prelude.{◌≡◌, ◌≤◌, ◌++◌, nat_lt, length, option_map, None, IfOk, OnOk};
 ghost use Rattle.mg_value.specs.Prefix.{empty_prefix, appended, all_appended, raised, closed};
+ghost use Rattle.mg_value.specs.Extension.{IsExtendedBy};
+ghost use Rattle.mg_value.specs.Loopback.{behind_first, last_of};
+ghost use Rattle.mg_equations.specs.Changes.{is_changed};
 
 use mg_time::Timestamp;
-use mg_value::{BlockList, Packet, PacketList, Prefix};
+use mg_value::{BlockList, Packet, PacketList, Prefix, Rest};
 use std::alloc::{AllocError, Global};
 use std::marker::Model;
 
-/// An output stream while a node lays packets behind it. Contracts see its prefix.
+/// A stream that grows, as an output while a node lays packets behind it. Contracts see its prefix.
 #[derive(Debug, Drop)]
 pub struct Output {
     packets: Vec<Packet>,
@@ -36,16 +39,6 @@ impl Output {
         }
     }
 
-    /// One with a prefix.
-    pub fn of_prefix(prefix: Prefix) -> Output
-        ensures { result ≡ prefix }
-    {
-        Output {
-            packets: prefix.packets.into_vec(),
-            bound: prefix.bound,
-        }
-    }
-
     /// The lowest timestamp that a further packet may have.
     pub fn bound(&self) -> Timestamp
         ensures { result ≡ self.now.bound }
@@ -58,6 +51,57 @@ impl Output {
         ensures { result ≡ nat_lt 0 (length self.now.packets) }
     {
         !self.packets.is_empty()
+    }
+
+    /// How many packets it has.
+    pub fn len(&self) -> usize
+        ensures { result ≡ length self.now.packets }
+    {
+        self.packets.len()
+    }
+
+    /// What is left of it, where so many first packets have been read.
+    pub fn rest(&self, read: usize) -> Rest<'_>
+        requires { read ≤ length self.now.packets }
+        ensures { result ≡ behind_first read self.now }
+    {
+        Rest::behind(self.packets.as_slice(), self.bound, read)
+    }
+
+    /// The time of the last of so many first packets, if there are any.
+    pub fn last_time(&self, read: usize) -> Option<Timestamp>
+        requires { read ≤ length self.now.packets }
+        ensures { result ≡ option_map (λ p. p.at) (last_of None read self.now.packets) }
+    {
+        if read == 0 {
+            return None;
+        }
+        let packet = &self.packets[read - 1];
+        Some(packet.at)
+    }
+
+    /// Puts packets behind its own, and moves its bound to another.
+    pub fn extend(&mut self, further: &[Packet], bound: Timestamp) -> Result<(), AllocError>
+        ensures packets { OnOk result (self.new.packets ≡ self.old.packets ++ further.now) }
+        ensures bound { OnOk result (self.new.bound ≡ bound) }
+    {
+        for packet in further {
+            self.packets.push(packet.try_clone()?)?;
+        }
+        self.bound = bound;
+        Ok(())
+    }
+
+    /// Becomes a prefix that extends it, by what is new. Answers whether anything is.
+    pub fn grow(&mut self, later: &Rest<'_>) -> Result<bool, AllocError>
+        requires { IsExtendedBy self.old later.now }
+        ensures stream { OnOk result (self.new ≡ later.now) }
+        ensures change { IfOk result (λ change. change ≡ is_changed self.old later.now) }
+    {
+        let (_, further) = later.packets().split_at(self.packets.len());
+        let same = further.is_empty() && self.bound == later.bound();
+        self.extend(further, later.bound())?;
+        Ok(!same)
     }
 
     /// Puts a packet behind the others.

@@ -1,105 +1,119 @@
-//! A round: every stream computed anew from those of the round before.
-ghost use Rattle.std.specs.Prelude.{◌≡◌, ◌≤◌, ◌<◌, ◌++◌, All, length, take, drop, slice_index_or, false, IfOk, OnOk};
-ghost use Rattle.std.specs.List.{list_any};
+//! Rounds: what the nodes have come to gives the streams of the next round, and these let the nodes go on.
+ghost use Rattle.std.specs.Prelude.{◌≡◌, ℕ, ◌<◌, ◌++◌, All, Some, length, slice_get, IfOk, OnOk};
+ghost use Rattle.std.specs.List.{flat_map};
 ghost use Rattle.mg_value.specs.Prefix.{IsPrefix};
+ghost use Rattle.mg_value.specs.Extension.{AreExtendedBy};
+ghost use Rattle.mg_value.specs.Settled.{inputs_of as inputs_at};
+ghost use Rattle.mg_calc.specs.declared.plan_node.PlanNode.{PlanNode as Node};
 ghost use Rattle.mg_calc.specs.Equations.{IsJob};
-ghost use Rattle.mg_equations.specs.Seen.{seen};
-ghost use Rattle.mg_equations.specs.Rounds.{AddsOutcome, IsRoundOf, IsKnownFrom};
+ghost use Rattle.mg_calc.specs.Plan.{IsValid, HasNumbers};
+ghost use Rattle.mg_calc.specs.Shape.{IsShapeOf};
+ghost use Rattle.mg_equations.specs.declared.progress.Progress.{Progress as Kept};
+ghost use Rattle.mg_equations.specs.Changes.{changes};
+ghost use Rattle.mg_equations.specs.Progress.{HasCome, HaveCome, CanGoOn, GoesOnIf, AllGoOn, outcomes, reads_change};
 
-use crate::node::outcome_of;
-use crate::outcome::{Failure, Outcome};
+use crate::node::begun;
 use crate::output::Output;
+use crate::progress::Progress;
 use mg_calc::{Inputs, Plan, PlanNode};
-use mg_value::{Prefix, PrefixList};
+use mg_value::{PrefixList, Rest};
 use std::alloc::{AllocError, Global};
 
-/// What a round gives: the streams, and for each node how many sets or calls it has taken, and its fault, if it has failed.
-#[derive(Debug, Drop)]
-pub struct Round {
-    pub streams: Vec<Prefix>,
-    pub sets: Vec<u64>,
-    pub faults: Vec<Option<Failure>>,
-}
-
-// Second prefixes, that share the payloads.
-fn copies(alloc: Global, prefixes: &PrefixList) -> Result<Vec<Prefix>, AllocError>
-    ensures { IfOk result (λ copies. copies.items ≡ prefixes.now) }
-{
-    let mut copies = Vec::with_capacity(alloc, prefixes.len() as usize)?;
-    for prefix in prefixes.as_slice() {
-        copies.push(prefix.try_clone(alloc)?)?;
-    }
-    Ok(copies)
-}
-
-// Puts outputs behind streams.
-fn push_outputs(streams: &mut Vec<Prefix>, outputs: Vec<Output>) -> Result<(), AllocError>
-    ensures { OnOk result (streams.new.items ≡ streams.old.items ++ outputs.items) }
-{
-    for output in outputs {
-        streams.push(output.into_prefix()?)?;
-    }
-    Ok(())
-}
-
-// Puts streams behind others: of a list so many from the place on that comes next. Their payloads are shared.
-fn push_kept(
-    alloc: Global,
-    streams: &mut Vec<Prefix>,
-    before: &[Prefix],
-    count: u32,
-) -> Result<(), AllocError>
-    requires front { length streams.old.items ≤ length before.now }
-    requires there { count ≤ length (drop (length streams.old.items) before.now) }
-    ensures { OnOk result (streams.new.items ≡ streams.old.items ++ take count (drop (length streams.old.items) before.now)) }
-{
-    let (_, rest) = before.split_at(streams.len());
-    let (kept, _) = rest.split_at(count as usize);
-    for prefix in kept {
-        streams.push(prefix.try_clone(alloc)?)?;
-    }
-    Ok(())
-}
-
-impl Round {
-    // Puts what becomes of a node behind those before it.
-    fn add(&mut self, outcome: Outcome) -> Result<(), AllocError>
-        ensures { OnOk result (AddsOutcome (seen outcome) self.old self.new) }
-    {
-        self.sets.push(outcome.taken)?;
-        self.faults.push(outcome.fault)?;
-        push_outputs(&mut self.streams, outcome.outputs)
-    }
-}
-
-/// The right sides of all equations: the graph inputs, and then the outputs of each node. Each node is computed anew.
-pub fn next_round(
+/// All nodes, once they have gone on from nothing to some streams.
+pub fn first_nodes(
     alloc: Global,
     plan: &Plan,
     inputs: &Inputs,
-    streams: &PrefixList,
-) -> Result<Round, AllocError>
+    streams: &[Output],
+) -> Result<Vec<Progress>, AllocError>
     requires job { IsJob (record { plan = plan.now; inputs = inputs.now }) }
     requires streams { All IsPrefix streams.now }
     requires many { length streams.now ≡ length plan.now.streams }
-    ensures { IfOk result (IsRoundOf (record { plan = plan.now; inputs = inputs.now }) streams.now) }
+    ensures { IfOk result (λ nodes. HaveCome (record { plan = plan.now; inputs = inputs.now }) streams.now nodes.items) }
 {
-    let mut round = Round {
-        streams: copies(alloc, &inputs.streams)?,
-        sets: Vec::new(alloc),
-        faults: Vec::new(alloc),
-    };
-    for number in 0..plan.nodes.len() {
-        let node = &plan.nodes.as_slice()[number as usize];
-        round.add(outcome_of(alloc, plan, inputs, streams, node)?)?;
+    let mut nodes = Vec::with_capacity(alloc, plan.nodes.len() as usize)?;
+    for node in plan.nodes.as_slice() {
+        nodes.push(first(alloc, plan, inputs, streams, node)?)?;
     }
-    Ok(round)
+    Ok(nodes)
+}
+
+// A node, once it has gone on from nothing to some streams.
+fn first(
+    alloc: Global,
+    plan: &Plan,
+    inputs: &Inputs,
+    streams: &[Output],
+    node: &PlanNode,
+) -> Result<Progress, AllocError>
+    requires streams { All IsPrefix streams.now }
+    requires known { All (λ i. i < length streams.now) node.now.inputs }
+    requires ports { HasNumbers node.now }
+    requires shape { IsShapeOf node.now.law node.now.shape }
+    ensures { IfOk result (HasCome (record { plan = plan.now; inputs = inputs.now }) streams.now node.now) }
+{
+    let mut progress = Progress::begun(alloc, node, begun(alloc, plan, inputs, node)?)?;
+    progress.go_on(alloc, node, streams)?;
+    Ok(progress)
+}
+
+/// The streams of the next round, to be read: the graph inputs, and then the outputs of each node.
+pub fn next_streams<'a>(
+    alloc: Global,
+    inputs: &'a PrefixList,
+    nodes: &'a [Progress],
+) -> Result<Vec<Rest<'a>>, AllocError>
+    ensures { IfOk result (λ next. next.items ≡ inputs.now ++ flat_map (λ outcome. outcome.outputs) (outcomes nodes.now)) }
+{
+    let mut next = whole(alloc, inputs)?;
+    for node in nodes {
+        push_outputs(&mut next, node.outcome.outputs.as_slice())?;
+    }
+    Ok(next)
+}
+
+// Prefixes, to be read.
+fn whole<'a>(alloc: Global, prefixes: &'a PrefixList) -> Result<Vec<Rest<'a>>, AllocError>
+    ensures { IfOk result (λ rests. rests.items ≡ prefixes.now) }
+{
+    let mut rests = Vec::with_capacity(alloc, prefixes.len() as usize)?;
+    for prefix in prefixes.as_slice() {
+        rests.push(Rest::of(prefix))?;
+    }
+    Ok(rests)
+}
+
+// Puts outputs behind streams.
+fn push_outputs<'a>(next: &mut Vec<Rest<'a>>, outputs: &'a [Output]) -> Result<(), AllocError>
+    ensures { OnOk result (next.new.items ≡ next.old.items ++ outputs.now) }
+{
+    for output in outputs {
+        next.push(output.rest(0))?;
+    }
+    Ok(())
+}
+
+/// Streams become those of the next round, by what is new. Answers which have changed.
+pub fn grow_all(
+    alloc: Global,
+    streams: &mut Vec<Output>,
+    next: &[Rest<'_>],
+) -> Result<Vec<bool>, AllocError>
+    requires { AreExtendedBy streams.old.items next.now }
+    ensures streams { OnOk result (streams.new.items ≡ next.now) }
+    ensures changed { IfOk result (λ changed. changed.items ≡ changes streams.old.items next.now) }
+{
+    let mut changed = Vec::with_capacity(alloc, next.len())?;
+    for (i, later) in next.iter().enumerate() {
+        changed.push(streams[i].grow(later)?)?;
+    }
+    Ok(changed)
 }
 
 // Whether a node reads a stream that the round before has changed.
 fn reads_change(node: &PlanNode, changed: &[bool]) -> bool
     requires { All (λ i. i < length changed.now) node.now.inputs }
-    ensures { result ≡ list_any (λ i. slice_index_or changed.now i false) node.now.inputs }
+    ensures { result ≡ reads_change changed.now node.now }
 {
     for input in node.inputs.as_slice() {
         if changed[*input as usize] {
@@ -109,37 +123,54 @@ fn reads_change(node: &PlanNode, changed: &[bool]) -> bool
     false
 }
 
-/// The round after another, in which some streams were changed: the nodes that read none of these stay as they were.
-pub fn later_round(
+// A node goes on if it reads a changed stream.
+fn go_on_if(
+    alloc: Global,
+    node: &PlanNode,
+    streams: &[Output],
+    changed: &[bool],
+    progress: &mut Progress,
+) -> Result<(), AllocError>
+    requires streams { All IsPrefix streams.now }
+    requires known { All (λ i. i < length streams.now) node.now.inputs }
+    requires changed { length changed.now ≡ length streams.now }
+    requires ports { HasNumbers node.now }
+    requires shape { IsShapeOf node.now.law node.now.shape }
+    requires can { CanGoOn node.now (inputs_at streams.now node.now.inputs) progress.old }
+    ensures { OnOk result (GoesOnIf (reads_change changed.now node.now) node.now streams.now progress.old progress.new) }
+{
+    if reads_change(node, changed) {
+        progress.go_on(alloc, node, streams)
+    } else {
+        Ok(())
+    }
+}
+
+/// The nodes that read a changed stream go on.
+pub fn go_on_all(
     alloc: Global,
     plan: &Plan,
-    inputs: &Inputs,
-    streams: &PrefixList,
+    streams: &[Output],
     changed: &[bool],
-    sets: &[u64],
-    faults: &[Option<Failure>],
-) -> Result<Round, AllocError>
-    requires job { IsJob (record { plan = plan.now; inputs = inputs.now }) }
+    nodes: &mut Vec<Progress>,
+) -> Result<(), AllocError>
+    requires plan { IsValid plan.now }
     requires streams { All IsPrefix streams.now }
     requires many { length streams.now ≡ length plan.now.streams }
-    requires known { IsKnownFrom (record { plan = plan.now; inputs = inputs.now }) streams.now changed.now sets.now faults.now }
-    ensures { IfOk result (IsRoundOf (record { plan = plan.now; inputs = inputs.now }) streams.now) }
+    requires changed { length changed.now ≡ length streams.now }
+    requires nodes { length nodes.old.items ≡ length plan.now.nodes }
+    requires can { (k : ℕ) (node : Node) (progress : Kept) → slice_get plan.now.nodes k ≡ Some node → slice_get nodes.old.items k ≡ Some progress
+        → CanGoOn node (inputs_at streams.now node.inputs) progress }
+    ensures { OnOk result (AllGoOn plan.now.nodes streams.now changed.now nodes.old.items nodes.new.items) }
 {
-    let mut round = Round {
-        streams: copies(alloc, &inputs.streams)?,
-        sets: Vec::new(alloc),
-        faults: Vec::new(alloc),
-    };
-    for number in 0..plan.nodes.len() {
-        let node = &plan.nodes.as_slice()[number as usize];
-        if reads_change(node, changed) {
-            round.add(outcome_of(alloc, plan, inputs, streams, node)?)?;
-            continue;
-        }
-        round.faults.push(Failure::again(&faults[number as usize]))?;
-        round.sets.push(sets[number as usize])?;
-        let before = streams.as_slice();
-        push_kept(alloc, &mut round.streams, before, node.outputs.len())?;
+    for i in 0..plan.nodes.len() as usize {
+        go_on_if(
+            alloc,
+            &plan.nodes.as_slice()[i],
+            streams,
+            changed,
+            &mut nodes[i],
+        )?;
     }
-    Ok(round)
+    Ok(())
 }

@@ -1,17 +1,20 @@
 //! The solution of a job: rounds from nothing on, up to the first that changes nothing.
-ghost use Rattle.std.specs.Prelude.{◌≡◌, ◌<◌, ◌^◌, All, length, replicate, IfOk};
-ghost use Rattle.std.specs.List.{list_any, filter_map, enumerate_from};
-ghost use Rattle.mg_value.specs.Prefix.{empty_prefix, IsPrefix};
-ghost use Rattle.mg_calc.specs.Equations.{IsJob, IsSolution};
+ghost use Rattle.std.specs.Prelude.{◌≡◌, ◌<◌, ◌^◌, ◌++◌, length, map, replicate, IfOk, OnOk};
+ghost use Rattle.std.specs.List.{list_any, filter_map, flat_map, enumerate_from};
+ghost use Rattle.mg_value.specs.Prefix.{empty_prefix};
+ghost use Rattle.mg_value.specs.Extension.{AreExtendedBy};
+ghost use Rattle.mg_calc.specs.Equations.{IsSolution};
 ghost use Rattle.mg_calc.specs.Meaning.{counts, faults};
 ghost use Rattle.mg_calc.specs.Plan.{IsValid, InputsFit};
-ghost use Rattle.mg_equations.specs.Rounds.{changes as the_changes, numbered_fault, IsRoundOf, IsKnownFrom};
+ghost use Rattle.mg_equations.specs.Changes.{changes};
+ghost use Rattle.mg_equations.specs.Progress.{outcomes};
+ghost use Rattle.mg_equations.specs.Rounds.{numbered_fault};
 
-use crate::outcome::Failure;
-use crate::round::{Round, later_round, next_round};
+use crate::output::Output;
+use crate::progress::Progress;
+use crate::round::{first_nodes, go_on_all, grow_all, next_streams};
 use mg_calc::{Inputs, NodeFault, NodeFaultList, Plan};
-use mg_time::Timestamp;
-use mg_value::{BlockList, PacketList, Prefix, PrefixList};
+use mg_value::{BlockList, PrefixList};
 use std::alloc::{AllocError, Global};
 
 /// Counts, one for each node.
@@ -31,8 +34,9 @@ pub struct Streams {
 
 /// Solves the equations of a graph for what is handed in.
 ///
-/// This is the plain program: it computes whole streams anew, in rounds, and calls no calculator that is handed in. A round
-/// computes the nodes alone that read a stream which the round before has changed. Payloads are shared.
+/// This is the plain program: it computes streams in rounds, and calls no calculator that is handed in. A round computes the
+/// nodes alone that read a stream which the round before has changed, each from where it stood, so that all rounds together
+/// read each packet once at each port. Payloads are shared.
 pub fn solve(alloc: Global, plan: &Plan, inputs: &Inputs) -> Result<Streams, AllocError>
     requires plan { IsValid plan.now }
     requires inputs { InputsFit plan.now inputs.now }
@@ -41,42 +45,40 @@ pub fn solve(alloc: Global, plan: &Plan, inputs: &Inputs) -> Result<Streams, All
     ensures faults { IfOk result (λ s. s.faults ≡ faults (record { plan = plan.now; inputs = inputs.now }) s.prefixes) }
 {
     let mut streams = nothing_known(alloc, plan.streams.len())?;
-    let mut round = next_round(alloc, plan, inputs, &streams)?;
+    let mut nodes = first_nodes(alloc, plan, inputs, &streams)?;
     'rounds: loop {
-        let changed = changes(alloc, streams.as_slice(), round.streams.as_slice())?;
+        let changed = grown(alloc, &inputs.streams, &nodes, &mut streams)?;
         if !has_change(changed.as_slice()) {
-            return told(alloc, streams, round);
+            return told(alloc, streams, &nodes);
         }
-        (streams, round) = gone_on(alloc, plan, inputs, round, changed.as_slice())?;
+        go_on_all(alloc, plan, &streams, &changed, &mut nodes)?;
     }
 }
 
 // So many streams of which nothing is known.
-fn nothing_known(alloc: Global, count: u32) -> Result<PrefixList, AllocError>
-    ensures { IfOk result (λ streams. streams ≡ replicate count empty_prefix) }
+fn nothing_known(alloc: Global, count: u32) -> Result<Vec<Output>, AllocError>
+    ensures { IfOk result (λ streams. streams.items ≡ replicate count empty_prefix) }
 {
     let mut streams = Vec::with_capacity(alloc, count as usize)?;
     for _ in 0..count {
-        streams.push(Prefix {
-            packets: PacketList::from_vec(Vec::new(alloc))?,
-            bound: Timestamp::PRE_STREAM,
-        })?;
+        streams.push(Output::new(alloc))?;
     }
-    Ok(BlockList::from_vec(streams)?)
+    Ok(streams)
 }
 
-// Which streams a round has changed. It extends each, so that their lengths and bounds tell.
-fn changes(alloc: Global, before: &[Prefix], now: &[Prefix]) -> Result<Vec<bool>, AllocError>
-    requires { length before.now ≡ length now.now }
-    ensures { IfOk result (λ changed. changed.items ≡ the_changes before.now now.now) }
+// Streams become those of the next round. Answers which have changed.
+fn grown(
+    alloc: Global,
+    inputs: &PrefixList,
+    nodes: &[Progress],
+    streams: &mut Vec<Output>,
+) -> Result<Vec<bool>, AllocError>
+    requires { AreExtendedBy streams.old.items (inputs.now ++ flat_map (λ outcome. outcome.outputs) (outcomes nodes.now)) }
+    ensures streams { OnOk result (streams.new.items ≡ inputs.now ++ flat_map (λ outcome. outcome.outputs) (outcomes nodes.now)) }
+    ensures changed { IfOk result (λ changed. changed.items ≡ changes streams.old.items (inputs.now ++ flat_map (λ outcome. outcome.outputs) (outcomes nodes.now))) }
 {
-    let mut changed = Vec::with_capacity(alloc, before.len())?;
-    for (i, prefix) in before.iter().enumerate() {
-        let later = &now[i];
-        let same = prefix.packets.len() == later.packets.len() && prefix.bound == later.bound;
-        changed.push(!same)?;
-    }
-    Ok(changed)
+    let next = next_streams(alloc, inputs, nodes)?;
+    grow_all(alloc, streams, next.as_slice())
 }
 
 // Whether some stream is another one.
@@ -86,41 +88,15 @@ fn has_change(changed: &[bool]) -> bool
     changed.iter().any(|change| *change)
 }
 
-// The streams of a round that changed some, and the round after it.
-fn gone_on(
-    alloc: Global,
-    plan: &Plan,
-    inputs: &Inputs,
-    round: Round,
-    changed: &[bool],
-) -> Result<(PrefixList, Round), AllocError>
-    requires job { IsJob (record { plan = plan.now; inputs = inputs.now }) }
-    requires streams { All IsPrefix round.streams.items }
-    requires many { length round.streams.items ≡ length plan.now.streams }
-    requires known { IsKnownFrom (record { plan = plan.now; inputs = inputs.now }) round.streams.items changed.now round.sets.items round.faults.items }
-    ensures streams { IfOk result (λ next. next.0 ≡ round.streams.items) }
-    ensures round { IfOk result (λ next. IsRoundOf (record { plan = plan.now; inputs = inputs.now }) next.0 next.1) }
-{
-    let Round {
-        streams,
-        sets,
-        faults,
-    } = round;
-    let streams = BlockList::from_vec(streams)?;
-    let (sets, faults) = (sets.as_slice(), faults.as_slice());
-    let next = later_round(alloc, plan, inputs, &streams, changed, sets, faults)?;
-    Ok((streams, next))
-}
-
 // The faults of nodes, in their order. Those of nodes that have none aren't there.
-fn fault_list(alloc: Global, faults: &[Option<Failure>]) -> Result<NodeFaultList, AllocError>
-    requires { length faults.now < 2 ^ 32 }
-    ensures { IfOk result (λ list. list ≡ filter_map numbered_fault (enumerate_from 0 faults.now)) }
+fn fault_list(alloc: Global, nodes: &[Progress]) -> Result<NodeFaultList, AllocError>
+    requires { length nodes.now < 2 ^ 32 }
+    ensures { IfOk result (λ list. list ≡ filter_map numbered_fault (enumerate_from 0 (map (λ outcome. outcome.fault) (outcomes nodes.now)))) }
 {
     let mut list = Vec::new(alloc);
     let mut node = 0;
-    for fault in faults {
-        if let Some(failure) = fault {
+    for progress in nodes {
+        if let Some(failure) = &progress.outcome.fault {
             list.push(NodeFault {
                 node,
                 phase: failure.phase,
@@ -132,17 +108,38 @@ fn fault_list(alloc: Global, faults: &[Option<Failure>]) -> Result<NodeFaultList
     Ok(BlockList::from_vec(list)?)
 }
 
-// The streams with what the last round tells of the nodes.
-fn told(alloc: Global, prefixes: PrefixList, round: Round) -> Result<Streams, AllocError>
-    requires { length round.faults.items < 2 ^ 32 }
-    ensures prefixes { IfOk result (λ s. s.prefixes ≡ prefixes) }
-    ensures sets { IfOk result (λ s. s.sets ≡ round.sets.items) }
-    ensures faults { IfOk result (λ s. s.faults ≡ filter_map numbered_fault (enumerate_from 0 round.faults.items)) }
+// How many sets or calls each node has taken.
+fn count_list(alloc: Global, nodes: &[Progress]) -> Result<CountList, AllocError>
+    ensures { IfOk result (λ list. list ≡ map (λ outcome. outcome.taken) (outcomes nodes.now)) }
 {
-    let faults = fault_list(alloc, round.faults.as_slice())?;
+    let mut counts = Vec::with_capacity(alloc, nodes.len())?;
+    for progress in nodes {
+        counts.push(progress.outcome.taken)?;
+    }
+    Ok(BlockList::from_vec(counts)?)
+}
+
+// The prefixes of streams.
+fn prefix_list(alloc: Global, streams: Vec<Output>) -> Result<PrefixList, AllocError>
+    ensures { IfOk result (λ list. list ≡ streams.items) }
+{
+    let mut prefixes = Vec::with_capacity(alloc, streams.len())?;
+    for stream in streams {
+        prefixes.push(stream.into_prefix()?)?;
+    }
+    Ok(BlockList::from_vec(prefixes)?)
+}
+
+// The streams with what the last round tells of the nodes.
+fn told(alloc: Global, streams: Vec<Output>, nodes: &[Progress]) -> Result<Streams, AllocError>
+    requires { length nodes.now < 2 ^ 32 }
+    ensures prefixes { IfOk result (λ s. s.prefixes ≡ streams.items) }
+    ensures sets { IfOk result (λ s. s.sets ≡ map (λ outcome. outcome.taken) (outcomes nodes.now)) }
+    ensures faults { IfOk result (λ s. s.faults ≡ filter_map numbered_fault (enumerate_from 0 (map (λ outcome. outcome.fault) (outcomes nodes.now)))) }
+{
     Ok(Streams {
-        prefixes,
-        sets: BlockList::from_vec(round.sets)?,
-        faults,
+        prefixes: prefix_list(alloc, streams)?,
+        sets: count_list(alloc, nodes)?,
+        faults: fault_list(alloc, nodes)?,
     })
 }

@@ -29,7 +29,7 @@ use Rattle.mg_node.specs.declared.waits.Waits.{Waits}
 use Rattle.mg_node.specs.declared.waits.Waits.TheVariants.{Sets, Loop}
 use Rattle.mg_node.specs.Views.{IntakeView, EntryView, EngineView}
 use Rattle.mg_node.specs.Ports.{horizon_of}
-use Rattle.mg_node.specs.Claims.{has_ended}
+use Rattle.mg_node.specs.Windows.{has_ended}
 use Rattle.mg_node.specs.Advances.{until_claimed, raised_by, advance_bound, raised_output, advanced}
 use Rattle.mg_node.specs.Job.{LoggedJob, ports_of, streams_at, role_of, main_of, loop_of, answered, stage, IsTask}
 use Rattle.mg_node.specs.Lawful.{HoldsWaits, IsIntakeOf, LawfulIntake, IsRaised, is_close, come_to, IsEngineOf, LawfulEngine, of_node, AgreeBy, Agree}

@@ -163,6 +163,7 @@ answered_engine job number engine held r cell next =
       entries = (λ i entry there. absurd (let empty = ap (λ (w : List EntryView). slice_get w i) cell.laid in let nothing : slice_get engine.window i ≡ None = empty in cc));
       idle = All-weaker (IsIdle job h.streams h.node engine.laid engine.closed) (IsIdle job h.streams h.node (engine.laid + 1) engine.closed) (idle_on job h.streams h.node engine.laid engine.closed cell.law cell.going) engine.idle h.idle;
       benches = h.benches;
+      waits = h.waits;
     }
 
 -- an intake that has answered

@@ -1,5 +1,5 @@
 -- An engine that is begun is lawful, for every job that has its calculator.
-use Rattle.std.proofs.Common.{◌≡◌, ℕ, zero, suc, ℤ, ◌+◌, ◌-◌, ◌<◌, false, List, [], ◌∷◌, ◌++◌, length, length-append, map, replicate, get_or, Option, Some, None, option_map, slice_get, inl, inr, refl, ap, ap₂, sym, subst, ◌∙◌, arith}
+use Rattle.std.proofs.Common.{◌≡◌, ℕ, zero, suc, ℤ, ◌+◌, ◌-◌, ◌<◌, false, List, [], ◌∷◌, ◌++◌, length, length-append, map, replicate, get_or, Option, Some, None, option_map, is_some, slice_get, inl, inr, refl, ap, ap₂, sym, subst, ◌∙◌, arith}
 use Rattle.std.specs.List.{AllByRecursion, AllZip, range_with_len, flat_map}
 use Rattle.std.proofs.lemmas.List.{length-replicate}
 use Rattle.std.proofs.lemmas.List.Concat.{flat_map-cons}
@@ -17,7 +17,8 @@ use Rattle.mg_calc.specs.Plan.{IsValid, FlightFits}
 use Rattle.mg_calc.specs.Shape.{IsShapeOf}
 use Rattle.mg_calc.specs.Equations.{Job, sides_of}
 use Rattle.mg_calc.specs.Outcome.{Outcome, opened}
-use Rattle.mg_calc.specs.Told.{CalculatorTold, with_call}
+use Rattle.mg_calc.specs.Told.{with_call}
+use Rattle.mg_route.specs.HolderView.{HolderView}
 use Rattle.mg_calc.proofs.Jobs.{any_state, job_known}
 use Rattle.mg_calc.proofs.Outcomes.{opened_keeps}
 use Rattle.mg_node.specs.Views.{BenchView, EngineView}
@@ -110,24 +111,24 @@ own_idle job streams number node solves there several =
     let nothing : KeepsNothing job node = several_keep_nothing job number node solves.is_job there several in
     let none : Option (Stamped Plain) = None in
     record {
-      fits = record { same_law = refl; same_shape = refl };
+      fits = record { same_law = refl; same_shape = refl; same_handed = ap is_some (sym nothing.unboxed) };
       places = length-replicate (length node.inputs) none;
       state = sym (stage_empty job streams number node 0 solves there nothing.stateless);
       log = sym (ap (option_map (λ before. before ++ (calls_before streams node 0 ++ []))) nothing.unlogged);
     }
 
-begun_idle : (job : LoggedJob) (streams : List (StreamPrefix Plain)) (number : ℕ) (node : PlanNode) (told now : CalculatorTold) → Solves job streams → IsHanded job number node told → now.state ≡ (opened_node node (sides_of job.job node)).state
-    → now.log ≡ with_call told.log Begun → now.law ≡ told.law → now.shape ≡ told.shape → IsIdle job streams node 0 false (bench_of node now)
-begun_idle job streams number node told now solves handed state log law shape =
+begun_idle : (job : LoggedJob) (streams : List (StreamPrefix Plain)) (number : ℕ) (node : PlanNode) (told now : HolderView) → Solves job streams → IsHanded job number node told → now.state ≡ (opened_node node (sides_of job.job node)).state
+    → now.log ≡ with_call told.log Begun → now.law ≡ told.law → now.shape ≡ told.shape → now.handed ≡ told.handed → IsIdle job streams node 0 false (bench_of node now)
+begun_idle job streams number node told now solves handed state log law shape same =
     let none : Option (Stamped Plain) = None in
     record {
-      fits = record { same_law = law ∙ handed.fits.same_law; same_shape = shape ∙ handed.fits.same_shape };
+      fits = record { same_law = law ∙ handed.fits.same_law; same_shape = shape ∙ handed.fits.same_shape; same_handed = same ∙ handed.fits.same_handed };
       places = length-replicate (length node.inputs) none;
       state = state ∙ sym (ap (λ (o : Outcome). o.state) (zero_stage job streams number node solves handed.there));
       log = log ∙ ap (λ (l : Option (List Call)). with_call l Begun) handed.log ∙ ap (λ (calls : List Call). option_map (λ before. before ++ (calls ++ [])) (first_log job node)) (sym (zero_calls node.law streams node));
     }
 
-pub begun_lawful : (job : LoggedJob) (streams : List (StreamPrefix Plain)) (number : ℕ) (node : PlanNode) (told : CalculatorTold) (view : EngineView) → Solves job streams → IsHanded job number node told → HasBegun node number told (sides_of job.job node) view
+pub begun_lawful : (job : LoggedJob) (streams : List (StreamPrefix Plain)) (number : ℕ) (node : PlanNode) (told : HolderView) (view : EngineView) → Solves job streams → IsHanded job number node told → HasBegun node number told (sides_of job.job node) view
     → LawfulEngine job (of_node number) view
 unfolding LawfulEngine
 begun_lawful job streams number node told view solves handed h =
@@ -159,14 +160,15 @@ begun_lawful job streams number node told view solves handed h =
       entries = (λ i entry at. absurd cc);
       idle = All-push P owns told_bench
           (All-from_recursion P owns (all_replicate P (node.in_flight - 1) (bench_of node (own_told node)) (λ le. own_idle job streams number node solves there (omega (arith, le)))))
-          (begun_idle job streams number node told h.now solves handed h.state h.log h.law h.shape);
+          (begun_idle job streams number node told h.now solves handed h.state h.log h.law h.shape h.same_handed);
       benches = omega (arith, some, length-append owns (told_bench ∷ []), length-replicate (node.in_flight - 1) (bench_of node (own_told node)));
+      waits = (λ goes. refl);
     })
 
 -- One that isn't begun.
 
 pub record IsOfJob (job : LoggedJob) (number : ℕ) (node : PlanNode) (sides : List (Option Plain)) (view : EngineView) : Type 0 where
-  pub told : CalculatorTold
+  pub told : HolderView
   pub handed : IsHanded job number node told
   pub unbegun : IsUnbegun node number told sides view
 
@@ -180,10 +182,10 @@ unbegun_parts job number node sides view there is h =
       unbegun = subst (λ (l : List (Option Plain)). IsUnbegun node number h.told l view) (sym is) (subst (λ (n : PlanNode). IsUnbegun n number h.told (sides_of job.job n) view) same h.unbegun);
     }
 
-pub is_new : (job : LoggedJob) (number : ℕ) (node : PlanNode) (told : CalculatorTold) → IsHanded job number node told → IsNew node told
-is_new job number node told handed = record { fits = handed.fits; state = handed.state }
+pub is_new : (job : LoggedJob) (number : ℕ) (node : PlanNode) (told : HolderView) → IsHanded job number node told → IsNew node told
+is_new job number node told handed = record { fits = record { same_law = handed.fits.same_law; same_shape = handed.fits.same_shape }; state = handed.state }
 
-pub still_unbegun : (job : LoggedJob) (number : ℕ) (node : PlanNode) (told : CalculatorTold) (sides : List (Option Plain)) (view : EngineView) → sides ≡ sides_of job.job node → IsHanded job number node told → IsUnbegun node number told sides view → LawfulUnbegun job number view
+pub still_unbegun : (job : LoggedJob) (number : ℕ) (node : PlanNode) (told : HolderView) (sides : List (Option Plain)) (view : EngineView) → sides ≡ sides_of job.job node → IsHanded job number node told → IsUnbegun node number told sides view → LawfulUnbegun job number view
 unfolding LawfulUnbegun
 still_unbegun job number node told sides view is handed unbegun = record {
   node = node;
@@ -193,14 +195,14 @@ still_unbegun job number node told sides view is handed unbegun = record {
 }
 
 pub begin_lawful : (job : LoggedJob) (streams : List (StreamPrefix Plain)) (number : ℕ) (node : PlanNode) (sides : List (Option Plain)) (before now : EngineView) → Solves job streams → slice_get job.job.plan.nodes number ≡ Some node → sides ≡ sides_of job.job node
-    → LawfulUnbegun job number before → ((told : CalculatorTold) → IsNew node told → IsUnbegun node number told sides before → HasBegun node number told sides now) → LawfulEngine job (of_node number) now
+    → LawfulUnbegun job number before → ((told : HolderView) → IsNew node told → IsUnbegun node number told sides before → HasBegun node number told sides now) → LawfulEngine job (of_node number) now
 begin_lawful job streams number node sides before now solves there is unbegun begun =
     let parts = unbegun_parts job number node sides before there is unbegun in
     begun_lawful job streams number node parts.told now solves parts.handed
     (subst (λ (l : List (Option Plain)). HasBegun node number parts.told l now) is (begun parts.told (is_new job number node parts.told parts.handed) parts.unbegun))
 
 pub opened_unbegun : (job : LoggedJob) (number : ℕ) (node : PlanNode) (sides : List (Option Plain)) (before mid now : EngineView) → slice_get job.job.plan.nodes number ≡ Some node → sides ≡ sides_of job.job node → LawfulUnbegun job number before
-    → ((told : CalculatorTold) → IsUnbegun node number told sides before → HasOpened node number told sides mid) → now ≡ mid → LawfulUnbegun job number now
+    → ((told : HolderView) → IsUnbegun node number told sides before → HasOpened node number told sides mid) → now ≡ mid → LawfulUnbegun job number now
 opened_unbegun job number node sides before mid now there is unbegun opened same =
     let parts = unbegun_parts job number node sides before there is unbegun in
     still_unbegun job number node parts.told sides now is parts.handed (subst (λ (v : EngineView). IsUnbegun node number parts.told sides v) (sym same) (inr (opened parts.told parts.unbegun)))

@@ -120,3 +120,7 @@ delivers o port n most before now next raised there b count is rose =
       last ∙ ap (λ (k : ℕ). with_port before port (with_room (delivered o (port_queue before port) n) k)) (sym room),
       rose ∙ ap (λ (q : Waiting Plain). nat_lt q.bound (port_queue next port).bound) came,
     )
+
+-- nothing has moved
+pub moved_none : (n : ℕ) (raised : Bool) → Moved n raised ≡ Moved 0 false → (n ≡ 0) × (raised ≡ false)
+moved_none n raised same = (cc, cc)

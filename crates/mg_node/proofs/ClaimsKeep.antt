@@ -33,6 +33,7 @@ use Rattle.mg_node.specs.Job.{LoggedJob, IsTask, count_of_all, count_by, sets_of
 use Rattle.mg_node.specs.Lawful.{HoldsWaits, IsIntakeOf, LawfulIntake, is_close, StandsAt, IsIdle, IsEntry, IsEngineOf, LawfulEngine, of_node, LawfulOutcome, LawfulWork}
 use Rattle.mg_node.specs.Claims.{MayClaim, TakesUnrun, Hands, TakesCall, TakesSet}
 use Rattle.mg_node.proofs.Claiming.{stays_at}
+use Rattle.mg_node.proofs.FrontWaits.{set_waits}
 use Rattle.mg_node.proofs.Delivering.{last_have}
 use Rattle.mg_node.proofs.Performing.{of_node as at_node}
 use Rattle.mg_node.proofs.Handing.{handed_engine, handed_work, none_closes}
@@ -97,6 +98,7 @@ unrun_engine job number engine place entry h there =
       ]);
       idle = h.idle;
       benches = omega (arith, benches, length-set engine.window place (out_of entry));
+      waits = (λ goes. set_waits engine.window place (out_of entry) refl (h.waits goes));
     }
 
 unrun_work : (job : LoggedJob) (number : ℕ) (engine : EngineView) (place : ℕ) (entry : EntryView) (work : WorkView) → IsEngineOf job number engine → slice_get engine.window place ≡ Some entry → entry.outcome ≡ Some (record { work = work; answer = None }) → LawfulWork job work

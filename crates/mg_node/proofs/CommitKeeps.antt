@@ -10,9 +10,11 @@ use Rattle.mg_node.specs.Views.{PerformedView, OutcomeView, EntryView, EngineVie
 use Rattle.mg_node.specs.Job.{LoggedJob, Solves, stage}
 use Rattle.mg_node.specs.Lawful.{StandForAll, StandsAt, come_to, IsEngineOf, LawfulEngine, of_node, LawfulOutcome}
 use Rattle.mg_node.specs.Shelves.{IsOut, performed_of}
-use Rattle.mg_node.specs.Commits.{Front, answer_laid, has_stopped, ready_of, with_ready, front_laid, committed_entry, window_with, front_of, fault_at, Commits}
+use Rattle.mg_node.specs.Windows.{ready_of, starts_ready}
+use Rattle.mg_node.specs.Commits.{Front, answer_laid, has_stopped, with_ready, front_laid, committed_entry, window_with, front_of, fault_at, Commits}
 use Rattle.mg_node.proofs.Closing.{second_not}
-use Rattle.mg_node.proofs.Shelving.{entry_engine, performed_is, with_window}
+use Rattle.mg_node.proofs.Shelving.{HasWindow, entry_window, performed_is}
+use Rattle.mg_node.proofs.FrontWaits.{laid_waits, stops_by}
 use Rattle.mg_node.proofs.Stateless.{several_keep_nothing}
 use Rattle.mg_node.proofs.Turning.{work_turns}
 use Rattle.mg_node.proofs.Turns.{IsDone, done_by}
@@ -60,18 +62,18 @@ same_failure : (f : Option Failure) (number : ℕ) → option_map (λ (g : NodeF
 same_failure None number = refl
 same_failure (Some f) number = refl
 
-front_of_engine : (job : LoggedJob) (number : ℕ) (engine : EngineView) (h : IsEngineOf job number engine) → IsFrontOf job h.streams h.node number engine.claimed (front_of engine engine.window h.whole)
-front_of_engine job number engine h = record {
+front_of_engine : (job : LoggedJob) (number : ℕ) (engine : EngineView) (window : List EntryView) (h : IsEngineOf job number engine) → HasWindow job h.streams h.node number engine window → IsFrontOf job h.streams h.node number engine.claimed (front_of engine window h.whole)
+front_of_engine job number engine window h has = record {
   few = h.claimed;
   taken = h.taken;
   last = h.closed;
   are_raised = h.raised;
   extended = h.extended;
   same_fault = ap (option_map (λ (g : NodeFault). (let it : Failure = record { phase = g.phase; cause = g.cause } in it))) h.fault ∙ same_failure (come_to job h.streams h.node engine.laid engine.closed).fault number;
-  order = h.order;
-  entries = h.entries;
+  order = has.order;
+  entries = has.entries;
   free = h.idle;
-  benches = h.benches ∙ h.set_up.in_flight;
+  benches = has.benches ∙ h.set_up.in_flight;
 }
 
 -- an engine at a front
@@ -86,8 +88,8 @@ at_front engine outputs front = record engine {
 }
 
 engine_of_front : (job : LoggedJob) (number : ℕ) (engine : EngineView) (outputs : List (Backlog Plain)) (front : Front) (h : IsEngineOf job number engine) → StandForAll outputs front.outputs → IsFrontOf job h.streams h.node number engine.claimed front
-    → IsEngineOf job number (at_front engine outputs front)
-engine_of_front job number engine outputs front h stand f = record {
+    → (has_stopped front ≡ false → starts_ready front.window ≡ false) → IsEngineOf job number (at_front engine outputs front)
+engine_of_front job number engine outputs front h stand f waits = record {
   streams = h.streams;
   solves = h.solves;
   node = h.node;
@@ -106,27 +108,28 @@ engine_of_front job number engine outputs front h stand f = record {
   entries = f.entries;
   idle = f.free;
   benches = f.benches ∙ sym h.set_up.in_flight;
+  waits = (λ goes. waits (stops_by engine.node front.closed front.fault goes));
 }
 
 -- a work comes back to its window
-back_engine : (job : LoggedJob) (number : ℕ) (engine : EngineView) (outcome : OutcomeView) → IsOut engine outcome.work → IsEngineOf job number engine → LawfulOutcome job outcome → IsEngineOf job number (with_window engine (window_with engine outcome))
-back_engine job number engine outcome out h o =
+back_window : (job : LoggedJob) (number : ℕ) (engine : EngineView) (outcome : OutcomeView) → IsOut engine outcome.work → (h : IsEngineOf job number engine) → LawfulOutcome job outcome → HasWindow job h.streams h.node number engine (window_with engine outcome)
+back_window job number engine outcome out h o =
     let laid = out.laid in
-    entry_engine job number engine (outcome.work.number - engine.laid) out.entry (committed_entry outcome) h out.there (sym out.phase_is) (λ c. (refl, c))
+    entry_window job number engine (outcome.work.number - engine.laid) out.entry (committed_entry outcome) h out.there (sym out.phase_is) (λ c. (refl, c))
     (record { node_is = out.node_is ∙ h.set_up.number_is; number_is = omega (arith, laid); phase_is = refl; lawful = o })
 
 pub commit_lawful : (job : LoggedJob) (number : ℕ) (outcome : OutcomeView) (n : ℕ) (before now : EngineView)
     → IsOut before outcome.work → LawfulEngine job (of_node number) before → LawfulOutcome job outcome → Commits outcome n before now → LawfulEngine job (of_node number) now
 unfolding LawfulEngine
-commit_lawful job number outcome n before now out lawful o commits =
+commit_lawful job number outcome n before now out h o commits =
     let window = window_with before outcome in
-    let h : IsEngineOf job number (with_window before window) = back_engine job number before outcome out lawful o in
     let has = commits.front h.whole h.kept in
     let front = front_of before window h.whole in
     let keeps : IsFrontOf job h.streams h.node number before.claimed (front_laid h.node.shape.offset window front) =
-    front_keeps job h.streams number h.node h.solves h.there before.claimed window front (front_of_engine job number (with_window before window) h) refl in
+    front_keeps job h.streams number h.node h.solves h.there before.claimed window front (front_of_engine job number before window h (back_window job number before outcome out h o)) refl in
     let laid : IsFrontOf job h.streams h.node number before.claimed (front_laid before.offset window front) = subst (λ offset. IsFrontOf job h.streams h.node number before.claimed (front_laid offset window front)) (sym h.set_up.offset) keeps in
-    subst (λ (v : EngineView). IsEngineOf job number v) (sym has.others) (engine_of_front job number (with_window before window) now.outputs (front_laid before.offset window front) h has.outputs laid)
+    subst (λ (v : EngineView). IsEngineOf job number v) (sym has.others)
+    (engine_of_front job number before now.outputs (front_laid before.offset window front) h has.outputs laid (laid_waits before.offset window front refl))
 
 -- whatever a commit answers
 pub result_lawful : {E : Type 0} (job : LoggedJob) (number : ℕ) (outcome : OutcomeView) (result : Result ℕ E) (before now : EngineView)

@@ -14,13 +14,14 @@ use Rattle.mg_calc.specs.Outcome.{Failure}
 use Rattle.mg_node.specs.declared.fronts.FrontEnd.{FrontEnd}
 use Rattle.mg_node.specs.Views.{BenchView, WorkView, OutcomeView, EntryView, EngineView}
 use Rattle.mg_node.specs.Job.{LoggedJob}
-use Rattle.mg_node.specs.Claims.{has_ended}
+use Rattle.mg_node.specs.Windows.{has_ended}
 use Rattle.mg_node.specs.Shelves.{IsOut}
 use Rattle.mg_node.specs.Lawful.{StandForAll, is_close, come_to, IsEngineOf, LawfulEngine, of_node}
 use Rattle.mg_node.specs.Commits.{counted, Front, front_laid, front_of, fault_at, HasFront, committed_entry, window_with, Commits, SomeJobHasEngine}
 use Rattle.mg_node.specs.Code.QueueLaying.{Stand, StandForSome}
 use Rattle.mg_node.specs.Code.FrontLaying.{counted_in, start_of, HasCome, IsFrontLaid, LaysFront, HasWhole}
 use Rattle.mg_node.proofs.FrontSteps.{front_stays}
+use Rattle.mg_node.proofs.ShelfLaws.{get_set}
 
 pub on_err : {A E : Type 0} (r : Result A E) (P : Type 0) → P → OnErr r P
 on_err (Ok a) P p = tt
@@ -127,12 +128,7 @@ counted_all (e ∷ window) =
     let step = sum_by-cons (λ (x : EntryView). cond {A = ℕ} (is_close x.phase) 1 0) e window in
     omega (arith, first, later, step)
 
-get_set : {X : Type 0} (xs : List X) (i : ℕ) (old x : X) → slice_get xs i ≡ Some old → slice_get (set xs i x) i ≡ Some x
-get_set [] i old x is = absurd cc
-get_set (y ∷ xs) zero old x is = refl
-get_set (y ∷ xs) (suc i) old x is = get_set xs i old x is
-
-set_back : {X : Type 0} (xs : List X) (i : ℕ) (x y : X) → slice_get xs i ≡ Some x → set (set xs i y) i x ≡ xs
+pub set_back : {X : Type 0} (xs : List X) (i : ℕ) (x y : X) → slice_get xs i ≡ Some x → set (set xs i y) i x ≡ xs
 set_back [] i x y is = refl
 set_back {X} (z ∷ xs) zero x y is = (let same : z ≡ x = cc in ap (λ (u : X). u ∷ xs) (sym same))
 set_back {X} (z ∷ xs) (suc i) x y is = ap (λ (l : List X). z ∷ l) (set_back xs i x y is)
@@ -209,11 +205,28 @@ back_again e now back outcome number phase is h out number_is phase_is back_is =
 
 -- A commit.
 
-pub commits_by : (e mid now : EngineView) (outcome : OutcomeView) (n : ℕ) → mid ≡ record e { window = window_with e outcome } → LaysFront n mid now → Commits outcome n e now
-commits_by e mid now outcome n is h =
-    let lays : LaysFront n (record e { window = window_with e outcome }) now = subst (λ (v : EngineView). LaysFront n v now) is h in
+-- what a front changes of an engine
+front_others : (e now : EngineView) (front : Front) → HasFront e now front → now ≡ record e { outputs = now.outputs; laid = now.laid; window = now.window; idle = now.idle; closed = now.closed; fault = now.fault }
+front_others e now front h =
+    h.others ∙ (λ i. record e {
+      outputs = now.outputs;
+      laid = sym (ap (λ (v : EngineView). v.laid) h.others) i;
+      window = sym (ap (λ (v : EngineView). v.window) h.others) i;
+      idle = sym (ap (λ (v : EngineView). v.idle) h.others) i;
+      closed = sym (ap (λ (v : EngineView). v.closed) h.others) i;
+      fault = sym (ap (λ (v : EngineView). v.fault) h.others) i;
+    })
+
+pub commits_by : (e mid now : EngineView) (outcome : OutcomeView) (n : ℕ) → mid ≡ record e { window = window_with e outcome } → SomeJobHasEngine e → LaysFront n mid now → Commits outcome n e now
+commits_by e mid now outcome n is some h =
+    let middle : EngineView = record e { window = window_with e outcome } in
+    let lays : LaysFront n middle now = subst (λ (v : EngineView). LaysFront n v now) is h in
+    let has = (whole_by some.job some.number e (window_with e outcome) some.lawful).1 in
+    let come = lays.front has.whole has.stand in
     record {
       counted = lays.counted;
+      given_up = come.given_up;
+      others = front_others middle now (front_laid e.offset (window_with e outcome) (front_of middle (window_with e outcome) has.whole)) come;
       front = λ whole stand. (let f = lays.front whole stand in record { outputs = f.outputs; given_up = f.given_up; others = f.others });
     }
 

@@ -15,7 +15,7 @@ use Rattle.mg_calc.specs.Answer.{Answer}
 use Rattle.mg_calc.specs.Law.{opening}
 use Rattle.mg_calc.specs.Laying.{after, laid_behind}
 use Rattle.mg_calc.specs.Outcome.{after_laying, after_call}
-use Rattle.mg_calc.specs.Told.{CalculatorTold}
+use Rattle.mg_route.specs.HolderView.{HolderView}
 use Rattle.mg_node.specs.Views.{BenchView, EntryView, EngineView}
 use Rattle.mg_node.specs.Lawful.{StandForAll, HasAnswered}
 use Rattle.mg_node.specs.Commits.{laid_by, outputs_by, failure_by, fault_at}
@@ -26,7 +26,7 @@ use Rattle.mg_node.specs.Code.FrontLaying.{counted_in, HasWhole, LaysFront}
 
 -- The calculator is opened.
 
-pub opened_so : (e view : EngineView) (node : PlanNode) (number : ℕ) (told : CalculatorTold) (sides : List (Option Plain)) (answer : Result (List Laid) Cause) (bench bench_now : BenchView) (idle : List BenchView) → e ≡ fresh_engine node number told
+pub opened_so : (e view : EngineView) (node : PlanNode) (number : ℕ) (told : HolderView) (sides : List (Option Plain)) (answer : Result (List Laid) Cause) (bench bench_now : BenchView) (idle : List BenchView) → e ≡ fresh_engine node number told
     → e.idle ≡ idle ++ bench ∷ [] → bench_now.set ≡ bench.set → IsOpened bench.told bench_now.told sides answer → view ≡ record e { window = e.window ++ opened_entry e.node bench_now answer ∷ []; idle = idle } → HasOpened node number told sides view
 opened_so e view node number told sides answer bench bench_now idle is idle_is set opened view_is =
     let cut = same_from_push idle (replicate (node.in_flight - 1) (bench_of node (own_told node))) bench (bench_of node told) (sym idle_is ∙ ap (λ (v : EngineView). v.idle) is) in
@@ -39,11 +39,11 @@ opened_so e view node number told sides answer bench bench_now idle is idle_is s
     }
 
 -- One whose window is empty wasn't opened, and has a calculator.
-pub fresh_empty : (node : PlanNode) (number : ℕ) (told : CalculatorTold) (sides : List (Option Plain)) (view : EngineView) → IsUnbegun node number told sides view → view.window ≡ [] → view ≡ fresh_engine node number told
+pub fresh_empty : (node : PlanNode) (number : ℕ) (told : HolderView) (sides : List (Option Plain)) (view : EngineView) → IsUnbegun node number told sides view → view.window ≡ [] → view ≡ fresh_engine node number told
 fresh_empty node number told sides view (inl fresh) none = fresh
 fresh_empty node number told sides view (inr opened) none = absurd (let e = sym none ∙ ap (λ (v : EngineView). v.window) opened.is in cc)
 
-pub opened_some : (node : PlanNode) (number : ℕ) (told : CalculatorTold) (sides : List (Option Plain)) (view : EngineView) → IsUnbegun node number told sides view → 0 < length view.window → HasOpened node number told sides view
+pub opened_some : (node : PlanNode) (number : ℕ) (told : HolderView) (sides : List (Option Plain)) (view : EngineView) → IsUnbegun node number told sides view → 0 < length view.window → HasOpened node number told sides view
 opened_some node number told sides view (inl fresh) some = absurd (let none = ap (λ (v : EngineView). length v.window) fresh in omega (arith, some, none))
 opened_some node number told sides view (inr opened) some = opened
 
@@ -59,10 +59,10 @@ fresh_stand : (k : ℕ) → StandForAll (replicate k empty_backlog) (replicate k
 fresh_stand zero = tt
 fresh_stand (suc k) = (record { prefix = empty_is_prefix; gone = omega arith; waiting = refl; bound = refl }, fresh_stand k)
 
-pub opened_whole : (node : PlanNode) (number : ℕ) (told : CalculatorTold) (sides : List (Option Plain)) (view : EngineView) → HasOpened node number told sides view → HasWhole view
+pub opened_whole : (node : PlanNode) (number : ℕ) (told : HolderView) (sides : List (Option Plain)) (view : EngineView) → HasOpened node number told sides view → HasWhole view
 opened_whole node number told sides view h = subst HasWhole (sym h.is) (record { whole = replicate (length node.outputs) empty_prefix; stand = fresh_stand (length node.outputs); own = tt })
 
-pub opened_few : (node : PlanNode) (number : ℕ) (told : CalculatorTold) (sides : List (Option Plain)) (view : EngineView) → HasOpened node number told sides view → view.laid + counted_in view.window < 2 ^ 64
+pub opened_few : (node : PlanNode) (number : ℕ) (told : HolderView) (sides : List (Option Plain)) (view : EngineView) → HasOpened node number told sides view → view.laid + counted_in view.window < 2 ^ 64
 opened_few node number told sides view h = (let none : view.laid + counted_in view.window ≡ 0 = ap (λ (v : EngineView). v.laid + counted_in v.window) h.is in omega (arith, none))
 
 -- It is laid.
@@ -95,7 +95,7 @@ kept_all (b ∷ bs) (s ∷ ss) (suc k) z none =
     let others : map (λ b. b.gone) bs ≡ map (λ b. b.gone) (replicate k (empty_backlog {X = Plain})) = cc in
     λ i. kept_one b s z.0 first i ∷ kept_all bs ss k z.1 others i
 
-pub begun_so : (node : PlanNode) (number : ℕ) (told : CalculatorTold) (sides : List (Option Plain)) (before mid now : EngineView) (n : ℕ) → IsNew node told → HasOpened node number told sides before → LaysFront n before mid → now ≡ record mid { begun = true }
+pub begun_so : (node : PlanNode) (number : ℕ) (told : HolderView) (sides : List (Option Plain)) (before mid now : EngineView) (n : ℕ) → IsNew node told → HasOpened node number told sides before → LaysFront n before mid → now ≡ record mid { begun = true }
     → HasBegun node number told sides now
 begun_so node number told sides before mid now n new h lays is =
     let k = length node.outputs in
@@ -111,6 +111,7 @@ begun_so node number told sides before mid now n new h lays is =
       log = h.opened.log;
       law = h.opened.law;
       shape = h.opened.shape;
+      same_handed = h.opened.same_handed;
       is = is
           ∙ (λ i. record (front.others i) { begun = true })
           ∙ (λ i. record (fresh_engine node number told) { outputs = outputs i; idle = own_benches node ++ bench_of node h.now ∷ []; begun = true; fault = option_map (fault_at number) (o.2 i) });

@@ -5,7 +5,8 @@ use Rattle.std.proofs.lemmas.List.Elements.{All-head}
 use Rattle.mg_time.specs.Time.{IsAllowed, next, pre_stream}
 use Rattle.mg_value.specs.Payload.{Plain}
 use Rattle.mg_value.specs.Prefix.{Stamped, StreamPrefix, IsPrefix, Ascends, first_time, empty_prefix}
-use Rattle.mg_stream.specs.Queue.{Waiting, StandsFor, count_of, IsLike, empty_queue, with_packet, popped, popped_at}
+use Rattle.mg_value.proofs.Lemmas.{appended_extends}
+use Rattle.mg_stream.specs.Queue.{Waiting, StandsFor, MayCome, count_of, IsLike, empty_queue, with_packet, popped, popped_at}
 use Rattle.mg_stream.specs.Pool.{Backlog, backlog_of, queue_of}
 use Rattle.mg_calc.specs.declared.plan.Plan.{Plan}
 use Rattle.mg_calc.specs.Plan.{IsValid}
@@ -27,18 +28,36 @@ pub record IsFilled (start q : Waiting Plain) (ps : List (Stamped Plain)) (i : �
   pub gone : q.gone ≡ start.gone
   pub packets : q.packets ≡ start.packets ++ take i ps
   pub bound : (b : ℕ) → Ascends ps b → start.bound ≤ first_time ps b → q.bound ≤ first_time (drop i ps) b
+  pub above : (b : ℕ) → start.bound ≤ b → start.bound ≤ first_time (take i ps) b
+  pub grows : start.bound ≤ q.bound
+
+-- the first time of some packets with one behind
+first_behind : (ps : List (Stamped Plain)) (p : Stamped Plain) (a b : ℕ) → a ≤ p.at → (a ≤ b → a ≤ first_time ps b) → a ≤ b → a ≤ first_time (ps ++ p ∷ []) b
+first_behind [] p a b here above le = here
+first_behind (x ∷ ps) p a b here above le = above le
 
 pub filled_none : (q : Waiting Plain) (ps : List (Stamped Plain)) → IsFilled q q ps 0
-filled_none q ps = record { gone = refl; packets = sym (append-nil q.packets); bound = (λ b asc le. le) }
+filled_none q ps = record { gone = refl; packets = sym (append-nil q.packets); bound = (λ b asc le. le); above = (λ b le. le); grows = omega arith }
 
-pub filled_more : (start q r : Waiting Plain) (ps : List (Stamped Plain)) (i : ℕ) (p x : Stamped Plain) → IsFilled start q ps i → i < length ps → p ≡ get_or ps i p → x ≡ p → IsLike r (with_packet q x) → IsFilled start r ps (i + 1)
-filled_more start q r ps i p x f there is same like = record {
+pub filled_more : (start q r : Waiting Plain) (ps : List (Stamped Plain)) (i : ℕ) (p x : Stamped Plain) → IsFilled start q ps i → i < length ps → p ≡ get_or ps i p → x ≡ p → IsLike r (with_packet q x) → MayCome q x.at → IsFilled start r ps (i + 1)
+filled_more start q r ps i p x f there is same like may = record {
   gone = like.gone ∙ f.gone;
   packets = like.packets ∙ ap (λ (qs : List (Stamped Plain)). qs ++ x ∷ []) f.packets ∙ append_assoc start.packets (take i ps) (x ∷ [])
       ∙ ap (λ (qs : List (Stamped Plain)). start.packets ++ qs) (ap (λ (y : Stamped Plain). take i ps ++ y ∷ []) (same ∙ is) ∙ sym (take_more ps i p there));
   bound = (λ b asc le. subst (λ (n : ℕ). r.bound ≤ first_time (drop n ps) b) (sym (add-one i))
       (subst (λ (n : ℕ). n ≤ first_time (drop (suc i) ps) b) (sym (like.bound ∙ ap (λ (y : Stamped Plain). next y.at) same)) (next_ascends ps b i p asc there (sym is))));
+  above = (λ b le. subst (λ (qs : List (Stamped Plain)). start.bound ≤ first_time qs b)
+      (sym (take_more ps i p there ∙ ap (λ (y : Stamped Plain). take i ps ++ y ∷ []) (sym is)))
+      (first_behind (take i ps) p start.bound b (let grows = f.grows in let higher = may.above in let at = ap (λ (y : Stamped Plain). y.at) same in omega (arith, grows, higher, at)) (f.above b) le));
+  grows = (let grows = f.grows in
+      let bare : StreamPrefix Plain = record { packets = []; bound = q.bound } in
+      let up : q.bound ≤ next x.at = (appended_extends bare x (record { allowed = may.allowed; above = may.above; alone = (λ e. refl) })).bound in
+      let now = like.bound in
+      omega (arith, grows, up, now));
 }
+
+pub filled_above : (start q : Waiting Plain) (ps : List (Stamped Plain)) (i : ℕ) → IsFilled start q ps i → length ps ≤ i → (b : ℕ) → start.bound ≤ b → start.bound ≤ first_time ps b
+filled_above start q ps i f end b le = subst (λ (qs : List (Stamped Plain)). start.bound ≤ first_time qs b) (take_all i ps end) (f.above b le)
 
 pub filled_all : (start q : Waiting Plain) (ps : List (Stamped Plain)) (i : ℕ) → IsFilled start q ps i → length ps ≤ i → (q.packets ≡ start.packets ++ ps) × ((b : ℕ) → Ascends ps b → start.bound ≤ first_time ps b → q.bound ≤ b)
 filled_all start q ps i f end = (
@@ -55,7 +74,7 @@ begins s is = by_packets s.packets is.allowed
     by_packets (p ∷ ps) a = (let here : IsAllowed p.at = All-head (λ (q : Stamped Plain). IsAllowed q.at) p ps a in here.0)
 
 -- a filled queue has all of a prefix
-same_backlog : (a b : Backlog Plain) → a.gone ≡ b.gone → a.packets ≡ b.packets → a.bound ≡ b.bound → a ≡ b
+pub same_backlog : (a b : Backlog Plain) → a.gone ≡ b.gone → a.packets ≡ b.packets → a.bound ≡ b.bound → a ≡ b
 same_backlog a b gone packets bound = λ i. record { gone = gone i; packets = packets i; bound = bound i }
 
 pub filled : (s : StreamPrefix Plain) (fresh q r : Waiting Plain) → IsPrefix s → IsLike fresh empty_queue → q.gone ≡ fresh.gone → q.packets ≡ fresh.packets ++ s.packets

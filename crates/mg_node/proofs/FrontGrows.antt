@@ -13,14 +13,14 @@ use Rattle.mg_calc.specs.declared.node_fault.Phase.{Phase}
 use Rattle.mg_calc.specs.declared.node_fault.Phase.TheVariants.{Open, Call, Process, Close}
 use Rattle.mg_calc.specs.declared.plan_node.PlanNode.{PlanNode}
 use Rattle.mg_calc.specs.Laying.{after, laid_behind}
-use Rattle.mg_calc.specs.Told.{CalculatorTold}
+use Rattle.mg_route.specs.HolderView.{HolderView}
 use Rattle.mg_calc.proofs.LaidBehind.{raise_extends, emission_extends}
 use Rattle.mg_node.specs.Views.{PerformedView, OutcomeView, EntryView, EngineView}
 use Rattle.mg_node.specs.Lawful.{StandForAll}
-use Rattle.mg_node.specs.Claims.{has_ended}
+use Rattle.mg_node.specs.Windows.{has_ended, ready_of}
 use Rattle.mg_node.specs.Fresh.{bench_of, fresh_engine}
 use Rattle.mg_node.specs.Begun.{opened_entry, own_benches, HasOpened, IsUnbegun}
-use Rattle.mg_node.specs.Commits.{raised_before, closed_after, laid_by, outputs_by, Front, answer_laid, has_stopped, ready_of, with_ready, front_laid, front_of, fault_at, HasFront, window_with, Commits, SomeJobHasEngine}
+use Rattle.mg_node.specs.Commits.{raised_before, closed_after, laid_by, outputs_by, Front, answer_laid, has_stopped, with_ready, front_laid, front_of, fault_at, HasFront, window_with, Commits, SomeJobHasEngine}
 use Rattle.mg_node.specs.Code.FrontLaying.{LaysFront}
 use Rattle.mg_node.specs.IntakeStanding.{HasGrown}
 use Rattle.mg_node.specs.Standing.{EngineGrows}
@@ -147,7 +147,7 @@ commit_grows outcome (Ok n) before now some c same =
 commit_grows outcome (Err e) before now some c same = engine_same before now same
 
 -- an engine that is begun: it is opened, and what that emits is laid
-pub opening_grows : (node : PlanNode) (number : ℕ) (told : CalculatorTold) (sides : List (Option Plain)) (before mid : EngineView) → IsUnbegun node number told sides before → HasOpened node number told sides mid → EngineGrows before mid
+pub opening_grows : (node : PlanNode) (number : ℕ) (told : HolderView) (sides : List (Option Plain)) (before mid : EngineView) → IsUnbegun node number told sides before → HasOpened node number told sides mid → EngineGrows before mid
 opening_grows node number told sides before mid (inl is) m =
     let fresh = fresh_engine node number told in
     subst (λ (v : EngineView). EngineGrows v mid) (sym is)
@@ -157,7 +157,7 @@ opening_grows node number told sides before mid (inr h) m =
     subst (λ (v : EngineView). EngineGrows v mid) (sym h.is)
     (subst (λ (v : EngineView). EngineGrows opened v) (sym m.is) (window_grows opened (opened_entry number (bench_of node m.now) m.answer ∷ []) (own_benches node)))
 
-pub begin_grows : (node : PlanNode) (number : ℕ) (told : CalculatorTold) (sides : List (Option Plain)) (before mid laid now : EngineView) (n : ℕ) → IsUnbegun node number told sides before → HasOpened node number told sides mid → LaysFront n mid laid → now ≡ with_begun laid
+pub begin_grows : (node : PlanNode) (number : ℕ) (told : HolderView) (sides : List (Option Plain)) (before mid laid now : EngineView) (n : ℕ) → IsUnbegun node number told sides before → HasOpened node number told sides mid → LaysFront n mid laid → now ≡ with_begun laid
     → EngineGrows before now
 begin_grows node number told sides before mid laid now n un m lays is =
     let w = opened_whole node number told sides mid m in

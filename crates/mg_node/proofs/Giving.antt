@@ -50,6 +50,7 @@ given_node job number engine output got there le h = record {
   entries = h.entries;
   idle = h.idle;
   benches = h.benches;
+  waits = h.waits;
 }
 
 given_input : (job : LoggedJob) (number : ℕ) (engine : EngineView) (output got : ℕ) → output < length engine.outputs → got ≤ count_at engine output → IsInputOf job number engine → IsInputOf job number (given engine output got)

@@ -12,6 +12,7 @@ use Rattle.mg_node.specs.Views.{BenchView, EntryView, EngineView}
 use Rattle.mg_node.specs.Job.{LoggedJob, IsTask, IsLast, count_of_all, stage, log_after, calls_before}
 use Rattle.mg_node.specs.Lawful.{is_close, IsIdle, IsEntry, come_to, calls_by, IsEngineOf, LawfulWork}
 use Rattle.mg_node.proofs.Delivering.{last_have}
+use Rattle.mg_node.proofs.FrontWaits.{snoc_waits}
 use Rattle.mg_node.proofs.Stateless.{stage_empty, KeepsNothing, several_keep_nothing}
 
 -- a further entry
@@ -40,7 +41,7 @@ close_is (SourceCall number) e = absurd cc
 close_is (Process at) e = absurd cc
 close_is Close e = refl
 
-none_number : {X : Type 0} (p : X → Bool) (xs : List X) → ((i : ℕ) (x : X) → slice_get xs i ≡ Some x → p x ≡ true → ⊥) → number_of p xs ≡ 0
+pub none_number : {X : Type 0} (p : X → Bool) (xs : List X) → ((i : ℕ) (x : X) → slice_get xs i ≡ Some x → p x ≡ true → ⊥) → number_of p xs ≡ 0
 none_number p [] h = refl
 none_number {X} p (x ∷ xs) h =
     let rest : number_of p xs ≡ 0 = none_number p xs (λ i y at. h (suc i) y at) in
@@ -109,6 +110,7 @@ handed_engine job number engine phase more bench idle set h idle_is task none on
       ]);
       idle = All-from_recursion P idle (first_have P idle (bench ∷ []) all_idle);
       benches = omega (arith, benches, ap length idle_is, length-append idle (bench ∷ []), length-append engine.window (e ∷ []));
+      waits = (λ goes. snoc_waits engine.window e refl (h.waits goes));
     }
 
 -- the work: its calculator keeps what all that is claimed gives

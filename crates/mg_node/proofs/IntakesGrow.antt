@@ -112,7 +112,7 @@ taking_grows view now some grow = taking_grows_for some.job some.consumer view n
 -- Answers.
 
 -- what is at or below a time, and what is above, is all
-all_counted : (t : ℕ) (ps : List (Stamped Plain)) → length (filter (λ p. leb p.at t) ps) + length (filter (λ p. ltb t p.at) ps) ≡ length ps
+pub all_counted : (t : ℕ) (ps : List (Stamped Plain)) → length (filter (λ p. leb p.at t) ps) + length (filter (λ p. ltb t p.at) ps) ≡ length ps
 all_counted t ps = length-filter_both (λ (p : Stamped Plain). leb p.at t) (λ (p : Stamped Plain). ltb t p.at) (λ p. other p.at) ps
   where
     other : (n : ℕ) → ltb t n ≡ not (leb n t)
@@ -130,7 +130,7 @@ popped_grown q p first = record { count = by_first q.packets first; bound = omeg
     by_first (x ∷ ps) e = omega arith
 
 -- an answer is to the first packet of MAIN
-some_first : (held : Held Plain) (r : Reply Plain) → next_reply held ≡ Some r → (p : Stamped Plain) × (slice_get held.main.packets 0 ≡ Some p)
+pub some_first : (held : Held Plain) (r : Reply Plain) → next_reply held ≡ Some r → (p : Stamped Plain) × (slice_get held.main.packets 0 ≡ Some p)
 some_first held r next = by_test (is_settled held) (slice_get held.main.packets 0) next
   where
     by_test : (settled : Bool) (first : Option (Stamped Plain)) → (if settled then option_map (λ p. (let a : Reply Plain = record { at = p.at; value = value_at held.previous held.loop.packets } in a)) first else None) ≡ Some r → (p : Stamped Plain) × (first ≡ Some p)

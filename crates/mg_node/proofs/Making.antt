@@ -4,7 +4,7 @@ use Rattle.mg_value.specs.Payload.{Plain}
 use Rattle.mg_value.specs.Prefix.{Stamped}
 use Rattle.mg_stream.specs.Pool.{Backlog, empty_backlog}
 use Rattle.mg_calc.specs.declared.plan_node.PlanNode.{PlanNode}
-use Rattle.mg_calc.specs.Told.{CalculatorTold}
+use Rattle.mg_route.specs.HolderView.{HolderView}
 use Rattle.mg_calc.proofs.Earlier.{get_or_some}
 use Rattle.mg_node.specs.declared.role.Role.{Role}
 use Rattle.mg_node.specs.Views.{BenchView, EntryView, EngineView}
@@ -40,7 +40,7 @@ engine_of node number role first inputs outputs window idle = record {
 }
 
 -- the benches: those of the node's own calculators, and the one of what is handed in
-pub benches_made : (node : PlanNode) (told : CalculatorTold) (count : ℕ) (own idle : List BenchView) (bench : BenchView) (set : List (Option (Stamped Plain))) (ports : ℕ) → count ≡ node.in_flight - 1
+pub benches_made : (node : PlanNode) (told : HolderView) (count : ℕ) (own idle : List BenchView) (bench : BenchView) (set : List (Option (Stamped Plain))) (ports : ℕ) → count ≡ node.in_flight - 1
     → own ≡ replicate count (bench_of node (own_told node)) → set ≡ replicate ports None → ports ≡ length node.inputs → bench ≡ record { told = told; set = set } → idle ≡ own ++ bench ∷ [] → idle ≡ benches_of node told
 benches_made node told count own idle bench set ports counted own_is set_is ports_is bench_is idle_is =
     let nothing : Option (Stamped Plain) = None in
@@ -48,7 +48,7 @@ benches_made node told count own idle bench set ports counted own_is set_is port
     idle_is ∙ ap (λ (bs : List BenchView). bs ++ bench ∷ []) (own_is ∙ ap (λ (n : ℕ). replicate n (bench_of node (own_told node))) counted)
     ∙ ap (λ (b : BenchView). replicate (node.in_flight - 1) (bench_of node (own_told node)) ++ b ∷ []) whole
 
-pub engine_made : (node planned : PlanNode) (number : ℕ) (told : CalculatorTold) (role : Role) (first inputs outs : ℕ) (outputs : List (Backlog Plain)) (window : List EntryView) (idle : List BenchView) → node ≡ planned
+pub engine_made : (node planned : PlanNode) (number : ℕ) (told : HolderView) (role : Role) (first inputs outs : ℕ) (outputs : List (Backlog Plain)) (window : List EntryView) (idle : List BenchView) → node ≡ planned
     → role ≡ role_of node.law → first ≡ get_or node.outputs 0 0 → inputs ≡ length node.inputs → outs ≡ length node.outputs → outputs ≡ replicate outs empty_backlog → window ≡ [] → idle ≡ benches_of node told
     → engine_of node number role first inputs outputs window idle ≡ fresh_engine planned number told
 engine_made node planned number told role first inputs outs outputs window idle same role_is first_is inputs_is outs_is outputs_is window_is idle_is =
@@ -57,6 +57,6 @@ engine_made node planned number told role first inputs outs outputs window idle 
     made ∙ ap (λ (n : PlanNode). fresh_engine n number told) same
 
 -- it is one that isn't begun, for each job that has its calculator
-pub fresh_unbegun : (job : LoggedJob) (number : ℕ) (node : PlanNode) (told : CalculatorTold) (view : EngineView) → IsHanded job number node told → view ≡ fresh_engine node number told → LawfulUnbegun job number view
+pub fresh_unbegun : (job : LoggedJob) (number : ℕ) (node : PlanNode) (told : HolderView) (view : EngineView) → IsHanded job number node told → view ≡ fresh_engine node number told → LawfulUnbegun job number view
 unfolding LawfulUnbegun
 fresh_unbegun job number node told view handed is = record { node = node; told = told; handed = handed; unbegun = inl is }

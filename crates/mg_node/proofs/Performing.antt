@@ -79,6 +79,7 @@ performed_well work now e may h same = record {
   log = logged_well e work.bench now.bench.told.log work.phase may h.log;
   law = h.law;
   shape = h.shape;
+  same_handed = h.same_handed;
   set = h.set;
 }
 
@@ -89,16 +90,17 @@ performed_fault work now cause may h same = record {
   log = logged_fault cause work.bench now.bench.told.log work.phase may h.log;
   law = h.law;
   shape = h.shape;
+  same_handed = h.same_handed;
   set = h.set;
 }
 
 -- and after want of memory it is as it was
-same_bench : (a b : BenchView) → a.told.law ≡ b.told.law → a.told.shape ≡ b.told.shape → a.told.state ≡ b.told.state → a.told.log ≡ b.told.log → a.set ≡ b.set → a ≡ b
-same_bench a b law shape state log set = λ i. record { told = record { law = law i; shape = shape i; state = state i; log = log i }; set = set i }
+same_bench : (a b : BenchView) → a.told.law ≡ b.told.law → a.told.shape ≡ b.told.shape → a.told.state ≡ b.told.state → a.told.log ≡ b.told.log → a.told.handed ≡ b.told.handed → a.set ≡ b.set → a ≡ b
+same_bench a b law shape state log handed set = λ i. record { told = record { law = law i; shape = shape i; state = state i; log = log i; handed = handed i }; set = set i }
 
 pub unchanged : (work now : WorkView) → MayRun work.phase work.bench → HasRun (Err OutOfMemory) work.phase work.bench now.bench → now ≡ record work { bench = now.bench } → now ≡ work
 unchanged work now may h same =
-    let bench : now.bench ≡ work.bench = same_bench now.bench work.bench h.law h.shape h.kept (logged_none work.bench now.bench.told.log work.phase may h.log) h.set in
+    let bench : now.bench ≡ work.bench = same_bench now.bench work.bench h.law h.shape h.kept (logged_none work.bench now.bench.told.log work.phase may h.log) h.same_handed h.set in
     same ∙ ap (λ (b : BenchView). (let w : WorkView = record work { bench = b } in w)) bench
 
 -- Lawful.
@@ -119,7 +121,7 @@ performed_at job work bench answer w p = record {
   solves = w.solves;
   node = w.node;
   there = w.there;
-  fits = record { same_law = p.law ∙ w.fits.same_law; same_shape = p.shape ∙ w.fits.same_shape };
+  fits = record { same_law = p.law ∙ w.fits.same_law; same_shape = p.shape ∙ w.fits.same_shape; same_handed = p.same_handed ∙ w.fits.same_handed };
   places = ap length p.set ∙ w.places;
   task = subst (λ (set : List (Option (Stamped Plain))). IsTask job.job w.streams w.node work.number work.phase set) (sym p.set) w.task;
   at_work = (

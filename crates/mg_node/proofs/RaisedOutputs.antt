@@ -92,4 +92,5 @@ raised_engine job number engine b h may = record {
   entries = h.entries;
   idle = h.idle;
   benches = h.benches;
+  waits = h.waits;
 }

@@ -5,7 +5,7 @@ use Rattle.mg_node.specs.Views.{OutcomeView, EntryView, EngineView}
 use Rattle.mg_node.specs.Claims.{is_unrun, first_unrun}
 use Rattle.mg_node.specs.Shelves.{IsOut, back, shelved, shelf_of, shelf_at, performed_of}
 
-get_set : {X : Type 0} (xs : List X) (i : ℕ) (x y : X) → slice_get xs i ≡ Some x → slice_get (set xs i y) i ≡ Some y
+pub get_set : {X : Type 0} (xs : List X) (i : ℕ) (x y : X) → slice_get xs i ≡ Some x → slice_get (set xs i y) i ≡ Some y
 get_set [] i x y h = absurd cc
 get_set (z ∷ xs) zero x y h = refl
 get_set (z ∷ xs) (suc i) x y h = get_set xs i x y h

@@ -104,7 +104,7 @@ stage_empty job streams number node n solves there stateless =
     ap (λ (o : Outcome). o.state) (stage_sets node.law job.job streams node n is)
     ∙ all_empty node.law node.shape is shape node.shape.offset begun (take n (sets_of streams node)) (all_of_first (λ (e : TimedSet Plain). FitsInputs node.shape e.set) n (sets_of streams node) fits) first
 
--- Several works are in flight only where a node's calculators keep nothing and have no logs.
+-- Several works are in flight only where a node's calculators keep nothing, have no logs, and weren't handed in.
 no_box : (o : Option ℕ) → (IsSome o → ⊥) → o ≡ None
 no_box None never = refl
 no_box (Some n) never = absurd (never (search rules))
@@ -116,6 +116,7 @@ stateless_by false never = absurd (never refl)
 pub record KeepsNothing (job : LoggedJob) (node : PlanNode) : Type 0 where
   pub stateless : node.shape.stateless ≡ true
   pub unlogged : first_log job node ≡ None
+  pub unboxed : node.box_number ≡ None
 
 pub several_keep_nothing : (job : LoggedJob) (number : ℕ) (node : PlanNode) → IsJob job.job → slice_get job.job.plan.nodes number ≡ Some node → 1 < node.in_flight → KeepsNothing job node
 several_keep_nothing job number node is_job there several =
@@ -124,4 +125,5 @@ several_keep_nothing job number node is_job there several =
     record {
       stateless = stateless_by node.shape.stateless (λ e. (let one = flight.stateful e in omega (arith, one, several)));
       unlogged = rw box refl;
+      unboxed = box;
     }

@@ -8,8 +8,8 @@ use Rattle.mg_calc.specs.declared.emission.Laid.{Laid}
 use Rattle.mg_calc.specs.declared.node_fault.Phase.{Phase}
 use Rattle.mg_calc.specs.declared.plan_node.PlanNode.{PlanNode}
 use Rattle.mg_calc.specs.Outcome.{Failure, Outcome}
-use Rattle.mg_calc.specs.Plan.{FitsNode}
 use Rattle.mg_calc.specs.Meaning.{count_of}
+use Rattle.mg_route.specs.HolderView.{FitsHolder}
 use Rattle.mg_calc.proofs.Solutions.{one_solution}
 use Rattle.mg_node.specs.Views.{BenchView, PerformedView}
 use Rattle.mg_node.specs.Job.{LoggedJob, Solves, streams_at, stage, IsLast, IsTask, log_after, calls_before, calls_in}
@@ -23,7 +23,7 @@ behind_work job streams node n phase = come_to job streams node (n + counted pha
 
 -- a node's work of a number was performed, with an answer, at a bench
 pub record IsDone (job : LoggedJob) (streams : List (StreamPrefix Plain)) (node : PlanNode) (n : ℕ) (phase : Phase) (bench : BenchView) (answer : Result (List Laid) Cause) : Type 0 where
-  pub fits : FitsNode node bench.told.law bench.told.shape
+  pub fits : FitsHolder node bench.told
   pub places : length bench.set ≡ length node.inputs
   pub task : IsTask job.job streams node n phase bench.set
   pub answered : HasAnswered answer (stage job.job streams node n).state bench.told.state (answer_in node.law (stage job.job streams node n).state phase bench.set)

@@ -18,7 +18,7 @@ use Rattle.mg_calc.specs.declared.plan_node.PlanNode.{PlanNode}
 use Rattle.mg_calc.specs.declared.plan_stream.Producer.TheVariants.{Input, Node}
 use Rattle.mg_calc.specs.Equations.{round, next_round}
 use Rattle.mg_calc.specs.Shape.{untagged}
-use Rattle.mg_calc.specs.Told.{CalculatorTold}
+use Rattle.mg_route.specs.HolderView.{HolderView}
 use Rattle.mg_node.specs.declared.role.Role.TheVariants.{Sets as SetsRole}
 use Rattle.mg_node.specs.declared.waits.Waits.TheVariants.{Sets}
 use Rattle.mg_node.specs.Views.{IntakeView, BenchView, WorkView, EntryView, EngineView}
@@ -110,8 +110,8 @@ gone_one = record {
     each (suc i) le = absurd (omega (arith, le))
 
 -- the calculator, and the bench with the set
-abbrev told : CalculatorTold
-told = record { law = Pass; shape = node.shape; state = []; log = None }
+abbrev told : HolderView
+told = record { law = Pass; shape = node.shape; state = []; log = None; handed = false }
 
 abbrev bench : BenchView
 bench = record { told = told; set = Some seven ∷ [] }
@@ -196,11 +196,11 @@ module _ (solves : Solves job streams) where
 
   work_lawful : LawfulWork job work
   unfolding LawfulWork
-  work_lawful = record { streams = streams; solves = solves; node = node; there = refl; fits = record { same_law = refl; same_shape = refl }; places = refl; task = (tt, refl); at_work = (refl, refl) }
+  work_lawful = record { streams = streams; solves = solves; node = node; there = refl; fits = record { same_law = refl; same_shape = refl; same_handed = refl }; places = refl; task = (tt, refl); at_work = (refl, refl) }
 
   performed_lawful : LawfulPerformed job (record { work = work; answer = Ok emission })
   unfolding LawfulPerformed
-  performed_lawful = record { streams = streams; solves = solves; node = node; there = refl; fits = record { same_law = refl; same_shape = refl }; places = refl; task = (tt, refl); at_work = (refl, refl) }
+  performed_lawful = record { streams = streams; solves = solves; node = node; there = refl; fits = record { same_law = refl; same_shape = refl; same_handed = refl }; places = refl; task = (tt, refl); at_work = (refl, refl) }
 
   -- begun: nothing is laid, and the bench is idle
   begun_lawful : LawfulEngine job (of_node 0) (engine [] pre_stream 0 0 [] (bench ∷ []) false)
@@ -222,8 +222,9 @@ module _ (solves : Solves job streams) where
     fault = refl;
     order = refl;
     entries = (λ i entry h. absurd (cc));
-    idle = all (IsIdle job streams node 0 false) (bench ∷ []) (record { fits = record { same_law = refl; same_shape = refl }; places = refl; state = refl; log = refl }, tt);
+    idle = all (IsIdle job streams node 0 false) (bench ∷ []) (record { fits = record { same_law = refl; same_shape = refl; same_handed = refl }; places = refl; state = refl; log = refl }, tt);
     benches = refl;
+    waits = (λ goes. refl);
   }
 
   entry_at_five : (i : ℕ) (entry : EntryView) → slice_get (out_at_five ∷ []) i ≡ Some entry → IsEntry job streams node 0 (0 + i) 0 entry
@@ -258,6 +259,7 @@ module _ (solves : Solves job streams) where
     entries = entry_at_five;
     idle = All-nil (IsIdle job streams node 0 false);
     benches = refl;
+    waits = (λ goes. refl);
   }
 
   -- committed: 7 is laid at 5
@@ -280,8 +282,9 @@ module _ (solves : Solves job streams) where
     fault = refl;
     order = refl;
     entries = (λ i entry h. absurd (cc));
-    idle = all (IsIdle job streams node 1 false) (bench ∷ []) (record { fits = record { same_law = refl; same_shape = refl }; places = refl; state = refl; log = refl }, tt);
+    idle = all (IsIdle job streams node 1 false) (bench ∷ []) (record { fits = record { same_law = refl; same_shape = refl; same_handed = refl }; places = refl; state = refl; log = refl }, tt);
     benches = refl;
+    waits = (λ goes. refl);
   }
 
   entry_for_close : (i : ℕ) (entry : EntryView) → slice_get (out_for_close ∷ []) i ≡ Some entry → IsEntry job streams node 1 (1 + i) 0 entry
@@ -316,6 +319,7 @@ module _ (solves : Solves job streams) where
     entries = entry_for_close;
     idle = All-nil (IsIdle job streams node 1 false);
     benches = refl;
+    waits = (λ goes. refl);
   }
 
   -- Close is laid: the output is the solution's stream
@@ -338,6 +342,7 @@ module _ (solves : Solves job streams) where
     fault = refl;
     order = refl;
     entries = (λ i entry h. absurd (cc));
-    idle = all (IsIdle job streams node 1 true) (bench ∷ []) (record { fits = record { same_law = refl; same_shape = refl }; places = refl; state = refl; log = refl }, tt);
+    idle = all (IsIdle job streams node 1 true) (bench ∷ []) (record { fits = record { same_law = refl; same_shape = refl; same_handed = refl }; places = refl; state = refl; log = refl }, tt);
     benches = refl;
+    waits = (λ goes. refl);
   }

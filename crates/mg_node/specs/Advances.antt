@@ -10,7 +10,7 @@ use Rattle.mg_node.specs.declared.role.Role.TheVariants.{Loop}
 use Rattle.mg_node.specs.declared.waits.Waits.{Waits}
 use Rattle.mg_node.specs.Views.{EntryView, EngineView}
 use Rattle.mg_node.specs.Ports.{horizon_of}
-use Rattle.mg_node.specs.Claims.{has_ended}
+use Rattle.mg_node.specs.Windows.{has_ended}
 
 -- the lesser of a time and that of the first set which is claimed and not laid, where there is one; claimed sets are in order
 abbrev pub until_phase : Phase → ℕ → ℕ

@@ -11,7 +11,8 @@ use Rattle.mg_calc.specs.Equations.{sides_of}
 use Rattle.mg_calc.specs.Law.{opening}
 use Rattle.mg_calc.specs.Outcome.{Outcome, opened}
 use Rattle.mg_calc.specs.Plan.{FitsNode}
-use Rattle.mg_calc.specs.Told.{CalculatorTold, with_call}
+use Rattle.mg_calc.specs.Told.{with_call}
+use Rattle.mg_route.specs.HolderView.{HolderView, FitsHolder}
 use Rattle.mg_node.specs.Views.{BenchView, EntryView, EngineView}
 use Rattle.mg_node.specs.Job.{LoggedJob, first_log}
 use Rattle.mg_node.specs.Lawful.{HasAnswered}
@@ -19,11 +20,12 @@ use Rattle.mg_node.specs.Outputs.{kept_whole}
 use Rattle.mg_node.specs.Fresh.{own_told, bench_of, fresh_engine}
 
 -- a calculator was opened with side packets: it has answered what its law gives, kept the new state, and has the call in its log
-pub record IsOpened (before now : CalculatorTold) (sides : List (Option Plain)) (answer : Result (List Laid) Cause) : Type 0 where
+pub record IsOpened (before now : HolderView) (sides : List (Option Plain)) (answer : Result (List Laid) Cause) : Type 0 where
   pub answered : HasAnswered answer before.state now.state (opening before.law sides)
   pub log : now.log ≡ with_call before.log Begun
   pub law : now.law ≡ before.law
   pub shape : now.shape ≡ before.shape
+  pub same_handed : now.handed ≡ before.handed
 
 -- the entry of what it answered
 abbrev pub opened_entry : ℕ → BenchView → Result (List Laid) Cause → EntryView
@@ -38,14 +40,14 @@ abbrev pub own_benches : PlanNode → List BenchView
 own_benches node = replicate (node.in_flight - 1) (bench_of node (own_told node))
 
 -- an engine whose calculator was opened, and what it emitted isn't laid
-pub record HasOpened (node : PlanNode) (number : ℕ) (told : CalculatorTold) (sides : List (Option Plain)) (view : EngineView) : Type 0 where
-  pub now : CalculatorTold
+pub record HasOpened (node : PlanNode) (number : ℕ) (told : HolderView) (sides : List (Option Plain)) (view : EngineView) : Type 0 where
+  pub now : HolderView
   pub answer : Result (List Laid) Cause
   pub opened : IsOpened told now sides answer
   pub is : view ≡ record (fresh_engine node number told) { window = opened_entry number (bench_of node now) answer ∷ []; idle = own_benches node }
 
 -- an engine that isn't begun
-abbrev pub IsUnbegun : PlanNode → ℕ → CalculatorTold → List (Option Plain) → EngineView → Type 0
+abbrev pub IsUnbegun : PlanNode → ℕ → HolderView → List (Option Plain) → EngineView → Type 0
 IsUnbegun node number told sides view = (view ≡ fresh_engine node number told) ⊎ HasOpened node number told sides view
 
 -- what a node has come to once it is opened
@@ -53,12 +55,13 @@ abbrev pub opened_node : PlanNode → List (Option Plain) → Outcome
 opened_node node sides = opened node.law node.shape.offset (length node.outputs) sides
 
 -- an engine that is begun: what Open emits is laid, or its fault is kept
-pub record HasBegun (node : PlanNode) (number : ℕ) (told : CalculatorTold) (sides : List (Option Plain)) (view : EngineView) : Type 0 where
-  pub now : CalculatorTold
+pub record HasBegun (node : PlanNode) (number : ℕ) (told : HolderView) (sides : List (Option Plain)) (view : EngineView) : Type 0 where
+  pub now : HolderView
   pub state : now.state ≡ (opened_node node sides).state
   pub log : now.log ≡ with_call told.log Begun
   pub law : now.law ≡ told.law
   pub shape : now.shape ≡ told.shape
+  pub same_handed : now.handed ≡ told.handed
   pub is : view ≡ record (fresh_engine node number told) {
     outputs = map kept_whole (opened_node node sides).outputs;
     idle = own_benches node ++ bench_of node now ∷ [];
@@ -67,16 +70,16 @@ pub record HasBegun (node : PlanNode) (number : ℕ) (told : CalculatorTold) (si
   }
 
 -- the calculator that a job has for a node, at its start: it fits the node, keeps nothing yet, and its log is the job's
-pub record IsHanded (job : LoggedJob) (number : ℕ) (node : PlanNode) (told : CalculatorTold) : Type 0 where
+pub record IsHanded (job : LoggedJob) (number : ℕ) (node : PlanNode) (told : HolderView) : Type 0 where
   pub there : slice_get job.job.plan.nodes number ≡ Some node
-  pub fits : FitsNode node told.law told.shape
+  pub fits : FitsHolder node told
   pub state : told.state ≡ []
   pub log : told.log ≡ first_log job node
 
 -- an engine of a node that isn't begun is lawful: it is that of what the job has for the node, and was opened with its side packets
 pub record IsUnbegunOf (job : LoggedJob) (number : ℕ) (view : EngineView) : Type 0 where
   pub node : PlanNode
-  pub told : CalculatorTold
+  pub told : HolderView
   pub handed : IsHanded job number node told
   pub unbegun : IsUnbegun node number told (sides_of job.job node) view
 
@@ -88,10 +91,10 @@ LawfulUnbegun job number view = IsUnbegunOf job number view
 pub record SomeUnbegun (sides : List (Option Plain)) (view : EngineView) : Type 0 where
   pub node : PlanNode
   pub number : ℕ
-  pub told : CalculatorTold
+  pub told : HolderView
   pub unbegun : IsUnbegun node number told sides view
 
 -- a calculator before it is opened: it has its node's law and shape, and keeps nothing
-pub record IsNew (node : PlanNode) (told : CalculatorTold) : Type 0 where
+pub record IsNew (node : PlanNode) (told : HolderView) : Type 0 where
   pub fits : FitsNode node told.law told.shape
   pub state : told.state ≡ []

@@ -1,11 +1,12 @@
 -- Claims: what an engine and its intake give next, and what that leaves. Each answer is given exactly where its case holds, and
 -- the cases leave no two answers but want of memory.
-use Rattle.std.specs.Prelude.{◌≡◌, ℕ, ◌+◌, ◌<◌, ◌≤◌, Bool, true, false, List, [], ◌∷◌, ◌++◌, length, slice_get, slice_set, Option, Some, None, IsSomeAnd, is_some, ◌||◌, ◌⊎◌, if◌then◌else◌, ⊤}
+use Rattle.std.specs.Prelude.{◌≡◌, ℕ, ◌+◌, ◌<◌, ◌≤◌, Bool, true, false, List, [], ◌∷◌, ◌++◌, length, slice_get, slice_set, Option, Some, None, IsSomeAnd, is_some, ◌⊎◌, if◌then◌else◌, ⊤}
 use Rattle.mg_time.specs.Time.{next as next_time}
 use Rattle.mg_value.specs.Payload.{Plain}
 use Rattle.mg_value.specs.Prefix.{Stamped, StreamPrefix}
 use Rattle.mg_value.specs.Loopback.{Reply, packet_of}
 use Rattle.mg_stream.specs.Pool.{Backlog}
+use Rattle.mg_stream.specs.Queue.{count_of}
 use Rattle.mg_loopback.specs.Loopback.{Held, next_reply, replied}
 use Rattle.mg_policy.specs.declared.readiness.Readiness.TheVariants.{Ready, Close as AtEnd, NotReady as NotYet}
 use Rattle.mg_calc.specs.declared.node_fault.Phase.{Phase}
@@ -17,15 +18,13 @@ use Rattle.mg_node.specs.declared.waits.Waits.TheVariants.{Loop as WaitsLoop}
 use Rattle.mg_node.specs.declared.claimed.Claimed.{Claimed}
 use Rattle.mg_node.specs.declared.claimed.Claimed.TheVariants.{Work, Answered, NotReady, InFlightFull, Draining, Ended, OutOfMemory}
 use Rattle.mg_node.specs.Views.{IntakeView, BenchView, WorkView, OutcomeView, EntryView, EngineView}
-use Rattle.mg_node.specs.Ports.{IsNext}
-use Rattle.mg_node.specs.Intakes.{next_set_of, HasSet}
+use Rattle.mg_node.specs.Ports.{ports_in, port_queue, IsNext}
+pub use Rattle.mg_node.specs.Windows.{has_ended}
+use Rattle.mg_node.specs.Intakes.{next_set_of, IsLeft, HasSet}
 use Rattle.mg_node.specs.IntakeStanding.{IntakeGrows}
 use Rattle.mg_node.specs.Job.{LoggedJob, Solves}
+use Rattle.mg_node.specs.Shelves.{IsOut}
 use Rattle.mg_node.specs.Lawful.{LawfulIntake, LawfulEngine, LawfulWork, of_node, Agree}
-
--- the node has failed, or closed
-abbrev pub has_ended : EngineView → Bool
-has_ended engine = engine.closed || is_some engine.fault
 
 -- the first entry whose work came back unrun, counted from a number on
 abbrev pub came_back : Option OutcomeView → Bool
@@ -50,11 +49,16 @@ IsEarly (Source calls) waits = ⊥
 IsEarly role waits = IsNext waits NotYet
 
 -- the next input set of an intake is taken: it shows these packets, which are those of its number in the solution of every job for
--- which the intake is lawful, and it stays lawful; and its standing only grows
+-- which the intake is lawful, and it stays lawful; and its standing only grows. At each port the packets that go with the set are
+-- gone, and no other; as many are counted as before, and the bound is the same.
 pub record Takes (intake now : IntakeView) (set : List (Option (Stamped Plain))) : Type 0 where
   pub shown : IsSomeAnd (next_set_of intake.waits) (λ e. set ≡ e.set)
   pub counted : now.claimed ≡ intake.claimed + 1
   pub grows : IntakeGrows intake now
+  pub left : IsLeft intake.waits now.waits
+  pub ports : ports_in now.waits ≡ ports_in intake.waits
+  pub counts : (port : ℕ) → count_of (port_queue now.waits port) ≡ count_of (port_queue intake.waits port)
+  pub bounds : (port : ℕ) → (port_queue now.waits port).bound ≡ (port_queue intake.waits port).bound
   pub stays_lawful : (job : LoggedJob) (consumer : ℕ) → LawfulIntake job consumer intake → LawfulIntake job consumer now
   pub in_solution : (job : LoggedJob) (consumer : ℕ) (streams : List (StreamPrefix Plain)) → Solves job streams → LawfulIntake job consumer intake → HasSet job streams consumer intake.claimed set
 
@@ -162,6 +166,11 @@ Claims (Work work) engine engine_now intake intake_now =
 abbrev pub IsLawfulWork : {C : Type 0} → LoggedJob → Claimed C → Type 0
 IsLawfulWork job (Work work) = LawfulWork job work
 IsLawfulWork job _ = ⊤
+
+-- a work that is handed out is out
+abbrev pub GivesOut : {C : Type 0} → Claimed C → EngineView → Type 0
+GivesOut (Work work) engine = IsOut engine work
+GivesOut _ engine = ⊤
 
 -- a claim leaves a node's engine and its intake lawful for a job, and agreed, and hands out a lawful work
 pub record LawfulClaim {C : Type 0} (job : LoggedJob) (number : ℕ) (result : Claimed C) (engine : EngineView) (intake : IntakeView) : Type 0 where

@@ -13,8 +13,9 @@ use Rattle.mg_calc.specs.declared.node_fault.NodeFault.{NodeFault}
 use Rattle.mg_calc.specs.contracts.cause.Cause as cause
 use Rattle.mg_calc.specs.contracts.node_fault.Phase as phase
 use Rattle.mg_calc.specs.contracts.node_fault.NodeFault as node_fault
-use Rattle.mg_calc.specs.Told.{CalculatorTold}
-use Rattle.mg_calc.specs.ToldCodes.{told_code, emission_code}
+use Rattle.mg_route.specs.HolderView.{HolderView}
+use Rattle.mg_calc.specs.ToldCodes.{emission_code}
+use Rattle.mg_route.specs.HolderCodes.{holder_code}
 use Rattle.mg_node.specs.declared.role.Role.{Role}
 use Rattle.mg_node.specs.declared.waits.Waits.{Waits}
 use Rattle.mg_node.specs.contracts.role.Role as role
@@ -27,7 +28,7 @@ intake_code =
 
 abbrev pub bench_code : Coded BenchView
 bench_code =
-    code_by (CalculatorTold × List (Option (Stamped Plain))) (coded× told_code set_code)
+    code_by (HolderView × List (Option (Stamped Plain))) (coded× holder_code set_code)
     (λ b. (b.told, b.set)) (λ p. record { told = p.0; set = p.1 }) (λ _. refl)
 
 abbrev pub phase_code : Coded Phase

@@ -1,6 +1,6 @@
 -- Commits: what was performed is laid in the order of the sets, whatever the order in which it comes back. Outputs are spoken of by
 -- whole prefixes that they stand for, since packets may have been given up.
-use Rattle.std.specs.Prelude.{◌≡◌, ℕ, ℤ, ◌+◌, ◌-◌, ◌||◌, Bool, List, [], ◌∷◌, ◌++◌, map, Option, Some, None, option_map, option_and_then, is_some, Result, Ok, Err, slice_set, if◌then◌else◌}
+use Rattle.std.specs.Prelude.{◌≡◌, ℕ, ℤ, ◌+◌, ◌-◌, ◌||◌, Bool, List, [], ◌∷◌, ◌++◌, map, Option, Some, None, option_map, is_some, Result, Ok, Err, slice_set, if◌then◌else◌}
 use Rattle.mg_time.specs.Time.{done}
 use Rattle.mg_value.specs.Payload.{Plain}
 use Rattle.mg_value.specs.Prefix.{StreamPrefix, closed}
@@ -14,7 +14,8 @@ use Rattle.mg_calc.specs.Outcome.{Failure}
 use Rattle.mg_node.specs.Views.{BenchView, PerformedView, OutcomeView, EntryView, EngineView}
 use Rattle.mg_node.specs.Job.{LoggedJob}
 use Rattle.mg_node.specs.Lawful.{of_node, LawfulEngine, StandForAll, is_close}
-use Rattle.mg_node.specs.Shelves.{back, performed_of}
+use Rattle.mg_node.specs.Shelves.{back}
+use Rattle.mg_node.specs.Windows.{ready_of}
 
 -- before a set, outputs are raised to its time plus the offset, and before Close to the end of all times
 abbrev pub raised_before : Option ℤ → Phase → List (StreamPrefix Plain) → List (StreamPrefix Plain)
@@ -72,10 +73,6 @@ answer_laid offset phase bench answer rest front = record {
 abbrev pub has_stopped : Front → Bool
 has_stopped front = front.closed || is_some front.fault
 
--- an entry that is committed has what was performed; every other one isn't ready
-abbrev pub ready_of : EntryView → Option PerformedView
-ready_of entry = if entry.committed then option_and_then performed_of entry.outcome else None
-
 -- what is made of what was performed, or something else where an entry isn't ready
 abbrev pub with_ready : {A : Type 0} → Option PerformedView → A → (PerformedView → A) → A
 with_ready None none go = none
@@ -123,9 +120,19 @@ pub record HasFront (before now : EngineView) (front : Front) : Type 0 where
     fault = option_map (fault_at before.node) front.fault;
   }
 
--- a commit: the work comes back to its window, and what is committed at the front is laid; so many sets or calls with it
+-- a commit: the work comes back to its window, and what is committed at the front is laid; so many sets or calls with it. No packet
+-- is given up, and nothing else changes.
 pub record Commits (outcome : OutcomeView) (laid : ℕ) (before now : EngineView) : Type 0 where
   pub counted : now.laid ≡ before.laid + laid
+  pub given_up : map (λ b. b.gone) now.outputs ≡ map (λ b. b.gone) before.outputs
+  pub others : now ≡ record before {
+    outputs = now.outputs;
+    laid = now.laid;
+    window = now.window;
+    idle = now.idle;
+    closed = now.closed;
+    fault = now.fault;
+  }
   pub front : (whole : List (StreamPrefix Plain)) → StandForAll before.outputs whole
       → HasFront before now (front_laid before.offset (window_with before outcome) (front_of before (window_with before outcome) whole))
 

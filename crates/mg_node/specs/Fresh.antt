@@ -3,24 +3,24 @@
 use Rattle.std.specs.Prelude.{ℕ, ◌-◌, List, [], ◌∷◌, ◌++◌, length, replicate, None, false, slice_index_or}
 use Rattle.mg_stream.specs.Pool.{empty_backlog}
 use Rattle.mg_calc.specs.declared.plan_node.PlanNode.{PlanNode}
-use Rattle.mg_calc.specs.Told.{CalculatorTold}
+use Rattle.mg_route.specs.HolderView.{HolderView}
 use Rattle.mg_node.specs.Views.{BenchView, EngineView}
 use Rattle.mg_node.specs.Job.{role_of}
 
--- what a calculator of the node's own kind tells of itself before it is opened
-abbrev pub own_told : PlanNode → CalculatorTold
-own_told node = record { law = node.law; shape = node.shape; state = []; log = None }
+-- a calculator of the node's own kind, before it is opened: it wasn't handed in
+abbrev pub own_told : PlanNode → HolderView
+own_told node = record { law = node.law; shape = node.shape; state = []; log = None; handed = false }
 
 -- a bench that was not worked at: its set is empty
-abbrev pub bench_of : PlanNode → CalculatorTold → BenchView
+abbrev pub bench_of : PlanNode → HolderView → BenchView
 bench_of node told = record { told = told; set = replicate (length node.inputs) None }
 
 -- the benches of a node: as many as works may be claimed, the last one with the calculator that is handed in
-abbrev pub benches_of : PlanNode → CalculatorTold → List BenchView
+abbrev pub benches_of : PlanNode → HolderView → List BenchView
 benches_of node told = replicate (node.in_flight - 1) (bench_of node (own_told node)) ++ bench_of node told ∷ []
 
 -- the engine of a node, by its number and its calculator, before it is begun
-abbrev pub fresh_engine : PlanNode → ℕ → CalculatorTold → EngineView
+abbrev pub fresh_engine : PlanNode → ℕ → HolderView → EngineView
 fresh_engine node number told = record {
   role = role_of node.law;
   node = number;

@@ -1,5 +1,5 @@
 -- The standing of an intake, which others may have been told: it only grows, number by number.
-use Rattle.std.specs.Prelude.{ℕ, ◌≤◌}
+use Rattle.std.specs.Prelude.{◌≡◌, ℕ, ◌≤◌}
 use Rattle.mg_value.specs.Payload.{Plain}
 use Rattle.mg_stream.specs.Queue.{Waiting, count_of}
 use Rattle.mg_node.specs.Views.{IntakeView}
@@ -9,6 +9,11 @@ use Rattle.mg_node.specs.Ports.{port_queue}
 pub record HasGrown (before now : Waiting Plain) : Type 0 where
   pub count : count_of before ≤ count_of now
   pub bound : before.bound ≤ now.bound
+
+-- at a port: as many packets are counted as before, and the bound is the same
+pub record Stays (before now : Waiting Plain) : Type 0 where
+  pub count : count_of now ≡ count_of before
+  pub bound : now.bound ≡ before.bound
 
 -- the standing of an intake: how many sets are claimed, or packets of MAIN answered; and of each port how many packets came, and the
 -- bound. A number past the last port of sets stands for a port to which nothing comes, and a loopback's from 1 on for MAIN.

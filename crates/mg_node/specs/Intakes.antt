@@ -4,8 +4,9 @@ use Rattle.mg_time.specs.Time.{done}
 use Rattle.mg_value.specs.Payload.{Plain}
 use Rattle.mg_value.specs.Prefix.{Stamped, StreamPrefix}
 use Rattle.mg_value.specs.Settled.{TimedSet, settled_sets}
+use Rattle.mg_value.specs.Left.{after_sets}
 use Rattle.mg_stream.specs.Pool.{empty_backlog, queues_of}
-use Rattle.mg_policy.specs.Inbox.{next_set}
+use Rattle.mg_policy.specs.Inbox.{next_set, rests}
 use Rattle.mg_loopback.specs.Loopback.{IsFresh as IsFreshLoop, next_reply, replied, told}
 use Rattle.mg_loopback.specs.declared.answered.Answered.{Answered}
 use Rattle.mg_calc.specs.declared.law.Law.TheVariants.{Loopback}
@@ -31,6 +32,11 @@ pub record IsFresh (plan : Plan) (consumer : ℕ) (intake : IntakeView) : Type 0
 abbrev pub next_set_of : Waits → Option (TimedSet Plain)
 next_set_of (Sets inbox) = next_set inbox.policy (queues_of inbox.pool)
 next_set_of (Loop held) = None
+
+-- what is left once the next set is claimed, at each port: what waited without the packets that go with the set; the policy is the same
+abbrev pub IsLeft : Waits → Waits → Type 0
+IsLeft (Sets inbox) (Sets now) = (now.policy ≡ inbox.policy) × (rests (queues_of now.pool) ≡ after_sets inbox.policy 1 (rests (queues_of inbox.pool)))
+IsLeft waits now = ⊥
 
 -- there is a job of which an intake is a lawful part
 pub record SomeJobHasIntake (intake : IntakeView) : Type 0 where

@@ -22,14 +22,15 @@ use Rattle.mg_calc.specs.declared.plan_node.PlanNode.{PlanNode}
 use Rattle.mg_calc.specs.Answer.{Answer}
 use Rattle.mg_calc.specs.Law.{step, call, finish}
 use Rattle.mg_calc.specs.Outcome.{Outcome}
-use Rattle.mg_calc.specs.Plan.{FitsNode}
 use Rattle.mg_calc.specs.Equations.{outcome_of}
 use Rattle.mg_calc.specs.Meaning.{count_of}
+use Rattle.mg_route.specs.HolderView.{FitsHolder}
 use Rattle.mg_node.specs.declared.role.Role.{Role}
 use Rattle.mg_node.specs.declared.role.Role.TheVariants.{Input, Source}
 use Rattle.mg_node.specs.declared.waits.Waits.{Waits}
 use Rattle.mg_node.specs.declared.waits.Waits.TheVariants.{Sets as WaitingSets, Loop as WaitingLoop}
 use Rattle.mg_node.specs.Views.{IntakeView, BenchView, WorkView, PerformedView, OutcomeView, EntryView, EngineView}
+use Rattle.mg_node.specs.Windows.{has_ended, starts_ready}
 use Rattle.mg_node.specs.Job.{LoggedJob, Solves, ports_of, policy_of, law_of, streams_at, role_of, stage, IsLast, IsTask, log_after, calls_before, calls_in}
 
 -- Intakes.
@@ -94,7 +95,7 @@ pub record IsWorkOf (job : LoggedJob) (view : OutcomeView) : Type 0 where
   pub solves : Solves job streams
   pub node : PlanNode
   pub there : slice_get job.job.plan.nodes view.work.node ≡ Some node
-  pub fits : FitsNode node view.work.bench.told.law view.work.bench.told.shape
+  pub fits : FitsHolder node view.work.bench.told
   pub places : length view.work.bench.set ≡ length node.inputs
   pub task : IsTask job.job streams node view.work.number view.work.phase view.work.bench.set
   pub at_work : IsAtWork job streams node view.work view.answer
@@ -144,7 +145,7 @@ calls_by streams node laid closed = calls_before streams node laid ++ (if closed
 
 -- a bench that no work has: its calculator fits the node and has the state that what is laid gives, and its log ends there
 pub record IsIdle (job : LoggedJob) (streams : List (StreamPrefix Plain)) (node : PlanNode) (laid : ℕ) (closed : Bool) (bench : BenchView) : Type 0 where
-  pub fits : FitsNode node bench.told.law bench.told.shape
+  pub fits : FitsHolder node bench.told
   pub places : length bench.set ≡ length node.inputs
   pub state : bench.told.state ≡ (come_to job streams node laid closed).state
   pub log : bench.told.log ≡ log_after job node (calls_by streams node laid closed)
@@ -194,6 +195,8 @@ pub record IsEngineOf (job : LoggedJob) (number : ℕ) (view : EngineView) : Typ
   pub entries : (i : ℕ) (entry : EntryView) → slice_get view.window i ≡ Some entry → IsEntry job streams node view.laid (view.laid + i) number entry
   pub idle : All (IsIdle job streams node view.laid view.closed) view.idle
   pub benches : length view.idle + length view.window ≡ view.in_flight
+  -- while the node goes on, all that is ready at the front of the window is laid
+  pub waits : has_ended view ≡ false → starts_ready view.window ≡ false
 
 -- the engine of a graph input: its one output is the solution's stream of that input
 pub record IsInputOf (job : LoggedJob) (number : ℕ) (view : EngineView) : Type 0 where

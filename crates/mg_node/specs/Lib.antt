@@ -1,6 +1,7 @@
 pub mod Views
 pub mod Job
 pub mod Lawful
+pub mod Windows
 pub mod Ports
 pub mod Intakes
 pub mod Delivery
@@ -10,10 +11,17 @@ pub mod Claims
 pub mod Standing
 pub mod Fresh
 pub mod Begun
+pub mod Batches
 pub mod Advances
 pub mod Commits
 pub mod Running
 pub mod Leading
+pub mod Leaving
+pub mod Known
+pub mod WindingUp
+pub mod Extending
+pub mod Resting
+pub mod Carried
 -- What the prover wants of the types beside their meaning. No meaning rests on it.
 pub mod Codes
 pub mod Code

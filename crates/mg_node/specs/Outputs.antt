@@ -1,5 +1,5 @@
 -- What an engine has laid at its outputs.
-use Rattle.std.specs.Prelude.{ℕ, ◌+◌, ◌-◌, [], ◌∷◌, length, drop, max, None, true, false, slice_index_or}
+use Rattle.std.specs.Prelude.{ℕ, ◌+◌, ◌-◌, [], ◌∷◌, length, drop, max, None, true, false, slice_index_or, sum_by}
 use Rattle.mg_value.specs.Payload.{Plain}
 use Rattle.mg_value.specs.Prefix.{StreamPrefix}
 use Rattle.mg_stream.specs.Queue.{Waiting}
@@ -14,6 +14,10 @@ laid_at engine output = queue_of 0 (slice_index_or engine.outputs output empty_b
 -- how many packets were laid at an output, those that were given up included
 abbrev pub count_at : EngineView → ℕ → ℕ
 count_at engine output = (slice_index_or engine.outputs output empty_backlog).gone + length (slice_index_or engine.outputs output empty_backlog).packets
+
+-- how many packets are kept at an engine's outputs
+abbrev pub kept_in : EngineView → ℕ
+kept_in engine = sum_by (λ b. length b.packets) engine.outputs
 
 -- an output of which so many first packets are given up, or as many as were before
 abbrev pub without_first : ℕ → Backlog Plain → Backlog Plain

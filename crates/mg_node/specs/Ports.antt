@@ -1,5 +1,5 @@
 -- What waits at the ports of an intake, of either kind, and what may be claimed of it next.
-use Rattle.std.specs.Prelude.{◌≡◌, ℕ, ◌==◌, length, List, [], Option, Some, None, IsSomeAnd, if◌then◌else◌}
+use Rattle.std.specs.Prelude.{◌≡◌, ℕ, ◌+◌, ◌==◌, length, List, [], Option, Some, None, IsSomeAnd, if◌then◌else◌}
 use Rattle.mg_time.specs.Time.{done}
 use Rattle.mg_value.specs.Payload.{Plain}
 use Rattle.mg_value.specs.Prefix.{StreamPrefix, first_time}
@@ -8,7 +8,7 @@ use Rattle.mg_value.specs.FirstSet.{earliest}
 use Rattle.mg_value.specs.declared.policy.Policy.{Policy}
 use Rattle.mg_value.specs.declared.policy.Policy.TheVariants.{Default, Mux}
 use Rattle.mg_stream.specs.Queue.{Waiting}
-use Rattle.mg_stream.specs.Pool.{queue_at, queues_of, with_queue}
+use Rattle.mg_stream.specs.Pool.{queue_at, queues_of, pool_len, with_queue}
 use Rattle.mg_policy.specs.Inbox.{rests, next_set, Tells}
 use Rattle.mg_policy.specs.declared.readiness.Readiness.{Readiness}
 use Rattle.mg_policy.specs.declared.readiness.Readiness.TheVariants.{Ready, Close, NotReady}
@@ -25,6 +25,11 @@ ports_in (Loop held) = 2
 abbrev pub port_queue : Waits → ℕ → Waiting Plain
 port_queue (Sets inbox) port = queue_at inbox.pool port
 port_queue (Loop held) port = held_queue_at port held
+
+-- how many packets wait at all ports
+abbrev pub waiting_in : Waits → ℕ
+waiting_in (Sets inbox) = pool_len inbox.pool
+waiting_in (Loop held) = length held.loop.packets + length held.main.packets
 
 -- what waits with another queue at a port
 abbrev pub held_with : Held Plain → ℕ → Waiting Plain → Held Plain

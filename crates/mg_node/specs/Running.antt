@@ -37,6 +37,7 @@ pub record HasRun (result : Result (List Laid) CalcFault) (phase : Phase) (befor
   pub log : LogsPhase result before.told.log now.told.log phase before.set
   pub law : now.told.law ≡ before.told.law
   pub shape : now.told.shape ≡ before.told.shape
+  pub same_handed : now.told.handed ≡ before.told.handed
   pub set : now.set ≡ before.set
 
 -- there is a job for which a work is lawful
@@ -51,4 +52,5 @@ pub record IsPerformed (work : WorkView) (done : PerformedView) : Type 0 where
   pub log : done.work.bench.told.log ≡ option_map (λ calls. calls ++ calls_in work.phase work.bench.set) work.bench.told.log
   pub law : done.work.bench.told.law ≡ work.bench.told.law
   pub shape : done.work.bench.told.shape ≡ work.bench.told.shape
+  pub same_handed : done.work.bench.told.handed ≡ work.bench.told.handed
   pub set : done.work.bench.set ≡ work.bench.set

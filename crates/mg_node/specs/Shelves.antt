@@ -23,6 +23,10 @@ shelved engine outcome = record engine { window = slice_set engine.window (outco
 abbrev pub performed_of : OutcomeView → Option PerformedView
 performed_of outcome = option_map (λ answer. record { work = outcome.work; answer = answer }) outcome.answer
 
+-- and the outcome of what was performed
+abbrev pub outcome_of : PerformedView → OutcomeView
+outcome_of p = record { work = p.work; answer = Some p.answer }
+
 -- what stands in an entry as performed and not committed
 abbrev pub shelf_of : EntryView → Option PerformedView
 shelf_of entry = if entry.committed then None else option_and_then performed_of entry.outcome

@@ -2,7 +2,7 @@
 use Rattle.std.specs.Prelude.{◌≡◌, ℕ, ◌≤◌, true}
 use Rattle.mg_node.specs.Views.{EngineView}
 use Rattle.mg_node.specs.Outputs.{laid_at}
-use Rattle.mg_node.specs.Claims.{has_ended}
+use Rattle.mg_node.specs.Windows.{has_ended}
 use Rattle.mg_node.specs.IntakeStanding.{HasGrown}
 
 -- the standing of an engine: how many sets, calls or answers are laid and how many are claimed; whether its node has failed or closed,

@@ -7,7 +7,7 @@ use Rattle.mg_calc.specs.declared.cause.Cause.{Cause}
 use Rattle.mg_calc.specs.declared.emission.Laid.{Laid}
 use Rattle.mg_calc.specs.declared.node_fault.Phase.{Phase}
 use Rattle.mg_calc.specs.declared.node_fault.NodeFault.{NodeFault}
-use Rattle.mg_calc.specs.Told.{CalculatorTold}
+use Rattle.mg_route.specs.HolderView.{HolderView}
 use Rattle.mg_node.specs.declared.role.Role.{Role}
 use Rattle.mg_node.specs.declared.waits.Waits.{Waits}
 
@@ -16,9 +16,9 @@ pub record IntakeView : Type 0 where
   pub claimed : ℕ
   pub waits : Waits
 
--- a bench: what its calculator tells of itself, and what its set has
+-- a bench: what its calculator tells of itself and whether it was handed in, and what its set has
 pub record BenchView : Type 0 where
-  pub told : CalculatorTold
+  pub told : HolderView
   pub set : List (Option (Stamped Plain))
 
 -- a work: whose it is, its number, what is to be done, and the bench where it is done. A source's calls and Close have no set;

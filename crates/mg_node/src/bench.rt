@@ -1,18 +1,21 @@
-ghost use Rattle.std.specs.Prelude.{◌≡◌, length, IsSome, IfSome, IfNone, OnErr};
+ghost use Rattle.std.specs.Prelude.{◌≡◌, true, length, is_some, IsSome, IfSome, IfNone, option_map, OnOk, OnErr};
 ghost use Rattle.mg_calc.specs.Answer.{GivesEmission};
 ghost use Rattle.mg_calc.specs.Law.{opening};
 ghost use Rattle.mg_calc.specs.Told.{Logs};
+ghost use Rattle.mg_route.specs.HolderView.{holder_view, told_by};
 ghost use Rattle.mg_node.specs.Ports.{ports_in};
 ghost use Rattle.mg_node.specs.Intakes.{next_set_of, SomeJobHasIntake};
 ghost use Rattle.mg_node.specs.Claims.{Takes};
 ghost use Rattle.mg_node.specs.Running.{MayRun, HasRun};
 ghost use Rattle.mg_node.specs.Begun.{IsOpened};
+ghost use Rattle.mg_node.specs.Leaving.{handed_told};
+ghost use Rattle.mg_node.specs.WindingUp.{IsFinished};
 
 use crate::Intake;
 use mg_calc::{CalcFault, Calculator, Call, Cause, Emission, GivenList, Phase};
 use mg_route::Holder;
 use mg_value::InputSet;
-use std::alloc::Global;
+use std::alloc::{AllocError, Global};
 use std::marker::Model;
 
 /// What a work needs: a calculator, and a set for what it is shown. A set lies there from one work to the next, so that no work
@@ -42,6 +45,17 @@ impl<C: Calculator> Bench<C> {
         Bench { holder, set }
     }
 
+    /// The bench with a calculator that is handed in, in the place of its own.
+    pub(crate) fn with(self, calculator: C) -> Bench<C>
+        ensures { result ≡ record { told = holder_view true (C.told calculator); set = self.set } }
+    {
+        let Bench { set, .. } = self;
+        Bench {
+            holder: Holder::outer(calculator),
+            set,
+        }
+    }
+
     /// Opens the calculator with side packets. Want of memory changes nothing.
     pub(crate) fn begin(&mut self, alloc: Global, sides: &GivenList) -> Result<Emission, CalcFault>
         ensures answer { GivesEmission result self.new.told.state (opening self.old.told.law sides.now) }
@@ -49,6 +63,7 @@ impl<C: Calculator> Bench<C> {
         ensures log { Logs result self.old.told.log self.new.told.log Call.Begun }
         ensures law { self.new.told.law ≡ self.old.told.law }
         ensures shape { self.new.told.shape ≡ self.old.told.shape }
+        ensures handed { self.new.told.handed ≡ self.old.told.handed }
         ensures set { self.new.set ≡ self.old.set }
     {
         self.holder.begin(alloc, sides)
@@ -84,6 +99,18 @@ impl<C: Calculator> Bench<C> {
         }
     }
 
+    /// Closes the calculator, and drops what it answers. Want of memory changes nothing.
+    pub(crate) fn finish(&mut self, alloc: Global) -> Result<(), AllocError>
+        ensures finished { OnOk result (IsFinished self.old self.new) }
+        ensures unchanged { OnErr result (self.new ≡ self.old) }
+    {
+        match self.run(alloc, Phase::Close) {
+            Ok(_) => Ok(()),
+            Err(CalcFault::Fault(_)) => Ok(()),
+            Err(CalcFault::OutOfMemory) => Err(AllocError),
+        }
+    }
+
     /// Takes the next input set of an intake, where there is one.
     pub(crate) fn fill(&mut self, intake: &mut Intake)
         requires places { length self.old.set ≡ ports_in intake.old.waits }
@@ -95,5 +122,17 @@ impl<C: Calculator> Bench<C> {
         if !intake.claim(&mut self.set) {
             unreachable!()
         }
+    }
+
+    /// The calculator, if it was handed in.
+    pub(crate) fn into_calculator(self) -> Option<C>
+        ensures there { is_some result ≡ self.told.handed }
+        ensures told { IfSome result (λ c. C.told c ≡ told_by self.told) }
+
+        // The same as one equation.
+        ensures handed { option_map C.told result ≡ handed_told self.told }
+    {
+        let Bench { holder, .. } = self;
+        holder.into_outer()
     }
 }

@@ -1,9 +1,10 @@
 //! How the packets of an output come to a port.
-ghost use Rattle.std.specs.Prelude.{◌≡◌, ◌<◌, nat_lt, slice_get, option_copied, is_ok, if◌then◌else◌};
+ghost use Rattle.std.specs.Prelude.{◌≡◌, ◌<◌, IfOk, false, nat_lt, slice_get, option_copied, is_ok, if◌then◌else◌};
 ghost use Rattle.mg_stream.specs.Queue.{with_packet, MayCome};
 ghost use Rattle.mg_node.specs.Ports.{ports_in, port_queue, with_port, with_room};
 ghost use Rattle.mg_node.specs.Delivery.{missing, delivered, Delivers, AreOfOne};
 ghost use Rattle.mg_node.specs.Code.Bringing.{BroughtAll};
+ghost use Rattle.mg_node.specs.declared.delivered.Delivered as Delivered;
 
 use crate::{Delivered, Intake};
 use mg_stream::Queue;
@@ -16,6 +17,7 @@ pub(crate) fn deliver(output: &Queue, intake: &mut Intake, port: u32, most: u32)
     requires of_one { AreOfOne output.now (port_queue intake.old.waits port) }
     ensures moved { Delivers result output.now port most intake.old.waits intake.new.waits }
     ensures claimed { intake.new.claimed ≡ intake.old.claimed }
+    ensures still { result ≡ Delivered.Moved 0 false → intake.new ≡ intake.old }
 {
     let packets = match bring_all(output, intake, port, most) {
         Ok(packets) => packets,
@@ -31,6 +33,7 @@ fn bring_all(output: &Queue, intake: &mut Intake, port: u32, most: u32) -> Resul
     requires of_one { AreOfOne output.now (port_queue intake.old.waits port) }
     ensures brought { BroughtAll result output.now port most intake.old.waits intake.new.waits }
     ensures claimed { intake.new.claimed ≡ intake.old.claimed }
+    ensures still { IfOk result (λ n. n ≡ 0 → intake.new ≡ intake.old) }
 {
     let mut packets = 0;
     while packets < most {
@@ -74,6 +77,7 @@ fn raise_behind(output: &Queue, intake: &mut Intake, port: u32) -> bool
     ensures raised { intake.new.waits ≡ with_port intake.old.waits port (delivered output.now (port_queue intake.old.waits port) 0) }
     ensures rose { result ≡ nat_lt (port_queue intake.old.waits port).bound (port_queue intake.new.waits port).bound }
     ensures claimed { intake.new.claimed ≡ intake.old.claimed }
+    ensures still { result ≡ false → intake.new ≡ intake.old }
 {
     if intake.count(port) < output.count() {
         return false;

@@ -1,15 +1,19 @@
-ghost use Rattle.std.specs.Prelude.{◌≡◌, ◌<◌, length, is_some, ◌||◌, slice_index_or};
+ghost use Rattle.std.specs.Prelude.{◌≡◌, ◌<◌, ◌-◌, ◌^◌, length, min, is_some, ◌||◌, slice_index_or};
 ghost use Rattle.mg_stream.specs.Pool.{empty_backlog};
-ghost use Rattle.mg_node.specs.Outputs.{count_at};
+ghost use Rattle.mg_node.specs.Outputs.{count_at, kept_in};
 
 mod advancing;
 mod claiming;
 mod committing;
 mod delivering;
+mod extending;
+mod leaving;
 mod making;
 mod opening;
 mod shelving;
+mod winding;
 
+use crate::counting::held_at;
 use crate::entry::Entry;
 use crate::{Bench, Role};
 use mg_calc::{Calculator, NodeFault};
@@ -116,6 +120,13 @@ impl<C: Calculator> Engine<C> {
         ensures { result ≡ count_at self.now output }
     {
         self.outputs[output as usize].count()
+    }
+
+    /// How many packets are kept at all outputs. A number past 64 bits is told as the greatest one.
+    pub fn held(&self) -> u64
+        ensures { result ≡ min (kept_in self.now) (2 ^ 64 - 1) }
+    {
+        held_at(&self.outputs)
     }
 
     /// The bound of an output.

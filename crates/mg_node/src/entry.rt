@@ -1,9 +1,11 @@
-ghost use Rattle.std.specs.Prelude.{◌≡◌, Some, None, true, false, is_some};
+ghost use Rattle.std.specs.Prelude.{◌≡◌, Some, None, true, false, is_some, option_map, option_and_then};
 ghost use Rattle.mg_node.specs.Claims.{is_unrun};
 ghost use Rattle.mg_node.specs.Views.{PerformedView};
 ghost use Rattle.mg_node.specs.Shelves.{back, shelf_of};
 ghost use Rattle.mg_node.specs.Begun.{opened_entry};
-ghost use Rattle.mg_node.specs.Commits.{committed_entry, ready_of};
+ghost use Rattle.mg_node.specs.Commits.{committed_entry};
+ghost use Rattle.mg_node.specs.Windows.{ready_of};
+ghost use Rattle.mg_node.specs.Leaving.{calculator_in, handed_told};
 ghost use Rattle.mg_node.specs.Code.QueueLaying.{packets_by};
 
 use crate::{Bench, Outcome, Performed, Work};
@@ -173,5 +175,16 @@ impl<C: Calculator> Entry<C> {
         let performed = outcome.into_performed();
         *self = Entry::out(performed.phase());
         performed
+    }
+
+    /// The calculator of the outcome that stands here, if there is one and it was handed in.
+    pub(crate) fn into_calculator(self) -> Option<C>
+        ensures { option_map C.told result ≡ option_and_then handed_told (calculator_in self) }
+    {
+        let Entry { outcome, .. } = self;
+        match outcome {
+            Some(outcome) => outcome.into_bench().into_calculator(),
+            None => None,
+        }
     }
 }

@@ -5,7 +5,8 @@ ghost use Rattle.mg_stream.specs.Pool.{backlog_of};
 ghost use Rattle.mg_node.specs.Lawful.{is_close as is_close_phase};
 ghost use Rattle.mg_node.specs.Commits.{counted as counted_phase};
 ghost use Rattle.mg_node.specs.Code.QueueLaying.{StandForSome};
-ghost use Rattle.mg_node.specs.Code.FrontLaying.{needed as needed_at, HasRoom, counted_in, end_of, starts_ready, IsFirstLaid, IsFrontLaid};
+ghost use Rattle.mg_node.specs.Code.FrontLaying.{needed as needed_at, HasRoom, counted_in, end_of, IsFirstLaid, IsFrontLaid};
+ghost use Rattle.mg_node.specs.Windows.{starts_ready};
 
 use crate::Bench;
 use crate::entry::Entry;

@@ -1,4 +1,4 @@
-ghost use Rattle.std.specs.Prelude.{◌≡◌, ◌<◌, ◌≤◌, ◌+◌, ℕ, List, ◌^◌, true, false, length, replicate, slice_get, option_map, is_ok, is_some, IfOk, IfSome, IsTrue, IsSome, if◌then◌else◌, ◌↔◌};
+ghost use Rattle.std.specs.Prelude.{◌≡◌, ◌<◌, ◌≤◌, ◌+◌, ◌-◌, ℕ, List, ◌^◌, min, true, false, length, replicate, slice_get, option_map, is_ok, is_some, IfOk, IfSome, IsTrue, IsSome, if◌then◌else◌, ◌↔◌};
 ghost use Rattle.std.specs.Bool.{OnTrue, OnFalse};
 ghost use Rattle.mg_value.specs.Payload.{Plain};
 ghost use Rattle.mg_value.specs.Prefix.{StreamPrefix};
@@ -6,14 +6,15 @@ ghost use Rattle.mg_stream.specs.Queue.{count_of, with_packet, raised_to, MayCom
 ghost use Rattle.mg_stream.specs.Pool.{empty_backlog};
 ghost use Rattle.mg_policy.specs.Inbox.{HasPorts};
 ghost use Rattle.mg_calc.specs.Plan.{IsValid};
-ghost use Rattle.mg_node.specs.Intakes.{NoneWaits, HoldsNone, IsFresh, next_set_of, SomeJobHasIntake, HasSet, HasSets, HasLoop, AnswersBy, Claims};
+ghost use Rattle.mg_node.specs.Intakes.{IsLeft, NoneWaits, HoldsNone, IsFresh, next_set_of, SomeJobHasIntake, HasSet, HasSets, HasLoop, AnswersBy, Claims};
 ghost use Rattle.mg_policy.specs.declared.readiness.Readiness as Readiness;
 ghost use Rattle.mg_node.specs.Job.{LoggedJob, Solves};
 ghost use Rattle.mg_node.specs.Lawful.{HoldsWaits, LawfulIntake};
 ghost use Rattle.mg_node.specs.IntakeStanding.{HasGrown, IntakeGrows};
-ghost use Rattle.mg_node.specs.Ports.{ports_in, port_queue, with_port, with_room, IsNext, horizon_of};
+ghost use Rattle.mg_node.specs.Ports.{ports_in, waiting_in, port_queue, with_port, with_room, IsNext, horizon_of};
 
 use crate::Waits;
+use crate::counting::held_in;
 use mg_calc::{Law, Plan, PlanNode};
 use mg_loopback::{Answered, Loopback};
 use mg_policy::{Inbox, Readiness};
@@ -65,6 +66,12 @@ impl Intake {
         ensures counted { OnTrue result (self.new.claimed ≡ self.old.claimed + 1) }
         ensures unchanged { OnFalse result ((self.new ≡ self.old) × (into.new ≡ into.old)) }
         ensures places { length into.new ≡ length into.old }
+
+        // The packets that go with the set are gone, and no other. All that came is counted.
+        ensures left { OnTrue result (IsLeft self.old.waits self.new.waits) }
+        ensures ports { ports_in self.new.waits ≡ ports_in self.old.waits }
+        ensures counts { (port : ℕ) → count_of (port_queue self.new.waits port) ≡ count_of (port_queue self.old.waits port) }
+        ensures bounds { (port : ℕ) → (port_queue self.new.waits port).bound ≡ (port_queue self.old.waits port).bound }
 
         // Its standing only grows.
         ensures grows { IntakeGrows self.old self.new }
@@ -128,6 +135,16 @@ impl Intake {
         match &self.waits {
             Waits::Sets(inbox) => inbox.waiting(port),
             Waits::Loop(loopback) => loopback.waiting(port),
+        }
+    }
+
+    /// How many packets wait at all ports. A number past 64 bits is told as the greatest one.
+    pub fn held(&self) -> u64
+        ensures { result ≡ min (waiting_in self.now.waits) (2 ^ 64 - 1) }
+    {
+        match &self.waits {
+            Waits::Sets(inbox) => held_in(inbox),
+            Waits::Loop(loopback) => loopback.waiting(0).saturating_add(loopback.waiting(1)),
         }
     }
 
@@ -256,6 +273,10 @@ fn claim_of(waits: &mut Waits, into: &mut InputSet) -> bool
     ensures shown { IfSome (next_set_of waits.old) (λ e. into.new ≡ e.set) }
     ensures unchanged { OnFalse result ((waits.new ≡ waits.old) × (into.new ≡ into.old)) }
     ensures places { length into.new ≡ length into.old }
+    ensures left { OnTrue result (IsLeft waits.old waits.new) }
+    ensures ports { ports_in waits.new ≡ ports_in waits.old }
+    ensures counts { (port : ℕ) → count_of (port_queue waits.new port) ≡ count_of (port_queue waits.old port) }
+    ensures bounds { (port : ℕ) → (port_queue waits.new port).bound ≡ (port_queue waits.old port).bound }
     ensures holds { (job : LoggedJob) (streams : List (StreamPrefix Plain)) (consumer k : ℕ) → HoldsWaits job streams consumer k waits.old
         → OnTrue result (Claims job streams consumer k waits.new into.new) }
     ensures grow { (job : LoggedJob) (streams : List (StreamPrefix Plain)) (consumer k port : ℕ) → HoldsWaits job streams consumer k waits.old

@@ -4,6 +4,7 @@ ghost use Rattle.mg_value.specs.Prefix.{IsPrefix, Ascends, first_time};
 ghost use Rattle.mg_stream.specs.Pool.{backlog_of};
 ghost use Rattle.mg_stream.specs.Queue.{count_of, MayCome};
 ghost use Rattle.mg_node.specs.Outputs.{without_first, kept_whole};
+ghost use Rattle.mg_node.specs.Extending.{lengthened, MayLengthen};
 ghost use Rattle.mg_node.specs.Code.QueueLaying.{appended};
 
 use mg_stream::Queue;
@@ -26,6 +27,8 @@ fn fill(queue: &mut Queue, packets: &[Packet]) -> Result<(), AllocError>
     ensures gone { OnOk result (queue.new.gone ≡ queue.old.gone) }
     ensures packets { OnOk result (queue.new.packets ≡ queue.old.packets ++ packets.now) }
     ensures bound { (b : ℕ) → Ascends packets.now b → queue.old.bound ≤ first_time packets.now b → OnOk result (queue.new.bound ≤ b) }
+    ensures above { (b : ℕ) → queue.old.bound ≤ b → OnOk result (queue.old.bound ≤ first_time packets.now b) }
+    ensures grows { OnOk result (queue.old.bound ≤ queue.new.bound) }
 {
     for packet in packets {
         let Ok(()) = queue.append(packet.try_clone()?) else {
@@ -33,6 +36,17 @@ fn fill(queue: &mut Queue, packets: &[Packet]) -> Result<(), AllocError>
         };
     }
     Ok(())
+}
+
+/// A second queue with the packets of one and those of a prefix behind them, and the greater of the two bounds. Payloads are shared.
+pub(crate) fn lengthened(alloc: Global, queue: &Queue, more: &Prefix) -> Result<Queue, AllocError>
+    requires { MayLengthen queue.now more.now }
+    ensures { IfOk result (λ q. backlog_of q ≡ lengthened (backlog_of queue.now) more.now) }
+{
+    let mut longer = queue.try_clone(alloc)?;
+    fill(&mut longer, more.packets.as_slice())?;
+    longer.raise(more.bound);
+    Ok(longer)
 }
 
 /// Gives up the first packets of a queue, until so many in all are given up.

@@ -1,13 +1,27 @@
 //! Laws of the definitions: each function does nothing, and its contract is the law.
-ghost use Rattle.std.specs.Prelude.{◌≡◌, ℕ, None, true, is_some, List, All, min, slice_get};
+ghost use Rattle.std.specs.Prelude.{◌≡◌, ◌<◌, ◌+◌, ◌^◌, ℕ, Option, Some, None, true, false, is_some, List, [], ◌∷◌, All, min, length, slice_get, slice_index_or};
 ghost use Rattle.mg_value.specs.Payload.{Plain};
-ghost use Rattle.mg_value.specs.Prefix.{StreamPrefix, IsPrefix};
+ghost use Rattle.mg_value.specs.Prefix.{StreamPrefix, IsPrefix, empty_prefix};
+ghost use Rattle.mg_value.specs.Extension.{AreExtendedBy};
 ghost use Rattle.mg_value.specs.Settled.{settled_sets, reach};
 ghost use Rattle.mg_value.specs.declared.policy.Policy.{Policy};
-ghost use Rattle.mg_node.specs.Ports.{next_time, first_waiting};
-ghost use Rattle.mg_node.specs.Views.{OutcomeView, EngineView};
-ghost use Rattle.mg_node.specs.Claims.{first_unrun};
-ghost use Rattle.mg_node.specs.Shelves.{IsOut, shelved, shelf_at, performed_of};
+ghost use Rattle.mg_calc.specs.declared.plan_node.PlanNode.{PlanNode};
+ghost use Rattle.mg_calc.specs.Equations.{sides_of, inputs_of, outcome_of as becomes};
+ghost use Rattle.mg_calc.specs.Meaning.{count_of, fault_of};
+ghost use Rattle.mg_node.specs.Ports.{ports_in, port_queue, next_time, first_waiting};
+ghost use Rattle.mg_node.specs.Views.{IntakeView, WorkView, PerformedView, OutcomeView, EngineView};
+ghost use Rattle.mg_node.specs.Job.{LoggedJob, Solves, ports_of, streams_at};
+ghost use Rattle.mg_node.specs.Lawful.{of_node, of_input, StandForAll, LawfulEngine, LawfulIntake, LawfulWork, LawfulPerformed, LawfulOutcome, Agree};
+ghost use Rattle.mg_node.specs.Begun.{LawfulUnbegun, SomeUnbegun};
+ghost use Rattle.mg_node.specs.Known.{IsKnown, IsKnownInput};
+ghost use Rattle.mg_node.specs.Leaving.{NoneOut, HasCalculator, HasHanded};
+ghost use Rattle.mg_node.specs.Batches.{Grows};
+ghost use Rattle.mg_node.specs.IntakeStanding.{Stays};
+ghost use Rattle.mg_node.specs.Claims.{first_unrun, TakesAnswer};
+ghost use Rattle.mg_node.specs.Windows.{has_ended, starts_ready};
+ghost use Rattle.mg_node.specs.Resting.{IsResting, HasCome, HasCarried};
+ghost use Rattle.mg_node.specs.Carried.{HasLaid, HasReached};
+ghost use Rattle.mg_node.specs.Shelves.{IsOut, shelved, outcome_of, shelf_at, performed_of, Unshelves};
 
 /// What was performed and came back is found in its window again, and nothing is found of a work that came back unrun.
 pub fn what_is_shelved_is_found()
@@ -23,4 +37,117 @@ pub fn what_came_back_unrun_is_claimed()
 pub fn horizons_are_least_times()
     ensures { (policy : Policy) (ss : List (StreamPrefix Plain)) → All IsPrefix ss
         → next_time (slice_get (settled_sets policy ss) 0) (reach policy ss) ≡ min (reach policy ss) (first_waiting policy ss) }
+{}
+
+/// The engine of a node whose calculator was handed in has that one and no other, where no work is out: it is idle, or stands in an
+/// outcome in the window.
+pub fn what_is_handed_in_is_there()
+    ensures { (job : LoggedJob) (number : ℕ) (node : PlanNode) (engine : EngineView) → LawfulEngine job (of_node number) engine
+        → slice_get job.job.plan.nodes number ≡ Some node → is_some node.box_number ≡ true → NoneOut engine → HasCalculator job node engine }
+{}
+
+/// And so has one that isn't begun, beside those of the node's own.
+pub fn what_is_handed_in_waits_to_begin()
+    ensures { (job : LoggedJob) (number : ℕ) (node : PlanNode) (engine : EngineView) → LawfulUnbegun job number engine
+        → slice_get job.job.plan.nodes number ≡ Some node → is_some node.box_number ≡ true → HasHanded job number node engine }
+{}
+
+/// While the input of a run comes in batches, a part that is lawful for the job of the lines so far is lawful for the job of more
+/// lines. The engine of a graph input isn't among them: its output has all that was handed in.
+pub fn stays_lawful()
+    ensures intake { (first later : LoggedJob) (consumer : ℕ) (intake : IntakeView) → Grows first later → LawfulIntake first consumer intake → LawfulIntake later consumer intake }
+    ensures engine { (first later : LoggedJob) (number : ℕ) (engine : EngineView) → Grows first later → LawfulEngine first (of_node number) engine → LawfulEngine later (of_node number) engine }
+    ensures unbegun { (first later : LoggedJob) (number : ℕ) (engine : EngineView) → Grows first later → LawfulUnbegun first number engine → LawfulUnbegun later number engine }
+    ensures work { (first later : LoggedJob) (work : WorkView) → Grows first later → LawfulWork first work → LawfulWork later work }
+    ensures performed { (first later : LoggedJob) (performed : PerformedView) → Grows first later → LawfulPerformed first performed → LawfulPerformed later performed }
+    ensures outcome { (first later : LoggedJob) (outcome : OutcomeView) → Grows first later → LawfulOutcome first outcome → LawfulOutcome later outcome }
+{}
+
+/// What was taken out of a window can be put back, which leaves the engine as it was.
+pub fn what_is_taken_can_be_put_back()
+    ensures { (job : LoggedJob) (owner : ℕ) (engine engine_now : EngineView) (number : ℕ) (p : PerformedView) → LawfulEngine job (of_node owner) engine
+        → shelf_at engine number ≡ Some p → Unshelves (Some p) engine engine_now number → shelved engine_now (outcome_of p) ≡ engine }
+{}
+
+/// The engine of a node has a node of the plan, and is set up by it.
+pub fn engines_are_known()
+    ensures there { (job : LoggedJob) (number : ℕ) (engine : EngineView) → LawfulEngine job (of_node number) engine → number < length job.job.plan.nodes }
+    ensures known { (job : LoggedJob) (number : ℕ) (engine : EngineView) (node : PlanNode) → LawfulEngine job (of_node number) engine
+        → slice_get job.job.plan.nodes number ≡ Some node → IsKnown node number engine }
+{}
+
+/// The engine of a graph input has its number, and one output.
+pub fn engines_of_inputs_are_known()
+    ensures { (job : LoggedJob) (number : ℕ) (engine : EngineView) → LawfulEngine job (of_input number) engine → IsKnownInput job number engine }
+{}
+
+/// An engine that goes on has nothing ready at the front of its window: what is committed there is laid.
+pub fn what_is_ready_is_laid()
+    ensures { (job : LoggedJob) (number : ℕ) (engine : EngineView) → LawfulEngine job (of_node number) engine
+        → has_ended engine ≡ false → starts_ready engine.window ≡ false }
+{}
+
+/// An intake has a port for each stream that its consumer reads.
+pub fn ports_are_known()
+    ensures { (job : LoggedJob) (consumer : ℕ) (intake : IntakeView) → LawfulIntake job consumer intake
+        → ports_in intake.waits ≡ length (ports_of job.job.plan consumer) }
+{}
+
+/// Few packets wait at a port: a number of 64 bits counts them, and one more.
+pub fn few_wait()
+    ensures { (job : LoggedJob) (consumer port : ℕ) (intake : IntakeView) → LawfulIntake job consumer intake
+        → length (port_queue intake.waits port).packets + 1 < 2 ^ 64 }
+{}
+
+/// An answer of a loopback leaves as many packets counted at both ports as before, and the same bounds.
+pub fn what_is_answered_stays_counted()
+    ensures { (engine engine_now : EngineView) (intake intake_now : IntakeView) (port : ℕ) → TakesAnswer engine engine_now intake intake_now
+        → Stays (port_queue intake.waits port) (port_queue intake_now.waits port) }
+{}
+
+/// An engine that isn't begun may be begun with the side packets that its job has for its node.
+pub fn what_is_unbegun_may_begin()
+    ensures { (job : LoggedJob) (number : ℕ) (node : PlanNode) (sides : List (Option Plain)) (engine : EngineView) → LawfulUnbegun job number engine
+        → slice_get job.job.plan.nodes number ≡ Some node → sides ≡ sides_of job.job node → SomeUnbegun sides engine }
+{}
+
+/// A cell that can go no further meets its equation: what it laid extends all that becomes of its node from what came.
+pub fn what_rests_meets_its_equation()
+    ensures { (job : LoggedJob) (number : ℕ) (node : PlanNode) (engine : EngineView) (intake : IntakeView) (solution streams laid : List (StreamPrefix Plain))
+        → slice_get job.job.plan.nodes number ≡ Some node → LawfulEngine job (of_node number) engine → LawfulIntake job number intake → Agree engine intake
+        → IsResting engine intake → HasCarried job solution streams node engine intake laid → AreExtendedBy (becomes job.job streams node).outputs laid }
+{}
+
+/// A node that has ended has the solution's count, its fault, and its streams.
+pub fn what_has_ended_has_the_solution()
+    ensures count { (job : LoggedJob) (number : ℕ) (node : PlanNode) (engine : EngineView) (solution : List (StreamPrefix Plain)) → Solves job solution
+        → slice_get job.job.plan.nodes number ≡ Some node → LawfulEngine job (of_node number) engine → has_ended engine ≡ true → engine.laid ≡ count_of job.job solution node }
+    ensures fault { (job : LoggedJob) (number : ℕ) (node : PlanNode) (engine : EngineView) (solution : List (StreamPrefix Plain)) → Solves job solution
+        → slice_get job.job.plan.nodes number ≡ Some node → LawfulEngine job (of_node number) engine → has_ended engine ≡ true → engine.fault ≡ fault_of job.job solution (number, node) }
+    ensures streams { (job : LoggedJob) (number : ℕ) (node : PlanNode) (engine : EngineView) (solution : List (StreamPrefix Plain)) → Solves job solution
+        → slice_get job.job.plan.nodes number ≡ Some node → LawfulEngine job (of_node number) engine → has_ended engine ≡ true → StandForAll engine.outputs (streams_at solution node.outputs) }
+{}
+
+/// The solution's streams extend what was laid at the outputs of a node; and what was laid at that of a graph input is its stream.
+pub fn what_is_laid_is_of_the_solution()
+    ensures node { (job : LoggedJob) (number : ℕ) (node : PlanNode) (engine : EngineView) (solution : List (StreamPrefix Plain)) → Solves job solution
+        → slice_get job.job.plan.nodes number ≡ Some node → LawfulEngine job (of_node number) engine → HasLaid engine (streams_at solution node.outputs) }
+    ensures input { (job : LoggedJob) (number : ℕ) (engine : EngineView) (solution : List (StreamPrefix Plain)) → Solves job solution
+        → LawfulEngine job (of_input number) engine → StandForAll engine.outputs (slice_index_or solution number empty_prefix ∷ []) }
+{}
+
+/// The solution's streams extend what came at the ports of a consumer.
+pub fn what_came_is_of_the_solution()
+    ensures { (job : LoggedJob) (consumer : ℕ) (intake : IntakeView) (solution : List (StreamPrefix Plain)) → Solves job solution
+        → LawfulIntake job consumer intake → HasReached intake (streams_at solution (ports_of job.job.plan consumer)) }
+{}
+
+/// A cell that can go no further, to which the solution's streams came in whole, has the solution's count and its fault.
+pub fn what_rests_has_the_solution()
+    ensures count { (job : LoggedJob) (number : ℕ) (node : PlanNode) (engine : EngineView) (intake : IntakeView) (solution : List (StreamPrefix Plain)) → Solves job solution
+        → slice_get job.job.plan.nodes number ≡ Some node → LawfulEngine job (of_node number) engine → LawfulIntake job number intake → Agree engine intake
+        → IsResting engine intake → HasCome intake (inputs_of solution node) → engine.laid ≡ count_of job.job solution node }
+    ensures fault { (job : LoggedJob) (number : ℕ) (node : PlanNode) (engine : EngineView) (intake : IntakeView) (solution : List (StreamPrefix Plain)) → Solves job solution
+        → slice_get job.job.plan.nodes number ≡ Some node → LawfulEngine job (of_node number) engine → LawfulIntake job number intake → Agree engine intake
+        → IsResting engine intake → HasCome intake (inputs_of solution node) → engine.fault ≡ fault_of job.job solution (number, node) }
 {}

@@ -5,6 +5,7 @@
 
 mod bench;
 mod claimed;
+mod counting;
 mod delivered;
 mod delivery;
 mod doing;
@@ -15,6 +16,7 @@ mod intake;
 mod laid;
 pub mod laws;
 mod laying;
+mod leaving;
 mod outcome;
 mod parts;
 mod performed;

@@ -1,11 +1,13 @@
 ghost use Rattle.std.specs.Prelude.{◌≡◌, Some, None, true, false, List, Result, is_some, if◌then◌else◌};
 ghost use Rattle.mg_calc.specs.declared.cause.Cause.{Cause};
 ghost use Rattle.mg_calc.specs.declared.emission.Laid.{Laid};
-ghost use Rattle.mg_node.specs.Shelves.{performed_of};
+ghost use Rattle.mg_node.specs.Shelves.{outcome_of, performed_of};
+ghost use Rattle.mg_node.specs.Job.{LoggedJob};
+ghost use Rattle.mg_node.specs.Lawful.{LawfulWork, LawfulPerformed, LawfulOutcome};
 ghost use Rattle.mg_node.specs.Code.QueueLaying.{packets_by};
 
 use crate::laying::packets_in;
-use crate::{Performed, Work};
+use crate::{Bench, Performed, Work};
 use mg_calc::{Calculator, Cause, Emission, Phase};
 use std::marker::Model;
 
@@ -30,14 +32,20 @@ impl<C: Calculator> Model for Outcome<C> {
 impl<C: Calculator> Outcome<C> {
     /// Of a work that wasn't run.
     pub fn unrun(work: Work<C>) -> Outcome<C>
-        ensures { result ≡ record { work = work; answer = None } }
+        ensures outcome { result ≡ record { work = work; answer = None } }
+
+        // Lawful in, lawful out, for every job.
+        ensures lawful { (job : LoggedJob) → LawfulWork job work → LawfulOutcome job result }
     {
         Outcome { work, answer: None }
     }
 
     /// Of a work that was performed.
     pub fn ran(performed: Performed<C>) -> Outcome<C>
-        ensures { result ≡ record { work = performed.work; answer = Some performed.answer } }
+        ensures outcome { result ≡ outcome_of performed }
+
+        // Lawful in, lawful out, for every job.
+        ensures lawful { (job : LoggedJob) → LawfulPerformed job performed → LawfulOutcome job result }
     {
         let (work, answer) = performed.into_parts();
         Outcome {
@@ -107,5 +115,13 @@ impl<C: Calculator> Outcome<C> {
             Some(answer) => Performed::new(work, answer),
             None => unreachable!(),
         }
+    }
+
+    /// The bench of its work.
+    pub(crate) fn into_bench(self) -> Bench<C>
+        ensures { result ≡ self.work.bench }
+    {
+        let Outcome { work, .. } = self;
+        work.into_bench()
     }
 }

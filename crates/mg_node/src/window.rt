@@ -4,7 +4,7 @@ ghost use Rattle.std.specs.VecDeque.{deque_len, deque_capacity};
 ghost use Rattle.mg_node.specs.Claims.{first_unrun as first_unrun_from, HandsOut};
 ghost use Rattle.mg_node.specs.Shelves.{back, shelf_of, Taken};
 ghost use Rattle.mg_node.specs.Commits.{committed_entry};
-ghost use Rattle.mg_node.specs.Code.FrontLaying.{starts_ready};
+ghost use Rattle.mg_node.specs.Windows.{starts_ready};
 
 use crate::entry::Entry;
 use crate::{Outcome, Performed, Work};

@@ -1,4 +1,5 @@
-ghost use Rattle.std.specs.Prelude.{◌≡◌};
+ghost use Rattle.std.specs.Prelude.{◌≡◌, is_some, IfSome};
+ghost use Rattle.mg_route.specs.HolderView.{told_by};
 ghost use Rattle.mg_node.specs.Running.{MayRun, HasRun};
 
 use crate::Bench;
@@ -82,5 +83,13 @@ impl<C: Calculator> Work<C> {
         let answer = self.bench.run(alloc, self.phase);
         gate.leave(self.node, self.number);
         answer
+    }
+
+    /// Its calculator, if it was handed in. What was to be done isn't done then.
+    pub fn into_calculator(self) -> Option<C>
+        ensures there { is_some result ≡ self.bench.told.handed }
+        ensures told { IfSome result (λ c. C.told c ≡ told_by self.bench.told) }
+    {
+        self.into_bench().into_calculator()
     }
 }

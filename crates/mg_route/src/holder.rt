@@ -1,8 +1,9 @@
-ghost use Rattle.std.specs.Prelude.{◌≡◌, ◌<◌, OnErr};
+ghost use Rattle.std.specs.Prelude.{◌≡◌, ◌<◌, OnErr, IfSome, is_some, true, false};
 ghost use Rattle.mg_calc.specs.Answer.{GivesEmission};
 ghost use Rattle.mg_calc.specs.Law.{opening, step, call as its_call, finish as closing};
 ghost use Rattle.mg_calc.specs.Shape.{ParametersFit, IsShapeOf, IsOuter, IsSource, calls_of, FitsInputs};
-ghost use Rattle.mg_calc.specs.Told.{CalculatorTold, Logs};
+ghost use Rattle.mg_calc.specs.Told.{Logs};
+ghost use Rattle.mg_route.specs.HolderView.{holder_view, told_by};
 
 use crate::Builtin;
 use mg_calc::{CalcFault, Calculator, Call, Emission, GivenList, Law, Shape};
@@ -11,7 +12,8 @@ use mg_value::InputSet;
 use std::alloc::Global;
 use std::marker::Model;
 
-/// The calculator of a node: a built-in one, or one that was handed in. Contracts see what it tells of itself.
+/// The calculator of a node: a built-in one, or one that was handed in. Contracts see what it tells of itself, and which of the
+/// two it is.
 ///
 /// Each call answers what the table of laws has for the law and the state that is kept, and keeps the new state. A call that
 /// finds no memory changes nothing, and may be made again.
@@ -27,21 +29,21 @@ enum Held<C> {
 }
 
 impl<C: Calculator> Model for Holder<C> {
-    ghost use Rattle.mg_calc.specs.Told.{CalculatorTold};
-    ghost use Rattle.mg_calc.specs.ToldCodes.{told_code};
-    ghost use Rattle.mg_route.specs.Held.{held_told};
+    ghost use Rattle.mg_route.specs.HolderView.{HolderView};
+    ghost use Rattle.mg_route.specs.HolderCodes.{holder_code};
+    ghost use Rattle.mg_route.specs.Held.{held_view};
 
-    ghost Value = { CalculatorTold };
+    ghost Value = { HolderView };
 
-    ghost coded = { told_code };
+    ghost coded = { holder_code };
 
-    ghost view = { λ h. held_told C.told h.held };
+    ghost view = { λ h. held_view C.told h.held };
 }
 
 impl<C: Calculator> Holder<C> {
     /// The holder of a built-in calculator.
     pub fn own(builtin: Builtin) -> Holder<C>
-        ensures { result ≡ builtin }
+        ensures { result ≡ holder_view false builtin }
     {
         Holder {
             held: Held::Own(builtin),
@@ -50,7 +52,7 @@ impl<C: Calculator> Holder<C> {
 
     /// The holder of a calculator that was handed in.
     pub fn outer(calculator: C) -> Holder<C>
-        ensures { result ≡ C.told calculator }
+        ensures { result ≡ holder_view true (C.told calculator) }
     {
         Holder {
             held: Held::Outer(calculator),
@@ -86,6 +88,7 @@ impl<C: Calculator> Holder<C> {
         ensures log { Logs result self.old.log self.new.log Call.Begun }
         ensures law { self.new.law ≡ self.old.law }
         ensures shape { self.new.shape ≡ self.old.shape }
+        ensures handed { self.new.handed ≡ self.old.handed }
     {
         match &mut self.held {
             Held::Own(builtin) => {
@@ -110,6 +113,7 @@ impl<C: Calculator> Holder<C> {
         ensures log { Logs result self.old.log self.new.log (Call.Shown at set.now) }
         ensures law { self.new.law ≡ self.old.law }
         ensures shape { self.new.shape ≡ self.old.shape }
+        ensures handed { self.new.handed ≡ self.old.handed }
     {
         match &mut self.held {
             Held::Own(builtin) => {
@@ -143,10 +147,22 @@ impl<C: Calculator> Holder<C> {
         ensures log { Logs result self.old.log self.new.log Call.Finished }
         ensures law { self.new.law ≡ self.old.law }
         ensures shape { self.new.shape ≡ self.old.shape }
+        ensures handed { self.new.handed ≡ self.old.handed }
     {
         match &mut self.held {
             Held::Own(builtin) => Ok(builtin.closed(alloc)?),
             Held::Outer(calculator) => calculator.finish(alloc),
+        }
+    }
+
+    /// The calculator that was handed in, if one was.
+    pub fn into_outer(self) -> Option<C>
+        ensures there { is_some result ≡ self.handed }
+        ensures told { IfSome result (λ c. C.told c ≡ told_by self) }
+    {
+        match self.held {
+            Held::Own(_) => None,
+            Held::Outer(calculator) => Some(calculator),
         }
     }
 }

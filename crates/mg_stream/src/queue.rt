@@ -1,4 +1,4 @@
-ghost use Rattle.std.specs.Prelude.{◌≡◌, ◌≢◌, Some, IfNone, ◌<◌, ◌≤◌, ◌+◌, ◌^◌, ◌↔◌, [], length, slice_get, option_map, option_copied, OnOk, OnErr, IfErr, IsErrAnd, IsOk, MatchResult};
+ghost use Rattle.std.specs.Prelude.{◌≡◌, ◌≢◌, Some, IfNone, ◌<◌, ◌≤◌, ◌+◌, ◌^◌, ◌↔◌, [], length, slice_get, option_map, option_copied, IfOk, OnOk, OnErr, IfErr, IsErrAnd, IsOk, MatchResult};
 ghost use Rattle.std.specs.VecDeque.{deque_len, deque_capacity};
 ghost use Rattle.mg_time.specs.Time.{pre_stream, post_stream, done, IsAllowed};
 ghost use Rattle.mg_value.specs.Payload.{Plain};
@@ -52,6 +52,18 @@ impl Queue {
             gone: 0,
             bound: Timestamp::PRE_STREAM,
         }
+    }
+
+    /// A second queue, whose packets share their payloads with this one's.
+    pub fn try_clone(&self, alloc: Global) -> Result<Queue, AllocError>
+        ensures { IfOk result (λ q. IsLike q self.now) }
+    {
+        let packets = shared(alloc, &self.packets)?;
+        Ok(Queue {
+            packets,
+            gone: self.gone,
+            bound: self.bound,
+        })
     }
 
     /// Makes room for more packets: so many appends take no memory.
@@ -194,6 +206,17 @@ impl Queue {
             None
         }
     }
+}
+
+// The same packets once more, whose payloads are shared.
+fn shared(alloc: Global, packets: &VecDeque<Packet>) -> Result<VecDeque<Packet>, AllocError>
+    ensures { IfOk result (λ ps. ps.items ≡ packets.now.items) }
+{
+    let mut shared = VecDeque::with_capacity(alloc, packets.len())?;
+    for place in 0..packets.len() {
+        shared.push_back(packets[place].try_clone()?)?;
+    }
+    Ok(shared)
 }
 
 // Makes room for one more packet at least: for as many again as there is room for, so that the packets are moved

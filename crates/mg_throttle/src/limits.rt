@@ -1,8 +1,9 @@
 ghost use Rattle.std.specs.Prelude.{◌≡◌, ◌+◌, ◌^◌, ◌<◌, ◌≤◌, ◌↔◌, false, All, Some, length, map, replicate, count_by, slice_get, IfOk, option_map};
+ghost use Rattle.std.specs.List.{list_any};
 ghost use Rattle.std.specs.List.Sorted.{IsPartitionPoint};
 ghost use Rattle.mg_calc.specs.declared.plan.Plan.{Plan as PlanRecord};
 ghost use Rattle.mg_calc.specs.Plan.{IsValid, Feeder, feeders};
-ghost use Rattle.mg_throttle.specs.Throttle.{limit_of, new_queue, noted, relaxed, stopped, IsOf, IsThrottled};
+ghost use Rattle.mg_throttle.specs.Throttle.{limit_of, new_queue, noted, is_full, relaxed, stopped, IsOf, IsThrottled};
 ghost use Rattle.mg_throttle.specs.Code.Kept.{AreByNode, is_full_at};
 
 use crate::queue::Queue;
@@ -108,6 +109,13 @@ fn stop_queues(queues: &mut [Queue], node: u32) -> usize
     full
 }
 
+// Whether one of some queues is full.
+fn is_any_full(queues: &[Queue]) -> bool
+    ensures { result ≡ list_any is_full queues.now }
+{
+    queues.iter().any(|queue| queue.is_full())
+}
+
 // Relaxes the limits of the full queues.
 fn relax_queues(queues: &mut [Queue])
     requires { All (λ q. q.waiting + 1 < 2 ^ 64) queues.old }
@@ -178,6 +186,13 @@ impl Limits {
             → (result ≡ false) ↔ IsThrottled plan self.now f }
     {
         self.counts[feeder as usize] == 0
+    }
+
+    /// Whether a queue is full, that of any edge. It looks at each queue once.
+    pub fn is_any_full(&self) -> bool
+        ensures { result ≡ list_any is_full self.now.queues }
+    {
+        is_any_full(&self.queues)
     }
 
     /// Relaxes the limits: that of each full queue becomes its length and one more. It looks at each queue once.

@@ -22,9 +22,11 @@ pub use Rattle.mg_value.proofs.AfterSets.{sets-after, reach-after}
 pub use Rattle.mg_value.proofs.GonePackets.{sets-gone, reach-gone, none-gone, gone-extended, selects-gone}
 pub use Rattle.mg_value.proofs.ClaimedPackets.{gone-claimed}
 pub use Rattle.mg_value.proofs.ClaimsAdded.{after-added, gone-added, first-added}
+pub use Rattle.mg_value.proofs.LeftSets.{gone-further}
 pub use Rattle.mg_value.proofs.Behind.{drop_is_prefix, without_is_prefix, from_is_prefix, behind_is_prefix, all_after_sets, all_without_first}
 -- the loopback
 pub use Rattle.mg_value.proofs.LoopbackStream.{loopback_is_prefix, loopback_extends, replies-most, replies-stay, loopback-same}
+pub use Rattle.mg_value.proofs.LoopbackFurther.{loopback-behind, loopback-further}
 
 -- what a prefix has at a time stands first once all before it is gone, and the rest stands behind it
 pub found-at : {X : Type 0} (t : ℕ) (s : StreamPrefix X) → IsPrefix s → packet_at t s.packets ≡ front_at t (from t s).packets

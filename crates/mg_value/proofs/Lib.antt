@@ -16,8 +16,10 @@ pub mod JsonLists
 pub mod JsonWriting
 pub mod LeadingPackets
 pub mod Leaves
+pub mod LeftSets
 pub mod Leaving
 pub mod Lemmas
+pub mod LoopbackFurther
 pub mod LoopbackStream
 pub mod LoopbackSteps
 pub mod Looking

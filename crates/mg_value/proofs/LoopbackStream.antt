@@ -9,16 +9,13 @@ use Rattle.std.proofs.lemmas.List.Elements.{All-from_recursion, recursion_from_A
 use Rattle.mg_time.specs.Time.{next, done, pre_stream, post_stream, IsAllowed}
 use Rattle.mg_value.specs.Prefix.{Stamped, StreamPrefix, IsPrefix, Ascends, StandsAlone, first_time}
 use Rattle.mg_value.specs.Extension.{IsExtendedBy}
-use Rattle.mg_value.specs.Loopback.{with_previous, is_answered, Reply, reply, replies, packet_of, loopback}
+use Rattle.mg_value.specs.Loopback.{turns, with_previous, is_answered, Reply, reply, replies, packet_of, loopback}
 use Rattle.mg_value.proofs.PrefixSteps.{next_above, first_time-most}
 use Rattle.mg_value.proofs.Climbs.{Ascends-climbs, Climbs-from}
 use Rattle.mg_value.proofs.Fronts.{one_more, take_while_grows, map_while_agree}
 use Rattle.mg_value.proofs.MuxSets.{packet_at-extended}
 
--- the packets of a list, each behind the one before it, and the first behind another
-abbrev pub turns : {X : Type 0} → Option (Stamped X) → List (Stamped X) → List (Option (Stamped X) × Stamped X)
-turns o ps = zip (o ∷ map (λ p. Some p) ps) ps
-
+-- how many of some packets are answered
 abbrev pub number : {X : Type 0} → StreamPrefix X → Option (Stamped X) → List (Stamped X) → ℕ
 number loop o ps = prefix_len (is_answered loop) (turns o ps)
 

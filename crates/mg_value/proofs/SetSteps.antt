@@ -1,5 +1,5 @@
 -- Settled sets one after the other, each the first of what is left.
-use Rattle.std.proofs.Common.{◌≡◌, ℕ, zero, suc, ◌+◌, ◌<◌, ◌^◌, Bool, false, ◌||◌, inl, inr, List, [], ◌∷◌, ◌++◌, map, take, drop, set, length, get_or, All, Option, Some, None, option_map, unwrap_or, slice_get, cond, ap, ap₂, sym, refl, ◌∙◌, append_assoc, append-nil, arith, add-one, eqb, eq-eqb}
+use Rattle.std.proofs.Common.{◌≡◌, ℕ, zero, suc, ◌+◌, ◌<◌, ◌^◌, Bool, false, ◌||◌, inl, inr, List, [], ◌∷◌, ◌++◌, map, take, drop, set, length, get_or, All, Option, Some, None, option_map, unwrap_or, slice_get, cond, ap, ap₂, sym, refl, ◌∙◌, subst, length-append, append_assoc, append-nil, arith, add-one, eqb, eq-eqb}
 use Rattle.std.specs.Option.{option_and_then}
 use Rattle.std.proofs.lemmas.Bool.{cases_lt}
 use Rattle.std.proofs.lemmas.List.{length-map, same_lists, get_or_default, get_or-set_same, get_or-set_other}
@@ -12,6 +12,8 @@ use Rattle.mg_value.specs.Settled.{TimedSet, settled_sets, packet_at, port_of, s
 use Rattle.mg_value.specs.FirstSet.{first_set_time, chosen_port, is_shown, behind}
 use Rattle.mg_value.proofs.AfterSets.{sets-after}
 use Rattle.mg_value.proofs.Behind.{all_behind}
+use Rattle.mg_value.specs.Left.{AreLeft}
+use Rattle.mg_value.proofs.LeftSets.{left-more}
 use Rattle.mg_value.proofs.Ports.{port-prefix}
 use Rattle.mg_value.proofs.PolicySets.{sets-places}
 use Rattle.mg_value.proofs.FirstSets.{first-time, mux_first, after-first}
@@ -34,6 +36,10 @@ none_first at (x ∷ xs) is = absurd cc
 
 pub sets-over : (policy : Policy) (ss : List (StreamPrefix Plain)) → All IsPrefix ss → first_set_time policy ss ≡ None → settled_sets policy ss ≡ []
 sets-over policy ss h none = none_first (λ e. e.at) (settled_sets policy ss) (first-time policy ss h ∙ none)
+
+some_first : {Y : Type 0} (xs : List Y) (y : Y) → slice_get xs 0 ≡ Some y → 0 < length xs
+some_first [] y is = absurd cc
+some_first (x ∷ xs) y is = omega arith
 
 -- the set that shows at each port what the first set shows
 first_shown : (policy : Policy) (ss : List (StreamPrefix Plain)) (t : ℕ) (ps : List (Option (Stamped Plain))) (es : List (TimedSet Plain)) → option_map (λ e. e.at) (slice_get es 0) ≡ Some t → All (Shows policy ss) es → All (λ e. length e.set ≡ length ss) es
@@ -94,6 +100,8 @@ pub record AreListed (policy : Policy) (ss : List (StreamPrefix Plain)) (es : Li
   pub few : length rs < 2 ^ 32
   pub streams : All IsPrefix rs
   pub sets : settled_sets policy ss ≡ es ++ settled_sets policy rs
+  pub whole : All IsPrefix ss
+  pub left : AreLeft policy (length es) ss rs
 
 -- the first set that is left, with its time, and what is left behind it
 pub record IsNext (policy : Policy) (rs us : List (StreamPrefix Plain)) (e : TimedSet Plain) : Type 0 where
@@ -109,6 +117,9 @@ listed-more policy ss rs us es e h next = record {
       h.sets
       ∙ ap (λ (fs : List (TimedSet Plain)). es ++ fs) (sets-step policy rs us e.at e h.streams next.time next.set next.left)
       ∙ sym (append_assoc es (e ∷ []) (settled_sets policy us));
+  whole = h.whole;
+  left = subst (λ (k : ℕ). AreLeft policy k ss us) (sym (length-append es (e ∷ [])))
+      (left-more policy (length es) ss rs us e.at h.whole h.streams h.left next.time (some_first (settled_sets policy rs) e next.set) next.left);
 }
 
 pub fewer-left : (policy : Policy) (ss rs us : List (StreamPrefix Plain)) (es : List (TimedSet Plain)) (e : TimedSet Plain) → AreListed policy ss es rs → IsNext policy rs us e → length (settled_sets policy us) < length (settled_sets policy rs)
@@ -116,6 +127,9 @@ fewer-left policy ss rs us es e h next = omega (arith, ap length (sets-step poli
 
 pub all-listed : (policy : Policy) (ss rs : List (StreamPrefix Plain)) (es : List (TimedSet Plain)) → AreListed policy ss es rs → first_set_time policy rs ≡ None → es ≡ settled_sets policy ss
 all-listed policy ss rs es h none = sym (h.sets ∙ ap (λ (fs : List (TimedSet Plain)). es ++ fs) (sets-over policy rs h.streams none) ∙ append-nil es)
+
+pub left-listed : (policy : Policy) (ss rs : List (StreamPrefix Plain)) (es : List (TimedSet Plain)) → AreListed policy ss es rs → first_set_time policy rs ≡ None → AreLeft policy (length (settled_sets policy ss)) ss rs
+left-listed policy ss rs es h none = subst (λ (fs : List (TimedSet Plain)). AreLeft policy (length fs) ss rs) (all-listed policy ss rs es h none) h.left
 
 -- the prefixes at some ports
 pub all_inputs : {X : Type 0} (ss : List (StreamPrefix X)) (ports : List ℕ) → All IsPrefix ss → All IsPrefix (inputs_of ss ports)

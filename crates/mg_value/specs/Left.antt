@@ -1,6 +1,6 @@
 -- What is left of a node's input streams once its first settled sets are claimed. Definitions speak of the whole prefixes
 -- of these streams, one per port, and of how many of their first packets are gone.
-use Rattle.std.specs.Prelude.{ℕ, Bool, true, false, not, List, map, take, drop, length, zip, All, IsTrue, IsSome, slice_index_or, filter, ◌≡◌, ◌+◌, ◌<◌, ◌≤◌, ◌==◌, nat_le}
+use Rattle.std.specs.Prelude.{ℕ, Bool, true, false, not, List, map, take, drop, length, zip, All, IsTrue, IsSome, slice_index_or, filter, ◌≡◌, ◌+◌, ◌-◌, ◌<◌, ◌≤◌, ◌==◌, nat_le}
 use Rattle.std.specs.List.{list_any}
 use Rattle.mg_value.specs.Payload.{Plain}
 use Rattle.mg_value.specs.declared.policy.Policy.{Policy}
@@ -60,3 +60,13 @@ pub record AreGone (policy : Policy) (k : ℕ) (ss : List (StreamPrefix Plain)) 
   pub claimed : k ≤ length (settled_sets policy ss)
   pub each : (i : ℕ) → i < length ss
       → MayBeGone policy (leads policy (length ss) i) (take k (set_times policy ss)) (port_of ss i) (slice_index_or gone i 0)
+
+-- how many packets of each of some prefixes are gone, where these are left of them
+abbrev pub gone_of : {X : Type 0} → List (StreamPrefix X) → List (StreamPrefix X) → List ℕ
+gone_of ss rs = map (λ e. length e.0.packets - length e.1.packets) (zip ss rs)
+
+-- what is left of some prefixes when their first settled sets are claimed, a number of them, told by how many packets are gone
+pub record AreLeft (policy : Policy) (k : ℕ) (ss rs : List (StreamPrefix Plain)) : Type 0 where
+  pub gone : List ℕ
+  pub are : AreGone policy k ss gone
+  pub left : rs ≡ without_first gone ss

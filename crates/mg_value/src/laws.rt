@@ -10,10 +10,10 @@ ghost use Rattle.mg_value.specs.declared.policy.Policy.{Policy};
 ghost use Rattle.mg_value.specs.declared.policy.Policy.TheVariants.{Mux};
 ghost use Rattle.mg_value.specs.Prefix.{Stamped, StreamPrefix, IsPrefix, MayFollow, MayAllFollow, empty_prefix, appended, all_appended, raised, closed};
 ghost use Rattle.mg_value.specs.Extension.{IsExtendedBy, AreExtendedBy};
-ghost use Rattle.mg_value.specs.Loopback.{loopback, replies};
+ghost use Rattle.mg_value.specs.Loopback.{loopback, replies, StandsBehind, IsPast, last_of, behind_first, AreAnswers, GoesOn};
 ghost use Rattle.mg_value.specs.Settled.{low, times_of, all_times, is_among, settled_times, settled_sets, reach, packet_at, port_of, inputs_of, shows, IsBelowBounds};
 ghost use Rattle.mg_value.specs.FirstSet.{first_set_time, chosen_port, is_shown, front_at, from, behind};
-ghost use Rattle.mg_value.specs.Left.{set_times, after_sets, without_first, sums, leads, HasLeadingPacket, AreGone};
+ghost use Rattle.mg_value.specs.Left.{set_times, after_sets, without_first, sums, gone_of, leads, HasLeadingPacket, AreGone, AreLeft};
 
 /// A prefix is extended by itself.
 pub fn extension_is_reflexive()
@@ -159,6 +159,8 @@ pub fn claims_add_up()
         → AreGone policy k ss gone → AreGone policy j (without_first gone ss) more → AreGone policy (k + j) ss (sums gone more) }
     ensures left { (ss : List (StreamPrefix Plain)) (gone more : List ℕ) → length gone ≡ length ss → length more ≡ length ss
         → without_first more (without_first gone ss) ≡ without_first (sums gone more) ss }
+    ensures further { (policy : Policy) (k j : ℕ) (ss us : List (StreamPrefix Plain)) (gone : List ℕ) → All IsPrefix ss
+        → AreGone policy k ss gone → AreLeft policy j (without_first gone ss) us → AreGone policy (k + j) ss (gone_of ss us) }
 {}
 
 /// A settled set shows at each port what the port has at its time, or nothing, as its policy says.
@@ -219,6 +221,16 @@ pub fn replies_stay()
         → take (length (replies main loop)) (replies wider more) ≡ replies main loop }
     ensures same { (main loop more : StreamPrefix Plain) → IsExtendedBy loop more
         → length (replies main more) ≡ length (replies main loop) → loopback main more ≡ loopback main loop }
+{}
+
+/// Where the loopback's inputs are extended it goes on from where it stood: with the answers to what is left of MAIN behind the
+/// packets that were answered, and without those packets of LOOP that nobody asks for.
+pub fn the_loopback_goes_on()
+    ensures behind { (n : ℕ) (main : StreamPrefix Plain) → IsPrefix main → StandsBehind (last_of None n main.packets) (drop n main.packets) }
+    ensures further { (main wider loop more left rest : StreamPrefix Plain) (packets : List (Stamped Plain)) (gone : ℕ) → IsPrefix wider
+        → IsExtendedBy main wider → IsExtendedBy loop more → IsPast (last_of None (length (replies main loop)) main.packets) loop gone
+        → AreAnswers (last_of None (length (replies main loop)) wider.packets) (behind_first (length (replies main loop)) wider) (behind_first gone more) packets left rest
+        → GoesOn main wider loop more packets left rest }
 {}
 
 /// What is written of a payload is read back as that payload, if no list or record lies inside 16 others: its JSON value has

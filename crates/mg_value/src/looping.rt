@@ -1,12 +1,13 @@
 //! The loopback's stream of whole prefixes, as a plain program.
-ghost use Rattle.std.specs.Prelude.{◌≡◌, ◌≤◌, ◌++◌, length, option_map, option_and_then, option_to_list, unwrap_or, IfOk, OnOk};
-ghost use Rattle.mg_value.specs.Prefix.{IsPrefix};
+ghost use Rattle.std.specs.Prelude.{◌≡◌, ◌++◌, Option, option_map, option_and_then, option_to_list, unwrap_or, IfOk, OnOk};
+ghost use Rattle.mg_value.specs.Payload.{Plain};
+ghost use Rattle.mg_value.specs.Prefix.{Stamped, IsPrefix};
 ghost use Rattle.mg_value.specs.Settled.{packet_at};
 ghost use Rattle.mg_value.specs.FirstSet.{behind};
-ghost use Rattle.mg_value.specs.Loopback.{loopback, replies};
+ghost use Rattle.mg_value.specs.Loopback.{loopback, StandsBehind, AreAnswers, next_turn};
 
-use crate::rest::{Rest, count_before};
-use crate::{BlockList, Packet, Prefix};
+use crate::rest::Rest;
+use crate::{BlockList, Packet, PacketList, Prefix};
 use mg_time::Timestamp;
 use std::alloc::{AllocError, Global};
 use std::sync::Arc;
@@ -18,50 +19,43 @@ pub fn loopback(alloc: Global, main: &Prefix, back: &Prefix) -> Result<Prefix, A
     requires back { IsPrefix back.now }
     ensures { IfOk result (λ stream. stream ≡ loopback main.now back.now) }
 {
-    let turns = answered(main, back);
-    let packets = answers(alloc, main, back, turns)?;
-    let (_, waiting) = main.packets.as_slice().split_at(turns as usize);
-    let bound = match waiting.first() {
-        Some(first) => first.at,
-        None => main.bound,
-    };
-    Ok(Prefix {
-        packets: BlockList::from_vec(packets)?,
-        bound,
-    })
+    let (mut main, mut back) = (Rest::of(main), Rest::of(back));
+    let packets = take_answers(alloc, None, &mut main, &mut back)?;
+    let bound = main.read_up_to();
+    Ok(Prefix { packets, bound })
 }
 
-/// How many packets of MAIN are answered: those that LOOP has settled, and the one behind them, if there is one. It takes
-/// no memory.
-pub fn answered(main: &Prefix, back: &Prefix) -> u32
-    ensures { result ≡ length (replies main.now back.now) }
-{
-    let count = main.packets.len();
-    let settled = count_before(main.packets.as_slice(), back.bound) as u32;
-    if settled < count { settled + 1 } else { count }
-}
-
-/// The answers to the first packets of MAIN, so many, that aren't nothing.
-fn answers(
+/// The answers, but those that are nothing, to what is left of MAIN behind a packet, or behind none. It is read on behind the
+/// packets that are answered, and LOOP behind those that nobody will ask for: what comes later is read from there.
+pub fn take_answers(
     alloc: Global,
-    main: &Prefix,
-    back: &Prefix,
-    turns: u32,
-) -> Result<Vec<Packet>, AllocError>
-    requires main { IsPrefix main.now }
-    requires back { IsPrefix back.now }
-    requires turns { turns ≡ length (replies main.now back.now) }
-    ensures { IfOk result (λ packets. packets.items ≡ (loopback main.now back.now).packets) }
+    previous: Option<Timestamp>,
+    main: &mut Rest<'_>,
+    back: &mut Rest<'_>,
+) -> Result<PacketList, AllocError>
+    requires main { IsPrefix main.old }
+    requires back { IsPrefix back.old }
+    ensures { (before : Option (Stamped Plain)) → previous ≡ option_map (λ p. p.at) before → StandsBehind before main.old.packets
+        → IfOk result (λ packets. AreAnswers before main.old back.old packets main.new back.new) }
 {
-    let (turns, _) = main.packets.as_slice().split_at(turns as usize);
-    let mut rest = Rest::of(back);
-    let mut previous = None;
+    let mut previous = previous;
     let mut packets = Vec::new(alloc);
-    for turn in turns {
-        push_some(&mut packets, answer(&mut rest, previous, turn.at)?)?;
-        previous = Some(turn.at);
+    while let Some(at) = next_turn(previous, main, back) {
+        push_some(&mut packets, answer(back, previous, at)?)?;
+        main.read_first();
+        previous = Some(at);
     }
-    Ok(packets)
+    Ok(BlockList::from_vec(packets)?)
+}
+
+/// The time of the next packet of MAIN, where it is answered: it is the first of all, or LOOP has settled the one before it.
+fn next_turn(previous: Option<Timestamp>, main: &Rest<'_>, back: &Rest<'_>) -> Option<Timestamp>
+    ensures { result ≡ next_turn previous main.now back.now }
+{
+    match previous {
+        Some(before) if back.bound() <= before => None,
+        _ => main.first().map(|turn| turn.at),
+    }
 }
 
 /// The answer at a time, where the packet of MAIN before it has another. Reads on behind that.

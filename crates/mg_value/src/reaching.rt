@@ -1,66 +1,49 @@
-ghost use Rattle.std.specs.Prelude.{◌≡◌, ◌<◌, All, length};
+ghost use Rattle.std.specs.Prelude.{◌≡◌, ◌<◌, ◌^◌, length};
 ghost use Rattle.mg_value.specs.Payload.{plain};
-ghost use Rattle.mg_value.specs.Settled.{low, selected, is_settled, inputs_of, reach};
-ghost use Rattle.mg_value.specs.declared.policy.Policy.TheVariants.{Default, Mux};
+ghost use Rattle.mg_value.specs.Settled.{selected, is_settled, reach};
+ghost use Rattle.mg_value.specs.declared.policy.Policy.TheVariants.{Mux};
 
-use crate::look::lesser;
-use crate::rest::prefix_at;
-use crate::{NumberList, Packet, Payload, Policy, PrefixList};
+use crate::look::look_at;
+use crate::rest::Rest;
+use crate::{Packet, Payload, Policy};
 use mg_time::Timestamp;
 
-/// How far the settled sets of a node reach whose ports have the streams with these numbers: each further set stands
-/// there or above (MediaPipe, Synchronization). It takes no memory.
-pub fn reach(policy: Policy, prefixes: &PrefixList, ports: &NumberList) -> Timestamp
-    requires { All (λ i. i < length prefixes.now) ports.now }
-    ensures { result ≡ reach policy (inputs_of prefixes.now ports.now) }
+/// How far the settled sets of the prefixes reach that a node has at its ports: each further set stands there or above
+/// (MediaPipe, Synchronization). Where settled sets have been taken, what is left reaches as far. It takes no memory.
+pub fn reach(policy: Policy, rests: &[Rest<'_>]) -> Timestamp
+    requires { length rests.now < 2 ^ 32 }
+    ensures { result ≡ reach policy rests.now }
 {
     match policy {
-        Policy::Default => low_of(prefixes, ports),
-        Policy::Mux => mux_reach(prefixes, ports),
+        Policy::Default => look_at(rests).low,
+        Policy::Mux => mux_reach(rests),
     }
-}
-
-/// The least bound of the ports.
-fn low_of(prefixes: &PrefixList, ports: &NumberList) -> Timestamp
-    requires { All (λ i. i < length prefixes.now) ports.now }
-    ensures { result ≡ low (inputs_of prefixes.now ports.now) }
-{
-    let mut low = Timestamp::DONE;
-    for port in 0..ports.len() as usize {
-        let prefix = prefix_at(prefixes, ports, port);
-        low = lesser(low, prefix.bound);
-    }
-    low
 }
 
 /// The time of the first packet of SELECT that isn't settled, or SELECT's bound.
-fn mux_reach(prefixes: &PrefixList, ports: &NumberList) -> Timestamp
-    requires { All (λ i. i < length prefixes.now) ports.now }
-    ensures { result ≡ reach Mux (inputs_of prefixes.now ports.now) }
+fn mux_reach(rests: &[Rest<'_>]) -> Timestamp
+    requires { length rests.now < 2 ^ 32 }
+    ensures { result ≡ reach Mux rests.now }
 {
-    if ports.is_empty() {
+    let Some(select) = rests.last() else {
         return Timestamp::DONE;
-    }
-    let select = prefix_at(prefixes, ports, ports.len() as usize - 1);
-    for packet in select.packets.as_slice() {
-        if !is_settled(prefixes, ports, packet) {
+    };
+    for packet in select.packets() {
+        if !is_settled(rests, packet) {
             return packet.at;
         }
     }
-    select.bound
+    select.bound()
 }
 
 /// Whether a packet of SELECT is settled.
-fn is_settled(prefixes: &PrefixList, ports: &NumberList, packet: &Packet) -> bool
-    requires { All (λ i. i < length prefixes.now) ports.now }
-    ensures { result ≡ is_settled (inputs_of prefixes.now ports.now) packet.now }
+pub(crate) fn is_settled(rests: &[Rest<'_>], packet: &Packet) -> bool
+    requires { length rests.now < 2 ^ 32 }
+    ensures { result ≡ is_settled rests.now packet.now }
 {
-    match selected(ports.len(), &packet.payload) {
+    match selected(rests.len() as u32, &packet.payload) {
         None => true,
-        Some(port) => {
-            let prefix = prefix_at(prefixes, ports, port as usize);
-            packet.at < prefix.bound
-        }
+        Some(port) => packet.at < rests[port as usize].bound(),
     }
 }
 

@@ -12,7 +12,7 @@ use std::marker::Model;
 
 /// What is left of a prefix that is read from its first packet on. Contracts see it as a prefix.
 #[derive(Drop)]
-pub(crate) struct Rest<'a> {
+pub struct Rest<'a> {
     packets: &'a [Packet],
     bound: Timestamp,
 }
@@ -30,14 +30,41 @@ impl<'a> Model for Rest<'a> {
 }
 
 impl<'a> Rest<'a> {
+    /// What is left of packets up to a bound, of which so many first ones have been read.
+    pub fn behind(packets: &'a [Packet], bound: Timestamp, read: usize) -> Rest<'a>
+        requires { read ≤ length packets.now }
+        ensures packets { result.packets ≡ drop read packets.now }
+        ensures bound { result.bound ≡ bound }
+    {
+        let (_, left) = packets.split_at(read);
+        Rest {
+            packets: left,
+            bound,
+        }
+    }
+
     /// All of a prefix.
-    pub(crate) fn of(prefix: &'a Prefix) -> Rest<'a>
+    pub fn of(prefix: &'a Prefix) -> Rest<'a>
         ensures { result ≡ prefix.now }
     {
         Rest {
             packets: prefix.packets.as_slice(),
             bound: prefix.bound,
         }
+    }
+
+    /// How many packets are left.
+    pub fn len(&self) -> usize
+        ensures { result ≡ length self.now.packets }
+    {
+        self.packets.len()
+    }
+
+    /// The packets that are left.
+    pub fn packets(&self) -> &'a [Packet]
+        ensures { result.now ≡ self.now.packets }
+    {
+        self.packets
     }
 
     /// The first packet that is left.
@@ -48,7 +75,7 @@ impl<'a> Rest<'a> {
     }
 
     /// The bound.
-    pub(crate) fn bound(&self) -> Timestamp
+    pub fn bound(&self) -> Timestamp
         ensures { result ≡ self.now.bound }
     {
         self.bound
@@ -61,6 +88,26 @@ impl<'a> Rest<'a> {
         match self.packets.first() {
             Some(first) => first.at,
             None => Timestamp::DONE,
+        }
+    }
+
+    /// Up to where all has been read: the time of the first packet that is left, or the bound.
+    pub fn read_up_to(&self) -> Timestamp
+        ensures { result ≡ first_time self.now.packets self.now.bound }
+    {
+        match self.packets.first() {
+            Some(first) => first.at,
+            None => self.bound,
+        }
+    }
+
+    /// Reads the first packet.
+    pub(crate) fn read_first(&mut self)
+        ensures packets { self.new.packets ≡ drop 1 self.old.packets }
+        ensures bound { self.new.bound ≡ self.old.bound }
+    {
+        if let Some((_, left)) = self.packets.split_first() {
+            self.packets = left;
         }
     }
 
@@ -122,7 +169,7 @@ pub(crate) fn prefix_at<'a>(prefixes: &'a PrefixList, ports: &NumberList, port: 
 }
 
 /// The prefixes at all ports, to be read.
-pub(crate) fn rests_of<'a>(
+pub fn rests_of<'a>(
     alloc: Global,
     prefixes: &'a PrefixList,
     ports: &NumberList,

@@ -3,6 +3,7 @@ ghost use Rattle.std.specs.Prelude.{◌≡◌, ◌<◌, ◌^◌, All, length, ma
 ghost use Rattle.mg_value.specs.Prefix.{IsPrefix};
 ghost use Rattle.mg_value.specs.Settled.{packet_at, selected, inputs_of, settled_sets};
 ghost use Rattle.mg_value.specs.FirstSet.{first_set_time, chosen_port, is_shown, behind};
+ghost use Rattle.mg_value.specs.Left.{AreLeft};
 
 use crate::look::look_at;
 use crate::reaching::selected;
@@ -25,9 +26,24 @@ pub fn settled_sets(
     ensures { IfOk result (λ sets. sets ≡ settled_sets policy (inputs_of prefixes.now ports.now)) }
 {
     let mut rests = rests_of(alloc, prefixes, ports)?;
+    take_sets(alloc, policy, rests.as_mut_slice())
+}
+
+/// The settled sets of what is left at each port, which is read on behind them. What comes later at these ports is read from
+/// there.
+pub fn take_sets(
+    alloc: Global,
+    policy: Policy,
+    rests: &mut [Rest<'_>],
+) -> Result<TimedSetList, AllocError>
+    requires few { length rests.old < 2 ^ 32 }
+    requires streams { All IsPrefix rests.old }
+    ensures sets { IfOk result (λ sets. sets ≡ settled_sets policy rests.old) }
+    ensures left { OnOk result (AreLeft policy (length (settled_sets policy rests.old)) rests.old rests.new) }
+{
     let mut sets = Vec::new(alloc);
-    while let Some(at) = first_set_time(policy, rests.as_slice()) {
-        let set = take_set(alloc, policy, rests.as_mut_slice(), at)?;
+    while let Some(at) = first_set_time(policy, rests) {
+        let set = take_set(alloc, policy, rests, at)?;
         sets.push(TimedSet { at, set })?;
     }
     Ok(BlockList::from_vec(sets)?)

@@ -1,5 +1,5 @@
 -- Laying the front of a window, entry by entry.
-use Rattle.std.specs.Prelude.{◌≡◌, ℕ, ℤ, ◌+◌, ◌<◌, ◌≤◌, Bool, false, List, [], ◌∷◌, ◌++◌, length, map, Option, Some, None, IfSome, option_map, is_some}
+use Rattle.std.specs.Prelude.{◌≡◌, ℕ, ℤ, ◌+◌, ◌<◌, ◌≤◌, false, List, [], ◌∷◌, ◌++◌, length, map, Option, Some, None, IfSome, option_map}
 use Rattle.mg_value.specs.Payload.{Plain}
 use Rattle.mg_value.specs.Prefix.{StreamPrefix}
 use Rattle.mg_stream.specs.Queue.{Waiting}
@@ -8,7 +8,8 @@ use Rattle.mg_calc.specs.declared.node_fault.Phase.{Phase}
 use Rattle.mg_node.specs.declared.fronts.FrontEnd.{FrontEnd}
 use Rattle.mg_node.specs.Views.{BenchView, PerformedView, EntryView, EngineView}
 use Rattle.mg_node.specs.Lawful.{StandForAll, is_close}
-use Rattle.mg_node.specs.Commits.{raised_before, counted, Front, ready_of, with_ready, front_laid, front_of, fault_at, HasFront}
+use Rattle.mg_node.specs.Commits.{raised_before, counted, Front, with_ready, front_laid, front_of, fault_at, HasFront}
+use Rattle.mg_node.specs.Windows.{ready_of}
 use Rattle.mg_node.specs.Code.QueueLaying.{Stand, room_at, packets_by, IsLaid}
 
 -- how many packets the entries that are ready at the front of a window have at an output
@@ -19,11 +20,6 @@ needed output (entry ∷ entries) = with_ready (ready_of entry) 0 (λ p. packets
 -- the outputs have room for them
 abbrev pub HasRoom : List (Waiting Plain) → List EntryView → Type 0
 HasRoom queues entries = (output : ℕ) → output < length queues → needed output entries ≤ room_at output queues
-
--- whether the first entry of a window is ready
-abbrev pub starts_ready : List EntryView → Bool
-starts_ready [] = false
-starts_ready (entry ∷ entries) = is_some (ready_of entry)
 
 -- how many sets or calls a window has
 abbrev pub counted_in : List EntryView → ℕ

@@ -3,7 +3,7 @@ ghost use Rattle.std.specs.Prelude.{◌≡◌, ◌<◌, ◌+◌, ℕ, ◌^◌, l
 ghost use Rattle.mg_node.specs.Views.{IntakeView};
 ghost use Rattle.mg_node.specs.Job.{LoggedJob};
 ghost use Rattle.mg_node.specs.Lawful.{of_node, Agree, LawfulEngine, LawfulIntake, AreCell};
-ghost use Rattle.mg_node.specs.Claims.{LawfulClaim, MayClaim, IsOver, Hands, Claims};
+ghost use Rattle.mg_node.specs.Claims.{LawfulClaim, GivesOut, MayClaim, IsOver, Hands, Claims};
 ghost use Rattle.mg_node.specs.IntakeStanding.{IntakeGrows};
 ghost use Rattle.mg_node.specs.Standing.{EngineGrows};
 ghost use Rattle.mg_node.specs.declared.role.Role as Role;
@@ -24,6 +24,7 @@ impl<C: Calculator> Engine<C> {
     pub fn claim(&mut self, intake: &mut Intake) -> Claimed<C>
         requires cell { AreCell self.old intake.old }
         ensures claims { Claims result self.old self.new intake.old intake.new }
+        ensures out { GivesOut result self.new }
 
         // The standing of both only grows.
         ensures grows { EngineGrows self.old self.new }

@@ -1,10 +1,11 @@
 //! What an engine gives of what was laid.
-ghost use Rattle.std.specs.Prelude.{◌≡◌, ◌<◌, ◌≤◌, length, slice_get, slice_set, Some, slice_index_or};
+ghost use Rattle.std.specs.Prelude.{◌≡◌, ◌<◌, ◌≤◌, length, slice_get, slice_set, Some, false, slice_index_or};
 ghost use Rattle.mg_stream.specs.Pool.{empty_backlog};
 ghost use Rattle.mg_node.specs.Job.{LoggedJob, ports_of};
 ghost use Rattle.mg_node.specs.Lawful.{Owner, LawfulEngine, LawfulIntake};
 ghost use Rattle.mg_node.specs.Outputs.{count_at, without_first};
 ghost use Rattle.mg_node.specs.Delivery.{Delivers};
+ghost use Rattle.mg_node.specs.declared.delivered.Delivered as Delivered;
 ghost use Rattle.mg_node.specs.IntakeStanding.{IntakeGrows};
 ghost use Rattle.mg_node.specs.Standing.{EngineGrows};
 ghost use Rattle.mg_node.specs.Leading.{output_at, Leads};
@@ -22,6 +23,9 @@ impl<C: Calculator> Engine<C> {
         requires { Leads self.now edge intake.old }
         ensures moved { Delivers result (output_at self.now edge) edge.port most intake.old.waits intake.new.waits }
         ensures claimed { intake.new.claimed ≡ intake.old.claimed }
+
+        // Where no packet came and the bound didn't rise, nothing has changed, nor has the room.
+        ensures still { result ≡ Delivered.Moved 0 false → intake.new ≡ intake.old }
 
         // The intake's standing only grows.
         ensures grows { IntakeGrows intake.old intake.new }

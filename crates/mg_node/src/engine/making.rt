@@ -1,5 +1,6 @@
 //! How an engine is made.
-ghost use Rattle.std.specs.Prelude.{◌≡◌, ◌<◌, List, IfErr, length, slice_get, Some, slice_index_or, IfOk};
+ghost use Rattle.std.specs.Prelude.{◌≡◌, ◌<◌, ℕ, true, List, IfErr, length, slice_get, Some, slice_index_or, IfOk};
+ghost use Rattle.mg_route.specs.HolderView.{HolderView, holder_view};
 ghost use Rattle.mg_value.specs.Payload.{Plain};
 ghost use Rattle.mg_value.specs.Prefix.{StreamPrefix, IsPrefix, empty_prefix};
 ghost use Rattle.mg_node.specs.Job.{LoggedJob, Solves};
@@ -70,6 +71,17 @@ impl<C: Calculator> Engine<C> {
             closed: false,
             fault: None,
         })
+    }
+
+    /// Puts a calculator that is handed in into an engine that was made with another one and isn't begun. It takes no memory.
+    pub fn hand_in(&mut self, calculator: C)
+        ensures { (planned : PlanNode) (number : ℕ) (told : HolderView) → self.old ≡ fresh_engine planned number told
+            → self.new ≡ fresh_engine planned number (holder_view true (C.told calculator)) }
+    {
+        let Some(bench) = self.idle.pop() else {
+            return;
+        };
+        self.idle.push_reserved(bench.with(calculator));
     }
 
     /// The engine of the graph input of a number: its one output is what is known of the input, whose payloads are shared.

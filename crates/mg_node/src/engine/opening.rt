@@ -3,7 +3,7 @@ ghost use Rattle.std.specs.Prelude.{◌≡◌, ◌<◌, ℕ, List, length, slice
 ghost use Rattle.mg_value.specs.Payload.{Plain};
 ghost use Rattle.mg_value.specs.Prefix.{StreamPrefix};
 ghost use Rattle.mg_calc.specs.declared.plan_node.PlanNode.{PlanNode};
-ghost use Rattle.mg_calc.specs.Told.{CalculatorTold};
+ghost use Rattle.mg_route.specs.HolderView.{HolderView};
 ghost use Rattle.mg_calc.specs.Equations.{sides_of};
 ghost use Rattle.mg_node.specs.Job.{LoggedJob, Solves};
 ghost use Rattle.mg_node.specs.Lawful.{of_node, LawfulEngine};
@@ -22,9 +22,9 @@ impl<C: Calculator> Engine<C> {
     /// memory the engine isn't begun, and this may be called again; a calculator that was opened isn't opened again then.
     pub fn begin(&mut self, sides: &GivenList) -> Result<(), AllocError>
         requires { SomeUnbegun sides.now self.old }
-        ensures begun { (node : PlanNode) (number : ℕ) (told : CalculatorTold) → IsNew node told → IsUnbegun node number told sides.now self.old
+        ensures begun { (node : PlanNode) (number : ℕ) (told : HolderView) → IsNew node told → IsUnbegun node number told sides.now self.old
             → OnOk result (HasBegun node number told sides.now self.new) }
-        ensures unbegun { (node : PlanNode) (number : ℕ) (told : CalculatorTold) → IsUnbegun node number told sides.now self.old
+        ensures unbegun { (node : PlanNode) (number : ℕ) (told : HolderView) → IsUnbegun node number told sides.now self.old
             → OnErr result (IsUnbegun node number told sides.now self.new) }
 
         // Its standing only grows.
@@ -45,7 +45,7 @@ impl<C: Calculator> Engine<C> {
     // Opens the calculator, where it wasn't opened.
     fn open_once(&mut self, sides: &GivenList) -> Result<(), AllocError>
         requires { SomeUnbegun sides.now self.old }
-        ensures opened { (node : PlanNode) (number : ℕ) (told : CalculatorTold) → IsUnbegun node number told sides.now self.old
+        ensures opened { (node : PlanNode) (number : ℕ) (told : HolderView) → IsUnbegun node number told sides.now self.old
             → OnOk result (HasOpened node number told sides.now self.new) }
         ensures unchanged { OnErr result (self.new ≡ self.old) }
     {
@@ -60,7 +60,7 @@ impl<C: Calculator> Engine<C> {
     fn open(&mut self, sides: &GivenList) -> Result<(), AllocError>
         requires window { self.old.window ≡ [] }
         requires bench { 0 < length self.old.idle }
-        ensures opened { (node : PlanNode) (number : ℕ) (told : CalculatorTold) → self.old ≡ fresh_engine node number told
+        ensures opened { (node : PlanNode) (number : ℕ) (told : HolderView) → self.old ≡ fresh_engine node number told
             → OnOk result (HasOpened node number told sides.now self.new) }
         ensures unchanged { OnErr result (self.new ≡ self.old) }
     {

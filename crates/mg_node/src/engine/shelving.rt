@@ -32,6 +32,10 @@ impl<C: Calculator> Engine<C> {
         ensures found { result ≡ shelf_at self.old number }
         ensures taken { Unshelves result self.old self.new number }
 
+        // Of a lawful engine, what is found is the work of that number, and it is out.
+        ensures numbered { (job : LoggedJob) (owner : ℕ) → LawfulEngine job (of_node owner) self.old → IfSome result (λ p. p.work.number ≡ number) }
+        ensures out { (job : LoggedJob) (owner : ℕ) → LawfulEngine job (of_node owner) self.old → IfSome result (λ p. IsOut self.new p.work) }
+
         // Its standing only grows.
         ensures grows { EngineGrows self.old self.new }
 

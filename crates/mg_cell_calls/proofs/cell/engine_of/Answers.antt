@@ -1,6 +1,5 @@
 use Rattle.std.proofs.Common.{inl, sym, refl, ◌∙◌}
-use Rattle.mg_node.specs.Fresh.{own_told}
-use Rattle.mg_cell_calls.specs.Cell.{job_of}
+use Rattle.mg_cell_calls.specs.Cell.{job_of, held_of}
 use Rattle.mg_cell_calls.proofs.Making.{solved, made, made_unbegun, made_lawful, sides_none, is_new, begun_none, begun_keeps}
 use Rattle.mg_cell_calls.proofs.cell.engine_of.Goals as goal
 
@@ -17,9 +16,9 @@ returns-clause-lawful c =
 pub returns-clause-none : goal.returns-clause-none
 returns-clause-none c =
     let m = made c.args.plan.now _ c.in_ok-engine.ensures.there c.in_ok-engine.ensures.fresh in
-    begun_none m.node (own_told m.node) _ _ (c.in_ok-begin.ensures.begun m.node 0 (own_told m.node) (is_new m.node (own_told m.node) refl) (inl m.fresh))
+    begun_none m.node (held_of m.node) _ _ (c.in_ok-begin.ensures.begun m.node 0 (held_of m.node) (is_new m.node (held_of m.node) refl) (inl m.fresh))
 
 pub returns-clause-keeps : goal.returns-clause-keeps
 returns-clause-keeps c =
     let m = made c.args.plan.now _ c.in_ok-engine.ensures.there c.in_ok-engine.ensures.fresh in
-    begun_keeps m.node (own_told m.node) _ _ (c.in_ok-begin.ensures.begun m.node 0 (own_told m.node) (is_new m.node (own_told m.node) refl) (inl m.fresh))
+    begun_keeps m.node (held_of m.node) _ _ (c.in_ok-begin.ensures.begun m.node 0 (held_of m.node) (is_new m.node (held_of m.node) refl) (inl m.fresh))

@@ -1,7 +1,7 @@
-use Rattle.std.proofs.Common.{rules, ◌≡◌, ◌<◌, length, Some, slice_get, ap, refl, ◌∙◌}
-use Rattle.mg_node.specs.Views.{EngineView}
+use Rattle.std.proofs.Common.{rules, ◌≡◌, Some, slice_get, refl}
+use Rattle.mg_node.proofs.Knowing.{input_known}
 use Rattle.mg_cell_calls.specs.Cell.{job_of}
-use Rattle.mg_cell_calls.proofs.Making.{solved, input_stream, input_number}
+use Rattle.mg_cell_calls.proofs.Making.{solved, input_stream}
 use Rattle.mg_cell_calls.proofs.streams.feed_of.Goals as goal
 
 pub returns-clause-lawful : goal.returns-clause-lawful
@@ -12,6 +12,4 @@ returns-clause-lawful c =
     (input_stream c.args.plan.now c.args.inputs.now s.0 c.args.input c.in_ok-prefix.prefix.now s.1 at)
 
 pub returns-clause-first : goal.returns-clause-first
-returns-clause-first c =
-    let within : c.args.input < length c.args.plan.now.inputs = search rules in
-    ap (λ (e : EngineView). e.first) c.in_ok-of_input.ensures.engine ∙ input_number c.args.plan.now c.args.input c.requires.job.plan within
+returns-clause-first c = (input_known (job_of c.args.plan.now c.args.inputs.now) c.args.input _ (returns-clause-lawful c)).first

@@ -17,4 +17,5 @@ loop-packets-preserved c = record {
   brought = brought_more _ _ _ _ _ _ _ _ c.loop-packets.invariant.brought (sym c.in-Some.ensures) c.in-Ok.ensures.came;
   most = omega arith;
   claimed = c.in-Ok.ensures.claimed ∙ c.loop-packets.invariant.claimed;
+  still = (λ none. absurd (omega (arith, none)));
 }

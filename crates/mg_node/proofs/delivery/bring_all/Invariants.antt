@@ -8,6 +8,7 @@ invariant-loop-packets l = record {
   brought : Brought l.output l.port l.packets l.initial.intake.waits l.intake.waits;
   most : l.packets ≤ l.most;
   claimed : l.intake.claimed ≡ l.initial.intake.claimed;
+  still : l.packets ≡ 0 → l.intake ≡ l.initial.intake;
 }
 
 abbrev pub decreases-loop-packets : goal.decreases-loop-packets

@@ -1,9 +1,7 @@
-use Rattle.std.proofs.Common.{length, ap, arith}
-use Rattle.mg_value.specs.Payload.{Plain}
-use Rattle.mg_value.specs.Prefix.{StreamPrefix}
-use Rattle.mg_value.proofs.LoopbackStream.{replies-most}
+use Rattle.std.proofs.Common.{None, refl}
+use Rattle.mg_value.proofs.LoopbackFurther.{whole-loopback}
 use Rattle.mg_value.proofs.looping.loopback.Goals as goal
 
-pub split_at-requires : goal.split_at-requires
-split_at-requires c =
-    omega (arith, c.answered-turns.ensures, replies-most c.args.main.now c.args.back.now, ap length c.as_slice.ensures, ap (λ (s : StreamPrefix Plain). length s.packets) c.main.view_is)
+pub returns : goal.returns
+returns c =
+    whole-loopback c.args.main.now c.args.back.now c.of-main.result c.of-back.result _ _ c.read_up_to-bound.result _ c.of-main.ensures c.of-back.ensures c.read_up_to-bound.ensures (c.in_ok-packets.ensures None refl tt)

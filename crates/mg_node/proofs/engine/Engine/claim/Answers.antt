@@ -1,6 +1,10 @@
 use Rattle.mg_node.proofs.Cells.{claim_lawful}
 use Rattle.mg_node.proofs.ClaimsGrow.{claim_grows}
+use Rattle.mg_node.proofs.WorksOut.{claim_out}
 use Rattle.mg_node.proofs.engine.Engine.claim.Goals as goal
+
+pub returns-clause-out : goal.returns-clause-out
+returns-clause-out g c = claim_out c.claim_next.result _ _ _ _ c.requires.cell c.claim_next.ensures
 
 pub returns-clause-grows : goal.returns-clause-grows
 returns-clause-grows g c = (claim_grows c.claim_next.result _ _ _ _ c.requires.cell c.claim_next.ensures).engine_grows

@@ -1,0 +1,144 @@
+-- A node that is shown its further sets comes to what it comes to from all of them.
+use Rattle.std.proofs.Common.{◌≡◌, ℕ, ℤ, zero, suc, ◌+◌, ◌<◌, ◌≤◌, ◌^◌, ◌==◌, max, Bool, true, false, replicate, List, [], ◌∷◌, ◌++◌, map, drop, length, length-append, All, Option, Some, None, Result, Ok, Err, refl, sym, ap, ap₂, subst, ◌∙◌, take-append-drop, arith, inl, inr, ◌⊎◌, if◌then◌else◌}
+use Rattle.std.specs.List.{AllByRecursion, fold}
+use Rattle.std.proofs.lemmas.List.{length-map}
+use Rattle.std.proofs.lemmas.List.Sums.{fold-append}
+use Rattle.std.proofs.lemmas.List.Elements.{recursion_from_All}
+use Rattle.mg_time.specs.Time.{done, shift}
+use Rattle.mg_value.specs.Payload.{Plain}
+use Rattle.mg_value.specs.Prefix.{StreamPrefix, IsPrefix, raised, closed}
+use Rattle.mg_value.specs.Extension.{AreExtendedBy}
+use Rattle.mg_value.specs.Settled.{TimedSet, settled_sets, reach}
+use Rattle.mg_value.specs.declared.policy.Policy.{Policy}
+use Rattle.mg_value.proofs.Lemmas.{Rises, times-rise, below-reach, reach-most, reach-rises, sets-stay, sets-further, sets-end}
+use Rattle.mg_calc.specs.declared.cause.Cause.{Cause}
+use Rattle.mg_calc.specs.declared.law.Law.{Law}
+use Rattle.mg_calc.specs.declared.node_fault.Phase.TheVariants.{Open, Process, Close}
+use Rattle.mg_calc.specs.Law.{opening, step, finish}
+use Rattle.mg_calc.specs.Laying.{after, laid_behind, all_raised}
+use Rattle.mg_calc.specs.Outcome.{Failure, Outcome, after_call, unopened, opened, unless_failed, shown, shown_all, after_close, finished, with_reach, ended, node_outcome}
+use Rattle.mg_calc.proofs.LaidBehind.{shift_order}
+use Rattle.mg_calc.proofs.Outcomes.{goes_on, stays, failed_stays}
+use Rattle.mg_equations.proofs.OutcomeSteps.{call_counts, shown_counts}
+
+-- raised twice is raised to the higher bound
+raised_twice : (s : StreamPrefix Plain) (low high : ℕ) → low ≤ high → raised (raised s low) high ≡ raised s high
+raised_twice s low high le = ap (λ (b : ℕ). (let it : StreamPrefix Plain = record { packets = s.packets; bound = b } in it)) (let e : max (max s.bound low) high ≡ max s.bound high = omega (arith, le) in e)
+
+all_raised_twice : (offset : Option ℤ) (low high : ℕ) (outputs : List (StreamPrefix Plain)) → low ≤ high → all_raised offset high (all_raised offset low outputs) ≡ all_raised offset high outputs
+all_raised_twice None low high outputs le = refl
+all_raised_twice (Some o) low high outputs le = each outputs
+  where
+    each : (ss : List (StreamPrefix Plain)) → map (λ s. raised s (shift high o)) (map (λ s. raised s (shift low o)) ss) ≡ map (λ s. raised s (shift high o)) ss
+    each [] = refl
+    each (s ∷ ss) = ap₂ (λ (first : StreamPrefix Plain) (rest : List (StreamPrefix Plain)). first ∷ rest) (raised_twice s (shift low o) (shift high o) (shift_order low high o le)) (each ss)
+
+-- an outcome whose outputs are raised
+abbrev raised_to : Option ℤ → ℕ → Outcome → Outcome
+raised_to offset low outcome = record outcome { outputs = all_raised offset low outcome.outputs }
+
+shown_raised : (law : Law) (offset : Option ℤ) (low : ℕ) (outcome : Outcome) (set : TimedSet Plain) → outcome.fault ≡ None → low ≤ set.at → shown law offset (raised_to offset low outcome) set ≡ shown law offset outcome set
+shown_raised law offset low outcome set h le =
+    goes_on outcome.fault (raised_to offset low outcome) _ h
+    ∙ ap (λ (outputs : List (StreamPrefix Plain)). after_call offset (Process set.at) (record outcome { outputs = outputs; taken = outcome.taken + 1 }) (step law outcome.state set.at set.set)) (all_raised_twice offset low set.at outcome.outputs le)
+    ∙ sym (goes_on outcome.fault outcome _ h)
+
+ended_raised : (law : Law) (offset : Option ℤ) (low high : ℕ) (outcome : Outcome) → outcome.fault ≡ None → low ≤ high → ended law offset high (raised_to offset low outcome) ≡ ended law offset high outcome
+ended_raised law offset low high outcome h le =
+    goes_on outcome.fault (raised_to offset low outcome) _ h
+    ∙ ap (λ (outputs : List (StreamPrefix Plain)). (let at_end : Outcome = record outcome { outputs = outputs } in if high == done then finished law offset at_end else at_end)) (all_raised_twice offset low high outcome.outputs le)
+    ∙ sym (goes_on outcome.fault outcome (with_reach law offset high outcome) h)
+
+fault_cases : (fault : Option Failure) → (fault ≡ None) ⊎ ((failure : Failure) × (fault ≡ Some failure))
+fault_cases None = inl refl
+fault_cases (Some failure) = inr (failure, refl)
+
+not_done : (law : Law) (offset : Option ℤ) (reached : ℕ) (outcome : Outcome) → (reached == done) ≡ false → with_reach law offset reached outcome ≡ raised_to offset reached outcome
+not_done law offset reached outcome h = rw h refl
+
+raised_goes_on : (law : Law) (offset : Option ℤ) (low high : ℕ) (outcome : Outcome) (sets : List (TimedSet Plain)) → outcome.fault ≡ None → low ≤ high → AllByRecursion (λ set. low ≤ set.at) sets
+    → ended law offset high (fold (shown law offset) (raised_to offset low outcome) sets) ≡ ended law offset high (fold (shown law offset) outcome sets)
+raised_goes_on law offset low high outcome [] h le above = ended_raised law offset low high outcome h le
+raised_goes_on law offset low high outcome (set ∷ sets) h le above = ap (λ (o : Outcome). ended law offset high (fold (shown law offset) o sets)) (shown_raised law offset low outcome set h above.0)
+
+resumed : (law : Law) (offset : Option ℤ) (low high : ℕ) (outcome : Outcome) (sets : List (TimedSet Plain)) → (low == done) ≡ false → low ≤ high → AllByRecursion (λ set. low ≤ set.at) sets
+    → ended law offset high (fold (shown law offset) (ended law offset low outcome) sets) ≡ ended law offset high (fold (shown law offset) outcome sets)
+resumed law offset low high outcome sets test le above = elim (fault_cases outcome.fault) [
+  | inl h ↦
+      (ap (λ (o : Outcome). ended law offset high (fold (shown law offset) o sets)) (goes_on outcome.fault outcome (with_reach law offset low outcome) h ∙ not_done law offset low outcome test)
+      ∙ raised_goes_on law offset low high outcome sets h le above)
+  | inr (failure, h) ↦ ap (λ (o : Outcome). ended law offset high (fold (shown law offset) o sets)) (stays outcome.fault outcome (with_reach law offset low outcome) failure h)
+]
+
+more_sets : (policy : Policy) (ss tt : List (StreamPrefix Plain)) → AreExtendedBy ss tt → settled_sets policy tt ≡ settled_sets policy ss ++ drop (length (settled_sets policy ss)) (settled_sets policy tt)
+more_sets policy ss tt e =
+    sym (take-append-drop (length (settled_sets policy ss)) (settled_sets policy tt))
+    ∙ ap (λ (first : List (TimedSet Plain)). first ++ drop (length (settled_sets policy ss)) (settled_sets policy tt)) (sets-stay policy ss tt e)
+
+pub node_resumed : (law : Law) (offset : Option ℤ) (policy : Policy) (outputs : ℕ) (sides : List (Option Plain)) (ss tt : List (StreamPrefix Plain)) → All IsPrefix tt → AreExtendedBy ss tt → (reach policy ss == done) ≡ false
+    → ended law offset (reach policy tt) (fold (shown law offset) (node_outcome law offset policy outputs sides ss) (drop (length (settled_sets policy ss)) (settled_sets policy tt))) ≡ node_outcome law offset policy outputs sides tt
+node_resumed law offset policy outputs sides ss tt h e test =
+    let begun = opened law offset outputs sides in
+    let more = drop (length (settled_sets policy ss)) (settled_sets policy tt) in
+    resumed law offset (reach policy ss) (reach policy tt) (shown_all law offset outputs sides (settled_sets policy ss)) more test (reach-rises policy ss tt h e)
+    (recursion_from_All (λ (set : TimedSet Plain). reach policy ss ≤ set.at) more (sets-further policy ss tt h e))
+    ∙ ap (ended law offset (reach policy tt)) (sym (fold-append (shown law offset) begun (settled_sets policy ss) more) ∙ ap (λ (sets : List (TimedSet Plain)). fold (shown law offset) begun sets) (sym (more_sets policy ss tt e)))
+
+pub reach_same : (policy : Policy) (ss tt : List (StreamPrefix Plain)) → All IsPrefix tt → AreExtendedBy ss tt → reach policy ss ≡ done → reach policy tt ≡ reach policy ss
+reach_same policy ss tt h e over = (let up = reach-rises policy ss tt h e in let most = reach-most policy tt h in omega (arith, up, most, over))
+
+-- once the sets have reached the end of all times, nothing changes
+pub node_over : (law : Law) (offset : Option ℤ) (policy : Policy) (outputs : ℕ) (sides : List (Option Plain)) (ss tt : List (StreamPrefix Plain)) → All IsPrefix tt → AreExtendedBy ss tt → reach policy ss ≡ done
+    → node_outcome law offset policy outputs sides ss ≡ node_outcome law offset policy outputs sides tt
+node_over law offset policy outputs sides ss tt h e over =
+    ap₂ (λ (r : ℕ) (sets : List (TimedSet Plain)). ended law offset r (shown_all law offset outputs sides sets)) (sym (reach_same policy ss tt h e over)) (sym (sets-end policy ss tt h e over))
+
+-- Counts fit: the times of settled sets ascend up to the end of all times.
+few_times : (a b : ℕ) (sets : List (TimedSet Plain)) → a ≤ b → Rises a (map (λ e. e.at) sets) → AllByRecursion (λ e. e.at < b) sets → length sets + a ≤ b
+few_times a b [] le rises below = omega (arith, le)
+few_times a b (set ∷ sets) le rises below =
+    let rest = few_times (set.at + 1) b sets (let lt = below.0 in omega (arith, lt)) rises.1 below.1 in
+    let first = rises.0 in
+    omega (arith, rest, first)
+
+pub few_sets : (policy : Policy) (ss : List (StreamPrefix Plain)) → All IsPrefix ss → length (settled_sets policy ss) < 2 ^ 64
+few_sets policy ss h =
+    let most : reach policy ss ≤ 18446744073709551615 = reach-most policy ss h in
+    let few = few_times 0 (reach policy ss) (settled_sets policy ss) (omega arith) (times-rise policy ss h) (recursion_from_All (λ (e : TimedSet Plain). e.at < reach policy ss) (settled_sets policy ss) (below-reach policy ss h)) in
+    omega (arith, few, most)
+
+unless_same : (fault : Option Failure) (outcome next : Outcome) → next.taken ≡ outcome.taken → (unless_failed fault outcome next).taken ≡ outcome.taken
+unless_same (Some failure) outcome next e = refl
+unless_same None outcome next e = e
+
+close_counts : (outcome : Outcome) (answer : Result (List (StreamPrefix Plain)) Cause) → (after_close outcome answer).taken ≡ outcome.taken
+close_counts outcome (Ok outputs) = refl
+close_counts outcome (Err cause) = refl
+
+if_counts : (test : Bool) (a b : Outcome) (n : ℕ) → a.taken ≡ n → b.taken ≡ n → (if test then a else b).taken ≡ n
+if_counts true a b n e f = e
+if_counts false a b n e f = f
+
+ended_counts : (law : Law) (offset : Option ℤ) (reached : ℕ) (outcome : Outcome) → (ended law offset reached outcome).taken ≡ outcome.taken
+ended_counts law offset reached outcome =
+    let before = raised_to offset reached outcome in
+    unless_same outcome.fault outcome (with_reach law offset reached outcome)
+    (if_counts (reached == done) (finished law offset before) before outcome.taken (close_counts before (after (finish law before.state) (λ given. laid_behind offset Close before.outputs given.1))) refl)
+
+fold_counts : (law : Law) (offset : Option ℤ) (outcome : Outcome) (sets : List (TimedSet Plain)) → (fold (shown law offset) outcome sets).taken ≤ outcome.taken + length sets
+fold_counts law offset outcome [] = omega arith
+fold_counts law offset outcome (set ∷ sets) =
+    let rest = fold_counts law offset (shown law offset outcome set) sets in
+    let one = shown_counts law offset outcome set in
+    omega (arith, rest, one)
+
+pub opened_counts : (law : Law) (offset : Option ℤ) (outputs : ℕ) (sides : List (Option Plain)) → (opened law offset outputs sides).taken ≡ 0
+opened_counts law offset outputs sides = call_counts offset Open (unopened outputs) (opening law sides)
+
+pub node_counts : (law : Law) (offset : Option ℤ) (policy : Policy) (outputs : ℕ) (sides : List (Option Plain)) (ss : List (StreamPrefix Plain)) → (node_outcome law offset policy outputs sides ss).taken ≤ length (settled_sets policy ss)
+node_counts law offset policy outputs sides ss =
+    let begun = opened law offset outputs sides in
+    let all = fold_counts law offset begun (settled_sets policy ss) in
+    let none = opened_counts law offset outputs sides in
+    let same = ended_counts law offset (reach policy ss) (shown_all law offset outputs sides (settled_sets policy ss)) in
+    omega (arith, all, none, same)

@@ -1,6 +1,0 @@
--- Those copied so far are the first of the list.
-use Rattle.std.proofs.Common.{◌≡◌, take}
-use Rattle.mg_equations.proofs.round.copies.Given as goal
-
-abbrev pub invariant-loop-prefix : goal.invariant-loop-prefix
-invariant-loop-prefix l = l.copies.items ≡ take l.prefix-index l.prefix-items

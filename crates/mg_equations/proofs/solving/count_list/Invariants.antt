@@ -1,0 +1,7 @@
+-- With the nodes that are left it comes to the same.
+use Rattle.std.proofs.Common.{◌≡◌, ◌++◌, map, drop}
+use Rattle.mg_equations.specs.Progress.{outcomes}
+use Rattle.mg_equations.proofs.solving.count_list.Given as goal
+
+abbrev pub invariant-loop-progress : goal.invariant-loop-progress
+invariant-loop-progress l = l.counts.items ++ map (λ outcome. outcome.taken) (outcomes (drop l.progress-index l.nodes)) ≡ map (λ outcome. outcome.taken) (outcomes l.nodes)

@@ -1,0 +1,55 @@
+//! The graphs that are tried.
+
+/// One packet goes through.
+pub(crate) fn passing() -> &'static str {
+    r#"input_stream: "in" output_stream: "out"
+node { calculator: "PassThroughCalculator" input_stream: "in" output_stream: "out" }"#
+}
+
+/// Two streams become one.
+pub(crate) fn merging() -> &'static str {
+    r#"input_stream: "a" input_stream: "b" output_stream: "out"
+node { calculator: "MergeCalculator" input_stream: "a" input_stream: "b" output_stream: "out" }"#
+}
+
+/// A stream tells from which of two others a packet is taken.
+pub(crate) fn choosing() -> &'static str {
+    r#"input_stream: "a" input_stream: "b" input_stream: "sel" output_stream: "out"
+node { calculator: "MuxCalculator" input_stream: "INPUT:0:a" input_stream: "INPUT:1:b"
+  input_stream: "SELECT:sel" output_stream: "OUTPUT:out" }"#
+}
+
+/// Each sum takes the one before in.
+pub(crate) fn summing() -> &'static str {
+    r#"input_stream: "in" output_stream: "sum"
+node { calculator: "PreviousLoopbackCalculator" input_stream: "MAIN:in" input_stream: "LOOP:sum"
+  input_stream_info { tag_index: "LOOP" back_edge: true } output_stream: "PREV_LOOP:prev" }
+node { calculator: "IntSumCalculator" input_stream: "in" input_stream: "prev" output_stream: "sum" }"#
+}
+
+/// Sums of which only the even ones come back, so that the loop waits behind an odd one.
+pub(crate) fn stalling() -> &'static str {
+    r#"input_stream: "in" output_stream: "sum"
+node { calculator: "PreviousLoopbackCalculator" input_stream: "MAIN:in" input_stream: "LOOP:kept"
+  input_stream_info { tag_index: "LOOP" back_edge: true } output_stream: "PREV_LOOP:prev" }
+node { calculator: "IntSumCalculator" input_stream: "in" input_stream: "prev" output_stream: "sum" }
+node { calculator: "IntFilterCalculator" input_stream: "sum" output_stream: "kept"
+  options { [mediapipe.IntFilterCalculatorOptions.ext] { keep: EVEN } } }"#
+}
+
+/// A source whose packets wait for a filter that lets none through, in queues of one packet.
+pub(crate) fn throttling() -> &'static str {
+    r#"max_queue_size: 1 output_stream: "out"
+node { calculator: "CountingSourceCalculator" output_stream: "n"
+  node_options: { [type.googleapis.com/mediapipe.CountingSourceCalculatorOptions] { count: 3 } } }
+node { calculator: "IntFilterCalculator" input_stream: "n" output_stream: "f"
+  node_options: { [type.googleapis.com/mediapipe.IntFilterCalculatorOptions] { keep: NEGATIVE } } }
+node { calculator: "MergeCalculator" input_stream: "f" input_stream: "n" output_stream: "out" }"#
+}
+
+/// Several packets are worked on at once.
+pub(crate) fn adding() -> &'static str {
+    r#"input_stream: "in" output_stream: "out"
+node { calculator: "IntMapCalculator" input_stream: "in" output_stream: "out" max_in_flight: 4
+  options { [mediapipe.IntMapCalculatorOptions.ext] { op: ADD operand: 10 } } }"#
+}

@@ -1,0 +1,5 @@
+use Rattle.mg_node.proofs.Resting.{meets_its_equation}
+use Rattle.mg_node.proofs.laws.what_rests_meets_its_equation.Goals as goal
+
+pub returns : goal.returns
+returns c = meets_its_equation

@@ -1,0 +1,35 @@
+-- How the engine of a graph input goes on with further packets of its stream, which came later.
+use Rattle.std.specs.Prelude.{ℕ, ◌++◌, map, max}
+use Rattle.mg_value.specs.Payload.{Plain}
+use Rattle.mg_value.specs.Prefix.{StreamPrefix, IsPrefix, empty_prefix}
+use Rattle.mg_stream.specs.Queue.{Waiting, StandsFor}
+use Rattle.mg_stream.specs.Pool.{Backlog}
+use Rattle.mg_node.specs.Views.{EngineView}
+use Rattle.mg_node.specs.Job.{LoggedJob}
+use Rattle.mg_node.specs.Lawful.{LawfulEngine, of_input}
+use Rattle.mg_node.specs.Outputs.{laid_at, input_engine}
+
+-- a prefix with what came later behind it; the greater of the two bounds stands
+abbrev pub joined : {X : Type 0} → StreamPrefix X → StreamPrefix X → StreamPrefix X
+joined s more = record { packets = s.packets ++ more.packets; bound = max s.bound more.bound }
+
+-- an output with it behind; what was given up stays given up
+abbrev pub lengthened : Backlog Plain → StreamPrefix Plain → Backlog Plain
+lengthened output more = record { gone = output.gone; packets = output.packets ++ more.packets; bound = max output.bound more.bound }
+
+-- the engine of the same graph input, whose output goes on so
+abbrev pub extended : EngineView → StreamPrefix Plain → EngineView
+extended engine more = record (input_engine engine.node engine.first empty_prefix) { outputs = map (λ output. lengthened output more) engine.outputs }
+
+-- a queue may be lengthened: with this behind, what it stands for is a prefix
+pub record MayLengthen (q : Waiting Plain) (more : StreamPrefix Plain) : Type 0 where
+  pub whole : StreamPrefix Plain
+  pub stands : StandsFor q whole
+  pub is_prefix : IsPrefix (joined whole more)
+
+-- an engine may be extended: there is a job for which it is the lawful engine of a graph input, and its output may be lengthened
+pub record MayExtend (engine : EngineView) (more : StreamPrefix Plain) : Type 0 where
+  pub job : LoggedJob
+  pub input : ℕ
+  pub lawful : LawfulEngine job (of_input input) engine
+  pub output : MayLengthen (laid_at engine 0) more

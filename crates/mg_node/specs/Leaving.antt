@@ -1,0 +1,76 @@
+-- The calculators that stand in an engine, and those of them that were handed in: where no work is out, the one of its node is among them.
+use Rattle.std.specs.Prelude.{◌≡◌, ℕ, true, List, [], ◌∷◌, ◌++◌, map, All, Option, Some, None, option_map, is_some, slice_get, ◌⊎◌, Result, if◌then◌else◌}
+use Rattle.std.specs.List.{filter_map}
+use Rattle.mg_value.specs.Prefix.{StreamPrefix}
+use Rattle.mg_value.specs.Payload.{Plain}
+use Rattle.mg_calc.specs.declared.cause.Cause.{Cause}
+use Rattle.mg_calc.specs.declared.emission.Laid.{Laid}
+use Rattle.mg_calc.specs.declared.plan_node.PlanNode.{PlanNode}
+use Rattle.mg_calc.specs.Equations.{sides_of}
+use Rattle.mg_calc.specs.Told.{CalculatorTold}
+use Rattle.mg_route.specs.HolderView.{HolderView, FitsHolder, told_by}
+use Rattle.mg_node.specs.Views.{OutcomeView, EntryView, EngineView}
+use Rattle.mg_node.specs.Job.{LoggedJob, Solves, log_after}
+use Rattle.mg_node.specs.Lawful.{LawfulOutcome, come_to, calls_by}
+use Rattle.mg_node.specs.Begun.{IsHanded, IsOpened}
+
+-- the calculator of the outcome in an entry, if there is one
+abbrev pub calculator_in : EntryView → Option HolderView
+calculator_in entry = option_map (λ o. o.work.bench.told) entry.outcome
+
+-- the calculators in an engine: in the benches that no work has, and then in the outcomes that stand in its window
+abbrev pub calculators_in : EngineView → List HolderView
+calculators_in engine = map (λ b. b.told) engine.idle ++ filter_map calculator_in engine.window
+
+-- what a calculator tells of itself, where it was handed in
+abbrev pub handed_told : HolderView → Option CalculatorTold
+handed_told held = if held.handed then Some (told_by held) else None
+
+-- what those of an engine tell that were handed in, and the first of them
+abbrev pub handed_in : EngineView → List CalculatorTold
+handed_in engine = filter_map handed_told (calculators_in engine)
+
+abbrev pub first_handed : EngineView → Option CalculatorTold
+first_handed engine = slice_get (handed_in engine) 0
+
+-- no work of an engine is out: each entry of its window has an outcome
+abbrev pub NoneOut : EngineView → Type 0
+NoneOut engine = All (λ e. is_some e.outcome ≡ true) engine.window
+
+-- a calculator is idle: it keeps what all that is laid gives, and its log ends there
+pub record IsAtRest (job : LoggedJob) (node : PlanNode) (engine : EngineView) (held : HolderView) : Type 0 where
+  pub window : engine.window ≡ []
+  pub streams : List (StreamPrefix Plain)
+  pub solves : Solves job streams
+  pub state : held.state ≡ (come_to job streams node engine.laid engine.closed).state
+  pub log : held.log ≡ log_after job node (calls_by streams node engine.laid engine.closed)
+
+-- it stands in the window, in a lawful outcome
+pub record IsInWindow (job : LoggedJob) (engine : EngineView) (held : HolderView) : Type 0 where
+  pub entry : EntryView
+  pub outcome : OutcomeView
+  pub window : engine.window ≡ entry ∷ []
+  pub there : entry.outcome ≡ Some outcome
+  pub held_is : held ≡ outcome.work.bench.told
+  pub lawful : LawfulOutcome job outcome
+
+-- an engine has one calculator, which was handed in for its node, and it is as the job tells it
+pub record HasCalculator (job : LoggedJob) (node : PlanNode) (engine : EngineView) : Type 0 where
+  pub held : HolderView
+  pub only : calculators_in engine ≡ held ∷ []
+  pub fits : FitsHolder node held
+  pub found : handed_in engine ≡ told_by held ∷ []
+  pub stands : IsAtRest job node engine held ⊎ IsInWindow job engine held
+
+-- it was opened with its node's side packets
+pub record IsOpenedFor (job : LoggedJob) (node : PlanNode) (told held : HolderView) : Type 0 where
+  pub answer : Result (List Laid) Cause
+  pub opened : IsOpened told held (sides_of job.job node) answer
+
+-- an engine that isn't begun has one calculator that was handed in, as its job has it for the node, or opened since
+pub record HasHanded (job : LoggedJob) (number : ℕ) (node : PlanNode) (engine : EngineView) : Type 0 where
+  pub told : HolderView
+  pub handed : IsHanded job number node told
+  pub held : HolderView
+  pub found : handed_in engine ≡ told_by held ∷ []
+  pub stands : (held ≡ told) ⊎ IsOpenedFor job node told held

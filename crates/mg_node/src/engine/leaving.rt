@@ -1,0 +1,21 @@
+//! How the calculator that was handed in leaves its engine.
+ghost use Rattle.std.specs.Prelude.{◌≡◌, option_map};
+ghost use Rattle.mg_node.specs.Leaving.{first_handed};
+
+use super::Engine;
+use crate::leaving::{from_benches, from_window};
+use mg_calc::Calculator;
+
+impl<C: Calculator> Engine<C> {
+    /// The calculator that was handed in, if one stands in this engine: in a bench that no work has, or in an outcome that came back
+    /// to the window. That of a work that is out is with the work.
+    pub fn into_calculator(self) -> Option<C>
+        ensures { option_map C.told result ≡ first_handed self }
+    {
+        let Engine { idle, window, .. } = self;
+        match from_benches(idle) {
+            Some(calculator) => Some(calculator),
+            None => from_window(window),
+        }
+    }
+}

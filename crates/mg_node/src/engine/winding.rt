@@ -1,0 +1,76 @@
+//! The last Close of a run that has come to rest.
+ghost use Rattle.std.specs.Prelude.{◌≡◌, ◌<◌, length, OnOk, OnErr};
+ghost use Rattle.mg_node.specs.Standing.{EngineGrows};
+ghost use Rattle.mg_node.specs.WindingUp.{closes_after, closes_despite, lacks_close, FinishesLast, WindsUp};
+
+use super::Engine;
+use mg_calc::{Calculator, NodeFault, Phase};
+use std::alloc::AllocError;
+
+fn closes_after(phase: Phase) -> bool
+    ensures { result ≡ closes_after phase }
+{
+    match phase {
+        Phase::Open => false,
+        Phase::Call(_) => true,
+        Phase::Process(_) => true,
+        Phase::Close => false,
+    }
+}
+
+fn closes_despite(fault: Option<NodeFault>) -> bool
+    ensures { result ≡ closes_despite fault }
+{
+    match fault {
+        None => true,
+        Some(fault) => closes_after(fault.phase),
+    }
+}
+
+impl<C: Calculator> Engine<C> {
+    /// Closes the calculator of a node that was opened and had no Close, once a run has come to rest, also where the node has failed
+    /// at a set or in a call. What it emits or answers is dropped, and nothing else changes; the engine isn't used any more. A node that
+    /// isn't begun, was closed, or failed in Open or in Close stays as it is, and so does one without an idle bench. Want of memory
+    /// changes nothing, and this may be called again.
+    pub fn wind_up(&mut self) -> Result<(), AllocError>
+        ensures wound_up { OnOk result (WindsUp self.old self.new) }
+        ensures unchanged { OnErr result (self.new ≡ self.old) }
+
+        // Its standing only grows.
+        ensures grows { EngineGrows self.old self.new }
+    {
+        if !self.lacks_close() {
+            return Ok(());
+        }
+        if self.idle.is_empty() {
+            return Ok(());
+        }
+        self.finish_last()
+    }
+
+    // Whether its node was opened and had no Close.
+    fn lacks_close(&self) -> bool
+        ensures { result ≡ lacks_close self.now }
+    {
+        self.begun && !self.closed && closes_despite(self.fault)
+    }
+
+    // Closes the calculator of the last idle bench.
+    fn finish_last(&mut self) -> Result<(), AllocError>
+        requires { 0 < length self.old.idle }
+        ensures finished { OnOk result (FinishesLast self.old self.new) }
+        ensures unchanged { OnErr result (self.new ≡ self.old) }
+    {
+        let mut bench = self.idle.take_last();
+        match bench.finish(self.alloc) {
+            Ok(()) => {
+                self.idle.push_reserved(bench);
+                Ok(())
+            }
+            Err(_) => {
+                self.idle.push_reserved(bench);
+                Err(AllocError)
+            }
+        }
+    }
+}

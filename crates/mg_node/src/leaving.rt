@@ -1,0 +1,34 @@
+//! Calculators that were handed in, and leave the benches and the window where they stand.
+ghost use Rattle.std.specs.Prelude.{◌≡◌, map, option_map, slice_get};
+ghost use Rattle.std.specs.List.{filter_map};
+ghost use Rattle.mg_node.specs.Leaving.{calculator_in, handed_told};
+
+use crate::Bench;
+use crate::entry::Entry;
+use mg_calc::Calculator;
+use std::collections::VecDeque;
+
+/// The first that was handed in, of some benches.
+pub(crate) fn from_benches<C: Calculator>(benches: Vec<Bench<C>>) -> Option<C>
+    ensures { option_map C.told result ≡ slice_get (filter_map handed_told (map (λ b. b.told) benches.items)) 0 }
+{
+    for bench in benches {
+        if let Some(calculator) = bench.into_calculator() {
+            return Some(calculator);
+        }
+    }
+    None
+}
+
+/// The first that was handed in, of the outcomes in a window.
+pub(crate) fn from_window<C: Calculator>(window: VecDeque<Entry<C>>) -> Option<C>
+    ensures { option_map C.told result ≡ slice_get (filter_map handed_told (filter_map calculator_in window.items)) 0 }
+{
+    let mut window = window;
+    while let Some(entry) = window.pop_front() {
+        if let Some(calculator) = entry.into_calculator() {
+            return Some(calculator);
+        }
+    }
+    None
+}

@@ -1,0 +1,29 @@
+-- What contracts see of a holder: what its calculator tells of itself, and whether it was handed in.
+use Rattle.std.specs.Prelude.{◌≡◌, Bool, List, Option, is_some}
+use Rattle.mg_value.specs.Plain.{Plain}
+use Rattle.mg_calc.specs.declared.law.Law.{Law}
+use Rattle.mg_calc.specs.declared.shape.Shape.{Shape}
+use Rattle.mg_calc.specs.declared.call.Call.{Call}
+use Rattle.mg_calc.specs.declared.plan_node.PlanNode.{PlanNode}
+use Rattle.mg_calc.specs.Told.{CalculatorTold}
+
+pub record HolderView : Type 0 where
+  pub law : Law
+  pub shape : Shape
+  pub state : List Plain
+  pub log : Option (List Call)
+  pub handed : Bool
+
+-- that of what a calculator tells
+abbrev pub holder_view : Bool → CalculatorTold → HolderView
+holder_view handed told = record { law = told.law; shape = told.shape; state = told.state; log = told.log; handed = handed }
+
+-- and what its calculator tells
+abbrev pub told_by : HolderView → CalculatorTold
+told_by held = record { law = held.law; shape = held.shape; state = held.state; log = held.log }
+
+-- a holder has a node's law and shape, and a calculator that was handed in exactly where the node is given one
+pub record FitsHolder (node : PlanNode) (held : HolderView) : Type 0 where
+  pub same_law : held.law ≡ node.law
+  pub same_shape : held.shape ≡ node.shape
+  pub same_handed : held.handed ≡ is_some node.box_number

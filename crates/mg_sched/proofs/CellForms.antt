@@ -1,0 +1,37 @@
+-- A net with another cell at a node, of which some parts are what they were.
+use Rattle.std.proofs.Common.{◌≡◌, ℕ, ◌≤◌, zero, suc, List, [], ◌∷◌, map, set, get_or, Some, slice_get, ap, ap₂, sym, refl, ◌∙◌, arith}
+use Rattle.mg_value.specs.Payload.{Plain}
+use Rattle.mg_stream.specs.Queue.{Waiting}
+use Rattle.mg_stream.specs.Pool.{Backlog, empty_backlog}
+use Rattle.mg_node.specs.Views.{IntakeView, EngineView}
+use Rattle.mg_node.specs.IntakeStanding.{Stays}
+use Rattle.mg_throttle.specs.Throttle.{QueueLimits}
+use Rattle.mg_sched.specs.Views.{DeskView, NetView}
+use Rattle.mg_sched.specs.Places.{with_engine, with_desk, with_limits}
+use Rattle.mg_node.proofs.Frames.{same_put}
+use Rattle.mg_sched.proofs.Changed.{with_cell}
+
+-- the engine alone changed, and perhaps the limits
+pub only_engine : (net : NetView) (node : ℕ) (engine : EngineView) (intake : IntakeView) (desk : DeskView) (limits : QueueLimits) → slice_get net.intakes node ≡ Some intake → slice_get net.desks node ≡ Some desk
+    → with_cell net node engine intake desk limits ≡ with_limits (with_engine net node engine) limits
+only_engine net node engine intake desk limits to on =
+    ap₂ (λ (is : List IntakeView) (ds : List DeskView). (let v : NetView = record net { engines = set net.engines node engine; intakes = is; desks = ds; limits = limits } in v)) (same_put net.intakes node intake to) (same_put net.desks node desk on)
+
+-- the engine and the desk changed
+pub engine_and_desk : (net : NetView) (node : ℕ) (engine : EngineView) (intake : IntakeView) (desk : DeskView) → slice_get net.intakes node ≡ Some intake
+    → with_cell net node engine intake desk net.limits ≡ with_desk (with_engine net node engine) node desk
+engine_and_desk net node engine intake desk to =
+    ap (λ (is : List IntakeView). (let v : NetView = record net { engines = set net.engines node engine; intakes = is; desks = set net.desks node desk } in v)) (same_put net.intakes node intake to)
+
+pub stays_so : (q : Waiting Plain) → Stays q q
+stays_so q = record { count = refl; bound = refl }
+
+-- how many packets are given up, by number
+gone_get : (bs : List (Backlog Plain)) (k : ℕ) → (get_or bs k empty_backlog).gone ≡ get_or (map (λ b. b.gone) bs) k 0
+gone_get [] zero = refl
+gone_get [] (suc k) = refl
+gone_get (b ∷ bs) zero = refl
+gone_get (b ∷ bs) (suc k) = gone_get bs k
+
+pub gone_same : (bs cs : List (Backlog Plain)) (k : ℕ) → map (λ b. b.gone) bs ≡ map (λ b. b.gone) cs → (get_or bs k empty_backlog).gone ≤ (get_or cs k empty_backlog).gone
+gone_same bs cs k same = (let e = gone_get bs k ∙ ap (λ (ns : List ℕ). get_or ns k 0) same ∙ sym (gone_get cs k) in omega (arith, e))

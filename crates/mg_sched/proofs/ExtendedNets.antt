@@ -1,0 +1,323 @@
+-- A net that goes on with further input stands for the job that has it.
+use Rattle.std.proofs.Common.{◌≡◌, ◌⊎◌, inl, inr, ℕ, zero, suc, ◌+◌, ◌-◌, ◌<◌, ◌≤◌, nat_lt, Bool, true, false, List, [], ◌∷◌, ◌++◌, length, length-append, length-drop, set, map, drop, Option, Some, get_or, slice_get, ap, sym, refl, subst, ◌∙◌, arith}
+use Rattle.std.proofs.lemmas.List.Elements.{All-weaker}
+use Rattle.std.proofs.lemmas.Option.{same_Some, slice_get_within, get_or_from_slice_get}
+use Rattle.mg_value.specs.Payload.{Plain}
+use Rattle.mg_value.specs.Prefix.{StreamPrefix, IsPrefix, empty_prefix}
+use Rattle.mg_stream.specs.Queue.{StandsFor as StandsForPrefix}
+use Rattle.mg_stream.specs.Pool.{Backlog, queue_of, empty_backlog}
+use Rattle.mg_calc.specs.declared.edge.Edge.{Edge}
+use Rattle.mg_calc.specs.declared.inputs.Inputs.{Inputs}
+use Rattle.mg_calc.specs.declared.plan.Plan.{Plan}
+use Rattle.mg_calc.specs.Equations.{IsJob}
+use Rattle.mg_calc.specs.Told.{CalculatorTold}
+use Rattle.mg_calc.proofs.FirstRound.{a_solution}
+use Rattle.mg_calc.proofs.Jobs.{any_state, job_known}
+use Rattle.mg_calc.proofs.Rounds.{stream_is_prefix}
+use Rattle.mg_calc.proofs.Solutions.{solution_keeps}
+use Rattle.mg_node.specs.Views.{IntakeView, EngineView}
+use Rattle.mg_node.specs.Job.{LoggedJob, Solves}
+use Rattle.mg_node.specs.Batches.{Grows}
+use Rattle.mg_node.specs.Lawful.{of_input, StandForAll, LawfulWork, LawfulEngine}
+use Rattle.mg_node.specs.Leading.{output_at}
+use Rattle.mg_node.specs.Ports.{port_queue}
+use Rattle.mg_node.specs.IntakeStanding.{HasGrown}
+use Rattle.mg_node.specs.Extending.{joined, lengthened, extended, MayExtend}
+use Rattle.mg_node.proofs.Extending.{extended_lawful}
+use Rattle.mg_node.proofs.Frames.{get_first, get_drop}
+use Rattle.mg_node.proofs.Growing.{grown_by_itself, grown_further}
+use Rattle.mg_node.proofs.LaterParts.{intake_stays, engine_stays, work_stays, unbegun_stays}
+use Rattle.mg_sched.specs.Views.{DeskView, NetView}
+use Rattle.mg_sched.specs.StandsFor.{IsEngine, IsCell, IsJoined, HasSpare, IsNetOf, StandsFor}
+use Rattle.mg_sched.specs.Extends.{GoesOnWith, MayGoOnWith, Extends}
+use Rattle.mg_sched.specs.Code.Made.{AtPlaces}
+use Rattle.mg_sched.specs.Code.Longer.{IsLonger, laid_over}
+use Rattle.mg_sched.proofs.Finding.{found}
+use Rattle.mg_sched.proofs.WoundNets.{order_of}
+
+-- Solutions.
+
+solved : (job : LoggedJob) → IsJob job.job → (streams : List (StreamPrefix Plain)) × Solves job streams
+solved job is =
+    let it = a_solution any_state job.job (job_known job.job is) is.plan is.inputs.streams in
+    (it.0, record { is_job = is; solution = it.1 })
+
+-- the solution's stream of a graph input is what was handed in
+handed_in : (job : LoggedJob) (streams : List (StreamPrefix Plain)) (input : ℕ) → Solves job streams → input < length job.job.inputs.streams → get_or streams input empty_prefix ≡ get_or job.job.inputs.streams input empty_prefix
+handed_in job streams input solves less =
+    let s = found job.job.inputs.streams input less in
+    get_or_from_slice_get streams input s.0 empty_prefix (ap (λ (ss : List (StreamPrefix Plain)). slice_get ss input) (sym solves.solution.meets) ∙ get_first job.job.inputs.streams _ input s.0 s.1)
+    ∙ sym (get_or_from_slice_get job.job.inputs.streams input s.0 empty_prefix s.1)
+
+-- so that of the later job is that of the first one with its piece behind
+piece_behind : (more : Inputs) (first later : LoggedJob) (streams longer : List (StreamPrefix Plain)) (input : ℕ) (piece : StreamPrefix Plain) → GoesOnWith more first later → Solves first streams → Solves later longer → slice_get more.streams input ≡ Some piece
+    → get_or longer input empty_prefix ≡ joined (get_or streams input empty_prefix) piece
+piece_behind more first later streams longer input piece g solves further at =
+    let there = slice_get_within more.streams input piece at in
+    let pieces = g.pieces in
+    let plan : length later.job.plan.inputs ≡ length first.job.plan.inputs = ap (λ (p : Plan). length p.inputs) g.grows.plan in
+    let a = solves.is_job.inputs.streams in
+    let b = further.is_job.inputs.streams in
+    handed_in later longer input further (omega (arith, there, pieces, plan, a, b))
+    ∙ g.streams input there
+    ∙ ap (λ (s : StreamPrefix Plain). joined s (get_or more.streams input empty_prefix)) (sym (handed_in first streams input solves (omega (arith, there, pieces))))
+    ∙ ap (λ (s : StreamPrefix Plain). joined (get_or streams input empty_prefix) s) (get_or_from_slice_get more.streams input piece empty_prefix at)
+
+-- Engines of graph inputs.
+
+first_stands : (outputs : List (Backlog Plain)) (s : StreamPrefix Plain) → StandForAll outputs (s ∷ []) → StandsForPrefix (queue_of 0 (get_or outputs 0 empty_backlog)) s
+first_stands [] s h = absurd h
+first_stands (b ∷ outputs) s h = h.0
+
+pub may_extend : (more : Inputs) (first later : LoggedJob) (engine : EngineView) (input : ℕ) (piece : StreamPrefix Plain) → GoesOnWith more first later → LawfulEngine first (of_input input) engine → slice_get more.streams input ≡ Some piece → MayExtend engine piece
+unfolding LawfulEngine
+may_extend more first later engine input piece g h at =
+    let l = solved later g.grows.is_job in
+    record {
+      job = first;
+      input = input;
+      lawful = h;
+      output = record {
+        whole = get_or h.streams input empty_prefix;
+        stands = first_stands engine.outputs (get_or h.streams input empty_prefix) h.kept;
+        is_prefix = subst IsPrefix (piece_behind more first later h.streams l.0 input piece g h.solves l.1 at)
+            (stream_is_prefix l.0 input (solution_keeps any_state later.job (job_known later.job g.grows.is_job) l.0 l.1.solution));
+      };
+    }
+
+lawful_extended : (more : Inputs) (first later : LoggedJob) (engine : EngineView) (input : ℕ) (piece : StreamPrefix Plain) → GoesOnWith more first later → LawfulEngine first (of_input input) engine → slice_get more.streams input ≡ Some piece
+    → LawfulEngine later (of_input input) (extended engine piece)
+unfolding LawfulEngine
+lawful_extended more first later engine input piece g h at =
+    let l = solved later g.grows.is_job in
+    let there = h.there in
+    let plan : length later.job.plan.inputs ≡ length first.job.plan.inputs = ap (λ (p : Plan). length p.inputs) g.grows.plan in
+    extended_lawful first later input h.streams l.0 engine piece h h.solves l.1 (omega (arith, there, plan)) (piece_behind more first later h.streams l.0 input piece g h.solves l.1 at)
+
+-- an output grows, and gives up nothing
+record GrowsWhole (before now : Backlog Plain) : Type 0 where
+  grown : HasGrown (queue_of 0 before) (queue_of 0 now)
+  gone : now.gone ≡ before.gone
+
+grows_whole : (outputs : List (Backlog Plain)) (piece : StreamPrefix Plain) (i : ℕ) → GrowsWhole (get_or outputs i empty_backlog) (get_or (map (λ b. lengthened b piece) outputs) i empty_backlog)
+grows_whole [] piece i = record { grown = grown_by_itself (queue_of 0 empty_backlog); gone = refl }
+grows_whole (b ∷ outputs) piece zero = record { grown = record { count = omega (arith, length-append b.packets piece.packets); bound = omega arith }; gone = refl }
+grows_whole (b ∷ outputs) piece (suc i) = grows_whole outputs piece i
+
+joined_extended : (engine : EngineView) (piece : StreamPrefix Plain) (e : Edge) (intake : IntakeView) → IsJoined engine e intake → IsJoined (extended engine piece) e intake
+joined_extended engine piece e intake h =
+    let more = grows_whole engine.outputs piece (e.stream - engine.first) in
+    record {
+      came = grown_further (port_queue intake.waits e.port) (output_at engine e) (output_at (extended engine piece) e) h.came more.grown;
+      kept = (let kept = h.kept in let gone = more.gone in omega (arith, kept, gone));
+    }
+
+-- Cells, and what was handed in.
+
+engine_later : (first later : LoggedJob) (begun : Bool) (node : ℕ) (engine : EngineView) → Grows first later → IsEngine first begun node engine → IsEngine later begun node engine
+engine_later first later true node engine g h = engine_stays first later node engine g h
+engine_later first later false node engine g h = unbegun_stays first later node engine g h
+
+cell_later : (first later : LoggedJob) (begun : Bool) (node : ℕ) (engine : EngineView) (intake : IntakeView) (desk : DeskView) → Grows first later → IsCell first begun node engine intake desk → IsCell later begun node engine intake desk
+cell_later first later begun node engine intake desk g h = record {
+  lawful_engine = engine_later first later begun node engine g h.lawful_engine;
+  lawful_intake = intake_stays first later node intake g h.lawful_intake;
+  agree = h.agree;
+  works = record {
+    room = h.works.room;
+    out = h.works.out;
+    lawful = All-weaker (LawfulWork first) (LawfulWork later) (λ w lawful. work_stays first later w g lawful) desk.works h.works.lawful;
+    apart = h.works.apart;
+    complete = h.works.complete;
+  };
+}
+
+abbrev with_inputs : LoggedJob → Inputs → LoggedJob
+with_inputs job more = record { job = record { plan = job.job.plan; inputs = more }; logs = job.logs }
+
+spare_later : (first later : LoggedJob) (spare : List (Option CalculatorTold)) → Grows first later → HasSpare first spare → HasSpare later spare
+spare_later first later spare g h =
+    let same : with_inputs first later.job.inputs ≡ later = (λ i. record { job = record { plan = (sym g.plan) i; inputs = later.job.inputs }; logs = (sym g.logs) i }) in
+    subst (λ (j : LoggedJob). HasSpare j spare) same (record { count = h.count; numbers = h.numbers; used = h.used; unused = h.unused })
+
+-- Nets.
+
+-- what stands at the place of a graph input, behind the nodes
+record IsExtendedAt (more : Inputs) (before : NetView) (input : ℕ) (engine : EngineView) : Type 0 where
+  old : EngineView
+  old_at : slice_get before.engines (length before.plan.nodes + input) ≡ Some old
+  piece : StreamPrefix Plain
+  piece_at : slice_get more.streams input ≡ Some piece
+  is : engine ≡ extended old piece
+
+extended_at : (more : Inputs) (first later : LoggedJob) (before now : NetView) (input : ℕ) (engine : EngineView) → GoesOnWith more first later → Extends more before now → StandsFor first before
+    → slice_get now.engines (length before.plan.nodes + input) ≡ Some engine → IsExtendedAt more before input engine
+unfolding StandsFor
+extended_at more first later before now input engine g x h at =
+    let within = slice_get_within now.engines (length before.plan.nodes + input) engine at in
+    let places = x.places in let engines = h.engines in let pieces = g.pieces in let count = h.is_job.inputs.streams in
+    let plan : length before.plan.inputs ≡ length first.job.plan.inputs = ap (λ (p : Plan). length p.inputs) h.plan in
+    let old = found before.engines (length before.plan.nodes + input) (omega (arith, within, places)) in
+    let piece = found more.streams input (omega (arith, within, places, engines, pieces, count, plan)) in
+    record {
+      old = old.0;
+      old_at = old.1;
+      piece = piece.0;
+      piece_at = piece.1;
+      is = same_Some engine (extended old.0 piece.0) (sym at ∙ x.inputs input old.0 piece.0 old.1 piece.1);
+    }
+
+joined_later : (more : Inputs) (first later : LoggedJob) (before now : NetView) (e : Edge) (number place : ℕ) (engine : EngineView) (intake : IntakeView) → GoesOnWith more first later → Extends more before now → StandsFor first before
+    → (place < length before.plan.nodes) ⊎ (length before.plan.nodes ≤ place) → ((old : EngineView) → slice_get before.engines place ≡ Some old → IsJoined old e intake) → slice_get now.engines place ≡ Some engine → IsJoined engine e intake
+joined_later more first later before now e number place engine intake g x h (inl less) joined at = joined engine (sym (x.nodes place less) ∙ at)
+joined_later more first later before now e number place engine intake g x h (inr past) joined at =
+    let same : place ≡ length before.plan.nodes + (place - length before.plan.nodes) = omega (arith, past) in
+    let it = extended_at more first later before now (place - length before.plan.nodes) engine g x h (subst (λ (k : ℕ). slice_get now.engines k ≡ Some engine) same at) in
+    subst (λ (v : EngineView). IsJoined v e intake) (sym it.is)
+    (joined_extended it.old it.piece e intake (joined it.old (subst (λ (k : ℕ). slice_get before.engines k ≡ Some it.old) (sym same) it.old_at)))
+
+stands_so : (more : Inputs) (first later : LoggedJob) (before now : NetView) → GoesOnWith more first later → Extends more before now → StandsFor first before → IsNetOf later (record before { engines = now.engines })
+unfolding StandsFor
+stands_so more first later before now g x h = record {
+  is_job = g.grows.is_job;
+  plan = h.plan ∙ sym g.grows.plan;
+  given = h.given ∙ g.grows.sides;
+  engines = x.places ∙ h.engines;
+  intakes = h.intakes;
+  desks = h.desks;
+  cells = λ node engine intake desk at to on.
+      (let less = slice_get_within before.desks node desk on in let desks = h.desks in
+      cell_later first later (nat_lt node before.begun) node engine intake desk g.grows (h.cells node engine intake desk (sym (x.nodes node (omega (arith, less, desks))) ∙ at) to on));
+  inputs = λ input engine at.
+      (let it = extended_at more first later before now input engine g x h at in
+      subst (λ (v : EngineView). LawfulEngine later (of_input input) v) (sym it.is) (lawful_extended more first later it.old input it.piece g (h.inputs input it.old it.old_at) it.piece_at));
+  collector = λ intake to. intake_stays first later (length before.plan.nodes) intake g.grows (h.collector intake to);
+  edges = λ e number place engine intake at from engine_at to.
+      joined_later more first later before now e number place engine intake g x h (order_of place (length before.plan.nodes)) (λ old old_at. h.edges e number place old intake at from old_at to) engine_at;
+  limits = record {
+    of_plan = h.limits.of_plan;
+    queues = λ number e q at q_at.
+        (let knows = h.limits.queues number e q at q_at in
+        record { waiting = knows.waiting; counts = (λ engine less engine_at. knows.counts engine less (sym (x.nodes e.node less) ∙ engine_at)) });
+  };
+  spare = spare_later first later before.spare g.grows h.spare;
+  begun = h.begun;
+  not_wound = h.not_wound;
+}
+
+pub extended_stands : (more : Inputs) (first later : LoggedJob) (before now : NetView) → GoesOnWith more first later → Extends more before now → StandsFor first before → StandsFor later now
+unfolding StandsFor
+extended_stands more first later before now g x h = subst (λ (v : NetView). IsNetOf later v) (sym x.parts) (stands_so more first later before now g x h)
+
+-- Elements that are laid over others.
+
+over_none : {X : Type 0} (n : ℕ) (xs : List X) → laid_over n xs [] ≡ xs
+over_none n [] = refl
+over_none zero (x ∷ xs) = refl
+over_none {X} (suc n) (x ∷ xs) = ap (λ (ys : List X). x ∷ ys) (over_none n xs)
+
+over_next : {X : Type 0} (n k : ℕ) (xs ys : List X) (x : X) → k ≡ n + length ys → laid_over n (set xs k x) ys ≡ laid_over n xs (ys ++ x ∷ [])
+over_next n k [] ys x is = refl
+over_next {X} (suc n) zero (z ∷ xs) ys x is = absurd (omega (arith, is))
+over_next {X} (suc n) (suc k) (z ∷ xs) ys x is = ap (λ (zs : List X). z ∷ zs) (over_next n k xs ys x (omega (arith, is)))
+over_next {X} zero zero (z ∷ xs) [] x is = ap (λ (zs : List X). x ∷ zs) (sym (over_none zero xs))
+over_next {X} zero (suc k) (z ∷ xs) [] x is = absurd (omega (arith, is))
+over_next {X} zero zero (z ∷ xs) (y ∷ ys) x is = absurd (omega (arith, is))
+over_next {X} zero (suc k) (z ∷ xs) (y ∷ ys) x is = ap (λ (zs : List X). y ∷ zs) (over_next zero k xs ys x (omega (arith, is)))
+
+-- the last one is popped, and put into its place; and at last none is left
+pub over_popped : {X : Type 0} (n k : ℕ) (xs now ys zs : List X) (x : X) → now ≡ set xs k x → zs ≡ ys ++ x ∷ [] → k ≡ n + length ys → laid_over n now ys ≡ laid_over n xs zs
+over_popped {X} n k xs now ys zs x put popped is =
+    ap (λ (es : List X). laid_over n es ys) put ∙ over_next n k xs ys x is ∙ ap (λ (es : List X). laid_over n xs es) (sym popped)
+
+pub over_emptied : {X : Type 0} (n : ℕ) (xs ys : List X) → ys ≡ [] → xs ≡ laid_over n xs ys
+over_emptied {X} n xs ys none = sym (over_none n xs) ∙ ap (λ (es : List X). laid_over n xs es) (sym none)
+
+pub over_long : {X : Type 0} (n : ℕ) (xs ys : List X) → length (laid_over n xs ys) ≡ length xs
+over_long n [] ys = refl
+over_long zero (x ∷ xs) [] = refl
+over_long zero (x ∷ xs) (y ∷ ys) = ap suc (over_long zero xs ys)
+over_long (suc n) (x ∷ xs) ys = ap suc (over_long n xs ys)
+
+over_front : {X : Type 0} (n i : ℕ) (xs ys : List X) → i < n → slice_get (laid_over n xs ys) i ≡ slice_get xs i
+over_front n i [] ys less = refl
+over_front zero i (x ∷ xs) ys less = absurd (omega (arith, less))
+over_front (suc n) zero (x ∷ xs) ys less = refl
+over_front (suc n) (suc i) (x ∷ xs) ys less = over_front n i xs ys (omega (arith, less))
+
+over_there : {X : Type 0} (n k i : ℕ) (xs ys : List X) → k ≡ n + i → k < length xs → i < length ys → slice_get (laid_over n xs ys) k ≡ slice_get ys i
+over_there n k i [] ys is within less = absurd (omega (arith, within))
+over_there zero k i (x ∷ xs) [] is within less = absurd (omega (arith, less))
+over_there zero zero zero (x ∷ xs) (y ∷ ys) is within less = refl
+over_there zero zero (suc i) (x ∷ xs) (y ∷ ys) is within less = absurd (omega (arith, is))
+over_there zero (suc k) zero (x ∷ xs) (y ∷ ys) is within less = absurd (omega (arith, is))
+over_there zero (suc k) (suc i) (x ∷ xs) (y ∷ ys) is within less = over_there zero k i xs ys (omega (arith, is)) (omega (arith, within)) (omega (arith, less))
+over_there (suc n) zero i (x ∷ xs) ys is within less = absurd (omega (arith, is))
+over_there (suc n) (suc k) i (x ∷ xs) ys is within less = over_there n k i xs ys (omega (arith, is)) (omega (arith, within)) less
+
+-- engines in the places of those of graph inputs
+pub extends_so : (more : Inputs) (net : NetView) (longer : List EngineView) → MayGoOnWith more net → length longer ≡ length more.streams → AtPlaces (IsLonger (drop (length net.plan.nodes) net.engines) more.streams) longer
+    → Extends more net (record net { engines = laid_over (length net.engines - length longer) net.engines longer })
+unfolding StandsFor
+extends_so more net longer may count all =
+    let h = may.stands in
+    let pieces = may.goes_on.pieces in let streams = h.is_job.inputs.streams in let engines = h.engines in
+    let plan : length net.plan.inputs ≡ length may.first.job.plan.inputs = ap (λ (p : Plan). length p.inputs) h.plan in
+    let from : length net.engines - length longer ≡ length net.plan.nodes = omega (arith, count, pieces, streams, engines, plan) in
+    subst (λ (n : ℕ). Extends more net (record net { engines = laid_over n net.engines longer })) (sym from) (record {
+      parts = refl;
+      places = over_long (length net.plan.nodes) net.engines longer;
+      nodes = λ place less. over_front (length net.plan.nodes) place net.engines longer less;
+      inputs = λ input engine piece at piece_at.
+          (let less = slice_get_within more.streams input piece piece_at in
+          let within = slice_get_within net.engines (length net.plan.nodes + input) engine at in
+          let it = found longer input (omega (arith, less, count)) in
+          over_there (length net.plan.nodes) (length net.plan.nodes + input) input net.engines longer refl within (omega (arith, less, count))
+          ∙ it.1
+          ∙ ap (λ (v : EngineView). Some v) (all input it.0 it.1 engine piece (get_drop (length net.plan.nodes) net.engines input ∙ at) piece_at));
+    })
+
+-- The net as it is kept.
+
+engines_from : (shown : NetView) (n : ℕ) (inputs : List EngineView) → n ≡ length shown.plan.nodes → inputs ≡ drop n shown.engines → inputs ≡ drop (length shown.plan.nodes) shown.engines
+engines_from shown n inputs n_is inputs_are = inputs_are ∙ ap (λ (k : ℕ). drop k shown.engines) n_is
+
+pub pieces_fit : (more : Inputs) (shown net : NetView) (n : ℕ) (inputs : List EngineView) → shown ≡ net → MayGoOnWith more net → n ≡ length shown.plan.nodes → inputs ≡ drop n shown.engines → length more.streams ≤ length inputs
+unfolding StandsFor
+pieces_fit more shown net n inputs is may n_is inputs_are =
+    let there : MayGoOnWith more shown = subst (MayGoOnWith more) (sym is) may in
+    let h = there.stands in
+    let pieces = there.goes_on.pieces in let streams = h.is_job.inputs.streams in let engines = h.engines in
+    let plan : length shown.plan.inputs ≡ length there.first.job.plan.inputs = ap (λ (p : Plan). length p.inputs) h.plan in
+    let long : length inputs ≡ length shown.engines - n = ap length inputs_are ∙ length-drop n shown.engines in
+    omega (arith, pieces, streams, engines, plan, long, n_is)
+
+pub nodes_fit : (more : Inputs) (shown net : NetView) (n : ℕ) (engines : List EngineView) → shown ≡ net → MayGoOnWith more net → n ≡ length shown.plan.nodes → engines ≡ shown.engines → n ≤ length engines
+unfolding StandsFor
+nodes_fit more shown net n engines is may n_is engines_are =
+    let there : MayGoOnWith more shown = subst (MayGoOnWith more) (sym is) may in
+    let count = there.stands.engines in
+    let same = ap length engines_are in
+    omega (arith, count, same, n_is)
+
+pub may_each : (more : Inputs) (shown net : NetView) (n : ℕ) (inputs : List EngineView) → shown ≡ net → MayGoOnWith more net → n ≡ length shown.plan.nodes → inputs ≡ drop n shown.engines
+    → (input : ℕ) (engine : EngineView) (piece : StreamPrefix Plain) → slice_get inputs input ≡ Some engine → slice_get more.streams input ≡ Some piece → MayExtend engine piece
+unfolding StandsFor
+may_each more shown net n inputs is may n_is inputs_are input engine piece at piece_at =
+    let there : MayGoOnWith more shown = subst (MayGoOnWith more) (sym is) may in
+    let h = there.stands in
+    may_extend more there.first there.later engine input piece there.goes_on
+    (h.inputs input engine (sym (get_drop (length shown.plan.nodes) shown.engines input) ∙ ap (λ (es : List EngineView). slice_get es input) (sym (engines_from shown n inputs n_is inputs_are)) ∙ at)) piece_at
+
+pub extends_shown : (more : Inputs) (shown net : NetView) (n : ℕ) (inputs longer engines_now : List EngineView) → shown ≡ net → MayGoOnWith more net → n ≡ length shown.plan.nodes → inputs ≡ drop n shown.engines → length longer ≡ length more.streams
+    → AtPlaces (IsLonger inputs more.streams) longer → engines_now ≡ laid_over (length shown.engines - length longer) shown.engines longer → Extends more net (record shown { engines = engines_now })
+extends_shown more shown net n inputs longer engines_now is may n_is inputs_are count all over =
+    let each : AtPlaces (IsLonger (drop (length shown.plan.nodes) shown.engines) more.streams) longer = subst (λ (es : List EngineView). AtPlaces (IsLonger es more.streams) longer) (engines_from shown n inputs n_is inputs_are) all in
+    subst (λ (v : NetView). Extends more v (record shown { engines = engines_now })) is
+    (subst (λ (es : List EngineView). Extends more shown (record shown { engines = es })) (sym over)
+    (extends_so more shown longer (subst (MayGoOnWith more) (sym is) may) count each))
+
+pub longer_there : (engines : List EngineView) (pieces : List (StreamPrefix Plain)) (input : ℕ) (engine now : EngineView) (piece : StreamPrefix Plain) → slice_get engines input ≡ Some engine → slice_get pieces input ≡ Some piece → now ≡ extended engine piece
+    → IsLonger engines pieces input now
+longer_there engines pieces input engine now piece at piece_at is = λ other further other_at further_at.
+    is ∙ ap (λ (v : EngineView). extended v piece) (same_Some engine other (sym at ∙ other_at)) ∙ ap (λ (s : StreamPrefix Plain). extended other s) (same_Some piece further (sym piece_at ∙ further_at))

@@ -1,0 +1,119 @@
+-- What a step finds in a net that stands for a job: parts at their places, which are one cell.
+use Rattle.std.proofs.Common.{◌≡◌, ℕ, ◌+◌, ◌<◌, Bool, true, false, List, length, Some, slice_get, get_or, set, nat_lt, zero, suc, [], ◌∷◌, ap, sym, refl, subst, ◌∙◌, arith}
+use Rattle.std.proofs.lemmas.Bool.Decides.{nat_tests}
+use Rattle.std.proofs.lemmas.Option.{slice_get_read, slice_get-get_or}
+use Rattle.mg_calc.specs.declared.edge.Edge.{Edge}
+use Rattle.mg_calc.specs.Plan.{IsValid}
+use Rattle.mg_node.specs.Views.{IntakeView, EngineView}
+use Rattle.mg_node.specs.Job.{LoggedJob}
+use Rattle.mg_node.specs.Lawful.{AreCell}
+use Rattle.mg_throttle.specs.Throttle.{IsOf}
+use Rattle.mg_sched.specs.Views.{DeskView, NetView}
+use Rattle.mg_sched.specs.StandsFor.{IsCell, StandsFor, StandsForSome, IsRunning}
+
+-- the plan is valid
+pub valid : (net : NetView) → StandsForSome net → IsValid net.plan
+unfolding StandsFor
+valid net h = subst IsValid (sym h.stands.plan) h.stands.is_job.plan
+
+-- there is a part at each place
+pub places : (net : NetView) → StandsForSome net → (length net.engines ≡ length net.plan.nodes + length net.plan.inputs) × (length net.intakes ≡ length net.plan.nodes + 1) × (length net.desks ≡ length net.plan.nodes)
+unfolding StandsFor
+places net h = (h.stands.engines, h.stands.intakes, h.stands.desks)
+
+pub of_plan : (net : NetView) → StandsForSome net → IsOf net.plan net.limits
+unfolding StandsFor
+of_plan net h = h.stands.limits.of_plan
+
+is_below : (n m : ℕ) → n < m → nat_lt n m ≡ true
+is_below n m h = grind (arith, nat_tests)
+
+-- the parts of a node are a cell
+pub cell_at : (job : LoggedJob) (net : NetView) (node : ℕ) (engine : EngineView) (intake : IntakeView) (desk : DeskView) → StandsFor job net → IsRunning net → node < length net.plan.nodes → slice_get net.engines node ≡ Some engine
+    → slice_get net.intakes node ≡ Some intake → slice_get net.desks node ≡ Some desk → IsCell job true node engine intake desk
+unfolding StandsFor
+cell_at job net node engine intake desk h running there at to on =
+    let less : node < net.begun = omega (arith, there, running) in
+    subst (λ (b : Bool). IsCell job b node engine intake desk) (is_below node net.begun less) (h.cells node engine intake desk at to on)
+
+-- a part at a place, as it is found
+pub found : {X : Type 0} (xs : List X) (i : ℕ) → i < length xs → (x : X) × (slice_get xs i ≡ Some x)
+found [] i h = absurd (omega (arith, h))
+found (x ∷ xs) zero h = (x, refl)
+found (x ∷ xs) (suc i) h = found xs i (omega (arith, h))
+
+pub are_cell : (net : NetView) (node : ℕ) (engine : EngineView) (intake : IntakeView) → StandsForSome net → IsRunning net → node < length net.plan.nodes → slice_get net.engines node ≡ Some engine → slice_get net.intakes node ≡ Some intake
+    → AreCell engine intake
+are_cell net node engine intake h running there at to =
+    let long = (places net h).2 in
+    let desk = found net.desks node (omega (arith, there, long)) in
+    let c = cell_at h.job net node engine intake desk.0 h.stands running there at to desk.1 in
+    record { job = h.job; number = node; lawful_engine = c.lawful_engine; lawful_intake = c.lawful_intake; agree = c.agree }
+
+-- what was read at a place within is found there
+pub read_at : {X : Type 0} (xs : List X) (i : ℕ) (x : X) → i < length xs → x ≡ get_or xs i x → slice_get xs i ≡ Some x
+read_at xs i x within is = slice_get_read xs (length xs) i x refl within is
+
+-- a node has an engine, an intake and a desk
+pub engine_there : (net : NetView) (node : ℕ) → StandsForSome net → node < length net.plan.nodes → node < length net.engines
+engine_there net node h there = (let long = (places net h).0 in omega (arith, long, there))
+
+pub intake_there : (net : NetView) (node : ℕ) → StandsForSome net → node < length net.plan.nodes → node < length net.intakes
+intake_there net node h there = (let long = (places net h).1 in omega (arith, long, there))
+
+pub desk_there : (net : NetView) (node : ℕ) → StandsForSome net → node < length net.plan.nodes → node < length net.desks
+desk_there net node h there = (let long = (places net h).2 in omega (arith, long, there))
+
+-- The same of parts that are read of a net as it is kept.
+
+pub engine_read : (shown net : NetView) (node : ℕ) (engine : EngineView) → shown ≡ net → StandsForSome net → node < length net.plan.nodes → engine ≡ get_or shown.engines node engine → slice_get net.engines node ≡ Some engine
+engine_read shown net node engine is h there value =
+    subst (λ (v : NetView). slice_get v.engines node ≡ Some engine) is (read_at shown.engines node engine (subst (λ (v : NetView). node < length v.engines) (sym is) (engine_there net node h there)) value)
+
+pub intake_read : (shown net : NetView) (node : ℕ) (intake : IntakeView) → shown ≡ net → StandsForSome net → node < length net.plan.nodes → intake ≡ get_or shown.intakes node intake → slice_get net.intakes node ≡ Some intake
+intake_read shown net node intake is h there value =
+    subst (λ (v : NetView). slice_get v.intakes node ≡ Some intake) is (read_at shown.intakes node intake (subst (λ (v : NetView). node < length v.intakes) (sym is) (intake_there net node h there)) value)
+
+pub desk_read : (shown net : NetView) (node : ℕ) (desk : DeskView) → shown ≡ net → StandsForSome net → node < length net.plan.nodes → desk ≡ get_or shown.desks node desk → slice_get net.desks node ≡ Some desk
+desk_read shown net node desk is h there value =
+    subst (λ (v : NetView). slice_get v.desks node ≡ Some desk) is (read_at shown.desks node desk (subst (λ (v : NetView). node < length v.desks) (sym is) (desk_there net node h there)) value)
+
+pub engine_fits : (shown net : NetView) (node n : ℕ) → shown ≡ net → StandsForSome net → node < length net.plan.nodes → n ≡ length shown.engines → node < n
+engine_fits shown net node n is h there long =
+    let within = subst (λ (v : NetView). node < length v.engines) (sym is) (engine_there net node h there) in omega (arith, within, long)
+
+pub intake_fits : (shown net : NetView) (node n : ℕ) → shown ≡ net → StandsForSome net → node < length net.plan.nodes → n ≡ length shown.intakes → node < n
+intake_fits shown net node n is h there long =
+    let within = subst (λ (v : NetView). node < length v.intakes) (sym is) (intake_there net node h there) in omega (arith, within, long)
+
+pub desk_fits : (shown net : NetView) (node n : ℕ) → shown ≡ net → StandsForSome net → node < length net.plan.nodes → n ≡ length shown.desks → node < n
+desk_fits shown net node n is h there long =
+    let within = subst (λ (v : NetView). node < length v.desks) (sym is) (desk_there net node h there) in omega (arith, within, long)
+
+-- an edge that is read; what stands past the last one is none of them
+abbrev pub no_edge : Edge
+no_edge = record { stream = 0; node = 0; port = 0; back = false }
+
+pub edge_read : (shown net : NetView) (number : ℕ) (edges : List Edge) → shown ≡ net → number < length net.plan.edges → edges ≡ shown.plan.edges → slice_get net.plan.edges number ≡ Some (get_or edges number no_edge)
+edge_read shown net number edges is within same =
+    slice_get-get_or net.plan.edges number no_edge within ∙ ap (λ (es : List Edge). Some (get_or es number no_edge)) (sym (same ∙ ap (λ (v : NetView). v.plan.edges) is))
+
+-- parts at other places
+pub engine_read_at : (shown net : NetView) (place : ℕ) (engine : EngineView) → shown ≡ net → place < length net.engines → engine ≡ get_or shown.engines place engine → slice_get net.engines place ≡ Some engine
+engine_read_at shown net place engine is within value =
+    subst (λ (v : NetView). slice_get v.engines place ≡ Some engine) is (read_at shown.engines place engine (subst (λ (v : NetView). place < length v.engines) (sym is) within) value)
+
+pub intake_read_at : (shown net : NetView) (place : ℕ) (intake : IntakeView) → shown ≡ net → place < length net.intakes → intake ≡ get_or shown.intakes place intake → slice_get net.intakes place ≡ Some intake
+intake_read_at shown net place intake is within value =
+    subst (λ (v : NetView). slice_get v.intakes place ≡ Some intake) is (read_at shown.intakes place intake (subst (λ (v : NetView). place < length v.intakes) (sym is) within) value)
+
+-- what was put at a place within is found there
+pub put_here : {X : Type 0} (xs : List X) (i : ℕ) (x : X) → i < length xs → slice_get (set xs i x) i ≡ Some x
+put_here [] i x h = absurd (omega (arith, h))
+put_here (y ∷ xs) zero x h = refl
+put_here (y ∷ xs) (suc i) x h = put_here xs i x (omega (arith, h))
+
+pub put_long : {X : Type 0} (xs : List X) (i : ℕ) (x : X) → length (set xs i x) ≡ length xs
+put_long [] i x = refl
+put_long (y ∷ xs) zero x = refl
+put_long (y ∷ xs) (suc i) x = ap suc (put_long xs i x)

@@ -1,0 +1,236 @@
+-- A net that was made stands for its job: no node is begun, and nothing came.
+use Rattle.std.proofs.Common.{◌≡◌, ℕ, zero, suc, ◌+◌, ◌-◌, ◌≤◌, ◌==◌, if◌then◌else◌, List, [], ◌∷◌, ◌++◌, length, replicate, Bool, true, false, nat_lt, not, Some, slice_get, get_or, inl, inr, subst, ap, sym, refl, ◌∙◌, arith}
+use Rattle.std.proofs.lemmas.Bool.{lt-ltb, le-ltb}
+use Rattle.std.proofs.lemmas.Option.{slice_get_within, get_or_from_slice_get}
+use Rattle.mg_time.specs.Time.{pre_stream}
+use Rattle.mg_value.specs.Payload.{Plain}
+use Rattle.mg_value.specs.Prefix.{Stamped, StreamPrefix, IsPrefix, empty_prefix}
+use Rattle.mg_stream.specs.Queue.{Waiting, IsLike, empty_queue}
+use Rattle.mg_stream.specs.Pool.{empty_backlog, queue_of}
+use Rattle.mg_loopback.specs.Loopback.{Held, queue_at, IsFresh as IsFreshLoop}
+use Rattle.mg_policy.specs.Inbox.{Gathered}
+use Rattle.mg_calc.specs.declared.edge.Edge.{Edge}
+use Rattle.mg_calc.specs.declared.inputs.Inputs.{Inputs}
+use Rattle.mg_calc.specs.declared.plan.Plan.{Plan}
+use Rattle.mg_calc.specs.declared.plan_node.PlanNode.{PlanNode}
+use Rattle.mg_calc.specs.Equations.{IsJob}
+use Rattle.mg_calc.specs.Told.{CalculatorTold}
+use Rattle.mg_route.specs.HolderView.{HolderView}
+use Rattle.mg_calc.proofs.Earlier.{get_map}
+use Rattle.mg_node.specs.declared.role.Role.{Role}
+use Rattle.mg_node.specs.declared.role.Role.TheVariants.{Source}
+use Rattle.mg_node.specs.declared.waits.Waits.{Waits}
+use Rattle.mg_node.specs.declared.waits.Waits.TheVariants.{Sets, Loop}
+use Rattle.mg_node.specs.Views.{IntakeView, EngineView}
+use Rattle.mg_node.specs.Job.{LoggedJob, ports_of}
+use Rattle.mg_node.specs.Claims.{has_ended}
+use Rattle.mg_node.specs.Fresh.{own_told, fresh_engine}
+use Rattle.mg_node.specs.Intakes.{HoldsNone}
+use Rattle.mg_node.specs.Lawful.{of_input, LawfulEngine, AgreeBy}
+use Rattle.mg_node.specs.Leading.{output_at}
+use Rattle.mg_node.specs.Outputs.{input_engine, kept_whole}
+use Rattle.mg_node.specs.Ports.{port_queue}
+use Rattle.mg_node.proofs.Filling.{input_lawful}
+use Rattle.mg_node.proofs.Making.{some_same, fresh_unbegun}
+use Rattle.mg_node.proofs.Performing.{of_node}
+use Rattle.mg_throttle.specs.declared.queue.Queue.{Queue}
+use Rattle.mg_throttle.specs.Throttle.{QueueLimits, IsOf, limit_of, new_queue}
+use Rattle.mg_sched.specs.Views.{DeskView, NetView}
+use Rattle.mg_sched.specs.StandsFor.{HasWorks, IsCell, KnowsQueue, IsNetOf, StandsFor}
+use Rattle.mg_sched.specs.Made.{job_of, BoxesFit, IsMade}
+use Rattle.mg_sched.specs.Code.Made.{AtPlaces, IsEngineAt, IsIntakeAt, IsDeskAt, HasParts, IsLeft, first_holder}
+use Rattle.mg_sched.proofs.HandedOut.{below}
+use Rattle.mg_sched.proofs.Solved.{solved}
+use Rattle.mg_sched.proofs.NewBoxes.{there_at, given_of, handed, placed, spare}
+
+-- Engines.
+
+front : {X : Type 0} (xs ys : List X) (i : ℕ) (x : X) → slice_get xs i ≡ Some x → slice_get (xs ++ ys) i ≡ Some x
+front {X} [] ys i x there = absurd cc
+front {X} (z ∷ xs) ys zero x there = there
+front {X} (z ∷ xs) ys (suc i) x there = front xs ys i x there
+
+-- the engine of a graph input has what was handed in, which is in the solution
+input_engine_lawful : (plan : Plan) (inputs : Inputs) (boxes : List CalculatorTold) (input : ℕ) (s : StreamPrefix Plain) → IsJob (record { plan = plan; inputs = inputs }) → slice_get inputs.streams input ≡ Some s
+    → LawfulEngine (job_of plan inputs boxes) (of_input input) (input_engine input (get_or plan.inputs input 0) s)
+input_engine_lawful plan inputs boxes input s is there =
+    let found = solved (job_of plan inputs boxes) is in
+    let same = is.inputs.streams in
+    let less = slice_get_within inputs.streams input s there in
+    input_lawful (job_of plan inputs boxes) found.0 plan input s (omega (arith, same, less)) (of_node IsPrefix inputs.streams input s is.inputs.prefixes there) refl found.1
+    (get_or_from_slice_get found.0 input s empty_prefix (ap (λ (ss : List (StreamPrefix Plain)). slice_get ss input) (sym found.1.solution.meets) ∙ front inputs.streams _ input s there))
+
+-- at an output nothing was given up, and its bound is at least the first
+pub record GivesAll (q : Waiting Plain) : Type 0 where
+  pub gone : q.gone ≡ 0
+  pub bound : pre_stream ≤ q.bound
+
+gives_none : (n i : ℕ) → GivesAll (queue_of 0 (get_or (replicate n (empty_backlog {X = Plain})) i empty_backlog))
+gives_none zero i = record { gone = refl; bound = omega arith }
+gives_none (suc n) zero = record { gone = refl; bound = omega arith }
+gives_none (suc n) (suc i) = gives_none n i
+
+gives_input : (s : StreamPrefix Plain) (i : ℕ) → IsPrefix s → GivesAll (queue_of 0 (get_or (kept_whole s ∷ []) i empty_backlog))
+gives_input s zero is = record { gone = refl; bound = is.opened }
+gives_input s (suc i) is = record { gone = refl; bound = omega arith }
+
+pub gives_all : (plan : Plan) (inputs : Inputs) (told : ℕ → PlanNode → HolderView) (engines : List EngineView) (place : ℕ) (engine : EngineView) (e : Edge) → IsJob (record { plan = plan; inputs = inputs })
+    → length engines ≡ length plan.nodes + length plan.inputs → AtPlaces (IsEngineAt plan inputs.streams told) engines → slice_get engines place ≡ Some engine → GivesAll (output_at engine e)
+gives_all plan inputs told engines place engine e is count all there = elim (below place (length plan.nodes)) [
+  | inl less ↦ (let node = there_at plan.nodes place less.1 in
+      subst (λ (v : EngineView). GivesAll (output_at v e)) (sym ((all place engine there).node node.0 node.1)) (gives_none (length node.0.outputs) (e.stream - get_or node.0.outputs 0 0)))
+  | inr past ↦ (let most = slice_get_within engines place engine there in let same = is.inputs.streams in let more = past.1 in
+      let s = there_at inputs.streams (place - length plan.nodes) (omega (arith, most, same, more, count)) in
+      subst (λ (v : EngineView). GivesAll (output_at v e)) (sym ((all place engine there).input (place - length plan.nodes) s.0 (omega (arith, more)) s.1))
+      (gives_input s.0 (e.stream - get_or plan.inputs (place - length plan.nodes) 0) (of_node IsPrefix inputs.streams _ s.0 is.inputs.prefixes s.1)))
+]
+
+-- Intakes.
+
+-- at a port nothing waits
+pub record WaitsNone (q : Waiting Plain) : Type 0 where
+  pub gone : q.gone ≡ 0
+  pub packets : q.packets ≡ []
+  pub bound : q.bound ≡ pre_stream
+
+waits_none : (n i : ℕ) → WaitsNone (queue_of 0 (get_or (replicate n (empty_backlog {X = Plain})) i empty_backlog))
+waits_none zero i = record { gone = refl; packets = refl; bound = refl }
+waits_none (suc n) zero = record { gone = refl; packets = refl; bound = refl }
+waits_none (suc n) (suc i) = waits_none n i
+
+like_none : (q : Waiting Plain) → IsLike q empty_queue → WaitsNone q
+like_none q like = record { gone = like.gone; packets = like.packets; bound = like.bound }
+
+held_none : (held : Held Plain) (port : ℕ) → IsFreshLoop held → WaitsNone (queue_at port held)
+held_none held port fresh = either (port == 0)
+  where
+    either : (b : Bool) → WaitsNone (if b then held.loop else held.main)
+    either true = like_none held.loop fresh.loop
+    either false = like_none held.main fresh.main
+
+pub nothing_waits : (plan : Plan) (consumer port : ℕ) (waits : Waits) → HoldsNone plan consumer waits → WaitsNone (port_queue waits port)
+nothing_waits plan consumer port (Sets inbox) holds = subst (λ (i : Gathered). WaitsNone (port_queue (Sets i) port)) (sym holds.1) (waits_none (length (ports_of plan consumer)) port)
+nothing_waits plan consumer port (Loop held) holds = held_none held port holds.1
+
+-- Cells.
+
+agree_none : (role : Role) (a b : ℕ) → a ≡ 0 → b ≡ 0 → AgreeBy role a b
+agree_none (Source calls) a b none none_too = none_too
+agree_none role a b none none_too = none ∙ sym none_too
+
+nothing_claimed : (job : LoggedJob) (node : PlanNode) (number : ℕ) (told : HolderView) → HasWorks job (fresh_engine node number told) (record { room = node.in_flight; works = [] })
+nothing_claimed job node number told = record {
+  room = refl;
+  out = λ i d less. absurd (omega (arith, less));
+  lawful = λ i d less. absurd (omega (arith, less));
+  apart = λ i j d less within. absurd (omega (arith, within));
+  complete = λ place entry there. absurd cc;
+}
+
+new_cell : (plan : Plan) (inputs : Inputs) (boxes : List CalculatorTold) (place : ℕ) (node : PlanNode) (engine : EngineView) (intake : IntakeView) (desk : DeskView) → IsJob (record { plan = plan; inputs = inputs }) → BoxesFit plan boxes → slice_get plan.nodes place ≡ Some node
+    → engine ≡ fresh_engine node place (first_holder (given_of boxes) node) → IsIntakeAt plan place intake → desk ≡ record { room = node.in_flight; works = [] } → IsCell (job_of plan inputs boxes) false place engine intake desk
+new_cell plan inputs boxes place node engine intake desk is fit there engine_is intake_is desk_is =
+    let job = job_of plan inputs boxes in
+    let found = solved (job_of plan inputs boxes) is in
+    record {
+      lawful_engine = fresh_unbegun job place node (first_holder (given_of boxes) node) engine (handed plan inputs boxes place node fit there) engine_is;
+      lawful_intake = intake_is.lawful job found.0 refl found.1;
+      agree = agree_none engine.role engine.claimed intake.claimed (ap (λ (v : EngineView). v.claimed) engine_is) intake_is.fresh.claimed;
+      works = subst (λ (v : EngineView). HasWorks job v desk) (sym engine_is) (subst (λ (d : DeskView). HasWorks job (fresh_engine node place (first_holder (given_of boxes) node)) d) (sym desk_is)
+          (nothing_claimed job node place (first_holder (given_of boxes) node)));
+    }
+
+-- Limits.
+
+new_knows : (plan : Plan) (inputs : Inputs) (told : ℕ → PlanNode → HolderView) (net : NetView) (e : Edge) → HasParts plan inputs told net → KnowsQueue net e (new_queue (length plan.nodes) (limit_of plan.limit) e)
+new_knows plan inputs told net e parts = record {
+  waiting = λ intake there. sym (ap (λ (ps : List (Stamped Plain)). length ps) (nothing_waits plan e.node e.port intake.waits (parts.intakes e.node intake there).fresh.holds).packets);
+  counts = λ engine less there.
+      let nodes = ap (λ (p : Plan). length p.nodes) parts.plan_is in
+      let there_too = there_at plan.nodes e.node (omega (arith, less, nodes)) in
+      let fresh = (parts.engines e.node engine there).node there_too.0 there_too.1 in
+      lt-ltb e.node (length plan.nodes) (omega (arith, less, nodes)) ∙ sym (ap (λ (v : EngineView). not (has_ended v)) fresh);
+}
+
+-- Nets.
+
+net_of : (plan : Plan) (inputs : Inputs) (boxes : List CalculatorTold) (net : NetView) → IsJob (record { plan = plan; inputs = inputs }) → BoxesFit plan boxes → HasParts plan inputs (λ _ node. first_holder (given_of boxes) node) net
+    → IsLeft plan.nodes (given_of boxes) (length plan.nodes) net.spare → net.begun ≡ 0 → net.wound ≡ 0 → IsNetOf (job_of plan inputs boxes) net
+net_of plan inputs boxes net is fit parts left begun wound = record {
+  is_job = is;
+  plan = parts.plan_is;
+  given = parts.given_is;
+  engines = parts.engine_count ∙ ap (λ (p : Plan). length p.nodes + length p.inputs) (sym parts.plan_is);
+  intakes = parts.intake_count ∙ ap (λ (p : Plan). length p.nodes + 1) (sym parts.plan_is);
+  desks = parts.desk_count ∙ nodes;
+  cells = λ place engine intake desk engine_at intake_at desk_at.
+      let less = slice_get_within net.desks place desk desk_at in
+      let count = parts.desk_count in
+      let node = there_at plan.nodes place (omega (arith, less, count)) in
+      subst (λ (b : Bool). IsCell (job_of plan inputs boxes) b place engine intake desk) (sym (ap (λ (n : ℕ). nat_lt place n) begun ∙ le-ltb place 0 (omega arith)))
+      (new_cell plan inputs boxes place node.0 engine intake desk is fit node.1 ((parts.engines place engine engine_at).node node.0 node.1) (parts.intakes place intake intake_at) (parts.desks place desk desk_at node.0 node.1));
+  inputs = λ input engine there.
+      let at : slice_get net.engines (length plan.nodes + input) ≡ Some engine = subst (λ (n : ℕ). slice_get net.engines (n + input) ≡ Some engine) (sym nodes) there in
+      let most = slice_get_within net.engines (length plan.nodes + input) engine at in
+      let count = parts.engine_count in
+      let same = is.inputs.streams in
+      let s = there_at inputs.streams input (omega (arith, most, count, same)) in
+      subst (λ (v : EngineView). LawfulEngine (job_of plan inputs boxes) (of_input input) v) (sym ((parts.engines (length plan.nodes + input) engine at).input input s.0 refl s.1)) (input_engine_lawful plan inputs boxes input s.0 is s.1);
+  collector = λ intake there. (let found = solved (job_of plan inputs boxes) is in (parts.intakes (length net.plan.nodes) intake there).lawful (job_of plan inputs boxes) found.0 refl found.1);
+  edges = λ e number place engine intake edge_at source engine_at intake_at.
+      let gives = gives_all plan inputs (λ _ node. first_holder (given_of boxes) node) net.engines place engine e is parts.engine_count parts.engines engine_at in
+      let waits = nothing_waits plan e.node e.port intake.waits (parts.intakes e.node intake intake_at).fresh.holds in
+      let gone = waits.gone in
+      let packets = ap (λ (ps : List (Stamped Plain)). length ps) waits.packets in
+      let bound = waits.bound in
+      let opened = gives.bound in
+      let whole = gives.gone in
+      record { came = record { count = omega (arith, gone, packets); bound = omega (arith, bound, opened) }; kept = omega (arith, whole) };
+  limits = record {
+    of_plan = subst (λ (p : Plan). IsOf p net.limits) (sym parts.plan_is) parts.of;
+    queues = λ number e q edge_at queue_at.
+        let at : slice_get plan.edges number ≡ Some e = subst (λ (p : Plan). slice_get p.edges number ≡ Some e) parts.plan_is edge_at in
+        let new : slice_get net.limits.queues number ≡ Some (new_queue (length plan.nodes) (limit_of plan.limit) e) =
+        ap (λ (qs : List Queue). slice_get qs number) parts.queues ∙ get_map (new_queue (length plan.nodes) (limit_of plan.limit)) plan.edges number e at in
+        subst (KnowsQueue net e) (some_same _ _ q new queue_at) (new_knows plan inputs (λ _ node. first_holder (given_of boxes) node) net e parts);
+  };
+  spare = spare plan inputs boxes net.spare fit left;
+  begun = omega (arith, begun);
+  not_wound = wound;
+}
+  where
+    nodes : length plan.nodes ≡ length net.plan.nodes
+    nodes = ap (λ (p : Plan). length p.nodes) (sym parts.plan_is)
+
+pub stands : (plan : Plan) (inputs : Inputs) (boxes : List CalculatorTold) (net : NetView) → IsJob (record { plan = plan; inputs = inputs }) → BoxesFit plan boxes → HasParts plan inputs (λ _ node. first_holder (given_of boxes) node) net
+    → IsLeft plan.nodes (given_of boxes) (length plan.nodes) net.spare → net.begun ≡ 0 → net.wound ≡ 0 → StandsFor (job_of plan inputs boxes) net
+unfolding StandsFor
+stands plan inputs boxes net is fit parts left begun wound = net_of plan inputs boxes net is fit parts left begun wound
+
+pub net_made : (plan : Plan) (inputs : Inputs) (boxes : List CalculatorTold) (net : NetView) → IsJob (record { plan = plan; inputs = inputs }) → BoxesFit plan boxes → HasParts plan inputs (λ _ node. first_holder (given_of boxes) node) net
+    → IsLeft plan.nodes (given_of boxes) (length plan.nodes) net.spare → net.begun ≡ 0 → net.wound ≡ 0 → IsMade plan inputs boxes net
+net_made plan inputs boxes net is fit parts left begun wound = record {
+  stands = stands plan inputs boxes net is fit parts left begun wound;
+  begun = begun;
+  fresh = λ consumer intake there. (parts.intakes consumer intake there).fresh;
+  limits = parts.queues;
+  unused = λ place told lies. placed boxes place told (left.others place told lies).0;
+}
+
+-- a net of parts, once its engines have the calculators that were handed in
+pub joined_made : (plan : Plan) (inputs : Inputs) (boxes : List CalculatorTold) (before net : NetView) → IsJob (record { plan = plan; inputs = inputs }) → BoxesFit plan boxes → HasParts plan inputs (λ _ node. own_told node) before
+    → net ≡ record before { engines = net.engines; spare = net.spare } → length net.engines ≡ length before.engines
+    → (AtPlaces (IsEngineAt plan inputs.streams (λ _ node. own_told node)) before.engines → AtPlaces (IsEngineAt plan inputs.streams (λ _ node. first_holder (given_of boxes) node)) net.engines)
+    → IsLeft plan.nodes (given_of boxes) (length plan.nodes) net.spare → before.begun ≡ 0 → before.wound ≡ 0 → IsMade plan inputs boxes net
+joined_made plan inputs boxes before net is fit parts same count engines left begun wound = net_made plan inputs boxes net is fit (record {
+  plan_is = ap (λ (n : NetView). n.plan) same ∙ parts.plan_is;
+  given_is = ap (λ (n : NetView). n.given) same ∙ parts.given_is;
+  engine_count = count ∙ parts.engine_count;
+  engines = engines parts.engines;
+  intake_count = ap (λ (n : NetView). length n.intakes) same ∙ parts.intake_count;
+  intakes = subst (λ (is : List IntakeView). AtPlaces (IsIntakeAt plan) is) (sym (ap (λ (n : NetView). n.intakes) same)) parts.intakes;
+  desk_count = ap (λ (n : NetView). length n.desks) same ∙ parts.desk_count;
+  desks = subst (λ (ds : List DeskView). AtPlaces (IsDeskAt plan) ds) (sym (ap (λ (n : NetView). n.desks) same)) parts.desks;
+  of = subst (λ (l : QueueLimits). IsOf plan l) (sym (ap (λ (n : NetView). n.limits) same)) parts.of;
+  queues = ap (λ (n : NetView). n.limits.queues) same ∙ parts.queues;
+}) left (ap (λ (n : NetView). n.begun) same ∙ begun) (ap (λ (n : NetView). n.wound) same ∙ wound)

@@ -1,0 +1,251 @@
+-- How works are performed and committed: what the parts of a net tell of a work, and what the net has come to then.
+use Rattle.std.proofs.Common.{◌≡◌, ◌≢◌, ℕ, ◌+◌, ◌<◌, ◌≤◌, Bool, true, false, List, [], ◌∷◌, ◌++◌, length, length-append, map, take, drop, set, get_or, All, Option, Some, None, slice_get, inl, inr, ap, sym, refl, subst, ◌∙◌, arith, if◌then◌else◌}
+use Rattle.std.proofs.lemmas.List.{length-set, set-set}
+use Rattle.mg_calc.specs.declared.event.Effect.TheVariants.{Did, Idle, OutOfMemory}
+use Rattle.mg_node.specs.Views.{WorkView, PerformedView, OutcomeView, EngineView}
+use Rattle.mg_node.specs.Job.{LoggedJob}
+use Rattle.mg_node.specs.Lawful.{of_node, LawfulEngine, LawfulWork}
+use Rattle.mg_node.specs.Claims.{has_ended}
+use Rattle.mg_node.specs.Running.{SomeJobHas, IsPerformed}
+use Rattle.mg_node.specs.Shelves.{IsOut, shelved, outcome_of, shelf_at, Unshelves}
+use Rattle.mg_node.specs.Commits.{Commits}
+use Rattle.mg_node.proofs.Making.{some_same}
+use Rattle.mg_node.proofs.ShelfLaws.{get_set}
+use Rattle.mg_node.proofs.WorksOut.{back_in_place}
+use Rattle.mg_throttle.specs.Throttle.{QueueLimits, stopped}
+use Rattle.mg_sched.specs.Views.{DeskView, NetView}
+use Rattle.mg_sched.specs.Places.{with_engine, with_desk, with_limits}
+use Rattle.mg_sched.specs.StandsFor.{HasWorks, StandsForSome, IsRunning}
+use Rattle.mg_sched.specs.Acts.{Performs, Performed, stopped_by, CommitsTo, CommittedAt, Committed}
+use Rattle.mg_sched.specs.Code.Desks.{TakesFrom}
+use Rattle.mg_sched.proofs.Finding.{cell_at, found, of_plan, read_at, engine_there, intake_there, desk_there, engine_read}
+use Rattle.mg_node.proofs.Frames.{put_there, same_put}
+use Rattle.mg_sched.proofs.Middles.{all_middle}
+use Rattle.mg_sched.proofs.DeskRoom.{works_fit, window_fits}
+
+-- What a net that stands for a job tells of its parts.
+
+pub lawful_at : (net : NetView) (node : ℕ) (engine : EngineView) (h : StandsForSome net) → IsRunning net → node < length net.plan.nodes → slice_get net.engines node ≡ Some engine → LawfulEngine h.job (of_node node) engine
+lawful_at net node engine h running there at =
+    let intake = found net.intakes node (intake_there net node h there) in
+    let desk = found net.desks node (desk_there net node h there) in
+    (cell_at h.job net node engine intake.0 desk.0 h.stands running there at intake.1 desk.1).lawful_engine
+
+pub works_at : (net : NetView) (node : ℕ) (engine : EngineView) (desk : DeskView) (h : StandsForSome net) → IsRunning net → node < length net.plan.nodes → slice_get net.engines node ≡ Some engine → slice_get net.desks node ≡ Some desk → HasWorks h.job engine desk
+works_at net node engine desk h running there at on =
+    let intake = found net.intakes node (intake_there net node h there) in
+    (cell_at h.job net node engine intake.0 desk h.stands running there at intake.1 on).works
+
+-- limits have a mark for each node
+pub marked : (shown net : NetView) (node : ℕ) → shown ≡ net → StandsForSome net → node < length net.plan.nodes → node < length shown.limits.reached
+marked shown net node is h there =
+    let marks = (of_plan net h).marked_nodes in
+    subst (λ (v : NetView). node < length v.limits.reached) (sym is) (let within : node < length net.limits.reached = omega (arith, there, marks) in within)
+
+pub still_there : (shown net : NetView) (node : ℕ) (engine : EngineView) → shown ≡ net → StandsForSome net → node < length net.plan.nodes → node < length (set shown.engines node engine)
+still_there shown net node engine is h there =
+    let within = subst (λ (v : NetView). node < length v.engines) (sym is) (engine_there net node h there) in
+    let long = length-set shown.engines node engine in
+    omega (arith, within, long)
+
+pub engine_within : (shown net : NetView) (node n : ℕ) → shown ≡ net → node < length net.engines → n ≡ length shown.engines → node < n
+engine_within shown net node n is there long =
+    let within = subst (λ (v : NetView). node < length v.engines) (sym is) there in omega (arith, within, long)
+
+-- the parts that stand there already change nothing
+same_engine : (net : NetView) (node : ℕ) (engine : EngineView) → slice_get net.engines node ≡ Some engine → with_engine net node engine ≡ net
+same_engine net node engine at = ap (λ (es : List EngineView). (let v : NetView = record net { engines = es } in v)) (same_put net.engines node engine at)
+
+same_desk : (net : NetView) (node : ℕ) (desk : DeskView) → slice_get net.desks node ≡ Some desk → with_desk net node desk ≡ net
+same_desk net node desk on = ap (λ (ds : List DeskView). (let v : NetView = record net { desks = ds } in v)) (same_put net.desks node desk on)
+
+-- How the queues of a node that has ended stop.
+
+abbrev stopped_if : ℕ → Bool → QueueLimits → QueueLimits
+stopped_if node ended limits = if ended then record limits { queues = map (stopped node) limits.queues } else limits
+
+ended_at : (shown net : NetView) (node : ℕ) (read engine : EngineView) (ended : Bool) → shown ≡ net → node < length net.engines → read ≡ get_or shown.engines node read → slice_get net.engines node ≡ Some engine → ended ≡ has_ended read → has_ended engine ≡ ended
+ended_at shown net node read engine ended is there value at tells =
+    let own : slice_get net.engines node ≡ Some read =
+    subst (λ (v : NetView). slice_get v.engines node ≡ Some read) is (read_at shown.engines node read (subst (λ (v : NetView). node < length v.engines) (sym is) there) value) in
+    ap has_ended (some_same (slice_get net.engines node) engine read at own) ∙ sym tells
+
+pub stops : (shown net : NetView) (node : ℕ) (read engine : EngineView) (now : QueueLimits) → shown ≡ net → node < length net.engines → read ≡ get_or shown.engines node read → slice_get net.engines node ≡ Some engine → true ≡ has_ended read
+    → now ≡ record shown.limits { queues = map (stopped node) shown.limits.queues } → with_limits shown now ≡ with_limits net (stopped_by node engine net.limits)
+stops shown net node read engine now is there value at tells now_is =
+    let ended = ended_at shown net node read engine true is there value at tells in
+    let limits : now ≡ stopped_by node engine net.limits =
+    now_is ∙ ap (λ (v : NetView). stopped_if node true v.limits) is ∙ ap (λ (b : Bool). stopped_if node b net.limits) (sym ended) in
+    ap (λ (v : NetView). with_limits v now) is ∙ ap (with_limits net) limits
+
+pub goes_on : (shown net : NetView) (node : ℕ) (read engine : EngineView) → shown ≡ net → node < length net.engines → read ≡ get_or shown.engines node read → slice_get net.engines node ≡ Some engine → false ≡ has_ended read
+    → net ≡ with_limits net (stopped_by node engine net.limits)
+goes_on shown net node read engine is there value at tells =
+    let ended = ended_at shown net node read engine false is there value at tells in
+    ap (λ (b : Bool). with_limits net (stopped_if node b net.limits)) (sym ended)
+
+-- How commits end.
+
+-- what is taken out of a window is out
+pub taken_out : (shown net : NetView) (node : ℕ) (read taken : EngineView) (p : PerformedView) (outcome : OutcomeView) → shown ≡ net → StandsForSome net → IsRunning net → node < length net.plan.nodes → read ≡ get_or shown.engines node read
+    → ((job : LoggedJob) (owner : ℕ) → LawfulEngine job (of_node owner) read → IsOut taken p.work) → outcome ≡ outcome_of p → IsOut taken outcome.work
+taken_out shown net node read taken p outcome is h running there value out outcome_is =
+    subst (λ (o : OutcomeView). IsOut taken o.work) (sym outcome_is) (out h.job node (lawful_at net node read h running there (engine_read shown net node read is h there value)))
+
+pub commits_none : (shown net : NetView) (node number : ℕ) (read now : EngineView) → shown ≡ net → StandsForSome net → node < length net.plan.nodes → read ≡ get_or shown.engines node read → None ≡ shelf_at read number → now ≡ read
+    → Committed node number Idle net (with_engine shown node now)
+commits_none shown net node number read now is h there value none same =
+    let at = engine_read shown net node read is h there value in
+    record {
+      engine = read;
+      at = at;
+      committed = subst (λ (o : Option PerformedView). CommittedAt node number o Idle read net (with_engine shown node now)) none
+          (record { idle = refl; same = ap (λ (v : NetView). with_engine v node now) is ∙ ap (with_engine net node) same ∙ same_engine net node read at });
+    }
+
+pub commits_did : (shown net : NetView) (node number : ℕ) (read taken now : EngineView) (p : PerformedView) (outcome : OutcomeView) (laid : ℕ) (after : NetView) → shown ≡ net → StandsForSome net → node < length net.plan.nodes
+    → read ≡ get_or shown.engines node read → Some p ≡ shelf_at read number → Unshelves (Some p) read taken number → outcome ≡ outcome_of p → Commits outcome laid taken now
+    → ((engine : EngineView) → slice_get (set shown.engines node now) node ≡ Some engine → after ≡ with_limits (with_engine shown node now) (stopped_by node engine shown.limits)) → Committed node number Did net after
+commits_did shown net node number read taken now p outcome laid after is h there value finds takes outcome_is commits ends =
+    let at = engine_read shown net node read is h there value in
+    let stands : slice_get shown.engines node ≡ Some read = subst (λ (v : NetView). slice_get v.engines node ≡ Some read) (sym is) at in
+    let to : CommitsTo node number read p net after = record {
+      taken = taken;
+      takes = takes;
+      laid = laid;
+      engine_now = now;
+      commits = subst (λ (o : OutcomeView). Commits o laid taken now) outcome_is commits;
+      now_is = ends now (get_set shown.engines node read now stands) ∙ ap (λ (v : NetView). with_limits (with_engine v node now) (stopped_by node now v.limits)) is;
+    } in
+    record { engine = read; at = at; committed = subst (λ (o : Option PerformedView). CommittedAt node number o Did read net after) finds to }
+
+pub commits_not : (shown net : NetView) (node number : ℕ) (read taken now : EngineView) (p : PerformedView) (outcome : OutcomeView) → shown ≡ net → StandsForSome net → IsRunning net → node < length net.plan.nodes
+    → read ≡ get_or shown.engines node read → Some p ≡ shelf_at read number → Unshelves (Some p) read taken number → outcome ≡ outcome_of p → now ≡ shelved taken outcome → Committed node number OutOfMemory net (with_engine shown node now)
+commits_not shown net node number read taken now p outcome is h running there value finds takes outcome_is now_is =
+    let at = engine_read shown net node read is h there value in
+    let same : now ≡ read = now_is ∙ ap (shelved taken) outcome_is ∙ back_in_place h.job node read taken number p (lawful_at net node read h running there at) (sym finds) takes in
+    record {
+      engine = read;
+      at = at;
+      committed = subst (λ (o : Option PerformedView). CommittedAt node number o OutOfMemory read net (with_engine shown node now)) finds
+          (ap (λ (v : NetView). with_engine v node now) is ∙ ap (with_engine net node) same ∙ same_engine net node read at);
+    }
+
+-- What leaves a desk.
+
+pub work_lawful : (net : NetView) (node number place : ℕ) (desk left : DeskView) (work : WorkView) → StandsForSome net → IsRunning net → node < length net.plan.nodes → slice_get net.desks node ≡ Some desk → TakesFrom number place work desk left → SomeJobHas work
+work_lawful net node number place desk left work h running there on t =
+    let engine = found net.engines node (engine_there net node h there) in
+    let works = works_at net node engine.0 desk h running there engine.1 on in
+    record { job = h.job; lawful = (all_middle (LawfulWork h.job) t.front t.back work (subst (All (LawfulWork h.job)) t.works works.lawful)).1 }
+
+work_out : (job : LoggedJob) (engine : EngineView) (number place : ℕ) (desk left : DeskView) (work : WorkView) → HasWorks job engine desk → TakesFrom number place work desk left → IsOut engine work
+work_out job engine number place desk left work works t = (all_middle (IsOut engine) t.front t.back work (subst (All (IsOut engine)) t.works works.out)).1
+
+-- a work is out in whatever state its bench is
+done_out : (engine : EngineView) (work : WorkView) (p : PerformedView) → IsPerformed work p → IsOut engine work → IsOut engine p.work
+done_out engine work p performed o =
+    subst (IsOut engine) (sym performed.same) (record { node_is = o.node_is; laid = o.laid; entry = o.entry; there = o.there; out = o.out; phase_is = o.phase_is })
+
+pub performed_out : (net : NetView) (node number place : ℕ) (engine : EngineView) (desk left : DeskView) (work : WorkView) (p : PerformedView) (outcome : OutcomeView) → StandsForSome net → IsRunning net → node < length net.plan.nodes
+    → slice_get net.engines node ≡ Some engine → slice_get net.desks node ≡ Some desk → TakesFrom number place work desk left → IsPerformed work p → outcome ≡ outcome_of p → IsOut engine outcome.work
+performed_out net node number place engine desk left work p outcome h running there at on t performed outcome_is =
+    subst (λ (o : OutcomeView). IsOut engine o.work) (sym outcome_is)
+    (done_out engine work p performed (work_out h.job engine number place desk left work (works_at net node engine desk h running there at on) t))
+
+length_middle : (front back : List WorkView) (work : WorkView) → length (front ++ work ∷ back) ≡ length (front ++ back) + 1
+length_middle front back work =
+    let more = length-append front (work ∷ back) in
+    let less = length-append front back in
+    omega (arith, more, less)
+
+-- The desk, as it is once a work has left it.
+
+pub left_is : (shown net : NetView) (node : ℕ) (left again : DeskView) → shown ≡ net → StandsForSome net → node < length net.plan.nodes → again ≡ get_or (set shown.desks node left) node again → again ≡ left
+left_is shown net node left again is h there value =
+    let less = subst (λ (v : NetView). node < length v.desks) (sym is) (desk_there net node h there) in
+    let long = length-set shown.desks node left in
+    put_there shown.desks node left again (read_at (set shown.desks node left) node again (omega (arith, less, long)) value)
+
+pub has_room : (net : NetView) (node number place : ℕ) (desk left again : DeskView) (work : WorkView) → StandsForSome net → IsRunning net → node < length net.plan.nodes → slice_get net.desks node ≡ Some desk → TakesFrom number place work desk left
+    → again ≡ left → length again.works < again.room
+has_room net node number place desk left again work h running there on t same =
+    let engine = found net.engines node (engine_there net node h there) in
+    let works = works_at net node engine.0 desk h running there engine.1 on in
+    let few = works_fit h.job engine.0 desk works in
+    let fits = window_fits h.job node engine.0 (lawful_at net node engine.0 h running there engine.1) in
+    let room = works.room in
+    let long : length desk.works ≡ length (t.front ++ t.back) + 1 = ap length t.works ∙ length_middle t.front t.back work in
+    subst (λ (d : DeskView). length d.works < d.room) (sym (same ∙ t.left)) (let less : length (t.front ++ t.back) < desk.room = omega (arith, few, fits, room, long) in less)
+
+pub has_place : (number place : ℕ) (desk left again : DeskView) (work : WorkView) → TakesFrom number place work desk left → again ≡ left → place ≤ length again.works
+has_place number place desk left again work t same =
+    let at = t.place_is in
+    let long = length-append t.front t.back in
+    subst (λ (d : DeskView). place ≤ length d.works) (sym (same ∙ t.left)) (let le : place ≤ length (t.front ++ t.back) = omega (arith, at, long) in le)
+
+back_between : {X : Type 0} (front back : List X) (x : X) → take (length front) (front ++ back) ++ x ∷ drop (length front) (front ++ back) ≡ front ++ x ∷ back
+back_between [] [] x = refl
+back_between [] (y ∷ back) x = refl
+back_between {X} (y ∷ front) back x = ap (λ (zs : List X). y ∷ zs) (back_between front back x)
+
+-- a work that is laid where it lay leaves the desk as it was
+abbrev put_at : ℕ → WorkView → DeskView → DeskView
+put_at place work desk = record desk { works = take place desk.works ++ work ∷ drop place desk.works }
+
+lies_again : (number place : ℕ) (desk left again now : DeskView) (work back_work : WorkView) → TakesFrom number place work desk left → again ≡ left → back_work ≡ work → now ≡ put_at place back_work again → now ≡ desk
+lies_again number place desk left again now work back_work t same unchanged now_is =
+    now_is ∙ ap (λ (w : WorkView). put_at place w again) unchanged ∙ ap (put_at place work) (same ∙ t.left)
+    ∙ ap (λ (n : ℕ). put_at n work (record desk { works = t.front ++ t.back })) (sym t.place_is)
+    ∙ ap (λ (ws : List WorkView). (let d : DeskView = record desk { works = ws } in d)) (back_between t.front t.back work ∙ sym t.works)
+
+-- How works are performed.
+
+pub performs_none : (shown net : NetView) (node number : ℕ) (desk now : DeskView) → shown ≡ net → slice_get net.desks node ≡ Some desk → All (λ w. w.number ≢ number) desk.works → now ≡ desk → Performed node number Idle net (with_desk shown node now)
+performs_none shown net node number desk now is on none same = record {
+  desk = desk;
+  on = on;
+  performed = inl (none, record { idle = refl; same = ap (λ (v : NetView). with_desk v node now) is ∙ ap (with_desk net node) same ∙ same_desk net node desk on });
+}
+
+pub performs_did : (shown net : NetView) (node number place : ℕ) (engine engine_now : EngineView) (desk left : DeskView) (work : WorkView) (p : PerformedView) (outcome : OutcomeView) → shown ≡ net
+    → slice_get net.engines node ≡ Some engine → slice_get net.desks node ≡ Some desk → TakesFrom number place work desk left → IsPerformed work p → outcome ≡ outcome_of p → engine_now ≡ shelved engine outcome
+    → Performed node number Did net (with_desk (with_engine shown node engine_now) node left)
+performs_did shown net node number place engine engine_now desk left work p outcome is at on t performed outcome_is now_is =
+    let performs : Performs node number Did desk net (with_desk (with_engine shown node engine_now) node left) = record {
+      engine = engine;
+      at = at;
+      work = work;
+      front = t.front;
+      back = t.back;
+      works = t.works;
+      number_is = t.number_is;
+      performed = (
+        p,
+        performed,
+        ap (λ (v : NetView). with_desk (with_engine v node engine_now) node left) is
+            ∙ ap (λ (e : EngineView). with_desk (with_engine net node e) node left) (now_is ∙ ap (shelved engine) outcome_is)
+            ∙ ap (with_desk (with_engine net node (shelved engine (outcome_of p))) node) t.left,
+      );
+    } in
+    record { desk = desk; on = on; performed = inr performs }
+
+pub performs_not : (shown net : NetView) (node number place : ℕ) (desk left again now : DeskView) (work back_work : WorkView) → shown ≡ net → StandsForSome net → node < length net.plan.nodes
+    → slice_get net.desks node ≡ Some desk → TakesFrom number place work desk left → again ≡ left → back_work ≡ work → now ≡ put_at place back_work again
+    → Performed node number OutOfMemory net (with_desk (with_desk shown node left) node now)
+performs_not shown net node number place desk left again now work back_work is h there on t same unchanged now_is =
+    let engine = found net.engines node (engine_there net node h there) in
+    let desks : (let v : NetView = record net { desks = set (set net.desks node left) node now } in v) ≡ with_desk net node now =
+    ap (λ (ds : List DeskView). (let v : NetView = record net { desks = ds } in v)) (set-set net.desks node left now) in
+    let performs : Performs node number OutOfMemory desk net (with_desk (with_desk shown node left) node now) = record {
+      engine = engine.0;
+      at = engine.1;
+      work = work;
+      front = t.front;
+      back = t.back;
+      works = t.works;
+      number_is = t.number_is;
+      performed = ap (λ (v : NetView). with_desk (with_desk v node left) node now) is ∙ desks
+          ∙ ap (with_desk net node) (lies_again number place desk left again now work back_work t same unchanged now_is) ∙ same_desk net node desk on;
+    } in
+    record { desk = desk; on = on; performed = inr performs }

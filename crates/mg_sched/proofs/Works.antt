@@ -1,0 +1,97 @@
+-- A desk has the works of its engine that are out, whatever is claimed, performed and committed.
+use Rattle.std.proofs.Common.{◌≡◌, ◌≢◌, ℕ, ◌+◌, ◌-◌, ◌≤◌, List, [], ◌∷◌, ◌++◌, get_or, All, slice_get, inl, inr, ap, sym, subst, ◌∙◌}
+use Rattle.std.specs.Prelude.{AllPairs, Any}
+use Rattle.std.proofs.lemmas.Option.{none-some}
+use Rattle.std.proofs.lemmas.List.Elements.{All-push, All-weaker}
+use Rattle.std.proofs.lemmas.List.Quantifiers.{all_pairs_push, Any-push}
+use Rattle.mg_node.specs.Views.{WorkView, EntryView, EngineView}
+use Rattle.mg_node.specs.Job.{LoggedJob}
+use Rattle.mg_node.specs.Lawful.{LawfulWork}
+use Rattle.mg_node.specs.Shelves.{IsOut}
+use Rattle.mg_sched.specs.Views.{DeskView}
+use Rattle.mg_sched.specs.StandsFor.{HasWorks}
+use Rattle.mg_sched.proofs.Middles.{all_middle, any_middle, any_first, pairs_middle, pairs_with, all_both}
+use Rattle.mg_node.proofs.StaysOut.{IsMissing, GoesOut, ComesBack}
+
+-- a work that is missing in the window lies on the desk
+missing_there : (job : LoggedJob) (engine : EngineView) (desk : DeskView) (number : ℕ) → HasWorks job engine desk → IsMissing engine number → Any (λ w. w.number ≡ number) desk.works
+missing_there job engine desk number h m = subst (λ (n : ℕ). Any (λ w. w.number ≡ n) desk.works) (sym m.number_is) (h.complete m.place m.entry m.there m.missing)
+
+-- an engine with the same window
+pub works_same : (job : LoggedJob) (before now : EngineView) (desk : DeskView) → now.in_flight ≡ before.in_flight → now.node ≡ before.node → now.laid ≡ before.laid → now.window ≡ before.window → HasWorks job before desk → HasWorks job now desk
+works_same job before now desk flight node laid window h = record {
+  room = h.room ∙ sym flight;
+  out = All-weaker (IsOut before) (IsOut now) (λ w o. record {
+    node_is = o.node_is ∙ sym node;
+    laid = subst (λ (n : ℕ). n ≤ w.number) (sym laid) o.laid;
+    entry = o.entry;
+    there = ap (λ (xs : List EntryView). slice_get xs (w.number - now.laid)) window ∙ ap (λ (n : ℕ). slice_get before.window (w.number - n)) laid ∙ o.there;
+    out = o.out;
+    phase_is = o.phase_is;
+  }) desk.works h.out;
+  lawful = h.lawful;
+  apart = h.apart;
+  complete = λ place entry at none. subst (λ (n : ℕ). Any (λ w. w.number ≡ n + place) desk.works) (sym laid) (h.complete place entry (ap (λ (xs : List EntryView). slice_get xs place) (sym window) ∙ at) none);
+}
+
+-- one more work
+pub works_more : (job : LoggedJob) (before now : EngineView) (desk : DeskView) (work : WorkView) → now.in_flight ≡ before.in_flight → GoesOut before now work → LawfulWork job work → HasWorks job before desk
+    → HasWorks job now (record desk { works = desk.works ++ work ∷ [] })
+works_more job before now desk work flight g lawful h = record {
+  room = h.room ∙ sym flight;
+  out = All-push (IsOut now) desk.works work (All-weaker (IsOut before) (IsOut now) g.stays desk.works h.out) g.out;
+  lawful = All-push (LawfulWork job) desk.works work h.lawful lawful;
+  apart = all_pairs_push (λ (a b : WorkView). a.number ≢ b.number) desk.works work h.apart (λ k d less. g.apart (get_or desk.works k d) (h.out k d less));
+  complete = λ place entry at none. elim (g.only place entry at none) [
+    | inl own ↦ Any-push (λ (w : WorkView). w.number ≡ now.laid + place) desk.works work own
+    | inr missing ↦ any_first (λ (w : WorkView). w.number ≡ now.laid + place) desk.works (work ∷ []) (missing_there job before desk (now.laid + place) h missing)
+  ];
+}
+
+not_turned : (a b : WorkView) → a.number ≢ b.number → b.number ≢ a.number
+not_turned a b other = λ e. other (sym e)
+
+-- a work that comes back
+pub works_fewer : (job : LoggedJob) (before now : EngineView) (desk : DeskView) (front back : List WorkView) (work : WorkView) → now.in_flight ≡ before.in_flight → ComesBack before now work.number → desk.works ≡ front ++ work ∷ back
+    → HasWorks job before desk → HasWorks job now (record desk { works = front ++ back })
+works_fewer job before now desk front back work flight c works h =
+    let all = all_middle (IsOut before) front back work (subst (All (IsOut before)) works h.out) in
+    let lawful = all_middle (LawfulWork job) front back work (subst (All (LawfulWork job)) works h.lawful) in
+    let pairs = subst (AllPairs (λ (a b : WorkView). a.number ≢ b.number)) works h.apart in
+    let others = pairs_with (λ (a b : WorkView). a.number ≢ b.number) not_turned front back work pairs in
+    record {
+      room = h.room ∙ sym flight;
+      out = all_both (IsOut before) (λ (w : WorkView). w.number ≢ work.number) (IsOut now) (front ++ back) c.stays all.0 others;
+      lawful = lawful.0;
+      apart = (pairs_middle (λ (a b : WorkView). a.number ≢ b.number) not_turned front back work pairs).0;
+      complete = λ place entry at none.
+          let only = c.only place entry at none in
+          any_middle (λ (w : WorkView). w.number ≡ now.laid + place) front back work (λ e. only.1 (sym e))
+          (subst (Any (λ (w : WorkView). w.number ≡ now.laid + place)) works (missing_there job before desk (now.laid + place) h only.0));
+    }
+
+-- nothing is out of an empty window
+pub works_none : (job : LoggedJob) (before now : EngineView) (desk : DeskView) → now.in_flight ≡ before.in_flight → before.window ≡ [] → now.window ≡ [] → HasWorks job before desk → HasWorks job now desk
+works_none job before now desk flight empty still h = record {
+  room = h.room ∙ sym flight;
+  out = All-weaker (IsOut before) (IsOut now) (λ w o. absurd (none-some o.entry (ap (λ (xs : List EntryView). slice_get xs (w.number - before.laid)) (sym empty) ∙ o.there))) desk.works h.out;
+  lawful = h.lawful;
+  apart = h.apart;
+  complete = λ place entry at none. absurd (none-some entry (ap (λ (xs : List EntryView). slice_get xs place) (sym still) ∙ at));
+}
+
+-- a work that is found in its window, and comes back once more
+pub works_through : (job : LoggedJob) (before mid now : EngineView) (desk : DeskView) (work : WorkView) → now.in_flight ≡ before.in_flight → GoesOut before mid work → ComesBack mid now work.number → HasWorks job before desk → HasWorks job now desk
+works_through job before mid now desk work flight g c h = record {
+  room = h.room ∙ sym flight;
+  out = All-weaker (IsOut before) (IsOut now) (λ w o. c.stays w (g.stays w o) (g.apart w o)) desk.works h.out;
+  lawful = h.lawful;
+  apart = h.apart;
+  complete = λ place entry at none.
+      let only = c.only place entry at none in
+      let m = only.0 in
+      elim (g.only m.place m.entry m.there m.missing) [
+        | inl own ↦ absurd (only.1 (m.number_is ∙ sym own))
+        | inr missing ↦ subst (λ (n : ℕ). Any (λ w. w.number ≡ n) desk.works) (sym m.number_is) (missing_there job before desk (mid.laid + m.place) h missing)
+      ];
+}

@@ -1,0 +1,19 @@
+use Rattle.std.proofs.Common.{◌≡◌, ◌∙◌, Some, false, slice_get, ap}
+use Rattle.mg_calc.specs.declared.plan_node.PlanNode.{PlanNode}
+use Rattle.mg_calc.specs.Shape.{ParametersFit}
+use Rattle.mg_route.specs.HolderView.{HolderView, holder_view}
+use Rattle.mg_node.specs.Fresh.{own_told, fresh_engine}
+use Rattle.mg_node.proofs.Performing.{of_node}
+use Rattle.mg_node.proofs.Making.{read_at, some_same}
+use Rattle.mg_sched.proofs.parts.engine_of.Goals as goal
+
+pub returns-in-Ok : goal.returns-in-Ok
+returns-in-Ok g c = λ planned there_too.
+    let there : slice_get c.args.plan.now.nodes c.args.node ≡ Some c.index-as_slice-node.result = read_at _ _ _ _ c.as_slice.ensures c.requires.node c.index-as_slice-node.is in
+    let same : c.index-as_slice-node.result ≡ planned = some_same _ _ _ there there_too in
+    c.in-Ok.ensures.engine planned there_too
+    ∙ ap (λ (t : HolderView). fresh_engine planned c.args.node t) (c.own.ensures ∙ ap (holder_view false) c.in_ok-builtin.ensures ∙ ap own_told same)
+
+pub new-requires-clause-ranges : goal.new-requires-clause-ranges
+new-requires-clause-ranges g c =
+    of_node (λ (n : PlanNode). ParametersFit n.law) _ c.args.node _ c.requires.valid.parameters (read_at _ _ _ _ c.as_slice.ensures c.requires.node c.index-as_slice-node.is)

@@ -1,0 +1,217 @@
+-- The steps of a net: what each event does to which part, and exactly where it does nothing. A net is changed at the named parts
+-- alone.
+use Rattle.std.specs.Prelude.{◌≡◌, ◌≢◌, ℕ, ◌+◌, ◌<◌, ◌⊎◌, ◌||◌, ◌==◌, not, true, false, List, [], ◌∷◌, ◌++◌, map, length, All, Contains, Option, Some, None, slice_get, if◌then◌else◌, ⊤}
+use Rattle.std.specs.List.{list_any}
+use Rattle.mg_calc.specs.declared.edge.Edge.{Edge}
+use Rattle.mg_calc.specs.declared.event.Event.{Event}
+use Rattle.mg_calc.specs.declared.event.Event.TheVariants.{Deliver, Advance, Claim, Perform, Commit, Relax}
+use Rattle.mg_calc.specs.declared.event.Effect.{Effect}
+use Rattle.mg_calc.specs.declared.event.Effect.TheVariants.{Did, Idle, OutOfMemory}
+use Rattle.mg_calc.specs.declared.plan_stream.Producer.TheVariants.{Input}
+use Rattle.mg_calc.specs.Plan.{graph_input, source_node, feeders}
+use Rattle.mg_node.specs.declared.delivered.Delivered.{Delivered}
+use Rattle.mg_node.specs.declared.delivered.Delivered.TheVariants.{Moved, OutOfMemory as NoRoom}
+use Rattle.mg_node.specs.declared.claimed.Claimed.TheVariants.{Work, Answered, NotReady, InFlightFull, Draining, Ended, OutOfMemory as NoMemory}
+use Rattle.mg_node.specs.Views.{IntakeView, WorkView, PerformedView, EngineView}
+use Rattle.mg_node.specs.Ports.{port_queue}
+use Rattle.mg_node.specs.Delivery.{Delivers}
+use Rattle.mg_node.specs.Leading.{output_at}
+use Rattle.mg_node.specs.Advances.{advanced, is_advanced}
+use Rattle.mg_node.specs.Claims.{Claims, has_ended}
+use Rattle.mg_node.specs.Running.{IsPerformed}
+use Rattle.mg_node.specs.Shelves.{outcome_of, shelved, shelf_at, Unshelves}
+use Rattle.mg_node.specs.Commits.{Commits}
+use Rattle.mg_throttle.specs.declared.queue.Queue.{Queue}
+use Rattle.mg_throttle.specs.Throttle.{QueueLimits, producer_of, noted, relaxed, stopped, is_full, IsThrottled}
+use Rattle.mg_sched.specs.Views.{DeskView, NetView}
+use Rattle.mg_sched.specs.Places.{source_of, lengths_of, first_edge, with_engine, with_intake, with_desk, with_limits}
+
+-- an event's node or edge is of the plan
+abbrev pub IsEventOf : NetView → Event → Type 0
+IsEventOf net (Deliver edge) = edge < length net.plan.edges
+IsEventOf net (Advance node) = node < length net.plan.nodes
+IsEventOf net (Claim node) = node < length net.plan.nodes
+IsEventOf net (Perform node number) = node < length net.plan.nodes
+IsEventOf net (Commit node number) = node < length net.plan.nodes
+IsEventOf net Relax = ⊤
+
+-- nothing happened
+pub record Rests (effect : Effect) (before now : NetView) : Type 0 where
+  pub idle : effect ≡ Idle
+  pub same : now ≡ before
+
+-- Limits hear what waits.
+
+-- queues whose lengths, from that of a number on, are told
+abbrev pub all_noted : List Queue → ℕ → List ℕ → List Queue
+all_noted queues number [] = queues
+all_noted queues number (n ∷ ns) = all_noted (noted queues number n) (number + 1) ns
+
+abbrev pub with_noted : NetView → ℕ → List ℕ → NetView
+with_noted net number ns = with_limits net (record net.limits { queues = all_noted net.limits.queues number ns })
+
+-- Deliveries.
+
+-- an edge leads from a graph input that is throttled
+pub record IsHeld (net : NetView) (e : Edge) : Type 0 where
+  pub input : ℕ
+  pub from : producer_of net.plan e ≡ Some (Input input)
+  pub throttled : IsThrottled net.plan net.limits (graph_input input)
+
+-- what a delivery did
+abbrev pub effect_of : Delivered → Effect
+effect_of (Moved packets raised) = if not (packets == 0) || raised then Did else Idle
+effect_of (NoRoom packets) = OutOfMemory
+
+-- packets go along an edge, all that the port hasn't got (a step moves at most 2^32 - 1), and then the bound; the limits hear how
+-- many wait now
+pub record Brings (number : ℕ) (e : Edge) (effect : Effect) (before now : NetView) : Type 0 where
+  pub place : ℕ
+  pub from : source_of before.plan e ≡ Some place
+  pub engine : EngineView
+  pub at : slice_get before.engines place ≡ Some engine
+  pub intake : IntakeView
+  pub to : slice_get before.intakes e.node ≡ Some intake
+  pub answer : Delivered
+  pub intake_now : IntakeView
+  pub moved : Delivers answer (output_at engine e) e.port 4294967295 intake.waits intake_now.waits
+  pub claimed : intake_now.claimed ≡ intake.claimed
+  pub still : answer ≡ Moved 0 false → intake_now ≡ intake
+  pub effect_is : effect ≡ effect_of answer
+  pub now_is : now ≡ with_noted (with_intake before e.node intake_now) number (length (port_queue intake_now.waits e.port).packets ∷ [])
+
+-- nothing goes along an edge from a graph input that is throttled
+pub record DeliversAlong (number : ℕ) (effect : Effect) (before now : NetView) : Type 0 where
+  pub edge : Edge
+  pub there : slice_get before.plan.edges number ≡ Some edge
+  pub delivered : (IsHeld before edge × Rests effect before now) ⊎ (¬ IsHeld before edge × Brings number edge effect before now)
+
+-- Advances.
+
+-- a node's outputs are raised as far as what waits tells
+pub record Advanced (node : ℕ) (effect : Effect) (before now : NetView) : Type 0 where
+  pub engine : EngineView
+  pub at : slice_get before.engines node ≡ Some engine
+  pub intake : IntakeView
+  pub to : slice_get before.intakes node ≡ Some intake
+  pub effect_is : effect ≡ (if is_advanced engine intake.waits then Did else Idle)
+  pub now_is : now ≡ with_engine before node (advanced engine intake.waits)
+
+-- Claims.
+
+-- a node is a source that is throttled
+pub record IsHeldSource (net : NetView) (node : ℕ) : Type 0 where
+  pub feeds : Contains (feeders net.plan) (source_node node)
+  pub throttled : IsThrottled net.plan net.limits (source_node node)
+
+-- a work that is handed out lies on the desk
+pub record TakesWork (engine engine_now : EngineView) (intake intake_now : IntakeView) (desk desk_now : DeskView) : Type 0 where
+  pub work : WorkView
+  pub claims : Claims {C = ℕ} (Work work) engine engine_now intake intake_now
+  pub on_desk : desk_now ≡ record desk { works = desk.works ++ work ∷ [] }
+
+-- what a claim gave
+abbrev pub ClaimsBy : Effect → EngineView → EngineView → IntakeView → IntakeView → DeskView → DeskView → Type 0
+ClaimsBy Did engine engine_now intake intake_now desk desk_now =
+    TakesWork engine engine_now intake intake_now desk desk_now ⊎ (Claims {C = ℕ} Answered engine engine_now intake intake_now × (desk_now ≡ desk))
+ClaimsBy Idle engine engine_now intake intake_now desk desk_now =
+    (Claims {C = ℕ} NotReady engine engine_now intake intake_now
+    ⊎ (Claims {C = ℕ} InFlightFull engine engine_now intake intake_now
+    ⊎ (Claims {C = ℕ} Draining engine engine_now intake intake_now
+    ⊎ Claims {C = ℕ} Ended engine engine_now intake intake_now)))
+    × (desk_now ≡ desk)
+ClaimsBy OutOfMemory engine engine_now intake intake_now desk desk_now = Claims {C = ℕ} NoMemory engine engine_now intake intake_now × (desk_now ≡ desk)
+
+-- a node's engine claims of its intake, and the limits hear how many packets wait now at each of its ports
+pub record ClaimsNext (node : ℕ) (effect : Effect) (before now : NetView) : Type 0 where
+  pub engine : EngineView
+  pub at : slice_get before.engines node ≡ Some engine
+  pub intake : IntakeView
+  pub to : slice_get before.intakes node ≡ Some intake
+  pub desk : DeskView
+  pub on : slice_get before.desks node ≡ Some desk
+  pub engine_now : EngineView
+  pub intake_now : IntakeView
+  pub desk_now : DeskView
+  pub claims : ClaimsBy effect engine engine_now intake intake_now desk desk_now
+  pub now_is : now
+      ≡ with_noted (with_desk (with_intake (with_engine before node engine_now) node intake_now) node desk_now) (first_edge before.plan node) (lengths_of intake_now.waits)
+
+-- a throttled source claims nothing
+abbrev pub Claimed : ℕ → Effect → NetView → NetView → Type 0
+Claimed node effect before now = (IsHeldSource before node × Rests effect before now) ⊎ (¬ IsHeldSource before node × ClaimsNext node effect before now)
+
+-- Works.
+
+-- a work leaves the desk, is done, and stands in its window as performed and not committed; where there is no memory it lies where it
+-- lay
+abbrev pub PerformedBy : Effect → ℕ → EngineView → DeskView → List WorkView → WorkView → NetView → NetView → Type 0
+PerformedBy Did node engine desk left work before now =
+    (p : PerformedView) × IsPerformed work p × (now ≡ with_desk (with_engine before node (shelved engine (outcome_of p))) node (record desk { works = left }))
+PerformedBy Idle node engine desk left work before now = ⊥
+PerformedBy OutOfMemory node engine desk left work before now = now ≡ before
+
+pub record Performs (node number : ℕ) (effect : Effect) (desk : DeskView) (before now : NetView) : Type 0 where
+  pub engine : EngineView
+  pub at : slice_get before.engines node ≡ Some engine
+  pub work : WorkView
+  pub front : List WorkView
+  pub back : List WorkView
+  pub works : desk.works ≡ front ++ work ∷ back
+  pub number_is : work.number ≡ number
+  pub performed : PerformedBy effect node engine desk (front ++ back) work before now
+
+-- there may be no such work
+pub record Performed (node number : ℕ) (effect : Effect) (before now : NetView) : Type 0 where
+  pub desk : DeskView
+  pub on : slice_get before.desks node ≡ Some desk
+  pub performed : (All (λ w. w.number ≢ number) desk.works × Rests effect before now) ⊎ Performs node number effect desk before now
+
+-- Commits.
+
+-- the limits once a node has come to this: the queues of one that has ended don't count
+abbrev pub stopped_by : ℕ → EngineView → QueueLimits → QueueLimits
+stopped_by node engine limits = if has_ended engine then record limits { queues = map (stopped node) limits.queues } else limits
+
+-- what is performed and not committed leaves its window's entry and is committed
+pub record CommitsTo (node number : ℕ) (engine : EngineView) (p : PerformedView) (before now : NetView) : Type 0 where
+  pub taken : EngineView
+  pub takes : Unshelves (Some p) engine taken number
+  pub laid : ℕ
+  pub engine_now : EngineView
+  pub commits : Commits (outcome_of p) laid taken engine_now
+  pub now_is : now ≡ with_limits (with_engine before node engine_now) (stopped_by node engine_now before.limits)
+
+abbrev pub CommittedBy : Effect → ℕ → ℕ → EngineView → PerformedView → NetView → NetView → Type 0
+CommittedBy Did node number engine p before now = CommitsTo node number engine p before now
+CommittedBy Idle node number engine p before now = ⊥
+CommittedBy OutOfMemory node number engine p before now = now ≡ before
+
+abbrev pub CommittedAt : ℕ → ℕ → Option PerformedView → Effect → EngineView → NetView → NetView → Type 0
+CommittedAt node number None effect engine before now = Rests effect before now
+CommittedAt node number (Some p) effect engine before now = CommittedBy effect node number engine p before now
+
+-- there may be no such work
+pub record Committed (node number : ℕ) (effect : Effect) (before now : NetView) : Type 0 where
+  pub engine : EngineView
+  pub at : slice_get before.engines node ≡ Some engine
+  pub committed : CommittedAt node number (shelf_at engine number) effect engine before now
+
+-- Limits are relaxed where a queue is full.
+
+abbrev pub IsAnyFull : QueueLimits → Type 0
+IsAnyFull limits = list_any is_full limits.queues ≡ true
+
+abbrev pub Relaxed : Effect → NetView → NetView → Type 0
+Relaxed effect before now =
+    (¬ IsAnyFull before.limits × Rests effect before now)
+    ⊎ (IsAnyFull before.limits × (effect ≡ Did) × (now ≡ with_limits before (record before.limits { queues = map relaxed before.limits.queues })))
+
+-- A step.
+abbrev pub Acts : Event → Effect → NetView → NetView → Type 0
+Acts (Deliver edge) effect before now = DeliversAlong edge effect before now
+Acts (Advance node) effect before now = Advanced node effect before now
+Acts (Claim node) effect before now = Claimed node effect before now
+Acts (Perform node number) effect before now = Performed node number effect before now
+Acts (Commit node number) effect before now = Committed node number effect before now
+Acts Relax effect before now = Relaxed effect before now

@@ -1,0 +1,11 @@
+-- How nodes are begun: nothing but their engines changes, and the limits of those that fail in Open.
+use Rattle.std.specs.Prelude.{◌≡◌, ℕ, ◌≤◌, length, slice_get, Some}
+use Rattle.mg_node.specs.Views.{EngineView}
+use Rattle.mg_node.specs.Standing.{EngineGrows}
+use Rattle.mg_sched.specs.Views.{NetView}
+
+pub record Begins (before now : NetView) : Type 0 where
+  pub more : before.begun ≤ now.begun
+  pub parts : now ≡ record before { engines = now.engines; limits = now.limits; begun = now.begun }
+  pub places : length now.engines ≡ length before.engines
+  pub grow : (place : ℕ) (engine engine_now : EngineView) → slice_get before.engines place ≡ Some engine → slice_get now.engines place ≡ Some engine_now → EngineGrows engine engine_now

@@ -1,0 +1,7 @@
+-- What only the crate's own functions and proofs cite. Nobody who reads the public contracts needs these pages.
+pub mod Desks
+pub mod Tables
+pub mod Cells
+pub mod Made
+pub mod Longer
+pub mod Outputs

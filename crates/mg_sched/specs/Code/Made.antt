@@ -1,0 +1,81 @@
+-- What a net is made of: its parts before any node is begun, at their places, and what lies where calculators were handed in.
+use Rattle.std.specs.Prelude.{◌≡◌, ℕ, ◌+◌, ◌<◌, nat_lt, List, [], map, length, All, Option, Some, None, IfSome, IsSome, IsSomeAnd, option_map, unwrap_or, slice_get, slice_index_or, true, if◌then◌else◌}
+use Rattle.std.specs.Option.{option_and_then}
+use Rattle.mg_value.specs.Payload.{Plain}
+use Rattle.mg_value.specs.Prefix.{StreamPrefix}
+use Rattle.mg_calc.specs.declared.inputs.Inputs.{Inputs}
+use Rattle.mg_calc.specs.declared.plan.Plan.{Plan}
+use Rattle.mg_calc.specs.declared.plan_node.PlanNode.{PlanNode}
+use Rattle.mg_calc.specs.Told.{CalculatorTold}
+use Rattle.mg_route.specs.HolderView.{HolderView, holder_view}
+use Rattle.mg_node.specs.Views.{IntakeView, EngineView}
+use Rattle.mg_node.specs.Job.{LoggedJob, Solves}
+use Rattle.mg_node.specs.Lawful.{LawfulIntake}
+use Rattle.mg_node.specs.Intakes.{IsFresh}
+use Rattle.mg_node.specs.Fresh.{own_told, fresh_engine}
+use Rattle.mg_node.specs.Outputs.{input_engine}
+use Rattle.mg_throttle.specs.Throttle.{IsOf, limit_of, new_queue}
+use Rattle.mg_sched.specs.Views.{DeskView, NetView}
+
+-- what holds of each element of a list, by its place
+abbrev pub AtPlaces : {X : Type 0} → (ℕ → X → Type 0) → List X → Type 0
+AtPlaces {X} P xs = (place : ℕ) (x : X) → slice_get xs place ≡ Some x → P place x
+
+-- Calculators.
+
+-- the calculator with which a node begins: the one of its number, of those that were handed in, or one of its own kind
+abbrev pub first_holder : List (Option CalculatorTold) → PlanNode → HolderView
+first_holder given node = unwrap_or (option_map (holder_view true) (option_and_then (λ number. unwrap_or (slice_get given number) None) node.box_number)) (own_told node)
+
+-- and the one of a place, while the first nodes alone, a number of them, have what was handed in
+abbrev pub holder_before : List (Option CalculatorTold) → ℕ → ℕ → PlanNode → HolderView
+holder_before given count place node = if nat_lt place count then first_holder given node else own_told node
+
+-- one of the first nodes, a number of them, has the calculator of a number
+pub record HasTaken (nodes : List PlanNode) (count number : ℕ) : Type 0 where
+  pub place : ℕ
+  pub node : PlanNode
+  pub before : place < count
+  pub there : slice_get nodes place ≡ Some node
+  pub takes : node.box_number ≡ Some number
+
+-- the places of what was handed in, once the first nodes, a number of them, have taken theirs: these places are empty, and all others
+-- have what they had
+pub record IsLeft (nodes : List PlanNode) (given : List (Option CalculatorTold)) (count : ℕ) (now : List (Option CalculatorTold)) : Type 0 where
+  pub places : length now ≡ length given
+  pub taken : (number : ℕ) → slice_get now number ≡ Some None → HasTaken nodes count number
+  pub others : (number : ℕ) (told : CalculatorTold) → slice_get now number ≡ Some (Some told) → (slice_get given number ≡ Some (Some told)) × ¬ HasTaken nodes count number
+
+-- each node that has a number finds a calculator there
+abbrev pub FindEach : List PlanNode → List (Option CalculatorTold) → Type 0
+FindEach nodes given = All (λ node. IfSome node.box_number (λ number. IsSomeAnd (slice_get given number) (λ told. IsSome told))) nodes
+
+-- Parts.
+
+-- the engine at a place: that of a node that isn't begun, or, behind those, that of a graph input
+pub record IsEngineAt (plan : Plan) (streams : List (StreamPrefix Plain)) (told : ℕ → PlanNode → HolderView) (place : ℕ) (engine : EngineView) : Type 0 where
+  pub node : (node : PlanNode) → slice_get plan.nodes place ≡ Some node → engine ≡ fresh_engine node place (told place node)
+  pub input : (input : ℕ) (s : StreamPrefix Plain) → place ≡ length plan.nodes + input → slice_get streams input ≡ Some s
+      → engine ≡ input_engine input (slice_index_or plan.inputs input 0) s
+
+-- the intake of a consumer, to which nothing came: it is lawful for every job of the plan
+pub record IsIntakeAt (plan : Plan) (consumer : ℕ) (intake : IntakeView) : Type 0 where
+  pub fresh : IsFresh plan consumer intake
+  pub lawful : (job : LoggedJob) (streams : List (StreamPrefix Plain)) → job.job.plan ≡ plan → Solves job streams → LawfulIntake job consumer intake
+
+-- the desk of a node, where nothing lies
+abbrev pub IsDeskAt : Plan → ℕ → DeskView → Type 0
+IsDeskAt plan place desk = (node : PlanNode) → slice_get plan.nodes place ≡ Some node → desk ≡ record { room = node.in_flight; works = [] }
+
+-- the parts of a net that was made, by the calculators of its nodes
+pub record HasParts (plan : Plan) (inputs : Inputs) (told : ℕ → PlanNode → HolderView) (net : NetView) : Type 0 where
+  pub plan_is : net.plan ≡ plan
+  pub given_is : net.given ≡ inputs.sides
+  pub engine_count : length net.engines ≡ length plan.nodes + length plan.inputs
+  pub engines : AtPlaces (IsEngineAt plan inputs.streams told) net.engines
+  pub intake_count : length net.intakes ≡ length plan.nodes + 1
+  pub intakes : AtPlaces (IsIntakeAt plan) net.intakes
+  pub desk_count : length net.desks ≡ length plan.nodes
+  pub desks : AtPlaces (IsDeskAt plan) net.desks
+  pub of : IsOf plan net.limits
+  pub queues : net.limits.queues ≡ map (new_queue (length plan.nodes) (limit_of plan.limit)) plan.edges

@@ -1,0 +1,32 @@
+-- How the logic stores a desk and a net.
+use Rattle.std.specs.Prelude.{ℕ, Bool, List, Option, refl}
+use Rattle.std.specs.Coded.{Coded, code_by, coded×, coded_ℕ, coded_bool, coded_list, coded_option}
+use Rattle.mg_value.specs.Payload.{Plain}
+use Rattle.mg_value.specs.Codes.{plain_code}
+use Rattle.mg_calc.specs.declared.plan.Plan.{Plan}
+use Rattle.mg_calc.specs.Told.{CalculatorTold}
+use Rattle.mg_calc.specs.ToldCodes.{told_code, plan_code}
+use Rattle.mg_node.specs.Views.{IntakeView, WorkView, EngineView}
+use Rattle.mg_node.specs.Codes.{work_code, intake_code, engine_code}
+use Rattle.mg_throttle.specs.declared.queue.Queue.{Queue}
+use Rattle.mg_throttle.specs.contracts.queue.Queue as queue
+use Rattle.mg_throttle.specs.Throttle.{QueueLimits}
+use Rattle.mg_sched.specs.Views.{DeskView, NetView}
+
+abbrev pub desk_code : Coded DeskView
+desk_code = code_by (ℕ × List WorkView) (coded× coded_ℕ (coded_list work_code)) (λ d. (d.room, d.works)) (λ p. record { room = p.0; works = p.1 }) (λ _. refl)
+
+abbrev pub limits_code : Coded QueueLimits
+limits_code =
+    code_by (List Queue × (List (List Bool) × ℕ)) (coded× (coded_list queue.the_row.coded) (coded× (coded_list (coded_list coded_bool)) coded_ℕ))
+    (λ t. (t.queues, (t.reached, t.feeders))) (λ p. record { queues = p.0; reached = p.1.0; feeders = p.1.1 }) (λ _. refl)
+
+abbrev pub net_code : Coded NetView
+net_code =
+    code_by ((Plan × List (Option Plain)) × ((List EngineView × (List IntakeView × List DeskView)) × (QueueLimits × (List (Option CalculatorTold) × (ℕ × ℕ)))))
+    (coded× (coded× plan_code (coded_list (coded_option plain_code)))
+    (coded× (coded× (coded_list engine_code) (coded× (coded_list intake_code) (coded_list desk_code)))
+    (coded× limits_code (coded× (coded_list (coded_option told_code)) (coded× coded_ℕ coded_ℕ)))))
+    (λ n. ((n.plan, n.given), ((n.engines, (n.intakes, n.desks)), (n.limits, (n.spare, (n.begun, n.wound))))))
+    (λ p. record { plan = p.0.0; given = p.0.1; engines = p.1.0.0; intakes = p.1.0.1.0; desks = p.1.0.1.1; limits = p.1.1.0; spare = p.1.1.1.0; begun = p.1.1.1.1.0; wound = p.1.1.1.1.1 })
+    (λ _. refl)

@@ -1,0 +1,33 @@
+-- How a net goes on with further input: what comes of each graph input stands behind what came before, and nothing else changes.
+use Rattle.std.specs.Prelude.{◌≡◌, ℕ, ◌+◌, ◌<◌, length, Some, slice_get, slice_index_or}
+use Rattle.mg_value.specs.Payload.{Plain}
+use Rattle.mg_value.specs.Prefix.{StreamPrefix, empty_prefix}
+use Rattle.mg_calc.specs.declared.inputs.Inputs.{Inputs}
+use Rattle.mg_node.specs.Views.{EngineView}
+use Rattle.mg_node.specs.Job.{LoggedJob}
+use Rattle.mg_node.specs.Batches.{Grows}
+use Rattle.mg_node.specs.Extending.{joined, extended}
+use Rattle.mg_sched.specs.Views.{NetView}
+use Rattle.mg_sched.specs.StandsFor.{StandsFor}
+
+-- a job, and the same to which further input came: each graph input has its piece behind what it had
+pub record GoesOnWith (more : Inputs) (first later : LoggedJob) : Type 0 where
+  pub grows : Grows first later
+  pub pieces : length more.streams ≡ length first.job.inputs.streams
+  pub streams : (input : ℕ) → input < length more.streams → slice_index_or later.job.inputs.streams input empty_prefix
+      ≡ joined (slice_index_or first.job.inputs.streams input empty_prefix) (slice_index_or more.streams input empty_prefix)
+
+-- a net may go on with further input: it stands for a job that does
+pub record MayGoOnWith (more : Inputs) (net : NetView) : Type 0 where
+  pub first : LoggedJob
+  pub later : LoggedJob
+  pub stands : StandsFor first net
+  pub goes_on : GoesOnWith more first later
+
+-- the engine of each graph input is extended by its piece; those of the nodes are the same, and so is all else
+pub record Extends (more : Inputs) (before now : NetView) : Type 0 where
+  pub parts : now ≡ record before { engines = now.engines }
+  pub places : length now.engines ≡ length before.engines
+  pub nodes : (place : ℕ) → place < length before.plan.nodes → slice_get now.engines place ≡ slice_get before.engines place
+  pub inputs : (input : ℕ) (engine : EngineView) (piece : StreamPrefix Plain) → slice_get before.engines (length before.plan.nodes + input) ≡ Some engine
+      → slice_get more.streams input ≡ Some piece → slice_get now.engines (length before.plan.nodes + input) ≡ Some (extended engine piece)

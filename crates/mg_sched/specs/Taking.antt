@@ -1,0 +1,36 @@
+-- What leaves a net: sets of the graph's outputs, which its collector gives.
+use Rattle.std.specs.Prelude.{◌≡◌, ℕ, true, false, Bool, List, length, Option, Some, None, slice_get, option_map, unwrap_or}
+use Rattle.mg_value.specs.Payload.{Plain}
+use Rattle.mg_value.specs.Prefix.{Stamped}
+use Rattle.mg_node.specs.Views.{IntakeView}
+use Rattle.mg_node.specs.Intakes.{next_set_of}
+use Rattle.mg_node.specs.Claims.{Takes}
+use Rattle.mg_sched.specs.Views.{NetView}
+use Rattle.mg_sched.specs.Places.{first_edge, lengths_of, with_intake}
+use Rattle.mg_sched.specs.Acts.{with_noted}
+
+-- the intake of the collector, and how many sets were taken from it
+abbrev pub collector_of : NetView → Option IntakeView
+collector_of net = slice_get net.intakes (length net.plan.nodes)
+
+abbrev pub taken_out : NetView → ℕ
+taken_out net = unwrap_or (option_map (λ i. i.claimed) (collector_of net)) 0
+
+-- the collector's next set is taken, and the limits hear how many packets wait; where there is none, nothing changes
+pub record TakesNext (before now : NetView) (set : List (Option (Stamped Plain))) : Type 0 where
+  pub intake : IntakeView
+  pub there : collector_of before ≡ Some intake
+  pub intake_now : IntakeView
+  pub takes : Takes intake intake_now set
+  pub now_is : now ≡ with_noted (with_intake before (length before.plan.nodes) intake_now) (first_edge before.plan (length before.plan.nodes)) (lengths_of intake_now.waits)
+
+pub record TakesNothing (before now : NetView) (set set_now : List (Option (Stamped Plain))) : Type 0 where
+  pub intake : IntakeView
+  pub there : collector_of before ≡ Some intake
+  pub none : next_set_of intake.waits ≡ None
+  pub same : now ≡ before
+  pub same_set : set_now ≡ set
+
+abbrev pub TakesOut : Bool → List (Option (Stamped Plain)) → List (Option (Stamped Plain)) → NetView → NetView → Type 0
+TakesOut true set set_now before now = TakesNext before now set_now
+TakesOut false set set_now before now = TakesNothing before now set set_now

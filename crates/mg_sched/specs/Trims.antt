@@ -1,0 +1,37 @@
+-- How a net gives up packets that all have got: of each stream the first ones that have come to the ports of all its edges, and all
+-- that is laid where it has no edge. Nothing else changes.
+use Rattle.std.specs.Prelude.{◌≡◌, ◌==◌, ℕ, ◌+◌, List, length, map, filter, min, Some, slice_get, option_map, unwrap_or}
+use Rattle.std.specs.List.{fold}
+use Rattle.mg_value.specs.Payload.{Plain}
+use Rattle.mg_stream.specs.Queue.{count_of}
+use Rattle.mg_stream.specs.Pool.{Backlog}
+use Rattle.mg_calc.specs.declared.edge.Edge.{Edge}
+use Rattle.mg_node.specs.Views.{IntakeView, EngineView}
+use Rattle.mg_node.specs.Ports.{port_queue}
+use Rattle.mg_node.specs.Outputs.{without_first}
+use Rattle.mg_sched.specs.Views.{NetView}
+
+-- how many packets came along an edge
+abbrev pub came_along : List IntakeView → Edge → ℕ
+came_along intakes e = unwrap_or (option_map (λ i. count_of (port_queue i.waits e.port)) (slice_get intakes e.node)) 0
+
+-- and along each edge of a stream
+abbrev pub came_of : List IntakeView → List Edge → ℕ → List ℕ
+came_of intakes edges stream = map (came_along intakes) (filter (λ e. e.stream == stream) edges)
+
+-- how many first packets of a stream, of which so many are laid, all its edges have got
+abbrev pub got_by_all : NetView → ℕ → Backlog Plain → ℕ
+got_by_all net stream output = fold min (output.gone + length output.packets) (came_of net.intakes net.plan.edges stream)
+
+-- each output of an engine gives these up, or as many as it had given up before, and nothing else of the engine changes
+pub record TrimsEngine (net : NetView) (engine engine_now : EngineView) : Type 0 where
+  pub rest : engine_now ≡ record engine { outputs = engine_now.outputs }
+  pub count : length engine_now.outputs ≡ length engine.outputs
+  pub outputs : (port : ℕ) (output output_now : Backlog Plain) → slice_get engine.outputs port ≡ Some output → slice_get engine_now.outputs port ≡ Some output_now
+      → output_now ≡ without_first (got_by_all net (engine.first + port) output) output
+
+-- and so do all engines
+pub record Trims (before now : NetView) : Type 0 where
+  pub parts : now ≡ record before { engines = now.engines }
+  pub places : length now.engines ≡ length before.engines
+  pub engines : (place : ℕ) (engine engine_now : EngineView) → slice_get before.engines place ≡ Some engine → slice_get now.engines place ≡ Some engine_now → TrimsEngine before engine engine_now

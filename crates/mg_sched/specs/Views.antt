@@ -1,0 +1,30 @@
+-- What contracts see of a net: a record of plain data.
+use Rattle.std.specs.Prelude.{ℕ, List, Option}
+use Rattle.mg_value.specs.Payload.{Plain}
+use Rattle.mg_calc.specs.declared.plan.Plan.{Plan}
+use Rattle.mg_calc.specs.Told.{CalculatorTold}
+use Rattle.mg_node.specs.Views.{IntakeView, WorkView, EngineView}
+use Rattle.mg_throttle.specs.Throttle.{QueueLimits}
+
+-- a desk: the works of a node that are claimed and not performed, in the order in which they were claimed, and how many may lie there
+pub record DeskView : Type 0 where
+  pub room : ℕ
+  pub works : List WorkView
+
+-- a net
+pub record NetView : Type 0 where
+  -- its plan, and the side packets that are handed in
+  pub plan : Plan
+  pub given : List (Option Plain)
+  -- the engines of the nodes, and after them those of the graph inputs; the intakes of the nodes, and after them the collector's;
+  -- the desks of the nodes
+  pub engines : List EngineView
+  pub intakes : List IntakeView
+  pub desks : List DeskView
+  -- the limits of its queues, and what waits in them as the limits were told
+  pub limits : QueueLimits
+  -- the places of the calculators that were handed in: those that no node uses lie here
+  pub spare : List (Option CalculatorTold)
+  -- how many of the nodes are begun, from the first on, and how many are wound up
+  pub begun : ℕ
+  pub wound : ℕ

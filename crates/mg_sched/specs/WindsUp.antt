@@ -1,0 +1,31 @@
+-- How a net is wound up once its run has come to rest: the nodes in order, each by its engine, as far as memory goes.
+use Rattle.std.specs.Prelude.{◌≡◌, ℕ, ◌+◌, ◌<◌, ◌≤◌, length, Some, slice_get, slice_set}
+use Rattle.mg_node.specs.Views.{EngineView}
+use Rattle.mg_node.specs.WindingUp.{WindsUp}
+use Rattle.mg_sched.specs.Views.{NetView}
+
+-- each node has an engine, and no more of them are wound up than there are. So it is of every net that stands for a job, and of one
+-- that was wound up in part
+pub record MayWindUp (net : NetView) : Type 0 where
+  pub engines : length net.plan.nodes ≤ length net.engines
+  pub wound : net.wound ≤ length net.plan.nodes
+
+-- the next node is wound up, and counted
+pub record WindsNext (before now : NetView) : Type 0 where
+  pub engine : EngineView
+  pub there : slice_get before.engines before.wound ≡ Some engine
+  pub engine_now : EngineView
+  pub winds_up : WindsUp engine engine_now
+  pub now_is : now ≡ record before { engines = slice_set before.engines before.wound engine_now; wound = before.wound + 1 }
+
+-- the nodes from the first that wasn't wound up are, as far as the count tells. The engines before them and behind them are the same,
+-- and so is all else
+pub record WindsUpNet (before now : NetView) : Type 0 where
+  pub more : before.wound ≤ now.wound
+  pub upto : now.wound ≤ length before.plan.nodes
+  pub parts : now ≡ record before { engines = now.engines; wound = now.wound }
+  pub places : length now.engines ≡ length before.engines
+  pub wound_up : (place : ℕ) (engine engine_now : EngineView) → before.wound ≤ place → place < now.wound → slice_get before.engines place ≡ Some engine
+      → slice_get now.engines place ≡ Some engine_now → WindsUp engine engine_now
+  pub had_been : (place : ℕ) → place < before.wound → slice_get now.engines place ≡ slice_get before.engines place
+  pub others : (place : ℕ) → now.wound ≤ place → slice_get now.engines place ≡ slice_get before.engines place

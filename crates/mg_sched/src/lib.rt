@@ -1,0 +1,14 @@
+//! Nets: the cells of a graph, joined by its edges, and driven by events on one thread.
+//! Answers to the definitions of `specs/StandsFor.antt` and `specs/Acts.antt`.
+#![tactic(auto)]
+
+mod boxes;
+mod desk;
+pub mod laws;
+mod net;
+mod parts;
+mod report;
+mod tables;
+
+pub use net::Net;
+pub use report::{CountList, Report, StreamEnd, StreamEndList};

@@ -1,0 +1,69 @@
+mod acting;
+mod beginning;
+mod carrying;
+mod claiming;
+mod extending;
+mod leaving;
+mod making;
+mod reporting;
+mod taking;
+mod trimming;
+mod winding;
+mod working;
+
+use crate::desk::Desk;
+use mg_calc::{Calculator, GivenList, Plan};
+use mg_node::{Engine, Intake};
+use mg_throttle::Limits;
+use std::alloc::Global;
+use std::marker::Model;
+
+/// The cells of a graph, joined by its edges. Each part lies at a place of its own: the engines and intakes by the numbers of their
+/// nodes, behind them those of the graph inputs and of the collector of the graph's outputs.
+#[derive(Drop)]
+pub struct Net<C: Calculator> {
+    alloc: Global,
+    plan: Plan,
+    given: GivenList,
+    engines: Vec<Engine<C>>,
+    intakes: Vec<Intake>,
+    desks: Vec<Desk<C>>,
+    limits: Limits,
+    // The number of the first edge into each consumer, and of the feeder that each node is, if it is a source.
+    first_edges: Vec<u32>,
+    own_feeders: Vec<Option<u32>>,
+    // A number for each stream, for `trim` alone.
+    got: Vec<u64>,
+    // The places of the calculators that were handed in, and the list in which they came, which is empty.
+    spare: Vec<Option<C>>,
+    boxes: Vec<C>,
+    begun: u32,
+    wound: u32,
+}
+
+impl<C: Calculator> Model for Net<C> {
+    ghost use Rattle.std.specs.Prelude.{◌≡◌, ◌≤◌, map, option_map, length, vec_len, vec_capacity};
+    ghost use Rattle.mg_sched.specs.Views.{NetView};
+    ghost use Rattle.mg_sched.specs.Codes.{net_code};
+    ghost use Rattle.mg_sched.specs.Code.Tables.{AreTables};
+
+    ghost Value = { NetView };
+
+    ghost coded = { net_code };
+
+    ghost view = { λ n. record {
+      plan = n.plan;
+      given = n.given;
+      engines = n.engines.items;
+      intakes = n.intakes.items;
+      desks = n.desks.items;
+      limits = n.limits;
+      spare = map (option_map C.told) n.spare.items;
+      begun = n.begun;
+      wound = n.wound;
+    } };
+
+    ghost invariant = { λ n. AreTables n.plan n.first_edges.items n.own_feeders.items
+        × (vec_len n.boxes ≡ 0) × (vec_len n.spare ≤ vec_capacity n.boxes)
+        × (vec_len n.got ≡ length n.plan.streams) };
+}

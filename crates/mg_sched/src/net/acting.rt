@@ -1,0 +1,48 @@
+//! The steps of a net.
+ghost use Rattle.std.specs.Prelude.{◌≡◌};
+ghost use Rattle.mg_calc.specs.declared.event.Effect.TheVariants as Effect;
+ghost use Rattle.mg_node.specs.Job.{LoggedJob};
+ghost use Rattle.mg_sched.specs.StandsFor.{StandsFor, StandsForSome, IsRunning};
+ghost use Rattle.mg_sched.specs.Acts.{IsEventOf, Acts};
+
+use super::Net;
+use mg_calc::{Calculator, Effect, Event};
+use mg_edge::Gate;
+
+impl<C: Calculator> Net<C> {
+    /// Makes a step. Each event changes the parts that it names, and costs what these cost: a delivery brings along an edge all that
+    /// the port hasn't got, and the bound; an advance raises a node's outputs; a claim hands out the node's next work, which lies in
+    /// the net then; a work is performed, and what is performed is committed; and limits are relaxed where a queue is full. `Idle` is
+    /// answered where there is nothing to do, and for a delivery from a throttled graph input and a claim of a throttled source.
+    /// At want of memory a delivery keeps what it has moved, and nothing else has changed.
+    pub fn act<G: Gate>(&mut self, event: Event, gate: &G) -> Effect
+        requires event { IsEventOf self.old event }
+        requires running { IsRunning self.old }
+        requires stands { StandsForSome self.old }
+        ensures acts { Acts event result self.old self.new }
+        ensures running { IsRunning self.new }
+        ensures idle { result ≡ Effect.Idle → self.new ≡ self.old }
+
+        // What stands for a job stands for it after each step, whatever the steps are.
+        ensures stands { (job : LoggedJob) → StandsFor job self.old → StandsFor job self.new }
+    {
+        self.make(event, gate)
+    }
+
+    // Makes a step, and tells what that changes.
+    fn make<G: Gate>(&mut self, event: Event, gate: &G) -> Effect
+        requires event { IsEventOf self.old event }
+        requires running { IsRunning self.old }
+        requires stands { StandsForSome self.old }
+        ensures { Acts event result self.old self.new }
+    {
+        match event {
+            Event::Deliver { edge } => self.carry(edge),
+            Event::Advance { node } => self.raise(node),
+            Event::Claim { node } => self.claim(node),
+            Event::Perform { node, number } => self.perform(node, number, gate),
+            Event::Commit { node, number } => self.commit(node, number),
+            Event::Relax => self.relax(),
+        }
+    }
+}

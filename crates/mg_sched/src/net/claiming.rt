@@ -1,0 +1,129 @@
+//! How works are claimed.
+ghost use Rattle.std.specs.Prelude.{◌≡◌, ◌<◌, ◌≤◌, ◌+◌, ◌^◌, ℕ, length, slice_get, Some, true, false};
+ghost use Rattle.mg_node.specs.Job.{LoggedJob};
+ghost use Rattle.mg_node.specs.Lawful.{LawfulIntake};
+ghost use Rattle.mg_sched.specs.StandsFor.{IsCell, StandsForSome, IsRunning};
+ghost use Rattle.mg_sched.specs.Code.Cells.{SomeCell};
+ghost use Rattle.mg_node.specs.Ports.{ports_in, port_queue};
+ghost use Rattle.mg_sched.specs.Places.{lengths_of, first_edge};
+ghost use Rattle.mg_calc.specs.declared.plan_node.PlanNode.{PlanNode};
+ghost use Rattle.mg_node.specs.Views.{IntakeView};
+ghost use Rattle.mg_sched.specs.Code.Tables.{IsFeederOf};
+ghost use Rattle.mg_sched.specs.Acts.{IsHeldSource, ClaimsBy, Claimed as ClaimedAt, ClaimsNext, all_noted, with_noted};
+
+use super::Net;
+use crate::desk::Desk;
+use mg_calc::{Calculator, Effect};
+use mg_node::{Claimed, Engine, Intake};
+use mg_throttle::Limits;
+
+// Tells limits how many packets wait at each port of an intake, from the edge of a number on.
+fn note_all(limits: &mut Limits, first: u32, intake: &Intake)
+    requires queues { first + ports_in intake.now.waits ≤ length limits.old.queues }
+    requires short { length limits.old.queues < 2 ^ 32 }
+    requires few { (port : ℕ) → length (port_queue intake.now.waits port).packets + 1 < 2 ^ 64 }
+    ensures { limits.new ≡ record limits.old { queues = all_noted limits.old.queues first (lengths_of intake.now.waits) } }
+{
+    for port in 0..intake.ports() {
+        limits.note(first + port, intake.waiting(port));
+    }
+}
+
+// Claims the next work of a cell, and lays it on the desk.
+fn claim_cell<C: Calculator>(
+    engine: &mut Engine<C>,
+    intake: &mut Intake,
+    desk: &mut Desk<C>,
+) -> Effect
+    requires { SomeCell engine.old intake.old desk.old }
+    ensures claims { ClaimsBy result engine.old engine.new intake.old intake.new desk.old desk.new }
+    ensures lawful { (job : LoggedJob) (node : ℕ) → IsCell job true node engine.old intake.old desk.old → LawfulIntake job node intake.new }
+{
+    match engine.claim(intake) {
+        Claimed::Work(work) => {
+            desk.put(work);
+            Effect::Did
+        }
+        Claimed::Answered => Effect::Did,
+        Claimed::NotReady | Claimed::InFlightFull | Claimed::Draining | Claimed::Ended => {
+            Effect::Idle
+        }
+        Claimed::OutOfMemory => Effect::OutOfMemory,
+    }
+}
+
+impl<C: Calculator> Net<C> {
+    /// Claims the next work of a node, unless it is a source that is throttled.
+    pub(super) fn claim(&mut self, node: u32) -> Effect
+        requires there { node < length self.old.plan.nodes }
+        requires stands { StandsForSome self.old }
+        requires running { IsRunning self.old }
+        ensures { ClaimedAt node result self.old self.new }
+    {
+        if self.is_held_source(node) {
+            return Effect::Idle;
+        }
+        self.claim_next(node)
+    }
+
+    // Whether a node is a source that is throttled.
+    fn is_held_source(&self, node: u32) -> bool
+        requires there { node < length self.now.plan.nodes }
+        requires stands { StandsForSome self.now }
+        ensures held { result ≡ true → IsHeldSource self.now node }
+        ensures not_held { result ≡ false → ¬ IsHeldSource self.now node }
+    {
+        match self.own_feeder(node) {
+            Some(feeder) => !self.limits.may_feed(feeder),
+            None => false,
+        }
+    }
+
+    // The number of the feeder that a node is, if it is a source.
+    fn own_feeder(&self, node: u32) -> Option<u32>
+        requires { node < length self.now.plan.nodes }
+        ensures { (planned : PlanNode) → slice_get self.now.plan.nodes node ≡ Some planned → IsFeederOf self.now.plan node planned result }
+    {
+        self.own_feeders[node as usize]
+    }
+
+    // The number of the first edge into a consumer.
+    fn first_edge(&self, place: u32) -> u32
+        requires { place ≤ length self.now.plan.nodes }
+        ensures { result ≡ first_edge self.now.plan place }
+    {
+        self.first_edges[place as usize]
+    }
+
+    // Claims the next work of a node, lays it on the node's desk, and tells the limits how many packets wait.
+    fn claim_next(&mut self, node: u32) -> Effect
+        requires there { node < length self.old.plan.nodes }
+        requires stands { StandsForSome self.old }
+        requires running { IsRunning self.old }
+        ensures { ClaimsNext node result self.old self.new }
+    {
+        let place = node as usize;
+        let effect = claim_cell(
+            &mut self.engines[place],
+            &mut self.intakes[place],
+            &mut self.desks[place],
+        );
+        self.note_ports(node);
+        effect
+    }
+
+    // Tells the limits how many packets wait at each port of a consumer.
+    pub(super) fn note_ports(&mut self, place: u32)
+        requires there { place < length self.old.intakes }
+        requires table { place ≤ length self.old.plan.nodes }
+        requires queues { (intake : IntakeView) → slice_get self.old.intakes place ≡ Some intake
+            → first_edge self.old.plan place + ports_in intake.waits ≤ length self.old.limits.queues }
+        requires short { length self.old.limits.queues < 2 ^ 32 }
+        requires few { (intake : IntakeView) (port : ℕ) → slice_get self.old.intakes place ≡ Some intake → length (port_queue intake.waits port).packets + 1 < 2 ^ 64 }
+        ensures { (intake : IntakeView) → slice_get self.old.intakes place ≡ Some intake
+            → self.new ≡ with_noted self.old (first_edge self.old.plan place) (lengths_of intake.waits) }
+    {
+        let first = self.first_edge(place);
+        note_all(&mut self.limits, first, &self.intakes[place as usize]);
+    }
+}

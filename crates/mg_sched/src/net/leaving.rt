@@ -1,0 +1,95 @@
+//! How the calculators that were handed in leave a net. Nothing here takes memory.
+ghost use Rattle.std.specs.Prelude.{◌≡◌, ℕ, ◌+◌, ◌≤◌, ◌++◌, true, is_some, Option, Some, length, map, option_map, slice_get, vec_len, vec_capacity};
+ghost use Rattle.std.specs.List.{filter_map};
+ghost use Rattle.mg_calc.specs.declared.plan_node.PlanNode.{PlanNode};
+ghost use Rattle.mg_calc.specs.Told.{CalculatorTold};
+ghost use Rattle.mg_node.specs.Views.{EngineView};
+ghost use Rattle.mg_node.specs.Job.{LoggedJob};
+ghost use Rattle.mg_sched.specs.Views.{DeskView};
+ghost use Rattle.mg_sched.specs.GivesBack.{cell_told, with_told, with_cells, given_back, StoodFor};
+
+use super::Net;
+use crate::desk::Desk;
+use mg_calc::{Calculator, Plan};
+use mg_node::Engine;
+
+// The calculator of a cell that was handed in.
+fn calculator_of<C: Calculator>(engine: Engine<C>, desk: Desk<C>) -> Option<C>
+    ensures { option_map C.told result ≡ cell_told engine desk }
+{
+    match engine.into_calculator() {
+        Some(calculator) => Some(calculator),
+        None => desk.into_calculator(),
+    }
+}
+
+// Lays a calculator into the place of its number, if there is one.
+#[tactic(auto, using(crate::proofs::HandedOut::map_set))]
+fn put_in_place<C: Calculator>(places: &mut [Option<C>], number: Option<u32>, calculator: Option<C>)
+    ensures { map (option_map C.told) places.new ≡ with_told (map (option_map C.told) places.old) number (option_map C.told calculator) }
+{
+    let Some(number) = number else { return };
+    let Some(calculator) = calculator else { return };
+    if (number as usize) < places.len() {
+        places[number as usize] = Some(calculator);
+    }
+}
+
+// Lays the calculators of cells into the places of their nodes' numbers.
+fn put_back<C: Calculator>(
+    plan: &Plan,
+    engines: Vec<Engine<C>>,
+    desks: Vec<Desk<C>>,
+    places: &mut [Option<C>],
+)
+    ensures { map (option_map C.told) places.new ≡ with_cells (map (option_map C.told) places.old) plan.now.nodes engines.items desks.items }
+{
+    let mut engines = engines.into_iter();
+    let mut desks = desks.into_iter();
+    for node in 0..plan.nodes.len() {
+        let number = plan.nodes.as_slice()[node as usize].box_number;
+        let Some(engine) = engines.next() else { return };
+        let Some(desk) = desks.next() else { return };
+        put_in_place(places, number, calculator_of(engine, desk));
+    }
+}
+
+// All that lies in places, in order, behind what is in a list with room for it.
+fn all_in<C: Calculator>(places: Vec<Option<C>>, boxes: Vec<C>) -> Vec<C>
+    requires room { vec_len boxes + length places.items ≤ vec_capacity boxes }
+    ensures { map C.told result.items ≡ map C.told boxes.items ++ filter_map (λ (p : Option CalculatorTold). p) (map (option_map C.told) places.items) }
+{
+    let mut boxes = boxes;
+    for place in places {
+        let Some(calculator) = place else { continue };
+        boxes.push_reserved(calculator);
+    }
+    boxes
+}
+
+impl<C: Calculator> Net<C> {
+    /// All calculators that were handed in, in their order: those of nodes, and those that no node uses.
+    pub fn give_back(self) -> Vec<C>
+        ensures told { map C.told result.items ≡ given_back self }
+
+        // A net that stands for a job, begun or not, or was wound up since, gives back as many as were handed in. That of a node stands
+        // at the place of its number, and one that no node uses is as it lay.
+        ensures count { (job : LoggedJob) → StoodFor job self → length result.items ≡ length job.logs }
+        ensures own { (job : LoggedJob) (number place : ℕ) (node : PlanNode) (engine : EngineView) (desk : DeskView) → StoodFor job self
+            → slice_get self.plan.nodes number ≡ Some node → node.box_number ≡ Some place → slice_get self.engines number ≡ Some engine → slice_get self.desks number ≡ Some desk
+            → (slice_get (map C.told result.items) place ≡ cell_told engine desk) × (is_some (cell_told engine desk) ≡ true) }
+        ensures unused { (job : LoggedJob) (place : ℕ) (told : CalculatorTold) → StoodFor job self → slice_get self.spare place ≡ Some (Some told)
+            → slice_get (map C.told result.items) place ≡ Some told }
+    {
+        let Net {
+            plan,
+            engines,
+            desks,
+            mut spare,
+            boxes,
+            ..
+        } = self;
+        put_back(&plan, engines, desks, &mut spare);
+        all_in(spare, boxes)
+    }
+}

@@ -1,0 +1,130 @@
+//! How a net is made.
+ghost use Rattle.std.specs.Prelude.{◌≡◌, ◌≤◌, [], zero, length, map, IfOk, IfErr, vec_len, vec_capacity};
+ghost use Rattle.mg_calc.specs.declared.inputs.Inputs.{Inputs};
+ghost use Rattle.mg_calc.specs.Plan.{IsValid};
+ghost use Rattle.mg_calc.specs.Equations.{IsJob};
+ghost use Rattle.mg_node.specs.Fresh.{own_told};
+ghost use Rattle.mg_sched.specs.Code.Made.{HasParts};
+ghost use Rattle.mg_sched.specs.Code.Tables.{AreTables};
+ghost use Rattle.mg_sched.specs.Made.{BoxesFit, IsMade};
+
+use super::Net;
+use crate::boxes::{hand_out, lay_out};
+use crate::parts::{Cells, Kept, Rules, cells_of, kept_of, rules_of};
+use mg_calc::{Calculator, Inputs, Plan};
+use std::alloc::{AllocError, Global};
+
+/// All that a net keeps and for which it takes memory. Each node has a calculator of its own kind.
+#[derive(Drop)]
+struct Parts<C: Calculator> {
+    kept: Kept<C>,
+    cells: Cells<C>,
+    rules: Rules,
+}
+
+// The parts of a net, with room for so many calculators that are handed in.
+fn parts_of<C: Calculator>(
+    alloc: Global,
+    plan: &Plan,
+    inputs: &Inputs,
+    count: usize,
+) -> Result<Parts<C>, AllocError>
+    requires { IsJob (record { plan = plan.now; inputs = inputs.now }) }
+    ensures parts { IfOk result (λ p. HasParts plan.now inputs.now (λ _ node. own_told node) (record {
+      plan = p.kept.plan;
+      given = p.kept.given;
+      engines = p.cells.engines.items;
+      intakes = p.cells.intakes.items;
+      desks = p.cells.desks.items;
+      limits = p.rules.limits;
+      spare = [];
+      begun = zero;
+      wound = zero;
+    })) }
+    ensures tables { IfOk result (λ p. AreTables p.kept.plan p.rules.first_edges.items p.rules.own_feeders.items) }
+    ensures got { IfOk result (λ p. vec_len p.rules.got ≡ length p.kept.plan.streams) }
+    ensures none { IfOk result (λ p. p.kept.places.items ≡ []) }
+    ensures empty { IfOk result (λ p. vec_len p.kept.places ≡ 0) }
+    ensures room { IfOk result (λ p. count ≤ vec_capacity p.kept.places) }
+{
+    let kept = kept_of(alloc, plan, &inputs.sides, count)?;
+    let cells = cells_of(alloc, plan, &inputs.streams)?;
+    let rules = rules_of(alloc, plan)?;
+    Ok(Parts { kept, cells, rules })
+}
+
+// The net of its parts, once the calculators that were handed in are with their nodes. It takes no memory.
+fn joined<C: Calculator>(alloc: Global, plan: &Plan, parts: Parts<C>, boxes: Vec<C>) -> Net<C>
+    requires valid { IsValid plan.now }
+    requires boxes { BoxesFit plan.now (map C.told boxes.items) }
+    requires nodes { length plan.now.nodes ≤ length parts.cells.engines.items }
+    requires tables { AreTables parts.kept.plan parts.rules.first_edges.items parts.rules.own_feeders.items }
+    requires got { vec_len parts.rules.got ≡ length parts.kept.plan.streams }
+    requires none { parts.kept.places.items ≡ [] }
+    requires empty { vec_len parts.kept.places ≡ 0 }
+    requires room { vec_len boxes ≤ vec_capacity parts.kept.places }
+    ensures { (inputs : Inputs) → IsJob (record { plan = plan.now; inputs = inputs }) → HasParts plan.now inputs (λ _ node. own_told node) (record {
+      plan = parts.kept.plan;
+      given = parts.kept.given;
+      engines = parts.cells.engines.items;
+      intakes = parts.cells.intakes.items;
+      desks = parts.cells.desks.items;
+      limits = parts.rules.limits;
+      spare = [];
+      begun = zero;
+      wound = zero;
+    }) → IsMade plan.now inputs (map C.told boxes.items) result }
+{
+    let Parts { kept, cells, rules } = parts;
+    let Kept {
+        plan: own_plan,
+        given,
+        mut places,
+    } = kept;
+    let Cells {
+        mut engines,
+        intakes,
+        desks,
+    } = cells;
+    let Rules {
+        limits,
+        first_edges,
+        own_feeders,
+        got,
+    } = rules;
+    let mut boxes = boxes;
+    lay_out(&mut boxes, &mut places);
+    hand_out(plan, &mut places, &mut engines);
+    Net {
+        alloc,
+        plan: own_plan,
+        given,
+        engines,
+        intakes,
+        desks,
+        limits,
+        first_edges,
+        own_feeders,
+        got,
+        spare: places,
+        boxes,
+        begun: 0,
+        wound: 0,
+    }
+}
+
+impl<C: Calculator> Net<C> {
+    /// The net of a plan over inputs, with the calculators that are handed in: the node of a box number gets the one of that number.
+    /// No node is begun. Want of memory hands the calculators back.
+    pub fn new(alloc: Global, plan: &Plan, inputs: &Inputs, boxes: Vec<C>) -> Result<Net<C>, Vec<C>>
+        requires job { IsJob (record { plan = plan.now; inputs = inputs.now }) }
+        requires boxes { BoxesFit plan.now (map C.told boxes.items) }
+        ensures made { IfOk result (λ n. IsMade plan.now inputs.now (map C.told boxes.items) n) }
+        ensures returned { IfErr result (λ bs. bs ≡ boxes) }
+    {
+        match parts_of(alloc, plan, inputs, boxes.len()) {
+            Ok(parts) => Ok(joined(alloc, plan, parts, boxes)),
+            Err(_) => Err(boxes),
+        }
+    }
+}

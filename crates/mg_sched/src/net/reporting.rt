@@ -1,0 +1,144 @@
+//! What a net tells of how far it has come.
+ghost use Rattle.std.specs.Prelude.{◌≡◌, ◌<◌, ◌+◌, ◌-◌, ◌^◌, ◌++◌, length, map, min, take, drop, sum_by, slice_index_or, IfOk, OnOk};
+ghost use Rattle.std.specs.List.{flat_map, filter_map};
+ghost use Rattle.mg_stream.specs.Pool.{empty_backlog};
+ghost use Rattle.mg_node.specs.Outputs.{kept_in};
+ghost use Rattle.mg_node.specs.Ports.{waiting_in};
+ghost use Rattle.mg_sched.specs.Reports.{held_in, node_engines, input_engines, end_of, ends_of, report_of};
+
+use super::Net;
+use crate::report::{CountList, Report, StreamEnd, StreamEndList};
+use mg_calc::{Calculator, NodeFaultList};
+use mg_node::{Engine, Intake};
+use mg_value::BlockList;
+use std::alloc::{AllocError, Global};
+
+// How many packets engines keep.
+fn kept_by<C: Calculator>(engines: &[Engine<C>]) -> u64
+    ensures { result ≡ min (sum_by kept_in engines.now) (2 ^ 64 - 1) }
+{
+    let mut held: u64 = 0;
+    for engine in engines {
+        held = held.saturating_add(engine.held());
+    }
+    held
+}
+
+// How many packets wait at intakes.
+fn waiting_at(intakes: &[Intake]) -> u64
+    ensures { result ≡ min (sum_by (λ i. waiting_in i.waits) intakes.now) (2 ^ 64 - 1) }
+{
+    let mut held: u64 = 0;
+    for intake in intakes {
+        held = held.saturating_add(intake.held());
+    }
+    held
+}
+
+// How many sets engines have laid.
+fn sets_of<C: Calculator>(alloc: Global, engines: &[Engine<C>]) -> Result<CountList, AllocError>
+    ensures { IfOk result (λ l. l ≡ map (λ e. e.laid) engines.now) }
+{
+    let mut sets = Vec::with_capacity(alloc, engines.len())?;
+    for engine in engines {
+        sets.push(engine.laid())?;
+    }
+    Ok(BlockList::from_vec(sets)?)
+}
+
+// The faults of engines.
+fn faults_of<C: Calculator>(
+    alloc: Global,
+    engines: &[Engine<C>],
+) -> Result<NodeFaultList, AllocError>
+    ensures { IfOk result (λ l. l ≡ filter_map (λ e. e.fault) engines.now) }
+{
+    let mut faults = Vec::new(alloc);
+    for engine in engines {
+        if let Some(fault) = engine.fault() {
+            faults.push(fault)?;
+        }
+    }
+    Ok(BlockList::from_vec(faults)?)
+}
+
+// How far the stream at an output has come.
+fn end_at<C: Calculator>(engine: &Engine<C>, output: u32) -> StreamEnd
+    requires { output < length engine.now.outputs }
+    ensures { result ≡ end_of (slice_index_or engine.now.outputs output empty_backlog) }
+{
+    StreamEnd {
+        packets: engine.count(output),
+        bound: engine.bound(output),
+    }
+}
+
+// Tells behind the others how far the streams of an engine have come.
+fn tell_ends<C: Calculator>(ends: &mut Vec<StreamEnd>, engine: &Engine<C>) -> Result<(), AllocError>
+    ensures { OnOk result (ends.new.items ≡ ends.old.items ++ ends_of engine.now) }
+{
+    for output in 0..engine.outputs() {
+        ends.push(end_at(engine, output))?;
+    }
+    Ok(())
+}
+
+// The same for several engines.
+fn tell_all<C: Calculator>(
+    ends: &mut Vec<StreamEnd>,
+    engines: &[Engine<C>],
+) -> Result<(), AllocError>
+    ensures { OnOk result (ends.new.items ≡ ends.old.items ++ flat_map ends_of engines.now) }
+{
+    for engine in engines {
+        tell_ends(ends, engine)?;
+    }
+    Ok(())
+}
+
+// How far the streams of the graph inputs have come, and those of the nodes.
+fn streams_of<C: Calculator>(
+    alloc: Global,
+    inputs: &[Engine<C>],
+    nodes: &[Engine<C>],
+) -> Result<StreamEndList, AllocError>
+    ensures { IfOk result (λ l. l ≡ flat_map ends_of inputs.now ++ flat_map ends_of nodes.now) }
+{
+    let mut ends = Vec::new(alloc);
+    tell_all(&mut ends, inputs)?;
+    tell_all(&mut ends, nodes)?;
+    Ok(BlockList::from_vec(ends)?)
+}
+
+impl<C: Calculator> Net<C> {
+    /// How many packets are in the net, in its engines and its intakes. A number past 64 bits is told as the greatest one.
+    pub fn held(&self) -> u64
+        ensures { result ≡ min (held_in self.now) (2 ^ 64 - 1) }
+    {
+        kept_by(&self.engines).saturating_add(waiting_at(&self.intakes))
+    }
+
+    // The engines of the nodes, and those of the graph inputs.
+    fn engine_parts(&self) -> (&[Engine<C>], &[Engine<C>])
+        ensures nodes { result.0.now ≡ node_engines self.now }
+        ensures inputs { result.1.now ≡ input_engines self.now }
+    {
+        let count = (self.plan.nodes.len() as usize).min(self.engines.len());
+        self.engines.split_at(count)
+    }
+
+    /// How far the net has come: the sets of its nodes, its streams, and the faults of its nodes.
+    pub fn report(&self, alloc: Global) -> Result<Report, AllocError>
+        ensures { IfOk result (λ r. r ≡ report_of self.now) }
+    {
+        let (nodes, inputs) = self.engine_parts();
+        let sets = sets_of(alloc, nodes)?;
+        let streams = streams_of(alloc, inputs, nodes)?;
+        let faults = faults_of(alloc, nodes)?;
+        Ok(Report {
+            sets,
+            streams,
+            faults,
+        })
+    }
+}

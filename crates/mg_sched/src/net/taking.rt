@@ -1,0 +1,35 @@
+//! What leaves a net: the sets of the graph's outputs, and packets that are given up.
+ghost use Rattle.std.specs.Prelude.{◌≡◌, List, length};
+ghost use Rattle.std.specs.Bool.{OnTrue};
+ghost use Rattle.mg_value.specs.Payload.{Plain};
+ghost use Rattle.mg_value.specs.Prefix.{StreamPrefix};
+ghost use Rattle.mg_node.specs.Job.{LoggedJob, Solves};
+ghost use Rattle.mg_node.specs.Intakes.{HasSet};
+ghost use Rattle.mg_sched.specs.StandsFor.{StandsFor, StandsForSome};
+ghost use Rattle.mg_sched.specs.Taking.{TakesOut, taken_out};
+
+use super::Net;
+use mg_calc::Calculator;
+use mg_value::InputSet;
+
+impl<C: Calculator> Net<C> {
+    /// Takes the next settled set of the graph's outputs, where there is one: it is then in `into`, which has a place for each output.
+    /// Otherwise nothing changes.
+    pub fn take_out(&mut self, into: &mut InputSet) -> bool
+        requires places { length into.old ≡ length self.old.plan.outputs }
+        requires stands { StandsForSome self.old }
+        ensures taken { TakesOut result into.old into.new self.old self.new }
+        ensures stands { (job : LoggedJob) → StandsFor job self.old → StandsFor job self.new }
+
+        // The set is that of its number in the solution.
+        ensures in_solution { (job : LoggedJob) (streams : List (StreamPrefix Plain)) → Solves job streams → StandsFor job self.old
+            → OnTrue result (HasSet job streams (length self.old.plan.nodes) (taken_out self.old) into.new) }
+    {
+        let place = self.plan.nodes.len();
+        if !self.intakes[place as usize].claim(into) {
+            return false;
+        }
+        self.note_ports(place);
+        true
+    }
+}

@@ -1,0 +1,86 @@
+//! How packets that all edges of their streams have got are given up. Nothing here takes memory.
+ghost use Rattle.std.specs.Prelude.{◌≡◌, ◌<◌, ◌^◌, ℕ, length, min, Some, slice_index_or};
+ghost use Rattle.std.specs.List.{fold};
+ghost use Rattle.mg_node.specs.Job.{LoggedJob};
+ghost use Rattle.mg_sched.specs.StandsFor.{StandsFor, StandsForSome};
+ghost use Rattle.mg_sched.specs.Code.Outputs.{writer_at, LaidAt, HaveOutputs, LeadToPorts, AreLaid, AreWithin, AllGiven};
+ghost use Rattle.mg_sched.specs.Trims.{came_of, Trims};
+
+use super::Net;
+use mg_calc::{Calculator, Edge, Plan, Producer};
+use mg_node::{Engine, Intake};
+
+// Who writes a stream.
+fn writer_of(plan: &Plan, stream: u32) -> Producer
+    requires { stream < length plan.now.streams }
+    ensures { writer_at plan.now stream ≡ Some result }
+{
+    plan.streams.as_slice()[stream as usize].producer
+}
+
+// The place of the engine that writes a stream, and at which of its outputs.
+fn output_of(plan: &Plan, stream: u32) -> (usize, u32)
+    requires { stream < length plan.now.streams }
+    ensures laid { LaidAt plan.now stream result.0 result.1 }
+    ensures small { result.0 < 2 ^ 33 }
+{
+    match writer_of(plan, stream) {
+        Producer::Input(input) => (plan.nodes.len() as usize + input as usize, 0),
+        Producer::Node { node, port } => (node as usize, port),
+    }
+}
+
+// Sets the number of each stream to how many packets are laid at its output.
+fn set_laid<C: Calculator>(got: &mut [u64], plan: &Plan, engines: &[Engine<C>])
+    requires streams { length got.old ≡ length plan.now.streams }
+    requires outputs { HaveOutputs plan.now engines.now }
+    ensures laid { AreLaid engines.now (length plan.now.streams) got.new }
+    ensures count { length got.new ≡ length got.old }
+{
+    for stream in 0..plan.streams.len() {
+        let (place, output) = output_of(plan, stream);
+        got[stream as usize] = engines[place].count(output);
+    }
+}
+
+// Lowers the number of each stream to what came along its edges.
+fn lower(got: &mut [u64], edges: &[Edge], intakes: &[Intake])
+    requires { LeadToPorts (length got.old) edges.now intakes.now }
+    ensures lowered { (stream : ℕ) → slice_index_or got.new stream 0 ≡ fold min (slice_index_or got.old stream 0) (came_of intakes.now edges.now stream) }
+    ensures count { length got.new ≡ length got.old }
+{
+    for edge in edges {
+        let came = intakes[edge.node as usize].count(edge.port);
+        let stream = edge.stream as usize;
+        got[stream] = got[stream].min(came);
+    }
+}
+
+// Gives up of each stream the first packets, by its number.
+fn give_up<C: Calculator>(engines: &mut [Engine<C>], plan: &Plan, got: &[u64])
+    requires streams { length got.now ≡ length plan.now.streams }
+    requires outputs { HaveOutputs plan.now engines.old }
+    requires within { AreWithin engines.old got.now }
+    ensures { AllGiven got.now (length plan.now.streams) engines.old engines.new }
+{
+    for stream in 0..plan.streams.len() {
+        let (place, output) = output_of(plan, stream);
+        engines[place].give_up(output, got[stream as usize]);
+    }
+}
+
+impl<C: Calculator> Net<C> {
+    /// Gives up the packets that all edges of their streams have got, and those of streams without edges. It looks at each stream and
+    /// each edge once.
+    pub fn trim(&mut self)
+        requires stands { StandsForSome self.old }
+        ensures trims { Trims self.old self.new }
+
+        // What stands for a job still stands for it.
+        ensures stands { (job : LoggedJob) → StandsFor job self.old → StandsFor job self.new }
+    {
+        set_laid(&mut self.got, &self.plan, &self.engines);
+        lower(&mut self.got, self.plan.edges.as_slice(), &self.intakes);
+        give_up(&mut self.engines, &self.plan, &self.got);
+    }
+}

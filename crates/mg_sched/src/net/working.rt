@@ -1,0 +1,71 @@
+//! How works are performed and committed.
+ghost use Rattle.std.specs.Prelude.{◌≡◌, ◌<◌, length, slice_get, Some};
+ghost use Rattle.mg_node.specs.Views.{EngineView};
+ghost use Rattle.mg_sched.specs.StandsFor.{StandsForSome, IsRunning};
+ghost use Rattle.mg_sched.specs.Places.{with_limits};
+ghost use Rattle.mg_sched.specs.Acts.{Performed, Committed, stopped_by};
+
+use super::Net;
+use mg_calc::{Calculator, Effect};
+use mg_edge::Gate;
+use mg_node::{Outcome, perform};
+
+impl<C: Calculator> Net<C> {
+    /// Performs the work of a number of a node, if it is claimed and not performed. What was performed stands in its window then, not
+    /// committed.
+    pub(super) fn perform<G: Gate>(&mut self, node: u32, number: u64, gate: &G) -> Effect
+        requires there { node < length self.old.plan.nodes }
+        requires stands { StandsForSome self.old }
+        requires running { IsRunning self.old }
+        ensures { Performed node number result self.old self.new }
+    {
+        let place = node as usize;
+        let Some((lay, work)) = self.desks[place].take(number) else {
+            return Effect::Idle;
+        };
+        match perform(self.alloc, work, gate) {
+            Ok(performed) => {
+                self.engines[place].shelve(Outcome::ran(performed));
+                Effect::Did
+            }
+            Err(work) => {
+                self.desks[place].put_back(lay, work);
+                Effect::OutOfMemory
+            }
+        }
+    }
+
+    /// Commits what was performed of the work of a number of a node, if it stands in its window.
+    pub(super) fn commit(&mut self, node: u32, number: u64) -> Effect
+        requires there { node < length self.old.plan.nodes }
+        requires stands { StandsForSome self.old }
+        requires running { IsRunning self.old }
+        ensures { Committed node number result self.old self.new }
+    {
+        let engine = &mut self.engines[node as usize];
+        let Some(performed) = engine.unshelve(number) else {
+            return Effect::Idle;
+        };
+        match engine.commit(Outcome::ran(performed)) {
+            Ok(_) => {
+                self.stop_ended(node);
+                Effect::Did
+            }
+            Err(outcome) => {
+                engine.shelve(outcome);
+                Effect::OutOfMemory
+            }
+        }
+    }
+
+    // The queues of a node that has ended no longer count.
+    pub(super) fn stop_ended(&mut self, node: u32)
+        requires engine { node < length self.old.engines }
+        requires reached { node < length self.old.limits.reached }
+        ensures { (engine : EngineView) → slice_get self.old.engines node ≡ Some engine → self.new ≡ with_limits self.old (stopped_by node engine self.old.limits) }
+    {
+        if self.engines[node as usize].has_ended() {
+            self.limits.stop(node);
+        }
+    }
+}

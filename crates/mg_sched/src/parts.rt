@@ -1,0 +1,193 @@
+//! What a net is made of, before the calculators that are handed in are with their nodes.
+ghost use Rattle.std.specs.Prelude.{◌≡◌, ◌+◌, ◌<◌, ◌≤◌, [], List, Some, IfOk, All, length, map, slice_get, vec_len, vec_capacity};
+ghost use Rattle.mg_value.specs.Prefix.{IsPrefix};
+ghost use Rattle.mg_calc.specs.declared.plan_node.PlanNode.{PlanNode};
+ghost use Rattle.mg_calc.specs.Plan.{IsValid};
+ghost use Rattle.mg_node.specs.Fresh.{own_told, fresh_engine};
+ghost use Rattle.mg_throttle.specs.Throttle.{IsOf, limit_of, new_queue};
+ghost use Rattle.mg_sched.specs.Code.Made.{AtPlaces, IsEngineAt, IsIntakeAt, IsDeskAt};
+ghost use Rattle.mg_sched.specs.Code.Tables.{AreTables};
+
+use crate::desk::Desk;
+use crate::tables::{first_edges, own_feeders, stream_numbers};
+use mg_calc::{Calculator, GivenList, Plan, TryClone};
+use mg_node::{Engine, Intake};
+use mg_route::{Builtin, Holder};
+use mg_throttle::Limits;
+use mg_value::PrefixList;
+use std::alloc::{AllocError, Global};
+
+/// What a net keeps of what it is made from, and places for the calculators that are handed in.
+#[derive(Drop)]
+pub(crate) struct Kept<C: Calculator> {
+    pub(crate) plan: Plan,
+    pub(crate) given: GivenList,
+    pub(crate) places: Vec<Option<C>>,
+}
+
+/// The parts of its cells.
+#[derive(Drop)]
+pub(crate) struct Cells<C: Calculator> {
+    pub(crate) engines: Vec<Engine<C>>,
+    pub(crate) intakes: Vec<Intake>,
+    pub(crate) desks: Vec<Desk<C>>,
+}
+
+/// The limits of its queues, and its tables.
+#[derive(Drop)]
+pub(crate) struct Rules {
+    pub(crate) limits: Limits,
+    pub(crate) first_edges: Vec<u32>,
+    pub(crate) own_feeders: Vec<Option<u32>>,
+    pub(crate) got: Vec<u64>,
+}
+
+// The engine of a node, with a calculator of the node's own kind.
+fn engine_of<C: Calculator>(alloc: Global, plan: &Plan, node: u32) -> Result<Engine<C>, AllocError>
+    requires valid { IsValid plan.now }
+    requires node { node < length plan.now.nodes }
+    ensures { IfOk result (λ e. (planned : PlanNode) → slice_get plan.now.nodes node ≡ Some planned → e ≡ fresh_engine planned node (own_told planned)) }
+{
+    let planned = &plan.nodes.as_slice()[node as usize];
+    let builtin = Builtin::new(alloc, &planned.law, &planned.shape)?;
+    match Engine::new(alloc, plan, node, Holder::own(builtin)) {
+        Ok(engine) => Ok(engine),
+        Err(_) => Err(AllocError),
+    }
+}
+
+// The engines of the nodes.
+fn node_engines<C: Calculator>(
+    alloc: Global,
+    plan: &Plan,
+    streams: &PrefixList,
+) -> Result<Vec<Engine<C>>, AllocError>
+    requires valid { IsValid plan.now }
+    ensures count { IfOk result (λ v. length v.items ≡ length plan.now.nodes) }
+    ensures engines { IfOk result (λ v. AtPlaces (IsEngineAt plan.now streams.now (λ _ node. own_told node)) v.items) }
+{
+    let room = plan.nodes.len() as usize + streams.len() as usize;
+    let mut engines = Vec::with_capacity(alloc, room)?;
+    for node in 0..plan.nodes.len() {
+        engines.push(engine_of(alloc, plan, node)?)?;
+    }
+    Ok(engines)
+}
+
+/// The engines of the nodes, each with a calculator of the node's own kind, and behind them those of the graph inputs.
+pub(crate) fn engines_of<C: Calculator>(
+    alloc: Global,
+    plan: &Plan,
+    streams: &PrefixList,
+) -> Result<Vec<Engine<C>>, AllocError>
+    requires valid { IsValid plan.now }
+    requires inputs { length streams.now ≡ length plan.now.inputs }
+    requires prefixes { All IsPrefix streams.now }
+    ensures count { IfOk result (λ v. length v.items ≡ length plan.now.nodes + length plan.now.inputs) }
+    ensures engines { IfOk result (λ v. AtPlaces (IsEngineAt plan.now streams.now (λ _ node. own_told node)) v.items) }
+{
+    let mut engines = node_engines(alloc, plan, streams)?;
+    for input in 0..plan.inputs.len() {
+        let prefix = &streams.as_slice()[input as usize];
+        engines.push(Engine::of_input(alloc, plan, input, prefix)?)?;
+    }
+    Ok(engines)
+}
+
+/// The intakes of the nodes, and behind them that of the collector.
+pub(crate) fn intakes_of(alloc: Global, plan: &Plan) -> Result<Vec<Intake>, AllocError>
+    requires valid { IsValid plan.now }
+    ensures count { IfOk result (λ v. length v.items ≡ length plan.now.nodes + 1) }
+    ensures intakes { IfOk result (λ v. AtPlaces (IsIntakeAt plan.now) v.items) }
+{
+    let mut intakes = Vec::with_capacity(alloc, plan.nodes.len() as usize + 1)?;
+    for consumer in 0..plan.nodes.len() + 1 {
+        intakes.push(Intake::new(alloc, plan, consumer)?)?;
+    }
+    Ok(intakes)
+}
+
+/// The desks of the nodes, where nothing lies.
+pub(crate) fn desks_of<C: Calculator>(
+    alloc: Global,
+    plan: &Plan,
+) -> Result<Vec<Desk<C>>, AllocError>
+    ensures count { IfOk result (λ v. length v.items ≡ length plan.now.nodes) }
+    ensures desks { IfOk result (λ v. AtPlaces (IsDeskAt plan.now) v.items) }
+{
+    let mut desks = Vec::with_capacity(alloc, plan.nodes.len() as usize)?;
+    for node in 0..plan.nodes.len() {
+        let planned = &plan.nodes.as_slice()[node as usize];
+        desks.push(Desk::new(alloc, planned.in_flight)?)?;
+    }
+    Ok(desks)
+}
+
+/// Copies of a plan and of side packets, and room for so many calculators.
+pub(crate) fn kept_of<C: Calculator>(
+    alloc: Global,
+    plan: &Plan,
+    sides: &GivenList,
+    count: usize,
+) -> Result<Kept<C>, AllocError>
+    ensures plan { IfOk result (λ k. k.plan ≡ plan.now) }
+    ensures given { IfOk result (λ k. k.given ≡ sides.now) }
+    ensures none { IfOk result (λ k. k.places.items ≡ []) }
+    ensures empty { IfOk result (λ k. vec_len k.places ≡ 0) }
+    ensures room { IfOk result (λ k. count ≤ vec_capacity k.places) }
+{
+    let plan = plan.try_clone(alloc)?;
+    let given = sides.try_clone(alloc)?;
+    let places = Vec::with_capacity(alloc, count)?;
+    Ok(Kept {
+        plan,
+        given,
+        places,
+    })
+}
+
+/// The cells of the nodes, the engines of the graph inputs, and the collector's intake.
+pub(crate) fn cells_of<C: Calculator>(
+    alloc: Global,
+    plan: &Plan,
+    streams: &PrefixList,
+) -> Result<Cells<C>, AllocError>
+    requires valid { IsValid plan.now }
+    requires inputs { length streams.now ≡ length plan.now.inputs }
+    requires prefixes { All IsPrefix streams.now }
+    ensures engine_count { IfOk result (λ c. length c.engines.items ≡ length plan.now.nodes + length plan.now.inputs) }
+    ensures engines { IfOk result (λ c. AtPlaces (IsEngineAt plan.now streams.now (λ _ node. own_told node)) c.engines.items) }
+    ensures intake_count { IfOk result (λ c. length c.intakes.items ≡ length plan.now.nodes + 1) }
+    ensures intakes { IfOk result (λ c. AtPlaces (IsIntakeAt plan.now) c.intakes.items) }
+    ensures desk_count { IfOk result (λ c. length c.desks.items ≡ length plan.now.nodes) }
+    ensures desks { IfOk result (λ c. AtPlaces (IsDeskAt plan.now) c.desks.items) }
+{
+    let engines = engines_of(alloc, plan, streams)?;
+    let intakes = intakes_of(alloc, plan)?;
+    let desks = desks_of(alloc, plan)?;
+    Ok(Cells {
+        engines,
+        intakes,
+        desks,
+    })
+}
+
+/// The limits of a plan's queues, and its tables.
+pub(crate) fn rules_of(alloc: Global, plan: &Plan) -> Result<Rules, AllocError>
+    requires valid { IsValid plan.now }
+    ensures of { IfOk result (λ r. IsOf plan.now r.limits) }
+    ensures queues { IfOk result (λ r. r.limits.queues ≡ map (new_queue (length plan.now.nodes) (limit_of plan.now.limit)) plan.now.edges) }
+    ensures tables { IfOk result (λ r. AreTables plan.now r.first_edges.items r.own_feeders.items) }
+    ensures got { IfOk result (λ r. vec_len r.got ≡ length plan.now.streams) }
+{
+    let limits = Limits::new(alloc, plan, plan.limit)?;
+    let first_edges = first_edges(alloc, plan)?;
+    let own_feeders = own_feeders(alloc, plan)?;
+    let got = stream_numbers(alloc, plan)?;
+    Ok(Rules {
+        limits,
+        first_edges,
+        own_feeders,
+        got,
+    })
+}
