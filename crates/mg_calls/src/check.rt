@@ -1,10 +1,9 @@
 //! Checks: plans of graphs, and why they are refused.
 
 use crate::outers::outers;
-use crate::plans::graph_of;
-use crate::table::{Calls, assert_rows};
 use mg_calc::{Edge, Plan, PlanNode, Producer, SideValue};
 use mg_check::{CheckFault, check};
+use mg_tables::{Calls, assert_rows, graph_of};
 use mg_value::Payload;
 use std::alloc::{AllocError, Global};
 use std::fmt::Write;
@@ -259,22 +258,22 @@ impl Calls for Checking {
 
 #[test]
 fn graphs_are_joined(rt: HostRuntime) -> Result<(), Fail> {
-    assert_rows(&rt, rt.alloc(), &mut Checking, joined())
+    assert_rows(rt.alloc(), &mut Checking, joined())
 }
 
 #[test]
 fn nodes_are_planned(rt: HostRuntime) -> Result<(), Fail> {
-    assert_rows(&rt, rt.alloc(), &mut Checking, nodes())
+    assert_rows(rt.alloc(), &mut Checking, nodes())
 }
 
 #[test]
 fn parts_are_planned(rt: HostRuntime) -> Result<(), Fail> {
-    assert_rows(&rt, rt.alloc(), &mut Checking, parts())
+    assert_rows(rt.alloc(), &mut Checking, parts())
 }
 
 #[test]
 fn graphs_are_refused(rt: HostRuntime) -> Result<(), Fail> {
-    assert_rows(&rt, rt.alloc(), &mut Checking, refusals())
+    assert_rows(rt.alloc(), &mut Checking, refusals())
 }
 
 // A graph of so many outputs, and one of so many nodes with 64 inputs each.

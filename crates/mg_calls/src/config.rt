@@ -1,8 +1,8 @@
 //! Configurations: the refusals of files, and the spellings of numbers and truth values.
 
 use crate::config_written::written;
-use crate::table::{Calls, assert_rows};
 use mg_config::{ConfigFault, read};
+use mg_tables::{Calls, assert_rows};
 use mg_text::parse;
 use std::alloc::{AllocError, Global};
 use std::test::Fail;
@@ -180,7 +180,7 @@ impl Calls for BackEdge {
 #[test]
 fn files_are_read_up_to_their_first_fault(rt: HostRuntime) -> Result<(), Fail> {
     let alloc = rt.alloc();
-    assert_rows(&rt, alloc, &mut Reading, refusals())?;
-    assert_rows(&rt, alloc, &mut NumberField, numbers())?;
-    assert_rows(&rt, alloc, &mut BackEdge, truths())
+    assert_rows(alloc, &mut Reading, refusals())?;
+    assert_rows(alloc, &mut NumberField, numbers())?;
+    assert_rows(alloc, &mut BackEdge, truths())
 }

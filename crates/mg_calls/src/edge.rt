@@ -2,11 +2,11 @@
 
 ghost use Rattle.std.specs.Prelude.{IfOk, ◌≤◌};
 
-use crate::table::{Calls, assert_rows};
 use mg_edge::{
     FolderStore, Got, Loaded, MemorySink, MemorySource, MemoryStore, Put, ReaderSource, Sink,
     Source, Store, WriterSink,
 };
+use mg_tables::{Calls, assert_rows};
 use std::alloc::Global;
 use std::io::{Cursor, ErrorKind, Read, Write};
 use std::test::Fail;
@@ -116,14 +116,13 @@ fn a_source_in_memory_gives_pieces_and_fails_where_it_is_told_to(
 ) -> Result<(), Fail> {
     let mut source = Reads(MemorySource::new(rt.alloc(), b"abcdef", 4, &[1])?);
     assert_rows(
-        &rt,
         rt.alloc(),
         &mut source,
         "3=abc\n8=Failed\n8=def\n8=End\n8=End",
     )?;
     assert_eq!(rt; (source.0.reads(), source.0.ends()), (5, 2));
     let mut source = Reads(MemorySource::new(rt.alloc(), b"abc", 2, &[])?);
-    assert_rows(&rt, rt.alloc(), &mut source, "8=ab\n8=c\n8=End")
+    assert_rows(rt.alloc(), &mut source, "8=ab\n8=c\n8=End")
 }
 
 #[test]
@@ -131,15 +130,10 @@ fn a_sink_in_memory_fails_where_it_is_told_to_and_where_its_room_ends(
     rt: HostRuntime,
 ) -> Result<(), Fail> {
     let mut sink = Writes(MemorySink::new(rt.alloc(), 4, &[1])?);
-    assert_rows(
-        &rt,
-        rt.alloc(),
-        &mut sink,
-        "ab=2\nab=Failed\ncde=2\ne=Failed",
-    )?;
+    assert_rows(rt.alloc(), &mut sink, "ab=2\nab=Failed\ncde=2\ne=Failed")?;
     assert_eq!(rt; sink.0.taken(), b"abcd".as_slice());
     let mut full = Writes(MemorySink::new(rt.alloc(), 0, &[])?);
-    assert_rows(&rt, rt.alloc(), &mut full, "a=Failed")
+    assert_rows(rt.alloc(), &mut full, "a=Failed")
 }
 
 // A store with a name whose content was replaced, an empty one, and one of so many bytes.
@@ -162,7 +156,7 @@ fn a_store_in_memory_fails_where_it_is_told_to_and_at_other_names(
     assert_eq!(rt; store.failed_name(), None);
     let mut loads = Loads(store);
     let calls = "x=bytes\nx=Failed\nempty=\nlong=4194305\ny=Failed\nx=bytes";
-    assert_rows(&rt, rt.alloc(), &mut loads, calls)?;
+    assert_rows(rt.alloc(), &mut loads, calls)?;
     assert_eq!(rt; loads.0.faults(), 2);
     assert_eq!(rt; loads.0.failed_name(), Some("y"));
     Ok(())
@@ -177,12 +171,7 @@ fn a_folder_gives_its_files(rt: HostRuntime) -> Result<(), Fail> {
     fs::write(&rt, "graph", "bytes")?;
     write_long(&rt, rt.alloc(), 4_194_306)?;
     let calls = "graph=bytes\nlong=4194305\nmissing=Failed\n.=Failed";
-    assert_rows(
-        &rt,
-        rt.alloc(),
-        &mut Loads(FolderStore::new(rt.clone()?)),
-        calls,
-    )?;
+    assert_rows(rt.alloc(), &mut Loads(FolderStore::new(rt.clone()?)), calls)?;
     fs::remove_file(&rt, "graph")?;
     fs::remove_file(&rt, "long")?;
     Ok(())
@@ -191,15 +180,15 @@ fn a_folder_gives_its_files(rt: HostRuntime) -> Result<(), Fail> {
 #[test]
 fn a_reader_is_a_source(rt: HostRuntime) -> Result<(), Fail> {
     let mut source = Reads(ReaderSource::new(Cursor::new(b"abc".as_slice())));
-    assert_rows(&rt, rt.alloc(), &mut source, "2=ab\n8=c\n8=End")?;
+    assert_rows(rt.alloc(), &mut source, "2=ab\n8=c\n8=End")?;
     let mut moody = Reads(ReaderSource::new(Moody { calls: 0 }));
-    assert_rows(&rt, rt.alloc(), &mut moody, "1=\0\n8=End\n8=Failed")
+    assert_rows(rt.alloc(), &mut moody, "1=\0\n8=End\n8=Failed")
 }
 
 #[test]
 fn a_writer_is_a_sink(rt: HostRuntime) -> Result<(), Fail> {
     let mut sink = Writes(WriterSink::new(Vec::new(rt.alloc())));
-    assert_rows(&rt, rt.alloc(), &mut sink, "abc=3")?;
+    assert_rows(rt.alloc(), &mut sink, "abc=3")?;
     let mut moody = Writes(WriterSink::new(Moody { calls: 0 }));
-    assert_rows(&rt, rt.alloc(), &mut moody, "abc=1\nabc=Failed\nabc=Failed")
+    assert_rows(rt.alloc(), &mut moody, "abc=1\nabc=Failed\nabc=Failed")
 }

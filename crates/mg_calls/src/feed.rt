@@ -1,8 +1,8 @@
 //! Feeds: what each packet line answers, and what is taken then.
 
-use crate::table::{Calls, assert_rows};
 use mg_calc::{Inputs, Plan, PlanStream, PlanStreamList, Producer, Side, SideList, SideValue};
 use mg_feed::{Feed, generate, write_line};
+use mg_tables::{Calls, assert_rows};
 use mg_time::Timestamp;
 use mg_value::{BlockList, Kind, MgText, NumberList, Packet, Payload, Prefix};
 use std::alloc::Global;
@@ -253,15 +253,15 @@ fn lines_are_taken_or_refused(rt: HostRuntime) -> Result<(), Fail> {
         ("l", Kind::Items),
         ("r", Kind::Record),
     ];
-    assert_rows(&rt, alloc, &mut make_feeding(alloc, &kinds)?, refused())?;
-    assert_rows(&rt, alloc, &mut make_feeding(alloc, &kinds)?, given())
+    assert_rows(alloc, &mut make_feeding(alloc, &kinds)?, refused())?;
+    assert_rows(alloc, &mut make_feeding(alloc, &kinds)?, given())
 }
 
 #[test]
 fn lines_name_several_streams(rt: HostRuntime) -> Result<(), Fail> {
     let alloc = rt.alloc();
     let kinds = [("a", Kind::Any), ("b", Kind::Any)];
-    assert_rows(&rt, alloc, &mut make_feeding(alloc, &kinds)?, several())
+    assert_rows(alloc, &mut make_feeding(alloc, &kinds)?, several())
 }
 
 // So many times an opening bracket, and as often a closing one, as a packet's value.
@@ -319,7 +319,6 @@ take={"stream":"s","ts":1,"value":{"a":[{}],"b":2}} {"stream":"s","ts":2,"value"
 fn records_are_values(rt: HostRuntime) -> Result<(), Fail> {
     let alloc = rt.alloc();
     assert_rows(
-        &rt,
         alloc,
         &mut make_feeding(alloc, &[("in", Kind::Any)])?,
         any(),

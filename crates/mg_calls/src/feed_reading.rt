@@ -1,9 +1,9 @@
 //! Feeds that read a source: what each batch answers, and what was taken then.
 
 use crate::feed::{plan_of, show_inputs};
-use crate::table::{Calls, assert_rows};
 use mg_edge::MemorySource;
 use mg_feed::Feed;
+use mg_tables::{Calls, assert_rows};
 use mg_value::Kind;
 use std::alloc::Global;
 use std::test::Fail;
@@ -123,20 +123,17 @@ fn batches_are_read(rt: HostRuntime) -> Result<(), Fail> {
     let alloc = rt.alloc();
     for piece in [1, 2, 7, 33, 65_536] {
         assert_rows(
-            &rt,
             alloc,
             &mut make_reading(alloc, lines(), piece, &[])?,
             batches(),
         )?;
         assert_rows(
-            &rt,
             alloc,
             &mut make_reading(alloc, lines(), piece, &[])?,
             whole(),
         )?;
     }
     assert_rows(
-        &rt,
         alloc,
         &mut make_reading(alloc, lines(), 65_536, &[])?,
         kept(),
@@ -170,19 +167,13 @@ take={"stream":"s","ts":1,"value":1} 2; PreStream; --"#
 fn readings_fail(rt: HostRuntime) -> Result<(), Fail> {
     let alloc = rt.alloc();
     assert_rows(
-        &rt,
         alloc,
         &mut make_reading(alloc, lines(), 7, &[2, 12])?,
         faults(),
     )?;
     let bad =
         b"{\"stream\":\"a\",\"ts\":1,\"value\":1}\n\n{\"stream\":\"a\",\"ts\":1,\"value\":2}\n{\"stream\":\"a\",\"ts\":5,\"value\":3}\n";
-    assert_rows(
-        &rt,
-        alloc,
-        &mut make_reading(alloc, bad, 1_000, &[])?,
-        refused(),
-    )
+    assert_rows(alloc, &mut make_reading(alloc, bad, 1_000, &[])?, refused())
 }
 
 // So many blanks, and a line feed.
@@ -200,7 +191,6 @@ fn long_lines_are_read(rt: HostRuntime) -> Result<(), Fail> {
     let alloc = rt.alloc();
     let most = blanks(alloc, 1_048_576)?;
     assert_rows(
-        &rt,
         alloc,
         &mut make_reading(alloc, &most, 4_096, &[])?,
         "1=End(Ended)\ncounts=258 reads, 1 ends, 0 faults",
@@ -208,7 +198,6 @@ fn long_lines_are_read(rt: HostRuntime) -> Result<(), Fail> {
     // It is refused when its byte 1,048,577 came, with the read after 256 others.
     let long = blanks(alloc, 2_000_000)?;
     assert_rows(
-        &rt,
         alloc,
         &mut make_reading(alloc, &long, 4_096, &[])?,
         "1=End(Refused { line: 1, cause: TooLong })\ncounts=257 reads, 0 ends, 0 faults\nall=Refused { line: 1, cause: TooLong }\ncounts=257 reads, 0 ends, 0 faults",
@@ -229,7 +218,6 @@ fn lines_are_counted(rt: HostRuntime) -> Result<(), Fail> {
     let alloc = rt.alloc();
     let more = feeds(alloc, 4_000_001)?;
     assert_rows(
-        &rt,
         alloc,
         &mut make_reading(alloc, &more, 65_536, &[])?,
         "all=Refused { line: 4000001, cause: TooManyLines }",
@@ -247,7 +235,6 @@ fn an_empty_source_ends(rt: HostRuntime) -> Result<(), Fail> {
         .ok()
         .ok_or("refused")?;
     assert_rows(
-        &rt,
         alloc,
         &mut empty,
         "all=Ended\ncounts=1 reads, 1 ends, 0 faults\ntake={\"stream\":\"s\",\"ts\":5,\"value\":7} 6; PreStream; --",

@@ -1,9 +1,9 @@
 //! Ports: their spellings, the ports of lists of texts, and the texts of ports.
 
-use crate::table::{Calls, assert_rows};
 use mg_names::{
     NameFault, PlacedFault, Port, PortMap, print_port, print_tag_index, read_port, read_tag_index,
 };
+use mg_tables::{Calls, assert_rows};
 use mg_value::MgText;
 use std::alloc::{AllocError, Global};
 use std::test::Fail;
@@ -215,10 +215,13 @@ fn show_place(alloc: Global, map: &PortMap, tag: &str, index: u8) -> Result<Stri
     }
 }
 
-impl Calls for PortMap {
+#[derive(Drop)]
+struct OneMap(PortMap);
+
+impl Calls for OneMap {
     fn answer(&mut self, alloc: Global, call: &str) -> Result<String, Fail> {
         let (tag, index) = call.split_once(' ').ok_or("no index")?;
-        Ok(show_place(alloc, self, tag, index.parse::<u8>()?)?)
+        Ok(show_place(alloc, &self.0, tag, index.parse::<u8>()?)?)
     }
 }
 
@@ -245,25 +248,26 @@ impl Calls for Printing {
 #[test]
 fn texts_are_read_and_printed(rt: HostRuntime) -> Result<(), Fail> {
     let alloc = rt.alloc();
-    assert_rows(&rt, alloc, &mut OneText, spellings())?;
-    assert_rows(&rt, alloc, &mut ManyTexts, lists())?;
-    assert_rows(&rt, alloc, &mut Printing, ports())?;
+    assert_rows(alloc, &mut OneText, spellings())?;
+    assert_rows(alloc, &mut ManyTexts, lists())?;
+    assert_rows(alloc, &mut Printing, ports())?;
     // The 65th untagged port has no index, whatever its name.
     let longer = untagged_and(alloc, 64, "a=BadIndex")?;
-    assert_rows(&rt, alloc, &mut ManyTexts, longer.as_str())?;
+    assert_rows(alloc, &mut ManyTexts, longer.as_str())?;
     let longer = untagged_and(alloc, 64, "A=BadIndex")?;
-    assert_rows(&rt, alloc, &mut ManyTexts, longer.as_str())
+    assert_rows(alloc, &mut ManyTexts, longer.as_str())
 }
 
 #[test]
 fn ports_have_places(rt: HostRuntime) -> Result<(), Fail> {
     let alloc = rt.alloc();
     let untagged = texts_of(alloc, untagged_and(alloc, 63, "a")?.as_str())?;
-    let mut map = PortMap::read(alloc, untagged.as_slice())?;
-    assert_rows(&rt, alloc, &mut map, places_of_untagged())?;
-    let mut map = PortMap::read(alloc, falling(alloc, 64)?.as_slice())?;
-    assert_rows(&rt, alloc, &mut map, places_of_falling())?;
-    assert_rows(&rt, alloc, &mut PortMap::new(alloc), places_of_none())
+    let mut map = OneMap(PortMap::read(alloc, untagged.as_slice())?);
+    assert_rows(alloc, &mut map, places_of_untagged())?;
+    let mut map = OneMap(PortMap::read(alloc, falling(alloc, 64)?.as_slice())?);
+    assert_rows(alloc, &mut map, places_of_falling())?;
+    let mut map = OneMap(PortMap::new(alloc));
+    assert_rows(alloc, &mut map, places_of_none())
 }
 
 #[test]
@@ -361,6 +365,6 @@ impl Calls for OneTagIndex {
 
 #[test]
 fn refused_texts_have_places(rt: HostRuntime) -> Result<(), Fail> {
-    assert_rows(&rt, rt.alloc(), &mut PlacedTexts, placed_lists())?;
-    assert_rows(&rt, rt.alloc(), &mut OneTagIndex, tag_indexes())
+    assert_rows(rt.alloc(), &mut PlacedTexts, placed_lists())?;
+    assert_rows(rt.alloc(), &mut OneTagIndex, tag_indexes())
 }

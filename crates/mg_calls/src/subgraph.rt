@@ -1,9 +1,8 @@
 //! Expansions: graphs that use files, and why they are refused.
 
-use crate::plans::graph_of;
-use crate::table::{Calls, assert_rows};
 use mg_config::GraphConfig;
 use mg_subgraph::{ExpandFault, expand};
+use mg_tables::{Calls, assert_rows, graph_of};
 use std::alloc::{AllocError, Global};
 use std::test::Fail;
 
@@ -159,7 +158,7 @@ impl Calls for Expanding {
 
 #[test]
 fn graphs_are_refused(rt: HostRuntime) -> Result<(), Fail> {
-    assert_rows(&rt, rt.alloc(), &mut Expanding, refusals())
+    assert_rows(rt.alloc(), &mut Expanding, refusals())
 }
 
 // A file whose nodes are so many of another.

@@ -1,6 +1,6 @@
 //! The text form: where a text stops being one, and what is written of it.
 
-use crate::table::{Calls, assert_rows};
+use mg_tables::{Calls, assert_rows};
 use mg_text::{Scalar, TextFault, Tree, TreeValue, parse, print};
 use percent_encoding::percent_decode;
 use std::alloc::{AllocError, Global};
@@ -254,18 +254,13 @@ impl Calls for Nesting {
 #[test]
 fn texts_are_read_up_to_their_first_fault(rt: HostRuntime) -> Result<(), Fail> {
     let alloc = rt.alloc();
-    assert_rows(&rt, alloc, &mut Reading, files())?;
-    assert_rows(&rt, alloc, &mut Reading, fields_that_do_not_go_on())?;
-    assert_rows(&rt, alloc, &mut Reading, numbers_that_do_not_go_on())?;
-    assert_rows(&rt, alloc, &mut Reading, strings_that_do_not_go_on())?;
-    assert_rows(&rt, alloc, &mut Reading, bytes_that_are_no_text())?;
-    assert_rows(
-        &rt,
-        alloc,
-        &mut Reading,
-        lists_and_names_that_do_not_go_on(),
-    )?;
-    assert_rows(&rt, alloc, &mut Nesting, depths())
+    assert_rows(alloc, &mut Reading, files())?;
+    assert_rows(alloc, &mut Reading, fields_that_do_not_go_on())?;
+    assert_rows(alloc, &mut Reading, numbers_that_do_not_go_on())?;
+    assert_rows(alloc, &mut Reading, strings_that_do_not_go_on())?;
+    assert_rows(alloc, &mut Reading, bytes_that_are_no_text())?;
+    assert_rows(alloc, &mut Reading, lists_and_names_that_do_not_go_on())?;
+    assert_rows(alloc, &mut Nesting, depths())
 }
 
 // So many blanks. A length that stands at the call would stand as a list in each goal behind it.
@@ -317,7 +312,7 @@ impl Calls for Writing {
 
 #[test]
 fn canonical_texts_are_written(rt: HostRuntime) -> Result<(), Fail> {
-    assert_rows(&rt, rt.alloc(), &mut Writing, canonical_texts())?;
+    assert_rows(rt.alloc(), &mut Writing, canonical_texts())?;
     let written = written(rt.alloc(), every_kind().as_bytes())?;
     assert_eq!(rt; written.as_slice(), every_kind_written().as_bytes());
     Ok(())
@@ -332,10 +327,14 @@ fn show_scalar(alloc: Global, scalar: &Scalar) -> Result<String, AllocError> {
     }
 }
 
-impl Calls for Tree {
+#[derive(Drop)]
+struct OneTree(Tree);
+
+impl Calls for OneTree {
     // The kind of the value of a field.
     fn answer(&mut self, alloc: Global, call: &str) -> Result<String, Fail> {
         let field = self
+            .0
             .fields
             .get(call.parse::<usize>()?)
             .ok_or("no such field")?;
@@ -348,9 +347,9 @@ impl Calls for Tree {
 
 #[test]
 fn scalars_are_of_their_kinds(rt: HostRuntime) -> Result<(), Fail> {
-    let mut tree = parse(rt.alloc(), b"a:x a:1e5 a:'\\101\\n' b{}")?;
+    let mut tree = OneTree(parse(rt.alloc(), b"a:x a:1e5 a:'\\101\\n' b{}")?);
     let wanted = "0=word x\n1=number 1e5\n3=message";
-    assert_rows(&rt, rt.alloc(), &mut tree, wanted)?;
+    assert_rows(rt.alloc(), &mut tree, wanted)?;
     let shown = tree.answer(rt.alloc(), "2")?;
     assert!(rt; shown.as_str() == "quoted A\n", "{shown}");
     Ok(())

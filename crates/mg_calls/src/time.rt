@@ -1,7 +1,6 @@
 //! Timestamps: their numbers and texts, what may follow a packet at each, and shifts.
 
-use crate::packets::{text_of, time_of};
-use crate::table::{Calls, assert_rows};
+use mg_tables::{Calls, assert_rows, text_of, time_of};
 use mg_time::Timestamp;
 use std::alloc::Global;
 use std::test::Fail;
@@ -131,9 +130,9 @@ impl Calls for Reading {
 #[test]
 fn timestamps_answer(rt: HostRuntime) -> Result<(), Fail> {
     let alloc = rt.alloc();
-    assert_rows(&rt, alloc, &mut SpecialValue, special_values())?;
-    assert_rows(&rt, alloc, &mut Shift, shifts())?;
-    assert_rows(&rt, alloc, &mut Reading, texts())
+    assert_rows(alloc, &mut SpecialValue, special_values())?;
+    assert_rows(alloc, &mut Shift, shifts())?;
+    assert_rows(alloc, &mut Reading, texts())
 }
 
 #[test]

@@ -1,7 +1,6 @@
 //! Packets, their lists, input sets, and texts.
 
-use crate::packets::{packet_of, show_packet, show_set};
-use crate::table::{Calls, assert_rows};
+use mg_tables::{Calls, assert_rows, packet_of, show_packet, show_set};
 use mg_value::{InputSet, MgText, Packet, PacketList};
 use std::alloc::Global;
 use std::process::Abort;
@@ -26,23 +25,28 @@ fn put(set: &mut InputSet, port: u32, packet: Option<Packet>) -> Result<(), Fail
     Ok(())
 }
 
-impl Calls for InputSet {
+// One set.
+#[derive(Drop)]
+struct OneSet(InputSet);
+
+impl Calls for OneSet {
     fn answer(&mut self, alloc: Global, call: &str) -> Result<String, Fail> {
         match call.split_once(' ') {
-            None => put(self, call.parse::<u32>()?, None)?,
+            None => put(&mut self.0, call.parse::<u32>()?, None)?,
             Some((port, packet)) => put(
-                self,
+                &mut self.0,
                 port.parse::<u32>()?,
                 Some(packet_of(alloc, packet)?),
             )?,
         }
-        show_set(alloc, self)
+        show_set(alloc, &self.0)
     }
 }
 
 #[test]
 fn sets_hold_a_packet_per_port(rt: HostRuntime) -> Result<(), Fail> {
-    assert_rows(&rt, rt.alloc(), &mut InputSet::new(rt.alloc(), 3)?, puts())
+    let mut set = OneSet(InputSet::new(rt.alloc(), 3)?);
+    assert_rows(rt.alloc(), &mut set, puts())
 }
 
 // A packet and its copy.

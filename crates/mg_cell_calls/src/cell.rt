@@ -11,7 +11,7 @@ ghost use Rattle.mg_cell_calls.specs.Cell.{IsCell, KeepsAll, job_of, held_of};
 use mg_calc::{GivenList, Inputs, Law, OuterShape, Plan, PlanNode, TryClone};
 use mg_node::{Engine, Intake};
 use mg_route::{Builtin, Holder, LawBox};
-use mg_value::are_prefixes;
+use mg_tables::do_fit;
 use std::alloc::Global;
 use std::test::Fail;
 
@@ -23,16 +23,6 @@ pub(crate) struct Cell {
     pub(crate) engine: Engine<LawBox>,
     pub(crate) intake: Intake,
     pub(crate) sink: Intake,
-}
-
-// Whether inputs fit a plan without side packets.
-fn do_fit(plan: &Plan, inputs: &Inputs) -> bool
-    ensures { result ≡ true → InputsFit plan.now inputs.now }
-{
-    plan.sides.is_empty()
-        && inputs.sides.is_empty()
-        && inputs.streams.len() == plan.inputs.len()
-        && are_prefixes(&inputs.streams)
 }
 
 // Whether a calculator of a law may be handed in.

@@ -1,8 +1,8 @@
 //! Cells of built-in calculators: what each call answers, until the node closes.
 use crate::cell::{Cell, cell_of};
-use crate::plans::{inputs_of, plan_of};
 use crate::rows::assert_rows;
 use mg_calc::OuterShape;
+use mg_tables::{inputs_of, plan_of};
 use std::alloc::Global;
 use std::process::Abort;
 use std::test::Fail;

@@ -2,10 +2,10 @@
 ghost use Rattle.mg_check.specs.Check.{IsOuterShape};
 
 use crate::cell::{Cell, cell_of};
-use crate::plans::{inputs_of, plan_of};
 use crate::rows::assert_rows;
 use crate::scripted::scripted;
 use mg_calc::OuterShape;
+use mg_tables::{inputs_of, plan_of};
 use std::alloc::Global;
 use std::process::Abort;
 use std::test::Fail;

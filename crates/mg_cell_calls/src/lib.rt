@@ -14,8 +14,6 @@ mod laying;
 #[cfg(test)]
 mod loops;
 #[cfg(test)]
-mod plans;
-#[cfg(test)]
 mod rows;
 #[cfg(test)]
 mod scripted;

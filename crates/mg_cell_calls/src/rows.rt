@@ -6,17 +6,18 @@
 //!   its number and its phase, or why there is none.
 //! - `commit NUMBER` commits what was performed: how many sets or calls were laid.
 //! - `advance` raises the outputs: whether one moved.
-//! - `take` takes a set of the collector; `laid` tells how many sets or calls were laid; `output NUMBER` how many packets an output has,
-//!   and its bound; `waits PORT` how many packets wait at a port, and `held` how many at all ports and all outputs; `fault` the node's
-//!   fault.
+//! - `take` takes a set of the collector: each packet as its number, `@` and its timestamp.
+//! - `laid` tells how many sets or calls were laid; `output NUMBER` how many packets an output has, and its bound; `waits PORT` how many
+//!   packets wait at a port, and `held` how many at all ports and all outputs; `fault` the node's fault.
 ghost use Rattle.std.specs.Prelude.{OnOk};
 ghost use Rattle.mg_cell_calls.specs.Cell.{IsCell};
 
 use crate::cell::Cell;
-use crate::shown::{show_delivered, show_fault, show_set, show_time};
+use crate::shown::{show_delivered, show_fault};
 use crate::sink::take_out;
 use crate::streams::{deliver, deliver_out};
 use crate::works::{advance, commit, commit_unrun, shelve_unrun, work};
+use mg_tables::{show_set_at, text_of};
 use std::alloc::Global;
 use std::process::Abort;
 use std::test::Fail;
@@ -26,7 +27,7 @@ fn show_output(alloc: Global, cell: &Cell, output: u32) -> Result<String, Fail> 
     if output >= cell.engine.outputs() {
         return Err(Fail::from("no such output"));
     }
-    let bound = show_time(alloc, cell.engine.bound(output))?;
+    let bound = text_of(alloc, cell.engine.bound(output))?;
     let count = cell.engine.count(output);
     Ok(format!(in alloc; "{count} {}", bound.as_str())?)
 }
@@ -84,7 +85,7 @@ fn taken(alloc: Global, cell: &mut Cell) -> Result<String, Fail>
     ensures { OnOk result (IsCell cell.new.plan cell.new.inputs cell.new.engine cell.new.intake cell.new.sink) }
 {
     match take_out(alloc, cell)? {
-        Some(set) => show_set(alloc, &set),
+        Some(set) => show_set_at(alloc, &set),
         None => Ok(String::from_str(alloc, "nothing")?),
     }
 }

@@ -1,41 +1,10 @@
-//! How what a cell answers is written in tables: a packet as its number, `@` and its timestamp.
+//! How what a cell answers is written in tables.
 use crate::works::Idle;
 use mg_calc::{NodeFault, Phase};
 use mg_node::Delivered;
-use mg_time::Timestamp;
-use mg_value::{InputSet, Payload};
+use mg_tables::text_of;
 use std::alloc::Global;
 use std::test::Fail;
-
-/// The text of a timestamp.
-pub(crate) fn show_time(alloc: Global, time: Timestamp) -> Result<String, Fail> {
-    Ok(String::from_utf8(time.print_text(alloc)?)?)
-}
-
-/// The packets at the ports of a set.
-pub(crate) fn show_set(alloc: Global, set: &InputSet) -> Result<String, Fail> {
-    let mut shown = String::new(alloc);
-    for port in 0..set.len() {
-        if port > 0 {
-            shown.push_str(" ")?;
-        }
-        match set.get(port) {
-            None => shown.push_str("-")?,
-            Some(packet) => {
-                let at = show_time(alloc, packet.at)?;
-                write!(shown, "{}@{}", number_of(&packet.payload), at.as_str())?;
-            }
-        }
-    }
-    Ok(shown)
-}
-
-fn number_of(payload: &Payload) -> i64 {
-    match payload {
-        Payload::Int(number) => *number,
-        _ => i64::MIN,
-    }
-}
 
 /// What a delivery moved.
 pub(crate) fn show_delivered(alloc: Global, delivered: Delivered) -> Result<String, Fail> {
@@ -62,7 +31,7 @@ fn show_phase(alloc: Global, phase: Phase) -> Result<String, Fail> {
         Phase::Open => Ok(String::from_str(alloc, "open")?),
         Phase::Call(_) => Ok(String::from_str(alloc, "call")?),
         Phase::Process(at) => {
-            let at = show_time(alloc, at)?;
+            let at = text_of(alloc, at)?;
             Ok(format!(in alloc; "at {}", at.as_str())?)
         }
         Phase::Close => Ok(String::from_str(alloc, "close")?),

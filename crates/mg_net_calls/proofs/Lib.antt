@@ -1,1 +1,4 @@
 pub mod Driving
+pub mod Handing
+pub mod Growing
+pub mod PiecesBehind

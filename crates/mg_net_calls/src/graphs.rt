@@ -1,4 +1,11 @@
-//! The graphs that are tried.
+//! The graphs that are tried, and packet lines for several of them.
+use std::alloc::Global;
+use std::test::Fail;
+
+/// A graph with a limit of its queues, below 0 with none.
+pub(crate) fn limited(alloc: Global, limit: i32, graph: &str) -> Result<String, Fail> {
+    Ok(format!(in alloc; "max_queue_size: {limit} {graph}")?)
+}
 
 /// One packet goes through.
 pub(crate) fn passing() -> &'static str {
@@ -37,9 +44,9 @@ node { calculator: "IntFilterCalculator" input_stream: "sum" output_stream: "kep
   options { [mediapipe.IntFilterCalculatorOptions.ext] { keep: EVEN } } }"#
 }
 
-/// A source whose packets wait for a filter that lets none through, in queues of one packet.
+/// A source whose packets wait for a filter that lets none through.
 pub(crate) fn throttling() -> &'static str {
-    r#"max_queue_size: 1 output_stream: "out"
+    r#"output_stream: "out"
 node { calculator: "CountingSourceCalculator" output_stream: "n"
   node_options: { [type.googleapis.com/mediapipe.CountingSourceCalculatorOptions] { count: 3 } } }
 node { calculator: "IntFilterCalculator" input_stream: "n" output_stream: "f"
@@ -52,4 +59,20 @@ pub(crate) fn adding() -> &'static str {
     r#"input_stream: "in" output_stream: "out"
 node { calculator: "IntMapCalculator" input_stream: "in" output_stream: "out" max_in_flight: 4
   options { [mediapipe.IntMapCalculatorOptions.ext] { op: ADD operand: 10 } } }"#
+}
+
+/// Two calculators of one kind are handed in: they count all packets, and the even ones.
+pub(crate) fn counting() -> &'static str {
+    r#"input_stream: "in" output_stream: "all" output_stream: "some"
+node { calculator: "TallyCalculator" input_stream: "in" output_stream: "all" }
+node { calculator: "IntFilterCalculator" input_stream: "in" output_stream: "even"
+  options { [mediapipe.IntFilterCalculatorOptions.ext] { keep: EVEN } } }
+node { calculator: "TallyCalculator" input_stream: "even" output_stream: "some" }"#
+}
+
+/// Three packets on one stream.
+pub(crate) fn one_two_three() -> &'static str {
+    r#"{"stream":"in","ts":10,"value":1}
+{"stream":"in","ts":20,"value":2}
+{"stream":"in","ts":30,"value":3}"#
 }

@@ -1,28 +1,38 @@
 //! Plans of graphs that are written as texts, and inputs that are written as packet lines.
-ghost use Rattle.std.specs.Prelude.{◌≡◌, [], IfOk, true};
+ghost use Rattle.std.specs.Prelude.{◌≡◌, ◌≤◌, length, IfOk, true};
 ghost use Rattle.mg_calc.specs.Plan.{IsValid, InputsFit, OutersFit};
+ghost use Rattle.mg_net_calls.specs.Handed.{two_outers};
 
-use mg_calc::{Inputs, OuterShape, Plan};
+use crate::boxes::outers;
+use mg_calc::{Inputs, Plan};
 use mg_check::check;
-use mg_config::read;
+use mg_config::{GraphConfig, read};
 use mg_feed::Feed;
 use mg_text::parse;
 use mg_value::are_prefixes;
 use std::alloc::Global;
 use std::test::Fail;
 
-/// The plan of a graph of built-in calculators.
-pub(crate) fn plan_of(alloc: Global, text: &str) -> Result<Plan, Fail>
-    ensures valid { IfOk result IsValid }
-    ensures none { IfOk result (λ plan. OutersFit plan []) }
+// The graph of a text.
+fn graph_of(alloc: Global, text: &str) -> Result<GraphConfig, Fail>
+    ensures { IfOk result (λ graph. length graph.nodes ≤ 4096) }
 {
     let tree = parse(alloc, text.as_bytes())?;
     let graph = read(alloc, &tree)?;
     if graph.nodes.len() > 4096 {
         return Err(Fail::from("too many nodes"));
     }
-    let outers: &[OuterShape] = &[];
-    Ok(check(alloc, &graph, outers)?)
+    Ok(graph)
+}
+
+/// The plan of a graph, for which two calculators are handed in.
+pub(crate) fn plan_of(alloc: Global, text: &str) -> Result<Plan, Fail>
+    ensures valid { IfOk result IsValid }
+    ensures fit { IfOk result (λ plan. OutersFit plan two_outers) }
+{
+    let graph = graph_of(alloc, text)?;
+    let outers = outers(alloc)?;
+    Ok(check(alloc, &graph, outers.as_slice())?)
 }
 
 /// What is handed to a graph by some packet lines. No packet comes after them.

@@ -1,7 +1,16 @@
-//! How the graph's outputs are written in tables: a packet as its number, `@` and its timestamp.
-use mg_value::{InputSet, Payload};
+//! How what a net gives and tells is written in tables: a packet as its number, `@` and its timestamp.
+use mg_calc::{Calculator, Call, CallList, NodeFault, Phase};
+use mg_route::LawBox;
+use mg_sched::{Report, StreamEnd};
+use mg_time::Timestamp;
+use mg_value::{InputSet, Packet, Payload};
 use std::alloc::Global;
 use std::test::Fail;
+
+// The text of a timestamp.
+fn show_time(alloc: Global, time: Timestamp) -> Result<String, Fail> {
+    Ok(String::from_utf8(time.print_text(alloc)?)?)
+}
 
 /// The packets of a set, with blanks between them. An output without a packet shows as `-`.
 pub(crate) fn show_set(alloc: Global, set: &InputSet) -> Result<String, Fail> {
@@ -12,11 +21,24 @@ pub(crate) fn show_set(alloc: Global, set: &InputSet) -> Result<String, Fail> {
         }
         match set.get(port) {
             None => shown.push_str("-")?,
-            Some(packet) => {
-                let at = String::from_utf8(packet.at.print_text(alloc)?)?;
-                write!(shown, "{}@{}", number_of(&packet.payload), at.as_str())?;
-            }
+            Some(packet) => put_packet(alloc, &mut shown, packet)?,
         }
+    }
+    Ok(shown)
+}
+
+fn put_packet(alloc: Global, shown: &mut String, packet: &Packet) -> Result<(), Fail> {
+    let at = show_time(alloc, packet.at)?;
+    write!(shown, "{}@{}", number_of(&packet.payload), at.as_str())?;
+    Ok(())
+}
+
+/// Packets, a blank behind each.
+pub(crate) fn show_packets(alloc: Global, packets: &[Packet]) -> Result<String, Fail> {
+    let mut shown = String::new(alloc);
+    for packet in packets {
+        put_packet(alloc, &mut shown, packet)?;
+        shown.push_str(" ")?;
     }
     Ok(shown)
 }
@@ -26,4 +48,91 @@ fn number_of(payload: &Payload) -> i64 {
         Payload::Int(number) => *number,
         _ => i64::MIN,
     }
+}
+
+// Numbers, a blank behind each.
+fn show_numbers(alloc: Global, numbers: &[u64]) -> Result<String, Fail> {
+    let mut shown = String::new(alloc);
+    for number in numbers {
+        write!(shown, "{number} ")?;
+    }
+    Ok(shown)
+}
+
+// How many packets each stream has, `@` and its bound, a blank behind each.
+fn show_ends(alloc: Global, ends: &[StreamEnd]) -> Result<String, Fail> {
+    let mut shown = String::new(alloc);
+    for end in ends {
+        let bound = show_time(alloc, end.bound)?;
+        write!(shown, "{}@{} ", end.packets, bound.as_str())?;
+    }
+    Ok(shown)
+}
+
+// A phase, with the time of its set.
+fn show_phase(alloc: Global, phase: Phase) -> Result<String, Fail> {
+    match phase {
+        Phase::Open => Ok(String::from_str(alloc, "open")?),
+        Phase::Call(number) => Ok(format!(in alloc; "call {number}")?),
+        Phase::Process(at) => {
+            let at = show_time(alloc, at)?;
+            Ok(format!(in alloc; "at {}", at.as_str())?)
+        }
+        Phase::Close => Ok(String::from_str(alloc, "close")?),
+    }
+}
+
+// Faults, each behind a blank: the node, when it failed, and why.
+fn show_faults(alloc: Global, faults: &[NodeFault]) -> Result<String, Fail> {
+    let mut shown = String::new(alloc);
+    for fault in faults {
+        let phase = show_phase(alloc, fault.phase)?;
+        write!(
+            shown,
+            " {} {} {:?}",
+            fault.node,
+            phase.as_str(),
+            fault.cause
+        )?;
+    }
+    Ok(shown)
+}
+
+/// A report: of each node how many sets were laid; of each stream how many packets it has, `@` and its bound; and the faults.
+pub(crate) fn show_report(alloc: Global, report: &Report) -> Result<String, Fail> {
+    let sets = show_numbers(alloc, report.sets.as_slice())?;
+    let streams = show_ends(alloc, report.streams.as_slice())?;
+    let faults = show_faults(alloc, report.faults.as_slice())?;
+    Ok(format!(in alloc;
+        "{}; {};{}",
+        sets.as_str(),
+        streams.as_str(),
+        faults.as_str()
+    )?)
+}
+
+// The calls that a calculator had, each behind a blank: a set by its time.
+fn show_calls(alloc: Global, calls: &CallList) -> Result<String, Fail> {
+    let mut shown = String::new(alloc);
+    for call in calls.as_slice() {
+        match call {
+            Call::Begun => shown.push_str(" begun")?,
+            Call::Finished => shown.push_str(" finished")?,
+            Call::Shown { at, .. } => {
+                let at = show_time(alloc, *at)?;
+                write!(shown, " {}", at.as_str())?;
+            }
+        }
+    }
+    Ok(shown)
+}
+
+/// The calls of calculators, `;` behind those of each.
+pub(crate) fn show_boxes(alloc: Global, boxes: &[LawBox]) -> Result<String, Fail> {
+    let mut shown = String::new(alloc);
+    for calculator in boxes {
+        let calls = show_calls(alloc, calculator.log())?;
+        write!(shown, "{};", calls.as_str())?;
+    }
+    Ok(shown)
 }

@@ -20,7 +20,7 @@ climbs_long : {X : Type 0} (a b : ℕ) (ps : List (Stamped X)) → Climbs a ps b
 climbs_long a b [] h = omega (arith, h)
 climbs_long a b (p ∷ ps) h = (let rest = climbs_long (p.at + 1) b ps h.1 in let first = h.0 in omega (arith, rest, first))
 
-prefix_few : {X : Type 0} (s : StreamPrefix X) → IsPrefix s → length s.packets + pre_stream ≤ done
+pub prefix_few : {X : Type 0} (s : StreamPrefix X) → IsPrefix s → length s.packets + pre_stream ≤ done
 prefix_few {X} s h =
     let allowed = recursion_from_All (λ (p : Stamped X). IsAllowed p.at) s.packets h.allowed in
     let long = climbs_long pre_stream s.bound s.packets (Ascends-climbs pre_stream s.bound s.packets allowed h.ascends (starts s.packets allowed)) in

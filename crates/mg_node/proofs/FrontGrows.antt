@@ -1,6 +1,7 @@
 -- The standing of an engine only grows where what is ready at the front of its window is laid.
 use Rattle.std.proofs.Common.{◌≡◌, ℕ, ℤ, ◌+◌, ◌≤◌, ◌||◌, Bool, true, false, List, [], ◌∷◌, length, length-append, map, Option, Some, None, inl, inr, Result, Ok, Err, IfOk, OnErr, refl, ap, sym, subst, ◌∙◌, arith, if◌then◌else◌}
 use Rattle.std.specs.List.{AllZip, AllByRecursion}
+use Rattle.std.proofs.lemmas.List.{length-map}
 use Rattle.mg_time.specs.Time.{done}
 use Rattle.mg_value.specs.Payload.{Plain}
 use Rattle.mg_value.specs.Prefix.{StreamPrefix, IsPrefix, closed}
@@ -164,3 +165,12 @@ begin_grows node number told sides before mid laid now n un m lays is =
     let grown = front_grows mid laid n mid.window w.whole lays.counted w.stand (lays.front w.whole w.stand) in
     engine_further before mid now (opening_grows node number told sides before mid un m)
     (subst (λ (v : EngineView). EngineGrows mid v) (sym is) (engine_further mid laid (with_begun laid) grown (begun_grows laid)))
+
+-- In words of a commit alone.
+
+pub commits_grow : (outcome : OutcomeView) (laid : ℕ) (before now : EngineView) → SomeJobHasEngine before → Commits outcome laid before now → EngineGrows before now
+commits_grow outcome laid before now some c = commit_grows {E = Unit {0}} outcome (Ok laid) before now some c tt
+
+pub commits_outputs : (outcome : OutcomeView) (laid : ℕ) (before now : EngineView) → Commits outcome laid before now → length now.outputs ≡ length before.outputs
+commits_outputs outcome laid before now c =
+    sym (length-map now.outputs (λ (b : Backlog Plain). b.gone)) ∙ ap length c.given_up ∙ length-map before.outputs (λ (b : Backlog Plain). b.gone)

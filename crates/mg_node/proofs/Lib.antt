@@ -68,5 +68,7 @@ pub mod Extending
 pub mod FewWait
 pub mod Frames
 pub mod StaysOut
+pub mod SmallNumbers
+pub mod FirstShelf
 pub mod LaidAndCame
 pub mod RestingCounts

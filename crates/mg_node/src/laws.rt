@@ -1,22 +1,26 @@
 //! Laws of the definitions: each function does nothing, and its contract is the law.
-ghost use Rattle.std.specs.Prelude.{◌≡◌, ◌<◌, ◌+◌, ◌^◌, ℕ, Option, Some, None, true, false, is_some, List, [], ◌∷◌, All, min, length, slice_get, slice_index_or};
+ghost use Rattle.std.specs.Prelude.{◌≡◌, ◌≤◌, ◌<◌, ◌+◌, ◌^◌, ℕ, Option, Some, None, true, false, is_some, List, [], ◌∷◌, All, min, length, slice_get, slice_index_or};
+ghost use Rattle.mg_time.specs.Time.{done};
 ghost use Rattle.mg_value.specs.Payload.{Plain};
 ghost use Rattle.mg_value.specs.Prefix.{StreamPrefix, IsPrefix, empty_prefix};
 ghost use Rattle.mg_value.specs.Extension.{AreExtendedBy};
 ghost use Rattle.mg_value.specs.Settled.{settled_sets, reach};
 ghost use Rattle.mg_value.specs.declared.policy.Policy.{Policy};
+ghost use Rattle.mg_stream.specs.Queue.{count_of as counted};
 ghost use Rattle.mg_calc.specs.declared.plan_node.PlanNode.{PlanNode};
 ghost use Rattle.mg_calc.specs.Equations.{sides_of, inputs_of, outcome_of as becomes};
 ghost use Rattle.mg_calc.specs.Meaning.{count_of, fault_of};
 ghost use Rattle.mg_node.specs.Ports.{ports_in, port_queue, next_time, first_waiting};
 ghost use Rattle.mg_node.specs.Views.{IntakeView, WorkView, PerformedView, OutcomeView, EngineView};
 ghost use Rattle.mg_node.specs.Job.{LoggedJob, Solves, ports_of, streams_at};
-ghost use Rattle.mg_node.specs.Lawful.{of_node, of_input, StandForAll, LawfulEngine, LawfulIntake, LawfulWork, LawfulPerformed, LawfulOutcome, Agree};
+ghost use Rattle.mg_node.specs.Lawful.{Owner, of_node, of_input, StandForAll, LawfulEngine, LawfulIntake, LawfulWork, LawfulPerformed, LawfulOutcome, Agree};
 ghost use Rattle.mg_node.specs.Begun.{LawfulUnbegun, SomeUnbegun};
 ghost use Rattle.mg_node.specs.Known.{IsKnown, IsKnownInput};
 ghost use Rattle.mg_node.specs.Leaving.{NoneOut, HasCalculator, HasHanded};
 ghost use Rattle.mg_node.specs.Batches.{Grows};
 ghost use Rattle.mg_node.specs.IntakeStanding.{Stays};
+ghost use Rattle.mg_node.specs.Standing.{EngineGrows};
+ghost use Rattle.mg_node.specs.Commits.{SomeJobHasEngine, Commits};
 ghost use Rattle.mg_node.specs.Claims.{first_unrun, TakesAnswer};
 ghost use Rattle.mg_node.specs.Windows.{has_ended, starts_ready};
 ghost use Rattle.mg_node.specs.Resting.{IsResting, HasCome, HasCarried};
@@ -97,6 +101,26 @@ pub fn ports_are_known()
 pub fn few_wait()
     ensures { (job : LoggedJob) (consumer port : ℕ) (intake : IntakeView) → LawfulIntake job consumer intake
         → length (port_queue intake.waits port).packets + 1 < 2 ^ 64 }
+{}
+
+/// Counts fit in 64 bits, and bounds are times.
+pub fn numbers_are_small()
+    ensures claimed { (job : LoggedJob) (owner : Owner) (engine : EngineView) → LawfulEngine job owner engine → engine.claimed < 2 ^ 64 }
+    ensures bounds { (job : LoggedJob) (owner : Owner) (engine : EngineView) → LawfulEngine job owner engine → All (λ b. b.bound ≤ done) engine.outputs }
+    ensures counts { (job : LoggedJob) (consumer port : ℕ) (intake : IntakeView) → LawfulIntake job consumer intake → counted (port_queue intake.waits port) < 2 ^ 64 }
+    ensures port_bounds { (job : LoggedJob) (consumer port : ℕ) (intake : IntakeView) → LawfulIntake job consumer intake → (port_queue intake.waits port).bound ≤ done }
+{}
+
+/// No more sets, calls or answers are claimed of a node than the solution counts, and those that may be in flight beyond.
+pub fn claims_are_counted()
+    ensures { (job : LoggedJob) (number : ℕ) (node : PlanNode) (engine : EngineView) (solution : List (StreamPrefix Plain)) → Solves job solution
+        → slice_get job.job.plan.nodes number ≡ Some node → LawfulEngine job (of_node number) engine → engine.claimed ≤ count_of job.job solution node + node.in_flight }
+{}
+
+/// A commit leaves as many outputs as before, and none of them falls.
+pub fn outputs_only_rise()
+    ensures grows { (outcome : OutcomeView) (laid : ℕ) (before now : EngineView) → SomeJobHasEngine before → Commits outcome laid before now → EngineGrows before now }
+    ensures same { (outcome : OutcomeView) (laid : ℕ) (before now : EngineView) → Commits outcome laid before now → length now.outputs ≡ length before.outputs }
 {}
 
 /// An answer of a loopback leaves as many packets counted at both ports as before, and the same bounds.

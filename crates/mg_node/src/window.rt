@@ -1,5 +1,5 @@
 //! The works of an engine that were claimed and aren't laid.
-ghost use Rattle.std.specs.Prelude.{◌≡◌, ◌<◌, length, slice_get, slice_set, Some, None, [], true, false, is_some, option_and_then, IsSomeAnd};
+ghost use Rattle.std.specs.Prelude.{◌≡◌, ℕ, ◌<◌, length, slice_get, slice_set, Some, None, [], true, false, is_some, option_and_then, IsSome, IsSomeAnd, IfSome, IfNone};
 ghost use Rattle.std.specs.VecDeque.{deque_len, deque_capacity};
 ghost use Rattle.mg_node.specs.Claims.{first_unrun as first_unrun_from, HandsOut};
 ghost use Rattle.mg_node.specs.Shelves.{back, shelf_of, Taken};
@@ -117,4 +117,18 @@ pub(crate) fn take_shelf<C: Calculator>(
         return None;
     }
     Some(window[place].take_shelf())
+}
+
+/// The place of the first entry whose work stands there as performed and not committed.
+pub(crate) fn first_shelf<C: Calculator>(window: &VecDeque<Entry<C>>) -> Option<usize>
+    ensures within { IfSome result (λ place. place < length window.now.items) }
+    ensures some { IfSome result (λ place. IsSome (option_and_then shelf_of (slice_get window.now.items place))) }
+    ensures none { IfNone result ((place : ℕ) → option_and_then shelf_of (slice_get window.now.items place) ≡ None) }
+{
+    for place in 0..window.len() {
+        if window[place].is_shelf() {
+            return Some(place);
+        }
+    }
+    None
 }

@@ -1,4 +1,4 @@
-ghost use Rattle.std.specs.Prelude.{◌≡◌, ◌≢◌, ℕ, ◌^◌, ◌<◌, All, AllPairs, Contains, length, replicate, IfOk, IfSome, IfNone};
+ghost use Rattle.std.specs.Prelude.{◌≡◌, ◌≢◌, ℕ, ◌^◌, ◌<◌, All, AllPairs, Contains, count_by, length, replicate, IfOk, IfSome, IfNone};
 ghost use Rattle.mg_ready.specs.Ready.{none_ready, IsIn, IsEmpty, IsHighest, ChangesOnly};
 ghost use Rattle.mg_ready.specs.Code.Inside.{IsTable};
 
@@ -96,6 +96,7 @@ impl Ready {
         ensures highest { IfSome result (λ node. IsHighest self.old node) }
         ensures taken { IfSome result (λ node. ¬ IsIn self.new node) }
         ensures only { IfSome result (λ node. ChangesOnly self.old self.new node) }
+        ensures fewer { IfSome result (λ _. count_by (λ b. b) self.new.is_in < count_by (λ b. b) self.old.is_in) }
     {
         let place = self.places.last()?;
         self.places.remove(place);

@@ -22,10 +22,10 @@ use Rattle.mg_sched.proofs.Finding.{cell_at, found, valid, places, of_plan}
 use Rattle.mg_sched.proofs.PlanEdges.{edge_ends, edge_place, edge_stream, first_edge_next, first_edge_within, ports_of_node}
 use Rattle.mg_sched.proofs.PlanStreams.{WrittenBy, producer_there, number_of}
 
--- the intake of a consumer
-pub intake_lawful : (job : LoggedJob) (net : NetView) (consumer : ℕ) (intake : IntakeView) → StandsFor job net → IsRunning net → consumer ≤ length net.plan.nodes → slice_get net.intakes consumer ≡ Some intake → LawfulIntake job consumer intake
+-- the intake of a consumer, whether or not its node is begun
+pub intake_of : (job : LoggedJob) (net : NetView) (consumer : ℕ) (intake : IntakeView) → StandsFor job net → consumer ≤ length net.plan.nodes → slice_get net.intakes consumer ≡ Some intake → LawfulIntake job consumer intake
 unfolding StandsFor
-intake_lawful job net consumer intake h running upto to = by_case (nat_lt consumer (length net.plan.nodes)) refl
+intake_of job net consumer intake h upto to = by_case (nat_lt consumer (length net.plan.nodes)) refl
   where
     by_case : (b : Bool) → nat_lt consumer (length net.plan.nodes) ≡ b → LawfulIntake job consumer intake
     by_case true is =
@@ -33,10 +33,14 @@ intake_lawful job net consumer intake h running upto to = by_case (nat_lt consum
         let engines = h.engines in let desks = h.desks in
         let e = found net.engines consumer (omega (arith, less, engines)) in
         let d = found net.desks consumer (omega (arith, less, desks)) in
-        (cell_at job net consumer e.0 intake d.0 h running less e.1 to d.1).lawful_intake
+        (h.cells consumer e.0 intake d.0 e.1 to d.1).lawful_intake
     by_case false is =
         let same : consumer ≡ length net.plan.nodes = grind (arith, nat_tests, is, upto) in
         subst (λ (n : ℕ). LawfulIntake job n intake) (sym same) (h.collector intake (subst (λ (n : ℕ). slice_get net.intakes n ≡ Some intake) same to))
+
+-- and of a net that runs
+pub intake_lawful : (job : LoggedJob) (net : NetView) (consumer : ℕ) (intake : IntakeView) → StandsFor job net → IsRunning net → consumer ≤ length net.plan.nodes → slice_get net.intakes consumer ≡ Some intake → LawfulIntake job consumer intake
+intake_lawful job net consumer intake h running upto to = intake_of job net consumer intake h upto to
 
 -- the engine that writes an edge's stream
 pub record WritesIt (job : LoggedJob) (e : Edge) (engine : EngineView) : Type 0 where
@@ -147,3 +151,6 @@ ports_fit net node intake h less lawful =
     let is = ap length (ports_of_node net.plan node at.0 at.1) in
     let long = queues_long net h in
     omega (arith, next, within, ports, same, is, long)
+
+pub all_ports_fit : (net : NetView) (node : ℕ) (intake : IntakeView) → StandsForSome net → node < length net.plan.nodes → slice_get net.intakes node ≡ Some intake → first_edge net.plan node + ports_in intake.waits ≤ length net.limits.queues
+all_ports_fit net node intake h there at = ports_fit net node intake h there (intake_of h.job net node intake h.stands (omega (arith, there)) at)

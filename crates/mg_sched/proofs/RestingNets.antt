@@ -58,7 +58,7 @@ nodes_extended out streams (node ∷ nodes) each =
     joined_extended (out node) (flat_map out nodes) streams node.outputs (flat_map (λ x. x.outputs) nodes) (each 0 node refl) (nodes_extended out streams nodes (λ n x there. each (suc n) x there))
 
 -- all streams, in the order of those that are written
-in_order : (plan : Plan) (streams : List (StreamPrefix Plain)) → IsValid plan → length streams ≡ length plan.streams → streams_at streams (written_streams plan) ≡ streams
+pub in_order : (plan : Plan) (streams : List (StreamPrefix Plain)) → IsValid plan → length streams ≡ length plan.streams → streams_at streams (written_streams plan) ≡ streams
 in_order plan streams ok long =
     ap (streams_at streams) (ok.streams ∙ ap (λ (n : ℕ). range_with_len 0 n) (sym long))
     ∙ ext_get_or empty_prefix (streams_at streams (range_with_len 0 (length streams))) streams many (λ i within.

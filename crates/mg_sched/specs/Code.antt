@@ -5,3 +5,5 @@ pub mod Cells
 pub mod Made
 pub mod Longer
 pub mod Outputs
+pub mod Agendas
+pub mod Left

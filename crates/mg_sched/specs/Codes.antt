@@ -1,4 +1,4 @@
--- How the logic stores a desk and a net.
+-- How the logic stores a desk, an agenda and a net.
 use Rattle.std.specs.Prelude.{ℕ, Bool, List, Option, refl}
 use Rattle.std.specs.Coded.{Coded, code_by, coded×, coded_ℕ, coded_bool, coded_list, coded_option}
 use Rattle.mg_value.specs.Payload.{Plain}
@@ -12,9 +12,14 @@ use Rattle.mg_throttle.specs.declared.queue.Queue.{Queue}
 use Rattle.mg_throttle.specs.contracts.queue.Queue as queue
 use Rattle.mg_throttle.specs.Throttle.{QueueLimits}
 use Rattle.mg_sched.specs.Views.{DeskView, NetView}
+use Rattle.mg_sched.specs.Code.Agendas.{AgendaView}
 
 abbrev pub desk_code : Coded DeskView
 desk_code = code_by (ℕ × List WorkView) (coded× coded_ℕ (coded_list work_code)) (λ d. (d.room, d.works)) (λ p. record { room = p.0; works = p.1 }) (λ _. refl)
+
+abbrev pub agenda_code : Coded AgendaView
+agenda_code =
+    code_by (ℕ × (ℕ × ℕ)) (coded× coded_ℕ (coded× coded_ℕ coded_ℕ)) (λ a. (a.places, (a.edges, a.waiting))) (λ p. record { places = p.0; edges = p.1.0; waiting = p.1.1 }) (λ _. refl)
 
 abbrev pub limits_code : Coded QueueLimits
 limits_code =

@@ -11,6 +11,7 @@ pub mod Trims
 pub mod GivesBack
 pub mod WindsUp
 pub mod AtRest
+pub mod Sweeps
 -- What the prover wants of the types beside their meaning. No meaning rests on it.
 pub mod Codes
 pub mod Code

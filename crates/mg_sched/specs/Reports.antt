@@ -2,6 +2,7 @@
 use Rattle.std.specs.Prelude.{ℕ, ◌+◌, List, ◌++◌, length, map, take, drop, sum_by}
 use Rattle.std.specs.List.{flat_map, filter_map}
 use Rattle.mg_value.specs.Payload.{Plain}
+use Rattle.mg_value.specs.Prefix.{StreamPrefix}
 use Rattle.mg_stream.specs.Pool.{Backlog}
 use Rattle.mg_node.specs.Views.{EngineView}
 use Rattle.mg_node.specs.Outputs.{kept_in}
@@ -37,3 +38,11 @@ report_of net = record {
   streams = flat_map ends_of (input_engines net) ++ flat_map ends_of (node_engines net);
   faults = filter_map (λ e. e.fault) (node_engines net);
 }
+
+-- how many sets, calls or answers the nodes have claimed, all together
+abbrev pub claimed_in : NetView → ℕ
+claimed_in net = sum_by (λ e. e.claimed) (node_engines net)
+
+-- how far a whole stream has come
+abbrev pub stream_end : StreamPrefix Plain → StreamEnd
+stream_end s = record { packets = length s.packets; bound = s.bound }

@@ -1,10 +1,13 @@
 -- What leaves a net: sets of the graph's outputs, which its collector gives.
 use Rattle.std.specs.Prelude.{◌≡◌, ℕ, true, false, Bool, List, length, Option, Some, None, slice_get, option_map, unwrap_or}
 use Rattle.mg_value.specs.Payload.{Plain}
-use Rattle.mg_value.specs.Prefix.{Stamped}
+use Rattle.mg_value.specs.Prefix.{Stamped, StreamPrefix}
+use Rattle.mg_value.specs.Settled.{TimedSet, settled_sets}
+use Rattle.mg_calc.specs.declared.plan.Plan.{Plan}
 use Rattle.mg_node.specs.Views.{IntakeView}
 use Rattle.mg_node.specs.Intakes.{next_set_of}
 use Rattle.mg_node.specs.Claims.{Takes}
+use Rattle.mg_node.specs.Job.{ports_of, policy_of, streams_at}
 use Rattle.mg_sched.specs.Views.{NetView}
 use Rattle.mg_sched.specs.Places.{first_edge, lengths_of, with_intake}
 use Rattle.mg_sched.specs.Acts.{with_noted}
@@ -34,3 +37,7 @@ pub record TakesNothing (before now : NetView) (set set_now : List (Option (Stam
 abbrev pub TakesOut : Bool → List (Option (Stamped Plain)) → List (Option (Stamped Plain)) → NetView → NetView → Type 0
 TakesOut true set set_now before now = TakesNext before now set_now
 TakesOut false set set_now before now = TakesNothing before now set set_now
+
+-- the settled sets of the graph's outputs: those of the streams at the collector's ports, by its policy
+abbrev pub settled_outputs : Plan → List (StreamPrefix Plain) → List (TimedSet Plain)
+settled_outputs plan streams = settled_sets (policy_of plan (length plan.nodes)) (streams_at streams (ports_of plan (length plan.nodes)))

@@ -80,6 +80,15 @@ impl<C: Calculator> Desk<C> {
         self.works.push_reserved(work);
     }
 
+    /// The number of the first work, if there is one.
+    pub(crate) fn first(&self) -> Option<u64>
+        ensures some { IfSome result (λ number. IsSomeAnd (slice_get self.now.works 0) (λ w. w.number ≡ number)) }
+        ensures none { IfNone result (self.now.works ≡ []) }
+    {
+        let work = self.works.first()?;
+        Some(work.number())
+    }
+
     /// Takes the work of a number, and tells the place where it lay.
     pub(crate) fn take(&mut self, number: u64) -> Option<(usize, Work<C>)>
         ensures taken { IfSome result (λ t. TakesFrom number t.0 t.1 self.old self.new) }

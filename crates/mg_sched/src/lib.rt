@@ -2,12 +2,14 @@
 //! Answers to the definitions of `specs/StandsFor.antt` and `specs/Acts.antt`.
 #![tactic(auto)]
 
+mod agenda;
 mod boxes;
 mod desk;
 pub mod laws;
 mod net;
 mod parts;
 mod report;
+mod sources;
 mod tables;
 
 pub use net::Net;

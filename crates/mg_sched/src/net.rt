@@ -6,6 +6,7 @@ mod extending;
 mod leaving;
 mod making;
 mod reporting;
+mod sweeping;
 mod taking;
 mod trimming;
 mod winding;

@@ -1,12 +1,13 @@
 //! How works come back to their window as they are, and leave it.
-ghost use Rattle.std.specs.Prelude.{◌≡◌, ◌<◌, ℕ, IfSome};
+ghost use Rattle.std.specs.Prelude.{◌≡◌, ◌<◌, ℕ, None, IfSome, IfNone, IsSome};
 ghost use Rattle.mg_node.specs.Job.{LoggedJob};
 ghost use Rattle.mg_node.specs.Lawful.{of_node, LawfulEngine, LawfulOutcome, LawfulPerformed};
 ghost use Rattle.mg_node.specs.Standing.{EngineGrows};
+ghost use Rattle.mg_node.specs.Commits.{SomeJobHasEngine};
 ghost use Rattle.mg_node.specs.Shelves.{IsOut, shelved, shelf_at, Unshelves};
 
 use super::Engine;
-use crate::window::{put_back, take_shelf};
+use crate::window::{first_shelf, put_back, take_shelf};
 use crate::{Outcome, Performed};
 use mg_calc::Calculator;
 
@@ -44,6 +45,16 @@ impl<C: Calculator> Engine<C> {
             → LawfulEngine job (of_node owner) self.new × IfSome result (λ p. LawfulPerformed job p) }
     {
         self.take_shelf(number)
+    }
+
+    /// The number of the first work that stands in the window as performed and not committed, if there is one.
+    pub fn shelved(&self) -> Option<u64>
+        requires { SomeJobHasEngine self.now }
+        ensures some { IfSome result (λ number. IsSome (shelf_at self.now number)) }
+        ensures none { IfNone result ((number : ℕ) → shelf_at self.now number ≡ None) }
+    {
+        let place = first_shelf(&self.window)?;
+        Some(self.laid + place as u64)
     }
 
     // Takes it, and tells what that leaves.

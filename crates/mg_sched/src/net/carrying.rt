@@ -7,6 +7,7 @@ ghost use Rattle.mg_sched.specs.StandsFor.{StandsForSome, IsRunning};
 ghost use Rattle.mg_sched.specs.Acts.{effect_of, IsHeld, Brings, DeliversAlong, Advanced, Relaxed};
 
 use super::Net;
+use crate::sources::{producer_of, source_of};
 use mg_calc::{Calculator, Edge, Effect, Producer};
 use mg_node::Delivered;
 
@@ -47,7 +48,7 @@ impl<C: Calculator> Net<C> {
     }
 
     // Whether an edge leads from a graph input that is throttled.
-    fn is_held(&self, edge: Edge) -> bool
+    pub(super) fn is_held(&self, edge: Edge) -> bool
         requires stream { edge.stream < length self.now.plan.streams }
         requires stands { StandsForSome self.now }
         ensures held { result ≡ true → IsHeld self.now edge }
@@ -64,7 +65,7 @@ impl<C: Calculator> Net<C> {
         requires { edge.stream < length self.now.plan.streams }
         ensures { producer_of self.now.plan edge ≡ Some result }
     {
-        self.plan.streams.as_slice()[edge.stream as usize].producer
+        producer_of(&self.plan, edge)
     }
 
     // The place of the engine that writes the stream of an edge.
@@ -72,10 +73,7 @@ impl<C: Calculator> Net<C> {
         requires { edge.stream < length self.now.plan.streams }
         ensures { source_of self.now.plan edge ≡ Some result }
     {
-        match self.producer_of(edge) {
-            Producer::Input(input) => self.plan.nodes.len() as usize + input as usize,
-            Producer::Node { node, .. } => node as usize,
-        }
+        source_of(&self.plan, edge)
     }
 
     // Brings along an edge what its port hasn't got, and tells the limits how many packets wait there.

@@ -67,7 +67,7 @@ impl<C: Calculator> Net<C> {
     }
 
     // Whether a node is a source that is throttled.
-    fn is_held_source(&self, node: u32) -> bool
+    pub(super) fn is_held_source(&self, node: u32) -> bool
         requires there { node < length self.now.plan.nodes }
         requires stands { StandsForSome self.now }
         ensures held { result ≡ true → IsHeldSource self.now node }
@@ -88,7 +88,7 @@ impl<C: Calculator> Net<C> {
     }
 
     // The number of the first edge into a consumer.
-    fn first_edge(&self, place: u32) -> u32
+    pub(super) fn first_edge(&self, place: u32) -> u32
         requires { place ≤ length self.now.plan.nodes }
         ensures { result ≡ first_edge self.now.plan place }
     {

@@ -1,0 +1,2 @@
+pub mod QueueCounts
+pub mod LeftOfMain

@@ -1,0 +1,5 @@
+use Rattle.mg_net_calls.proofs.Driving.{still_driven}
+use Rattle.mg_net_calls.proofs.driver.sweep.Goals as goal
+
+pub returns : goal.returns
+returns c = still_driven c.args.driver.now.plan c.args.driver.now.inputs c.args.driver.now.net _ c.requires c.sweep.ensures.running c.sweep.ensures.stands

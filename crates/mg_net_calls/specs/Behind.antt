@@ -1,0 +1,22 @@
+-- Inputs to which a further piece has come: of each stream what the piece has stands behind what was there.
+use Rattle.std.specs.Prelude.{◌≡◌, ℕ, ◌≤◌, List, length, All, Some, slice_get}
+use Rattle.mg_value.specs.Payload.{Plain}
+use Rattle.mg_value.specs.Prefix.{StreamPrefix, IsPrefix}
+use Rattle.mg_calc.specs.declared.inputs.Inputs.{Inputs}
+use Rattle.mg_node.specs.Extending.{joined}
+
+-- a prefix with a piece behind it, of which no packet stands below its bound
+pub record IsBehind (before piece now : StreamPrefix Plain) : Type 0 where
+  pub whole : now ≡ joined before piece
+  pub above : All (λ p. before.bound ≤ p.at) piece.packets
+
+-- so is one of a number, by the prefixes before it and the pieces
+abbrev pub IsBehindAt : List (StreamPrefix Plain) → List (StreamPrefix Plain) → ℕ → StreamPrefix Plain → Type 0
+IsBehindAt before pieces input now = (s piece : StreamPrefix Plain) → slice_get before input ≡ Some s → slice_get pieces input ≡ Some piece → IsBehind s piece now
+
+pub record HasBehind (before piece now : Inputs) : Type 0 where
+  pub sides : now.sides ≡ before.sides
+  pub pieces : length piece.streams ≡ length before.streams
+  pub count : length now.streams ≡ length before.streams
+  pub each : (input : ℕ) (s : StreamPrefix Plain) → slice_get now.streams input ≡ Some s → IsBehindAt before.streams piece.streams input s
+  pub prefixes : All IsPrefix now.streams

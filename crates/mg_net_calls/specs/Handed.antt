@@ -1,0 +1,32 @@
+-- The calculators that the tests hand in: two of one kind, each with one input of any kind and one output, on which it counts the
+-- sets that it is shown. Each tells its calls.
+use Rattle.std.specs.Prelude.{List, [], ◌∷◌, Some, codes, pos, false}
+use Rattle.mg_value.specs.declared.kind.Kind.TheVariants.{Any, Int}
+use Rattle.mg_calc.specs.declared.law.Law.TheVariants.{Tally}
+use Rattle.mg_calc.specs.declared.shape.Shape.{Shape}
+use Rattle.mg_calc.specs.declared.shape.OuterShape.{OuterShape}
+use Rattle.mg_calc.specs.Shape.{untagged}
+use Rattle.mg_calc.specs.Told.{CalculatorTold}
+
+abbrev pub tally_shape : Shape
+tally_shape = record {
+  name = codes "TallyCalculator";
+  inputs = untagged 1 Any;
+  outputs = untagged 1 Int;
+  sides = [];
+  offset = Some (pos 0);
+  stateless = false;
+}
+
+abbrev pub tally_outer : OuterShape
+tally_outer = record { shape = tally_shape; law = Tally }
+
+-- one that had no call
+abbrev pub new_tally : CalculatorTold
+new_tally = record { law = Tally; shape = tally_shape; state = []; log = Some [] }
+
+abbrev pub two_outers : List OuterShape
+two_outers = tally_outer ∷ tally_outer ∷ []
+
+abbrev pub two_tallies : List CalculatorTold
+two_tallies = new_tally ∷ new_tally ∷ []

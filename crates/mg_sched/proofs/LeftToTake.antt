@@ -1,0 +1,90 @@
+-- What the collector of a net at rest has still to give.
+use Rattle.std.proofs.Common.{◌≡◌, ℕ, zero, suc, ◌+◌, ◌≤◌, List, [], ◌∷◌, length, Option, Some, None, option_map, slice_get, sym, ap, subst, ◌∙◌, arith}
+use Rattle.std.specs.List.{AllZip}
+use Rattle.std.proofs.lemmas.Option.{none-some, slice_get_past}
+use Rattle.mg_value.specs.Payload.{Plain}
+use Rattle.mg_value.specs.Prefix.{StreamPrefix}
+use Rattle.mg_value.specs.Settled.{TimedSet, settled_sets}
+use Rattle.mg_value.specs.declared.policy.Policy.{Policy}
+use Rattle.mg_value.proofs.Lemmas.{all_by_themselves}
+use Rattle.mg_stream.specs.Queue.{Waiting, StandsFor as IsQueueOf}
+use Rattle.mg_stream.specs.Pool.{queues_of}
+use Rattle.mg_policy.specs.Inbox.{next_set, StandAfter}
+use Rattle.mg_policy.proofs.Standing.{what_is_next}
+use Rattle.mg_calc.specs.declared.law.Law.TheVariants.{Loopback}
+use Rattle.mg_calc.specs.declared.plan.Plan.{Plan}
+use Rattle.mg_calc.specs.declared.plan_node.PlanNode.{PlanNode}
+use Rattle.mg_calc.proofs.Solutions.{one_solution}
+use Rattle.mg_node.specs.declared.waits.Waits.{Waits}
+use Rattle.mg_node.specs.declared.waits.Waits.TheVariants.{Sets, Loop}
+use Rattle.mg_node.specs.Views.{IntakeView}
+use Rattle.mg_node.specs.Intakes.{next_set_of}
+use Rattle.mg_node.specs.Job.{LoggedJob, Solves, ports_of, policy_of, law_of, streams_at}
+use Rattle.mg_node.specs.Lawful.{HoldsWaits, LawfulIntake}
+use Rattle.mg_node.specs.Resting.{HasCome}
+use Rattle.mg_node.proofs.Frames.{get_drop}
+use Rattle.mg_node.proofs.RestingStands.{each_stands, all_stood_same}
+use Rattle.mg_sched.specs.Views.{NetView}
+use Rattle.mg_sched.specs.StandsFor.{StandsFor, IsRunning}
+use Rattle.mg_sched.specs.AtRest.{IsAtRest}
+use Rattle.mg_sched.specs.Taking.{collector_of, settled_outputs}
+use Rattle.mg_sched.proofs.RestingNets.{rests_with_inputs}
+
+-- what waits has the sets from a number on
+record HasLeft (k : ℕ) (waits : Waits) (sets : List (TimedSet Plain)) : Type 0 where
+  next : next_set_of waits ≡ slice_get sets k
+  claimed : k ≤ length sets
+
+next_after : (policy : Policy) (k : ℕ) (qs : List (Waiting Plain)) (ss : List (StreamPrefix Plain)) → StandAfter policy k qs ss → next_set policy qs ≡ slice_get (settled_sets policy ss) k
+next_after policy k qs ss h =
+    let none : k + 0 ≡ k = omega arith in
+    ap (λ (es : List (TimedSet Plain)). slice_get es 0) (what_is_next policy k qs ss h) ∙ get_drop k (settled_sets policy ss) 0 ∙ ap (slice_get (settled_sets policy ss)) none
+
+-- so it is where the streams came in whole
+sets_left : (job : LoggedJob) (streams : List (StreamPrefix Plain)) (consumer claimed : ℕ) (waits : Waits) → HoldsWaits job streams consumer claimed waits → ¬ (law_of job.job.plan consumer ≡ Some Loopback)
+    → HasCome (record { claimed = claimed; waits = waits }) (streams_at streams (ports_of job.job.plan consumer)) → HasLeft claimed waits (settled_sets (policy_of job.job.plan consumer) (streams_at streams (ports_of job.job.plan consumer)))
+sets_left job streams consumer claimed (Sets inbox) holds other came =
+    let h = holds.1 in
+    let qs = queues_of inbox.pool in
+    let ss = streams_at streams (ports_of job.job.plan consumer) in
+    let each : AllZip IsQueueOf qs ss = each_stands inbox.pool.spare inbox.pool.ports ss came.ports came.stands in
+    let same : h.came ≡ ss = all_stood_same (λ (q : Waiting Plain). q) qs h.came ss ss h.stands.each each h.extended (all_by_themselves ss) in
+    let stands : StandAfter inbox.policy claimed qs ss = subst (StandAfter inbox.policy claimed qs) same h.stands in
+    subst (λ (p : Policy). HasLeft claimed (Sets inbox) (settled_sets p ss)) h.policy (record { next = next_after inbox.policy claimed qs ss stands; claimed = stands.gone.claimed })
+sets_left job streams consumer claimed (Loop held) holds other came = absurd (other holds.0)
+
+-- the collector is no loopback
+no_loop : (plan : Plan) → law_of plan (length plan.nodes) ≡ Some Loopback → ⊥
+no_loop plan is = none-some Loopback (sym (ap (λ (o : Option PlanNode). option_map (λ n. n.law) o) (slice_get_past plan.nodes (length plan.nodes) (omega arith))) ∙ is)
+
+collector_left : (job : LoggedJob) (net : NetView) (solution : List (StreamPrefix Plain)) (intake : IntakeView) → StandsFor job net → IsRunning net → IsAtRest net → Solves job solution → collector_of net ≡ Some intake
+    → HasLeft intake.claimed intake.waits (settled_outputs net.plan solution)
+unfolding StandsFor LawfulIntake
+collector_left job net solution intake h running rest solves there =
+    let last : ℕ = length net.plan.nodes in
+    let lawful = h.collector intake there in
+    let same : lawful.streams ≡ solution = one_solution job.job lawful.streams solution lawful.solves.solution solves.solution in
+    let holds : HoldsWaits job solution last intake.claimed intake.waits = subst (λ (ss : List (StreamPrefix Plain)). HoldsWaits job ss last intake.claimed intake.waits) same lawful.holds in
+    let came = rests_with_inputs job net solution last intake h running rest solves (omega arith) there in
+    subst (λ (p : Plan). HasLeft intake.claimed intake.waits (settled_sets (policy_of p last) (streams_at solution (ports_of p last)))) (sym h.plan)
+    (sets_left job solution last intake.claimed intake.waits holds
+    (subst (λ (p : Plan). ¬ (law_of p last ≡ Some Loopback)) h.plan (no_loop net.plan))
+    (subst (λ (p : Plan). HasCome intake (streams_at solution (ports_of p last))) h.plan came))
+
+pub left_next : (job : LoggedJob) (net : NetView) (solution : List (StreamPrefix Plain)) (intake : IntakeView) → StandsFor job net → IsRunning net → IsAtRest net → Solves job solution → collector_of net ≡ Some intake
+    → next_set_of intake.waits ≡ slice_get (settled_outputs net.plan solution) intake.claimed
+left_next job net solution intake h running rest solves there = (collector_left job net solution intake h running rest solves there).next
+
+-- where there is no next one, all are claimed
+none_past : {X : Type 0} (xs : List X) (k : ℕ) → slice_get xs k ≡ None → length xs ≤ k
+none_past [] k none = omega arith
+none_past (x ∷ xs) zero none = absurd (none-some x (sym none))
+none_past (x ∷ xs) (suc k) none = (let rest = none_past xs k none in omega (arith, rest))
+
+pub left_all : (job : LoggedJob) (net : NetView) (solution : List (StreamPrefix Plain)) (intake : IntakeView) → StandsFor job net → IsRunning net → IsAtRest net → Solves job solution → collector_of net ≡ Some intake
+    → next_set_of intake.waits ≡ None → intake.claimed ≡ length (settled_outputs net.plan solution)
+left_all job net solution intake h running rest solves there none =
+    let left = collector_left job net solution intake h running rest solves there in
+    let most = left.claimed in
+    let past = none_past (settled_outputs net.plan solution) intake.claimed (sym left.next ∙ none) in
+    omega (arith, most, past)

@@ -1,0 +1,249 @@
+-- The steps of a sweep, one after the other, and what is left once none does anything.
+use Rattle.std.proofs.Common.{◌≡◌, ◌≢◌, ℕ, ◌+◌, ◌<◌, ◌≤◌, ◌-◌, ◌||◌, Bool, true, false, List, [], ◌∷◌, length, All, Option, Some, None, IfSome, IfNone, IfOk, Result, Ok, Err, IsSome, IsSomeAnd, slice_get, ◌⊎◌, inl, inr, refl, sym, subst, ◌∙◌, arith}
+use borrow.Author.Count.{below_more}
+use Rattle.std.proofs.lemmas.Bool.{false≢true}
+use Rattle.std.proofs.lemmas.List.Elements.{All-nil, recursion_from_All}
+use Rattle.std.proofs.lemmas.Option.{same_Some}
+use Rattle.mg_calc.specs.declared.plan.Plan.{Plan}
+use Rattle.mg_calc.specs.declared.event.Event.{Event}
+use Rattle.mg_calc.specs.declared.event.Event.TheVariants.{Deliver, Advance, Claim, Perform, Commit, Relax}
+use Rattle.mg_calc.specs.declared.event.Effect.TheVariants.{Idle}
+use Rattle.mg_node.specs.Views.{WorkView, PerformedView, EngineView}
+use Rattle.mg_node.specs.Shelves.{shelf_at}
+use Rattle.mg_node.specs.Commits.{SomeJobHasEngine}
+use Rattle.mg_sched.specs.Views.{DeskView, NetView}
+use Rattle.mg_sched.specs.StandsFor.{StandsForSome, IsRunning}
+use Rattle.mg_sched.specs.Acts.{Acts, Rests, Performs, Performed, CommittedAt}
+use Rattle.mg_sched.specs.AtRest.{IsAtRest}
+use Rattle.mg_sched.specs.Code.Left.{left_in, Goes, Steps, HasWork, HasNoWork, HasShelf, HasNoShelf, RestsAt, NodesRest, EdgesRest}
+use Rattle.mg_sched.specs.Sweeps.{Becomes}
+use Rattle.mg_sched.specs.Code.Agendas.{AgendaView, IsAgendaOf}
+use Rattle.mg_sched.proofs.Finding.{found, places, cell_at, desk_there, intake_there}
+use Rattle.mg_sched.proofs.Becoming.{becomes_plan}
+
+-- Some steps, and one more.
+
+pub goes_less : (did : Bool) (a b c : NetView) → Goes did a b → left_in c < left_in b → left_in c < left_in a
+goes_less true a b c g less = omega (arith, g, less)
+goes_less false a b c g less = subst (λ (v : NetView). left_in c < left_in v) g less
+
+pub goes_same : (did : Bool) (a b c : NetView) → Goes did a b → c ≡ b → Goes did a c
+goes_same did a b c g same = subst (λ (v : NetView). Goes did a v) (sym same) g
+
+pub goes_then : (one two : Bool) (a b c : NetView) → Goes one a b → Goes two b c → Goes (one || two) a c
+goes_then true true a b c g h = omega (arith, g, h)
+goes_then true false a b c g h = goes_same true a b c g h
+goes_then false true a b c g h = subst (λ (v : NetView). left_in c < left_in v) g h
+goes_then false false a b c g h = h ∙ g
+
+pub steps_go : (did : Bool) (event : Event) (a b : NetView) → Steps did event a b → Goes did a b
+steps_go true event a b s = s
+steps_go false event a b s = s.0
+
+pub still_idle : (event : Event) (a b : NetView) → a ≡ b → Acts event Idle a a → Acts event Idle b b
+still_idle event a b same acts = subst (λ (v : NetView). Acts event Idle v v) same acts
+
+pub steps_none : (event : Event) (a b : NetView) → b ≡ a → Acts event Idle a b → Steps false event a b
+steps_none event a b same acts = (same, subst (λ (v : NetView). Acts event Idle a v) same acts)
+
+-- how many edges may still be gone along, where they come in the order of their numbers
+abbrev pub edges_left : ℕ → Option ℕ → ℕ
+edges_left count None = 0
+edges_left count (Some edge) = count - edge
+
+pub fewer_edges : (count edge : ℕ) (next : Option ℕ) → edge < count → IfSome next (λ e. (edge < e) × (e < count)) → edges_left count next < count - edge
+fewer_edges count edge None within h = omega (arith, within)
+fewer_edges count edge (Some e) within h = (let above = h.0 in omega (arith, within, above))
+
+-- Nodes that have nothing to do.
+
+-- a work that is there is performed
+other_works : (number : ℕ) (works : List WorkView) → IsSomeAnd (slice_get works 0) (λ w. w.number ≡ number) → All (λ (w : WorkView). w.number ≢ number) works → ⊥
+other_works number [] there none = absurd there
+other_works number (w ∷ works) there none = (recursion_from_All (λ (x : WorkView). x.number ≢ number) (w ∷ works) none).0 there
+
+due_works : (number : ℕ) (net : NetView) (node : ℕ) → HasWork net node number → Performed node number Idle net net → ⊥
+due_works number net node there p = go p.performed
+  where
+    go : (All (λ (w : WorkView). w.number ≢ number) p.desk.works × Rests Idle net net) ⊎ Performs node number Idle p.desk net net → ⊥
+    go (inl none) = other_works number p.desk.works (there p.desk p.on) none.0
+    go (inr performs) = performs.performed
+
+pub performs_less : (did : Bool) (node number : ℕ) (a b : NetView) → HasWork a node number → Steps did (Perform node number) a b → left_in b < left_in a
+performs_less true node number a b there s = s
+performs_less false node number a b there s = absurd (due_works number a node there s.1)
+
+-- and one that is performed is committed
+due_shelf : (node number : ℕ) (engine : EngineView) (net : NetView) (shelf : Option PerformedView) → IsSome shelf → CommittedAt node number shelf Idle engine net net → ⊥
+due_shelf node number engine net None some c = false≢true some
+due_shelf node number engine net (Some p) some c = c
+
+pub commits_less : (did : Bool) (node number : ℕ) (a b : NetView) → HasShelf a node number → Steps did (Commit node number) a b → left_in b < left_in a
+commits_less true node number a b there s = s
+commits_less false node number a b there s = (let c = s.1 in absurd (due_shelf node number c.engine a (shelf_at c.engine number) (there c.engine c.at) c.committed))
+
+pub works_rest : (node : ℕ) (claimed performed committed raised : Bool) (a b c d e : NetView)
+    → Steps claimed (Claim node) a b → Goes performed b c → (performed ≡ false → HasNoWork c node) → Goes committed c d → (committed ≡ false → HasNoShelf d node)
+    → Steps raised (Advance node) d e → (((claimed || performed) || committed) || raised) ≡ false → RestsAt e node
+works_rest node false false false false a b c d e claims performs works commits shelves advances isnt =
+    let last = advances.0 in
+    let third = last ∙ commits in
+    let second = third ∙ performs in
+    let first = second ∙ claims.0 in
+    record {
+      claims = still_idle (Claim node) a e (sym first) claims.1;
+      works = subst (λ (v : NetView). HasNoWork v node) (sym third) (works refl);
+      shelf = subst (λ (v : NetView). HasNoShelf v node) (sym last) (shelves refl);
+      advances = still_idle (Advance node) d e (sym last) advances.1;
+    }
+works_rest node true performed committed raised a b c d e claims performs works commits shelves advances isnt = absurd (false≢true (sym isnt))
+works_rest node false true committed raised a b c d e claims performs works commits shelves advances isnt = absurd (false≢true (sym isnt))
+works_rest node false false true raised a b c d e claims performs works commits shelves advances isnt = absurd (false≢true (sym isnt))
+works_rest node false false false true a b c d e claims performs works commits shelves advances isnt = absurd (false≢true (sym isnt))
+
+pub works_go : (node : ℕ) (claimed performed committed raised : Bool) (a b c d e : NetView) → Steps claimed (Claim node) a b → Goes performed b c → Goes committed c d → Steps raised (Advance node) d e
+    → Goes (((claimed || performed) || committed) || raised) a e
+works_go node claimed performed committed raised a b c d e claims performs commits advances =
+    goes_then ((claimed || performed) || committed) raised a d e
+    (goes_then (claimed || performed) committed a c d (goes_then claimed performed a b c (steps_go claimed (Claim node) a b claims) performs) commits)
+    (steps_go raised (Advance node) d e advances)
+
+-- Nets that have nothing to do.
+
+pub rests : (net : NetView) → StandsForSome net → EdgesRest net (length net.plan.edges) → NodesRest net (length net.plan.nodes) → Acts Relax Idle net net → IsAtRest net
+rests net some edges nodes relaxes (Deliver edge) of = edges edge of
+rests net some edges nodes relaxes (Advance node) of = (nodes node of).advances
+rests net some edges nodes relaxes (Claim node) of = (nodes node of).claims
+rests net some edges nodes relaxes (Perform node number) of =
+    let long = (places net some).2 in
+    let desk = found net.desks node (omega (arith, of, long)) in
+    record {
+      desk = desk.0;
+      on = desk.1;
+      performed = inl (subst (λ (ws : List WorkView). All (λ (w : WorkView). w.number ≢ number) ws) (sym ((nodes node of).works desk.0 desk.1)) (All-nil (λ (w : WorkView). w.number ≢ number)), record { idle = refl; same = refl });
+    }
+rests net some edges nodes relaxes (Commit node number) of =
+    let long = (places net some).0 in
+    let engine = found net.engines node (omega (arith, of, long)) in
+    record {
+      engine = engine.0;
+      at = engine.1;
+      committed = subst (λ (p : Option PerformedView). CommittedAt node number p Idle engine.0 net net) (sym ((nodes node of).shelf engine.0 number engine.1)) (record { idle = refl; same = refl });
+    }
+rests net some edges nodes relaxes Relax of = relaxes
+
+-- Nets that a net becomes have its plan.
+
+pub still_there : (node : ℕ) (before now : NetView) → Becomes before now → node < length before.plan.nodes → node < length now.plan.nodes
+still_there node before now b there = subst (λ (p : Plan). node < length p.nodes) (sym (becomes_plan before now b)) there
+
+pub still_edge : (edge : ℕ) (before now : NetView) → Becomes before now → edge < length before.plan.edges → edge < length now.plan.edges
+still_edge edge before now b there = subst (λ (p : Plan). edge < length p.edges) (sym (becomes_plan before now b)) there
+
+-- What a net's parts tell of it.
+
+pub work_found : (r : Option ℕ) (net : NetView) (node : ℕ) (desk : DeskView) → slice_get net.desks node ≡ Some desk
+    → IfSome r (λ number. IsSomeAnd (slice_get desk.works 0) (λ w. w.number ≡ number)) → IfSome r (λ number. HasWork net node number)
+work_found None net node desk at h = tt
+work_found (Some number) net node desk at h = λ other there. subst (λ (d : DeskView). IsSomeAnd (slice_get d.works 0) (λ w. w.number ≡ number)) (same_Some desk other (sym at ∙ there)) h
+
+pub work_none : (r : Option ℕ) (net : NetView) (node : ℕ) (desk : DeskView) → slice_get net.desks node ≡ Some desk → IfNone r (desk.works ≡ []) → IfNone r (HasNoWork net node)
+work_none None net node desk at h = λ other there. subst (λ (d : DeskView). d.works ≡ []) (same_Some desk other (sym at ∙ there)) h
+work_none (Some number) net node desk at h = tt
+
+pub shelf_found : (r : Option ℕ) (net : NetView) (node : ℕ) (engine : EngineView) → slice_get net.engines node ≡ Some engine
+    → IfSome r (λ number. IsSome (shelf_at engine number)) → IfSome r (λ number. HasShelf net node number)
+shelf_found None net node engine at h = tt
+shelf_found (Some number) net node engine at h = λ other there. subst (λ (e : EngineView). IsSome (shelf_at e number)) (same_Some engine other (sym at ∙ there)) h
+
+pub shelf_none : (r : Option ℕ) (net : NetView) (node : ℕ) (engine : EngineView) → slice_get net.engines node ≡ Some engine
+    → IfNone r ((number : ℕ) → shelf_at engine number ≡ None) → IfNone r (HasNoShelf net node)
+shelf_none None net node engine at h = λ other number there. subst (λ (e : EngineView). shelf_at e number ≡ None) (same_Some engine other (sym at ∙ there)) (h number)
+shelf_none (Some n) net node engine at h = tt
+
+-- a node's engine is lawful
+pub some_engine : (net : NetView) (node : ℕ) (engine : EngineView) → StandsForSome net → IsRunning net → node < length net.plan.nodes → slice_get net.engines node ≡ Some engine → SomeJobHasEngine engine
+some_engine net node engine some running there at =
+    let desk = found net.desks node (desk_there net node some there) in
+    let intake = found net.intakes node (intake_there net node some there) in
+    record { job = some.job; number = node; lawful = (cell_at some.job net node engine intake.0 desk.0 some.stands running there at intake.1 desk.1).lawful_engine }
+
+-- Passes over all edges and nodes.
+
+pub edges_more : (did moved : Bool) (a b : NetView) (k : ℕ) → (did ≡ false → EdgesRest a k) → Steps moved (Deliver k) a b → (did || moved) ≡ false → EdgesRest b (k + 1)
+edges_more true moved a b k rest s isnt = absurd (false≢true (sym isnt))
+edges_more false true a b k rest s isnt = absurd (false≢true (sym isnt))
+edges_more false false a b k rest s isnt =
+    below_more (λ (edge : ℕ). Acts (Deliver edge) Idle b b) k (λ edge less. still_idle (Deliver edge) a b (sym s.0) (rest refl edge less)) (still_idle (Deliver k) a b (sym s.0) s.1)
+
+pub nodes_more : (did worked : Bool) (a b : NetView) (k : ℕ) → (did ≡ false → NodesRest a k) → Goes worked a b → (worked ≡ false → RestsAt b k) → (did || worked) ≡ false → NodesRest b (k + 1)
+nodes_more true worked a b k rest g rests_now isnt = absurd (false≢true (sym isnt))
+nodes_more false true a b k rest g rests_now isnt = absurd (false≢true (sym isnt))
+nodes_more false false a b k rest g rests_now isnt =
+    below_more (λ (node : ℕ). RestsAt b node) k (λ node less. subst (λ (v : NetView). RestsAt v node) (sym g) (rest refl node less)) (rests_now refl)
+
+-- an agenda stays for the plan, and is as it was where nothing was done
+
+pub agenda_on : (a b : NetView) (agenda : AgendaView) → Becomes a b → IsAgendaOf a.plan agenda → IsAgendaOf b.plan agenda
+agenda_on a b agenda h of = subst (λ (p : Plan). IsAgendaOf p agenda) (sym (becomes_plan a b h)) of
+
+pub agenda_back : (a b : NetView) (agenda : AgendaView) → Becomes a b → IsAgendaOf b.plan agenda → IsAgendaOf a.plan agenda
+agenda_back a b agenda h of = subst (λ (p : Plan). IsAgendaOf p agenda) (becomes_plan a b h) of
+
+pub both_same : (did moved : Bool) (a b c : AgendaView) → (did ≡ false → b ≡ a) → (moved ≡ false → c ≡ b) → (did || moved) ≡ false → c ≡ a
+both_same true moved a b c first second isnt = absurd (false≢true (sym isnt))
+both_same false true a b c first second isnt = absurd (false≢true (sym isnt))
+both_same false false a b c first second isnt = second refl ∙ first refl
+
+pub edge_within : (next : Option ℕ) (plan : Plan) (agenda : AgendaView) → IsAgendaOf plan agenda → IfSome next (λ e. e < agenda.edges) → IfSome next (λ e. e < length plan.edges)
+edge_within None plan agenda of h = tt
+edge_within (Some e) plan agenda of h = subst (λ (n : ℕ). e < n) of.edges h
+
+pub next_within : (next : Option ℕ) (edge : ℕ) (plan : Plan) (agenda : AgendaView) → IsAgendaOf plan agenda → IfSome next (λ e. (edge < e) × (e < agenda.edges)) → IfSome next (λ e. (edge < e) × (e < length plan.edges))
+next_within None edge plan agenda of h = tt
+next_within (Some e) edge plan agenda of h = (h.0, subst (λ (n : ℕ). e < n) of.edges h.1)
+
+pub second_of : (next : Option ℕ) (edge count : ℕ) → IfSome next (λ e. (edge < e) × (e < count)) → IfSome next (λ e. e < count)
+second_of None edge count h = tt
+second_of (Some e) edge count h = h.1
+
+pub agenda_same : (plan : Plan) (a b : AgendaView) → IsAgendaOf plan a → b.places ≡ a.places → b.edges ≡ a.edges → IsAgendaOf plan b
+agenda_same plan a b of places edges = record { places = places ∙ of.places; edges = edges ∙ of.edges }
+
+pub node_place : (plan : Plan) (agenda : AgendaView) (node : ℕ) → IsAgendaOf plan agenda → node < length plan.nodes → node < agenda.places
+node_place plan agenda node of there = (let places = of.places in omega (arith, there, places))
+
+pub goes_true : (did : Bool) (a b : NetView) → did ≡ true → Goes did a b → left_in b < left_in a
+goes_true did a b is g = subst (λ (d : Bool). Goes d a b) is g
+
+pub goes_false : (did : Bool) (a b : NetView) → did ≡ false → Goes did a b → b ≡ a
+goes_false did a b is g = subst (λ (d : Bool). Goes d a b) is g
+
+pub in_ok : {E : Type 0} (P Q : Bool → Type 0) (r : Result Bool E) → ((b : Bool) → P b → Q b) → IfOk r P → IfOk r Q
+in_ok P Q (Ok b) all h = all b h
+in_ok P Q (Err e) all h = tt
+
+-- all was looked over
+pub over_goes : (delivered worked relaxed : Bool) (a b c d : NetView) → Goes delivered a b → Goes worked b c → (delivered || worked) ≡ false → Steps relaxed Relax c d → Goes relaxed a d
+over_goes true worked relaxed a b c d delivers works isnt s = absurd (false≢true (sym isnt))
+over_goes false true relaxed a b c d delivers works isnt s = absurd (false≢true (sym isnt))
+over_goes false false relaxed a b c d delivers works isnt s = subst (λ (v : NetView). Goes relaxed v d) (works ∙ delivers) (steps_go relaxed Relax c d s)
+
+pub over_rests : (delivered worked relaxed : Bool) (a b c d : NetView) → StandsForSome d → (delivered ≡ false → EdgesRest b (length b.plan.edges)) → Goes worked b c → (worked ≡ false → NodesRest c (length c.plan.nodes))
+    → (delivered || worked) ≡ false → Steps relaxed Relax c d → relaxed ≡ false → IsAtRest d
+over_rests true worked relaxed a b c d some edges works nodes isnt s still = absurd (false≢true (sym isnt))
+over_rests false true relaxed a b c d some edges works nodes isnt s still = absurd (false≢true (sym isnt))
+over_rests false false true a b c d some edges works nodes isnt s still = absurd (false≢true (sym still))
+over_rests false false false a b c d some edges works nodes isnt s still =
+    rests d some
+    (subst (λ (v : NetView). EdgesRest v (length v.plan.edges)) (sym (s.0 ∙ works)) (edges refl))
+    (subst (λ (v : NetView). NodesRest v (length v.plan.nodes)) (sym s.0) (nodes refl))
+    (still_idle Relax c d (sym s.0) s.1)
+
+pub agenda_made : {E : Type 0} (r : Result AgendaView E) (shown net : NetView) → shown ≡ net → IfOk r (λ a. a.places ≡ length shown.plan.nodes + length shown.plan.inputs) → IfOk r (λ a. a.edges ≡ length shown.plan.edges)
+    → IfOk r (λ a. IsAgendaOf net.plan a)
+agenda_made (Ok agenda) shown net is places edges = subst (λ (v : NetView). IsAgendaOf v.plan agenda) is (record { places = places; edges = edges })
+agenda_made (Err e) shown net is places edges = tt
+
+pub later_less : (a b c : NetView) → left_in b ≤ left_in a → left_in c < left_in b → left_in c < left_in a
+later_less a b c no_more less = omega (arith, no_more, less)

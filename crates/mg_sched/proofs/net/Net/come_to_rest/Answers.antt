@@ -1,0 +1,62 @@
+use Rattle.mg_sched.specs.Sweeps.{itself}
+use Rattle.mg_sched.proofs.Becoming.{becomes_runs, becomes_some, becomes_trans}
+use Rattle.mg_sched.proofs.LeftIn.{becomes_no_more}
+use Rattle.mg_sched.proofs.Sweeping.{later_less, goes_true, agenda_on, agenda_back, agenda_same}
+use Rattle.mg_sched.proofs.net.Net.come_to_rest.Goals as goal
+
+pub passes-init : goal.passes-init
+passes-init g c = record { becomes = itself; agenda = c.in_ok-agenda.ensures }
+
+pub work_off-requires-clause-running : goal.work_off-requires-clause-running
+work_off-requires-clause-running g c = becomes_runs c.args.self.now c.passes.self c.requires.running c.passes.invariant.becomes
+
+pub work_off-requires-clause-stands : goal.work_off-requires-clause-stands
+work_off-requires-clause-stands g c = becomes_some c.args.self.now c.passes.self c.requires.running c.requires.stands c.passes.invariant.becomes
+
+pub work_off-requires-clause-agenda : goal.work_off-requires-clause-agenda
+work_off-requires-clause-agenda g c =
+    agenda_on c.args.self.now c.passes.self c.put_all.new.self c.passes.invariant.becomes
+    (agenda_same c.args.self.now.plan c.passes.agenda c.put_all.new.self c.passes.invariant.agenda c.put_all.ensures.places c.put_all.ensures.edges)
+
+pub returns-in_err-agenda-clause-becomes : goal.returns-in_err-agenda-clause-becomes
+returns-in_err-agenda-clause-becomes g c = itself
+
+pub returns-then-not-branch-clause-rest : goal.returns-then-not-branch-clause-rest
+returns-then-not-branch-clause-rest g c = c.in_ok-look_over.ensures.rest c.if-not-branch.true
+
+pub returns-in_err-work_off-clause-becomes : goal.returns-in_err-work_off-clause-becomes
+returns-in_err-work_off-clause-becomes g c = becomes_trans c.args.self.now c.passes.self c.work_off.new.self c.passes.invariant.becomes c.in_err-work_off.ensures.becomes
+
+pub look_over-requires-clause-running : goal.look_over-requires-clause-running
+look_over-requires-clause-running g c =
+    becomes_runs c.args.self.now c.work_off.new.self c.requires.running (becomes_trans c.args.self.now c.passes.self c.work_off.new.self c.passes.invariant.becomes c.in_ok-work_off.ensures.becomes)
+
+pub look_over-requires-clause-stands : goal.look_over-requires-clause-stands
+look_over-requires-clause-stands g c =
+    becomes_some c.args.self.now c.work_off.new.self c.requires.running c.requires.stands
+    (becomes_trans c.args.self.now c.passes.self c.work_off.new.self c.passes.invariant.becomes c.in_ok-work_off.ensures.becomes)
+
+pub returns-in_err-look_over-clause-becomes : goal.returns-in_err-look_over-clause-becomes
+returns-in_err-look_over-clause-becomes g c =
+    becomes_trans c.args.self.now c.work_off.new.self c.look_over.new.self
+    (becomes_trans c.args.self.now c.passes.self c.work_off.new.self c.passes.invariant.becomes c.in_ok-work_off.ensures.becomes) c.in_err-look_over.ensures.becomes
+
+pub returns-then-not-branch-clause-becomes : goal.returns-then-not-branch-clause-becomes
+returns-then-not-branch-clause-becomes g c =
+    becomes_trans c.args.self.now c.work_off.new.self c.look_over.new.self
+    (becomes_trans c.args.self.now c.passes.self c.work_off.new.self c.passes.invariant.becomes c.in_ok-work_off.ensures.becomes) c.in_ok-look_over.ensures.becomes
+
+pub passes-smaller : goal.passes-smaller
+passes-smaller g c =
+    later_less c.passes.self c.work_off.new.self c.look_over.new.self
+    (becomes_no_more c.passes.self c.work_off.new.self (becomes_runs c.args.self.now c.passes.self c.requires.running c.passes.invariant.becomes)
+    (becomes_some c.args.self.now c.passes.self c.requires.running c.requires.stands c.passes.invariant.becomes) c.in_ok-work_off.ensures.becomes)
+    (goes_true c.in_ok-look_over.field-0 c.work_off.new.self c.look_over.new.self c.if-not-branch.false c.in_ok-look_over.ensures.goes)
+
+pub passes-preserved : goal.passes-preserved
+passes-preserved g c =
+    (let first = becomes_trans c.args.self.now c.passes.self c.work_off.new.self c.passes.invariant.becomes c.in_ok-work_off.ensures.becomes in
+    record {
+      becomes = becomes_trans c.args.self.now c.work_off.new.self c.look_over.new.self first c.in_ok-look_over.ensures.becomes;
+      agenda = agenda_back c.args.self.now c.passes.self c.work_off.new.agenda c.passes.invariant.becomes c.in_ok-work_off.ensures.agenda;
+    })

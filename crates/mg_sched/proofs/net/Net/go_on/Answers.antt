@@ -1,0 +1,73 @@
+use Rattle.std.proofs.Common.{ℕ, ◌<◌, ◌∙◌, refl, subst, sym}
+use Rattle.mg_calc.specs.declared.event.Event.TheVariants.{Relax}
+use Rattle.mg_sched.specs.Views.{NetView}
+use Rattle.mg_sched.specs.StandsFor.{StandsForSome, IsRunning}
+use Rattle.mg_sched.specs.Sweeps.{Becomes}
+use Rattle.mg_sched.specs.Code.Agendas.{AgendaView, IsAgendaOf}
+use Rattle.mg_sched.specs.Code.Left.{left_in, Goes}
+use Rattle.mg_sched.proofs.Sweeping.{steps_go, goes_true, goes_false, agenda_same}
+use Rattle.mg_sched.proofs.net.Net.go_on.Goals as goal
+
+pub places-init : goal.places-init
+places-init g c = record { same = refl; agenda = c.requires.agenda }
+
+pub visit-requires-clause-running : goal.visit-requires-clause-running
+visit-requires-clause-running g c = subst (λ (v : NetView). IsRunning v) (sym c.places.invariant.same) c.requires.running
+
+pub visit-requires-clause-stands : goal.visit-requires-clause-stands
+visit-requires-clause-stands g c = subst (λ (v : NetView). StandsForSome v) (sym c.places.invariant.same) c.requires.stands
+
+pub visit-requires-clause-agenda : goal.visit-requires-clause-agenda
+visit-requires-clause-agenda g c =
+    subst (λ (v : NetView). IsAgendaOf v.plan c.take.new.self) (sym c.places.invariant.same)
+    (agenda_same c.args.self.now.plan c.places.agenda c.take.new.self c.places.invariant.agenda c.take.ensures.places c.take.ensures.edges)
+
+pub visit-requires-clause-there : goal.visit-requires-clause-there
+visit-requires-clause-there g c = subst (λ (n : ℕ). c.in-Some.place < n) (sym c.take.ensures.places) c.in-Some.ensures.place
+
+pub places-preserved : goal.places-preserved
+places-preserved g c = record {
+  same = goes_false c.in_ok-visit.field-0 c.places.self c.visit.new.self c.if-branch.false c.in_ok-visit.ensures.goes ∙ c.places.invariant.same;
+  agenda = subst (λ (v : NetView). IsAgendaOf v.plan c.visit.new.agenda) c.places.invariant.same c.in_ok-visit.ensures.agenda;
+}
+
+pub places-smaller : goal.places-smaller
+places-smaller g c = subst (λ (a : AgendaView). a.waiting < c.places.agenda.waiting) (sym (c.in_ok-visit.ensures.unchanged c.if-branch.false)) c.in-Some.ensures.fewer
+
+pub returns-in_err-visit-clause-becomes : goal.returns-in_err-visit-clause-becomes
+returns-in_err-visit-clause-becomes g c = subst (λ (v : NetView). Becomes v c.visit.new.self) c.places.invariant.same c.in_err-visit.ensures.becomes
+
+pub returns-in_err-visit-clause-agenda : goal.returns-in_err-visit-clause-agenda
+returns-in_err-visit-clause-agenda g c = subst (λ (v : NetView). IsAgendaOf v.plan c.visit.new.agenda) c.places.invariant.same c.in_err-visit.ensures.agenda
+
+pub returns-then-branch-clause-becomes : goal.returns-then-branch-clause-becomes
+returns-then-branch-clause-becomes g c = subst (λ (v : NetView). Becomes v c.visit.new.self) c.places.invariant.same c.in_ok-visit.ensures.becomes
+
+pub returns-then-branch-clause-goes : goal.returns-then-branch-clause-goes
+returns-then-branch-clause-goes g c = subst (λ (v : NetView). left_in c.visit.new.self < left_in v) c.places.invariant.same (goes_true c.in_ok-visit.field-0 c.places.self c.visit.new.self c.if-branch.true c.in_ok-visit.ensures.goes)
+
+pub returns-then-branch-clause-agenda : goal.returns-then-branch-clause-agenda
+returns-then-branch-clause-agenda g c = subst (λ (v : NetView). IsAgendaOf v.plan c.visit.new.agenda) c.places.invariant.same c.in_ok-visit.ensures.agenda
+
+pub step-requires-clause-running : goal.step-requires-clause-running
+step-requires-clause-running g c = subst (λ (v : NetView). IsRunning v) (sym c.places.invariant.same) c.requires.running
+
+pub step-requires-clause-stands : goal.step-requires-clause-stands
+step-requires-clause-stands g c = subst (λ (v : NetView). StandsForSome v) (sym c.places.invariant.same) c.requires.stands
+
+pub returns-in_err-relaxed-clause-becomes : goal.returns-in_err-relaxed-clause-becomes
+returns-in_err-relaxed-clause-becomes g c = subst (λ (v : NetView). Becomes v c.step.new.self) c.places.invariant.same c.in_err-relaxed.ensures.becomes
+
+pub returns-in_err-relaxed-clause-agenda : goal.returns-in_err-relaxed-clause-agenda
+returns-in_err-relaxed-clause-agenda g c = agenda_same c.args.self.now.plan c.places.agenda c.take.new.self c.places.invariant.agenda c.take.ensures.places c.take.ensures.edges
+
+pub returns-clause-becomes : goal.returns-clause-becomes
+returns-clause-becomes g c = subst (λ (v : NetView). Becomes v c.step.new.self) c.places.invariant.same c.in_ok-relaxed.ensures.becomes
+
+pub returns-clause-goes : goal.returns-clause-goes
+returns-clause-goes g c = subst (λ (v : NetView). Goes c.in_ok-relaxed.relaxed v c.step.new.self) c.places.invariant.same (steps_go c.in_ok-relaxed.relaxed Relax c.places.self c.step.new.self c.in_ok-relaxed.ensures.steps)
+
+pub returns-clause-agenda : goal.returns-clause-agenda
+returns-clause-agenda g c =
+    agenda_same c.args.self.now.plan c.take.new.self c.release.new.self
+    (agenda_same c.args.self.now.plan c.places.agenda c.take.new.self c.places.invariant.agenda c.take.ensures.places c.take.ensures.edges) c.release.ensures.places c.release.ensures.edges

@@ -1,0 +1,35 @@
+use Rattle.std.proofs.Common.{refl}
+use Rattle.mg_sched.specs.Sweeps.{itself}
+use Rattle.mg_sched.proofs.Becoming.{becomes_runs, becomes_some, becomes_trans}
+use Rattle.mg_sched.proofs.Sweeping.{goes_less, performs_less, still_there}
+use Rattle.mg_sched.proofs.net.Net.perform_all.Goals as goal
+
+pub works-init : goal.works-init
+works-init g c = record { becomes = itself; goes = refl }
+
+pub first_claimed-requires-clause-there : goal.first_claimed-requires-clause-there
+first_claimed-requires-clause-there g c = still_there c.args.node c.args.self.now c.works.self c.works.invariant.becomes c.requires.there
+
+pub first_claimed-requires-clause-stands : goal.first_claimed-requires-clause-stands
+first_claimed-requires-clause-stands g c = becomes_some c.args.self.now c.works.self c.requires.running c.requires.stands c.works.invariant.becomes
+
+pub step-requires-clause-event : goal.step-requires-clause-event
+step-requires-clause-event g c = still_there c.args.node c.args.self.now c.works.self c.works.invariant.becomes c.requires.there
+
+pub step-requires-clause-running : goal.step-requires-clause-running
+step-requires-clause-running g c = becomes_runs c.args.self.now c.works.self c.requires.running c.works.invariant.becomes
+
+pub step-requires-clause-stands : goal.step-requires-clause-stands
+step-requires-clause-stands g c = becomes_some c.args.self.now c.works.self c.requires.running c.requires.stands c.works.invariant.becomes
+
+pub returns-in_err-step-clause-becomes : goal.returns-in_err-step-clause-becomes
+returns-in_err-step-clause-becomes g c = becomes_trans c.args.self.now c.works.self c.step.new.self c.works.invariant.becomes c.in_err-step.ensures.becomes
+
+pub works-smaller : goal.works-smaller
+works-smaller g c = performs_less c.in_ok-step.field-0 c.args.node c.in-Some.number c.works.self c.step.new.self c.in-Some.ensures.some c.in_ok-step.ensures.steps
+
+pub works-preserved : goal.works-preserved
+works-preserved g c = record {
+  becomes = becomes_trans c.args.self.now c.works.self c.step.new.self c.works.invariant.becomes c.in_ok-step.ensures.becomes;
+  goes = goes_less c.works.did c.args.self.now c.works.self c.step.new.self c.works.invariant.goes (performs_less c.in_ok-step.field-0 c.args.node c.in-Some.number c.works.self c.step.new.self c.in-Some.ensures.some c.in_ok-step.ensures.steps);
+}

@@ -1,0 +1,20 @@
+use Rattle.std.proofs.Common.{refl}
+use Rattle.mg_sched.proofs.Becoming.{becomes_one}
+use Rattle.mg_sched.proofs.LeftIn.{acts_less}
+use Rattle.mg_sched.proofs.Sweeping.{steps_none}
+use Rattle.mg_sched.proofs.net.Net.step.Goals as goal
+
+pub returns-in-Did-clause-becomes : goal.returns-in-Did-clause-becomes
+returns-in-Did-clause-becomes g c = becomes_one c.args.event c.act.result c.args.self.now c.act.new.self c.requires.event c.act.ensures.acts
+
+pub returns-in-Idle-clause-becomes : goal.returns-in-Idle-clause-becomes
+returns-in-Idle-clause-becomes g c = becomes_one c.args.event c.act.result c.args.self.now c.act.new.self c.requires.event c.act.ensures.acts
+
+pub returns-in-OutOfMemory-clause-becomes : goal.returns-in-OutOfMemory-clause-becomes
+returns-in-OutOfMemory-clause-becomes g c = becomes_one c.args.event c.act.result c.args.self.now c.act.new.self c.requires.event c.act.ensures.acts
+
+pub returns-in-Did-clause-steps : goal.returns-in-Did-clause-steps
+returns-in-Did-clause-steps g c = acts_less c.requires.stands.job c.args.event c.args.self.now c.act.new.self c.requires.event c.requires.running c.requires.stands.stands c.in-Did.ensures.acts
+
+pub returns-in-Idle-clause-steps : goal.returns-in-Idle-clause-steps
+returns-in-Idle-clause-steps g c = steps_none c.args.event c.args.self.now c.act.new.self (c.in-Idle.ensures.idle refl) c.in-Idle.ensures.acts

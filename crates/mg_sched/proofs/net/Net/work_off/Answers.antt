@@ -1,0 +1,37 @@
+use Rattle.mg_sched.specs.Sweeps.{itself}
+use Rattle.mg_sched.proofs.Becoming.{becomes_runs, becomes_some, becomes_trans}
+use Rattle.mg_sched.proofs.Sweeping.{goes_true, agenda_on, agenda_back}
+use Rattle.mg_sched.proofs.net.Net.work_off.Goals as goal
+
+pub steps-init : goal.steps-init
+steps-init g c = record { becomes = itself; agenda = c.requires.agenda }
+
+pub go_on-requires-clause-running : goal.go_on-requires-clause-running
+go_on-requires-clause-running g c = becomes_runs c.args.self.now c.steps.self c.requires.running c.steps.invariant.becomes
+
+pub go_on-requires-clause-stands : goal.go_on-requires-clause-stands
+go_on-requires-clause-stands g c = becomes_some c.args.self.now c.steps.self c.requires.running c.requires.stands c.steps.invariant.becomes
+
+pub go_on-requires-clause-agenda : goal.go_on-requires-clause-agenda
+go_on-requires-clause-agenda g c = agenda_on c.args.self.now c.steps.self c.steps.agenda c.steps.invariant.becomes c.steps.invariant.agenda
+
+pub returns-in_err-go_on-clause-becomes : goal.returns-in_err-go_on-clause-becomes
+returns-in_err-go_on-clause-becomes g c = becomes_trans c.args.self.now c.steps.self c.go_on.new.self c.steps.invariant.becomes c.in_err-go_on.ensures.becomes
+
+pub returns-in_err-go_on-clause-agenda : goal.returns-in_err-go_on-clause-agenda
+returns-in_err-go_on-clause-agenda g c = agenda_back c.args.self.now c.steps.self c.go_on.new.agenda c.steps.invariant.becomes c.in_err-go_on.ensures.agenda
+
+pub steps-smaller : goal.steps-smaller
+steps-smaller g c = goes_true c.in_ok-go_on.field-0 c.steps.self c.go_on.new.self c.if-branch.true c.in_ok-go_on.ensures.goes
+
+pub steps-preserved : goal.steps-preserved
+steps-preserved g c = record {
+  becomes = becomes_trans c.args.self.now c.steps.self c.go_on.new.self c.steps.invariant.becomes c.in_ok-go_on.ensures.becomes;
+  agenda = agenda_back c.args.self.now c.steps.self c.go_on.new.agenda c.steps.invariant.becomes c.in_ok-go_on.ensures.agenda;
+}
+
+pub returns-clause-becomes : goal.returns-clause-becomes
+returns-clause-becomes g c = becomes_trans c.args.self.now c.steps.self c.go_on.new.self c.steps.invariant.becomes c.in_ok-go_on.ensures.becomes
+
+pub returns-clause-agenda : goal.returns-clause-agenda
+returns-clause-agenda g c = agenda_back c.args.self.now c.steps.self c.go_on.new.agenda c.steps.invariant.becomes c.in_ok-go_on.ensures.agenda

@@ -1,0 +1,91 @@
+-- What is left to do in a net: a number that each step lessens. The numbers of a net only grow, and fit in 64 bits.
+use Rattle.std.specs.Prelude.{◌≡◌, ℕ, ◌+◌, ◌-◌, ◌*◌, ◌^◌, ◌<◌, ◌||◌, Bool, true, false, [], sum_by, slice_get, Option, Some, None, IsSome, IsSomeAnd, is_some, if◌then◌else◌}
+use Rattle.std.specs.List.{list_any}
+use Rattle.mg_time.specs.Time.{done}
+use Rattle.mg_calc.specs.Plan.{numbers}
+use Rattle.mg_calc.specs.declared.event.Event.{Event}
+use Rattle.mg_calc.specs.declared.event.Event.TheVariants.{Deliver, Advance, Claim}
+use Rattle.mg_calc.specs.declared.event.Effect.TheVariants.{Idle}
+use Rattle.mg_stream.specs.Queue.{count_of}
+use Rattle.mg_node.specs.Views.{IntakeView, OutcomeView, EntryView, EngineView}
+use Rattle.mg_node.specs.Ports.{ports_in, port_queue}
+use Rattle.mg_node.specs.Lawful.{is_close}
+use Rattle.mg_node.specs.Shelves.{shelf_at}
+use Rattle.mg_node.specs.Windows.{has_ended}
+use Rattle.mg_sched.specs.Views.{DeskView, NetView}
+use Rattle.mg_sched.specs.Acts.{Acts}
+
+-- of a work that came back: it has to be claimed again, performed and committed, or only to be committed
+abbrev pub outcome_left : OutcomeView → ℕ
+outcome_left o = if is_some o.answer then 1 else 3
+
+-- of an entry of a window: what is claimed has to be performed and committed
+abbrev pub came_left : Option OutcomeView → ℕ
+came_left None = 2
+came_left (Some o) = outcome_left o
+
+abbrev pub entry_left : EntryView → ℕ
+entry_left entry = if entry.committed then 0 else came_left entry.outcome
+
+-- Close may still be claimed
+abbrev pub close_left : EngineView → ℕ
+close_left e = if has_ended e || list_any (λ entry. is_close entry.phase) e.window then 0 else 4
+
+-- of an engine: the works that may still be claimed, those in its window, and how far its outputs may be raised
+abbrev pub engine_left : EngineView → ℕ
+engine_left e = 4 * (2 ^ 65 - e.claimed) + sum_by entry_left e.window + close_left e + sum_by (λ b. done - b.bound) e.outputs
+
+-- of an intake: the packets that may still come to its ports, and how far these may be raised
+abbrev pub intake_left : IntakeView → ℕ
+intake_left i = sum_by (λ port. (2 ^ 65 - count_of (port_queue i.waits port)) + (done - (port_queue i.waits port).bound)) (numbers (ports_in i.waits))
+
+-- of a queue: how far its limit may be relaxed
+abbrev pub limit_left : Option ℕ → ℕ
+limit_left None = 0
+limit_left (Some limit) = 2 ^ 65 - limit
+
+-- and of all parts
+abbrev pub left_in : NetView → ℕ
+left_in net = sum_by engine_left net.engines + sum_by intake_left net.intakes + sum_by (λ q. limit_left q.limit) net.limits.queues
+
+-- some steps did something, or left the net as it was
+abbrev pub Goes : Bool → NetView → NetView → Type 0
+Goes true before now = left_in now < left_in before
+Goes false before now = now ≡ before
+
+-- a step did something, or there is nothing to do
+abbrev pub Steps : Bool → Event → NetView → NetView → Type 0
+Steps true event before now = left_in now < left_in before
+Steps false event before now = (now ≡ before) × Acts event Idle before before
+
+-- Parts that have nothing to do.
+
+-- no work of a node is claimed and not performed
+abbrev pub HasNoWork : NetView → ℕ → Type 0
+HasNoWork net node = (desk : DeskView) → slice_get net.desks node ≡ Some desk → desk.works ≡ []
+
+-- the first of them has a number
+abbrev pub HasWork : NetView → ℕ → ℕ → Type 0
+HasWork net node number = (desk : DeskView) → slice_get net.desks node ≡ Some desk → IsSomeAnd (slice_get desk.works 0) (λ w. w.number ≡ number)
+
+-- none is performed and not committed
+abbrev pub HasNoShelf : NetView → ℕ → Type 0
+HasNoShelf net node = (engine : EngineView) (number : ℕ) → slice_get net.engines node ≡ Some engine → shelf_at engine number ≡ None
+
+-- that of a number is
+abbrev pub HasShelf : NetView → ℕ → ℕ → Type 0
+HasShelf net node number = (engine : EngineView) → slice_get net.engines node ≡ Some engine → IsSome (shelf_at engine number)
+
+-- a node has nothing to do
+pub record RestsAt (net : NetView) (node : ℕ) : Type 0 where
+  pub claims : Acts (Claim node) Idle net net
+  pub works : HasNoWork net node
+  pub shelf : HasNoShelf net node
+  pub advances : Acts (Advance node) Idle net net
+
+-- so it is with each of the first nodes, so many, and nothing goes along each of the first edges
+abbrev pub NodesRest : NetView → ℕ → Type 0
+NodesRest net count = (node : ℕ) → node < count → RestsAt net node
+
+abbrev pub EdgesRest : NetView → ℕ → Type 0
+EdgesRest net count = (edge : ℕ) → edge < count → Acts (Deliver edge) Idle net net

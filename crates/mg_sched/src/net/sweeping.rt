@@ -1,0 +1,425 @@
+//! How a net comes to rest.
+ghost use Rattle.std.specs.Prelude.{◌≡◌, ◌<◌, ◌+◌, ◌≤◌, ◌^◌, List, length, IfSome, IfNone, IfOk, false};
+ghost use Rattle.mg_value.specs.Payload.{Plain};
+ghost use Rattle.mg_value.specs.Prefix.{StreamPrefix};
+ghost use Rattle.mg_calc.specs.Meaning.{weight};
+ghost use Rattle.mg_node.specs.Job.{LoggedJob, Solves};
+ghost use Rattle.mg_node.specs.Ports.{ports_in};
+ghost use Rattle.mg_sched.specs.StandsFor.{StandsFor, StandsForSome, IsRunning};
+ghost use Rattle.mg_sched.specs.Acts.{IsEventOf};
+ghost use Rattle.mg_sched.specs.AtRest.{IsAtRest};
+ghost use Rattle.mg_sched.specs.Taking.{taken_out};
+ghost use Rattle.mg_sched.specs.Reports.{claimed_in};
+ghost use Rattle.mg_sched.specs.Sweeps.{Becomes};
+ghost use Rattle.mg_sched.specs.Code.Agendas.{IsAgendaOf};
+ghost use Rattle.mg_sched.specs.Code.Left.{Goes, Steps, HasWork, HasNoWork, HasShelf, HasNoShelf, RestsAt, EdgesRest, NodesRest};
+
+use super::Net;
+use crate::agenda::Agenda;
+use mg_calc::{Calculator, Effect, Event};
+use mg_edge::Gate;
+use mg_node::Intake;
+use mg_throttle::Limits;
+use std::alloc::AllocError;
+
+// Whether as many packets wait at a port of an intake as its queue's limit is, or more. The queues are those from a number on.
+fn is_at_limit(limits: &Limits, first: u32, intake: &Intake) -> bool
+    requires queues { first + ports_in intake.now.waits ≤ length limits.now.queues }
+    requires short { length limits.now.queues < 2 ^ 32 }
+{
+    for port in 0..intake.ports() {
+        if let Some(limit) = limits.limit(first + port) {
+            if limit <= intake.waiting(port) {
+                return true;
+            }
+        }
+    }
+    false
+}
+
+// Puts in a node that has worked, and the feeders that were kept where one of its queues was full.
+fn go_on_with(agenda: &mut Agenda, node: u32, was_full: bool)
+    requires { node < agenda.old.places }
+    ensures places { agenda.new.places ≡ agenda.old.places }
+    ensures edges { agenda.new.edges ≡ agenda.old.edges }
+{
+    agenda.put(node);
+    if was_full {
+        agenda.release();
+    }
+}
+
+impl<C: Calculator> Net<C> {
+    /// Makes steps until none would do anything; the net is at rest then. Of the nodes that may have something to do the one goes first
+    /// that stands last in the plan's order, and graph inputs come behind all nodes (MediaPipe, Synchronization). A feeder that is
+    /// throttled waits until a queue falls below its limit, and where nothing else can be done limits are relaxed (MediaPipe, Real-time
+    /// Streams). No set is taken from the collector. At want of memory the steps made so far stand, and this may be called again.
+    ///
+    /// A packet costs what the steps on its way cost. All events are looked over only once nothing is known any more that may be done.
+    pub fn sweep<G: Gate>(&mut self, gate: &G) -> Result<(), AllocError>
+        requires running { IsRunning self.old }
+        requires stands { StandsForSome self.old }
+        ensures becomes { Becomes self.old self.new }
+        ensures rest { IfOk result (λ _. IsAtRest self.new) }
+        ensures running { IsRunning self.new }
+        ensures stands { (job : LoggedJob) → StandsFor job self.old → StandsFor job self.new }
+        ensures taken { taken_out self.new ≡ taken_out self.old }
+
+        // What the nodes have claimed is within the weight of the job.
+        ensures weight { (job : LoggedJob) (solution : List (StreamPrefix Plain)) → StandsFor job self.old → Solves job solution → claimed_in self.new ≤ weight job.job solution }
+    {
+        self.come_to_rest(gate)
+    }
+
+    // Makes steps until none would do anything.
+    fn come_to_rest<G: Gate>(&mut self, gate: &G) -> Result<(), AllocError>
+        requires running { IsRunning self.old }
+        requires stands { StandsForSome self.old }
+        ensures becomes { Becomes self.old self.new }
+        ensures rest { IfOk result (λ _. IsAtRest self.new) }
+    {
+        let mut agenda = self.agenda()?;
+        'passes: loop {
+            agenda.put_all();
+            self.work_off(&mut agenda, gate)?;
+            if !self.look_over(gate)? {
+                return Ok(());
+            }
+        }
+    }
+
+    // An agenda for the net.
+    fn agenda(&self) -> Result<Agenda, AllocError>
+        requires { StandsForSome self.now }
+        ensures { IfOk result (λ agenda. IsAgendaOf self.now.plan agenda) }
+    {
+        Agenda::new(self.alloc, &self.plan)
+    }
+
+    // Makes the steps that are known of, and those that they bring about.
+    fn work_off<G: Gate>(&mut self, agenda: &mut Agenda, gate: &G) -> Result<(), AllocError>
+        requires running { IsRunning self.old }
+        requires stands { StandsForSome self.old }
+        requires agenda { IsAgendaOf self.old.plan agenda.old }
+        ensures becomes { Becomes self.old self.new }
+        ensures agenda { IsAgendaOf self.old.plan agenda.new }
+    {
+        'steps: while self.go_on(agenda, gate)? {}
+        Ok(())
+    }
+
+    // Visits places until something is done, and where there is nothing to do relaxes limits. Tells whether something was done.
+    fn go_on<G: Gate>(&mut self, agenda: &mut Agenda, gate: &G) -> Result<bool, AllocError>
+        requires running { IsRunning self.old }
+        requires stands { StandsForSome self.old }
+        requires agenda { IsAgendaOf self.old.plan agenda.old }
+        ensures becomes { Becomes self.old self.new }
+        ensures goes { IfOk result (λ did. Goes did self.old self.new) }
+        ensures agenda { IsAgendaOf self.old.plan agenda.new }
+    {
+        'places: while let Some(place) = agenda.take() {
+            if self.visit(place, agenda, gate)? {
+                return Ok(true);
+            }
+        }
+        let relaxed = self.step(Event::Relax, gate)?;
+        agenda.release();
+        Ok(relaxed)
+    }
+
+    // Lets the part at a place do what it can. Tells whether something was done.
+    fn visit<G: Gate>(
+        &mut self,
+        place: u32,
+        agenda: &mut Agenda,
+        gate: &G,
+    ) -> Result<bool, AllocError>
+        requires running { IsRunning self.old }
+        requires stands { StandsForSome self.old }
+        requires agenda { IsAgendaOf self.old.plan agenda.old }
+        requires there { place < agenda.old.places }
+        ensures becomes { Becomes self.old self.new }
+        ensures goes { IfOk result (λ did. Goes did self.old self.new) }
+        ensures agenda { IsAgendaOf self.old.plan agenda.new }
+        ensures unchanged { IfOk result (λ did. did ≡ false → agenda.new ≡ agenda.old) }
+    {
+        if place < self.node_count() {
+            self.visit_node(place, agenda, gate)
+        } else {
+            self.visit_input(place, agenda, gate)
+        }
+    }
+
+    // Brings what came at a graph input along its edges, unless it is throttled.
+    fn visit_input<G: Gate>(
+        &mut self,
+        place: u32,
+        agenda: &mut Agenda,
+        gate: &G,
+    ) -> Result<bool, AllocError>
+        requires running { IsRunning self.old }
+        requires stands { StandsForSome self.old }
+        requires agenda { IsAgendaOf self.old.plan agenda.old }
+        requires there { place < agenda.old.places }
+        ensures becomes { Becomes self.old self.new }
+        ensures goes { IfOk result (λ did. Goes did self.old self.new) }
+        ensures agenda { IsAgendaOf self.old.plan agenda.new }
+        ensures unchanged { IfOk result (λ did. did ≡ false → agenda.new ≡ agenda.old) }
+    {
+        let Some(edge) = agenda.first_edge(place) else {
+            return Ok(false);
+        };
+        if self.is_held(self.plan.edges.as_slice()[edge as usize]) {
+            agenda.hold(place);
+            return Ok(false);
+        }
+        self.send(place, agenda, gate)
+    }
+
+    // Lets a node work, unless it is a source that is throttled, and sends on what it laid. Where it took packets from a full queue, the
+    // feeders that were held may feed again.
+    fn visit_node<G: Gate>(
+        &mut self,
+        node: u32,
+        agenda: &mut Agenda,
+        gate: &G,
+    ) -> Result<bool, AllocError>
+        requires running { IsRunning self.old }
+        requires stands { StandsForSome self.old }
+        requires agenda { IsAgendaOf self.old.plan agenda.old }
+        requires there { node < length self.old.plan.nodes }
+        ensures becomes { Becomes self.old self.new }
+        ensures goes { IfOk result (λ did. Goes did self.old self.new) }
+        ensures agenda { IsAgendaOf self.old.plan agenda.new }
+        ensures unchanged { IfOk result (λ did. did ≡ false → agenda.new ≡ agenda.old) }
+    {
+        if self.is_held_source(node) {
+            agenda.hold(node);
+            return Ok(false);
+        }
+        let was_full = self.is_full(node);
+        if !self.work(node, gate)? {
+            return Ok(false);
+        }
+        go_on_with(agenda, node, was_full);
+        self.send(node, agenda, gate)?;
+        Ok(true)
+    }
+
+    // Whether a queue of a node holds its limit of packets or more.
+    fn is_full(&self, node: u32) -> bool
+        requires there { node < length self.now.plan.nodes }
+        requires stands { StandsForSome self.now }
+    {
+        is_at_limit(
+            &self.limits,
+            self.first_edge(node),
+            &self.intakes[node as usize],
+        )
+    }
+
+    // Brings along the edges that lead from a place what their ports haven't got, and puts in the nodes to which something came. Tells
+    // whether something did.
+    fn send<G: Gate>(
+        &mut self,
+        place: u32,
+        agenda: &mut Agenda,
+        gate: &G,
+    ) -> Result<bool, AllocError>
+        requires running { IsRunning self.old }
+        requires stands { StandsForSome self.old }
+        requires agenda { IsAgendaOf self.old.plan agenda.old }
+        requires there { place < agenda.old.places }
+        ensures becomes { Becomes self.old self.new }
+        ensures goes { IfOk result (λ did. Goes did self.old self.new) }
+        ensures agenda { IsAgendaOf self.old.plan agenda.new }
+        ensures unchanged { IfOk result (λ did. did ≡ false → agenda.new ≡ agenda.old) }
+    {
+        let mut did = false;
+        let mut cursor = agenda.first_edge(place);
+        'edges: while let Some(edge) = cursor {
+            did |= self.send_along(edge, agenda, gate)?;
+            cursor = agenda.next_edge(edge);
+        }
+        Ok(did)
+    }
+
+    // Brings along an edge what its port hasn't got, and puts in the node to which something came. Tells whether something did.
+    fn send_along<G: Gate>(
+        &mut self,
+        edge: u32,
+        agenda: &mut Agenda,
+        gate: &G,
+    ) -> Result<bool, AllocError>
+        requires running { IsRunning self.old }
+        requires stands { StandsForSome self.old }
+        requires agenda { IsAgendaOf self.old.plan agenda.old }
+        requires there { edge < length self.old.plan.edges }
+        ensures becomes { Becomes self.old self.new }
+        ensures goes { IfOk result (λ did. Goes did self.old self.new) }
+        ensures agenda { IsAgendaOf self.old.plan agenda.new }
+        ensures unchanged { IfOk result (λ did. did ≡ false → agenda.new ≡ agenda.old) }
+    {
+        if !self.step(Event::Deliver { edge }, gate)? {
+            return Ok(false);
+        }
+        self.put_consumer(edge, agenda);
+        Ok(true)
+    }
+
+    // Puts in the node into which an edge leads. The collector is none.
+    fn put_consumer(&self, edge: u32, agenda: &mut Agenda)
+        requires there { edge < length self.now.plan.edges }
+        requires agenda { IsAgendaOf self.now.plan agenda.old }
+        ensures { IsAgendaOf self.now.plan agenda.new }
+    {
+        let node = self.plan.edges.as_slice()[edge as usize].node;
+        if node < self.plan.nodes.len() {
+            agenda.put(node);
+        }
+    }
+
+    // Looks over all events, and makes those that do something. Tells whether there was one.
+    fn look_over<G: Gate>(&mut self, gate: &G) -> Result<bool, AllocError>
+        requires running { IsRunning self.old }
+        requires stands { StandsForSome self.old }
+        ensures becomes { Becomes self.old self.new }
+        ensures goes { IfOk result (λ did. Goes did self.old self.new) }
+        ensures rest { IfOk result (λ did. did ≡ false → IsAtRest self.new) }
+    {
+        let delivered = self.look_over_edges(gate)?;
+        let worked = self.look_over_nodes(gate)?;
+        if delivered | worked {
+            return Ok(true);
+        }
+        self.step(Event::Relax, gate)
+    }
+
+    // Brings along each edge what its port hasn't got. Tells whether something was brought.
+    fn look_over_edges<G: Gate>(&mut self, gate: &G) -> Result<bool, AllocError>
+        requires running { IsRunning self.old }
+        requires stands { StandsForSome self.old }
+        ensures becomes { Becomes self.old self.new }
+        ensures goes { IfOk result (λ did. Goes did self.old self.new) }
+        ensures rest { IfOk result (λ did. did ≡ false → EdgesRest self.new (length self.new.plan.edges)) }
+    {
+        let mut did = false;
+        'edges: for edge in 0..self.edge_count() {
+            did |= self.step(Event::Deliver { edge }, gate)?;
+        }
+        Ok(did)
+    }
+
+    fn edge_count(&self) -> u32
+        ensures { result ≡ length self.now.plan.edges }
+    {
+        self.plan.edges.len()
+    }
+
+    fn node_count(&self) -> u32
+        ensures { result ≡ length self.now.plan.nodes }
+    {
+        self.plan.nodes.len()
+    }
+
+    // Lets each node work. Tells whether one did something.
+    fn look_over_nodes<G: Gate>(&mut self, gate: &G) -> Result<bool, AllocError>
+        requires running { IsRunning self.old }
+        requires stands { StandsForSome self.old }
+        ensures becomes { Becomes self.old self.new }
+        ensures goes { IfOk result (λ did. Goes did self.old self.new) }
+        ensures rest { IfOk result (λ did. did ≡ false → NodesRest self.new (length self.new.plan.nodes)) }
+    {
+        let mut did = false;
+        'nodes: for node in 0..self.node_count() {
+            did |= self.work(node, gate)?;
+        }
+        Ok(did)
+    }
+
+    // Claims a node's next work, performs and commits what is claimed, and raises the node's outputs. Tells whether something was done.
+    fn work<G: Gate>(&mut self, node: u32, gate: &G) -> Result<bool, AllocError>
+        requires running { IsRunning self.old }
+        requires stands { StandsForSome self.old }
+        requires there { node < length self.old.plan.nodes }
+        ensures becomes { Becomes self.old self.new }
+        ensures goes { IfOk result (λ did. Goes did self.old self.new) }
+        ensures rest { IfOk result (λ did. did ≡ false → RestsAt self.new node) }
+    {
+        let claimed = self.step(Event::Claim { node }, gate)?;
+        let performed = self.perform_all(node, gate)?;
+        let committed = self.commit_all(node, gate)?;
+        let raised = self.step(Event::Advance { node }, gate)?;
+        Ok(claimed | performed | committed | raised)
+    }
+
+    // Performs a node's works that are claimed. Tells whether there was one.
+    fn perform_all<G: Gate>(&mut self, node: u32, gate: &G) -> Result<bool, AllocError>
+        requires running { IsRunning self.old }
+        requires stands { StandsForSome self.old }
+        requires there { node < length self.old.plan.nodes }
+        ensures becomes { Becomes self.old self.new }
+        ensures goes { IfOk result (λ did. Goes did self.old self.new) }
+        ensures none { IfOk result (λ did. did ≡ false → HasNoWork self.new node) }
+    {
+        let mut did = false;
+        'works: while let Some(number) = self.first_claimed(node) {
+            let _ = self.step(Event::Perform { node, number }, gate)?;
+            did = true;
+        }
+        Ok(did)
+    }
+
+    // The number of the first work of a node that is claimed and not performed.
+    fn first_claimed(&self, node: u32) -> Option<u64>
+        requires there { node < length self.now.plan.nodes }
+        requires stands { StandsForSome self.now }
+        ensures some { IfSome result (λ number. HasWork self.now node number) }
+        ensures none { IfNone result (HasNoWork self.now node) }
+    {
+        self.desks[node as usize].first()
+    }
+
+    // Commits a node's works that are performed. Tells whether there was one.
+    fn commit_all<G: Gate>(&mut self, node: u32, gate: &G) -> Result<bool, AllocError>
+        requires running { IsRunning self.old }
+        requires stands { StandsForSome self.old }
+        requires there { node < length self.old.plan.nodes }
+        ensures becomes { Becomes self.old self.new }
+        ensures goes { IfOk result (λ did. Goes did self.old self.new) }
+        ensures none { IfOk result (λ did. did ≡ false → HasNoShelf self.new node) }
+    {
+        let mut did = false;
+        'works: while let Some(number) = self.first_performed(node) {
+            let _ = self.step(Event::Commit { node, number }, gate)?;
+            did = true;
+        }
+        Ok(did)
+    }
+
+    // The number of the first work of a node that is performed and not committed.
+    fn first_performed(&self, node: u32) -> Option<u64>
+        requires there { node < length self.now.plan.nodes }
+        requires running { IsRunning self.now }
+        requires stands { StandsForSome self.now }
+        ensures some { IfSome result (λ number. HasShelf self.now node number) }
+        ensures none { IfNone result (HasNoShelf self.now node) }
+    {
+        self.engines[node as usize].shelved()
+    }
+
+    // Makes a step. Tells whether it did something.
+    fn step<G: Gate>(&mut self, event: Event, gate: &G) -> Result<bool, AllocError>
+        requires event { IsEventOf self.old event }
+        requires running { IsRunning self.old }
+        requires stands { StandsForSome self.old }
+        ensures becomes { Becomes self.old self.new }
+        ensures steps { IfOk result (λ did. Steps did event self.old self.new) }
+    {
+        match self.act(event, gate) {
+            Effect::Did => Ok(true),
+            Effect::Idle => Ok(false),
+            Effect::OutOfMemory => Err(AllocError),
+        }
+    }
+}

@@ -1,0 +1,26 @@
+//! Where the stream of an edge comes from.
+
+ghost use Rattle.std.specs.Prelude.{◌≡◌, ◌<◌, length, Some};
+ghost use Rattle.mg_throttle.specs.Throttle.{producer_of};
+ghost use Rattle.mg_sched.specs.Places.{source_of};
+
+use mg_calc::{Edge, Plan, Producer};
+
+/// Who writes the stream of an edge.
+pub(crate) fn producer_of(plan: &Plan, edge: Edge) -> Producer
+    requires { edge.stream < length plan.now.streams }
+    ensures { producer_of plan.now edge ≡ Some result }
+{
+    plan.streams.as_slice()[edge.stream as usize].producer
+}
+
+/// The place of the engine that writes the stream of an edge.
+pub(crate) fn source_of(plan: &Plan, edge: Edge) -> usize
+    requires { edge.stream < length plan.now.streams }
+    ensures { source_of plan.now edge ≡ Some result }
+{
+    match producer_of(plan, edge) {
+        Producer::Input(input) => plan.nodes.len() as usize + input as usize,
+        Producer::Node { node, .. } => node as usize,
+    }
+}
