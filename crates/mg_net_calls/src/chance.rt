@@ -1,6 +1,7 @@
 //! Numbers at random.
 
-/// Numbers of a linear congruence, each of which follows from the one before. The first follows from the seed.
+/// Numbers of a linear congruence, each of which follows from the one before. The first follows from the seed, and isn't drawn: it
+/// differs too little from those of the seeds beside it.
 #[derive(Drop)]
 pub(crate) struct Chance {
     number: u64,
@@ -23,7 +24,7 @@ fn place_of(number: u64, places: u32) -> u32 {
 
 impl Chance {
     pub(crate) fn new(seed: u64) -> Chance {
-        Chance { number: seed }
+        Chance { number: next(seed) }
     }
 
     /// One of so many places.

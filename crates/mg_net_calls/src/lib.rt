@@ -1,5 +1,5 @@
-//! The tests of nets: the cells of a whole graph, joined by its edges, driven event by event through tables, at random to rest, by sweeps, and
-//! line by line as its input comes.
+//! The tests of nets: the cells of a whole graph, joined by its edges, driven event by event through tables, at random to rest, by
+//! sweeps, and line by line as its input comes.
 //! There is nothing else here, so that no other crate is proved a second time with its tests.
 #![tactic(auto)]
 
