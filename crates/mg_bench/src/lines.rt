@@ -1,5 +1,8 @@
 //! Packet lines are read batch by batch, and each packet is written again as a line of the stream `out`.
 
+ghost use Rattle.std.specs.Prelude.{[], IfSome};
+ghost use Rattle.mg_calc.specs.Plan.{IsValid, OutersFit};
+
 use mg_calc::{Inputs, OuterShape, Plan};
 use mg_check::check;
 use mg_config::read;
@@ -51,8 +54,11 @@ fn graph() -> &'static str {
     r#"input_stream: "in" output_stream: "out" node { calculator: "PassThroughCalculator" input_stream: "in" output_stream: "out" }"#
 }
 
-// The plan of a graph's text.
-fn plan_of(alloc: Global, text: &str) -> Option<Plan> {
+/// The plan of a graph's text, if it is valid and no calculator has to be handed in.
+pub(crate) fn plan_of(alloc: Global, text: &str) -> Option<Plan>
+    ensures valid { IfSome result IsValid }
+    ensures fit { IfSome result (λ plan. OutersFit plan []) }
+{
     let tree = parse(alloc, text.as_bytes()).ok()?;
     let graph = read(alloc, &tree).ok()?;
     let outers: &[OuterShape] = &[];
