@@ -1,5 +1,5 @@
 -- What a run came to, by its status, and what follows of it.
-use Rattle.std.proofs.Common.{◌≡◌, ◌≢◌, ◌⊎◌, inl, inr, ℕ, List, [], ◌∷◌, ◌++◌, Bool, true, false, ◌&&◌, if◌then◌else◌, Option, None, Some, IfSome, refl, sym, ap, ◌∙◌, subst, arith, append-nil}
+use Rattle.std.proofs.Common.{◌≡◌, ◌≢◌, ◌⊎◌, inl, inr, ℕ, List, [], ◌∷◌, ◌++◌, Bool, true, false, ◌&&◌, not, if◌then◌else◌, Option, None, Some, IfSome, refl, sym, ap, ◌∙◌, subst, arith, append-nil}
 use Rattle.mg_edge.specs.Edge.{SourceTold, SinkTold, Rose, one_more}
 use Rattle.mg_edge.specs.Runs.{Gave}
 use Rattle.mg_value.specs.Payload.{Plain}
@@ -12,19 +12,23 @@ use Rattle.mg_calc.specs.Meaning.{faults, stalled}
 use Rattle.mg_feed.specs.Graph.{GraphInputs, inputs_of}
 use Rattle.mg_feed.specs.Ran.{EndCame, MetEnd, FailedBy}
 use Rattle.mg_feed.specs.Sent.{Sent}
-use Rattle.mg_answer.specs.Notes.{notes_of}
+use Rattle.mg_answer.specs.Notes.{bounds_of, notes_by, notes_of}
 use Rattle.mg_feed.specs.declared.feed_end.FeedEnd.{FeedEnd}
 use Rattle.mg_feed.specs.declared.feed_end.FeedEnd.TheVariants.{Ended, Failed, Refused, OutOfMemory as no_lines}
 use Rattle.mg_answer.specs.Text.{output_of}
 use Rattle.mg_answer.specs.Told.{status_of}
 use Rattle.mg_answer.specs.Answer.{Read, Answer, ended_input, inputs_by, job_of, answer_of, IsAnswer, AnswersEnded}
-use Rattle.mg_answer.specs.Devices.{Device, RunDevices, run_devices, TookFront, HasRisen, Unrisen, NoneFailed}
+use Rattle.mg_answer.specs.Devices.{Device, device, RunDevices, run_devices, TookFront, HasRisen, Unrisen, NoneFailed}
 use Rattle.mg_answer.specs.Ran.{CameAs, CameTo, Meets, RanAll, RanShort, TookSome, Ran, IsAnswered, IsOneOf}
-use Rattle.mg_answer.specs.Code.Answered.{WroteAll, WroteShort, WroteBy, Wrote, WroteSome}
+use Rattle.mg_answer.specs.Put.{TextView, HasPut}
+use Rattle.mg_answer.specs.Wrote.{WroteAll, WroteShort, WroteBy, Wrote}
+use Rattle.mg_answer.specs.Code.Answered.{WroteSome}
+use Rattle.mg_answer.specs.Code.Bounds.{open_numbers}
 use Rattle.mg_answer.specs.Code.Gathered.{Gathered}
 use Rattle.mg_answer.specs.declared.run_status.RunStatus.{RunStatus}
 use Rattle.mg_answer.specs.declared.run_status.RunStatus.TheVariants.{Good, LineRefused, NodeFault, Stalled, ReadFault, WriteFault, OutOfMemory}
-use Rattle.mg_answer.proofs.Writing.{front-sent}
+use Rattle.mg_answer.proofs.Writing.{front-sent, put-sent}
+use Rattle.mg_answer.proofs.Telling.{open-stalled}
 
 -- The answer --
 
@@ -128,22 +132,32 @@ wrote job end streams status result written noted output notes solution is text 
       (wrote-by end (faults job streams) (stalled streams) (answer_of (output_of job.plan streams) job end streams) status written noted output notes is refl text notes_text);
 }
 
--- the same, where the faults and the notes were computed
-pub wrote-told : (job : Job) (end : FeedEnd) (streams : List (StreamPrefix Plain)) (fs : List Fault) (status result : RunStatus) (written noted : Bool) (bytes said : List ℕ) (output notes : Device SinkTold)
-    → IsSolution job streams → fs ≡ faults job streams → status ≡ status_of end fs (stalled streams) → said ≡ notes_of job.plan end fs streams → bytes ≡ said
-    → Sent written output.before output.now (output_of job.plan streams) → Sent noted notes.before notes.now bytes → result ≡ (if written && noted then status else WriteFault)
-    → Wrote job end result output notes
-wrote-told job end streams fs status result written noted bytes said output notes solution fs_is is said_is bytes_is text sent result_is =
-    let told : status ≡ status_of end (faults job streams) (stalled streams) = is ∙ ap (λ l. status_of end l (stalled streams)) fs_is in
-    let noted_is : bytes ≡ notes_of job.plan end (faults job streams) streams = bytes_is ∙ (said_is ∙ ap (λ l. notes_of job.plan end l streams) fs_is) in
-    wrote job end streams status result written noted output notes solution told text
-    (subst (λ (l : List ℕ). Sent noted notes.before notes.now l) noted_is sent) result_is
+-- the same, where the text was put, and the faults and the bounds tell the rest
+pub wrote-told : (plan : Plan) (end : FeedEnd) (fs : List Fault) (bounds : List ℕ) (view view' : TextView) (status result : RunStatus) (written noted : Bool) (bytes said : List ℕ)
+    (before now notes_before notes_now : SinkTold) → ((first : SinkTold) (text : List ℕ) → HasPut first before view text → HasPut first now view' text)
+    → (view'.failed ≡ false → view'.kept ≡ []) → written ≡ not view'.failed → status ≡ status_of end fs (open_numbers bounds) → said ≡ notes_by plan end fs bounds (open_numbers bounds)
+    → bytes ≡ said → Sent noted notes_before notes_now bytes → result ≡ (if written && noted then status else WriteFault)
+    → (job : Job) (streams : List (StreamPrefix Plain)) (first : SinkTold) → job.plan ≡ plan → IsSolution job streams → fs ≡ faults job streams → bounds ≡ bounds_of streams
+    → HasPut first before view (output_of plan streams) → Wrote job end result (device first now) (device notes_before notes_now)
+wrote-told plan end fs bounds view view' status result written noted bytes said before now notes_before notes_now flush none written_is is said_is bytes_is sent result_is
+    job streams first plan_is solution fs_is bounds_is put =
+    let numbers : open_numbers bounds ≡ stalled streams = ap open_numbers bounds_is ∙ open-stalled streams in
+    let told : status ≡ status_of end (faults job streams) (stalled streams) =
+    is ∙ ap (λ l. status_of end l (open_numbers bounds)) fs_is ∙ ap (status_of end (faults job streams)) numbers in
+    let noted_is : bytes ≡ notes_of job.plan end (faults job streams) streams =
+    bytes_is ∙ said_is ∙ ap (λ (p : Plan). notes_by p end fs bounds (open_numbers bounds)) (sym plan_is) ∙ ap (λ l. notes_by job.plan end l bounds (open_numbers bounds)) fs_is
+    ∙ ap (λ l. notes_by job.plan end (faults job streams) l (open_numbers bounds)) bounds_is
+    ∙ ap (λ l. notes_by job.plan end (faults job streams) (bounds_of streams) l) numbers in
+    let text : Sent (not view'.failed) first now (output_of plan streams) =
+    put-sent view'.failed first now view'.kept (output_of plan streams) none (flush first (output_of plan streams) put) in
+    wrote job end streams status result written noted (device first now) (device notes_before notes_now) solution told
+    (subst (λ (b : Bool). Sent b first now (output_of job.plan streams)) (sym written_is)
+    (subst (λ (p : Plan). Sent (not view'.failed) first now (output_of p streams)) (sym plan_is) text))
+    (subst (λ (l : List ℕ). Sent noted notes_before notes_now l) noted_is sent) result_is
 
 -- memory ran out after the output was written
-pub wrote-front : (job : Job) (streams : List (StreamPrefix Plain)) (written : Bool) (output : Device SinkTold) → IsSolution job streams → Sent written output.before output.now (output_of job.plan streams)
-    → WroteSome job output
-wrote-front job streams written output solution text =
-    inr (record { streams = streams; solution = solution; front = front-sent written output.before output.now (output_of job.plan streams) text })
+pub wrote-front : (job : Job) (streams : List (StreamPrefix Plain)) (output : Device SinkTold) → IsSolution job streams → TookFront output (output_of job.plan streams) → WroteSome job output
+wrote-front job streams output solution front = inr (record { streams = streams; solution = solution; front = front })
 
 -- What follows --
 

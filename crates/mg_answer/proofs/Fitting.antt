@@ -1,5 +1,5 @@
 -- What good lines give fits the plan whose graph they were given to.
-use Rattle.std.proofs.Common.{◌≡◌, ◌≤◌, ◌<◌, ◌+◌, ℕ, zero, suc, List, [], ◌∷◌, ◌++◌, length, map, fold, Bool, true, false, Option, None, Some, option_and_then, slice_get, if◌then◌else◌, refl, sym, ap, ◌∙◌, subst, arith, length-append}
+use Rattle.std.proofs.Common.{◌≡◌, ◌≤◌, ◌<◌, ◌+◌, ℕ, zero, suc, List, [], ◌∷◌, length, map, fold, Bool, true, false, Option, None, Some, option_and_then, slice_get, if◌then◌else◌, refl, sym, ap, ◌∙◌, subst, arith, length-append}
 use Rattle.std.proofs.lemmas.List.{length-map}
 use Rattle.std.specs.List.{list_all, filter_map, flat_map, range_with_len}
 use Rattle.std.proofs.lemmas.List.{length-replicate}
@@ -11,13 +11,13 @@ use Rattle.mg_calc.specs.declared.plan.Plan.{Plan}
 use Rattle.mg_calc.specs.Side.{PlainSide, PlainSideValue, given_at, fixed}
 use Rattle.mg_calc.specs.Plan.{IsValid, InputsFit, place_of as side_place}
 use Rattle.mg_feed.specs.Value.{plain_of}
-use Rattle.mg_feed.specs.declared.line_fault.LineFault.{LineFault}
 use Rattle.mg_feed.specs.declared.feed_end.FeedEnd.{FeedEnd}
 use Rattle.mg_feed.specs.Graph.{GraphInputs, place_of, inputs_of, input_streams, given_sides}
 use Rattle.mg_feed.specs.Form.{Named, Form, packets, bound, close, side, is_blank, form_of, json_value}
 use Rattle.mg_feed.specs.Given.{ended_stream}
-use Rattle.mg_feed.specs.Accepted.{State, fresh, stepped, stepped_at, with_packets, with_form, with_said, with_line, time_or_none, given_by, accepted, accepted_after, if_good, refusal}
+use Rattle.mg_feed.specs.Accepted.{State, fresh, stepped, stepped_at, with_packets, with_form, with_said, with_line, time_or_none, given_by, accepted}
 use Rattle.mg_feed.specs.Stands.{AllGood}
+use Rattle.mg_feed.proofs.Accepting.{good-accepted}
 use Rattle.mg_answer.specs.Answer.{Read, is_ended, inputs_by}
 use Rattle.mg_answer.proofs.Prefixes.{prefixes-given}
 
@@ -113,16 +113,6 @@ inputs-fit plan read inputs valid good is =
       prefixes = prefixes-given graph (map (λ s. s.name) (input_streams plan)) (is_ended read.end) read.lines refl good;
       sides = size.sides ∙ length-replicate (length graph.sides) None ∙ side-count plan.sides;
     })
-
--- accepted lines are all good
-good-accepted : (graph : GraphInputs) (before lines : List (List ℕ)) → AllGood graph before (accepted_after graph before lines)
-good-accepted graph before [] = tt
-good-accepted graph before (line ∷ lines) = by (refusal graph before line) refl (good-accepted graph (before ++ line ∷ []) lines)
-  where
-    by : (o : Option LineFault) → refusal graph before line ≡ o → AllGood graph (before ++ line ∷ []) (accepted_after graph (before ++ line ∷ []) lines)
-        → AllGood graph before (if_good o (line ∷ accepted_after graph (before ++ line ∷ []) lines) [])
-    by None is more = (is, more)
-    by (Some fault) is more = tt
 
 pub accepted-fit : (plan : Plan) (lines : List (List ℕ)) (end : FeedEnd) → IsValid plan
     → InputsFit plan (inputs_by (inputs_of plan) (record { lines = accepted (inputs_of plan) lines; end = end }))

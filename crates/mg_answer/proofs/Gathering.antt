@@ -1,6 +1,7 @@
 -- What a feed that read an input hands to a graph.
 use Rattle.std.proofs.Common.{◌≡◌, ◌≢◌, ℕ, List, [], length, Bool, false, Option, refl, sym, ap, ◌∙◌, subst}
 use Rattle.mg_edge.specs.Edge.{SourceTold}
+use Rattle.mg_edge.specs.Runs.{Gave}
 use Rattle.mg_value.specs.Payload.{Plain}
 use Rattle.mg_value.specs.Prefix.{StreamPrefix}
 use Rattle.mg_calc.specs.declared.inputs.Inputs.{Inputs}
@@ -17,7 +18,7 @@ use Rattle.mg_feed.proofs.Holding.{given-untaken}
 use Rattle.mg_feed.specs.declared.feed_end.FeedEnd.{FeedEnd}
 use Rattle.mg_feed.specs.declared.feed_end.FeedEnd.TheVariants.{Ended, Failed, Refused, OutOfMemory}
 use Rattle.mg_answer.specs.Answer.{Read, end_by, is_ended}
-use Rattle.mg_answer.specs.Devices.{device}
+use Rattle.mg_answer.specs.Devices.{Device, device}
 use Rattle.mg_answer.specs.Ran.{CameAs, CameTo}
 use Rattle.mg_answer.specs.Code.Gathered.{Gathered}
 
@@ -38,6 +39,12 @@ came-as (Refused number cause) graph before now came lines ended some ends met =
     (ended, met, λ more fits. let judged = ends more fits in read-same lines _ (Refused number cause) _ (sym judged.0) (ap end_by (sym judged.1)))
 came-as OutOfMemory graph before now came lines ended some ends met = absurd (some refl)
 
+pub came-by : (graph : GraphInputs) (input : Device SourceTold) (came : List ℕ) (lines : List (List ℕ)) (end : FeedEnd) (ended : Bool) → Gave input.before.left input.now.left came
+    → EndsAs end graph [] came lines ended → MetEnd false ended input.before input.now → FailedBy end input.before input.now → end ≢ OutOfMemory
+    → CameTo graph input (record { lines = lines; end = end })
+came-by graph input came lines end ended gave ends met failed some =
+    record { came = came; gave = gave; by = came-as end graph input.before input.now came lines ended some ends met; faults = failed }
+
 -- the bytes that came, and the lines that were accepted of them
 pub came-to : (graph : GraphInputs) (end : FeedEnd) (before now : SourceTold) (old new : Fed) → end ≢ OutOfMemory → old.view.graph ≡ graph → new.view.graph ≡ graph
     → Stands [] (nothing_taken graph) old.view → old.read ≡ record { kept = []; ended = false } → HasRead end before now old new
@@ -53,7 +60,7 @@ came-to graph end before now old new some is_old is_new stands unread read met f
     let given : new.view.given ≡ given_by new.view.graph read.taken = given-untaken read.taken new.view now_stands in
     let is_given : new.view.given ≡ given_by graph read.taken = given ∙ ap (λ g. given_by g read.taken) is_new in (
       read.taken,
-      record { came = read.came; gave = read.gave; by = came-as end graph before now read.came read.taken new.read.ended some ends met'; faults = failed },
+      came-by graph (device before now) read.came read.taken end new.read.ended read.gave ends met' failed some,
       subst (λ (g : GraphInputs). AllGood g [] read.taken) is_new came.stands.good,
       is_given,
     )

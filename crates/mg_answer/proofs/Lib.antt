@@ -6,3 +6,5 @@ pub mod Writing
 pub mod Gathering
 pub mod Telling
 pub mod Answering
+pub mod RunningOn
+pub mod LongerTexts

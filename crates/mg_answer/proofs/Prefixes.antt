@@ -1,73 +1,23 @@
 -- What good lines give to a plan's graph fits the plan: a prefix for each input, and a place for each side packet.
-use Rattle.std.proofs.Common.{◌≡◌, ◌≢◌, ◌≤◌, ◌+◌, ◌==◌, ◌&&◌, ℕ, zero, suc, ℤ, List, [], ◌∷◌, ◌++◌, length, map, replicate, Bool, true, false, not, nat_lt, nat_le, is_some, if◌then◌else◌, Option, Some, None, IfSome, All, option_map, option_and_then, unwrap_or, slice_get, codes, refl, sym, ap, ◌∙◌, subst, append_assoc, append-nil, arith}
-use Rattle.std.proofs.lemmas.Grind.{fold-append}
-use Rattle.std.proofs.lemmas.Bool.{false≢true}
+use Rattle.std.proofs.Common.{◌≡◌, ◌≢◌, ◌≤◌, ◌+◌, ℕ, zero, suc, List, [], ◌∷◌, ◌++◌, length, replicate, Bool, true, false, if◌then◌else◌, Option, Some, None, IfSome, All, option_and_then, slice_get, refl, sym, ap, ◌∙◌, subst, append_assoc, append-nil, arith}
 use Rattle.std.proofs.lemmas.Slice.Eq.{bytes_eq-Decides}
 use Rattle.std.proofs.lemmas.List.Elements.{All-from_recursion}
-use Rattle.std.specs.List.{list_all, AllByRecursion as Each}
+use Rattle.std.specs.List.{AllByRecursion as Each}
 use Rattle.std.specs.Str.{bytes_eq}
-use Rattle.serde_json.specs.Data as json
-use Rattle.serde_json.specs.Find.{as_i64}
-use Rattle.mg_time.specs.Time.{IsAllowed, least, greatest, pre_stream, post_stream, done, place_of as time_place}
+use Rattle.mg_time.specs.Time.{done}
 use Rattle.mg_value.specs.Payload.{Plain}
-use Rattle.mg_value.specs.Json.{first_fault}
-use Rattle.mg_value.specs.declared.kind.Kind.{Kind}
 use Rattle.mg_value.specs.Prefix.{Stamped, StreamPrefix, IsPrefix, MayFollow, empty_prefix, appended, raised, closed}
 use Rattle.mg_value.proofs.Lemmas.{empty_is_prefix, appended_is_prefix, raised_is_prefix, closed_is_prefix}
 use Rattle.mg_feed.specs.Graph.{GraphInputs, place_of, numbered}
 use Rattle.mg_feed.specs.declared.places.Placed.{Placed}
-use Rattle.mg_feed.specs.Form.{Named, Form, packets, bound, close, side, is_blank, form_of, json_value, time_of, time_numbered, is_of_range}
-use Rattle.mg_feed.specs.Value.{plain_of, takes}
+use Rattle.mg_feed.specs.Form.{Named, Form, packets, bound, close, side, form_of, json_value}
+use Rattle.mg_feed.specs.Value.{plain_of}
 use Rattle.mg_feed.specs.Given.{ended_stream, ended_streams}
 use Rattle.mg_feed.specs.Stands.{AllGood}
-use Rattle.mg_feed.specs.Accepted.{State, before, fresh, stepped, stepped_at, with_packets, with_form, with_said, with_line, time_or_none, given_by, standing, has_some, placed, no_stream, kind_at, standing_at, when, first_refusal, packet_refusals, bound_refusals, several_refusals, form_refusals, shape_refusal, json_refusal, words_refusal, line_refusal, longest_line, most_lines, is_stream}
-use Rattle.mg_feed.specs.declared.standing.Standing.{Standing}
-use Rattle.mg_feed.specs.declared.line_fault.LineFault.{LineFault}
-use Rattle.mg_feed.specs.declared.line_fault.LineFault.TheVariants.{BadTimestamp, NotAscending, Closed, KindMismatch, BadValue, TooLong, TooManyLines, NotAlone, UnknownStream}
+use Rattle.mg_feed.specs.Accepted.{State, before, stepped, stepped_at, with_packets, with_form, with_line, time_or_none, given_by, placed, first_refusal, form_refusals, line_refusal}
+use Rattle.mg_feed.proofs.Holding.{given-more}
+use Rattle.mg_feed.proofs.Judging.{if-weaker, if-always, MayStand, Stand, packets-stand, bound-low, line-keeps}
 use Rattle.mg_answer.proofs.Keys.{HasApart, AreApart, IsNew, apart-line}
-
--- Reasons --
-
--- where no reason holds, none of the first does, and none of the others
-first-parts : (x : Option LineFault) (xs : List (Option LineFault)) → first_refusal (x ∷ xs) ≡ None → (x ≡ None) × (first_refusal xs ≡ None)
-first-parts None xs none = (refl, none)
-first-parts (Some fault) xs none = cc
-
-first-both : (xs ys : List (Option LineFault)) → first_refusal (xs ++ ys) ≡ None → (first_refusal xs ≡ None) × (first_refusal ys ≡ None)
-first-both [] ys none = (refl, none)
-first-both (None ∷ xs) ys none = first-both xs ys none
-first-both (Some fault ∷ xs) ys none = cc
-
-when-none : (test : Bool) (fault : LineFault) → when test fault ≡ None → test ≡ false
-when-none true fault none = cc
-when-none false fault none = refl
-
--- Times --
-
-allowed-range : (t : ℕ) (b : Bool) (u : ℕ) → b ≡ (nat_le least t && nat_le t greatest) → (if b then Some t else None) ≡ Some u → IsAllowed u
-allowed-range t true u is e = grind arith
-allowed-range t false u is e = cc
-
-allowed-number : (z : Option ℤ) (u : ℕ) → option_and_then time_numbered z ≡ Some u → IsAllowed u
-allowed-number None u e = cc
-allowed-number (Some z) u e = allowed-range (time_place z) (is_of_range z) u refl e
-
-allowed-named : (a b : Bool) (u : ℕ) → (if a then Some pre_stream else (if b then Some post_stream else None)) ≡ Some u → IsAllowed u
-allowed-named true b u e = grind arith
-allowed-named false true u e = grind arith
-allowed-named false false u e = cc
-
-allowed-time : (t : json.Data) (u : ℕ) → time_of t ≡ Some u → IsAllowed u
-allowed-time json.null u e = cc
-allowed-time (json.boolean b) u e = cc
-allowed-time (json.number n) u e = allowed-number (as_i64 n) u e
-allowed-time (json.string s) u e = allowed-named (bytes_eq s (codes "PreStream")) (bytes_eq s (codes "PostStream")) u e
-allowed-time (json.array ds) u e = cc
-allowed-time (json.object ms) u e = cc
-
-some-time : (time : Option ℕ) → not (is_some time) ≡ false → time ≡ Some (unwrap_or time 0)
-some-time None is = absurd (false≢true (sym is))
-some-time (Some t) is = refl
 
 -- Places --
 
@@ -104,10 +54,6 @@ each-stepped_at : {X : Type 0} (P : X → Type 0) (place : Option ℕ) (f : X �
 each-stepped_at P None f xs step h = h
 each-stepped_at P (Some i) f xs step h = each-stepped P i f xs step h
 
-if-always : {X : Type 0} (o : Option X) (Q : X → Type 0) → ((x : X) → Q x) → IfSome o Q
-if-always None Q all = tt
-if-always (Some x) Q all = all x
-
 -- what stands at another place stays
 get-stepped : {X : Type 0} (i j : ℕ) (f : X → X) (xs : List X) → i ≢ j → slice_get (stepped i f xs) j ≡ slice_get xs j
 get-stepped i j f [] apart = refl
@@ -121,63 +67,10 @@ placed-stepped None q f xs apart = refl
 placed-stepped (Some i) None f xs apart = refl
 placed-stepped (Some i) (Some j) f xs apart = get-stepped i j f xs (λ e. apart i refl (ap Some (sym e)))
 
-placed-map : {X Y : Type 0} (p : Option ℕ) (f : X → Y) (xs : List X) → placed p (map f xs) ≡ option_map f (placed p xs)
-placed-map None f xs = refl
-placed-map (Some i) f xs = get-map i f xs
-  where
-    get-map : {X Y : Type 0} (i : ℕ) (f : X → Y) (xs : List X) → slice_get (map f xs) i ≡ option_map f (slice_get xs i)
-    get-map i f [] = refl
-    get-map zero f (x ∷ xs) = refl
-    get-map (suc i) f (x ∷ xs) = get-map i f xs
-
 -- Packets --
-
--- a packet at a time may follow a stream, whatever its value
-record MayStand (t : ℕ) (s : StreamPrefix Plain) : Type 0 where
-  allowed : IsAllowed t
-  above : s.bound ≤ t
-  alone : t ≡ post_stream → length s.packets ≡ 0
-
--- where no reason against a packet holds, it may follow its stream
-none-begun : (ps : List (Stamped Plain)) → has_some ps ≡ false → length ps ≡ 0
-none-begun [] none = refl
-none-begun (p ∷ ps) none = absurd (false≢true (sym none))
-
-not-both : (a b : Bool) → (a && b) ≡ false → a ≡ true → b ≡ false
-not-both true b e is = e
-not-both false b e is = absurd (false≢true is)
-
-eq-true : (a b : ℕ) → a ≡ b → (a == b) ≡ true
-eq-true a b e = grind arith
-
-may-stand : (kind : Kind) (s : StreamPrefix Plain) (t v : json.Data) → first_refusal (packet_refusals kind (standing s) (time_of t) v) ≡ None → MayStand (time_or_none t) s
-may-stand kind s t v none =
-    let time = time_of t in
-    let u = unwrap_or time 0 in
-    let later = when (s.bound == done) Closed ∷ option_map BadValue (first_fault v) ∷ when (not (takes kind (plain_of v))) KindMismatch
-    ∷ when (nat_lt u s.bound) NotAscending ∷ when ((u == post_stream) && has_some s.packets) NotAlone ∷ [] in
-    let one = first-parts (when (not (is_some time)) BadTimestamp) later none in
-    let two = first-parts (when (s.bound == done) Closed) _ one.1 in
-    let three = first-parts (option_map BadValue (first_fault v)) _ two.1 in
-    let four = first-parts (when (not (takes kind (plain_of v))) KindMismatch) _ three.1 in
-    let five = first-parts (when (nat_lt u s.bound) NotAscending) _ four.1 in
-    let six = first-parts (when ((u == post_stream) && has_some s.packets) NotAlone) [] five.1 in
-    let is : time_of t ≡ Some u = some-time time (when-none (not (is_some time)) BadTimestamp one.0) in
-    let high : nat_lt u s.bound ≡ false = when-none (nat_lt u s.bound) NotAscending five.0 in
-    let solo : ((u == post_stream) && has_some s.packets) ≡ false = when-none _ NotAlone six.0 in
-    record {
-      allowed = allowed-time t u is;
-      above = grind arith;
-      alone = λ e. none-begun s.packets (not-both (u == post_stream) (has_some s.packets) solo (eq-true u post_stream e));
-    }
 
 may-follow : (s : StreamPrefix Plain) (p : Stamped Plain) → MayStand p.at s → MayFollow s p
 may-follow s p h = record { allowed = h.allowed; above = h.above; alone = h.alone }
-
--- the streams of some names may have a packet at a time
-abbrev Stand : List Placed → ℕ → List (StreamPrefix Plain) → List Named → Type 0
-Stand places t ss [] = Unit {0}
-Stand places t ss (v ∷ vs) = IfSome (placed (place_of places v.name) ss) (MayStand t) × Stand places t ss vs
 
 stand-stepped : (k : ℕ) (names : List (List ℕ)) (t : ℕ) (f : StreamPrefix Plain → StreamPrefix Plain) (ss : List (StreamPrefix Plain)) (name : List ℕ) (vs : List Named)
     → IsNew name vs → Stand (numbered k names) t ss vs → Stand (numbered k names) t (stepped_at (place_of (numbered k names) name) f ss) vs
@@ -187,10 +80,6 @@ stand-stepped k names t f ss name (v ∷ vs) new h = (
       (sym (placed-stepped (place_of (numbered k names) name) (place_of (numbered k names) v.name) f ss (λ i e g. new.0 (same-name k names name v.name i e g)))) h.0,
   stand-stepped k names t f ss name vs new.1 h.1,
 )
-
-if-weaker : {X : Type 0} (o : Option X) (P Q : X → Type 0) → ((x : X) → P x → Q x) → IfSome o P → IfSome o Q
-if-weaker None P Q step h = tt
-if-weaker (Some x) P Q step h = step x h
 
 each-packets : (graph : GraphInputs) (names : List (List ℕ)) (t : ℕ) (vs : List Named) (ss : List (StreamPrefix Plain)) → graph.streams ≡ numbered 0 names
     → AreApart vs → Stand graph.streams t ss vs → Each IsPrefix ss → Each IsPrefix (with_packets graph t vs ss)
@@ -208,40 +97,12 @@ each-packets graph names t (v ∷ vs) ss places apart h all =
 
 -- Lines --
 
-standing-some : (o : Option (StreamPrefix Plain)) (Q : StreamPrefix Plain → Type 0) → ((s : StreamPrefix Plain) → unwrap_or (option_map standing o) no_stream ≡ standing s → Q s) → IfSome o Q
-standing-some None Q h = tt
-standing-some (Some s) Q h = h s refl
-
-several-stand : (graph : GraphInputs) (n : ℕ) (given : State) (t : json.Data) (vs : List Named)
-    → first_refusal (several_refusals (before graph n given) (time_of t) vs) ≡ None → Stand graph.streams (time_or_none t) given.streams vs
-several-stand graph n given t [] none = tt
-several-stand graph n given t (v ∷ vs) none =
-    let b = before graph n given in
-    let both = first-both (packet_refusals (kind_at b v.name) (standing_at b v.name) (time_of t) v.value) (several_refusals b (time_of t) vs) none in
-    let place = place_of graph.streams v.name in (
-      standing-some (placed place given.streams) (MayStand (time_or_none t)) (λ s is.
-          may-stand (kind_at b v.name) s t v.value
-          (subst (λ (x : Standing). first_refusal (packet_refusals (kind_at b v.name) x (time_of t) v.value) ≡ None)
-          (ap (λ o. unwrap_or o no_stream) (placed-map place standing given.streams) ∙ is) both.0)),
-      several-stand graph n given t vs both.1,
-    )
-
-bound-done : (t : json.Data) (u : ℕ) → time_of t ≡ Some u → u ≤ done
-bound-done t u is = let allowed = allowed-time t u is in grind arith
-
 each-form : (graph : GraphInputs) (names : List (List ℕ)) (n : ℕ) (given : State) (form : Form) → graph.streams ≡ numbered 0 names → HasApart form
     → first_refusal (form_refusals (before graph n given) form) ≡ None → Each IsPrefix given.streams → Each IsPrefix (with_form graph given form).streams
 each-form graph names n given (packets t vs) places apart none all =
-    let b = before graph n given in
-    each-packets graph names (time_or_none t) vs given.streams places apart
-    (several-stand graph n given t vs (first-parts (when (not (list_all (λ v. is_stream b v.name) vs)) UnknownStream) (several_refusals b (time_of t) vs) none).1) all
+    each-packets graph names (time_or_none t) vs given.streams places apart (packets-stand graph n given t vs none) all
 each-form graph names n given (bound name t) places apart none all =
-    let b = before graph n given in
-    let st = standing_at b name in
-    let one = first-parts (when (not (is_stream b name)) UnknownStream) (bound_refusals st (time_of t)) none in
-    let two = first-parts (when (not (is_some (time_of t))) BadTimestamp) (when (st.bound == done) Closed ∷ []) one.1 in
-    let is : time_of t ≡ Some (time_or_none t) = some-time (time_of t) (when-none (not (is_some (time_of t))) BadTimestamp two.0) in
-    let low : time_or_none t ≤ done = bound-done t (time_or_none t) is in
+    let low : time_or_none t ≤ done = bound-low graph n given name t none in
     each-stepped_at IsPrefix (place_of graph.streams name) (λ s. raised s (time_or_none t)) given.streams
     (if-always (placed (place_of graph.streams name) given.streams) (λ s. IsPrefix s → IsPrefix (raised s (time_or_none t))) (λ s h. raised_is_prefix s (time_or_none t) h low)) all
 each-form graph names n given (close name) places apart none all =
@@ -249,36 +110,15 @@ each-form graph names n given (close name) places apart none all =
     (if-always (placed (place_of graph.streams name) given.streams) (λ s. IsPrefix s → IsPrefix (closed s)) (λ s h. closed_is_prefix s h)) all
 each-form graph names n given (side name v) places apart none all = all
 
-each-said : (graph : GraphInputs) (names : List (List ℕ)) (n : ℕ) (given : State) (v : Option json.Data) → graph.streams ≡ numbered 0 names
-    → IfSome (option_and_then form_of v) HasApart → json_refusal (before graph n given) v ≡ None → Each IsPrefix given.streams
-    → Each IsPrefix (with_said graph given (option_and_then form_of v)).streams
-each-said graph names n given None places apart none all = all
-each-said graph names n given (Some d) places apart none all = by (form_of d) apart none
-  where
-    by : (form : Option Form) → IfSome form HasApart → shape_refusal (before graph n given) form ≡ None → Each IsPrefix (with_said graph given form).streams
-    by None apart none = all
-    by (Some form) apart none = each-form graph names n given form places apart none all
-
-each-words : (graph : GraphInputs) (names : List (List ℕ)) (n : ℕ) (given : State) (blank : Bool) (v : Option json.Data) → graph.streams ≡ numbered 0 names
-    → IfSome (option_and_then form_of v) HasApart → (if blank then None else json_refusal (before graph n given) v) ≡ None → Each IsPrefix given.streams
-    → Each IsPrefix (if blank then given else with_said graph given (option_and_then form_of v)).streams
-each-words graph names n given true v places apart none all = all
-each-words graph names n given false v places apart none all = each-said graph names n given v places apart none all
-
-past-if : {X : Type 0} (test : Bool) (x : X) (o : Option X) → (if test then Some x else o) ≡ None → o ≡ None
-past-if true x o none = cc
-past-if false x o none = none
+-- what holds of an option holds of what it has
+if-some : {X : Type 0} (P : X → Type 0) (o : Option X) (x : X) → o ≡ Some x → IfSome o P → P x
+if-some P o x is h = rw is at h
 
 each-line : (graph : GraphInputs) (names : List (List ℕ)) (n : ℕ) (given : State) (line : List ℕ) → graph.streams ≡ numbered 0 names
     → line_refusal (before graph n given) line ≡ None → Each IsPrefix given.streams → Each IsPrefix (with_line graph given line).streams
 each-line graph names n given line places none all =
-    let b = before graph n given in
-    let few = past-if (nat_lt longest_line (length line)) TooLong (if nat_le most_lines n then Some TooManyLines else words_refusal b line) none in
-    each-words graph names n given (list_all is_blank line) (json_value line) places (apart-line line)
-    (past-if (nat_le most_lines n) TooManyLines (words_refusal b line) few) all
-
-given-more : (graph : GraphInputs) (before : List (List ℕ)) (line : List ℕ) → given_by graph (before ++ line ∷ []) ≡ with_line graph (given_by graph before) line
-given-more graph before line = fold-append (λ given l. with_line graph given l) (fresh graph) before (line ∷ [])
+    line-keeps (λ (s : State). Each IsPrefix s.streams) graph n given line none all (λ form is good.
+    each-form graph names n given form places (if-some HasApart (option_and_then form_of (json_value line)) form is (apart-line line)) good all)
 
 each-lines : (graph : GraphInputs) (names : List (List ℕ)) (before lines : List (List ℕ)) → graph.streams ≡ numbered 0 names → AllGood graph before lines
     → Each IsPrefix (given_by graph before).streams → Each IsPrefix (given_by graph (before ++ lines)).streams

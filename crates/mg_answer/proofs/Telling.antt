@@ -1,6 +1,7 @@
 -- What is told of a solution names streams and nodes that are there.
 use Rattle.std.proofs.Common.{◌≡◌, ◌≤◌, ◌<◌, ◌+◌, ◌==◌, ℕ, List, [], ◌∷◌, length, map, filter, not, Bool, true, false, Option, None, Some, All, refl, sym, ap, ◌∙◌, subst, arith}
 use Rattle.std.specs.List.{filter_map, enumerate_from, AllByRecursion as Each}
+use Rattle.std.proofs.lemmas.List.{length-map}
 use Rattle.std.proofs.lemmas.List.Elements.{All-from_recursion}
 use Rattle.mg_time.specs.Time.{done}
 use Rattle.mg_value.specs.Payload.{Plain}
@@ -15,25 +16,45 @@ use Rattle.mg_calc.specs.Meaning.{stalled, faults, fault_of}
 use Rattle.mg_calc.specs.Plan.{IsValid, InputsFit}
 use Rattle.mg_calc.proofs.Solutions.{solution_keeps, solution_has_each}
 use Rattle.mg_calc.proofs.Jobs.{any_state, job_known}
+use Rattle.mg_answer.specs.Notes.{bounds_of}
+use Rattle.mg_answer.specs.Code.Bounds.{open_numbers}
 
 -- streams
-stalled-by : (b : Bool) (n k : ℕ) (s : StreamPrefix Plain) (more : List (ℕ × StreamPrefix Plain)) → k < n
-    → Each (λ i. i < n) (map (λ e. e.0) (filter (λ (e : ℕ × StreamPrefix Plain). not (e.1.bound == done)) more))
-    → not (s.bound == done) ≡ b → Each (λ i. i < n) (map (λ e. e.0) (filter (λ (e : ℕ × StreamPrefix Plain). not (e.1.bound == done)) ((k, s) ∷ more)))
-stalled-by true n k s more lt all is = rw is (lt, all)
-stalled-by false n k s more lt all is = rw is all
+open-by : (b : Bool) (n k bound : ℕ) (more : List (ℕ × ℕ)) → k < n → Each (λ i. i < n) (map (λ e. e.0) (filter (λ (e : ℕ × ℕ). not (e.1 == done)) more))
+    → not (bound == done) ≡ b → Each (λ i. i < n) (map (λ e. e.0) (filter (λ (e : ℕ × ℕ). not (e.1 == done)) ((k, bound) ∷ more)))
+open-by true n k bound more lt all is = rw is (lt, all)
+open-by false n k bound more lt all is = rw is all
 
-stalled-from : (n k : ℕ) (ss : List (StreamPrefix Plain)) → k + length ss ≤ n
-    → Each (λ i. i < n) (map (λ e. e.0) (filter (λ (e : ℕ × StreamPrefix Plain). not (e.1.bound == done)) (enumerate_from k ss)))
-stalled-from n k [] fits = tt
-stalled-from n k (s ∷ ss) fits = stalled-by (not (s.bound == done)) n k s (enumerate_from (k + 1) ss) (omega (arith, fits)) (stalled-from n (k + 1) ss (omega (arith, fits))) refl
+open-from : (n k : ℕ) (bounds : List ℕ) → k + length bounds ≤ n → Each (λ i. i < n) (map (λ e. e.0) (filter (λ (e : ℕ × ℕ). not (e.1 == done)) (enumerate_from k bounds)))
+open-from n k [] fits = tt
+open-from n k (b ∷ bs) fits = open-by (not (b == done)) n k b (enumerate_from (k + 1) bs) (omega (arith, fits)) (open-from n (k + 1) bs (omega (arith, fits))) refl
 
-stalled-below : (ss : List (StreamPrefix Plain)) → All (λ i. i < length ss) (stalled ss)
-stalled-below ss = All-from_recursion (λ i. i < length ss) (stalled ss) (stalled-from (length ss) 0 ss (omega arith))
+open-below : (bounds : List ℕ) → All (λ i. i < length bounds) (open_numbers bounds)
+open-below bounds = All-from_recursion (λ i. i < length bounds) (open_numbers bounds) (open-from (length bounds) 0 bounds (omega arith))
 
-pub stalled-there : (ns : List ℕ) (ss now : List (StreamPrefix Plain)) → ns ≡ stalled ss → ss ≡ now → All (λ i. i < length now) ns
-stalled-there ns ss now is same =
-    subst (λ (l : List ℕ). All (λ i. i < length now) l) (sym (is ∙ ap stalled same)) (stalled-below now)
+pub open-there : (ns bounds : List ℕ) → ns ≡ open_numbers bounds → All (λ i. i < length bounds) ns
+open-there ns bounds is = subst (λ (l : List ℕ). All (λ i. i < length bounds) l) (sym is) (open-below bounds)
+
+-- the streams that haven't ended are told by the bounds
+open-more : (b : Bool) (k : ℕ) (s : StreamPrefix Plain) (bounds : List (ℕ × ℕ)) (more : List (ℕ × StreamPrefix Plain)) → not (s.bound == done) ≡ b
+    → map (λ e. e.0) (filter (λ (e : ℕ × ℕ). not (e.1 == done)) bounds) ≡ map (λ e. e.0) (filter (λ (e : ℕ × StreamPrefix Plain). not (e.1.bound == done)) more)
+    → map (λ e. e.0) (filter (λ (e : ℕ × ℕ). not (e.1 == done)) ((k, s.bound) ∷ bounds))
+    ≡ map (λ e. e.0) (filter (λ (e : ℕ × StreamPrefix Plain). not (e.1.bound == done)) ((k, s) ∷ more))
+open-more true k s bounds more is same = rw is (ap (λ (l : List ℕ). k ∷ l) same)
+open-more false k s bounds more is same = rw is same
+
+open-each : (k : ℕ) (ss : List (StreamPrefix Plain))
+    → map (λ e. e.0) (filter (λ (e : ℕ × ℕ). not (e.1 == done)) (enumerate_from k (bounds_of ss)))
+    ≡ map (λ e. e.0) (filter (λ (e : ℕ × StreamPrefix Plain). not (e.1.bound == done)) (enumerate_from k ss))
+open-each k [] = refl
+open-each k (s ∷ ss) = open-more (not (s.bound == done)) k s (enumerate_from (k + 1) (bounds_of ss)) (enumerate_from (k + 1) ss) refl (open-each (k + 1) ss)
+
+pub open-stalled : (ss : List (StreamPrefix Plain)) → open_numbers (bounds_of ss) ≡ stalled ss
+open-stalled ss = open-each 0 ss
+
+-- there is a bound for each stream
+pub bounds-each : (bounds : List ℕ) (ss : List (StreamPrefix Plain)) → bounds ≡ bounds_of ss → length bounds ≡ length ss
+bounds-each bounds ss is = ap length is ∙ length-map ss (λ s. s.bound)
 
 -- nodes
 fault-cons : (n : ℕ) (e : ℕ × PlanNode) (job : Job) (ss : List (StreamPrefix Plain)) (more : List (ℕ × PlanNode)) (o : Option Failure) → (outcome_of job ss e.1).fault ≡ o → e.0 < n

@@ -1,5 +1,5 @@
 -- A text that is written in blocks, one set of lines after the other.
-use Rattle.std.proofs.Common.{◌≡◌, ◌<◌, ◌≤◌, ◌+◌, ℕ, zero, suc, List, [], ◌∷◌, ◌++◌, length, drop, get_or, slice_get, Bool, true, false, Option, None, Some, unwrap_or, refl, sym, ap, ◌∙◌, subst, arith, append_assoc, append-nil}
+use Rattle.std.proofs.Common.{◌≡◌, ◌<◌, ◌≤◌, ◌+◌, ℕ, zero, suc, List, [], ◌∷◌, ◌++◌, length, drop, get_or, slice_get, Bool, true, false, Option, None, Some, unwrap_or, not, refl, sym, ap, ◌∙◌, subst, arith, append_assoc, append-nil}
 use Rattle.mg_edge.specs.Edge.{SinkTold, Rose}
 use Rattle.mg_edge.specs.Runs.{TookAll}
 use Rattle.mg_edge.proofs.Runs.{TookAll-start}
@@ -8,7 +8,8 @@ use Rattle.mg_value.specs.Prefix.{Stamped}
 use Rattle.mg_value.specs.Settled.{TimedSet}
 use Rattle.mg_feed.specs.Sent.{SentAll, SentPart, Sent}
 use Rattle.mg_answer.specs.Text.{packet_text, set_text, sets_text}
-use Rattle.mg_answer.specs.Devices.{device, TookFront}
+use Rattle.mg_answer.specs.Devices.{Device, device, IsFront, TookFront}
+use Rattle.mg_answer.specs.Put.{TextView, nothing_put, PutBy, HasPut}
 use Rattle.mg_answer.specs.Code.Written.{Pours, HandedOn}
 
 -- One sink --
@@ -52,41 +53,64 @@ front-sent false first now text sent = (sent.front, (sent.rest, sent.cut), sent.
 pub front-none : (told : SinkTold) (text : List ℕ) → TookFront (device told told) text
 front-none told text = ([], (text, refl), TookAll-start told.taken)
 
--- Blocks --
+-- a front of a front
+pub front-on : (sink : Device SinkTold) (text longer : List ℕ) → IsFront text longer → TookFront sink text → TookFront sink longer
+front-on sink text longer begins took =
+    (took.0, (took.1.0 ++ begins.0, begins.1 ∙ ap (λ l. l ++ begins.0) took.1.1 ∙ append_assoc took.0 took.1.0 begins.0), took.2)
 
-pub pours-start : (told : SinkTold) (whole : List ℕ) → Pours told told whole [] whole
-pours-start told whole = record { sent = []; flows = record { whole = TookAll-start told.taken; steady = refl }; is = refl }
+-- A text that is put --
 
-pours-push : (first now : SinkTold) (whole kept more rest kept' : List ℕ) → Pours first now whole kept (more ++ rest) → kept' ≡ kept ++ more → Pours first now whole kept' rest
-pours-push first now whole kept more rest kept' pours is = record {
-  sent = pours.sent;
-  flows = pours.flows;
-  is = pours.is ∙ ap (λ l. pours.sent ++ l) (sym (append_assoc kept more rest) ∙ ap (λ l. l ++ rest) (sym is));
-}
+pub nothing-put : (first : SinkTold) (names : List (List ℕ)) → HasPut first first (nothing_put names) []
+nothing-put first names = ([], record { whole = TookAll-start first.taken; steady = refl }, refl)
 
-pub pours-on : (first before now : SinkTold) (whole kept left rest : List ℕ) → Pours first before whole kept rest → HandedOn true before now kept left → Pours first now whole left rest
-pours-on first before now whole kept left rest pours handed = record {
-  sent = pours.sent ++ handed.0;
-  flows = sent-then first before now pours.sent handed.0 pours.flows handed.1;
-  is = pours.is ∙ ap (λ l. pours.sent ++ (l ++ rest)) handed.2 ∙ ap (λ l. pours.sent ++ l) (append_assoc handed.0 left rest)
-      ∙ sym (append_assoc pours.sent handed.0 (left ++ rest));
-}
+-- what is put so far is taken in front
+pub put-front : (failed : Bool) (first now : SinkTold) (kept text : List ℕ) → PutBy failed first now kept text → TookFront (device first now) text
+put-front true first now kept text put = (put.front, (put.rest, put.cut), put.taken)
+put-front false first now kept text put = (put.0, (kept, put.2), put.1.whole)
 
-pub pours-failed : (first before now : SinkTold) (whole kept left rest : List ℕ) → Pours first before whole kept rest → HandedOn false before now kept left → SentPart first now whole
-pours-failed first before now whole kept left rest pours part =
-    subst (λ (l : List ℕ). SentPart first now l) (sym pours.is)
-    (part-then first before now pours.sent (kept ++ rest) pours.flows (part-more before now kept rest part))
+-- more text, where a write has failed
+pub put-past : (failed : Bool) (first now : SinkTold) (kept text more : List ℕ) → failed ≡ true → PutBy failed first now kept text → PutBy failed first now kept (text ++ more)
+put-past failed first now kept text more is put =
+    subst (λ (b : Bool). PutBy b first now kept (text ++ more)) (sym is)
+    (part-more first now text more (subst (λ (b : Bool). PutBy b first now kept text) is put))
 
-pub pours-end : (all : Bool) (first before now : SinkTold) (whole kept rest : List ℕ) → Pours first before whole kept rest → rest ≡ [] → Sent all before now kept → Sent all first now whole
-pours-end true first before now whole kept rest pours none sent =
-    subst (λ (l : List ℕ). SentAll first now l) (sym (pours.is ∙ ap (λ r. pours.sent ++ (kept ++ r)) none ∙ ap (λ l. pours.sent ++ l) (append-nil kept)))
-    (sent-then first before now pours.sent kept pours.flows sent)
-pours-end false first before now whole kept rest pours none part =
-    subst (λ (l : List ℕ). SentPart first now l) (sym (pours.is ∙ ap (λ r. pours.sent ++ (kept ++ r)) none ∙ ap (λ l. pours.sent ++ l) (append-nil kept)))
-    (part-then first before now pours.sent kept pours.flows part)
+-- more text is kept, and then handed on or not
+put-by : (all : Bool) (first before now : SinkTold) (kept more kept' left text : List ℕ) → PutBy false first before kept text → kept' ≡ kept ++ more
+    → HandedOn all before now kept' left → PutBy (not all) first now left (text ++ more)
+put-by true first before now kept more kept' left text put is handed = (
+  put.0 ++ handed.0,
+  sent-then first before now put.0 handed.0 put.1 handed.1,
+  ap (λ l. l ++ more) put.2 ∙ append_assoc put.0 kept more ∙ ap (λ l. put.0 ++ l) (sym is ∙ handed.2) ∙ sym (append_assoc put.0 handed.0 left),
+)
+put-by false first before now kept more kept' left text put is part =
+    subst (λ (l : List ℕ). SentPart first now l) (ap (λ l. put.0 ++ l) is ∙ sym (append_assoc put.0 kept more) ∙ ap (λ l. l ++ more) (sym put.2))
+    (part-then first before now put.0 kept' put.1 part)
 
-pub pours-front : (first now : SinkTold) (whole kept rest : List ℕ) → Pours first now whole kept rest → TookFront (device first now) whole
-pours-front first now whole kept rest pours = (pours.sent, (kept ++ rest, pours.is), pours.flows.whole)
+pub put-more : (all failed failed' : Bool) (first before now : SinkTold) (kept more kept' left text : List ℕ) → failed ≡ false → PutBy failed first before kept text
+    → kept' ≡ kept ++ more → HandedOn all before now kept' left → failed' ≡ not all → PutBy failed' first now left (text ++ more)
+put-more all failed failed' first before now kept more kept' left text was put is handed told =
+    subst (λ (b : Bool). PutBy b first now left (text ++ more)) (sym told)
+    (put-by all first before now kept more kept' left text (subst (λ (b : Bool). PutBy b first before kept text) was put) is handed)
+
+-- all that is kept is written
+rest-by : (all : Bool) (first before now : SinkTold) (kept left text : List ℕ) → PutBy false first before kept text → Sent all before now kept → left ≡ []
+    → PutBy (not all) first now left text
+rest-by true first before now kept left text put sent none =
+    (put.0 ++ kept, sent-then first before now put.0 kept put.1 sent, put.2 ∙ sym (append-nil (put.0 ++ kept)) ∙ ap (λ l. (put.0 ++ kept) ++ l) (sym none))
+rest-by false first before now kept left text put part none =
+    subst (λ (l : List ℕ). SentPart first now l) (sym put.2) (part-then first before now put.0 kept put.1 part)
+
+pub put-rest : (all failed failed' : Bool) (first before now : SinkTold) (kept left text : List ℕ) → failed ≡ false → PutBy failed first before kept text
+    → Sent all before now kept → left ≡ [] → failed' ≡ not all → PutBy failed' first now left text
+put-rest all failed failed' first before now kept left text was put sent none told =
+    subst (λ (b : Bool). PutBy b first now left text) (sym told)
+    (rest-by all first before now kept left text (subst (λ (b : Bool). PutBy b first before kept text) was put) sent none)
+
+-- a text of which nothing is kept was sent, unless a write has failed
+pub put-sent : (failed : Bool) (first now : SinkTold) (kept text : List ℕ) → (failed ≡ false → kept ≡ []) → PutBy failed first now kept text → Sent (not failed) first now text
+put-sent true first now kept text none put = put
+put-sent false first now kept text none put =
+    subst (λ (l : List ℕ). SentAll first now l) (sym (put.2 ∙ ap (λ l. put.0 ++ l) (none refl) ∙ append-nil put.0)) put.1
 
 -- Sets --
 
@@ -97,22 +121,42 @@ sets-next names [] i timed lt is = absurd (omega arith)
 sets-next names (s ∷ sets) zero timed lt is = ap (λ (t : TimedSet Plain). set_text names t.set ++ sets_text names sets) (sym is)
 sets-next names (s ∷ sets) (suc i) timed lt is = sets-next names sets i timed (omega arith) is
 
--- the lines of one more set
-pub pours-set : (first now : SinkTold) (names : List (List ℕ)) (sets : List (TimedSet Plain)) (i : ℕ) (timed : TimedSet Plain) (set : List (Option (Stamped Plain))) (whole kept kept' : List ℕ)
-    → Pours first now whole kept (sets_text names (drop i sets)) → i < length sets → timed ≡ get_or sets i timed → set ≡ timed.set → kept' ≡ kept ++ set_text names set
-    → Pours first now whole kept' (sets_text names (drop (i + 1) sets))
-pours-set first now names sets i timed set whole kept kept' pours lt is is_set is_kept =
-    let more : suc i ≡ i + 1 = omega arith in
-    subst (λ (j : ℕ). Pours first now whole kept' (sets_text names (drop j sets))) more
-    (pours-push first now whole kept (set_text names timed.set) (sets_text names (drop (suc i) sets)) kept'
-    (subst (λ (l : List ℕ). Pours first now whole kept l) (sets-next names sets i timed lt is) pours)
-    (is_kept ∙ ap (λ (p : List (Option (Stamped Plain))). kept ++ set_text names p) is_set))
-
-pub sets-past : (names : List (List ℕ)) (sets : List (TimedSet Plain)) (i : ℕ) → length sets ≤ i → sets_text names (drop i sets) ≡ []
+sets-past : (names : List (List ℕ)) (sets : List (TimedSet Plain)) (i : ℕ) → length sets ≤ i → sets_text names (drop i sets) ≡ []
 sets-past names [] zero past = refl
 sets-past names [] (suc i) past = refl
 sets-past names (s ∷ sets) zero past = absurd (omega arith)
 sets-past names (s ∷ sets) (suc i) past = sets-past names sets i (omega arith)
+
+pub pours-start : (told : SinkTold) (view : TextView) (whole : List ℕ) → view ≡ nothing_put view.names → Pours told told view whole whole
+pours-start told view whole is = record { so_far = []; has = subst (λ (v : TextView). HasPut told told v []) (sym is) (nothing-put told view.names); is = refl }
+
+-- the lines of one more set
+pub pours-set : (first before now : SinkTold) (view view' : TextView) (names : List (List ℕ)) (sets : List (TimedSet Plain)) (i : ℕ) (timed : TimedSet Plain)
+    (set : List (Option (Stamped Plain))) (whole : List ℕ) → Pours first before view whole (sets_text names (drop i sets)) → i < length sets → timed ≡ get_or sets i timed → set ≡ timed.set
+    → view.names ≡ names
+    → ((told : SinkTold) (text : List ℕ) → HasPut told before view text → HasPut told now view' (text ++ set_text view.names set))
+    → Pours first now view' whole (sets_text names (drop (i + 1) sets))
+pours-set first before now view view' names sets i timed set whole pours lt is is_set named put =
+    let more : suc i ≡ i + 1 = omega arith in
+    let rest = sets_text names (drop (suc i) sets) in
+    let same : set_text view.names set ≡ set_text names timed.set = ap (λ l. set_text l set) named ∙ ap (λ (p : List (Option (Stamped Plain))). set_text names p) is_set in
+    subst (λ (j : ℕ). Pours first now view' whole (sets_text names (drop j sets))) more
+    (record {
+      so_far = pours.so_far ++ set_text names timed.set;
+      has = subst (λ (l : List ℕ). HasPut first now view' (pours.so_far ++ l)) same (put first pours.so_far pours.has);
+      is = pours.is ∙ ap (λ l. pours.so_far ++ l) (sets-next names sets i timed lt is) ∙ sym (append_assoc pours.so_far (set_text names timed.set) rest);
+    })
+
+pub pours-end : (first now : SinkTold) (view : TextView) (names : List (List ℕ)) (sets : List (TimedSet Plain)) (i : ℕ) (whole : List ℕ)
+    → Pours first now view whole (sets_text names (drop i sets)) → length sets ≤ i → HasPut first now view whole
+pours-end first now view names sets i whole pours past =
+    subst (λ (l : List ℕ). HasPut first now view l) (sym (pours.is ∙ ap (λ l. pours.so_far ++ l) (sets-past names sets i past) ∙ append-nil pours.so_far)) pours.has
+
+-- what was put is in front of the whole
+pub pours-front : (first before now : SinkTold) (view : TextView) (whole rest : List ℕ) → Pours first before view whole rest → now ≡ before → TookFront (device first now) whole
+pours-front first before now view whole rest pours is =
+    subst (λ (t : SinkTold). TookFront (device first t) whole) (sym is)
+    (front-on (device first before) pours.so_far whole (rest, pours.is) (put-front view.failed first before view.kept pours.so_far pours.has))
 
 -- Places of one set --
 

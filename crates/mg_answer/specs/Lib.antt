@@ -4,5 +4,7 @@ pub mod Told
 pub mod Notes
 pub mod Answer
 pub mod Devices
+pub mod Put
+pub mod Wrote
 pub mod Ran
 pub mod Code

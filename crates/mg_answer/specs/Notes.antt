@@ -1,6 +1,7 @@
 -- The notes of a run, each one line whatever a label or a name holds.
-use Rattle.std.specs.Prelude.{ℕ, List, [], ◌++◌, slice_get, option_map, unwrap_or, codes, decimal}
+use Rattle.std.specs.Prelude.{ℕ, List, [], ◌++◌, map, slice_get, slice_index_or, option_map, unwrap_or, codes, decimal}
 use Rattle.std.specs.List.{flat_map}
+use Rattle.mg_time.specs.Time.{pre_stream}
 use Rattle.mg_time.specs.Text.{time_text}
 use Rattle.mg_value.specs.Payload.{Plain}
 use Rattle.mg_value.specs.Prefix.{StreamPrefix}
@@ -12,7 +13,6 @@ use Rattle.mg_calc.specs.declared.node_fault.NodeFault.{NodeFault}
 use Rattle.mg_calc.specs.declared.node_fault.Phase.{Phase}
 use Rattle.mg_calc.specs.declared.node_fault.Phase.TheVariants.{Open, Call, Process, Close}
 use Rattle.mg_calc.specs.declared.plan.Plan.{Plan}
-use Rattle.mg_calc.specs.Equations.{stream_of}
 use Rattle.mg_calc.specs.Meaning.{stalled}
 use Rattle.mg_feed.specs.declared.line_fault.LineFault.{LineFault}
 use Rattle.mg_feed.specs.declared.line_fault.LineFault.TheVariants as lines
@@ -97,23 +97,31 @@ fault_note plan fault = node_text plan fault.node ++ phase_text fault.phase ++ c
 
 -- The streams --
 
+-- the bounds of some streams
+abbrev pub bounds_of : List (StreamPrefix Plain) → List ℕ
+bounds_of streams = map (λ s. s.bound) streams
+
 -- a stream that hasn't ended, and its bound
-abbrev pub stall_note : Plan → List (StreamPrefix Plain) → ℕ → List ℕ
-stall_note plan streams number =
-    codes "stalled: " ++ shown (name_of plan number) ++ codes " " ++ time_text (stream_of streams number).bound ++ codes "\n"
+abbrev pub stall_note : Plan → List ℕ → ℕ → List ℕ
+stall_note plan bounds number =
+    codes "stalled: " ++ shown (name_of plan number) ++ codes " " ++ time_text (slice_index_or bounds number pre_stream) ++ codes "\n"
 
 -- the streams of these numbers are noted at one status alone
-abbrev pub stall_notes : RunStatus → Plan → List (StreamPrefix Plain) → List ℕ → List ℕ
-stall_notes runs.Good plan streams stalled = []
-stall_notes runs.LineRefused plan streams stalled = []
-stall_notes runs.NodeFault plan streams stalled = []
-stall_notes runs.Stalled plan streams stalled = flat_map (stall_note plan streams) stalled
-stall_notes runs.ReadFault plan streams stalled = []
-stall_notes runs.WriteFault plan streams stalled = []
-stall_notes runs.OutOfMemory plan streams stalled = []
+abbrev pub stall_notes : RunStatus → Plan → List ℕ → List ℕ → List ℕ
+stall_notes runs.Good plan bounds stalled = []
+stall_notes runs.LineRefused plan bounds stalled = []
+stall_notes runs.NodeFault plan bounds stalled = []
+stall_notes runs.Stalled plan bounds stalled = flat_map (stall_note plan bounds) stalled
+stall_notes runs.ReadFault plan bounds stalled = []
+stall_notes runs.WriteFault plan bounds stalled = []
+stall_notes runs.OutOfMemory plan bounds stalled = []
 
 -- All notes of a run: how the input ended, then each node's fault in node order, then the streams that haven't ended, in
--- stream order, exactly where this is the status.
+-- stream order, exactly where this is the status. Of the streams it takes the bounds and the numbers of those that stalled.
+abbrev pub notes_by : Plan → FeedEnd → List NodeFault → List ℕ → List ℕ → List ℕ
+notes_by plan end faults bounds stalled =
+    end_note end ++ flat_map (fault_note plan) faults ++ stall_notes (status_of end faults stalled) plan bounds stalled
+
+-- the notes that the streams of a plan make
 abbrev pub notes_of : Plan → FeedEnd → List NodeFault → List (StreamPrefix Plain) → List ℕ
-notes_of plan end faults streams =
-    end_note end ++ flat_map (fault_note plan) faults ++ stall_notes (status_of end faults (stalled streams)) plan streams (stalled streams)
+notes_of plan end faults streams = notes_by plan end faults (bounds_of streams) (stalled streams)

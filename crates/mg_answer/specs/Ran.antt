@@ -77,6 +77,18 @@ Ran plan WriteFault devices = RanShort plan devices
 Ran plan OutOfMemory devices = RanOut plan devices
 Ran plan status devices = RanAll plan status devices
 
+-- Memory ran out: after the input was read, and the output took a front of the answer's text over what it came to; or while it
+-- came, and where the input tells its bytes the output took a front of the answer's text over an input that ends after them.
+abbrev pub RanShortOf : Plan → RunDevices → Type 0
+RanShortOf plan devices =
+    TookSome plan devices ⊎ IfSome devices.input.before.left (λ bytes. (answer : Answer) → AnswersEnded plan bytes answer → TookFront devices.output answer.output)
+
+-- A run that writes as it goes ended with this status.
+abbrev pub RanOn : Plan → RunStatus → RunDevices → Type 0
+RanOn plan WriteFault devices = RanShort plan devices
+RanOn plan OutOfMemory devices = RanShortOf plan devices
+RanOn plan status devices = RanAll plan status devices
+
 -- Where the input tells its bytes, the run met the answer over an input that ends after them.
 abbrev pub IsAnswered : Plan → RunStatus → RunDevices → Type 0
 IsAnswered plan status devices = IfSome devices.input.before.left (λ bytes. (answer : Answer) × AnswersEnded plan bytes answer × Meets answer status devices)

@@ -1,19 +1,19 @@
 //! The notes of a run.
-ghost use Rattle.std.specs.Prelude.{◌≡◌, ◌<◌, ◌++◌, All, length, decimal, IfOk, OnOk};
+ghost use Rattle.std.specs.Prelude.{◌≡◌, ◌<◌, ◌++◌, All, length, slice_index_or, decimal, IfOk, OnOk};
 ghost use Rattle.std.specs.List.{flat_map};
+ghost use Rattle.mg_time.specs.Time.{pre_stream};
 ghost use Rattle.mg_time.specs.Text.{time_text};
 ghost use Rattle.mg_answer.specs.Notes as notes;
-ghost use Rattle.mg_calc.specs.Equations.{stream_of};
 
 use crate::RunStatus;
-use crate::output_text::stream_name;
+use crate::set_lines::stream_name;
 use crate::shown::put_shown;
 use crate::words::{cause_name, line_refusal};
 use itoa::Buffer;
 use mg_calc::{NodeFault, Phase, Plan};
 use mg_feed::{FeedEnd, LineFault};
 use mg_time::Timestamp;
-use mg_value::{MgText, Prefix};
+use mg_value::MgText;
 use std::alloc::AllocError;
 
 /// Puts the note of how an input ended, where it didn't end well, at a text's end.
@@ -114,18 +114,18 @@ pub fn put_stalled(
     text: &mut Vec<u8>,
     status: RunStatus,
     plan: &Plan,
-    streams: &[Prefix],
+    bounds: &[Timestamp],
     stalled: &[u32],
 ) -> Result<(), AllocError>
-    requires numbers { All (λ number. number < length streams.now) stalled.now }
-    requires many { length streams.now ≡ length plan.now.streams }
-    ensures { OnOk result (text.new.items ≡ text.old.items ++ notes.stall_notes status plan.now streams.now stalled.now) }
+    requires numbers { All (λ number. number < length bounds.now) stalled.now }
+    requires many { length bounds.now ≡ length plan.now.streams }
+    ensures { OnOk result (text.new.items ≡ text.old.items ++ notes.stall_notes status plan.now bounds.now stalled.now) }
 {
     if status != RunStatus::Stalled {
         return Ok(());
     }
     for number in stalled {
-        put_stall(text, plan, streams, *number)?;
+        put_stall(text, plan, bounds, *number)?;
     }
     Ok(())
 }
@@ -134,27 +134,26 @@ pub fn put_stalled(
 fn put_stall(
     text: &mut Vec<u8>,
     plan: &Plan,
-    streams: &[Prefix],
+    bounds: &[Timestamp],
     number: u32,
 ) -> Result<(), AllocError>
-    requires there { number < length streams.now }
-    requires many { length streams.now ≡ length plan.now.streams }
-    ensures { OnOk result (text.new.items ≡ text.old.items ++ notes.stall_note plan.now streams.now number) }
+    requires there { number < length bounds.now }
+    requires many { length bounds.now ≡ length plan.now.streams }
+    ensures { OnOk result (text.new.items ≡ text.old.items ++ notes.stall_note plan.now bounds.now number) }
 {
     put(text, b"stalled: ")?;
     put_shown(text, stream_name(plan, number).as_bytes())?;
     put(text, b" ")?;
-    put_time(text, bound_at(streams, number))?;
+    put_time(text, bound_at(bounds, number))?;
     put(text, b"\n")
 }
 
-// The bound of a stream.
-fn bound_at(streams: &[Prefix], number: u32) -> Timestamp
-    requires { number < length streams.now }
-    ensures { result ≡ (stream_of streams.now number).bound }
+// The bound of a stream, of the bounds of all.
+fn bound_at(bounds: &[Timestamp], number: u32) -> Timestamp
+    requires { number < length bounds.now }
+    ensures { result ≡ slice_index_or bounds.now number pre_stream }
 {
-    let stream = &streams[number as usize];
-    stream.bound
+    bounds[number as usize]
 }
 
 // Puts a timestamp.

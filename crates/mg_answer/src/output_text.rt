@@ -1,110 +1,91 @@
-//! The output text of a solution, written in blocks.
-ghost use Rattle.std.specs.Prelude.{◌≡◌, ◌<◌, ◌^◌, ◌++◌, All, length, IfOk, OnOk, MatchResult};
-ghost use Rattle.std.specs.Option.{option_copied};
-ghost use Rattle.mg_value.specs.Prefix.{IsPrefix};
-ghost use Rattle.mg_feed.specs.Sent.{Sent};
-ghost use Rattle.mg_answer.specs.Text.{name_of, output_names, packet_text, set_text, sets_text, output_of};
-ghost use Rattle.mg_answer.specs.Devices.{device, TookFront};
+//! The output text of a run, which is put set by set and written in blocks.
+ghost use Rattle.std.specs.Prelude.{◌≡◌, ◌<◌, ◌++◌, [], false, All, length, List, ℕ, IfOk, OnOk, OnErr};
+ghost use Rattle.mg_edge.specs.Edge.{SinkTold};
+ghost use Rattle.mg_answer.specs.Text.{output_names, set_text};
+ghost use Rattle.mg_answer.specs.Put.{nothing_put, HasPut};
 ghost use Rattle.mg_answer.specs.Code.Written.{HandedOn};
 
+use crate::set_lines::{push_set, writers_of};
 use mg_calc::Plan;
 use mg_edge::Sink;
 use mg_feed::{LineWriter, put_all};
-use mg_value::{InputSet, MgText, Packet, Policy, PrefixList, TimedSet, settled_sets};
+use mg_value::InputSet;
 use std::alloc::{AllocError, Global};
+use std::marker::Model;
 
 // How many bytes a text has before they are handed on.
 const BLOCK: usize = 1 << 16;
 
-/// Writes the text that a graph's outputs make, of all streams of its plan. False where a write failed.
-pub fn write_output<K: Sink>(
-    alloc: Global,
-    plan: &Plan,
-    streams: &PrefixList,
-    output: &mut K,
-) -> Result<bool, AllocError>
-    requires streams { All IsPrefix streams.now }
-    requires many { length streams.now ≡ length plan.now.streams }
-    requires shown { All (λ s. s < length plan.now.streams) plan.now.outputs }
-    ensures { MatchResult result (λ all. Sent all (K.told output.old) (K.told output.new) (output_of plan.now streams.now))
-        (λ _. TookFront (device (K.told output.old) (K.told output.new)) (output_of plan.now streams.now)) }
-{
-    let sets = settled_sets(alloc, Policy::Default, streams, &plan.outputs)?;
-    let writers = writers_of(alloc, plan)?;
-    write_sets(alloc, writers.as_slice(), sets.as_slice(), output)
+/// The text that a graph's outputs make, on its way to a sink: sets are put one after the other, and their lines are written
+/// once there is a block of 64 KiB. Once a write has failed nothing more is written.
+///
+/// What of a text was put, and what a sink took of it, is `HasPut` of `specs/Put.antt`.
+#[derive(Drop)]
+pub struct OutputText {
+    writers: Vec<LineWriter>,
+    text: Vec<u8>,
+    failed: bool,
 }
 
-// What writes the lines of each output.
-fn writers_of(alloc: Global, plan: &Plan) -> Result<Vec<LineWriter>, AllocError>
-    requires { All (λ s. s < length plan.now.streams) plan.now.outputs }
-    ensures names { IfOk result (λ writers. writers.items ≡ output_names plan.now) }
-    ensures few { IfOk result (λ writers. length writers.items < 2 ^ 32) }
-{
-    let mut writers = Vec::with_capacity(alloc, plan.outputs.len() as usize)?;
-    for number in plan.outputs.as_slice() {
-        writers.push(writer_of(alloc, plan, *number)?)?;
+impl Model for OutputText {
+    ghost use Rattle.std.specs.Prelude.{◌<◌, ◌^◌, length};
+    ghost use Rattle.mg_answer.specs.Put.{TextView};
+
+    ghost Value = { TextView };
+
+    ghost view = { λ t. record { names = t.writers.items; kept = t.text.items; failed = t.failed } };
+
+    ghost invariant = { λ t. length t.writers.items < 2 ^ 32 };
+}
+
+impl OutputText {
+    /// A text for the outputs of a plan, of which nothing is put yet.
+    pub fn new(alloc: Global, plan: &Plan) -> Result<OutputText, AllocError>
+        requires shown { All (λ s. s < length plan.now.streams) plan.now.outputs }
+        ensures { IfOk result (λ t. t ≡ nothing_put (output_names plan.now)) }
+    {
+        let writers = writers_of(alloc, plan)?;
+        Ok(OutputText {
+            writers,
+            text: Vec::new(alloc),
+            failed: false,
+        })
     }
-    Ok(writers)
-}
 
-fn writer_of(alloc: Global, plan: &Plan, number: u32) -> Result<LineWriter, AllocError>
-    requires { number < length plan.now.streams }
-    ensures { IfOk result (λ writer. writer ≡ name_of plan.now number) }
-{
-    LineWriter::new(alloc, stream_name(plan, number))
-}
-
-/// The name of a stream.
-pub fn stream_name(plan: &Plan, number: u32) -> &MgText
-    requires { number < length plan.now.streams }
-    ensures { result.now ≡ name_of plan.now number }
-{
-    &plan.streams.as_slice()[number as usize].name
-}
-
-// Writes the lines of sets.
-fn write_sets<K: Sink>(
-    alloc: Global,
-    writers: &[LineWriter],
-    sets: &[TimedSet],
-    output: &mut K,
-) -> Result<bool, AllocError>
-    requires { length writers.now < 2 ^ 32 }
-    ensures { MatchResult result (λ all. Sent all (K.told output.old) (K.told output.new) (sets_text writers.now sets.now))
-        (λ _. TookFront (device (K.told output.old) (K.told output.new)) (sets_text writers.now sets.now)) }
-{
-    let mut text = Vec::new(alloc);
-    for timed in sets {
-        push_set(&mut text, writers, &timed.set)?;
-        if !hand_on(output, &mut text) {
-            return Ok(false);
+    /// Puts the lines of a set, and writes what isn't written once it has a block of bytes. After a failed write it puts
+    /// nothing more. After an `Err` nothing of the set was written, but a part of it may be kept: let the text go then.
+    pub fn put_set<K: Sink>(&mut self, set: &InputSet, output: &mut K) -> Result<(), AllocError>
+        ensures names { self.new.names ≡ self.old.names }
+        ensures put { OnOk result ((first : SinkTold) (text : List ℕ) → HasPut first (K.told output.old) self.old text
+            → HasPut first (K.told output.new) self.new (text ++ set_text self.old.names set.now)) }
+        ensures unwritten { OnErr result (K.told output.new ≡ K.told output.old) }
+    {
+        if self.failed {
+            return Ok(());
         }
+        push_set(&mut self.text, self.writers.as_slice(), set)?;
+        self.failed = !hand_on(output, &mut self.text);
+        Ok(())
     }
-    Ok(put_all(output, &text))
-}
 
-// Puts the lines of a set at a text's end.
-fn push_set(text: &mut Vec<u8>, writers: &[LineWriter], set: &InputSet) -> Result<(), AllocError>
-    requires { length writers.now < 2 ^ 32 }
-    ensures { OnOk result (text.new.items ≡ text.old.items ++ set_text writers.now set.now) }
-{
-    for (port, writer) in writers.iter().enumerate() {
-        push_packet(text, writer, set.get(port as u32))?;
+    /// Writes all that isn't written yet, unless a write has failed.
+    pub fn flush<K: Sink>(&mut self, output: &mut K)
+        ensures names { self.new.names ≡ self.old.names }
+        ensures put { (first : SinkTold) (text : List ℕ) → HasPut first (K.told output.old) self.old text → HasPut first (K.told output.new) self.new text }
+        ensures kept { self.new.failed ≡ false → self.new.kept ≡ [] }
+    {
+        if self.failed {
+            return;
+        }
+        self.failed = !put_all(output, &self.text);
+        self.text.clear();
     }
-    Ok(())
-}
 
-// Puts the line of a packet, where there is one.
-fn push_packet(
-    text: &mut Vec<u8>,
-    writer: &LineWriter,
-    packet: Option<&Packet>,
-) -> Result<(), AllocError>
-    ensures { OnOk result (text.new.items ≡ text.old.items ++ packet_text writer.now (option_copied packet.entry)) }
-{
-    match packet {
-        Some(packet) => writer.push_line(text, packet),
-        None => Ok(()),
+    /// Whether a write has failed.
+    pub fn has_failed(&self) -> bool
+        ensures { result ≡ self.now.failed }
+    {
+        self.failed
     }
 }
 

@@ -1,27 +1,30 @@
 //! A run that computes its answer plainly: the whole input is read, and then its solution is written.
-ghost use Rattle.std.specs.Prelude.{◌≡◌, ◌≢◌, ◌<◌, ◌^◌, ◌⊎◌, ◌∷◌, ◌&&◌, [], false, if◌then◌else◌, All, length, MatchResult, IfOk};
-ghost use Rattle.mg_calc.specs.Meaning.{stalled as the_stalled};
-ghost use Rattle.mg_answer.specs.Told.{status_of as the_status};
+ghost use Rattle.std.specs.Prelude.{◌≡◌, ◌≢◌, ◌<◌, ◌⊎◌, ◌∷◌, [], false, All, length, MatchResult, IfOk};
+ghost use Rattle.mg_value.specs.Prefix.{IsPrefix};
 ghost use Rattle.mg_feed.specs.Stands.{Stands, nothing_taken};
 ghost use Rattle.mg_feed.specs.FeedSeen.{seen, fed};
 ghost use Rattle.mg_answer.specs.Code.Gathered.{Gathered};
 ghost use Rattle.mg_calc.specs.Plan.{IsValid, InputsFit};
 ghost use Rattle.mg_feed.specs.Ran.{EndCame};
-ghost use Rattle.mg_answer.specs.Notes.{notes_of};
-ghost use Rattle.mg_answer.specs.Devices.{device, run_devices, HasRisen, NoneFailed};
+ghost use Rattle.mg_answer.specs.Text.{sets_text, output_of};
+ghost use Rattle.mg_answer.specs.Notes.{bounds_of};
+ghost use Rattle.mg_answer.specs.Put.{nothing_put, HasPut};
+ghost use Rattle.mg_answer.specs.Wrote.{Wrote};
+ghost use Rattle.mg_answer.specs.Devices.{device, run_devices, HasRisen, NoneFailed, TookFront};
 ghost use Rattle.mg_answer.specs.Ran.{Ran, CameTo, IsAnswered, IsOneOf};
-ghost use Rattle.mg_answer.specs.Code.Answered.{Wrote, WroteSome};
+ghost use Rattle.mg_answer.specs.Code.Answered.{WroteSome};
 ghost use Rattle.mg_feed.specs.Graph.{inputs_of};
 ghost use Rattle.mg_answer.specs.Answer.{Read};
 
-use crate::RunStatus;
-use crate::notes::{put_end, put_faults, put_stalled};
-use crate::output_text::write_output;
-use crate::told::{is_ended, ran_out, stalled_of, status_of};
+use crate::concluding::conclude;
+use crate::told::{is_ended, ran_out};
+use crate::{OutputText, RunStatus};
 use mg_calc::{Inputs, Plan};
 use mg_edge::{Sink, Source};
-use mg_equations::{Streams, solve};
-use mg_feed::{Feed, FeedEnd, put_all};
+use mg_equations::solve;
+use mg_feed::{Feed, FeedEnd};
+use mg_time::Timestamp;
+use mg_value::{Policy, Prefix, PrefixList, TimedSet, settled_sets};
 use std::alloc::{AllocError, Global};
 
 /// Reads packet lines to the input's end, its first fault or its first line that isn't good, solves the graph's equations for
@@ -132,53 +135,63 @@ fn answer<K: Sink, E: Sink>(
         (λ _. WroteSome (record { plan = plan.now; inputs = inputs.now }) (device (K.told output.old) (K.told output.new))) }
 {
     let solved = solve(alloc, plan, inputs)?;
-    let written = write_output(alloc, plan, &solved.prefixes, output)?;
-    match tell(alloc, plan, end, &solved) {
-        Ok(told) => {
-            let noted = put_all(notes, &told.notes);
-            Ok(written_status(told.status, written, noted))
-        }
-        Err(error) => Err(error),
-    }
-}
-
-// The status, unless a write failed.
-fn written_status(status: RunStatus, written: bool, noted: bool) -> RunStatus
-    ensures { result ≡ (if written && noted then status else RunStatus.WriteFault) }
-{
-    if written && noted {
-        status
-    } else {
-        RunStatus::WriteFault
-    }
-}
-
-// What is told of a solution.
-#[derive(Drop)]
-struct Told {
-    status: RunStatus,
-    notes: Vec<u8>,
-}
-
-// The status and the notes of a run whose input ended so.
-fn tell(alloc: Global, plan: &Plan, end: FeedEnd, solved: &Streams) -> Result<Told, AllocError>
-    requires few { length solved.now.prefixes < 2 ^ 32 }
-    requires many { length solved.now.prefixes ≡ length plan.now.streams }
-    requires nodes { All (λ fault. fault.node < length plan.now.nodes) solved.now.faults }
-    ensures status { IfOk result (λ told. told.status ≡ the_status end solved.now.faults (the_stalled solved.now.prefixes)) }
-    ensures notes { IfOk result (λ told. told.notes.items ≡ notes_of plan.now end solved.now.faults solved.now.prefixes) }
-{
-    let stalled = stalled_of(alloc, solved.prefixes.as_slice())?;
-    let status = status_of(end, solved.faults.as_slice(), &stalled);
-    let mut notes = Vec::new(alloc);
-    put_end(&mut notes, end)?;
-    put_faults(&mut notes, plan, solved.faults.as_slice())?;
-    put_stalled(
-        &mut notes,
-        status,
+    let bounds = bounds_of(alloc, solved.prefixes.as_slice())?;
+    let text = write_output(alloc, plan, &solved.prefixes, output)?;
+    let status = conclude(
+        alloc,
         plan,
-        solved.prefixes.as_slice(),
-        &stalled,
+        end,
+        solved.faults.as_slice(),
+        &bounds,
+        text,
+        output,
+        notes,
     )?;
-    Ok(Told { status, notes })
+    Ok(status)
+}
+
+// Writes the text that a graph's outputs make, of all streams of its plan; less than a block of it may be left.
+fn write_output<K: Sink>(
+    alloc: Global,
+    plan: &Plan,
+    streams: &PrefixList,
+    output: &mut K,
+) -> Result<OutputText, AllocError>
+    requires streams { All IsPrefix streams.now }
+    requires many { length streams.now ≡ length plan.now.streams }
+    requires shown { All (λ s. s < length plan.now.streams) plan.now.outputs }
+    ensures { MatchResult result (λ text. HasPut (K.told output.old) (K.told output.new) text (output_of plan.now streams.now))
+        (λ _. TookFront (device (K.told output.old) (K.told output.new)) (output_of plan.now streams.now)) }
+{
+    let sets = settled_sets(alloc, Policy::Default, streams, &plan.outputs)?;
+    let mut text = OutputText::new(alloc, plan)?;
+    put_sets(&mut text, sets.as_slice(), output)?;
+    Ok(text)
+}
+
+// Puts the lines of sets into a text of which nothing is put yet.
+fn put_sets<K: Sink>(
+    text: &mut OutputText,
+    sets: &[TimedSet],
+    output: &mut K,
+) -> Result<(), AllocError>
+    requires { text.old ≡ nothing_put text.old.names }
+    ensures { MatchResult result (λ _. HasPut (K.told output.old) (K.told output.new) text.new (sets_text text.old.names sets.now))
+        (λ _. TookFront (device (K.told output.old) (K.told output.new)) (sets_text text.old.names sets.now)) }
+{
+    for timed in sets {
+        text.put_set(&timed.set, output)?;
+    }
+    Ok(())
+}
+
+// The bounds of streams.
+fn bounds_of(alloc: Global, streams: &[Prefix]) -> Result<Vec<Timestamp>, AllocError>
+    ensures { IfOk result (λ bounds. bounds.items ≡ bounds_of streams.now) }
+{
+    let mut bounds = Vec::with_capacity(alloc, streams.len())?;
+    for stream in streams {
+        bounds.push(stream.bound)?;
+    }
+    Ok(bounds)
 }

@@ -1,24 +1,23 @@
 //! What is told of a solution: its stalled streams, and the status.
 ghost use Rattle.std.specs.Prelude.{◌≡◌, ◌≢◌, ◌↔◌, ◌<◌, ◌^◌, false, length, IfOk};
-ghost use Rattle.mg_calc.specs.Meaning.{stalled};
 ghost use Rattle.mg_answer.specs.Answer.{is_ended};
 ghost use Rattle.mg_answer.specs.Told.{status_of};
+ghost use Rattle.mg_answer.specs.Code.Bounds.{open_numbers};
 
 use crate::RunStatus;
 use mg_calc::NodeFault;
 use mg_feed::FeedEnd;
 use mg_time::Timestamp;
-use mg_value::Prefix;
 use std::alloc::{AllocError, Global};
 
-/// The numbers of the streams that haven't ended.
-pub fn stalled_of(alloc: Global, streams: &[Prefix]) -> Result<Vec<u32>, AllocError>
-    requires { length streams.now < 2 ^ 32 }
-    ensures { IfOk result (λ numbers. numbers.items ≡ stalled streams.now) }
+/// The numbers of the streams that haven't ended, by their bounds.
+pub fn stalled_of(alloc: Global, bounds: &[Timestamp]) -> Result<Vec<u32>, AllocError>
+    requires { length bounds.now < 2 ^ 32 }
+    ensures { IfOk result (λ numbers. numbers.items ≡ open_numbers bounds.now) }
 {
     let mut numbers = Vec::new(alloc);
-    for (number, stream) in streams.iter().enumerate() {
-        if stream.bound != Timestamp::DONE {
+    for (number, bound) in bounds.iter().enumerate() {
+        if *bound != Timestamp::DONE {
             numbers.push(number as u32)?;
         }
     }

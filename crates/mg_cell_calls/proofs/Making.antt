@@ -38,12 +38,12 @@ pub handed : (plan : Plan) (inputs : Inputs) (node : PlanNode) (told : HolderVie
 handed plan inputs node told there is = subst (IsHanded (job_of plan inputs) 0 node) (sym is) (record {
   there = there;
   fits = record { same_law = refl; same_shape = refl; same_handed = refl };
-  state = refl;
+  state = inl refl;
   log = no_log node.box_number;
 })
 
 pub is_new : (node : PlanNode) (told : HolderView) → told ≡ held_of node → IsNew node told
-is_new node told is = subst (IsNew node) (sym is) (record { fits = record { same_law = refl; same_shape = refl }; state = refl })
+is_new node told is = subst (IsNew node) (sym is) (record { fits = record { same_law = refl; same_shape = refl }; state = inl refl })
 
 -- it is unbegun, as it is made
 pub unbegun : (plan : Plan) (inputs : Inputs) (node : PlanNode) (told : HolderView) (engine : EngineView) → engine ≡ fresh_engine node 0 told → IsUnbegun node 0 told (sides_of (job_of plan inputs).job node) engine

@@ -3,7 +3,7 @@
 #![tactic(auto)]
 
 use mg_calc::Calculator;
-use mg_edge::{FolderStore, ReaderSource, WriterSink};
+use mg_edge::{FolderStore, ReaderSource, StillGate, WriterSink};
 use mg_run::{Status, run_words, tally_box};
 use mg_value::MgText;
 use std::alloc::AllocError;
@@ -59,5 +59,6 @@ fn call(rt: &HostRuntime, words: &[MgText]) -> Result<Status, AllocError> {
         &mut WriterSink::new(rt.stdout()),
         &mut WriterSink::new(rt.stderr()),
         &mut boxes,
+        &StillGate,
     ))
 }

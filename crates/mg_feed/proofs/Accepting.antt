@@ -1,5 +1,5 @@
 -- The longest run of good lines, and the first line behind it.
-use Rattle.std.proofs.Common.{◌≡◌, ℕ, ◌+◌, ◌<◌, List, [], ◌∷◌, ◌++◌, length, None, Some, refl, sym, ap, ◌∙◌, append_assoc, append-nil}
+use Rattle.std.proofs.Common.{◌≡◌, ℕ, ◌+◌, ◌<◌, List, [], ◌∷◌, ◌++◌, length, Option, None, Some, refl, sym, ap, ◌∙◌, append_assoc, append-nil}
 use Rattle.std.proofs.lemmas.Bool.{lt-ltb}
 use Rattle.mg_feed.specs.Graph.{GraphInputs}
 use Rattle.mg_feed.specs.Accepted.{Before, longest_line, refusal, line_refusal, if_good, refused_at, accepted_after, first_refused_after}
@@ -8,13 +8,27 @@ use Rattle.mg_feed.specs.Stands.{AllGood}
 use Rattle.mg_feed.specs.declared.line_fault.LineFault.{LineFault}
 use Rattle.mg_feed.specs.declared.line_fault.LineFault.TheVariants.{TooLong}
 
--- of lines that are all good the last ones are
+-- of lines that are all good the last ones are, and the first ones
 pub good-behind : (graph : GraphInputs) (before xs ys : List (List ℕ)) → AllGood graph before (xs ++ ys) → AllGood graph (before ++ xs) ys
 good-behind graph before [] ys good = rw append-nil good
 good-behind graph before (x ∷ xs) ys good = rw (sym (append_assoc before (x ∷ []) xs)) (good-behind graph (before ++ x ∷ []) xs ys good.1)
 
+pub good-front : (graph : GraphInputs) (before xs ys : List (List ℕ)) → AllGood graph before (xs ++ ys) → AllGood graph before xs
+good-front graph before [] ys good = tt
+good-front graph before (x ∷ xs) ys good = (good.0, good-front graph (before ++ x ∷ []) xs ys good.1)
+
+-- accepted lines are all good
+pub good-accepted : (graph : GraphInputs) (before lines : List (List ℕ)) → AllGood graph before (accepted_after graph before lines)
+good-accepted graph before [] = tt
+good-accepted graph before (line ∷ lines) = by (refusal graph before line) refl (good-accepted graph (before ++ line ∷ []) lines)
+  where
+    by : (o : Option LineFault) → refusal graph before line ≡ o → AllGood graph (before ++ line ∷ []) (accepted_after graph (before ++ line ∷ []) lines)
+        → AllGood graph before (if_good o (line ∷ accepted_after graph (before ++ line ∷ []) lines) [])
+    by None is more = (is, more)
+    by (Some fault) is more = tt
+
 -- Good lines are accepted, and what follows is judged after them.
-accepted-good : (graph : GraphInputs) (before xs ys : List (List ℕ)) → AllGood graph before xs → accepted_after graph before (xs ++ ys) ≡ xs ++ accepted_after graph (before ++ xs) ys
+pub accepted-good : (graph : GraphInputs) (before xs ys : List (List ℕ)) → AllGood graph before xs → accepted_after graph before (xs ++ ys) ≡ xs ++ accepted_after graph (before ++ xs) ys
 accepted-good graph before [] ys good = ap (λ b. accepted_after graph b ys) (sym (append-nil before))
 accepted-good graph before (x ∷ xs) ys good =
     rw good.0 (ap (λ l. x ∷ l) (accepted-good graph (before ++ x ∷ []) xs ys good.1 ∙ ap (λ b. xs ++ accepted_after graph b ys) (append_assoc before (x ∷ []) xs)))

@@ -4,7 +4,7 @@ use Rattle.std.proofs.lemmas.Bool.{false≢true}
 use Rattle.mg_value.specs.Payload.{Plain}
 use Rattle.mg_value.specs.Prefix.{Stamped}
 use Rattle.mg_feed.specs.Lines.{all_lines, whole_lines, with_feed, completed, NoFeed, IsCut}
-use Rattle.mg_feed.specs.Accepted.{longest_line}
+use Rattle.mg_feed.specs.Accepted.{longest_line, accepted, accepted_after}
 use Rattle.mg_feed.specs.View.{before_seen}
 use Rattle.mg_feed.specs.Stands.{Stands}
 use Rattle.mg_feed.specs.Fed.{Fed, Reading}
@@ -15,7 +15,7 @@ use Rattle.mg_feed.specs.declared.line_fault.LineFault.TheVariants.{TooLong}
 use Rattle.mg_feed.specs.declared.feed_end.FeedEnd.TheVariants.{Ended, Failed, Refused}
 use Rattle.mg_feed.proofs.Holding.{stands-next, refusal-seen}
 use Rattle.mg_feed.proofs.Cutting.{cut-more, cut-line, cut-all, cut-whole, cut-end, cut-ended, all_lines-line, all_lines-begin, all_lines-completed}
-use Rattle.mg_feed.proofs.Accepting.{judged-good, judged-stop, long-refused}
+use Rattle.mg_feed.proofs.Accepting.{accepted-good, judged-good, judged-stop, long-refused}
 
 -- One step --
 
@@ -112,3 +112,12 @@ came-taken first came lines gone gone' f g it same stands = record {
   stands = stands;
   cut = subst (λ (r : Reading). IsCut (arrived r.ended came) lines r.kept) (sym same) it.cut;
 }
+
+-- the lines that were accepted so far stand in front of those of the whole input
+pub came-front : (past rest : List ℕ) (lines : List (List ℕ)) (gone : List (List (Stamped Plain))) (f : Fed) → Came [] past lines gone f → (f.read.ended ≡ true → rest ≡ [])
+    → (more : List (List ℕ)) × (accepted f.view.graph (all_lines (past ++ rest)) ≡ lines ++ more)
+came-front past rest lines gone f c fits =
+    let left = all_lines (f.read.kept ++ rest) in (
+      accepted_after f.view.graph lines left,
+      ap (accepted f.view.graph) (lines-by f.read.ended past lines f.read.kept rest c.cut fits) ∙ accepted-good f.view.graph [] lines left c.stands.good,
+    )

@@ -66,8 +66,11 @@ whole-line : (graph : GraphInputs) (ts : List (List (Stamped Plain))) (given : S
 whole-line graph ts given line =
     whole-by ts (list_all is_blank line) _ _ _ _ refl (whole-said graph ts given (option_and_then form_of (json_value line)))
 
-given_by-append : (graph : GraphInputs) (xs ys : List (List ℕ)) → given_by graph (xs ++ ys) ≡ fold (λ given l. with_line graph given l) (given_by graph xs) ys
+pub given_by-append : (graph : GraphInputs) (xs ys : List (List ℕ)) → given_by graph (xs ++ ys) ≡ fold (λ given l. with_line graph given l) (given_by graph xs) ys
 given_by-append graph xs ys = fold-append (λ given l. with_line graph given l) (fresh graph) xs ys
+
+pub given-more : (graph : GraphInputs) (before : List (List ℕ)) (line : List ℕ) → given_by graph (before ++ line ∷ []) ≡ with_line graph (given_by graph before) line
+given-more graph before line = given_by-append graph before (line ∷ [])
 
 -- a good line after good lines
 pub AllGood-push : (graph : GraphInputs) (before lines : List (List ℕ)) (line : List ℕ)

@@ -15,6 +15,9 @@ pub mod OldLines
 pub mod Cutting
 pub mod Blocks
 pub mod Accepting
+pub mod Judging
+pub mod Growing
+pub mod Joining
 pub mod Coming
 pub mod Moving
 pub mod Stepping

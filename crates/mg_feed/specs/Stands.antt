@@ -28,6 +28,10 @@ pub record Stands (lines : List (List ℕ)) (gone : List (List (Stamped Plain)))
   pub many : length gone ≡ length v.given.streams
   pub taken : v.taken ≡ map has_some gone
 
+-- the packets of each prefix
+abbrev pub packets_of : List (StreamPrefix Plain) → List (List (Stamped Plain))
+packets_of ss = map (λ s. s.packets) ss
+
 -- no packets of any stream
 abbrev pub nothing_taken : GraphInputs → List (List (Stamped Plain))
 nothing_taken graph = replicate (length graph.kinds) []

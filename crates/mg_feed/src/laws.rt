@@ -1,11 +1,21 @@
 //! Laws of what packet lines mean: each function does nothing, and its contract is the law.
-ghost use Rattle.std.specs.Prelude.{◌≡◌, ℕ, List, [], length};
+ghost use Rattle.std.specs.Prelude.{◌≡◌, ◌<◌, ◌++◌, max, ℕ, Bool, true, false, Option, List, [], length, slice_index_or};
 ghost use Rattle.mg_value.specs.Payload.{Plain};
-ghost use Rattle.mg_value.specs.Prefix.{Stamped};
+ghost use Rattle.mg_value.specs.Prefix.{Stamped, empty_prefix};
+ghost use Rattle.mg_value.specs.Extension.{AreExtendedBy};
+ghost use Rattle.mg_edge.specs.Edge.{SourceTold};
+ghost use Rattle.mg_edge.specs.Runs.{Gave};
 ghost use Rattle.mg_feed.specs.Graph.{GraphInputs};
-ghost use Rattle.mg_feed.specs.Accepted.{given_by};
+ghost use Rattle.mg_feed.specs.Lines.{all_lines};
+ghost use Rattle.mg_feed.specs.Accepted.{given_by, accepted};
+ghost use Rattle.mg_feed.specs.Given.{ended_streams};
 ghost use Rattle.mg_feed.specs.View.{View};
-ghost use Rattle.mg_feed.specs.Stands.{AllGood, Stands, nothing_taken, behind_all};
+ghost use Rattle.mg_feed.specs.Stands.{AllGood, Stands, nothing_taken, behind_all, taken_with, packets_of};
+ghost use Rattle.mg_feed.specs.Fed.{Fed};
+ghost use Rattle.mg_feed.specs.Came.{Came};
+ghost use Rattle.mg_feed.specs.Ran.{MetEnd, Unfailed, FailedBy};
+ghost use Rattle.mg_feed.specs.Batch.{naming};
+ghost use Rattle.mg_feed.specs.declared.feed_end.FeedEnd.{FeedEnd};
 ghost use Rattle.mg_feed.specs.OldText.{old_given_by, AllGoodBefore};
 
 /// A feed of which nothing was taken has all that its lines gave.
@@ -23,4 +33,62 @@ pub fn takings_together()
 pub fn old_lines()
     ensures good { (graph : GraphInputs) (lines : List (List ℕ)) → AllGoodBefore graph [] lines → AllGood graph [] lines }
     ensures same { (graph : GraphInputs) (lines : List (List ℕ)) → AllGoodBefore graph [] lines → given_by graph lines ≡ old_given_by graph lines }
+{}
+
+/// What lines gave is extended by what more lines give, also where the input ends after them. Once a line named a stream,
+/// no more side packets come.
+pub fn what_lines_give_grows()
+    ensures streams { (graph : GraphInputs) (lines more : List (List ℕ)) (ended : Bool) → AllGood graph [] (lines ++ more)
+        → AreExtendedBy (given_by graph lines).streams (ended_streams ended (given_by graph (lines ++ more)).streams) }
+    ensures sides { (graph : GraphInputs) (lines more : List (List ℕ)) → AllGood graph [] (lines ++ more) → (given_by graph lines).named ≡ true
+        → (given_by graph (lines ++ more)).sides ≡ (given_by graph lines).sides }
+    ensures named { (graph : GraphInputs) (lines more : List (List ℕ)) → (given_by graph lines).named ≡ true
+        → (given_by graph (lines ++ more)).named ≡ true }
+{}
+
+/// After a batch that counts a line, a line named a stream.
+pub fn a_full_batch_names_a_stream()
+    ensures { (graph : GraphInputs) (lines taken : List (List ℕ)) → 0 < naming taken → (given_by graph (lines ++ taken)).named ≡ true }
+{}
+
+/// Where all that some lines gave was taken, what is taken after more lines is the rest, stream by stream: its packets stand
+/// behind those that were taken, and the greater bound stands.
+pub fn takings_join()
+    ensures piece { (lines more : List (List ℕ)) (v : View) (ended : Bool) (input : ℕ)
+        → Stands (lines ++ more) (packets_of (given_by v.graph lines).streams) v → input < length v.given.streams
+        → slice_index_or (ended_streams ended (given_by v.graph (lines ++ more)).streams) input empty_prefix ≡ record {
+          packets = (slice_index_or (given_by v.graph lines).streams input empty_prefix).packets
+              ++ (slice_index_or (ended_streams ended v.given.streams) input empty_prefix).packets;
+          bound = max (slice_index_or (given_by v.graph lines).streams input empty_prefix).bound
+              (slice_index_or (ended_streams ended v.given.streams) input empty_prefix).bound;
+        } }
+    ensures count { (lines more : List (List ℕ)) (v : View) → Stands (lines ++ more) (packets_of (given_by v.graph lines).streams) v
+        → length v.given.streams ≡ length (given_by v.graph lines).streams }
+    ensures sides { (lines : List (List ℕ)) (gone : List (List (Stamped Plain))) (v : View) → Stands lines gone v
+        → v.given.sides ≡ (given_by v.graph lines).sides }
+    ensures taken { (lines : List (List ℕ)) (gone : List (List (Stamped Plain))) (v : View) → Stands lines gone v
+        → taken_with gone v.given.streams ≡ packets_of (given_by v.graph lines).streams }
+{}
+
+/// The lines that a feed accepted of the bytes that came stand in front of those that are accepted of the whole input.
+pub fn what_came_is_a_front()
+    ensures { (past rest : List ℕ) (lines : List (List ℕ)) (gone : List (List (Stamped Plain))) (f : Fed) → Came [] past lines gone f
+        → (f.read.ended ≡ true → rest ≡ []) → (more : List (List ℕ)) × (accepted f.view.graph (all_lines (past ++ rest)) ≡ lines ++ more) }
+{}
+
+/// Accepted lines are all good.
+pub fn accepted_lines_are_good()
+    ensures { (graph : GraphInputs) (lines : List (List ℕ)) → AllGood graph [] (accepted graph lines) }
+{}
+
+/// What several calls in a row did to the source, by what each of them did: one after the other gave their bytes, met its
+/// end, and no read failed, or one did in the last.
+pub fn batches_go_on()
+    ensures gave { (first before now : Option (List ℕ)) (came more : List ℕ) → Gave first before came → Gave before now more
+        → Gave first now (came ++ more) }
+    ensures met { (a b c : Bool) (first before now : SourceTold) (came : List ℕ) → Gave first.left before.left came
+        → MetEnd a b first before → MetEnd b c before now → MetEnd a c first now }
+    ensures unfailed { (first before now : SourceTold) → Unfailed first before → Unfailed before now → Unfailed first now }
+    ensures failed { (end : FeedEnd) (first before now : SourceTold) (came : List ℕ) → Gave first.left before.left came
+        → Unfailed first before → FailedBy end before now → FailedBy end first now }
 {}

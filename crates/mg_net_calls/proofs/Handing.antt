@@ -30,8 +30,8 @@ outers_fit plan outers are fit = subst (OutersFit plan) are fit
 box_fits : (node : PlanNode) (number : Option ℕ) → IfSome number (λ n. IsSomeAnd (slice_get two_outers n) (λ outer. FitsNode node outer.law outer.shape))
     → IfSome number (λ n. IsSomeAnd (slice_get two_tallies n) (FitsNew node))
 box_fits node None h = tt
-box_fits node (Some zero) h = record { fits = h; state = refl }
-box_fits node (Some (suc zero)) h = record { fits = h; state = refl }
+box_fits node (Some zero) h = record { fits = h; outer = tt }
+box_fits node (Some (suc zero)) h = record { fits = h; outer = tt }
 box_fits node (Some (suc (suc n))) h = absurd h
 
 pub boxes_fit : {X : Type 0} (told : X → CalculatorTold) (plan : Plan) (boxes two : List X) → boxes ≡ two → map told two ≡ two_tallies → OutersFit plan two_outers → BoxesFit plan (map told boxes)

@@ -164,6 +164,7 @@ answered_engine job number engine held r cell next =
       idle = All-weaker (IsIdle job h.streams h.node engine.laid engine.closed) (IsIdle job h.streams h.node (engine.laid + 1) engine.closed) (idle_on job h.streams h.node engine.laid engine.closed cell.law cell.going) engine.idle h.idle;
       benches = h.benches;
       waits = h.waits;
+      ended = h.ended;
     }
 
 -- an intake that has answered

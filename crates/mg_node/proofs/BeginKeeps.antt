@@ -163,6 +163,7 @@ begun_lawful job streams number node told view solves handed h =
           (begun_idle job streams number node told h.now solves handed h.state h.log h.law h.shape h.same_handed);
       benches = omega (arith, some, length-append owns (told_bench ∷ []), length-replicate (node.in_flight - 1) (bench_of node (own_told node)));
       waits = (λ goes. refl);
+      ended = (λ ended. omega (arith, length-append owns (told_bench ∷ [])));
     })
 
 -- One that isn't begun.

@@ -99,6 +99,7 @@ unrun_engine job number engine place entry h there =
       idle = h.idle;
       benches = omega (arith, benches, length-set engine.window place (out_of entry));
       waits = (λ goes. set_waits engine.window place (out_of entry) refl (h.waits goes));
+      ended = h.ended;
     }
 
 unrun_work : (job : LoggedJob) (number : ℕ) (engine : EngineView) (place : ℕ) (entry : EntryView) (work : WorkView) → IsEngineOf job number engine → slice_get engine.window place ≡ Some entry → entry.outcome ≡ Some (record { work = work; answer = None }) → LawfulWork job work
@@ -206,7 +207,7 @@ pub hands_lawful : (job : LoggedJob) (number : ℕ) (engine engine_now : EngineV
     → IsTask job.job h.streams h.node engine.claimed phase set → number_of (λ e. is_close e.phase) engine.window ≡ 0 → more + (if is_close phase then 1 else 0) ≡ 1 → (phase ≡ Close → engine.claimed ≡ engine.laid) → length set ≡ length h.node.inputs
     → work ≡ record { node = engine.node; number = engine.claimed; phase = phase; bench = record { told = bench.told; set = set } } → IsEngineOf job number engine_now × LawfulWork job work
 hands_lawful job number engine engine_now phase more bench set work h may t task none one close places is = (
-  subst (λ (e : EngineView). IsEngineOf job number e) (sym t.now) (handed_engine job number engine phase more bench engine_now.idle set h t.idle task none one close),
+  subst (λ (e : EngineView). IsEngineOf job number e) (sym t.now) (handed_engine job number engine phase more bench engine_now.idle set h may.goes t.idle task none one close),
   subst (λ (w : WorkView). LawfulWork job w) (sym is) (handed_work job number engine phase bench engine_now.idle set h t.idle (not_first engine.closed (is_some engine.fault) may.goes) may.room none places task),
 )
 

@@ -14,7 +14,7 @@ use Rattle.mg_node.specs.Windows.{ready_of, starts_ready}
 use Rattle.mg_node.specs.Commits.{Front, answer_laid, has_stopped, with_ready, front_laid, committed_entry, window_with, front_of, fault_at, Commits}
 use Rattle.mg_node.proofs.Closing.{second_not}
 use Rattle.mg_node.proofs.Shelving.{HasWindow, entry_window, performed_is}
-use Rattle.mg_node.proofs.FrontWaits.{laid_waits, stops_by}
+use Rattle.mg_node.proofs.FrontWaits.{laid_waits, stops_by, stopped_by, ended_by}
 use Rattle.mg_node.proofs.Stateless.{several_keep_nothing}
 use Rattle.mg_node.proofs.Turning.{work_turns}
 use Rattle.mg_node.proofs.Turns.{IsDone, done_by}
@@ -74,6 +74,7 @@ front_of_engine job number engine window h has = record {
   entries = has.entries;
   free = h.idle;
   benches = has.benches ∙ h.set_up.in_flight;
+  ended = (λ stops. h.ended (ended_by engine.closed engine.fault stops));
 }
 
 -- an engine at a front
@@ -109,6 +110,7 @@ engine_of_front job number engine outputs front h stand f waits = record {
   idle = f.free;
   benches = f.benches ∙ sym h.set_up.in_flight;
   waits = (λ goes. waits (stops_by engine.node front.closed front.fault goes));
+  ended = (λ stops. f.ended (stopped_by engine.node front.closed front.fault stops));
 }
 
 -- a work comes back to its window

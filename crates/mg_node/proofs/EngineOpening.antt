@@ -9,10 +9,12 @@ use Rattle.mg_stream.specs.Pool.{Backlog, queue_of, empty_backlog}
 use Rattle.mg_calc.specs.declared.cause.Cause.{Cause}
 use Rattle.mg_calc.specs.declared.emission.Laid.{Laid}
 use Rattle.mg_calc.specs.declared.law.Law.{Law}
+use Rattle.mg_calc.specs.declared.law.Law.TheVariants.{SideOnce, Scripted}
 use Rattle.mg_calc.specs.declared.node_fault.Phase.TheVariants.{Open}
 use Rattle.mg_calc.specs.declared.plan_node.PlanNode.{PlanNode}
 use Rattle.mg_calc.specs.Answer.{Answer}
 use Rattle.mg_calc.specs.Law.{opening}
+use Rattle.mg_calc.specs.Shape.{IsOuter}
 use Rattle.mg_calc.specs.Laying.{after, laid_behind}
 use Rattle.mg_calc.specs.Outcome.{after_laying, after_call}
 use Rattle.mg_route.specs.HolderView.{HolderView}
@@ -21,7 +23,7 @@ use Rattle.mg_node.specs.Lawful.{StandForAll, HasAnswered}
 use Rattle.mg_node.specs.Commits.{laid_by, outputs_by, failure_by, fault_at}
 use Rattle.mg_node.specs.Outputs.{kept_whole}
 use Rattle.mg_node.specs.Fresh.{own_told, bench_of, fresh_engine}
-use Rattle.mg_node.specs.Begun.{IsOpened, opened_entry, own_benches, HasOpened, IsUnbegun, opened_node, HasBegun, SomeUnbegun, IsNew}
+use Rattle.mg_node.specs.Begun.{IsOpened, opened_entry, own_benches, HasOpened, IsUnbegun, opened_node, HasBegun, SomeUnbegun, IsBlank, IsNew}
 use Rattle.mg_node.specs.Code.FrontLaying.{counted_in, HasWhole, LaysFront}
 
 -- The calculator is opened.
@@ -78,9 +80,20 @@ WasOpened offset outputs answer now given = (
     let o = after_call offset Open (record { state = []; outputs = outputs; taken = 0; fault = None }) given in
     (now ≡ o.state) × (outputs_by outputs (laid_by offset Open outputs answer) ≡ o.outputs) × (failure_by Open (laid_by offset Open outputs answer) ≡ o.fault))
 
-opened_by : (offset : Option ℤ) (outputs : List (StreamPrefix Plain)) (answer : Result (List Laid) Cause) (before now : List Plain) (given : Answer) → HasAnswered answer before now given → before ≡ [] → WasOpened offset outputs answer now given
+-- a calculator that may be handed in is always opened
+outer_opens : (law : Law) (sides : List (Option Plain)) (cause : Cause) → IsOuter law → opening law sides ≡ Err cause → ⊥
+outer_opens (SideOnce at) sides cause outer is = absurd outer
+outer_opens (Scripted offset first steps last) sides cause outer is = absurd cc
+outer_opens law sides cause outer is = absurd cc
+
+-- where one isn't opened, it kept nothing
+kept_nothing : (told : HolderView) (law : Law) (sides : List (Option Plain)) (cause : Cause) → told.law ≡ law → IsBlank told → opening law sides ≡ Err cause → told.state ≡ []
+kept_nothing told law sides cause same (inl none) is = none
+kept_nothing told law sides cause same (inr outer) is = absurd (outer_opens law sides cause (subst IsOuter same outer) is)
+
+opened_by : (offset : Option ℤ) (outputs : List (StreamPrefix Plain)) (answer : Result (List Laid) Cause) (before now : List Plain) (given : Answer) → HasAnswered answer before now given → ((cause : Cause) → given ≡ Err cause → before ≡ []) → WasOpened offset outputs answer now given
 opened_by offset outputs (Ok emission) before now given h none = subst (WasOpened offset outputs (Ok emission) now) (sym h) (by_laid outputs now (laid_behind offset Open outputs emission))
-opened_by offset outputs (Err cause) before now given h none = subst (WasOpened offset outputs (Err cause) now) (sym h.0) (h.1 ∙ none, refl, refl)
+opened_by offset outputs (Err cause) before now given h none = subst (WasOpened offset outputs (Err cause) now) (sym h.0) (h.1 ∙ none cause h.0, refl, refl)
 
 kept_one : (b : Backlog Plain) (s : StreamPrefix Plain) → StandsFor (queue_of 0 b) s → b.gone ≡ 0 → b ≡ kept_whole s
 kept_one b s h none = λ i. record { gone = none i; packets = (h.waiting ∙ ap (λ (n : ℕ). drop n s.packets) none) i; bound = h.bound i }
@@ -103,7 +116,7 @@ begun_so node number told sides before mid now n new h lays is =
     let laid : LaysFront n (record (fresh_engine node number told) { window = opened_entry number (bench_of node h.now) h.answer ∷ []; idle = own_benches node }) mid = subst (λ (v : EngineView). LaysFront n v mid) h.is lays in
     let front = laid.front whole (fresh_stand k) in
     let answered : HasAnswered h.answer told.state h.now.state (opening node.law sides) = subst (λ (l : Law). HasAnswered h.answer told.state h.now.state (opening l sides)) new.fits.same_law h.opened.answered in
-    let o = opened_by node.shape.offset whole h.answer told.state h.now.state (opening node.law sides) answered new.state in
+    let o = opened_by node.shape.offset whole h.answer told.state h.now.state (opening node.law sides) answered (λ cause is. kept_nothing told node.law sides cause new.fits.same_law new.state is) in
     let outputs : mid.outputs ≡ map kept_whole (opened_node node sides).outputs = kept_all mid.outputs _ k front.outputs front.given_up ∙ ap (map kept_whole) o.1 in
     record {
       now = h.now;

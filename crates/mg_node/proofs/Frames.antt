@@ -1,5 +1,5 @@
 -- A list with another element at a place: what stands there, and elsewhere.
-use Rattle.std.proofs.Common.{◌≡◌, ◌≢◌, ℕ, zero, suc, ◌+◌, ◌-◌, ◌<◌, ◌≤◌, List, [], ◌∷◌, ◌++◌, length, set, drop, Some, None, slice_get, ◌⊎◌, inl, inr, ap, sym, refl, subst, ◌∙◌, arith}
+use Rattle.std.proofs.Common.{◌≡◌, ◌≢◌, ℕ, zero, suc, ◌+◌, List, [], ◌∷◌, ◌++◌, length, set, drop, Some, slice_get, ◌⊎◌, inl, inr, ap, sym, refl, ◌∙◌, arith}
 use Rattle.std.proofs.lemmas.Option.{none-some}
 
 -- elsewhere nothing has changed

@@ -1,5 +1,6 @@
 -- Nothing is ready at the front of a window: what keeps it so, and how a front ends at which nothing is.
 use Rattle.std.proofs.Common.{◌≡◌, ℕ, zero, suc, ℤ, Bool, true, false, List, [], ◌∷◌, ◌++◌, set, Option, Some, None, option_map, option_and_then, is_some, ◌||◌, ap, sym, refl, ◌∙◌, if◌then◌else◌}
+use Rattle.mg_calc.specs.declared.node_fault.NodeFault.{NodeFault}
 use Rattle.mg_calc.specs.Outcome.{Failure}
 use Rattle.mg_node.specs.Views.{PerformedView, EntryView}
 use Rattle.mg_node.specs.Shelves.{performed_of}
@@ -37,3 +38,12 @@ laid_waits offset (entry ∷ entries) front window goes = ends_by offset front e
 pub stops_by : (node : ℕ) (closed : Bool) (fault : Option Failure) → (closed || is_some (option_map (fault_at node) fault)) ≡ false → (closed || is_some fault) ≡ false
 stops_by node closed None goes = goes
 stops_by node closed (Some f) goes = goes
+
+pub stopped_by : (node : ℕ) (closed : Bool) (fault : Option Failure) → (closed || is_some (option_map (fault_at node) fault)) ≡ true → (closed || is_some fault) ≡ true
+stopped_by node closed None stops = stops
+stopped_by node closed (Some f) stops = stops
+
+-- and a front of an engine has stopped where the engine has ended
+pub ended_by : (closed : Bool) (fault : Option NodeFault) → (closed || is_some (option_map (λ (f : NodeFault). (let it : Failure = record { phase = f.phase; cause = f.cause } in it)) fault)) ≡ true → (closed || is_some fault) ≡ true
+ended_by closed None stops = stops
+ended_by closed (Some f) stops = stops

@@ -51,6 +51,7 @@ given_node job number engine output got there le h = record {
   idle = h.idle;
   benches = h.benches;
   waits = h.waits;
+  ended = h.ended;
 }
 
 given_input : (job : LoggedJob) (number : ℕ) (engine : EngineView) (output got : ℕ) → output < length engine.outputs → got ≤ count_at engine output → IsInputOf job number engine → IsInputOf job number (given engine output got)

@@ -10,6 +10,7 @@ use Rattle.mg_calc.specs.declared.node_fault.Phase.TheVariants.{Open, Call as So
 use Rattle.mg_calc.specs.declared.plan_node.PlanNode.{PlanNode}
 use Rattle.mg_node.specs.Views.{BenchView, EntryView, EngineView}
 use Rattle.mg_node.specs.Job.{LoggedJob, IsTask, IsLast, count_of_all, stage, log_after, calls_before}
+use Rattle.mg_node.specs.Windows.{has_ended}
 use Rattle.mg_node.specs.Lawful.{is_close, IsIdle, IsEntry, come_to, calls_by, IsEngineOf, LawfulWork}
 use Rattle.mg_node.proofs.Delivering.{last_have}
 use Rattle.mg_node.proofs.FrontWaits.{snoc_waits}
@@ -70,9 +71,9 @@ abbrev pub handed : EngineView → Phase → ℕ → List BenchView → EngineVi
 handed engine phase more idle = record engine { claimed = engine.claimed + more; window = engine.window ++ record { phase = phase; outcome = None; committed = false } ∷ []; idle = idle }
 
 pub handed_engine : (job : LoggedJob) (number : ℕ) (engine : EngineView) (phase : Phase) (more : ℕ) (bench : BenchView) (idle : List BenchView) (set : List (Option (Stamped Plain))) (h : IsEngineOf job number engine)
-    → engine.idle ≡ idle ++ bench ∷ [] → IsTask job.job h.streams h.node engine.claimed phase set → number_of (λ e. is_close e.phase) engine.window ≡ 0 → more + (if is_close phase then 1 else 0) ≡ 1 → (phase ≡ Close → engine.claimed ≡ engine.laid)
+    → has_ended engine ≡ false → engine.idle ≡ idle ++ bench ∷ [] → IsTask job.job h.streams h.node engine.claimed phase set → number_of (λ e. is_close e.phase) engine.window ≡ 0 → more + (if is_close phase then 1 else 0) ≡ 1 → (phase ≡ Close → engine.claimed ≡ engine.laid)
     → IsEngineOf job number (handed engine phase more idle)
-handed_engine job number engine phase more bench idle set h idle_is task none one close =
+handed_engine job number engine phase more bench idle set h goes_on idle_is task none one close =
     let e : EntryView = record { phase = phase; outcome = None; committed = false } in
     let order = h.order in
     let here : engine.laid + length engine.window ≡ engine.claimed = omega (arith, order, none) in
@@ -111,6 +112,7 @@ handed_engine job number engine phase more bench idle set h idle_is task none on
       idle = All-from_recursion P idle (first_have P idle (bench ∷ []) all_idle);
       benches = omega (arith, benches, ap length idle_is, length-append idle (bench ∷ []), length-append engine.window (e ∷ []));
       waits = (λ goes. snoc_waits engine.window e refl (h.waits goes));
+      ended = (λ ended. absurd (let clash : true ≡ false = sym ended ∙ goes_on in cc));
     }
 
 -- the work: its calculator keeps what all that is claimed gives

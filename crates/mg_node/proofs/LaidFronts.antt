@@ -15,7 +15,7 @@ use Rattle.mg_calc.specs.Meaning.{count_of}
 use Rattle.mg_node.specs.Views.{BenchView, EntryView}
 use Rattle.mg_node.specs.Job.{LoggedJob, streams_at, stage, IsLast, first_log, log_after}
 use Rattle.mg_node.specs.Lawful.{IsRaised, IsIdle, IsEntry, is_close, come_to, calls_by}
-use Rattle.mg_node.specs.Commits.{Front, counted, answer_laid}
+use Rattle.mg_node.specs.Commits.{Front, counted, answer_laid, has_stopped}
 use Rattle.mg_node.proofs.LayingAll.{outputs_at, comes_to}
 use Rattle.mg_node.proofs.Stateless.{KeepsNothing}
 use Rattle.mg_node.proofs.Turns.{IsDone, Turns}
@@ -31,6 +31,7 @@ pub record IsFrontOf (job : LoggedJob) (streams : List (StreamPrefix Plain)) (no
   pub entries : (i : ℕ) (entry : EntryView) → slice_get front.window i ≡ Some entry → IsEntry job streams node front.laid (front.laid + i) number entry
   pub free : All (IsIdle job streams node front.laid front.closed) front.idle
   pub benches : length front.idle + length front.window ≡ node.in_flight
+  pub ended : has_stopped front ≡ true → 0 < length front.idle
 
 -- the entries behind the first
 next_entry : (job : LoggedJob) (streams : List (StreamPrefix Plain)) (node : PlanNode) (owner n m k : ℕ) (entry : EntryView) → n < k → IsEntry job streams node n k owner entry → IsEntry job streams node m k owner entry
@@ -107,4 +108,5 @@ next_front job streams node number claimed front entry entries bench answer h wi
       entries = (λ i e at. entry_by job streams node number n i phase bench answer e (is_close phase) refl t (h.entries (suc i) e (ap (λ (w : List EntryView). slice_get w (suc i)) window ∙ at)));
       free = All-push (IsIdle job streams node (n + counted phase) (is_close phase)) front.idle bench (others_free job streams node n phase bench answer front.idle (length entries) t alone benches free) (bench_free job streams node n phase bench answer d t);
       benches = omega (arith, benches, length-append front.idle (bench ∷ []));
+      ended = (λ stops. omega (arith, length-append front.idle (bench ∷ [])));
     }

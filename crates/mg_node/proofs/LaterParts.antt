@@ -210,6 +210,7 @@ engine_later job more m number view h =
           (idle_later m on view.laid view.closed same calls) view.idle h.idle;
       benches = h.benches;
       waits = h.waits;
+      ended = h.ended;
     }
 
 unbegun_later : (job : LoggedJob) (more : Inputs) → IsMore job more → (number : ℕ) (view : EngineView) → IsUnbegunOf job number view → IsUnbegunOf (with_inputs job more) number view

@@ -72,3 +72,5 @@ pub mod SmallNumbers
 pub mod FirstShelf
 pub mod LaidAndCame
 pub mod RestingCounts
+pub mod CallsHad
+pub mod FrontsHad

@@ -17,19 +17,19 @@ use Rattle.mg_node.proofs.Making.{some_same}
 use Rattle.mg_node.proofs.Performing.{of_node as at_node}
 
 -- one that was handed in
-one_handed : (held : HolderView) → held.handed ≡ true → filter_map handed_told (held ∷ []) ≡ told_by held ∷ []
+pub one_handed : (held : HolderView) → held.handed ≡ true → filter_map handed_told (held ∷ []) ≡ told_by held ∷ []
 one_handed held is = ap (λ (b : Bool). cons_option (let o : Option CalculatorTold = if b then Some (told_by held) else None in o) []) is
 
-boxed_some : (o : Option ℕ) → is_some o ≡ true → IsSome o
+pub boxed_some : (o : Option ℕ) → is_some o ≡ true → IsSome o
 boxed_some None is = absurd cc
 boxed_some (Some n) is = search rules
 
 -- Where there is one bench, it is idle, or its outcome stands in the window.
 
-abbrev IsOneBench : List BenchView → List EntryView → Type 0
+abbrev pub IsOneBench : List BenchView → List EntryView → Type 0
 IsOneBench idle window = ((b : BenchView) × (idle ≡ b ∷ []) × (window ≡ [])) ⊎ ((e : EntryView) × (idle ≡ []) × (window ≡ e ∷ []))
 
-one_bench : (idle : List BenchView) (window : List EntryView) → length idle + length window ≡ 1 → IsOneBench idle window
+pub one_bench : (idle : List BenchView) (window : List EntryView) → length idle + length window ≡ 1 → IsOneBench idle window
 one_bench [] [] one = absurd cc
 one_bench [] (e ∷ []) one = inr (e, refl, refl)
 one_bench [] (e ∷ f ∷ window) one = absurd (omega (arith, one))

@@ -93,4 +93,5 @@ raised_engine job number engine b h may = record {
   idle = h.idle;
   benches = h.benches;
   waits = h.waits;
+  ended = h.ended;
 }

@@ -73,6 +73,7 @@ entry_engine job number engine place entry now h there phase open_yet stands =
       idle = h.idle;
       benches = has.benches;
       waits = (λ goes. set_waits engine.window place now open_yet (h.waits goes));
+      ended = h.ended;
     }
 
 pub shelved_lawful : (job : LoggedJob) (number : ℕ) (engine : EngineView) (outcome : OutcomeView) → IsOut engine outcome.work → LawfulEngine job (of_node number) engine → LawfulOutcome job outcome → LawfulEngine job (of_node number) (shelved engine outcome)

@@ -276,7 +276,7 @@ close_laid offset before given (Err cause) now good same has =
     (record { outputs = refl; fault = refl; state_is = same })
 
 -- of a node that is shown sets
-outer_last : (job : Job) (streams : List (StreamPrefix Plain)) (node : PlanNode) (n : ℕ) → IsOuter node.law → IsLast job streams node n
+pub outer_last : (job : Job) (streams : List (StreamPrefix Plain)) (node : PlanNode) (n : ℕ) → IsOuter node.law → IsLast job streams node n
     → outcome_of job streams node ≡ finished node.law node.shape.offset (record (stage job streams node n) { outputs = all_raised node.shape.offset done (stage job streams node n).outputs })
 outer_last job streams node n is last =
     let offset = node.shape.offset in

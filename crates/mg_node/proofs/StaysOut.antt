@@ -1,5 +1,5 @@
 -- What is out at a node: a claim puts one more work out, one that comes back is out no more, and all others stay out, whatever is laid.
-use Rattle.std.proofs.Common.{◌≡◌, ◌≢◌, ℕ, ℤ, zero, suc, ◌+◌, ◌-◌, ◌<◌, ◌≤◌, Bool, true, false, List, [], ◌∷◌, ◌++◌, length, length-append, drop, set, Option, Some, None, IfSome, option_and_then, slice_get, count_by as number_of, ◌⊎◌, inl, inr, ap, sym, refl, subst, ◌∙◌, arith, if◌then◌else◌}
+use Rattle.std.proofs.Common.{◌≡◌, ◌≢◌, ℕ, ℤ, zero, suc, ◌+◌, ◌-◌, ◌<◌, ◌≤◌, Bool, true, false, List, [], ◌∷◌, ◌++◌, length, drop, set, Option, Some, None, IfSome, option_and_then, slice_get, count_by as number_of, ◌⊎◌, inl, inr, ap, sym, refl, subst, ◌∙◌, arith, if◌then◌else◌}
 use Rattle.std.proofs.lemmas.Bool.{true≢false, cases_eq, cases_lt}
 use Rattle.std.proofs.lemmas.Option.{none-some, slice_get_within}
 use Rattle.mg_value.specs.Payload.{Plain}
@@ -12,7 +12,7 @@ use Rattle.mg_node.specs.Views.{BenchView, PerformedView, WorkView, OutcomeView,
 use Rattle.mg_node.specs.Job.{LoggedJob, IsTask, count_of_all}
 use Rattle.mg_node.specs.Lawful.{of_node, is_close, StandsAt, IsEngineOf, LawfulEngine}
 use Rattle.mg_node.specs.Claims.{TakesUnrun, Hands}
-use Rattle.mg_node.specs.Shelves.{IsOut, back, shelved, outcome_of, performed_of, shelf_at, Unshelves}
+use Rattle.mg_node.specs.Shelves.{IsOut, back, shelved, performed_of, shelf_at, Unshelves}
 use Rattle.mg_node.specs.Windows.{ready_of}
 use Rattle.mg_node.specs.Commits.{Front, counted, answer_laid, has_stopped, with_ready, front_laid, committed_entry, window_with, front_of, Commits}
 use Rattle.mg_node.proofs.Handing.{none_number}

@@ -28,11 +28,11 @@ use Rattle.mg_node.proofs.Stages.{outer_count}
 -- The logs.
 
 -- each node but a loopback has a call for each set that it was shown
-shown_calls : (law : Law) (streams : List (StreamPrefix Plain)) (node : PlanNode) (n : ℕ) → (law ≡ Loopback → ⊥) → calls_before_by law streams node n ≡ Begun ∷ map (λ e. Shown e.at e.set) (take n (sets_of streams node))
+pub shown_calls : (law : Law) (streams : List (StreamPrefix Plain)) (node : PlanNode) (n : ℕ) → (law ≡ Loopback → ⊥) → calls_before_by law streams node n ≡ Begun ∷ map (λ e. Shown e.at e.set) (take n (sets_of streams node))
 shown_calls Loopback streams node n never = absurd (never refl)
 shown_calls law streams node n never = refl
 
-abbrev shown_call : TimedSet Plain → Call
+abbrev pub shown_call : TimedSet Plain → Call
 shown_call e = Shown e.at e.set
 
 pub set_logged : (streams : List (StreamPrefix Plain)) (node : PlanNode) (n : ℕ) (e : TimedSet Plain) → IsOuter node.law → slice_get (sets_of streams node) n ≡ Some e → calls_before streams node n ++ Shown e.at e.set ∷ [] ≡ calls_before streams node (n + 1) ++ []

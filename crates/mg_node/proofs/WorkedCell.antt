@@ -225,6 +225,7 @@ module _ (solves : Solves job streams) where
     idle = all (IsIdle job streams node 0 false) (bench ∷ []) (record { fits = record { same_law = refl; same_shape = refl; same_handed = refl }; places = refl; state = refl; log = refl }, tt);
     benches = refl;
     waits = (λ goes. refl);
+    ended = (λ e. absurd cc);
   }
 
   entry_at_five : (i : ℕ) (entry : EntryView) → slice_get (out_at_five ∷ []) i ≡ Some entry → IsEntry job streams node 0 (0 + i) 0 entry
@@ -260,6 +261,7 @@ module _ (solves : Solves job streams) where
     idle = All-nil (IsIdle job streams node 0 false);
     benches = refl;
     waits = (λ goes. refl);
+    ended = (λ e. absurd cc);
   }
 
   -- committed: 7 is laid at 5
@@ -285,6 +287,7 @@ module _ (solves : Solves job streams) where
     idle = all (IsIdle job streams node 1 false) (bench ∷ []) (record { fits = record { same_law = refl; same_shape = refl; same_handed = refl }; places = refl; state = refl; log = refl }, tt);
     benches = refl;
     waits = (λ goes. refl);
+    ended = (λ e. absurd cc);
   }
 
   entry_for_close : (i : ℕ) (entry : EntryView) → slice_get (out_for_close ∷ []) i ≡ Some entry → IsEntry job streams node 1 (1 + i) 0 entry
@@ -320,6 +323,7 @@ module _ (solves : Solves job streams) where
     idle = All-nil (IsIdle job streams node 1 false);
     benches = refl;
     waits = (λ goes. refl);
+    ended = (λ e. absurd cc);
   }
 
   -- Close is laid: the output is the solution's stream
@@ -345,4 +349,5 @@ module _ (solves : Solves job streams) where
     idle = all (IsIdle job streams node 1 true) (bench ∷ []) (record { fits = record { same_law = refl; same_shape = refl; same_handed = refl }; places = refl; state = refl; log = refl }, tt);
     benches = refl;
     waits = (λ goes. refl);
+    ended = (λ e. omega arith);
   }

@@ -11,6 +11,7 @@ use Rattle.mg_calc.specs.Equations.{sides_of}
 use Rattle.mg_calc.specs.Law.{opening}
 use Rattle.mg_calc.specs.Outcome.{Outcome, opened}
 use Rattle.mg_calc.specs.Plan.{FitsNode}
+use Rattle.mg_calc.specs.Shape.{IsOuter}
 use Rattle.mg_calc.specs.Told.{with_call}
 use Rattle.mg_route.specs.HolderView.{HolderView, FitsHolder}
 use Rattle.mg_node.specs.Views.{BenchView, EntryView, EngineView}
@@ -69,11 +70,16 @@ pub record HasBegun (node : PlanNode) (number : ℕ) (told : HolderView) (sides 
     fault = option_map (λ f. record { node = number; phase = f.phase; cause = f.cause }) (opened_node node sides).fault;
   }
 
--- the calculator that a job has for a node, at its start: it fits the node, keeps nothing yet, and its log is the job's
+-- what a calculator keeps before it is opened doesn't matter: it keeps nothing, or it was handed in, and then its Open never fails and
+-- forgets what it kept
+abbrev pub IsBlank : HolderView → Type 0
+IsBlank told = (told.state ≡ []) ⊎ IsOuter told.law
+
+-- the calculator that a job has for a node, at its start: it fits the node, what it keeps doesn't matter, and its log is the job's
 pub record IsHanded (job : LoggedJob) (number : ℕ) (node : PlanNode) (told : HolderView) : Type 0 where
   pub there : slice_get job.job.plan.nodes number ≡ Some node
   pub fits : FitsHolder node told
-  pub state : told.state ≡ []
+  pub state : IsBlank told
   pub log : told.log ≡ first_log job node
 
 -- an engine of a node that isn't begun is lawful: it is that of what the job has for the node, and was opened with its side packets
@@ -94,7 +100,7 @@ pub record SomeUnbegun (sides : List (Option Plain)) (view : EngineView) : Type 
   pub told : HolderView
   pub unbegun : IsUnbegun node number told sides view
 
--- a calculator before it is opened: it has its node's law and shape, and keeps nothing
+-- a calculator before it is opened: it has its node's law and shape, and what it keeps doesn't matter
 pub record IsNew (node : PlanNode) (told : HolderView) : Type 0 where
   pub fits : FitsNode node told.law told.shape
-  pub state : told.state ≡ []
+  pub state : IsBlank told

@@ -197,6 +197,8 @@ pub record IsEngineOf (job : LoggedJob) (number : ℕ) (view : EngineView) : Typ
   pub benches : length view.idle + length view.window ≡ view.in_flight
   -- while the node goes on, all that is ready at the front of the window is laid
   pub waits : has_ended view ≡ false → starts_ready view.window ≡ false
+  -- a node that has ended keeps a bench that no work has: the one whose answer was laid last
+  pub ended : has_ended view ≡ true → 0 < length view.idle
 
 -- the engine of a graph input: its one output is the solution's stream of that input
 pub record IsInputOf (job : LoggedJob) (number : ℕ) (view : EngineView) : Type 0 where

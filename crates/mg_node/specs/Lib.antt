@@ -22,6 +22,7 @@ pub mod WindingUp
 pub mod Extending
 pub mod Resting
 pub mod Carried
+pub mod Had
 -- What the prover wants of the types beside their meaning. No meaning rests on it.
 pub mod Codes
 pub mod Code

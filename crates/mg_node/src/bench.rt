@@ -1,4 +1,4 @@
-ghost use Rattle.std.specs.Prelude.{◌≡◌, true, length, is_some, IsSome, IfSome, IfNone, option_map, OnOk, OnErr};
+ghost use Rattle.std.specs.Prelude.{◌≡◌, true, length, is_some, IsSome, IfSome, IfNone, IfOk, IfErr, option_map, OnOk, OnErr};
 ghost use Rattle.mg_calc.specs.Answer.{GivesEmission};
 ghost use Rattle.mg_calc.specs.Law.{opening};
 ghost use Rattle.mg_calc.specs.Told.{Logs};
@@ -22,7 +22,8 @@ use std::marker::Model;
 /// takes memory for one.
 #[derive(Drop)]
 pub struct Bench<C: Calculator> {
-    holder: Holder<C>,
+    // On the heap: a bench moves with each work that is claimed and comes back.
+    holder: Box<Holder<C>>,
     set: InputSet,
 }
 
@@ -34,26 +35,28 @@ impl<C: Calculator> Model for Bench<C> {
 
     ghost coded = { bench_code };
 
-    ghost view = { λ b. record { told = b.holder; set = b.set } };
+    ghost view = { λ b. record { told = b.holder.value; set = b.set } };
 }
 
 impl<C: Calculator> Bench<C> {
-    /// One of a calculator and a set.
-    pub fn new(holder: Holder<C>, set: InputSet) -> Bench<C>
-        ensures { result ≡ record { told = holder; set = set } }
+    /// One of a calculator and a set. Want of memory hands the calculator back.
+    pub fn new(alloc: Global, holder: Holder<C>, set: InputSet) -> Result<Bench<C>, Holder<C>>
+        ensures made { IfOk result (λ b. b ≡ record { told = holder; set = set }) }
+        ensures returned { IfErr result (λ h. h ≡ holder) }
     {
-        Bench { holder, set }
+        match Box::new(alloc, holder) {
+            Ok(holder) => Ok(Bench { holder, set }),
+            Err(refused) => Err(refused.value),
+        }
     }
 
     /// The bench with a calculator that is handed in, in the place of its own.
     pub(crate) fn with(self, calculator: C) -> Bench<C>
         ensures { result ≡ record { told = holder_view true (C.told calculator); set = self.set } }
     {
-        let Bench { set, .. } = self;
-        Bench {
-            holder: Holder::outer(calculator),
-            set,
-        }
+        let Bench { mut holder, set } = self;
+        *holder = Holder::outer(calculator);
+        Bench { holder, set }
     }
 
     /// Opens the calculator with side packets. Want of memory changes nothing.
@@ -133,6 +136,6 @@ impl<C: Calculator> Bench<C> {
         ensures handed { option_map C.told result ≡ handed_told self.told }
     {
         let Bench { holder, .. } = self;
-        holder.into_outer()
+        Box::into_inner(holder).into_outer()
     }
 }

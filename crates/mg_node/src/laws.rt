@@ -8,6 +8,8 @@ ghost use Rattle.mg_value.specs.Settled.{settled_sets, reach};
 ghost use Rattle.mg_value.specs.declared.policy.Policy.{Policy};
 ghost use Rattle.mg_stream.specs.Queue.{count_of as counted};
 ghost use Rattle.mg_calc.specs.declared.plan_node.PlanNode.{PlanNode};
+ghost use Rattle.mg_calc.specs.Shape.{IsOuter};
+ghost use Rattle.mg_calc.specs.Told.{CalculatorTold};
 ghost use Rattle.mg_calc.specs.Equations.{sides_of, inputs_of, outcome_of as becomes};
 ghost use Rattle.mg_calc.specs.Meaning.{count_of, fault_of};
 ghost use Rattle.mg_node.specs.Ports.{ports_in, port_queue, next_time, first_waiting};
@@ -16,7 +18,9 @@ ghost use Rattle.mg_node.specs.Job.{LoggedJob, Solves, ports_of, streams_at};
 ghost use Rattle.mg_node.specs.Lawful.{Owner, of_node, of_input, StandForAll, LawfulEngine, LawfulIntake, LawfulWork, LawfulPerformed, LawfulOutcome, Agree};
 ghost use Rattle.mg_node.specs.Begun.{LawfulUnbegun, SomeUnbegun};
 ghost use Rattle.mg_node.specs.Known.{IsKnown, IsKnownInput};
-ghost use Rattle.mg_node.specs.Leaving.{NoneOut, HasCalculator, HasHanded};
+ghost use Rattle.mg_node.specs.Leaving.{NoneOut, HasCalculator, HasHanded, handed_told, first_handed};
+ghost use Rattle.mg_node.specs.WindingUp.{WindsUp};
+ghost use Rattle.mg_node.specs.Had.{HadCalls, HadFront};
 ghost use Rattle.mg_node.specs.Batches.{Grows};
 ghost use Rattle.mg_node.specs.IntakeStanding.{Stays};
 ghost use Rattle.mg_node.specs.Standing.{EngineGrows};
@@ -174,4 +178,29 @@ pub fn what_rests_has_the_solution()
     ensures fault { (job : LoggedJob) (number : ℕ) (node : PlanNode) (engine : EngineView) (intake : IntakeView) (solution : List (StreamPrefix Plain)) → Solves job solution
         → slice_get job.job.plan.nodes number ≡ Some node → LawfulEngine job (of_node number) engine → LawfulIntake job number intake → Agree engine intake
         → IsResting engine intake → HasCome intake (inputs_of solution node) → engine.fault ≡ fault_of job.job solution (number, node) }
+{}
+
+/// Where a run came to rest and was wound up, the calculator of a node that was handed in had all its calls, and keeps what the node
+/// comes to.
+pub fn what_was_wound_up_had_its_calls()
+    ensures { (job : LoggedJob) (number : ℕ) (node : PlanNode) (engine engine_now : EngineView) (intake : IntakeView) (solution : List (StreamPrefix Plain)) → Solves job solution
+        → slice_get job.job.plan.nodes number ≡ Some node → is_some node.box_number ≡ true → IsOuter node.law → LawfulEngine job (of_node number) engine → LawfulIntake job number intake
+        → Agree engine intake → IsResting engine intake → HasCome intake (inputs_of solution node) → WindsUp engine engine_now
+        → (told : CalculatorTold) × (first_handed engine_now ≡ Some told) × HadCalls job solution node told }
+{}
+
+/// At any time the calculator of a node that was handed in, wherever in its cell it stands, had a front of its calls.
+pub fn what_is_under_way_had_a_front()
+    ensures engine { (job : LoggedJob) (number : ℕ) (node : PlanNode) (engine : EngineView) (solution : List (StreamPrefix Plain)) (told : CalculatorTold) → Solves job solution
+        → slice_get job.job.plan.nodes number ≡ Some node → is_some node.box_number ≡ true → IsOuter node.law → LawfulEngine job (of_node number) engine
+        → first_handed engine ≡ Some told → HadFront job solution node told }
+    ensures unbegun { (job : LoggedJob) (number : ℕ) (node : PlanNode) (engine : EngineView) (solution : List (StreamPrefix Plain)) (told : CalculatorTold) → Solves job solution
+        → slice_get job.job.plan.nodes number ≡ Some node → is_some node.box_number ≡ true → IsOuter node.law → LawfulUnbegun job number engine
+        → first_handed engine ≡ Some told → HadFront job solution node told }
+    ensures work { (job : LoggedJob) (number : ℕ) (node : PlanNode) (engine : EngineView) (work : WorkView) (solution : List (StreamPrefix Plain)) (told : CalculatorTold) → Solves job solution
+        → slice_get job.job.plan.nodes number ≡ Some node → is_some node.box_number ≡ true → IsOuter node.law → LawfulEngine job (of_node number) engine → LawfulWork job work
+        → work.node ≡ number → IsOut engine work → handed_told work.bench.told ≡ Some told → HadFront job solution node told }
+    ensures wound { (job : LoggedJob) (number : ℕ) (node : PlanNode) (engine engine_now : EngineView) (solution : List (StreamPrefix Plain)) (told : CalculatorTold) → Solves job solution
+        → slice_get job.job.plan.nodes number ≡ Some node → is_some node.box_number ≡ true → IsOuter node.law → LawfulEngine job (of_node number) engine → WindsUp engine engine_now
+        → first_handed engine_now ≡ Some told → HadFront job solution node told }
 {}

@@ -56,7 +56,10 @@ fn own_bench<C: Calculator>(alloc: Global, node: &PlanNode) -> Result<Bench<C>, 
 {
     let builtin = Builtin::new(alloc, &node.law, &node.shape)?;
     let set = InputSet::new(alloc, node.inputs.len())?;
-    Ok(Bench::new(Holder::own(builtin), set))
+    match Bench::new(alloc, Holder::own(builtin), set) {
+        Ok(bench) => Ok(bench),
+        Err(_) => Err(AllocError),
+    }
 }
 
 /// Benches of a node's own calculators, so many, with room for one more.

@@ -5,7 +5,7 @@ use crate::member::{list, number, numbers};
 use crate::text::{Texts, bytes_of};
 use anyhow::{Result, bail};
 use mg_calc::Calculator;
-use mg_edge::{MemorySink, MemorySource, MemoryStore};
+use mg_edge::{MemorySink, MemorySource, MemoryStore, StillGate};
 use mg_run::{run_words, tally_box};
 use mg_value::MgText;
 use serde_json::Value;
@@ -74,6 +74,7 @@ pub fn make_call(alloc: Global, texts: &Texts, case: &Value, choice: Choice) -> 
         &mut devices.output,
         &mut devices.notes,
         &mut boxes,
+        &StillGate,
     );
     Ok(devices.outcome(alloc, status.number(), &boxes)?)
 }

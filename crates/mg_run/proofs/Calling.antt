@@ -1,11 +1,11 @@
 -- What a call came to.
 use Rattle.std.proofs.Common.{◌≡◌, ◌≢◌, ℕ, List, [], Bool, true, false, Option, None, Some, IfSome, if◌then◌else◌, ◌⊎◌, inl, inr, refl, ap, ◌∙◌, subst, arith}
-use Rattle.mg_edge.specs.Edge.{SourceTold, SinkTold, StoreTold, Rose}
+use Rattle.mg_edge.specs.Edge.{SourceTold, SinkTold, StoreTold, Rose, one_more}
+use Rattle.mg_calc.specs.Told.{CalculatorTold}
+use Rattle.mg_run.specs.Boxes.{RunLeaves}
 use Rattle.mg_edge.proofs.Runs.{TookAll-start}
-use Rattle.mg_run.proofs.Finishing.{front-nothing}
 use Rattle.mg_run.proofs.Together.{one-reading}
 use Rattle.mg_run.proofs.Loading.{of-loads}
-use Rattle.mg_run.proofs.Flowing.{rose-after}
 use Rattle.mg_run.specs.Task.{Task}
 use Rattle.mg_run.specs.Files.{Files, AreFiles}
 use Rattle.mg_run.specs.Loads.{AreLoaded, LoadedAll, loads_of}
@@ -16,23 +16,22 @@ use Rattle.mg_answer.specs.Ran as running
 use Rattle.mg_answer.specs.declared.run_status.RunStatus.{RunStatus}
 use Rattle.mg_answer.specs.declared.run_status.RunStatus.TheVariants as ended
 use Rattle.mg_answer.proofs.Answering.{ran-answered}
-use Rattle.mg_run.specs.Answer.{Answer, Job, refuse, show, merge, solve, job_of, answer_from, run_answer}
+use Rattle.mg_answer.proofs.RunningOn.{on-answered}
+use Rattle.mg_run.specs.Answer.{Answer, Job, refuse, show, run_plan, solve, job_of, answer_from, IsRunAnswer}
 use Rattle.mg_run.specs.Status.{status_from}
 use Rattle.mg_run.specs.Devices.{Device, device, Devices, devices, run_of, Untouched, Unrisen, NoneFailed, TookFront, TookText, TookPart, Noted}
-use Rattle.mg_run.specs.Call.{Meets, WasShown, Ran, Did, IsJob, CallDid, Short, CallShort, Called, MetAnswer, IsAnswered}
-use Rattle.mg_run.specs.Code.Flow.{Flows}
+use Rattle.mg_run.specs.Call.{Meets, WasShown, Did, IsJob, CallDid, Short, ShortRun, CallShort, Called, MetAnswer, IsAnswered}
+use Rattle.mg_feed.specs.Sent.{Sent}
 use Rattle.mg_run.specs.declared.status.Status.{Status}
 use Rattle.mg_run.specs.declared.status.Status.TheVariants.{Good, StoreFault, Usage, GraphRefused, LineRefused, NodeFault, Stalled, ReadFault, WriteFault, OutOfMemory}
 
-pub noted-from : (failed : Bool) (notes : Device SinkTold) (text : List ℕ) → Flows failed notes text → Noted notes text
-noted-from true notes text flows = inr flows
-noted-from false notes text flows = inl flows
+-- a call that fails, after others that don't
+rose-after : (a b c : ℕ) → b ≡ a → c ≡ one_more b → Rose a c
+rose-after a b c same more = omega (arith, same, more)
 
--- a text was written, or wasn't
-pub shown-by : (failed : Bool) (text : List ℕ) (status : Status) (all : Devices) → status ≡ (if failed then WriteFault else Good) → Flows failed all.output text
-    → Untouched all.input → Untouched all.notes → WasShown text status all
-shown-by true text status all ended flows unread unnoted = record { written = inr (ended, flows); unread = unread; unnoted = unnoted }
-shown-by false text status all ended flows unread unnoted = record { written = inl (ended, flows); unread = unread; unnoted = unnoted }
+pub noted-from : (all : Bool) (notes : Device SinkTold) (text : List ℕ) → Sent all notes.before notes.now text → Noted notes text
+noted-from true notes text sent = inl sent
+noted-from false notes text sent = inr sent
 
 -- Nothing was written.
 if-any : {X : Type 0} (o : Option X) (P : X → Type 0) → ((x : X) → P x) → IfSome o P
@@ -40,19 +39,22 @@ if-any None P all = tt
 if-any (Some x) P all = all x
 
 front-none : (output : SinkTold) (text : List ℕ) → TookFront (device output output) text
-front-none output text = front-nothing (Some []) output (λ read. text)
+front-none output text = ([], (text, refl), TookAll-start output.taken)
 
 -- nothing was written of a job
-short-none : (job : Job) (store : Device StoreTold) (input : Device SourceTold) (output : SinkTold) (notes : Device SinkTold) → Short job (devices store input (device output output) notes)
-short-none (refuse note) store input output notes = front-none output []
-short-none (show text) store input output notes = front-none output text
-short-none (merge names) store input output notes = front-nothing input.before.left output (λ read. (run_answer names read).output)
-short-none (solve plan) store input output notes = inl refl
+short-none : (job : Job) (store : Device StoreTold) (input : Device SourceTold) (output : SinkTold) (notes : Device SinkTold) (boxes : Device (List CalculatorTold))
+    → Short job (devices store input (device output output) notes boxes)
+short-none (refuse note) store input output notes boxes = front-none output []
+short-none (show text) store input output notes boxes = front-none output text
+short-none (run_plan plan) store input output notes boxes = inr (if-any input.before.left _ (λ bytes answer is. front-none output answer.output))
+short-none (solve plan) store input output notes boxes = inl refl
 
-pub short-nothing : (task : Task) (store : Device StoreTold) (input : Device SourceTold) (output : SinkTold) (notes : Device SinkTold)
-    → CallShort task (devices store input (device output output) notes)
-short-nothing task store input output notes =
-    if-any (loads_of store.before.content task.files) _ (λ contents files are. short-none (job_of task files) store input output notes)
+pub short-nothing : (task : Task) (store : Device StoreTold) (input : Device SourceTold) (output : SinkTold) (notes : Device SinkTold) (boxes : List CalculatorTold)
+    → CallShort task (devices store input (device output output) notes (device boxes boxes))
+short-nothing task store input output notes boxes = record {
+  front = if-any (loads_of store.before.content task.files) _ (λ contents files are. short-none (job_of task files) store input output notes (device boxes boxes));
+  called = inl refl;
+}
 
 -- what files of these contents are doesn't matter: there is one job
 short-files : (task : Task) (contents : List (List ℕ)) (job : Job) (all : Devices) → IsJob task contents job → Short job all
@@ -100,14 +102,14 @@ no-memory ended.OutOfMemory e = refl
 did-store : (job : Job) (all : Devices) → Did job StoreFault all → ⊥
 did-store (refuse note) all did = let e = did.ended in cc
 did-store (show text) all did = not-shown text StoreFault all (λ e. cc) (λ e. cc) did
-did-store (merge names) all did = did
-did-store (solve plan) all did = no-store did.run did.told
+did-store (run_plan plan) all did = no-store did.run_status did.told
+did-store (solve plan) all did = no-store did.run_status did.told
 
 did-usage : (job : Job) (all : Devices) → Did job Usage all → ⊥
 did-usage (refuse note) all did = let e = did.ended in cc
 did-usage (show text) all did = not-shown text Usage all (λ e. cc) (λ e. cc) did
-did-usage (merge names) all did = did
-did-usage (solve plan) all did = no-usage did.run did.told
+did-usage (run_plan plan) all did = no-usage did.run_status did.told
+did-usage (solve plan) all did = no-usage did.run_status did.told
 
 did-short : (job : Job) (all : Devices) → Did job OutOfMemory all → Short job all
 did-short (refuse note) all did = let e = did.ended in absurd (differ e)
@@ -115,15 +117,31 @@ did-short (refuse note) all did = let e = did.ended in absurd (differ e)
     differ : OutOfMemory ≡ GraphRefused → ⊥
     differ e = cc
 did-short (show text) all did = absurd (not-shown text OutOfMemory all (λ e. cc) (λ e. cc) did)
-did-short (merge names) all did = did
-did-short (solve plan) all did = subst (λ (run : RunStatus). running.Ran plan run (run_of all)) (no-memory did.run did.told) did.ran
+did-short (run_plan plan) all did = subst (λ (run : RunStatus). running.RanOn plan run (run_of all)) (no-memory did.run_status did.told) did.ran
+did-short (solve plan) all did = subst (λ (run : RunStatus). running.Ran plan run (run_of all)) (no-memory did.run_status did.told) did.ran
+
+-- what is left of the calculators that are handed in
+short-boxes : (job : Job) (task : Task) (contents : List (List ℕ)) (all : Devices) → LoadedAll task.files contents all.store → IsJob task contents job → Did job OutOfMemory all
+    → Untouched all.boxes ⊎ ShortRun task all
+short-boxes (refuse note) task contents all loaded due did = inl did.uncalled
+short-boxes (show text) task contents all loaded due did = inl did.uncalled
+short-boxes (solve plan) task contents all loaded due did = inl did.uncalled
+short-boxes (run_plan plan) task contents all loaded due did = inr (record {
+  contents = contents;
+  loaded = loaded;
+  plan = plan;
+  due = due;
+  left = subst (λ (run : RunStatus). RunLeaves plan run all.input all.boxes) (no-memory did.run_status did.told) did.left;
+})
 
 call-short : (job : Job) (task : Task) (contents : List (List ℕ)) (all : Devices) → AreLoaded all.store.before.content task.files contents → IsJob task contents job
-    → Did job OutOfMemory all → CallShort task all
-call-short job task contents all given due did =
-    of-loads all.store.before.content task.files contents
-    (λ known. (files : Files) → AreFiles task.files known files → Short (job_of task files) all)
-    given (short-files task contents job all due (did-short job all did))
+    → LoadedAll task.files contents all.store → Did job OutOfMemory all → CallShort task all
+call-short job task contents all given due loaded did = record {
+  front = of-loads all.store.before.content task.files contents
+      (λ known. (files : Files) → AreFiles task.files known files → Short (job_of task files) all)
+      given (short-files task contents job all due (did-short job all did));
+  called = short-boxes job task contents all loaded due did;
+}
 
 pub called-did : (job : Job) (status : Status) (task : Task) (contents : List (List ℕ)) (all : Devices)
     → LoadedAll task.files contents all.store → IsJob task contents job → Did job status all → Called status task all
@@ -136,7 +154,7 @@ called-did job NodeFault task contents all loaded due did = record { contents = 
 called-did job Stalled task contents all loaded due did = record { contents = contents; loaded = loaded; job = job; due = due; did = did }
 called-did job ReadFault task contents all loaded due did = record { contents = contents; loaded = loaded; job = job; due = due; did = did }
 called-did job WriteFault task contents all loaded due did = record { contents = contents; loaded = loaded; job = job; due = due; did = did }
-called-did job OutOfMemory task contents all loaded due did = call-short job task contents all loaded.given due did
+called-did job OutOfMemory task contents all loaded due did = call-short job task contents all loaded.given due loaded did
 
 -- What follows --
 
@@ -164,31 +182,9 @@ shown-answer text status all shown none = by shown.written
     by (inl good) = record { text = good.1; noted = took-nothing all.notes shown.unnoted; ended = good.0 }
     by (inr failed) = absurd (unrisen-rose all.output.before.faults all.output.now.faults none.output failed.1.rose)
 
-ran-answer : (names : List (List ℕ)) (status : Status) (all : Devices) → Ran names status all → NoneFailed all → status ≢ OutOfMemory
-    → IfSome all.input.before.left (λ read. Meets (run_answer names read) status all)
-ran-answer names Good all ran none some = ran.answered
-ran-answer names StoreFault all ran none some = elim ran [ ]
-ran-answer names Usage all ran none some = elim ran [ ]
-ran-answer names GraphRefused all ran none some = elim ran [ ]
-ran-answer names LineRefused all ran none some = ran.answered
-ran-answer names NodeFault all ran none some = elim ran [ ]
-ran-answer names Stalled all ran none some = elim ran [ ]
-ran-answer names ReadFault all ran none some = absurd (unrisen-rose all.input.before.faults all.input.now.faults none.input (rose-after all.input.before.faults all.input.before.faults all.input.now.faults refl ran.failed.once))
-ran-answer names WriteFault all ran none some = absurd (neither ran.rose)
-  where
-    neither : Rose all.output.before.faults all.output.now.faults ⊎ Rose all.notes.before.faults all.notes.now.faults → ⊥
-    neither (inl rose) = unrisen-rose all.output.before.faults all.output.now.faults none.output rose
-    neither (inr rose) = unrisen-rose all.notes.before.faults all.notes.now.faults none.notes rose
-ran-answer names OutOfMemory all ran none some = absurd (some refl)
-
-run-meets : (names : List (List ℕ)) (status : Status) (input : Option (List ℕ)) (all : Devices) → IfSome input (λ read. Meets (run_answer names read) status all)
-    → IfSome input (λ read. MetAnswer (merge names) read status all)
-run-meets names status None all meets = tt
-run-meets names status (Some read) all meets = (run_answer names read, refl, meets)
-
 graph-meets : (plan : Plan) (status : Status) (run : RunStatus) (input : Option (List ℕ)) (all : Devices) → status ≡ status_from run
     → IfSome input (λ read. (answer : runs.Answer) × runs.AnswersEnded plan read answer × running.Meets answer run (run_of all))
-    → IfSome input (λ read. MetAnswer (solve plan) read status all)
+    → IfSome input (λ read. (given : Answer) × IsRunAnswer plan read given × Meets given status all)
 graph-meets plan status run None all told meets = tt
 graph-meets plan status run (Some read) all told (answer, is, met) =
     (answer_from answer, (answer, is, refl), record { text = met.text; noted = met.noted; ended = told ∙ ap status_from met.told })
@@ -206,10 +202,12 @@ did-answer (refuse note) status all did none some =
     (λ r. (refuse_answer note, refl, record { text = took-nothing all.output did.unwritten; noted = took-noted all.notes note none.notes did.noted; ended = did.ended }))
 did-answer (show text) status all did none some =
     if-any all.input.before.left (λ r. MetAnswer (show text) r status all) (λ r. (show_answer text, refl, shown-answer text status all did none))
-did-answer (merge names) status all did none some = run-meets names status all.input.before.left all (ran-answer names status all did none some)
+did-answer (run_plan plan) status all did none some =
+    graph-meets plan status did.run_status all.input.before.left all did.told
+    (on-answered plan did.run_status (run_of all) did.ran (none-run all none) (some-run status did.run_status did.told some))
 did-answer (solve plan) status all did none some =
-    graph-meets plan status did.run all.input.before.left all did.told
-    (ran-answered plan did.run (run_of all) did.ran (none-run all none) (some-run status did.run did.told some))
+    graph-meets plan status did.run_status all.input.before.left all did.told
+    (ran-answered plan did.run_status (run_of all) did.ran (none-run all none) (some-run status did.run_status did.told some))
 
 -- The answer of the job is that of the files' bytes and the input's.
 job-answered : (task : Task) (contents : List (List ℕ)) (status : Status) (job : Job) (input : Option (List ℕ)) (all : Devices) → IsJob task contents job

@@ -1,29 +1,51 @@
 -- What a call came to, by what its words ask for.
-use Rattle.std.proofs.Common.{◌≡◌, ◌≢◌, ◌↔◌, ◌⊎◌, inl, inr, refl, ap, subst, ℕ, true, false, List, [], ◌∷◌, IfSome}
+use Rattle.std.proofs.Common.{◌≡◌, ◌≢◌, ◌↔◌, ◌⊎◌, inl, inr, refl, sym, ap, ◌∙◌, subst, ℕ, ℤ, Bool, true, false, List, [], ◌∷◌, map, length, Option, Result, Ok, Err, IfSome}
+use Rattle.std.proofs.lemmas.Bool.{false≢true}
+use Rattle.mg_subgraph.proofs.Steps.{length-map}
+use Rattle.mg_config.specs.Config.{GraphView}
+use Rattle.mg_calc.specs.declared.plan.Plan.{Plan}
+use Rattle.mg_check.specs.Check.{check_of}
+use Rattle.mg_check.specs.declared.fault.CheckFault.{CheckFault}
+use Rattle.mg_subgraph.specs.Expansion.{expansion_of}
+use Rattle.mg_subgraph.specs.declared.fault.ExpandFault.{ExpandFault}
 use Rattle.mg_edge.specs.Edge.{SourceTold, SinkTold, StoreTold}
 use Rattle.mg_calc.specs.declared.shape.OuterShape.{OuterShape}
-use Rattle.mg_run.specs.Task.{task}
+use Rattle.mg_calc.specs.Told.{CalculatorTold}
+use Rattle.mg_run.specs.Task.{Task, task}
+use Rattle.mg_run.specs.Files.{Files, graphs, no_graphs}
+use Rattle.mg_run.specs.Answer.{Job, refuse, show, run_plan, solve, solve_job, check_job, verb_job, expanded_job, files_job}
 use Rattle.mg_run.specs.Words.{Asked, asks_usage, asks_text, asks_command, command_by}
 use Rattle.mg_run.specs.Devices.{device, Devices, devices, Untouched, HasEnded, HasRisen, NoneFailed, TookText, TookPart, Noted}
 use Rattle.mg_run.specs.Notes.{usage_note}
-use Rattle.mg_run.specs.Call.{WasUsage, WasTold, Came, Called, IsAnswered, IsOneOf}
-use Rattle.mg_run.specs.Command.{reads_input}
+use Rattle.mg_run.specs.Call.{WasUsage, WasTold, Did, IsJob, CallDid, ShortRun, Came, Called, IsAnswered, IsOneOf}
+use Rattle.mg_run.specs.Command.{reads_input, calls_boxes}
+use Rattle.mg_run.specs.declared.words.Order.{Order}
+use Rattle.mg_run.specs.declared.words.Verb.{Verb}
+use Rattle.mg_run.specs.declared.words.Verb.TheVariants.{Run, Solve, Check, Expand}
 use Rattle.mg_run.specs.declared.status.Status.{Status}
-use Rattle.mg_run.specs.declared.status.Status.TheVariants.{Good, StoreFault, Usage, GraphRefused, ReadFault, WriteFault, OutOfMemory}
-use Rattle.mg_run.proofs.Calling.{short-nothing, answered-from}
+use Rattle.mg_run.specs.declared.status.Status.TheVariants.{Good, StoreFault, Usage, GraphRefused, LineRefused, NodeFault, Stalled, ReadFault, WriteFault, OutOfMemory}
+use Rattle.mg_feed.specs.Sent.{Sent}
+use Rattle.mg_run.proofs.Calling.{noted-from, short-nothing, answered-from}
 use Rattle.mg_run.proofs.Ending.{ended_statuses, called-ended}
 use Rattle.mg_run.proofs.Risen.{store-risen, read-risen, write-risen, risen-steady}
 
 -- There was no memory to judge the words.
-pub came-nothing : (outers : List OuterShape) (asked : Asked) (store : StoreTold) (input : SourceTold) (output notes : SinkTold) → Came outers asked OutOfMemory (devices (device store store) (device input input) (device output output) (device notes notes))
-came-nothing outers asks_usage store input output notes = record { noted = inr (refl, refl); unloaded = refl; unread = refl; unwritten = refl }
-came-nothing outers (asks_text text) store input output notes = record { written = inr (inr (refl, refl)); unloaded = refl; unread = refl; unnoted = refl }
-came-nothing outers (asks_command command) store input output notes = short-nothing (task command outers) (device store store) (device input input) output (device notes notes)
+pub came-nothing : (outers : List OuterShape) (asked : Asked) (store : StoreTold) (input : SourceTold) (output notes : SinkTold) (boxes : List CalculatorTold) → Came outers asked OutOfMemory (devices (device store store) (device input input) (device output output) (device notes notes) (device boxes boxes))
+came-nothing outers asks_usage store input output notes boxes = record { noted = inr (refl, refl); unloaded = refl; unread = refl; unwritten = refl; uncalled = refl }
+came-nothing outers (asks_text text) store input output notes boxes = record { written = inr (inr (refl, refl)); unloaded = refl; unread = refl; unnoted = refl; uncalled = refl }
+came-nothing outers (asks_command command) store input output notes boxes = short-nothing (task command outers) (device store store) (device input input) output (device notes notes) boxes
+
+-- The words were no command, and the note says so.
+pub usage-came : (outers : List OuterShape) (asked : Asked) (all : Devices) (done : Bool) → asked ≡ asks_usage → Sent done all.notes.before all.notes.now usage_note
+    → Untouched all.store → Untouched all.input → Untouched all.output → Untouched all.boxes → Came outers asked Usage all
+usage-came outers asked all done is sent unloaded unread unwritten uncalled =
+    subst (λ (a : Asked). Came outers a Usage all) (sym is)
+    (record { noted = inl (refl, noted-from done all.notes usage_note sent); unloaded = unloaded; unread = unread; unwritten = unwritten; uncalled = uncalled })
 
 pub told-by : (text : List ℕ) (status : Status) (all : Devices) → ((status ≡ Good) × TookText all.output text) ⊎ ((status ≡ WriteFault) × TookPart all.output text)
-    → Untouched all.store → Untouched all.input → Untouched all.notes → WasTold text status all
-told-by text status all (inl good) unloaded unread unnoted = record { written = inl good; unloaded = unloaded; unread = unread; unnoted = unnoted }
-told-by text status all (inr failed) unloaded unread unnoted = record { written = inr (inl failed); unloaded = unloaded; unread = unread; unnoted = unnoted }
+    → Untouched all.store → Untouched all.input → Untouched all.notes → Untouched all.boxes → WasTold text status all
+told-by text status all (inl good) unloaded unread unnoted uncalled = record { written = inl good; unloaded = unloaded; unread = unread; unnoted = unnoted; uncalled = uncalled }
+told-by text status all (inr failed) unloaded unread unnoted uncalled = record { written = inr (inl failed); unloaded = unloaded; unread = unread; unnoted = unnoted; uncalled = uncalled }
 
 -- Usage --
 
@@ -69,7 +91,7 @@ came-answered outers asks_usage status all came = tt
 came-answered outers (asks_text text) status all came = tt
 came-answered outers (asks_command command) status all came = answered-from status (task command outers) all came
 
-pub unread-nothing : (asked : Asked) (input : SourceTold) → IfSome (command_by asked) (λ command. reads_input command.verb ≡ false → Untouched (device input input))
+pub unread-nothing : (asked : Asked) (input : SourceTold) → IfSome (command_by asked) (λ command. reads_input command.order.verb ≡ false → Untouched (device input input))
 unread-nothing asks_usage input = tt
 unread-nothing (asks_text text) input = tt
 unread-nothing (asks_command command) input = λ is. refl
@@ -77,7 +99,7 @@ unread-nothing (asks_command command) input = λ is. refl
 -- The input's end --
 
 pub came-ended : (outers : List OuterShape) (asked : Asked) (status : Status) (all : Devices) → Came outers asked status all
-    → IfSome (command_by asked) (λ command. reads_input command.verb ≡ true → IsOneOf status ended_statuses → HasEnded all.input)
+    → IfSome (command_by asked) (λ command. reads_input command.order.verb ≡ true → IsOneOf status ended_statuses → HasEnded all.input)
 came-ended outers asks_usage status all came = tt
 came-ended outers (asks_text text) status all came = tt
 came-ended outers (asks_command command) status all came = called-ended status (task command outers) all came
@@ -121,3 +143,100 @@ pub came-write : (outers : List OuterShape) (asked : Asked) (status : Status) (a
 came-write outers asks_usage status all came risen = usage-write status all came
 came-write outers (asks_text text) status all came risen = told-write text status all came risen
 came-write outers (asks_command command) status all came risen = inr (write-risen status (task command outers) all came risen)
+
+-- The calculators --
+
+did-boxes : (job : Job) (status : Status) (all : Devices) → Did job status all → length all.boxes.now ≡ length all.boxes.before
+did-boxes (refuse note) status all did = ap length did.uncalled
+did-boxes (show text) status all did = ap length did.uncalled
+did-boxes (run_plan plan) status all did = did.left.count
+did-boxes (solve plan) status all did = ap length did.uncalled
+
+short-boxes : (task : Task) (all : Devices) → Untouched all.boxes ⊎ ShortRun task all → length all.boxes.now ≡ length all.boxes.before
+short-boxes task all (inl untouched) = ap length untouched
+short-boxes task all (inr short) = short.left.count
+
+called-boxes : (status : Status) (task : Task) (all : Devices) → Called status task all → length all.boxes.now ≡ length all.boxes.before
+called-boxes StoreFault task all called = ap length called.uncalled
+called-boxes Usage task all called = elim called [ ]
+called-boxes OutOfMemory task all called = short-boxes task all called.called
+called-boxes Good task all called = did-boxes called.job Good all called.did
+called-boxes GraphRefused task all called = did-boxes called.job GraphRefused all called.did
+called-boxes LineRefused task all called = did-boxes called.job LineRefused all called.did
+called-boxes NodeFault task all called = did-boxes called.job NodeFault all called.did
+called-boxes Stalled task all called = did-boxes called.job Stalled all called.did
+called-boxes ReadFault task all called = did-boxes called.job ReadFault all called.did
+called-boxes WriteFault task all called = did-boxes called.job WriteFault all called.did
+
+pub came-boxes : (outers : List OuterShape) (asked : Asked) (status : Status) (all : Devices) → Came outers asked status all → length all.boxes.now ≡ length all.boxes.before
+came-boxes outers asks_usage status all came = ap length came.uncalled
+came-boxes outers (asks_text text) status all came = ap length came.uncalled
+came-boxes outers (asks_command command) status all came = called-boxes status (task command outers) all came
+
+-- as many things have as many images
+pub count-of : {X Y : Type 0} (f : X → Y) (xs ys : List X) → length (map f xs) ≡ length (map f ys) → length xs ≡ length ys
+count-of f xs ys same = sym (length-map f xs) ∙ (same ∙ length-map f ys)
+
+-- A job that is due of a task with another verb runs no graph.
+abbrev IsRun : Job → Type 0
+IsRun (refuse note) = ⊥
+IsRun (show text) = ⊥
+IsRun (run_plan plan) = Unit {0}
+IsRun (solve plan) = ⊥
+
+check-no-run : (checked : Result Plan CheckFault) → IsRun (check_job checked) → ⊥
+check-no-run (Ok plan) runs = runs
+check-no-run (Err fault) runs = runs
+
+solve-no-run : (checked : Result Plan CheckFault) → IsRun (solve_job checked) → ⊥
+solve-no-run (Ok plan) runs = runs
+solve-no-run (Err fault) runs = runs
+
+verb-no-run : (verb : Verb) (limit : Option ℤ) (outers : List OuterShape) (g : GraphView) → calls_boxes verb ≡ false → IsRun (verb_job verb limit outers g) → ⊥
+verb-no-run Run limit outers g is runs = false≢true (sym is)
+verb-no-run Solve limit outers g is runs = solve-no-run (check_of outers g) runs
+verb-no-run Check limit outers g is runs = check-no-run (check_of outers g) runs
+verb-no-run Expand limit outers g is runs = runs
+
+expanded-no-run : (order : Order) (outers : List OuterShape) (expanded : Result GraphView ExpandFault) → calls_boxes order.verb ≡ false → IsRun (expanded_job order outers expanded) → ⊥
+expanded-no-run order outers (Ok g) is runs = verb-no-run order.verb order.limit outers g is runs
+expanded-no-run order outers (Err fault) is runs = runs
+
+files-no-run : (order : Order) (outers : List OuterShape) (files : Files) → calls_boxes order.verb ≡ false → IsRun (files_job order outers files) → ⊥
+files-no-run order outers (graphs []) is runs = runs
+files-no-run order outers (graphs (main ∷ library)) is runs = expanded-no-run order outers (expansion_of main library) is runs
+files-no-run order outers (no_graphs note) is runs = runs
+
+due-no-run : (task : Task) (contents : List (List ℕ)) (job : Job) → calls_boxes task.order.verb ≡ false → IsJob task contents job → IsRun job → ⊥
+due-no-run task contents job is (files, are, same) runs = files-no-run task.order task.outers files is (subst IsRun same runs)
+
+did-uncalled : (job : Job) (status : Status) (all : Devices) → (IsRun job → ⊥) → Did job status all → Untouched all.boxes
+did-uncalled (refuse note) status all none did = did.uncalled
+did-uncalled (show text) status all none did = did.uncalled
+did-uncalled (run_plan plan) status all none did = absurd (none tt)
+did-uncalled (solve plan) status all none did = did.uncalled
+
+call-uncalled : (status : Status) (task : Task) (all : Devices) → calls_boxes task.order.verb ≡ false → CallDid status task all → Untouched all.boxes
+call-uncalled status task all is called = did-uncalled called.job status all (due-no-run task called.contents called.job is called.due) called.did
+
+short-uncalled : (task : Task) (all : Devices) → calls_boxes task.order.verb ≡ false → Untouched all.boxes ⊎ ShortRun task all → Untouched all.boxes
+short-uncalled task all is (inl untouched) = untouched
+short-uncalled task all is (inr short) = absurd (due-no-run task short.contents (run_plan short.plan) is short.due tt)
+
+called-uncalled : (status : Status) (task : Task) (all : Devices) → calls_boxes task.order.verb ≡ false → Called status task all → Untouched all.boxes
+called-uncalled StoreFault task all is called = called.uncalled
+called-uncalled Usage task all is called = elim called [ ]
+called-uncalled OutOfMemory task all is called = short-uncalled task all is called.called
+called-uncalled Good task all is called = call-uncalled Good task all is called
+called-uncalled GraphRefused task all is called = call-uncalled GraphRefused task all is called
+called-uncalled LineRefused task all is called = call-uncalled LineRefused task all is called
+called-uncalled NodeFault task all is called = call-uncalled NodeFault task all is called
+called-uncalled Stalled task all is called = call-uncalled Stalled task all is called
+called-uncalled ReadFault task all is called = call-uncalled ReadFault task all is called
+called-uncalled WriteFault task all is called = call-uncalled WriteFault task all is called
+
+pub came-uncalled : (outers : List OuterShape) (asked : Asked) (status : Status) (all : Devices) → Came outers asked status all
+    → IfSome (command_by asked) (λ command. calls_boxes command.order.verb ≡ false → Untouched all.boxes)
+came-uncalled outers asks_usage status all came = tt
+came-uncalled outers (asks_text text) status all came = tt
+came-uncalled outers (asks_command command) status all came = λ is. called-uncalled status (task command outers) all is came

@@ -1,5 +1,5 @@
 -- Who reads the input, and that it met its end.
-use Rattle.std.proofs.Common.{◌≡◌, ℕ, List, [], ◌∷◌, true, false, Option, None, Some, Result, Ok, Err, ◌⊎◌, inl, inr, refl, sym, subst, arith}
+use Rattle.std.proofs.Common.{◌≡◌, ℕ, ℤ, List, [], ◌∷◌, true, false, Option, None, Some, Result, Ok, Err, ◌⊎◌, inl, inr, refl, sym, subst, arith}
 use Rattle.std.proofs.lemmas.Bool.{false≢true}
 use Rattle.mg_edge.specs.Edge.{SourceTold}
 use Rattle.mg_feed.specs.Ran.{EndCame}
@@ -14,14 +14,16 @@ use Rattle.mg_answer.specs.Ran as running
 use Rattle.mg_answer.specs.declared.run_status.RunStatus.{RunStatus}
 use Rattle.mg_answer.specs.declared.run_status.RunStatus.TheVariants as ended
 use Rattle.mg_answer.proofs.Answering.{ran-ended}
+use Rattle.mg_answer.proofs.RunningOn.{on-ended}
 use Rattle.mg_run.specs.Command.{reads_input}
 use Rattle.mg_run.specs.Task.{Task}
 use Rattle.mg_run.specs.Files.{Files, graphs, no_graphs}
 use Rattle.mg_run.specs.Status.{status_from}
-use Rattle.mg_run.specs.Answer.{Job, refuse, show, merge, solve, run_job, inputs_of, graph_text, checked_job, solve_job, check_job, graph_job, expanded_job, files_job}
+use Rattle.mg_run.specs.Answer.{Job, refuse, show, run_plan, solve, run_job, solve_job, check_job, verb_job, expanded_job, files_job}
 use Rattle.mg_run.specs.Devices.{Device, Devices, run_of, Untouched, HasEnded}
-use Rattle.mg_run.specs.Call.{Ran, Did, IsJob, CallDid, Called, IsOneOf}
+use Rattle.mg_run.specs.Call.{Did, IsJob, CallDid, Called, IsOneOf}
 use Rattle.mg_run.specs.Code.Job.{MayRead}
+use Rattle.mg_run.specs.declared.words.Order.{Order}
 use Rattle.mg_run.specs.declared.words.Verb.{Verb}
 use Rattle.mg_run.specs.declared.words.Verb.TheVariants.{Run, Solve, Check, Expand}
 use Rattle.mg_run.specs.declared.status.Status.{Status}
@@ -32,59 +34,55 @@ check-unread : (checked : Result Plan CheckFault) → MayRead (check_job checked
 check-unread (Ok plan) may = may
 check-unread (Err fault) may = may
 
-graph-unread : (verb : Verb) (outers : List OuterShape) (g : GraphView) → reads_input verb ≡ false → MayRead (graph_job verb outers g) → ⊥
-graph-unread Run outers g is may = false≢true (sym is)
-graph-unread Solve outers g is may = false≢true (sym is)
-graph-unread Check outers g is may = check-unread (check_of outers g) may
-graph-unread Expand outers g is may = may
+graph-unread : (verb : Verb) (limit : Option ℤ) (outers : List OuterShape) (g : GraphView) → reads_input verb ≡ false → MayRead (verb_job verb limit outers g) → ⊥
+graph-unread Run limit outers g is may = false≢true (sym is)
+graph-unread Solve limit outers g is may = false≢true (sym is)
+graph-unread Check limit outers g is may = check-unread (check_of outers g) may
+graph-unread Expand limit outers g is may = may
 
-expanded-unread : (verb : Verb) (outers : List OuterShape) (expanded : Result GraphView ExpandFault) → reads_input verb ≡ false → MayRead (expanded_job verb outers expanded) → ⊥
-expanded-unread verb outers (Ok g) is may = graph-unread verb outers g is may
-expanded-unread verb outers (Err fault) is may = may
+expanded-unread : (order : Order) (outers : List OuterShape) (expanded : Result GraphView ExpandFault) → reads_input order.verb ≡ false → MayRead (expanded_job order outers expanded) → ⊥
+expanded-unread order outers (Ok g) is may = graph-unread order.verb order.limit outers g is may
+expanded-unread order outers (Err fault) is may = may
 
-files-unread : (verb : Verb) (outers : List OuterShape) (files : Files) → reads_input verb ≡ false → MayRead (files_job verb outers files) → ⊥
-files-unread verb outers (graphs []) is may = may
-files-unread verb outers (graphs (main ∷ library)) is may = expanded-unread verb outers (expansion_of main library) is may
-files-unread verb outers (no_graphs note) is may = may
+files-unread : (order : Order) (outers : List OuterShape) (files : Files) → reads_input order.verb ≡ false → MayRead (files_job order outers files) → ⊥
+files-unread order outers (graphs []) is may = may
+files-unread order outers (graphs (main ∷ library)) is may = expanded-unread order outers (expansion_of main library) is may
+files-unread order outers (no_graphs note) is may = may
 
-pub unread-by : (task : Task) (contents : List (List ℕ)) (job : Job) (input : Device SourceTold) → IsJob task contents job → MayRead job ⊎ Untouched input → reads_input task.verb ≡ false
+pub unread-by : (task : Task) (contents : List (List ℕ)) (job : Job) (input : Device SourceTold) → IsJob task contents job → MayRead job ⊎ Untouched input → reads_input task.order.verb ≡ false
     → Untouched input
 unread-by task contents job input due (inr untouched) is = untouched
-unread-by task contents job input (files, are, same) (inl may) is = absurd (files-unread task.verb task.outers files is (subst MayRead same may))
+unread-by task contents job input (files, are, same) (inl may) is = absurd (files-unread task.order task.outers files is (subst MayRead same may))
 
 -- A run and a solution show no text but their own.
 abbrev IsShown : Job → Type 0
 IsShown (refuse note) = ⊥
 IsShown (show text) = Unit {0}
-IsShown (merge names) = ⊥
+IsShown (run_plan plan) = ⊥
 IsShown (solve plan) = ⊥
 
-run-unshown : (names : Option (List (List ℕ))) → IsShown (run_job names) → ⊥
-run-unshown None shows = shows
-run-unshown (Some names) shows = shows
-
-checked-unshown : (checked : Result Plan CheckFault) (text : List ℕ) → IsShown (checked_job checked text) → ⊥
-checked-unshown (Ok plan) text shows = run-unshown (inputs_of text) shows
-checked-unshown (Err fault) text shows = shows
+run-unshown : (limit : Option ℤ) (checked : Result Plan CheckFault) → IsShown (run_job limit checked) → ⊥
+run-unshown limit (Ok plan) shows = shows
+run-unshown limit (Err fault) shows = shows
 
 solve-unshown : (checked : Result Plan CheckFault) → IsShown (solve_job checked) → ⊥
 solve-unshown (Ok plan) shows = shows
 solve-unshown (Err fault) shows = shows
 
-graph-unshown : (verb : Verb) (outers : List OuterShape) (g : GraphView) → reads_input verb ≡ true → IsShown (graph_job verb outers g) → ⊥
-graph-unshown Run outers g is shows = checked-unshown (check_of outers g) (graph_text g) shows
-graph-unshown Solve outers g is shows = solve-unshown (check_of outers g) shows
-graph-unshown Check outers g is shows = false≢true is
-graph-unshown Expand outers g is shows = false≢true is
+graph-unshown : (verb : Verb) (limit : Option ℤ) (outers : List OuterShape) (g : GraphView) → reads_input verb ≡ true → IsShown (verb_job verb limit outers g) → ⊥
+graph-unshown Run limit outers g is shows = run-unshown limit (check_of outers g) shows
+graph-unshown Solve limit outers g is shows = solve-unshown (check_of outers g) shows
+graph-unshown Check limit outers g is shows = false≢true is
+graph-unshown Expand limit outers g is shows = false≢true is
 
-expanded-unshown : (verb : Verb) (outers : List OuterShape) (expanded : Result GraphView ExpandFault) → reads_input verb ≡ true → IsShown (expanded_job verb outers expanded) → ⊥
-expanded-unshown verb outers (Ok g) is shows = graph-unshown verb outers g is shows
-expanded-unshown verb outers (Err fault) is shows = shows
+expanded-unshown : (order : Order) (outers : List OuterShape) (expanded : Result GraphView ExpandFault) → reads_input order.verb ≡ true → IsShown (expanded_job order outers expanded) → ⊥
+expanded-unshown order outers (Ok g) is shows = graph-unshown order.verb order.limit outers g is shows
+expanded-unshown order outers (Err fault) is shows = shows
 
-files-unshown : (verb : Verb) (outers : List OuterShape) (files : Files) → reads_input verb ≡ true → IsShown (files_job verb outers files) → ⊥
-files-unshown verb outers (graphs []) is shows = shows
-files-unshown verb outers (graphs (main ∷ library)) is shows = expanded-unshown verb outers (expansion_of main library) is shows
-files-unshown verb outers (no_graphs note) is shows = shows
+files-unshown : (order : Order) (outers : List OuterShape) (files : Files) → reads_input order.verb ≡ true → IsShown (files_job order outers files) → ⊥
+files-unshown order outers (graphs []) is shows = shows
+files-unshown order outers (graphs (main ∷ library)) is shows = expanded-unshown order outers (expansion_of main library) is shows
+files-unshown order outers (no_graphs note) is shows = shows
 
 -- The input's end --
 
@@ -121,18 +119,6 @@ short-ended status is (inr (inl e)) = cc
 short-ended status is (inr (inr (inl e))) = cc
 short-ended status is (inr (inr (inr e))) = e
 
-merge-ended : (names : List (List ℕ)) (status : Status) (all : Devices) → Ran names status all → IsOneOf status ended_statuses → HasEnded all.input
-merge-ended names Good all ran one = ran.ended refl
-merge-ended names StoreFault all ran one = elim ran [ ]
-merge-ended names Usage all ran one = elim ran [ ]
-merge-ended names GraphRefused all ran one = elim ran [ ]
-merge-ended names LineRefused all ran one = absurd (line-ended LineRefused refl one)
-merge-ended names NodeFault all ran one = elim ran [ ]
-merge-ended names Stalled all ran one = elim ran [ ]
-merge-ended names ReadFault all ran one = absurd (read-ended ReadFault refl one)
-merge-ended names WriteFault all ran one = absurd (write-ended WriteFault refl one)
-merge-ended names OutOfMemory all ran one = absurd (short-ended OutOfMemory refl one)
-
 -- the status of a call as that of the run
 run-status : (status : Status) (run : RunStatus) → status ≡ status_from run → IsOneOf status ended_statuses → running.IsOneOf run (ended.Good ∷ ended.NodeFault ∷ ended.Stalled ∷ [])
 run-status status ended.Good told one = inl refl
@@ -146,15 +132,16 @@ run-status status ended.OutOfMemory told one = absurd (short-ended status told o
 end-came : (input : Device SourceTold) → EndCame input.before input.now → HasEnded input
 end-came input came = record { rose = let more = came.rose in omega (arith, more); none = came.none }
 
-did-ended : (task : Task) (contents : List (List ℕ)) (job : Job) (status : Status) (all : Devices) → IsJob task contents job → Did job status all → reads_input task.verb ≡ true
+did-ended : (task : Task) (contents : List (List ℕ)) (job : Job) (status : Status) (all : Devices) → IsJob task contents job → Did job status all → reads_input task.order.verb ≡ true
     → IsOneOf status ended_statuses → HasEnded all.input
 did-ended task contents (refuse note) status all due did reads one = absurd (refused-ended status did.ended one)
-did-ended task contents (show text) status all (files, are, same) did reads one = absurd (files-unshown task.verb task.outers files reads (subst IsShown same tt))
-did-ended task contents (merge names) status all due did reads one = merge-ended names status all did one
+did-ended task contents (show text) status all (files, are, same) did reads one = absurd (files-unshown task.order task.outers files reads (subst IsShown same tt))
+did-ended task contents (run_plan plan) status all due did reads one =
+    end-came all.input (on-ended plan did.run_status (run_of all) did.ran (run-status status did.run_status did.told one))
 did-ended task contents (solve plan) status all due did reads one =
-    end-came all.input (ran-ended plan did.run (run_of all) did.ran (run-status status did.run did.told one))
+    end-came all.input (ran-ended plan did.run_status (run_of all) did.ran (run-status status did.run_status did.told one))
 
-call-ended : (status : Status) (task : Task) (all : Devices) → CallDid status task all → reads_input task.verb ≡ true → IsOneOf status ended_statuses → HasEnded all.input
+call-ended : (status : Status) (task : Task) (all : Devices) → CallDid status task all → reads_input task.order.verb ≡ true → IsOneOf status ended_statuses → HasEnded all.input
 call-ended status task all called reads one = did-ended task called.contents called.job status all called.due called.did reads one
 
 store-ended : IsOneOf StoreFault ended_statuses → ⊥
@@ -163,7 +150,7 @@ store-ended (inr (inl e)) = cc
 store-ended (inr (inr (inl e))) = cc
 store-ended (inr (inr (inr e))) = e
 
-pub called-ended : (status : Status) (task : Task) (all : Devices) → Called status task all → reads_input task.verb ≡ true → IsOneOf status ended_statuses → HasEnded all.input
+pub called-ended : (status : Status) (task : Task) (all : Devices) → Called status task all → reads_input task.order.verb ≡ true → IsOneOf status ended_statuses → HasEnded all.input
 called-ended Good task all called reads one = call-ended Good task all called reads one
 called-ended StoreFault task all called reads one = absurd (store-ended one)
 called-ended Usage task all called reads one = elim called [ ]

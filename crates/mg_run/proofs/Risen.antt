@@ -6,10 +6,11 @@ use Rattle.mg_answer.specs.Ran as running
 use Rattle.mg_answer.specs.declared.run_status.RunStatus.{RunStatus}
 use Rattle.mg_answer.specs.declared.run_status.RunStatus.TheVariants as ended
 use Rattle.mg_answer.proofs.Answering.{read-risen as run-read-risen, write-risen as run-write-risen}
-use Rattle.mg_run.specs.Answer.{Job, refuse, show, merge, solve}
+use Rattle.mg_answer.proofs.RunningOn.{on-read-risen as run-on-read, on-write-risen as run-on-write}
+use Rattle.mg_run.specs.Answer.{Job, refuse, show, run_plan, solve}
 use Rattle.mg_run.specs.Status.{status_from}
 use Rattle.mg_run.specs.Devices.{Device, Devices, run_of, Untouched, HasRisen, TookText, TookPart}
-use Rattle.mg_run.specs.Call.{WasShown, Ran, Did, Called, IsOneOf}
+use Rattle.mg_run.specs.Call.{WasShown, Did, Called, IsOneOf}
 use Rattle.mg_run.specs.declared.status.Status.{Status}
 use Rattle.mg_run.specs.declared.status.Status.TheVariants.{Good, StoreFault, Usage, GraphRefused, LineRefused, NodeFault, Stalled, ReadFault, WriteFault, OutOfMemory}
 
@@ -39,18 +40,6 @@ store-risen OutOfMemory task all called risen = inr (inl refl)
 abbrev read_statuses : List Status
 read_statuses = ReadFault ∷ WriteFault ∷ OutOfMemory ∷ []
 
-read-ran : (names : List (List ℕ)) (status : Status) (all : Devices) → Ran names status all → HasRisen all.input.before.faults all.input.now.faults → IsOneOf status read_statuses
-read-ran names Good all ran risen = absurd (risen-steady _ _ risen ran.read)
-read-ran names StoreFault all ran risen = elim ran [ ]
-read-ran names Usage all ran risen = elim ran [ ]
-read-ran names GraphRefused all ran risen = elim ran [ ]
-read-ran names LineRefused all ran risen = absurd (risen-steady _ _ risen ran.read)
-read-ran names NodeFault all ran risen = elim ran [ ]
-read-ran names Stalled all ran risen = elim ran [ ]
-read-ran names ReadFault all ran risen = inl refl
-read-ran names WriteFault all ran risen = inr (inl refl)
-read-ran names OutOfMemory all ran risen = inr (inr (inl refl))
-
 -- the status of a run as that of the call
 read-status : (status : Status) (run : RunStatus) → status ≡ status_from run → running.IsOneOf run (ended.ReadFault ∷ ended.WriteFault ∷ ended.OutOfMemory ∷ []) → IsOneOf status read_statuses
 read-status status run told (inl is) = inl (told ∙ ap status_from is)
@@ -61,8 +50,8 @@ read-status status run told (inr (inr (inr is))) = absurd is
 read-did : (job : Job) (status : Status) (all : Devices) → Did job status all → HasRisen all.input.before.faults all.input.now.faults → IsOneOf status read_statuses
 read-did (refuse note) status all did risen = absurd (risen-unread all.input risen did.unread)
 read-did (show text) status all did risen = absurd (risen-unread all.input risen did.unread)
-read-did (merge names) status all did risen = read-ran names status all did risen
-read-did (solve plan) status all did risen = read-status status did.run did.told (run-read-risen plan did.run (run_of all) did.ran risen)
+read-did (run_plan plan) status all did risen = read-status status did.run_status did.told (run-on-read plan did.run_status (run_of all) did.ran risen)
+read-did (solve plan) status all did risen = read-status status did.run_status did.told (run-read-risen plan did.run_status (run_of all) did.ran risen)
 
 pub read-risen : (status : Status) (task : Task) (all : Devices) → Called status task all → HasRisen all.input.before.faults all.input.now.faults → IsOneOf status read_statuses
 read-risen Good task all called risen = read-did called.job Good all called.did risen
@@ -87,18 +76,6 @@ either-steady : (all : Devices) → EitherRisen all → all.output.now.faults �
 either-steady all (inl risen) one two = risen-steady _ _ risen one
 either-steady all (inr risen) one two = risen-steady _ _ risen two
 
-write-ran : (names : List (List ℕ)) (status : Status) (all : Devices) → Ran names status all → EitherRisen all → IsOneOf status write_statuses
-write-ran names Good all ran risen = absurd (either-steady all risen ran.written ran.noted)
-write-ran names StoreFault all ran risen = elim ran [ ]
-write-ran names Usage all ran risen = elim ran [ ]
-write-ran names GraphRefused all ran risen = elim ran [ ]
-write-ran names LineRefused all ran risen = absurd (either-steady all risen ran.written ran.noted)
-write-ran names NodeFault all ran risen = elim ran [ ]
-write-ran names Stalled all ran risen = elim ran [ ]
-write-ran names ReadFault all ran risen = absurd (either-steady all risen ran.answered.text.steady ran.answered.noted.steady)
-write-ran names WriteFault all ran risen = inr (inr (inl refl))
-write-ran names OutOfMemory all ran risen = inr (inr (inr (inl refl)))
-
 write-shown : (text : List ℕ) (status : Status) (all : Devices) → WasShown text status all → EitherRisen all → IsOneOf status write_statuses
 write-shown text status all shown risen = by shown.written risen
   where
@@ -115,8 +92,8 @@ write-status status run told (inr (inr is)) = absurd is
 write-did : (job : Job) (status : Status) (all : Devices) → Did job status all → EitherRisen all → IsOneOf status write_statuses
 write-did (refuse note) status all did risen = inr (inl did.ended)
 write-did (show text) status all did risen = write-shown text status all did risen
-write-did (merge names) status all did risen = write-ran names status all did risen
-write-did (solve plan) status all did risen = write-status status did.run did.told (run-write-risen plan did.run (run_of all) did.ran risen)
+write-did (run_plan plan) status all did risen = write-status status did.run_status did.told (run-on-write plan did.run_status (run_of all) did.ran risen)
+write-did (solve plan) status all did risen = write-status status did.run_status did.told (run-write-risen plan did.run_status (run_of all) did.ran risen)
 
 pub write-risen : (status : Status) (task : Task) (all : Devices) → Called status task all → EitherRisen all → IsOneOf status write_statuses
 write-risen Good task all called risen = write-did called.job Good all called.did risen

@@ -1,10 +1,23 @@
--- The calculators that are handed in.
-use Rattle.std.specs.Prelude.{List, map, Bool, [], None, Some, codes, pos, false, if◌then◌else◌}
+-- The calculators that are handed in, and what a run leaves of them.
+use Rattle.std.specs.Prelude.{◌≡◌, ◌≢◌, ℕ, List, ◌++◌, map, length, All, Bool, [], None, Some, option_map, codes, pos, false, slice_get, if◌then◌else◌}
+use Rattle.mg_value.specs.Payload.{Plain}
+use Rattle.mg_value.specs.Prefix.{StreamPrefix}
+use Rattle.mg_edge.specs.Edge.{SourceTold}
+use Rattle.mg_calc.specs.declared.plan.Plan.{Plan}
+use Rattle.mg_calc.specs.declared.plan_node.PlanNode.{PlanNode}
+use Rattle.mg_calc.specs.Equations.{Job, IsSolution, outcome_of}
+use Rattle.mg_calc.specs.Meaning.{log_of}
+use Rattle.mg_feed.specs.Graph.{inputs_of}
+use Rattle.mg_answer.specs.Answer.{Read, job_of}
+use Rattle.mg_answer.specs.Devices.{Device}
+use Rattle.mg_answer.specs.Ran.{CameTo}
+use Rattle.mg_answer.specs.declared.run_status.RunStatus.{RunStatus}
+use Rattle.mg_answer.specs.declared.run_status.RunStatus.TheVariants.{OutOfMemory}
 use Rattle.mg_value.specs.declared.kind.Kind.TheVariants.{Any, Int}
 use Rattle.mg_calc.specs.declared.law.Law.TheVariants.{Tally}
 use Rattle.mg_calc.specs.declared.shape.Shape.{Shape}
 use Rattle.mg_calc.specs.declared.shape.OuterShape.{OuterShape}
-use Rattle.mg_calc.specs.Shape.{untagged}
+use Rattle.mg_calc.specs.Shape.{untagged, IsOuter}
 use Rattle.mg_calc.specs.Told.{CalculatorTold}
 
 -- a TallyCalculator: one input of any kind, and one output, on which it counts the sets that it is shown
@@ -28,3 +41,40 @@ outer_told told = record { shape = told.shape; law = told.law }
 
 abbrev pub outers_told : List CalculatorTold → List OuterShape
 outers_told boxes = map outer_told boxes
+
+-- a law may be handed in
+abbrev pub MayBeHandedIn : OuterShape → Type 0
+MayBeHandedIn outer = IsOuter outer.law
+
+-- What a run leaves --
+
+-- A calculator had the calls that its node has in a solution: its log, where it tells one, grew by just these, in their order; and it
+-- keeps what the node comes to.
+pub record HadItsCalls (job : Job) (streams : List (StreamPrefix Plain)) (node : PlanNode) (before now : CalculatorTold) : Type 0 where
+  pub log : now.log ≡ option_map (λ calls. calls ++ log_of job streams node) before.log
+  pub state : now.state ≡ (outcome_of job streams node).state
+  pub law : now.law ≡ before.law
+  pub shape : now.shape ≡ before.shape
+
+-- The calculator at a place, before and now, are as a relation has it.
+pub record IsAt (place : ℕ) (P : CalculatorTold → CalculatorTold → Type 0) (boxes : Device (List CalculatorTold)) : Type 0 where
+  pub before : CalculatorTold
+  pub now : CalculatorTold
+  pub was : slice_get boxes.before place ≡ Some before
+  pub is : slice_get boxes.now place ≡ Some now
+  pub holds : P before now
+
+-- Each calculator that a node uses had its calls, over what the input came to.
+pub record HadCalls (plan : Plan) (input : Device SourceTold) (boxes : Device (List CalculatorTold)) : Type 0 where
+  pub read : Read
+  pub came : CameTo (inputs_of plan) input read
+  pub streams : List (StreamPrefix Plain)
+  pub solution : IsSolution (job_of plan read) streams
+  pub each : (number place : ℕ) (node : PlanNode) → slice_get plan.nodes number ≡ Some node → node.box_number ≡ Some place
+      → IsAt place (HadItsCalls (job_of plan read) streams node) boxes
+
+-- All come back in their order. One that no node uses had no call, and, unless memory ran out, the others had all of theirs.
+pub record RunLeaves (plan : Plan) (status : RunStatus) (input : Device SourceTold) (boxes : Device (List CalculatorTold)) : Type 0 where
+  pub count : length boxes.now ≡ length boxes.before
+  pub unused : (place : ℕ) → All (λ node. ¬ (node.box_number ≡ Some place)) plan.nodes → slice_get boxes.now place ≡ slice_get boxes.before place
+  pub used : status ≢ OutOfMemory → HadCalls plan input boxes

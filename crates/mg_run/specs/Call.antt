@@ -1,20 +1,18 @@
 -- What a call came to, by its status.
 use Rattle.std.specs.Prelude.{◌≡◌, ℕ, ◌⊎◌, List, [], ◌∷◌, IfSome}
-use Rattle.mg_edge.specs.Edge.{Rose}
-use Rattle.mg_edge.specs.Runs.{Gave, TookAll}
 use Rattle.mg_calc.specs.declared.plan.Plan.{Plan}
 use Rattle.mg_calc.specs.declared.shape.OuterShape.{OuterShape}
 use Rattle.mg_run.specs.Task.{Task, task}
 use Rattle.mg_run.specs.Words.{Asked, asks_usage, asks_text, asks_command}
 use Rattle.mg_run.specs.Files.{Files, AreFiles}
 use Rattle.mg_run.specs.Loads.{LoadedAll, FailedAt, loads_of}
-use Rattle.mg_run.specs.Lines.{whole_lines}
-use Rattle.mg_run.specs.Accepted.{accepted}
 use Rattle.mg_run.specs.Notes.{usage_note, store_note}
 use Rattle.mg_answer.specs.Ran as runs
 use Rattle.mg_answer.specs.declared.run_status.RunStatus.{RunStatus}
-use Rattle.mg_run.specs.Answer.{Answer, Job, refuse, show, merge, solve, job_of, IsAnswerOf, run_answer, failed_answer}
-use Rattle.mg_run.specs.Devices.{Devices, run_of, Untouched, ReadFailed, HasEnded, TookFront, TookText, TookPart, Noted}
+use Rattle.mg_answer.specs.declared.run_status.RunStatus.TheVariants.{OutOfMemory as no_memory}
+use Rattle.mg_run.specs.Boxes.{RunLeaves}
+use Rattle.mg_run.specs.Answer.{Answer, Job, refuse, show, run_plan, solve, job_of, IsAnswerOf}
+use Rattle.mg_run.specs.Devices.{Devices, run_of, Untouched, TookFront, TookText, TookPart, Noted}
 use Rattle.mg_run.specs.Status.{status_from}
 use Rattle.mg_run.specs.declared.status.Status.{Status}
 use Rattle.mg_run.specs.declared.status.Status.TheVariants.{Good, StoreFault, Usage, GraphRefused, LineRefused, NodeFault, Stalled, ReadFault, WriteFault, OutOfMemory}
@@ -34,6 +32,7 @@ pub record WasUsage (status : Status) (devices : Devices) : Type 0 where
   pub unloaded : Untouched devices.store
   pub unread : Untouched devices.input
   pub unwritten : Untouched devices.output
+  pub uncalled : Untouched devices.boxes
 
 -- A text of the program's own was asked for: it was written, or a write of it failed. Where there was no memory to judge
 -- the words, nothing was done.
@@ -43,6 +42,7 @@ pub record WasTold (text : List ℕ) (status : Status) (devices : Devices) : Typ
   pub unloaded : Untouched devices.store
   pub unread : Untouched devices.input
   pub unnoted : Untouched devices.notes
+  pub uncalled : Untouched devices.boxes
 
 -- A file couldn't be loaded, the first such of these, and the note is of it.
 pub record WasUnloaded (files : List (List ℕ)) (devices : Devices) : Type 0 where
@@ -51,6 +51,7 @@ pub record WasUnloaded (files : List (List ℕ)) (devices : Devices) : Type 0 wh
   pub noted : Noted devices.notes (store_note file)
   pub unread : Untouched devices.input
   pub unwritten : Untouched devices.output
+  pub uncalled : Untouched devices.boxes
 
 -- A file or the expansion was refused, with this note.
 pub record WasRefused (note : List ℕ) (status : Status) (devices : Devices) : Type 0 where
@@ -58,75 +59,39 @@ pub record WasRefused (note : List ℕ) (status : Status) (devices : Devices) : 
   pub noted : Noted devices.notes note
   pub unread : Untouched devices.input
   pub unwritten : Untouched devices.output
+  pub uncalled : Untouched devices.boxes
 
 -- This text was written, or a write of it failed. The input was left as it was, and no note was taken.
 pub record WasShown (text : List ℕ) (status : Status) (devices : Devices) : Type 0 where
   pub written : ((status ≡ Good) × TookText devices.output text) ⊎ ((status ≡ WriteFault) × TookPart devices.output text)
   pub unread : Untouched devices.input
   pub unnoted : Untouched devices.notes
+  pub uncalled : Untouched devices.boxes
 
 -- A run --
 
--- `names` are the names of the graph's inputs. The input was read to its end, or to its first line that isn't good.
-pub record RanAll (names : List (List ℕ)) (status : Status) (devices : Devices) : Type 0 where
-  pub answered : IfSome devices.input.before.left (λ bytes. Meets (run_answer names bytes) status devices)
-  pub ended : status ≡ Good → HasEnded devices.input
-  pub read : devices.input.now.faults ≡ devices.input.before.faults
-  pub written : devices.output.now.faults ≡ devices.output.before.faults
-  pub noted : devices.notes.now.faults ≡ devices.notes.before.faults
-
--- A read failed. The whole lines of what came before were all good, and they count.
-pub record RanPart (names : List (List ℕ)) (devices : Devices) : Type 0 where
-  pub came : List ℕ
-  pub gave : Gave devices.input.before.left devices.input.now.left came
-  pub good : accepted names (whole_lines came) ≡ whole_lines came
-  pub answered : Meets (failed_answer names came) ReadFault devices
-  pub failed : ReadFailed devices.input
-
--- The output took all the text of what was read: of the whole input, or of what came before a read failed.
-abbrev pub TookRead : List (List ℕ) → Devices → Type 0
-TookRead names devices =
-    IfSome devices.input.before.left (λ bytes. TookAll devices.output.before.taken devices.output.now.taken (run_answer names bytes).output)
-    ⊎ ((came : List ℕ) × Gave devices.input.before.left devices.input.now.left came × ReadFailed devices.input
-    × TookAll devices.output.before.taken devices.output.now.taken (failed_answer names came).output)
-
--- The output took a front of the text of the whole input.
-abbrev pub TookSome : List (List ℕ) → Devices → Type 0
-TookSome names devices = IfSome devices.input.before.left (λ bytes. TookFront devices.output (run_answer names bytes).output)
-
--- A write failed. Where none to the output did, it took all the text of what was read.
-pub record RanShort (names : List (List ℕ)) (devices : Devices) : Type 0 where
-  pub rose : Rose devices.output.before.faults devices.output.now.faults ⊎ Rose devices.notes.before.faults devices.notes.now.faults
-  pub front : TookSome names devices
-  pub whole : Rose devices.output.before.faults devices.output.now.faults ⊎ TookRead names devices
-
--- A run of the graph ended with this status. Where memory ran out, the output took a front.
-abbrev pub Ran : List (List ℕ) → Status → Devices → Type 0
-Ran names Good devices = RanAll names Good devices
-Ran names StoreFault devices = ⊥
-Ran names Usage devices = ⊥
-Ran names GraphRefused devices = ⊥
-Ran names LineRefused devices = RanAll names LineRefused devices
-Ran names NodeFault devices = ⊥
-Ran names Stalled devices = ⊥
-Ran names ReadFault devices = RanPart names devices
-Ran names WriteFault devices = RanShort names devices
-Ran names OutOfMemory devices = TookSome names devices
-
--- The graph of this plan was run, and the call has the run's status. What each status of a run means, over an input that ended
--- and over one of which a read failed, is said in mg_answer.
+-- The graph of this plan was run over the input, and written as its outputs settled; the call has the run's status. What each status of
+-- a run means is said in mg_answer.
 pub record RanGraph (plan : Plan) (status : Status) (devices : Devices) : Type 0 where
-  pub run : RunStatus
-  pub told : status ≡ status_from run
-  pub ran : runs.Ran plan run (run_of devices)
+  pub run_status : RunStatus
+  pub told : status ≡ status_from run_status
+  pub ran : runs.RanOn plan run_status (run_of devices)
+  pub left : RunLeaves plan run_status devices.input devices.boxes
+
+-- The graph of this plan was solved.
+pub record SolvedGraph (plan : Plan) (status : Status) (devices : Devices) : Type 0 where
+  pub run_status : RunStatus
+  pub told : status ≡ status_from run_status
+  pub ran : runs.Ran plan run_status (run_of devices)
+  pub uncalled : Untouched devices.boxes
 
 -- A call --
 
 abbrev pub Did : Job → Status → Devices → Type 0
 Did (refuse note) status devices = WasRefused note status devices
 Did (show text) status devices = WasShown text status devices
-Did (merge names) status devices = Ran names status devices
-Did (solve plan) status devices = RanGraph plan status devices
+Did (run_plan plan) status devices = RanGraph plan status devices
+Did (solve plan) status devices = SolvedGraph plan status devices
 
 -- what a command has to do with the contents of its files
 abbrev pub IsJob : Task → List (List ℕ) → Job → Type 0
@@ -144,14 +109,23 @@ pub record CallDid (status : Status) (task : Task) (devices : Devices) : Type 0 
 abbrev pub Short : Job → Devices → Type 0
 Short (refuse note) devices = TookFront devices.output []
 Short (show text) devices = TookFront devices.output text
-Short (merge names) devices = TookSome names devices
+Short (run_plan plan) devices = runs.RanShortOf plan (run_of devices)
 Short (solve plan) devices = runs.RanOut plan (run_of devices)
 
--- Memory ran out in a call whose store tells the files' bytes.
-abbrev pub CallShort : Task → Devices → Type 0
-CallShort task devices =
-    IfSome (loads_of devices.store.before.content task.files) (λ contents.
-    (files : Files) → AreFiles task.files contents files → Short (job_of task files) devices)
+-- Memory ran out in the run of a graph. What is left of the calculators that are handed in is what a run leaves.
+pub record ShortRun (task : Task) (devices : Devices) : Type 0 where
+  pub contents : List (List ℕ)
+  pub loaded : LoadedAll task.files contents devices.store
+  pub plan : Plan
+  pub due : IsJob task contents (run_plan plan)
+  pub left : RunLeaves plan no_memory devices.input devices.boxes
+
+-- Memory ran out. Where the store tells the files' bytes, the output took a front of what is due; and no calculator that is handed in
+-- had a call, unless a graph was run.
+pub record CallShort (task : Task) (devices : Devices) : Type 0 where
+  pub front : IfSome (loads_of devices.store.before.content task.files) (λ contents.
+      (files : Files) → AreFiles task.files contents files → Short (job_of task files) devices)
+  pub called : Untouched devices.boxes ⊎ ShortRun task devices
 
 -- A call with a command ended with this status.
 abbrev pub Called : Status → Task → Devices → Type 0

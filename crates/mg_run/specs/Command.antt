@@ -2,16 +2,17 @@
 use Rattle.std.specs.Prelude.{ℕ, List, Bool, true, false, Option, None, Some, codes, if◌then◌else◌}
 use Rattle.std.specs.Str.{bytes_eq}
 use Rattle.mg_run.specs.declared.limits.TheConstants.{MOST_FILES}
+use Rattle.mg_run.specs.declared.words.Order.{Order}
 use Rattle.mg_run.specs.declared.words.Verb.{Verb}
 use Rattle.mg_run.specs.declared.words.Verb.TheVariants.{Run, Solve, Check, Expand}
 
 -- what is done, and the names of the files: that of the main graph, and then those of its library
 pub record Command : Type 0 where
-  pub verb : Verb
+  pub order : Order
   pub files : List (List ℕ)
 
-abbrev pub command : Verb → List (List ℕ) → Command
-command verb files = record { verb = verb; files = files }
+abbrev pub command : Order → List (List ℕ) → Command
+command order files = record { order = order; files = files }
 
 -- The words that are built so far: here a further one begins to be a command.
 abbrev pub verb_of : List ℕ → Option Verb
@@ -27,6 +28,13 @@ reads_input Run = true
 reads_input Solve = true
 reads_input Check = false
 reads_input Expand = false
+
+-- whether calculators that are handed in are called, where no file is refused
+abbrev pub calls_boxes : Verb → Bool
+calls_boxes Run = true
+calls_boxes Solve = false
+calls_boxes Check = false
+calls_boxes Expand = false
 
 -- the most files: the main graph, and 64 further ones
 abbrev pub most_files : ℕ

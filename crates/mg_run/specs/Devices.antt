@@ -1,7 +1,9 @@
--- The devices of a call, and what the call did to each: what each told of itself before the call, and tells now. What holds
--- of the devices of a run too is said in mg_answer.
-use Rattle.std.specs.Prelude.{◌≡◌, ℕ, ◌⊎◌, List, [], Some, IfSome, option_map}
-use Rattle.mg_edge.specs.Edge.{SourceTold, SinkTold, StoreTold, Rose, one_more}
+-- The devices of a call, with the calculators that are handed in, and what the call did to each: what each told of itself before the
+-- call, and tells now. What holds of the devices of a run too is said in mg_answer.
+use Rattle.std.specs.Prelude.{◌≡◌, ℕ, ◌⊎◌, List, [], Some, IfSome}
+use Rattle.mg_calc.specs.Told.{CalculatorTold}
+use Rattle.mg_edge.specs.Edge.{SourceTold, SinkTold, StoreTold, Rose}
+use Rattle.mg_feed.specs.Sent.{SentPart}
 pub use Rattle.mg_answer.specs.Devices.{Device, device, Untouched, HasRisen, Unrisen, IsFront, TookFront, TookText, RunDevices, run_devices}
 
 pub record Devices : Type 0 where
@@ -9,9 +11,10 @@ pub record Devices : Type 0 where
   pub input : Device SourceTold
   pub output : Device SinkTold
   pub notes : Device SinkTold
+  pub boxes : Device (List CalculatorTold)
 
-abbrev pub devices : Device StoreTold → Device SourceTold → Device SinkTold → Device SinkTold → Devices
-devices store input output notes = record { store = store; input = input; output = output; notes = notes }
+abbrev pub devices : Device StoreTold → Device SourceTold → Device SinkTold → Device SinkTold → Device (List CalculatorTold) → Devices
+devices store input output notes boxes = record { store = store; input = input; output = output; notes = notes; boxes = boxes }
 
 -- the devices of a run
 abbrev pub run_of : Devices → RunDevices
@@ -28,12 +31,6 @@ pub record NoneFailed (devices : Devices) : Type 0 where
 
 -- Sources --
 
--- One read failed, and nothing was read after it: where the source tells its bytes, and what was left at the read that
--- failed last, the two are the same.
-pub record ReadFailed (input : Device SourceTold) : Type 0 where
-  pub once : input.now.faults ≡ one_more input.before.faults
-  pub last : IfSome input.before.left (λ bytes. input.now.left_at_fault ≡ option_map (λ last. input.now.left) input.before.left_at_fault)
-
 -- The source answered `End`, and where it tells its bytes none is left.
 pub record HasEnded (input : Device SourceTold) : Type 0 where
   pub rose : Rose input.before.ends input.now.ends
@@ -42,9 +39,8 @@ pub record HasEnded (input : Device SourceTold) : Type 0 where
 -- Sinks --
 
 -- A sink took a front of a text, and a write of it failed.
-pub record TookPart (sink : Device SinkTold) (text : List ℕ) : Type 0 where
-  pub front : TookFront sink text
-  pub rose : Rose sink.before.faults sink.now.faults
+abbrev pub TookPart : Device SinkTold → List ℕ → Type 0
+TookPart sink text = SentPart sink.before sink.now text
 
 -- The notes took a text, or a front of it where a write failed.
 abbrev pub Noted : Device SinkTold → List ℕ → Type 0

@@ -6,13 +6,9 @@ pub mod Help
 pub mod Words
 pub mod Status
 pub mod File
-pub mod Lines
-pub mod Reading
-pub mod Accepted
 pub mod Notes
 pub mod CheckNotes
 pub mod Files
-pub mod Output
 pub mod Answer
 pub mod Devices
 pub mod Loads

@@ -1,5 +1,5 @@
 -- The notes, each one line whatever a graph or a word holds.
-use Rattle.std.specs.Prelude.{ℕ, List, [], ◌++◌, Option, None, Some, codes, decimal}
+use Rattle.std.specs.Prelude.{ℕ, List, [], ◌++◌, codes, decimal}
 use Rattle.mg_text.specs.declared.fault.TextFault.{TextFault}
 use Rattle.mg_text.specs.declared.fault.TextFault.TheVariants.{Syntax, TooDeep, TooLong, OutOfMemory}
 use Rattle.mg_names.specs.declared.fault.NameFault.{NameFault}
@@ -11,9 +11,6 @@ use Rattle.mg_subgraph.specs.declared.fault.ExpandFault.{ExpandFault}
 use Rattle.mg_subgraph.specs.declared.fault.ExpandFault.TheVariants.{TypeTwice, Recursive, TooManyNodes, ReservedName, PortShared, BadField, NoSuchPort}
 use Rattle.mg_subgraph.specs.declared.fault.ExpandFault.TheVariants as expansions
 use Rattle.mg_answer.specs.Shown.{shown}
-use Rattle.mg_run.specs.Accepted.{Refused}
-use Rattle.mg_run.specs.declared.line_fault.LineFault.{LineFault}
-use Rattle.mg_run.specs.declared.line_fault.LineFault.TheVariants.{NotYet, Closed, NotAscending}
 
 -- The words or a file --
 
@@ -65,18 +62,3 @@ expand_refusal expansions.OutOfMemory = []
 
 abbrev pub expand_note : ExpandFault → List ℕ
 expand_note fault = codes "refused: expand " ++ expand_refusal fault ++ codes "\n"
-
--- the graph isn't one that runs so far
-abbrev pub unbuilt_note : List ℕ
-unbuilt_note = codes "refused: NotYet\n"
-
--- A line is refused --
-
-abbrev pub fault_name : LineFault → List ℕ
-fault_name NotYet = codes "NotYet"
-fault_name Closed = codes "Closed"
-fault_name NotAscending = codes "NotAscending"
-
-abbrev pub line_note : Option Refused → List ℕ
-line_note None = []
-line_note (Some refused) = codes "line " ++ decimal refused.number ++ codes ": " ++ fault_name refused.fault ++ codes "\n"

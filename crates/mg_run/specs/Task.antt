@@ -2,12 +2,12 @@
 use Rattle.std.specs.Prelude.{ℕ, List}
 use Rattle.mg_calc.specs.declared.shape.OuterShape.{OuterShape}
 use Rattle.mg_run.specs.Command.{Command}
-use Rattle.mg_run.specs.declared.words.Verb.{Verb}
+use Rattle.mg_run.specs.declared.words.Order.{Order}
 
 pub record Task : Type 0 where
-  pub verb : Verb
+  pub order : Order
   pub files : List (List ℕ)
   pub outers : List OuterShape
 
 abbrev pub task : Command → List OuterShape → Task
-task command outers = record { verb = command.verb; files = command.files; outers = outers }
+task command outers = record { order = command.order; files = command.files; outers = outers }

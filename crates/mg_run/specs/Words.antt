@@ -1,5 +1,5 @@
 -- What the words of a command line ask for.
-use Rattle.std.specs.Prelude.{ℕ, Bool, false, not, ◌&&◌, ◌||◌, List, [], ◌∷◌, ◌++◌, Option, None, Some, is_some, option_map, unwrap_or, codes, length, nat_le, if◌then◌else◌}
+use Rattle.std.specs.Prelude.{ℕ, ℤ, pos, negsuc, Bool, false, not, min, ◌&&◌, ◌||◌, List, [], ◌∷◌, ◌++◌, Option, None, Some, is_some, option_map, unwrap_or, codes, length, nat_le, if◌then◌else◌}
 use Rattle.std.specs.Option.{option_and_then, option_map_or}
 use Rattle.std.specs.Str.{bytes_eq}
 use Rattle.std.specs.Str.Parse.{digits_value, without_leading_plus}
@@ -12,6 +12,9 @@ use Rattle.mg_run.specs.CommandLine as lines
 use Rattle.mg_run.specs.Command.{Command, command, most_files, verb_of}
 use Rattle.mg_run.specs.Help.{help_text, version_text}
 use Rattle.mg_run.specs.declared.options.Options.{Options}
+use Rattle.mg_run.specs.declared.options.TheConstants.{MOST_LIMIT}
+use Rattle.mg_run.specs.declared.words.Order.{Order}
+use Rattle.mg_run.specs.declared.words.Verb.{Verb}
 
 -- What words say that `clap` takes --
 
@@ -56,13 +59,20 @@ line_of rows = record {
 abbrev pub keeps_rules : Line → Bool
 keeps_rules line = nat_le (length line.files) most_files && (is_some line.options.number || not (bytes_eq line.word (codes "generate")))
 
--- What is built so far: the words that `verb_of` knows, and no option.
-abbrev pub has_no_option : Options → Bool
-has_no_option options = not (is_some options.workers) && (not (is_some options.max_queue_size)
-    && (not (is_some options.number) && (not options.no_queue_limit && not options.report)))
+-- What is built so far: the words that `verb_of` knows, and the options on queues.
+abbrev pub has_no_later_option : Options → Bool
+has_no_later_option options = not (is_some options.workers) && (not (is_some options.number) && not options.report)
+
+-- The limit of queues that the options ask for, where they do; below 0 it is none. Of two the flag counts.
+abbrev pub limit_in : Options → Option ℤ
+limit_in options = if options.no_queue_limit then Some (negsuc 0) else option_map (λ size. pos (min size MOST_LIMIT)) options.max_queue_size
+
+abbrev pub order_in : Options → Verb → Order
+order_in options verb = record { verb = verb; limit = limit_in options }
 
 abbrev pub command_in : Line → Option Command
-command_in line = if keeps_rules line && has_no_option line.options then option_map (λ verb. command verb line.files) (verb_of line.word) else None
+command_in line =
+    if keeps_rules line && has_no_later_option line.options then option_map (λ verb. command (order_in line.options verb) line.files) (verb_of line.word) else None
 
 -- What the words ask for --
 

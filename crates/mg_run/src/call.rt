@@ -1,7 +1,7 @@
-ghost use Rattle.std.specs.Prelude.{◌≡◌, ◌≢◌, ◌↔◌, true, false, All, ◌⊎◌, ℕ, List, ◌∷◌, [], IfSome, map};
+ghost use Rattle.std.specs.Prelude.{◌≡◌, ◌≢◌, ◌↔◌, true, false, All, ◌⊎◌, ℕ, List, ◌∷◌, [], IfSome, length, map};
 ghost use Rattle.mg_check.specs.Check.{IsOuterShape};
-ghost use Rattle.mg_run.specs.Command.{command, reads_input};
-ghost use Rattle.mg_run.specs.Boxes.{outers_told};
+ghost use Rattle.mg_run.specs.Command.{command, reads_input, calls_boxes};
+ghost use Rattle.mg_run.specs.Boxes.{outers_told, MayBeHandedIn};
 ghost use Rattle.mg_run.specs.Task.{task};
 ghost use Rattle.mg_run.specs.Words.{asks_usage, asks_text, asked_of, command_by, command_of};
 ghost use Rattle.mg_run.specs.Devices.{Device, device, devices, Untouched, HasEnded, HasRisen, NoneFailed, TookText, TookPart};
@@ -12,20 +12,20 @@ ghost use Rattle.mg_edge.specs.Edge.{StoreTold};
 
 use crate::Status;
 use crate::fault::Fault;
+use crate::graph::{run_graph, solve_graph};
 use crate::help::{help_text, version_text};
 use crate::job::{Job, job_of};
 use crate::load::load_all;
 use crate::outers::outers_of;
-use crate::put::put_all;
-use crate::run::{run_graph, solve_graph};
-use crate::words::{Asked, USAGE, Verb, asked_of};
+use crate::words::{Asked, Order, USAGE, asked_of};
 use mg_calc::{Calculator, OuterShape};
-use mg_edge::{Sink, Source, Store};
+use mg_edge::{Gate, Sink, Source, Store};
+use mg_feed::put_all;
 use mg_value::MgText;
 use std::alloc::Global;
 
 /// Does what the words of a command line say, and answers the status to exit with.
-pub fn run_words<S: Source, K: Sink, E: Sink, T: Store>(
+pub fn run_words<S: Source, K: Sink, E: Sink, T: Store, G: Gate>(
     alloc: Global,
     words: &[MgText],
     store: &mut T,
@@ -33,36 +33,41 @@ pub fn run_words<S: Source, K: Sink, E: Sink, T: Store>(
     output: &mut K,
     notes: &mut E,
     boxes: &mut Vec<Box<dyn Calculator + Send>>,
+    gate: &G,
 ) -> Status
     // The words are judged first, and no device matters to it.
     ensures usage { result ≢ Status.OutOfMemory → (result ≡ Status.Usage) ↔ (asked_of words.now ≡ asks_usage) }
     ensures usage_note { asked_of words.now ≡ asks_usage → WasUsage result (devices
         (device (T.told store.old) (T.told store.new)) (device (S.told input.old) (S.told input.new))
-        (device (K.told output.old) (K.told output.new)) (device (E.told notes.old) (E.told notes.new))) }
+        (device (K.told output.old) (K.told output.new)) (device (E.told notes.old) (E.told notes.new))
+        (device (map (λ b. (Calculator-box b).told b.value) boxes.old.items) (map (λ b. (Calculator-box b).told b.value) boxes.new.items))) }
 
     // The help and the version are texts that are written.
     ensures told { (text : List ℕ) → asked_of words.now ≡ asks_text text → WasTold text result (devices
         (device (T.told store.old) (T.told store.new)) (device (S.told input.old) (S.told input.new))
-        (device (K.told output.old) (K.told output.new)) (device (E.told notes.old) (E.told notes.new))) }
+        (device (K.told output.old) (K.told output.new)) (device (E.told notes.old) (E.told notes.new))
+        (device (map (λ b. (Calculator-box b).told b.value) boxes.old.items) (map (λ b. (Calculator-box b).told b.value) boxes.new.items))) }
 
     // What each other status means.
     ensures called { IfSome (command_of words.now) (λ command. Called result (task command (outers_told (map (λ b. (Calculator-box b).told b.value) boxes.old.items))) (devices
         (device (T.told store.old) (T.told store.new)) (device (S.told input.old) (S.told input.new))
-        (device (K.told output.old) (K.told output.new)) (device (E.told notes.old) (E.told notes.new)))) }
+        (device (K.told output.old) (K.told output.new)) (device (E.told notes.old) (E.told notes.new))
+        (device (map (λ b. (Calculator-box b).told b.value) boxes.old.items) (map (λ b. (Calculator-box b).told b.value) boxes.new.items)))) }
 
     // No device failed and memory was had: the output's text, the notes and the status are those of the answer to
     // the files' bytes and the input's.
     ensures answered { IfSome (command_of words.now) (λ command. let all = devices
         (device (T.told store.old) (T.told store.new)) (device (S.told input.old) (S.told input.new))
-        (device (K.told output.old) (K.told output.new)) (device (E.told notes.old) (E.told notes.new)) in
+        (device (K.told output.old) (K.told output.new)) (device (E.told notes.old) (E.told notes.new))
+        (device (map (λ b. (Calculator-box b).told b.value) boxes.old.items) (map (λ b. (Calculator-box b).told b.value) boxes.new.items)) in
         NoneFailed all → result ≢ Status.OutOfMemory → IsAnswered result (task command (outers_told (map (λ b. (Calculator-box b).told b.value) boxes.old.items))) all) }
 
     // A `check` and an `expand` leave the input as it was.
-    ensures unread { IfSome (command_of words.now) (λ command. reads_input command.verb ≡ false
+    ensures unread { IfSome (command_of words.now) (λ command. reads_input command.order.verb ≡ false
         → Untouched (device (S.told input.old) (S.told input.new))) }
 
     // A call that read the input and went well, or in which a node failed or a stream never closed, met the input's end.
-    ensures ended { IfSome (command_of words.now) (λ command. reads_input command.verb ≡ true
+    ensures ended { IfSome (command_of words.now) (λ command. reads_input command.order.verb ≡ true
         → IsOneOf result (Status.Good ∷ Status.NodeFault ∷ Status.Stalled ∷ []) → HasEnded (device (S.told input.old) (S.told input.new))) }
 
     // No fault of a device hides behind another status.
@@ -73,52 +78,58 @@ pub fn run_words<S: Source, K: Sink, E: Sink, T: Store>(
     ensures write_rose { HasRisen (K.told output.old).faults (K.told output.new).faults ⊎ HasRisen (E.told notes.old).faults (E.told notes.new).faults
         → IsOneOf result (Status.Usage ∷ Status.StoreFault ∷ Status.GraphRefused ∷ Status.WriteFault ∷ Status.OutOfMemory ∷ []) }
 
-    // The boxes come back in their order, and none had a call: no command that is built so far runs one.
-    ensures boxes { map (λ b. (Calculator-box b).told b.value) boxes.new.items ≡ map (λ b. (Calculator-box b).told b.value) boxes.old.items }
+    // All boxes come back, and what isn't a run calls none.
+    ensures boxes { length boxes.new.items ≡ length boxes.old.items }
+    ensures uncalled { IfSome (command_of words.now) (λ command. calls_boxes command.order.verb ≡ false
+        → map (λ b. (Calculator-box b).told b.value) boxes.new.items ≡ map (λ b. (Calculator-box b).told b.value) boxes.old.items) }
 {
-    do_words(alloc, words, boxes, store, input, output, notes)
+    do_words(alloc, words, gate, boxes, store, input, output, notes)
 }
 
 // Judges the words, and does what they ask for.
-fn do_words<C: Calculator, S: Source, K: Sink, E: Sink, T: Store>(
+fn do_words<G: Gate, C: Calculator, S: Source, K: Sink, E: Sink, T: Store>(
     alloc: Global,
     words: &[MgText],
-    boxes: &Vec<C>,
+    gate: &G,
+    boxes: &mut Vec<C>,
     store: &mut T,
     input: &mut S,
     output: &mut K,
     notes: &mut E,
 ) -> Status
-    ensures came { Came (outers_told (map C.told boxes.now.items)) (asked_of words.now) result (devices
+    ensures came { Came (outers_told (map C.told boxes.old.items)) (asked_of words.now) result (devices
         (device (T.told store.old) (T.told store.new)) (device (S.told input.old) (S.told input.new))
-        (device (K.told output.old) (K.told output.new)) (device (E.told notes.old) (E.told notes.new))) }
-    ensures unread { IfSome (command_of words.now) (λ command. reads_input command.verb ≡ false
+        (device (K.told output.old) (K.told output.new)) (device (E.told notes.old) (E.told notes.new))
+        (device (map C.told boxes.old.items) (map C.told boxes.new.items))) }
+    ensures unread { IfSome (command_of words.now) (λ command. reads_input command.order.verb ≡ false
         → Untouched (device (S.told input.old) (S.told input.new))) }
 {
     match asked_of(alloc, words) {
-        Ok(asked) => do_asked(alloc, asked, boxes, store, input, output, notes),
+        Ok(asked) => do_asked(alloc, asked, gate, boxes, store, input, output, notes),
         Err(_) => Status::OutOfMemory,
     }
 }
 
-fn do_asked<C: Calculator, S: Source, K: Sink, E: Sink, T: Store>(
+fn do_asked<G: Gate, C: Calculator, S: Source, K: Sink, E: Sink, T: Store>(
     alloc: Global,
     asked: Asked,
-    boxes: &Vec<C>,
+    gate: &G,
+    boxes: &mut Vec<C>,
     store: &mut T,
     input: &mut S,
     output: &mut K,
     notes: &mut E,
 ) -> Status
-    ensures came { Came (outers_told (map C.told boxes.now.items)) (asked_view asked) result (devices
+    ensures came { Came (outers_told (map C.told boxes.old.items)) (asked_view asked) result (devices
         (device (T.told store.old) (T.told store.new)) (device (S.told input.old) (S.told input.new))
-        (device (K.told output.old) (K.told output.new)) (device (E.told notes.old) (E.told notes.new))) }
-    ensures unread { IfSome (command_by (asked_view asked)) (λ command. reads_input command.verb ≡ false
+        (device (K.told output.old) (K.told output.new)) (device (E.told notes.old) (E.told notes.new))
+        (device (map C.told boxes.old.items) (map C.told boxes.new.items))) }
+    ensures unread { IfSome (command_by (asked_view asked)) (λ command. reads_input command.order.verb ≡ false
         → Untouched (device (S.told input.old) (S.told input.new))) }
 {
     match asked {
-        Asked::Command(verb, files) => do_command(
-            alloc, verb, &files, boxes, store, input, output, notes,
+        Asked::Command(order, files) => do_command(
+            alloc, order, &files, gate, boxes, store, input, output, notes,
         ),
         Asked::Help => told(output, help_text()),
         Asked::Version => told(output, version_text()),
@@ -142,47 +153,56 @@ fn told<K: Sink>(output: &mut K, text: &[u8]) -> Status
 }
 
 // Does what a command says, with these calculators at hand.
-fn do_command<C: Calculator, S: Source, K: Sink, E: Sink, T: Store>(
+fn do_command<G: Gate, C: Calculator, S: Source, K: Sink, E: Sink, T: Store>(
     alloc: Global,
-    verb: Verb,
+    order: Order,
     files: &[MgText],
-    boxes: &Vec<C>,
+    gate: &G,
+    boxes: &mut Vec<C>,
     store: &mut T,
     input: &mut S,
     output: &mut K,
     notes: &mut E,
 ) -> Status
-    ensures called { Called result (task (command verb files.now) (outers_told (map C.told boxes.now.items))) (devices
+    ensures called { Called result (task (command order files.now) (outers_told (map C.told boxes.old.items))) (devices
         (device (T.told store.old) (T.told store.new)) (device (S.told input.old) (S.told input.new))
-        (device (K.told output.old) (K.told output.new)) (device (E.told notes.old) (E.told notes.new))) }
-    ensures unread { reads_input verb ≡ false → Untouched (device (S.told input.old) (S.told input.new)) }
+        (device (K.told output.old) (K.told output.new)) (device (E.told notes.old) (E.told notes.new))
+        (device (map C.told boxes.old.items) (map C.told boxes.new.items))) }
+    ensures unread { reads_input order.verb ≡ false → Untouched (device (S.told input.old) (S.told input.new)) }
 {
     match outers_of(alloc, boxes.as_slice()) {
-        Ok(outers) => serve(alloc, verb, files, &outers, store, input, output, notes),
+        Ok(outers) => serve(
+            alloc, order, files, &outers, gate, boxes, store, input, output, notes,
+        ),
         Err(_) => Status::OutOfMemory,
     }
 }
 
 // Loads all files, and does what the verb has to do with them.
-fn serve<S: Source, K: Sink, E: Sink, T: Store>(
+fn serve<G: Gate, C: Calculator, S: Source, K: Sink, E: Sink, T: Store>(
     alloc: Global,
-    verb: Verb,
+    order: Order,
     files: &[MgText],
     outers: &[OuterShape],
+    gate: &G,
+    boxes: &mut Vec<C>,
     store: &mut T,
     input: &mut S,
     output: &mut K,
     notes: &mut E,
 ) -> Status
     requires outers { All IsOuterShape outers.now }
-    ensures called { Called result (task (command verb files.now) outers.now) (devices
+    requires lawful { All MayBeHandedIn outers.now }
+    requires told { outers.now ≡ outers_told (map C.told boxes.old.items) }
+    ensures called { Called result (task (command order files.now) outers.now) (devices
         (device (T.told store.old) (T.told store.new)) (device (S.told input.old) (S.told input.new))
-        (device (K.told output.old) (K.told output.new)) (device (E.told notes.old) (E.told notes.new))) }
-    ensures unread { reads_input verb ≡ false → Untouched (device (S.told input.old) (S.told input.new)) }
+        (device (K.told output.old) (K.told output.new)) (device (E.told notes.old) (E.told notes.new))
+        (device (map C.told boxes.old.items) (map C.told boxes.new.items))) }
+    ensures unread { reads_input order.verb ≡ false → Untouched (device (S.told input.old) (S.told input.new)) }
 {
     match load_all(alloc, store, files) {
-        Ok(contents) => match job_of(alloc, verb, outers, files, contents) {
-            Ok(job) => do_job(alloc, job, input, output, notes),
+        Ok(contents) => match job_of(alloc, order, outers, files, contents) {
+            Ok(job) => do_job(alloc, job, gate, boxes, input, output, notes),
             Err(_) => Status::OutOfMemory,
         },
         Err(Fault::Noted(note)) => {
@@ -193,16 +213,20 @@ fn serve<S: Source, K: Sink, E: Sink, T: Store>(
     }
 }
 
-fn do_job<S: Source, K: Sink, E: Sink>(
+fn do_job<G: Gate, C: Calculator, S: Source, K: Sink, E: Sink>(
     alloc: Global,
     job: Job,
+    gate: &G,
+    boxes: &mut Vec<C>,
     input: &mut S,
     output: &mut K,
     notes: &mut E,
 ) -> Status
-    requires { CanBeDone (job_view job) }
+    requires can { CanBeDone (outers_told (map C.told boxes.old.items)) (job_view job) }
+    requires lawful { All MayBeHandedIn (outers_told (map C.told boxes.old.items)) }
     ensures did { (store : Device StoreTold) → Did (job_view job) result (devices store
-        (device (S.told input.old) (S.told input.new)) (device (K.told output.old) (K.told output.new)) (device (E.told notes.old) (E.told notes.new))) }
+        (device (S.told input.old) (S.told input.new)) (device (K.told output.old) (K.told output.new)) (device (E.told notes.old) (E.told notes.new))
+        (device (map C.told boxes.old.items) (map C.told boxes.new.items))) }
     ensures unread { MayRead (job_view job) ⊎ Untouched (device (S.told input.old) (S.told input.new)) }
 {
     match job {
@@ -217,7 +241,7 @@ fn do_job<S: Source, K: Sink, E: Sink>(
                 Status::WriteFault
             }
         }
-        Job::Merge(names) => run_graph(alloc, names, input, output, notes),
-        Job::Solve(plan) => solve_graph(alloc, &plan, input, output, notes),
+        Job::Run(plan) => run_graph(alloc, &plan, gate, boxes, input, output, notes),
+        Job::Solve(plan) => solve_graph(alloc, &plan, boxes, input, output, notes),
     }
 }

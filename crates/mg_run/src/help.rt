@@ -45,7 +45,7 @@ options:\n\
 \x20 --report             note what each node and each stream did\n\
 \x20 -h, --help           write this text\n\
 \x20 -V, --version        write the version\n\
-This version has -h and -V.\n\
+This version has --max-queue-size, --no-queue-limit, -h and -V.\n\
 \n\
 statuses:\n\
 \x20 0  all went well\n\

@@ -1,8 +1,9 @@
 //! What a command has to do with the contents of its files.
-ghost use Rattle.std.specs.Prelude.{◌≡◌, ◌≢◌, ◌≤◌, ℕ, List, IfOk, IfErr, Ok, Err, Some, length, map, All};
+ghost use Rattle.std.specs.Prelude.{◌≡◌, ◌≢◌, ◌≤◌, ℕ, pos, List, IfOk, IfErr, Ok, Err, Some, length, map, All};
 ghost use Rattle.mg_config.specs.Config.{graph_view};
 ghost use Rattle.mg_config.specs.Sound.{IsSound, IsPrintable};
 ghost use Rattle.mg_calc.specs.declared.shape.OuterShape.{OuterShape};
+ghost use Rattle.mg_calc.specs.Plan.{IsValid, OutersFit};
 ghost use Rattle.mg_check.specs.Check.{check_of, IsOuterShape};
 ghost use Rattle.mg_subgraph.specs.Expansion.{expansion_of};
 ghost use Rattle.mg_run.specs.Command.{command};
@@ -16,13 +17,13 @@ use crate::check_note::{check_note, check_text};
 use crate::fault::Fault;
 use crate::files::graphs_of;
 use crate::note::expand_note;
-use crate::words::Verb;
+use crate::words::{Order, Verb};
 use mg_calc::{OuterShape, Plan};
 use mg_check::{CheckFault, check};
 use mg_config::{GraphConfig, write};
 use mg_subgraph::expand;
 use mg_text::print;
-use mg_value::{BlockList, MgText};
+use mg_value::MgText;
 use std::alloc::{AllocError, Global};
 
 /// What there is to do.
@@ -32,33 +33,30 @@ pub enum Job {
     Refuse(Vec<u8>),
     /// This text is written.
     Show(Vec<u8>),
-    /// The graph is run whose inputs have these names.
-    Merge(BlockList<MgText>),
+    /// The graph of this plan is run.
+    Run(Plan),
     /// The graph of this plan is solved.
     Solve(Plan),
 }
-
-/// The note for a graph that isn't run so far.
-const NOT_YET: &[u8] = b"refused: NotYet\n";
 
 /// Reads the contents of the files of these names, and finds what the verb has to do with them, where these calculators
 /// are handed in.
 pub fn job_of(
     alloc: Global,
-    verb: Verb,
+    order: Order,
     outers: &[OuterShape],
     names: &[MgText],
     contents: Vec<Vec<u8>>,
 ) -> Result<Job, AllocError>
     requires each { length contents.items ≡ length names.now }
     requires outers { All IsOuterShape outers.now }
-    ensures due { IfOk result (λ job. IsJob (task (command verb names.now) outers.now) (contents_of contents.items) (job_view job)) }
-    ensures valid { IfOk result (λ job. CanBeDone (job_view job)) }
+    ensures due { IfOk result (λ job. IsJob (task (command order names.now) outers.now) (contents_of contents.items) (job_view job)) }
+    ensures valid { IfOk result (λ job. CanBeDone outers.now (job_view job)) }
 {
     match graphs_of(alloc, names, &contents) {
         Ok(graphs) => {
             drop(contents);
-            graphs_job(alloc, verb, outers, &graphs)
+            graphs_job(alloc, order, outers, &graphs)
         }
         Err(fault) => refused(fault),
     }
@@ -66,7 +64,7 @@ pub fn job_of(
 
 // A file is refused, with the note that is known.
 fn refused(fault: Fault) -> Result<Job, AllocError>
-    ensures valid { IfOk result (λ job. CanBeDone (job_view job)) }
+    ensures valid { IfOk result (λ job. (outers : List OuterShape) → CanBeDone outers (job_view job)) }
     ensures due { IfOk result (λ job. (task : Task) (contents : List (List ℕ)) → AreNotedOf fault task.files contents → IsJob task contents (job_view job)) }
 {
     match fault {
@@ -78,25 +76,25 @@ fn refused(fault: Fault) -> Result<Job, AllocError>
 // The first graph is the main one, and the others are its library.
 fn graphs_job(
     alloc: Global,
-    verb: Verb,
+    order: Order,
     outers: &[OuterShape],
     graphs: &[GraphConfig],
 ) -> Result<Job, AllocError>
     requires sound { All (λ graph. IsSound (graph_view graph)) graphs.now }
     requires printable { All (λ graph. IsPrintable (graph_view graph)) graphs.now }
     requires outers { All IsOuterShape outers.now }
-    ensures due { IfOk result (λ job. job_view job ≡ answers.graphs_job verb outers.now (map graph_view graphs.now)) }
-    ensures valid { IfOk result (λ job. CanBeDone (job_view job)) }
+    ensures due { IfOk result (λ job. job_view job ≡ answers.graphs_job order outers.now (map graph_view graphs.now)) }
+    ensures valid { IfOk result (λ job. CanBeDone outers.now (job_view job)) }
 {
     let [main, library @ ..] = graphs else {
         return Ok(Job::Refuse(Vec::new(alloc)));
     };
-    main_job(alloc, verb, outers, main, library)
+    main_job(alloc, order, outers, main, library)
 }
 
 fn main_job(
     alloc: Global,
-    verb: Verb,
+    order: Order,
     outers: &[OuterShape],
     main: &GraphConfig,
     library: &[GraphConfig],
@@ -106,18 +104,18 @@ fn main_job(
     requires sound_files { All (λ graph. IsSound (graph_view graph)) library.now }
     requires printable_files { All (λ graph. IsPrintable (graph_view graph)) library.now }
     requires outers { All IsOuterShape outers.now }
-    ensures valid { IfOk result (λ job. CanBeDone (job_view job)) }
-    ensures due { IfOk result (λ job. job_view job ≡ answers.expanded_job verb outers.now (expansion_of (graph_view main.now) (map graph_view library.now))) }
+    ensures valid { IfOk result (λ job. CanBeDone outers.now (job_view job)) }
+    ensures due { IfOk result (λ job. job_view job ≡ answers.expanded_job order outers.now (expansion_of (graph_view main.now) (map graph_view library.now))) }
 {
     match expand(alloc, main, library) {
-        Ok(graph) => graph_job(alloc, verb, outers, graph),
+        Ok(graph) => graph_job(alloc, order, outers, graph),
         Err(fault) => Ok(Job::Refuse(expand_note(alloc, &fault)?)),
     }
 }
 
 fn graph_job(
     alloc: Global,
-    verb: Verb,
+    order: Order,
     outers: &[OuterShape],
     graph: GraphConfig,
 ) -> Result<Job, AllocError>
@@ -125,11 +123,11 @@ fn graph_job(
     requires printable { IsPrintable (graph_view graph) }
     requires few { length graph.nodes ≤ 4096 }
     requires outers { All IsOuterShape outers.now }
-    ensures due { IfOk result (λ job. job_view job ≡ answers.graph_job verb outers.now (graph_view graph)) }
-    ensures valid { IfOk result (λ job. CanBeDone (job_view job)) }
+    ensures due { IfOk result (λ job. job_view job ≡ answers.graph_job order outers.now (graph_view graph)) }
+    ensures valid { IfOk result (λ job. CanBeDone outers.now (job_view job)) }
 {
-    match verb {
-        Verb::Run => checked_job(alloc, outers, graph),
+    match order.verb {
+        Verb::Run => run_job(alloc, order.limit, outers, &graph),
         Verb::Solve => solve_job(alloc, outers, &graph),
         Verb::Check => check_job(alloc, outers, &graph),
         Verb::Expand => Ok(Job::Show(graph_text(alloc, graph)?)),
@@ -141,7 +139,7 @@ fn solve_job(alloc: Global, outers: &[OuterShape], graph: &GraphConfig) -> Resul
     requires few { length graph.now.nodes ≤ 4096 }
     requires outers { All IsOuterShape outers.now }
     ensures due { IfOk result (λ job. job_view job ≡ answers.solve_job (check_of outers.now (graph_view graph.now))) }
-    ensures valid { IfOk result (λ job. CanBeDone (job_view job)) }
+    ensures valid { IfOk result (λ job. CanBeDone outers.now (job_view job)) }
 {
     match check(alloc, graph, outers) {
         Ok(plan) => Ok(Job::Solve(plan)),
@@ -154,7 +152,7 @@ fn check_job(alloc: Global, outers: &[OuterShape], graph: &GraphConfig) -> Resul
     requires few { length graph.now.nodes ≤ 4096 }
     requires outers { All IsOuterShape outers.now }
     ensures due { IfOk result (λ job. job_view job ≡ answers.check_job (check_of outers.now (graph_view graph.now))) }
-    ensures valid { IfOk result (λ job. CanBeDone (job_view job)) }
+    ensures valid { IfOk result (λ job. CanBeDone outers.now (job_view job)) }
 {
     match check(alloc, graph, outers) {
         Ok(plan) => Ok(Job::Show(check_text(alloc, &plan)?)),
@@ -162,23 +160,52 @@ fn check_job(alloc: Global, outers: &[OuterShape], graph: &GraphConfig) -> Resul
     }
 }
 
-// A graph that is run is checked before.
-fn checked_job(alloc: Global, outers: &[OuterShape], graph: GraphConfig) -> Result<Job, AllocError>
-    requires sound { IsSound (graph_view graph) }
-    requires printable { IsPrintable (graph_view graph) }
-    requires few { length graph.nodes ≤ 4096 }
+// A graph that has a plan is run, with the limit of queues that is asked for, and any other is refused.
+fn run_job(
+    alloc: Global,
+    limit: Option<i32>,
+    outers: &[OuterShape],
+    graph: &GraphConfig,
+) -> Result<Job, AllocError>
+    requires few { length graph.now.nodes ≤ 4096 }
     requires outers { All IsOuterShape outers.now }
-    ensures valid { IfOk result (λ job. CanBeDone (job_view job)) }
-    ensures due { IfOk result (λ job. job_view job ≡ answers.checked_job (check_of outers.now (graph_view graph)) (answers.graph_text (graph_view graph))) }
+    ensures due { IfOk result (λ job. job_view job ≡ answers.run_job limit (check_of outers.now (graph_view graph.now))) }
+    ensures valid { IfOk result (λ job. CanBeDone outers.now (job_view job)) }
 {
-    match check(alloc, &graph, outers) {
-        Ok(plan) => {
-            drop(plan);
-            let text = graph_text(alloc, graph)?;
-            run_job(alloc, &text)
-        }
+    match check(alloc, graph, outers) {
+        Ok(plan) => Ok(Job::Run(limited(limit, plan))),
         Err(fault) => Ok(Job::Refuse(check_note(alloc, &fault)?)),
     }
+}
+
+// A plan with a limit of queues, where there is one.
+fn limited(limit: Option<i32>, plan: Plan) -> Plan
+    ensures limit { result ≡ answers.with_limit limit plan }
+    ensures valid { IsValid plan → IsValid result }
+    ensures fit { (outers : List OuterShape) → OutersFit plan outers → OutersFit result outers }
+{
+    match limit {
+        Some(limit) => with_limit(limit, plan),
+        None => plan,
+    }
+}
+
+// A limit, or the plan's own where it is 0.
+fn limit_or(limit: i32, own: i32) -> i32
+    ensures limit { result ≡ answers.limit_or limit own }
+    ensures some { own ≢ pos 0 → result ≢ pos 0 }
+{
+    if limit == 0 { own } else { limit }
+}
+
+fn with_limit(limit: i32, plan: Plan) -> Plan
+    ensures limit { result ≡ answers.with_limit (Some limit) plan }
+    ensures valid { IsValid plan → IsValid result }
+    ensures fit { (outers : List OuterShape) → OutersFit plan outers → OutersFit result outers }
+{
+    let mut plan = plan;
+    plan.limit = limit_or(limit, plan.limit);
+    plan
 }
 
 /// The text of a configuration.
@@ -190,47 +217,4 @@ fn graph_text(alloc: Global, graph: GraphConfig) -> Result<Vec<u8>, AllocError>
     let tree = write(alloc, &graph)?;
     drop(graph);
     print(alloc, &tree)
-}
-
-fn run_job(alloc: Global, text: &[u8]) -> Result<Job, AllocError>
-    ensures due { IfOk result (λ job. job_view job ≡ answers.run_job (answers.inputs_of text.now)) }
-    ensures valid { IfOk result (λ job. CanBeDone (job_view job)) }
-{
-    match inputs_of(alloc, text)? {
-        Some(names) => Ok(Job::Merge(names)),
-        None => Ok(Job::Refuse(Vec::from_slice(alloc, NOT_YET)?)),
-    }
-}
-
-// The texts of the two graphs that run so far.
-const PASS_THROUGH: &[u8] =
-    b"input_stream: \"in\"\noutput_stream: \"out\"\nnode {\n  calculator: \"PassThroughCalculator\"\n  input_stream: \"in\"\n  output_stream: \"out\"\n}\n";
-
-const MERGE: &[u8] =
-    b"input_stream: \"a\"\ninput_stream: \"b\"\noutput_stream: \"out\"\nnode {\n  calculator: \"MergeCalculator\"\n  input_stream: \"a\"\n  input_stream: \"b\"\n  output_stream: \"out\"\n}\n";
-
-/// The names of the inputs of the graph that a text says, where it is one that runs so far.
-fn inputs_of(alloc: Global, text: &[u8]) -> Result<Option<BlockList<MgText>>, AllocError>
-    ensures { IfOk result (λ names. names ≡ answers.inputs_of text.now) }
-{
-    if text == PASS_THROUGH {
-        let input = MgText::new(alloc, "in")?;
-        return listed(vec![in alloc; input]?);
-    }
-    if text == MERGE {
-        let first = MgText::new(alloc, "a")?;
-        let second = MgText::new(alloc, "b")?;
-        return listed(vec![in alloc; first, second]?);
-    }
-    Ok(None)
-}
-
-// Names as a list.
-fn listed(names: Vec<MgText>) -> Result<Option<BlockList<MgText>>, AllocError>
-    ensures { IfOk result (λ list. list ≡ Some names.items) }
-{
-    match BlockList::from_vec(names) {
-        Ok(names) => Ok(Some(names)),
-        Err(_) => Err(AllocError),
-    }
 }

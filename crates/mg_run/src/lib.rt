@@ -2,34 +2,27 @@
 //! Answers to the definitions of `specs/Answer.antt`.
 #![tactic(auto)]
 
+mod batches;
 mod call;
 mod check_note;
 mod command_line;
 mod fault;
-mod feed;
 mod files;
+mod graph;
 mod help;
 mod job;
 pub mod laws;
 mod limits;
-mod line_fault;
 mod load;
-mod merge;
 mod note;
 mod options;
 mod outers;
-mod pour;
-mod put;
-mod reading;
-mod run;
+mod running;
 mod status;
 mod tally;
 mod words;
-mod write_line;
 
 pub use call::run_words;
-pub use line_fault::LineFault;
-pub use reading::Said;
 pub use status::Status;
 pub use tally::tally_box;
-pub use words::Verb;
+pub use words::{Order, Verb};

@@ -3,7 +3,6 @@ ghost use Rattle.mg_answer.specs.Shown.{shown};
 ghost use Rattle.mg_answer.specs.Notes.{read_note as the_read_note};
 ghost use Rattle.mg_run.specs.Notes as notes;
 
-use crate::LineFault;
 use itoa::Buffer;
 use mg_answer::put_shown;
 use mg_config::ConfigFault;
@@ -178,28 +177,4 @@ fn node_refusal(
     text.extend_from_slice(b" ")?;
     put_shown(&mut text, part.as_bytes())?;
     Ok(text)
-}
-
-/// The note that a line isn't good. Lines are counted from 1.
-pub fn line_note(alloc: Global, number: u64, fault: LineFault) -> Result<Vec<u8>, AllocError>
-    ensures { IfOk result (λ v. v.items ≡ notes.line_note (Some (record { number = number; fault = fault }))) }
-{
-    let mut digits = Buffer::new();
-    let mut note = Vec::from_slice(alloc, b"line ")?;
-    note.extend_from_slice(digits.format(number).as_bytes())?;
-    note.extend_from_slice(b": ")?;
-    note.extend_from_slice(fault.name().as_bytes())?;
-    note.extend_from_slice(b"\n")?;
-    Ok(note)
-}
-
-/// The note that a read failed after so many whole lines.
-pub fn read_note(alloc: Global, lines: u64) -> Result<Vec<u8>, AllocError>
-    ensures { IfOk result (λ v. v.items ≡ the_read_note lines) }
-{
-    let mut digits = Buffer::new();
-    let mut note = Vec::from_slice(alloc, b"read fault after line ")?;
-    note.extend_from_slice(digits.format(lines).as_bytes())?;
-    note.extend_from_slice(b"\n")?;
-    Ok(note)
 }

@@ -5,6 +5,9 @@ ghost use Rattle.mg_run.specs.Words as asking;
 
 use clap::ArgMatches;
 
+// The greatest limit of queues that a plan can have.
+const MOST_LIMIT: u32 = 2_147_483_647;
+
 /// What the options of a command line say, of those that were used.
 #[derive(Clone, Copy, Debug, PartialEq, Eq)]
 pub struct Options {
@@ -34,15 +37,24 @@ impl Options {
         }
     }
 
-    /// Whether none was used.
-    pub fn are_none(self) -> bool
-        ensures { result ≡ asking.has_no_option self }
+    /// Whether none was used that is built later.
+    pub fn have_no_later(self) -> bool
+        ensures { result ≡ asking.has_no_later_option self }
     {
-        self.workers.is_none()
-            && self.max_queue_size.is_none()
-            && self.number.is_none()
-            && !self.no_queue_limit
-            && !self.report
+        self.workers.is_none() && self.number.is_none() && !self.report
+    }
+
+    /// The limit of queues that is asked for, as plans have it: below 0 there is none.
+    pub fn limit(self) -> Option<i32>
+        ensures { result ≡ asking.limit_in self }
+    {
+        if self.no_queue_limit {
+            return Some(-1);
+        }
+        match self.max_queue_size {
+            Some(size) => Some(size.min(MOST_LIMIT) as i32),
+            None => None,
+        }
     }
 }
 

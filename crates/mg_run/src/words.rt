@@ -30,6 +30,14 @@ pub enum Verb {
     Expand,
 }
 
+/// What is done with a graph, and how.
+#[derive(Clone, Copy, Debug, PartialEq, Eq)]
+pub struct Order {
+    pub verb: Verb,
+    /// The limit of queues where the words say one, in packets; below 0 there is none. It is for a run alone.
+    pub limit: Option<i32>,
+}
+
 /// What words ask for.
 #[derive(Debug, Drop)]
 pub enum Asked {
@@ -40,7 +48,7 @@ pub enum Asked {
     /// The program's version.
     Version,
     /// This is done with the graph of these files, that of the main graph first.
-    Command(Verb, Vec<MgText>),
+    Command(Order, Vec<MgText>),
 }
 
 /// What the words ask for, by the command line of `clap`.
@@ -82,27 +90,36 @@ fn asked_from(alloc: Global, matches: &ArgMatches<'_>) -> Result<Asked, AllocErr
     ensures { IfOk result (λ asked. asked_view asked ≡ asking.asked_by (asking.command_in (asking.line_of (rows_of (found_of matches.now))))) }
 {
     let files = files_of(alloc, matches)?;
-    let verb = verb_in(word_of(matches), files.len(), Options::of(matches));
-    Ok(asked_with(verb, files))
+    let order = order_in(word_of(matches), files.len(), Options::of(matches));
+    Ok(asked_with(order, files))
 }
 
-fn asked_with(verb: Option<Verb>, files: Vec<MgText>) -> Asked
-    ensures { asked_view result ≡ asking.asked_by (option_map (λ v. commands.command v files.items) verb) }
+fn asked_with(order: Option<Order>, files: Vec<MgText>) -> Asked
+    ensures { asked_view result ≡ asking.asked_by (option_map (λ o. commands.command o files.items) order) }
 {
-    match verb {
-        Some(verb) => Asked::Command(verb, files),
+    match order {
+        Some(order) => Asked::Command(order, files),
         None => Asked::Usage,
     }
 }
 
 // What is done, where the words are a command that is built so far.
-fn verb_in(word: &str, files: usize, options: Options) -> Option<Verb>
-    ensures { (all : List (List ℕ)) → length all ≡ files → option_map (λ v. commands.command v all) result ≡ asking.command_in (record { word = word.now; files = all; options = options }) }
+fn order_in(word: &str, files: usize, options: Options) -> Option<Order>
+    ensures { (all : List (List ℕ)) → length all ≡ files → option_map (λ o. commands.command o all) result ≡ asking.command_in (record { word = word.now; files = all; options = options }) }
 {
-    if keeps_rules(word, files, options) && options.are_none() {
-        verb_of(word)
+    if keeps_rules(word, files, options) && options.have_no_later() {
+        ordered(verb_of(word), options.limit())
     } else {
         None
+    }
+}
+
+fn ordered(verb: Option<Verb>, limit: Option<i32>) -> Option<Order>
+    ensures { result ≡ option_map (λ v. record { verb = v; limit = limit }) verb }
+{
+    match verb {
+        Some(verb) => Some(Order { verb, limit }),
+        None => None,
     }
 }
 

@@ -1,5 +1,5 @@
--- What becomes of a net by steps: it is of the same plan, it still runs, it still stands for its job, and as many sets of its outputs
--- were taken from the collector.
+-- What becomes of a net by steps: it is of the same plan, it still runs, it still stands for its job, the calculators that no node uses
+-- lie as they lay, and as many sets of its outputs were taken from the collector.
 use Rattle.std.proofs.Common.{◌≡◌, ℕ, zero, suc, ◌<◌, List, [], ◌∷◌, length, set, Option, Some, None, option_map, unwrap_or, slice_get, inl, inr, ap, sym, refl, subst, ◌∙◌, arith}
 use Rattle.mg_calc.specs.declared.event.Event.{Event}
 use Rattle.mg_calc.specs.declared.event.Event.TheVariants.{Deliver, Advance, Claim, Perform, Commit, Relax}
@@ -17,16 +17,18 @@ use Rattle.mg_sched.specs.Sweeps.{Becomes, itself, step}
 use Rattle.mg_sched.proofs.ActsRun.{acts_run}
 use Rattle.mg_sched.proofs.ActsStand.{acts_stand}
 
--- What no step changes: the plan, and how many sets were taken from the collector.
+-- What no step changes: the plan, what lies in places, how many nodes are begun, and how many sets were taken from the collector.
 abbrev taken_at : NetView → Option ℕ
 taken_at net = option_map (λ i. i.claimed) (slice_get net.intakes (length net.plan.nodes))
 
 record Stays (before now : NetView) : Type 0 where
   pub plan : now.plan ≡ before.plan
+  pub spare : now.spare ≡ before.spare
+  pub begun : now.begun ≡ before.begun
   pub taken : taken_at now ≡ taken_at before
 
 stays_so : (net : NetView) → Stays net net
-stays_so net = record { plan = refl; taken = refl }
+stays_so net = record { plan = refl; spare = refl; begun = refl; taken = refl }
 
 stays_by : (before next now : NetView) → now ≡ next → Stays before next → Stays before now
 stays_by before next now is h = subst (λ (v : NetView). Stays before v) (sym is) h
@@ -47,25 +49,25 @@ other_claimed : (is : List IntakeView) (k n : ℕ) (now : IntakeView) → k < n 
 other_claimed is k n now less = ap (λ (o : Option IntakeView). option_map (λ x. x.claimed) o) (get_other is k n now (λ e. omega (arith, e, less)))
 
 performs_stays : (node number : ℕ) (effect : Effect) (desk : DeskView) (before now : NetView) → Performs node number effect desk before now → Stays before now
-performs_stays node number Did desk before now p = stays_by before _ now p.performed.2 (record { plan = refl; taken = refl })
+performs_stays node number Did desk before now p = stays_by before _ now p.performed.2 (record { plan = refl; spare = refl; begun = refl; taken = refl })
 performs_stays node number Idle desk before now p = absurd p.performed
 performs_stays node number OutOfMemory desk before now p = stays_by before before now p.performed (stays_so before)
 
 commits_stays : (node number : ℕ) (shelf : Option PerformedView) (effect : Effect) (engine : EngineView) (before now : NetView) → CommittedAt node number shelf effect engine before now → Stays before now
 commits_stays node number None effect engine before now r = rest_stays effect before now r
-commits_stays node number (Some p) Did engine before now c = stays_by before _ now c.now_is (record { plan = refl; taken = refl })
+commits_stays node number (Some p) Did engine before now c = stays_by before _ now c.now_is (record { plan = refl; spare = refl; begun = refl; taken = refl })
 commits_stays node number (Some p) Idle engine before now c = absurd c
 commits_stays node number (Some p) OutOfMemory engine before now c = stays_by before before now c (stays_so before)
 
 acts_stay : (event : Event) (effect : Effect) (before now : NetView) → IsEventOf before event → Acts event effect before now → Stays before now
 acts_stay (Deliver edge) effect before now of a = elim a.delivered [
   | inl held ↦ rest_stays effect before now held.1
-  | inr brings ↦ (let b = brings.1 in stays_by before _ now b.now_is (record { plan = refl; taken = same_claimed before.intakes a.edge.node (length before.plan.nodes) b.intake b.intake_now b.to b.claimed }))
+  | inr brings ↦ (let b = brings.1 in stays_by before _ now b.now_is (record { plan = refl; spare = refl; begun = refl; taken = same_claimed before.intakes a.edge.node (length before.plan.nodes) b.intake b.intake_now b.to b.claimed }))
 ]
-acts_stay (Advance node) effect before now of a = stays_by before _ now a.now_is (record { plan = refl; taken = refl })
+acts_stay (Advance node) effect before now of a = stays_by before _ now a.now_is (record { plan = refl; spare = refl; begun = refl; taken = refl })
 acts_stay (Claim node) effect before now of a = elim a [
   | inl held ↦ rest_stays effect before now held.1
-  | inr claims ↦ (let c = claims.1 in stays_by before _ now c.now_is (record { plan = refl; taken = other_claimed before.intakes node (length before.plan.nodes) c.intake_now of }))
+  | inr claims ↦ (let c = claims.1 in stays_by before _ now c.now_is (record { plan = refl; spare = refl; begun = refl; taken = other_claimed before.intakes node (length before.plan.nodes) c.intake_now of }))
 ]
 acts_stay (Perform node number) effect before now of a = elim a.performed [
   | inl none ↦ rest_stays effect before now none.1
@@ -74,7 +76,7 @@ acts_stay (Perform node number) effect before now of a = elim a.performed [
 acts_stay (Commit node number) effect before now of a = commits_stays node number (shelf_at a.engine number) effect a.engine before now a.committed
 acts_stay Relax effect before now of a = elim a [
   | inl none ↦ rest_stays effect before now none.1
-  | inr full ↦ stays_by before _ now full.2 (record { plan = refl; taken = refl })
+  | inr full ↦ stays_by before _ now full.2 (record { plan = refl; spare = refl; begun = refl; taken = refl })
 ]
 
 pub acts_plan : (event : Event) (effect : Effect) (before now : NetView) → IsEventOf before event → Acts event effect before now → now.plan ≡ before.plan
@@ -106,10 +108,16 @@ becomes_stay before now itself = stays_so before
 becomes_stay before now (step event effect between after h of acts) =
     let first = becomes_stay before between h in
     let last = acts_stay event effect between after of acts in
-    record { plan = last.plan ∙ first.plan; taken = last.taken ∙ first.taken }
+    record { plan = last.plan ∙ first.plan; spare = last.spare ∙ first.spare; begun = last.begun ∙ first.begun; taken = last.taken ∙ first.taken }
 
 pub becomes_plan : (before now : NetView) → Becomes before now → now.plan ≡ before.plan
 becomes_plan before now h = (becomes_stay before now h).plan
 
 pub becomes_taken : (before now : NetView) → Becomes before now → taken_out now ≡ taken_out before
 becomes_taken before now h = ap (λ (o : Option ℕ). unwrap_or o 0) (becomes_stay before now h).taken
+
+pub becomes_spare : (before now : NetView) → Becomes before now → now.spare ≡ before.spare
+becomes_spare before now h = (becomes_stay before now h).spare
+
+pub becomes_begun : (before now : NetView) → Becomes before now → now.begun ≡ before.begun
+becomes_begun before now h = (becomes_stay before now h).begun

@@ -171,9 +171,9 @@ cells_of net = with_cells net.spare net.plan.nodes net.engines net.desks
 
 -- the cell of a node of the job's plan gives the node's
 pub record Gives (net : NetView) (number : ℕ) (engine : EngineView) (desk : DeskView) : Type 0 where
-  at : slice_get net.engines number ≡ Some engine
-  on : slice_get net.desks number ≡ Some desk
-  gives : is_some (cell_told engine desk) ≡ true
+  pub at : slice_get net.engines number ≡ Some engine
+  pub on : slice_get net.desks number ≡ Some desk
+  pub gives : is_some (cell_told engine desk) ≡ true
 
 node_gives : (job : LoggedJob) (net : NetView) (number : ℕ) (node : PlanNode) → StandsFor job net → slice_get net.plan.nodes number ≡ Some node → is_some node.box_number ≡ true → (engine : EngineView) × (desk : DeskView) × Gives net number engine desk
 unfolding StandsFor
@@ -188,12 +188,12 @@ node_gives job net number node h there boxed =
 
 -- what has to be known of a net that gives back
 pub record KnowsBack (job : LoggedJob) (net : NetView) : Type 0 where
-  is_job : IsJob job.job
-  plan : net.plan ≡ job.job.plan
-  spare : HasSpare job net.spare
-  gives : (number : ℕ) (node : PlanNode) → slice_get net.plan.nodes number ≡ Some node → is_some node.box_number ≡ true → (engine : EngineView) × (desk : DeskView) × Gives net number engine desk
+  pub is_job : IsJob job.job
+  pub plan : net.plan ≡ job.job.plan
+  pub spare : HasSpare job net.spare
+  pub gives : (number : ℕ) (node : PlanNode) → slice_get net.plan.nodes number ≡ Some node → is_some node.box_number ≡ true → (engine : EngineView) × (desk : DeskView) × Gives net number engine desk
 
-knows_standing : (job : LoggedJob) (net : NetView) → StandsFor job net → KnowsBack job net
+pub knows_standing : (job : LoggedJob) (net : NetView) → StandsFor job net → KnowsBack job net
 unfolding StandsFor
 knows_standing job net h = record { is_job = h.is_job; plan = h.plan; spare = h.spare; gives = (λ number node there boxed. node_gives job net number node h there boxed) }
 
@@ -242,7 +242,7 @@ engine_gives before net number engine now desk w at now_at (inr from) (inl upto)
 engine_gives before net number engine now desk w at now_at (inr from) (inr past) h =
     subst (λ (v : EngineView). is_some (cell_told v desk) ≡ true) (same_Some engine now (sym at ∙ sym (w.others number past) ∙ now_at)) h
 
-knows_wound : (job : LoggedJob) (before net : NetView) → KnowsBack job before → WindsUpNet before net → KnowsBack job net
+pub knows_wound : (job : LoggedJob) (before net : NetView) → KnowsBack job before → WindsUpNet before net → KnowsBack job net
 knows_wound job before net h w = record {
   is_job = h.is_job;
   plan = ap (λ (v : NetView). v.plan) w.parts ∙ h.plan;

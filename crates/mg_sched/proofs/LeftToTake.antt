@@ -1,4 +1,4 @@
--- What the collector of a net at rest has still to give.
+-- What the collector of a net has still to give, where all has come to it, as in a net at rest.
 use Rattle.std.proofs.Common.{◌≡◌, ℕ, zero, suc, ◌+◌, ◌≤◌, List, [], ◌∷◌, length, Option, Some, None, option_map, slice_get, sym, ap, subst, ◌∙◌, arith}
 use Rattle.std.specs.List.{AllZip}
 use Rattle.std.proofs.lemmas.Option.{none-some, slice_get_past}
@@ -57,34 +57,52 @@ sets_left job streams consumer claimed (Loop held) holds other came = absurd (ot
 no_loop : (plan : Plan) → law_of plan (length plan.nodes) ≡ Some Loopback → ⊥
 no_loop plan is = none-some Loopback (sym (ap (λ (o : Option PlanNode). option_map (λ n. n.law) o) (slice_get_past plan.nodes (length plan.nodes) (omega arith))) ∙ is)
 
-collector_left : (job : LoggedJob) (net : NetView) (solution : List (StreamPrefix Plain)) (intake : IntakeView) → StandsFor job net → IsRunning net → IsAtRest net → Solves job solution → collector_of net ≡ Some intake
-    → HasLeft intake.claimed intake.waits (settled_outputs net.plan solution)
-unfolding StandsFor LawfulIntake
-collector_left job net solution intake h running rest solves there =
-    let last : ℕ = length net.plan.nodes in
-    let lawful = h.collector intake there in
-    let same : lawful.streams ≡ solution = one_solution job.job lawful.streams solution lawful.solves.solution solves.solution in
-    let holds : HoldsWaits job solution last intake.claimed intake.waits = subst (λ (ss : List (StreamPrefix Plain)). HoldsWaits job ss last intake.claimed intake.waits) same lawful.holds in
-    let came = rests_with_inputs job net solution last intake h running rest solves (omega arith) there in
-    subst (λ (p : Plan). HasLeft intake.claimed intake.waits (settled_sets (policy_of p last) (streams_at solution (ports_of p last)))) (sym h.plan)
-    (sets_left job solution last intake.claimed intake.waits holds
-    (subst (λ (p : Plan). ¬ (law_of p last ≡ Some Loopback)) h.plan (no_loop net.plan))
-    (subst (λ (p : Plan). HasCome intake (streams_at solution (ports_of p last))) h.plan came))
-
-pub left_next : (job : LoggedJob) (net : NetView) (solution : List (StreamPrefix Plain)) (intake : IntakeView) → StandsFor job net → IsRunning net → IsAtRest net → Solves job solution → collector_of net ≡ Some intake
-    → next_set_of intake.waits ≡ slice_get (settled_outputs net.plan solution) intake.claimed
-left_next job net solution intake h running rest solves there = (collector_left job net solution intake h running rest solves there).next
-
--- where there is no next one, all are claimed
+-- where a list has nothing more, the number is no less than its length
 none_past : {X : Type 0} (xs : List X) (k : ℕ) → slice_get xs k ≡ None → length xs ≤ k
 none_past [] k none = omega arith
 none_past (x ∷ xs) zero none = absurd (none-some x (sym none))
 none_past (x ∷ xs) (suc k) none = (let rest = none_past xs k none in omega (arith, rest))
 
-pub left_all : (job : LoggedJob) (net : NetView) (solution : List (StreamPrefix Plain)) (intake : IntakeView) → StandsFor job net → IsRunning net → IsAtRest net → Solves job solution → collector_of net ≡ Some intake
-    → next_set_of intake.waits ≡ None → intake.claimed ≡ length (settled_outputs net.plan solution)
-left_all job net solution intake h running rest solves there none =
-    let left = collector_left job net solution intake h running rest solves there in
+-- of a net's collector
+pub collector_holds : (job : LoggedJob) (net : NetView) (solution : List (StreamPrefix Plain)) (intake : IntakeView) → StandsFor job net → Solves job solution → collector_of net ≡ Some intake
+    → HoldsWaits job solution (length net.plan.nodes) intake.claimed intake.waits × ¬ (law_of job.job.plan (length net.plan.nodes) ≡ Some Loopback)
+unfolding StandsFor LawfulIntake
+collector_holds job net solution intake h solves there =
+    let last : ℕ = length net.plan.nodes in
+    let lawful = h.collector intake there in
+    let same : lawful.streams ≡ solution = one_solution job.job lawful.streams solution lawful.solves.solution solves.solution in (
+      subst (λ (ss : List (StreamPrefix Plain)). HoldsWaits job ss last intake.claimed intake.waits) same lawful.holds,
+      subst (λ (p : Plan). ¬ (law_of p last ≡ Some Loopback)) h.plan (no_loop net.plan),
+    )
+
+collector_left : (job : LoggedJob) (net : NetView) (solution : List (StreamPrefix Plain)) (intake : IntakeView) → StandsFor job net → Solves job solution → collector_of net ≡ Some intake
+    → HasCome intake (streams_at solution (ports_of net.plan (length net.plan.nodes))) → HasLeft intake.claimed intake.waits (settled_outputs net.plan solution)
+unfolding StandsFor
+collector_left job net solution intake h solves there came =
+    let last : ℕ = length net.plan.nodes in
+    let holds = collector_holds job net solution intake h solves there in
+    subst (λ (p : Plan). HasLeft intake.claimed intake.waits (settled_sets (policy_of p last) (streams_at solution (ports_of p last)))) (sym h.plan)
+    (sets_left job solution last intake.claimed intake.waits holds.0 holds.1
+    (subst (λ (p : Plan). HasCome intake (streams_at solution (ports_of p last))) h.plan came))
+
+-- where all has come and there is no next one, all are claimed
+pub all_claimed : (job : LoggedJob) (net : NetView) (solution : List (StreamPrefix Plain)) (intake : IntakeView) → StandsFor job net → Solves job solution → collector_of net ≡ Some intake
+    → HasCome intake (streams_at solution (ports_of net.plan (length net.plan.nodes))) → next_set_of intake.waits ≡ None → intake.claimed ≡ length (settled_outputs net.plan solution)
+all_claimed job net solution intake h solves there came none =
+    let left = collector_left job net solution intake h solves there came in
     let most = left.claimed in
     let past = none_past (settled_outputs net.plan solution) intake.claimed (sym left.next ∙ none) in
     omega (arith, most, past)
+
+-- In a net at rest all has come.
+pub collector_comes : (job : LoggedJob) (net : NetView) (solution : List (StreamPrefix Plain)) (intake : IntakeView) → StandsFor job net → IsRunning net → IsAtRest net → Solves job solution → collector_of net ≡ Some intake
+    → HasCome intake (streams_at solution (ports_of net.plan (length net.plan.nodes)))
+collector_comes job net solution intake h running rest solves there = rests_with_inputs job net solution (length net.plan.nodes) intake h running rest solves (omega arith) there
+
+pub left_next : (job : LoggedJob) (net : NetView) (solution : List (StreamPrefix Plain)) (intake : IntakeView) → StandsFor job net → IsRunning net → IsAtRest net → Solves job solution → collector_of net ≡ Some intake
+    → next_set_of intake.waits ≡ slice_get (settled_outputs net.plan solution) intake.claimed
+left_next job net solution intake h running rest solves there = (collector_left job net solution intake h solves there (collector_comes job net solution intake h running rest solves there)).next
+
+pub left_all : (job : LoggedJob) (net : NetView) (solution : List (StreamPrefix Plain)) (intake : IntakeView) → StandsFor job net → IsRunning net → IsAtRest net → Solves job solution → collector_of net ≡ Some intake
+    → next_set_of intake.waits ≡ None → intake.claimed ≡ length (settled_outputs net.plan solution)
+left_all job net solution intake h running rest solves there none = all_claimed job net solution intake h solves there (collector_comes job net solution intake h running rest solves there) none

@@ -48,9 +48,11 @@ pub mod RestingStreams
 pub mod RestingNets
 pub mod WeightOf
 pub mod LeftToTake
+pub mod OutputsTaken
 pub mod RestingReports
 pub mod GivenBack
 pub mod CountedBack
+pub mod HadBack
 pub mod Becoming
 pub mod SumsFall
 pub mod LeftParts

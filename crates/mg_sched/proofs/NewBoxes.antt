@@ -1,5 +1,5 @@
 -- The calculators that were handed in: each node begins with the one that its job has for it.
-use Rattle.std.proofs.Common.{◌≡◌, ℕ, zero, suc, ◌<◌, List, [], ◌∷◌, ◌++◌, length, map, All, Any, true, Option, Some, None, IfSome, IsSomeAnd, is_some, option_map, unwrap_or, slice_get, subst, ap, sym, refl, ◌∙◌, arith}
+use Rattle.std.proofs.Common.{◌≡◌, ℕ, zero, suc, ◌<◌, List, [], ◌∷◌, ◌++◌, length, map, All, Any, true, Option, Some, None, IfSome, IsSomeAnd, is_some, option_map, unwrap_or, slice_get, inl, inr, subst, ap, sym, refl, ◌∙◌, arith}
 use Rattle.std.specs.Option.{option_and_then}
 use Rattle.std.proofs.lemmas.List.{length-map}
 use Rattle.std.proofs.lemmas.Option.{slice_get_within, get_or_from_slice_get}
@@ -40,7 +40,7 @@ every {X} P xs each i d less = (let there = there_at xs i less in subst P (sym (
 abbrev pub given_of : List CalculatorTold → List (Option CalculatorTold)
 given_of boxes = map (λ b. Some b) boxes
 
--- a node's number has its calculator, which is new
+-- a node's number has its calculator, which fits
 box_of : (plan : Plan) (boxes : List CalculatorTold) (place number : ℕ) (node : PlanNode) → BoxesFit plan boxes → slice_get plan.nodes place ≡ Some node → node.box_number ≡ Some number
     → (box : CalculatorTold) × ((slice_get boxes number ≡ Some box) × FitsNew node box)
 box_of plan boxes place number node fit there takes = holds_there (FitsNew node) (slice_get boxes number)
@@ -71,7 +71,7 @@ handed plan inputs boxes place node fit there = by_number node.box_number refl
     by_number None is = subst (IsHanded (job_of plan inputs boxes) place node) (ap (held boxes node) (sym is)) (record {
       there = there;
       fits = record { same_law = refl; same_shape = refl; same_handed = ap (λ (o : Option ℕ). is_some o) (sym is) };
-      state = refl;
+      state = inl refl;
       log = ap (λ (o : Option ℕ). option_and_then (λ number. unwrap_or (slice_get (logs boxes) number) None) o) (sym is);
     })
     by_number (Some number) is =
@@ -80,7 +80,7 @@ handed plan inputs boxes place node fit there = by_number node.box_number refl
         subst (IsHanded (job_of plan inputs boxes) place node) (sym (ap (held boxes node) is ∙ gets)) (record {
           there = there;
           fits = record { same_law = box.1.1.fits.same_law; same_shape = box.1.1.fits.same_shape; same_handed = ap (λ (o : Option ℕ). is_some o) (sym is) };
-          state = box.1.1.state;
+          state = inr box.1.1.outer;
           log = sym (ap (λ (o : Option ℕ). option_and_then (λ n. unwrap_or (slice_get (logs boxes) n) None) o) is ∙ ap (λ (p : Option (Option (List Call))). unwrap_or p None) (get_map (λ b. b.log) boxes number box.0 box.1.0));
         })
 

@@ -152,16 +152,16 @@ rests_with_streams job net solution number stream engine h running rest solves t
 
 -- Of each node.
 
-record HasNode (job : LoggedJob) (net : NetView) (solution : List (StreamPrefix Plain)) (number : ℕ) (node : PlanNode) (engine : EngineView) : Type 0 where
-  there : slice_get job.job.plan.nodes number ≡ Some node
-  intake : IntakeView
-  lawful_engine : LawfulEngine job (of_node number) engine
-  lawful_intake : LawfulIntake job number intake
-  agree : Agree engine intake
-  rests : IsResting engine intake
-  came : HasCome intake (inputs_of solution node)
+pub record HasNode (job : LoggedJob) (net : NetView) (solution : List (StreamPrefix Plain)) (number : ℕ) (node : PlanNode) (engine : EngineView) : Type 0 where
+  pub there : slice_get job.job.plan.nodes number ≡ Some node
+  pub intake : IntakeView
+  pub lawful_engine : LawfulEngine job (of_node number) engine
+  pub lawful_intake : LawfulIntake job number intake
+  pub agree : Agree engine intake
+  pub rests : IsResting engine intake
+  pub came : HasCome intake (inputs_of solution node)
 
-has_node : (job : LoggedJob) (net : NetView) (solution : List (StreamPrefix Plain)) (number : ℕ) (node : PlanNode) (engine : EngineView) → StandsFor job net → IsRunning net → IsAtRest net → Solves job solution
+pub has_node : (job : LoggedJob) (net : NetView) (solution : List (StreamPrefix Plain)) (number : ℕ) (node : PlanNode) (engine : EngineView) → StandsFor job net → IsRunning net → IsAtRest net → Solves job solution
     → slice_get net.plan.nodes number ≡ Some node → slice_get net.engines number ≡ Some engine → HasNode job net solution number node engine
 unfolding StandsFor
 has_node job net solution number node engine h running rest solves there at =

@@ -167,7 +167,7 @@ outputs_stand job net solution streams n node engine h running all there at =
 
 -- What came at the ports of a consumer.
 
-same_came : (o q : Waiting Plain) (s t u : StreamPrefix Plain) → HasAllCome o q → IsQueueOf o s → IsQueueOf q t → IsExtendedBy s u → IsExtendedBy t u → s ≡ t
+pub same_came : (o q : Waiting Plain) (s t u : StreamPrefix Plain) → HasAllCome o q → IsQueueOf o s → IsQueueOf q t → IsExtendedBy s u → IsExtendedBy t u → s ≡ t
 same_came o q s t u all h k e f =
     let gone = h.gone in
     let gone_too = k.gone in

@@ -15,7 +15,7 @@ use Rattle.mg_sched.specs.Views.{DeskView, NetView}
 use Rattle.mg_sched.specs.StandsFor.{StandsForSome, IsRunning}
 use Rattle.mg_sched.specs.Acts.{Acts, Rests, Performs, Performed, CommittedAt}
 use Rattle.mg_sched.specs.AtRest.{IsAtRest}
-use Rattle.mg_sched.specs.Code.Left.{left_in, Goes, Steps, HasWork, HasNoWork, HasShelf, HasNoShelf, RestsAt, NodesRest, EdgesRest}
+use Rattle.mg_sched.specs.Code.Left.{left_in, Goes, Steps, HasWork, HasNoWork, HasShelf, HasNoShelf, WorksRest, RestsAt, NodesRest, EdgesRest}
 use Rattle.mg_sched.specs.Sweeps.{Becomes}
 use Rattle.mg_sched.specs.Code.Agendas.{AgendaView, IsAgendaOf}
 use Rattle.mg_sched.proofs.Finding.{found, places, cell_at, desk_there, intake_there}
@@ -35,6 +35,12 @@ goes_then true true a b c g h = omega (arith, g, h)
 goes_then true false a b c g h = goes_same true a b c g h
 goes_then false true a b c g h = subst (λ (v : NetView). left_in c < left_in v) g h
 goes_then false false a b c g h = h ∙ g
+
+pub goes_true : (did : Bool) (a b : NetView) → did ≡ true → Goes did a b → left_in b < left_in a
+goes_true did a b is g = subst (λ (d : Bool). Goes d a b) is g
+
+pub goes_false : (did : Bool) (a b : NetView) → did ≡ false → Goes did a b → b ≡ a
+goes_false did a b is g = subst (λ (d : Bool). Goes d a b) is g
 
 pub steps_go : (did : Bool) (event : Event) (a b : NetView) → Steps did event a b → Goes did a b
 steps_go true event a b s = s
@@ -82,31 +88,40 @@ pub commits_less : (did : Bool) (node number : ℕ) (a b : NetView) → HasShelf
 commits_less true node number a b there s = s
 commits_less false node number a b there s = (let c = s.1 in absurd (due_shelf node number c.engine a (shelf_at c.engine number) (there c.engine c.at) c.committed))
 
-pub works_rest : (node : ℕ) (claimed performed committed raised : Bool) (a b c d e : NetView)
+pub works_rest : (node : ℕ) (claimed performed committed : Bool) (a b c d : NetView)
     → Steps claimed (Claim node) a b → Goes performed b c → (performed ≡ false → HasNoWork c node) → Goes committed c d → (committed ≡ false → HasNoShelf d node)
-    → Steps raised (Advance node) d e → (((claimed || performed) || committed) || raised) ≡ false → RestsAt e node
-works_rest node false false false false a b c d e claims performs works commits shelves advances isnt =
-    let last = advances.0 in
-    let third = last ∙ commits in
-    let second = third ∙ performs in
+    → ((claimed || performed) || committed) ≡ false → WorksRest d node
+works_rest node false false false a b c d claims performs works commits shelves isnt =
+    let second = commits ∙ performs in
     let first = second ∙ claims.0 in
     record {
-      claims = still_idle (Claim node) a e (sym first) claims.1;
-      works = subst (λ (v : NetView). HasNoWork v node) (sym third) (works refl);
-      shelf = subst (λ (v : NetView). HasNoShelf v node) (sym last) (shelves refl);
-      advances = still_idle (Advance node) d e (sym last) advances.1;
+      claims = still_idle (Claim node) a d (sym first) claims.1;
+      works = subst (λ (v : NetView). HasNoWork v node) (sym commits) (works refl);
+      shelf = shelves refl;
     }
-works_rest node true performed committed raised a b c d e claims performs works commits shelves advances isnt = absurd (false≢true (sym isnt))
-works_rest node false true committed raised a b c d e claims performs works commits shelves advances isnt = absurd (false≢true (sym isnt))
-works_rest node false false true raised a b c d e claims performs works commits shelves advances isnt = absurd (false≢true (sym isnt))
-works_rest node false false false true a b c d e claims performs works commits shelves advances isnt = absurd (false≢true (sym isnt))
+works_rest node true performed committed a b c d claims performs works commits shelves isnt = absurd (false≢true (sym isnt))
+works_rest node false true committed a b c d claims performs works commits shelves isnt = absurd (false≢true (sym isnt))
+works_rest node false false true a b c d claims performs works commits shelves isnt = absurd (false≢true (sym isnt))
 
-pub works_go : (node : ℕ) (claimed performed committed raised : Bool) (a b c d e : NetView) → Steps claimed (Claim node) a b → Goes performed b c → Goes committed c d → Steps raised (Advance node) d e
-    → Goes (((claimed || performed) || committed) || raised) a e
-works_go node claimed performed committed raised a b c d e claims performs commits advances =
-    goes_then ((claimed || performed) || committed) raised a d e
-    (goes_then (claimed || performed) committed a c d (goes_then claimed performed a b c (steps_go claimed (Claim node) a b claims) performs) commits)
-    (steps_go raised (Advance node) d e advances)
+pub works_go : (node : ℕ) (claimed performed committed : Bool) (a b c d : NetView) → Steps claimed (Claim node) a b → Goes performed b c → Goes committed c d → Goes ((claimed || performed) || committed) a d
+works_go node claimed performed committed a b c d claims performs commits =
+    goes_then (claimed || performed) committed a c d (goes_then claimed performed a b c (steps_go claimed (Claim node) a b claims) performs) commits
+
+-- and where it has none, its outputs are raised
+pub raises_go : (node : ℕ) (worked raised : Bool) (a b c : NetView) → Goes worked a b → worked ≡ false → Steps raised (Advance node) b c → Goes raised a c
+raises_go node worked raised a b c works isnt advances = subst (λ (v : NetView). Goes raised v c) (goes_false worked a b isnt works) (steps_go raised (Advance node) b c advances)
+
+pub raises_rest : (node : ℕ) (worked raised : Bool) (a b : NetView) → (worked ≡ false → WorksRest a node) → worked ≡ false → Steps raised (Advance node) a b → raised ≡ false → RestsAt b node
+raises_rest node worked true a b works isnt advances still = absurd (false≢true (sym still))
+raises_rest node worked false a b works isnt advances still =
+    let same = advances.0 in
+    let w = works isnt in
+    record {
+      claims = still_idle (Claim node) a b (sym same) w.claims;
+      works = subst (λ (v : NetView). HasNoWork v node) (sym same) w.works;
+      shelf = subst (λ (v : NetView). HasNoShelf v node) (sym same) w.shelf;
+      advances = still_idle (Advance node) a b (sym same) advances.1;
+    }
 
 -- Nets that have nothing to do.
 
@@ -212,12 +227,6 @@ agenda_same plan a b of places edges = record { places = places ∙ of.places; e
 
 pub node_place : (plan : Plan) (agenda : AgendaView) (node : ℕ) → IsAgendaOf plan agenda → node < length plan.nodes → node < agenda.places
 node_place plan agenda node of there = (let places = of.places in omega (arith, there, places))
-
-pub goes_true : (did : Bool) (a b : NetView) → did ≡ true → Goes did a b → left_in b < left_in a
-goes_true did a b is g = subst (λ (d : Bool). Goes d a b) is g
-
-pub goes_false : (did : Bool) (a b : NetView) → did ≡ false → Goes did a b → b ≡ a
-goes_false did a b is g = subst (λ (d : Bool). Goes d a b) is g
 
 pub in_ok : {E : Type 0} (P Q : Bool → Type 0) (r : Result Bool E) → ((b : Bool) → P b → Q b) → IfOk r P → IfOk r Q
 in_ok P Q (Ok b) all h = all b h

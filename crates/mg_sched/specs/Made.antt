@@ -1,10 +1,11 @@
 -- How a net is made: no node is begun, nothing is claimed, and each calculator that was handed in is with its node, or lies in its
 -- place where no node uses it.
-use Rattle.std.specs.Prelude.{◌≡◌, ℕ, zero, List, [], length, map, All, Some, IfSome, IsSomeAnd, slice_get}
+use Rattle.std.specs.Prelude.{◌≡◌, ℕ, zero, List, length, map, All, Some, IfSome, IsSomeAnd, slice_get}
 use Rattle.mg_calc.specs.declared.inputs.Inputs.{Inputs}
 use Rattle.mg_calc.specs.declared.plan.Plan.{Plan}
 use Rattle.mg_calc.specs.declared.plan_node.PlanNode.{PlanNode}
 use Rattle.mg_calc.specs.Plan.{FitsNode}
+use Rattle.mg_calc.specs.Shape.{IsOuter}
 use Rattle.mg_calc.specs.Told.{CalculatorTold}
 use Rattle.mg_node.specs.Views.{IntakeView}
 use Rattle.mg_node.specs.Job.{LoggedJob}
@@ -17,11 +18,11 @@ use Rattle.mg_sched.specs.StandsFor.{StandsFor}
 abbrev pub job_of : Plan → Inputs → List CalculatorTold → LoggedJob
 job_of plan inputs boxes = record { job = record { plan = plan; inputs = inputs }; logs = map (λ b. b.log) boxes }
 
--- the calculators that are handed in fit: where a node has a number, that one is there, has the node's law and shape, and keeps nothing
--- yet
+-- the calculators that are handed in fit: where a node has a number, that one is there and has the node's law and shape, and its law is
+-- one that may be handed in. What it keeps from before doesn't matter: its Open doesn't fail, and forgets it
 pub record FitsNew (node : PlanNode) (box : CalculatorTold) : Type 0 where
   pub fits : FitsNode node box.law box.shape
-  pub state : box.state ≡ []
+  pub outer : IsOuter box.law
 
 abbrev pub BoxesFit : Plan → List CalculatorTold → Type 0
 BoxesFit plan boxes = All (λ node. IfSome node.box_number (λ number. IsSomeAnd (slice_get boxes number) (FitsNew node))) plan.nodes

@@ -8,6 +8,7 @@ use Rattle.mg_node.specs.Views.{IntakeView}
 use Rattle.mg_node.specs.Intakes.{next_set_of}
 use Rattle.mg_node.specs.Claims.{Takes}
 use Rattle.mg_node.specs.Job.{ports_of, policy_of, streams_at}
+use Rattle.mg_node.specs.Resting.{HasCome}
 use Rattle.mg_sched.specs.Views.{NetView}
 use Rattle.mg_sched.specs.Places.{first_edge, lengths_of, with_intake}
 use Rattle.mg_sched.specs.Acts.{with_noted}
@@ -41,3 +42,13 @@ TakesOut false set set_now before now = TakesNothing before now set set_now
 -- the settled sets of the graph's outputs: those of the streams at the collector's ports, by its policy
 abbrev pub settled_outputs : Plan → List (StreamPrefix Plain) → List (TimedSet Plain)
 settled_outputs plan streams = settled_sets (policy_of plan (length plan.nodes)) (streams_at streams (ports_of plan (length plan.nodes)))
+
+-- all that some streams have at the graph's outputs has come to the collector, what was taken of it included
+pub record HasAllOutputs (streams : List (StreamPrefix Plain)) (net : NetView) : Type 0 where
+  pub intake : IntakeView
+  pub there : collector_of net ≡ Some intake
+  pub came : HasCome intake (streams_at streams (ports_of net.plan (length net.plan.nodes)))
+
+-- a net has its nodes as before, their works and their calculators: it differs in intakes, and in what the limits know of them, alone
+abbrev pub LeavesNodes : NetView → NetView → Type 0
+LeavesNodes before now = now ≡ record before { intakes = now.intakes; limits = now.limits }

@@ -1,22 +1,30 @@
 //! Laws of the definitions: each function does nothing, and its contract is the law.
-ghost use Rattle.std.specs.Prelude.{◌≡◌, ℕ, ◌-◌, ◌≤◌, List, length, map, Some, None, slice_get};
+ghost use Rattle.std.specs.Prelude.{◌≡◌, ℕ, ◌+◌, ◌-◌, ◌<◌, ◌≤◌, Bool, true, false, List, length, map, All, Option, Some, None, slice_get};
 ghost use Rattle.mg_value.specs.Payload.{Plain};
-ghost use Rattle.mg_value.specs.Prefix.{StreamPrefix};
+ghost use Rattle.mg_value.specs.Prefix.{Stamped, StreamPrefix};
+ghost use Rattle.mg_value.specs.Settled.{settled_sets, inputs_of};
+ghost use Rattle.mg_value.specs.declared.policy.Policy.TheVariants.{Default};
 ghost use Rattle.mg_stream.specs.Queue.{StandsFor as IsQueueOf};
 ghost use Rattle.mg_calc.specs.declared.plan_node.PlanNode.{PlanNode};
 ghost use Rattle.mg_calc.specs.declared.plan_stream.PlanStream.{PlanStream};
 ghost use Rattle.mg_calc.specs.Equations.{stream_of};
+ghost use Rattle.mg_calc.specs.Told.{CalculatorTold};
+ghost use Rattle.mg_calc.specs.Shape.{IsOuter};
 ghost use Rattle.mg_calc.specs.Meaning.{count_of, fault_of, counts, faults, weight};
 ghost use Rattle.mg_node.specs.Views.{IntakeView, EngineView};
 ghost use Rattle.mg_node.specs.Outputs.{laid_at};
 ghost use Rattle.mg_node.specs.Intakes.{next_set_of};
 ghost use Rattle.mg_node.specs.Job.{LoggedJob, Solves, ports_of, streams_at};
 ghost use Rattle.mg_node.specs.Resting.{HasCome};
+ghost use Rattle.mg_node.specs.Had.{HadCalls};
 ghost use Rattle.mg_sched.specs.Views.{NetView};
 ghost use Rattle.mg_sched.specs.Places.{place_of};
 ghost use Rattle.mg_sched.specs.StandsFor.{StandsFor, IsRunning};
 ghost use Rattle.mg_sched.specs.AtRest.{IsAtRest};
-ghost use Rattle.mg_sched.specs.Taking.{collector_of, settled_outputs};
+ghost use Rattle.mg_sched.specs.Sweeps.{Becomes};
+ghost use Rattle.mg_sched.specs.Taking.{collector_of, taken_out, TakesOut, settled_outputs, HasAllOutputs, LeavesNodes};
+ghost use Rattle.mg_sched.specs.WindsUp.{WindsUpNet};
+ghost use Rattle.mg_sched.specs.GivesBack.{given_back, StoodFor};
 ghost use Rattle.mg_sched.specs.Reports.{claimed_in, stream_end, report_of};
 
 /// A net that can go no further has the solution, in whatever order its steps were made: what is laid at each output is the solution's
@@ -63,4 +71,57 @@ pub fn what_rests_reports_the_solution()
         → StandsFor job net → IsRunning net → IsAtRest net → Solves job solution → (report_of net).faults ≡ faults job.job solution }
     ensures streams { (job : LoggedJob) (net : NetView) (solution : List (StreamPrefix Plain))
         → StandsFor job net → IsRunning net → IsAtRest net → Solves job solution → (report_of net).streams ≡ map stream_end solution }
+{}
+
+/// No step touches the calculators that no node uses, begins a node, or takes a set from the collector.
+pub fn steps_leave_what_no_node_uses()
+    ensures plan { (before now : NetView) → Becomes before now → now.plan ≡ before.plan }
+    ensures spare { (before now : NetView) → Becomes before now → now.spare ≡ before.spare }
+    ensures begun { (before now : NetView) → Becomes before now → now.begun ≡ before.begun }
+    ensures taken { (before now : NetView) → Becomes before now → taken_out now ≡ taken_out before }
+{}
+
+/// A set that is taken from the collector is counted, and leaves the nodes as they are; where none is taken nothing changes. At no time
+/// more are taken than the solution has, and its sets are those that the default policy settles at the graph's outputs.
+pub fn takings_are_counted()
+    ensures takes { (set set_now : List (Option (Stamped Plain))) (before now : NetView) → TakesOut true set set_now before now → taken_out now ≡ taken_out before + 1 }
+    ensures nothing { (set set_now : List (Option (Stamped Plain))) (before now : NetView) → TakesOut false set set_now before now → (now ≡ before) × (set_now ≡ set) }
+    ensures left { (taken : Bool) (set set_now : List (Option (Stamped Plain))) (before now : NetView) → TakesOut taken set set_now before now → LeavesNodes before now }
+    ensures few { (job : LoggedJob) (solution : List (StreamPrefix Plain)) (net : NetView) → StandsFor job net → Solves job solution
+        → taken_out net ≤ length (settled_outputs net.plan solution) }
+    ensures outputs { (job : LoggedJob) (solution : List (StreamPrefix Plain)) → Solves job solution
+        → settled_outputs job.job.plan solution ≡ settled_sets Default (inputs_of solution job.job.plan.outputs) }
+{}
+
+/// Of a net at rest sets are taken until all of the solution's were: all has come to the collector, that stays so when a set is taken,
+/// and where none is taken any more as many were as the solution has.
+pub fn all_outputs_are_taken()
+    ensures rest { (job : LoggedJob) (solution : List (StreamPrefix Plain)) (net : NetView) → StandsFor job net → IsRunning net → IsAtRest net → Solves job solution
+        → HasAllOutputs solution net }
+    ensures kept { (job : LoggedJob) (solution : List (StreamPrefix Plain)) (taken : Bool) (set set_now : List (Option (Stamped Plain))) (before now : NetView)
+        → StandsFor job before → Solves job solution → HasAllOutputs solution before → TakesOut taken set set_now before now → HasAllOutputs solution now }
+    ensures all { (job : LoggedJob) (solution : List (StreamPrefix Plain)) (set set_now : List (Option (Stamped Plain))) (net now : NetView)
+        → StandsFor job net → Solves job solution → HasAllOutputs solution net → TakesOut false set set_now net now → taken_out net ≡ length (settled_outputs net.plan solution) }
+{}
+
+/// Where the nodes are left as they were, as by takings, that is so step by step, and the report is the same.
+pub fn what_leaves_nodes_leaves_the_report()
+    ensures itself { (net : NetView) → LeavesNodes net net }
+    ensures further { (before between now : NetView) → LeavesNodes before between → LeavesNodes between now → LeavesNodes before now }
+    ensures report { (before now : NetView) → LeavesNodes before now → report_of now ≡ report_of before }
+{}
+
+/// A net that came to rest, perhaps had sets taken, and was wound up gives back each calculator in its place: that of a node with all its
+/// calls, and one that no node uses as it lay.
+pub fn what_comes_back_had_its_calls()
+    ensures used { (job : LoggedJob) (rested net wound : NetView) (solution : List (StreamPrefix Plain)) (number place : ℕ) (node : PlanNode)
+        → StandsFor job rested → IsRunning rested → IsAtRest rested → Solves job solution
+        → LeavesNodes rested net → WindsUpNet net wound → wound.wound ≡ length net.plan.nodes
+        → slice_get net.plan.nodes number ≡ Some node → node.box_number ≡ Some place → IsOuter node.law
+        → (told : CalculatorTold) × (slice_get (given_back wound) place ≡ Some told) × HadCalls job solution node told }
+    ensures count { (job : LoggedJob) (net : NetView) → StoodFor job net → length (given_back net) ≡ length job.logs }
+    ensures unused { (job : LoggedJob) (net : NetView) (place : ℕ) (told : CalculatorTold) → StoodFor job net
+        → slice_get net.spare place ≡ Some (Some told) → slice_get (given_back net) place ≡ Some told }
+    ensures unused_there { (job : LoggedJob) (net : NetView) (place : ℕ) → StandsFor job net → place < length job.logs
+        → All (λ n. ¬ (n.box_number ≡ Some place)) net.plan.nodes → (told : CalculatorTold) × (slice_get net.spare place ≡ Some (Some told)) }
 {}

@@ -2,12 +2,13 @@
 use Rattle.std.specs.Prelude.{◌≡◌, ℕ, List, ◌++◌, Bool, true, false}
 use Rattle.mg_edge.specs.Edge.{SinkTold}
 use Rattle.mg_feed.specs.Sent.{SentAll, SentPart}
+use Rattle.mg_answer.specs.Put.{TextView, HasPut}
 
--- Of a whole text so much was sent, this is kept, and the rest is still to come.
-pub record Pours (first now : SinkTold) (whole kept rest : List ℕ) : Type 0 where
-  pub sent : List ℕ
-  pub flows : SentAll first now sent
-  pub is : whole ≡ sent ++ (kept ++ rest)
+-- Of a whole text so much was put, and the rest is still to come.
+pub record Pours (first now : SinkTold) (view : TextView) (whole rest : List ℕ) : Type 0 where
+  pub so_far : List ℕ
+  pub has : HasPut first now view so_far
+  pub is : whole ≡ so_far ++ rest
 
 -- What was handed on of a text, and what is left of it. Where a write failed a front of it was.
 abbrev pub HandedOn : Bool → SinkTold → SinkTold → List ℕ → List ℕ → Type 0

@@ -53,7 +53,8 @@ impl<C: Calculator> Engine<C> {
         let Ok(mut idle) = own_benches(alloc, planned, planned.in_flight - 1) else {
             return Err(holder);
         };
-        idle.push_reserved(Bench::new(holder, set));
+        let bench = Bench::new(alloc, holder, set)?;
+        idle.push_reserved(bench);
         Ok(Engine {
             alloc,
             role: role_of(&planned.law),

@@ -9,4 +9,4 @@ abbrev pub asked_view : code.Asked → Asked
 asked_view Usage = asks_usage
 asked_view Help = asks_text help_text
 asked_view Version = asks_text version_text
-asked_view (Command verb files) = asks_command (command verb files.items)
+asked_view (Command order files) = asks_command (command order files.items)

@@ -76,7 +76,13 @@ HasNoShelf net node = (engine : EngineView) (number : ℕ) → slice_get net.eng
 abbrev pub HasShelf : NetView → ℕ → ℕ → Type 0
 HasShelf net node number = (engine : EngineView) → slice_get net.engines node ≡ Some engine → IsSome (shelf_at engine number)
 
--- a node has nothing to do
+-- a node has no work to claim, to perform or to commit
+pub record WorksRest (net : NetView) (node : ℕ) : Type 0 where
+  pub claims : Acts (Claim node) Idle net net
+  pub works : HasNoWork net node
+  pub shelf : HasNoShelf net node
+
+-- a node has nothing to do: no such work, and no output to raise
 pub record RestsAt (net : NetView) (node : ℕ) : Type 0 where
   pub claims : Acts (Claim node) Idle net net
   pub works : HasNoWork net node

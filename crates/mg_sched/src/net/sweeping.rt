@@ -12,7 +12,7 @@ ghost use Rattle.mg_sched.specs.Taking.{taken_out};
 ghost use Rattle.mg_sched.specs.Reports.{claimed_in};
 ghost use Rattle.mg_sched.specs.Sweeps.{Becomes};
 ghost use Rattle.mg_sched.specs.Code.Agendas.{IsAgendaOf};
-ghost use Rattle.mg_sched.specs.Code.Left.{Goes, Steps, HasWork, HasNoWork, HasShelf, HasNoShelf, RestsAt, EdgesRest, NodesRest};
+ghost use Rattle.mg_sched.specs.Code.Left.{Goes, Steps, HasWork, HasNoWork, HasShelf, HasNoShelf, WorksRest, RestsAt, EdgesRest, NodesRest};
 
 use super::Net;
 use crate::agenda::Agenda;
@@ -337,7 +337,8 @@ impl<C: Calculator> Net<C> {
         Ok(did)
     }
 
-    // Claims a node's next work, performs and commits what is claimed, and raises the node's outputs. Tells whether something was done.
+    // Claims a node's next work, and performs and commits what is claimed; only where there is nothing of that, raises the node's
+    // outputs. Tells whether something was done.
     fn work<G: Gate>(&mut self, node: u32, gate: &G) -> Result<bool, AllocError>
         requires running { IsRunning self.old }
         requires stands { StandsForSome self.old }
@@ -346,11 +347,27 @@ impl<C: Calculator> Net<C> {
         ensures goes { IfOk result (λ did. Goes did self.old self.new) }
         ensures rest { IfOk result (λ did. did ≡ false → RestsAt self.new node) }
     {
+        let worked = self.work_on(node, gate)?;
+        if worked {
+            return Ok(true);
+        }
+        let raised = self.step(Event::Advance { node }, gate)?;
+        Ok(raised)
+    }
+
+    // Claims a node's next work, and performs and commits what is claimed. Tells whether something was done.
+    fn work_on<G: Gate>(&mut self, node: u32, gate: &G) -> Result<bool, AllocError>
+        requires running { IsRunning self.old }
+        requires stands { StandsForSome self.old }
+        requires there { node < length self.old.plan.nodes }
+        ensures becomes { Becomes self.old self.new }
+        ensures goes { IfOk result (λ did. Goes did self.old self.new) }
+        ensures rest { IfOk result (λ did. did ≡ false → WorksRest self.new node) }
+    {
         let claimed = self.step(Event::Claim { node }, gate)?;
         let performed = self.perform_all(node, gate)?;
         let committed = self.commit_all(node, gate)?;
-        let raised = self.step(Event::Advance { node }, gate)?;
-        Ok(claimed | performed | committed | raised)
+        Ok(claimed | performed | committed)
     }
 
     // Performs a node's works that are claimed. Tells whether there was one.

@@ -1,8 +1,10 @@
-use Rattle.std.proofs.Common.{◌∙◌, sym}
+use Rattle.std.proofs.Common.{◌∙◌, sym, map, List, All, subst}
+use Rattle.mg_calc.specs.declared.shape.OuterShape.{OuterShape}
 use Rattle.mg_subgraph.proofs.Steps.{length-map}
 use Rattle.mg_run.specs.Command.{command}
 use Rattle.mg_run.specs.Task.{task}
-use Rattle.mg_run.specs.Code.Job.{job_view}
+use Rattle.mg_run.specs.Boxes.{MayBeHandedIn}
+use Rattle.mg_run.specs.Code.Job.{job_view, CanBeDone}
 use Rattle.mg_run.specs.Code.Reads.{contents_of}
 use Rattle.mg_run.specs.Devices.{device}
 use Rattle.mg_run.proofs.Calling.{called-did, short-nothing}
@@ -19,22 +21,28 @@ job_of-requires g c = record {
 
 pub returns-in-Ok-job_of-clause-called : goal.returns-in-Ok-job_of-clause-called
 returns-in-Ok-job_of-clause-called g c =
-    called-did (job_view c.in-Ok-job_of.job) c.do_job.result (task (command c.args.verb c.args.files.now) c.args.outers.now) (contents_of c.in-Ok.contents.items) _
+    called-did (job_view c.in-Ok-job_of.job) c.do_job.result (task (command c.args.order c.args.files.now) c.args.outers.now) (contents_of c.in-Ok.contents.items) _
     c.in-Ok.ensures.all c.in-Ok-job_of.ensures.due (c.do_job.ensures.did _)
 
 pub returns-in-Ok-job_of-clause-unread : goal.returns-in-Ok-job_of-clause-unread
 returns-in-Ok-job_of-clause-unread g c =
-    unread-by (task (command c.args.verb c.args.files.now) c.args.outers.now) (contents_of c.in-Ok.contents.items) (job_view c.in-Ok-job_of.job)
+    unread-by (task (command c.args.order c.args.files.now) c.args.outers.now) (contents_of c.in-Ok.contents.items) (job_view c.in-Ok-job_of.job)
     (device (g.S.Source.told c.args.input.now) (g.S.Source.told c.do_job.new.input)) c.in-Ok-job_of.ensures.due c.do_job.ensures.unread
 
 pub returns-in-Err-clause-called : goal.returns-in-Err-clause-called
 returns-in-Err-clause-called g c =
-    short-nothing (task (command c.args.verb c.args.files.now) c.args.outers.now) (device (g.T.Store.told c.args.store.now) (g.T.Store.told c.load_all.new.store))
+    short-nothing (task (command c.args.order c.args.files.now) c.args.outers.now) (device (g.T.Store.told c.args.store.now) (g.T.Store.told c.load_all.new.store))
     (device (g.S.Source.told c.args.input.now) (g.S.Source.told c.args.input.now)) (g.K.Sink.told c.args.output.now)
-    (device (g.E.Sink.told c.args.notes.now) (g.E.Sink.told c.args.notes.now))
+    (device (g.E.Sink.told c.args.notes.now) (g.E.Sink.told c.args.notes.now)) (map g.C.Calculator.told c.args.boxes.now.items)
 
 pub returns-in-Err-OutOfMemory-clause-called : goal.returns-in-Err-OutOfMemory-clause-called
 returns-in-Err-OutOfMemory-clause-called g c =
-    short-nothing (task (command c.args.verb c.args.files.now) c.args.outers.now) (device (g.T.Store.told c.args.store.now) (g.T.Store.told c.load_all.new.store))
+    short-nothing (task (command c.args.order c.args.files.now) c.args.outers.now) (device (g.T.Store.told c.args.store.now) (g.T.Store.told c.load_all.new.store))
     (device (g.S.Source.told c.args.input.now) (g.S.Source.told c.args.input.now)) (g.K.Sink.told c.args.output.now)
-    (device (g.E.Sink.told c.args.notes.now) (g.E.Sink.told c.args.notes.now))
+    (device (g.E.Sink.told c.args.notes.now) (g.E.Sink.told c.args.notes.now)) (map g.C.Calculator.told c.args.boxes.now.items)
+
+pub do_job-requires : goal.do_job-requires
+do_job-requires g c = record {
+  can = subst (λ (outers : List OuterShape). CanBeDone outers (job_view c.in-Ok-job_of.job)) c.requires.told c.in-Ok-job_of.ensures.valid;
+  lawful = subst (λ (outers : List OuterShape). All MayBeHandedIn outers) c.requires.told c.requires.lawful;
+}

@@ -29,10 +29,13 @@ returns-in-Ok-clause-due c =
     let gs = map graph_view c.in-Ok.graphs.items in
     let are = subst (λ (contents : List (Vec ℕ)). AreGraphs (contents_of contents) gs) c.deref.ensures.value c.in-Ok.ensures.graphs in
     IfOk-weaker c.graphs_job.result _ _
-    (λ job same. (graphs gs, are, same ∙ ap (λ (configs : List GraphConfig). answers.graphs_job c.args.verb c.args.outers.now (map graph_view configs)) c.deref-in-Ok.ensures.value)) c.graphs_job.ensures.due
+    (λ job same. (graphs gs, are, same ∙ ap (λ (configs : List GraphConfig). answers.graphs_job c.args.order c.args.outers.now (map graph_view configs)) c.deref-in-Ok.ensures.value)) c.graphs_job.ensures.due
 
 pub returns-in-Err-clause-due : goal.returns-in-Err-clause-due
 returns-in-Err-clause-due c =
     IfOk-weaker c.refused.result _ _
-    (λ job due. due (task (command c.args.verb c.args.names.now) c.args.outers.now) (contents_of c.args.contents.items)
+    (λ job due. due (task (command c.args.order c.args.names.now) c.args.outers.now) (contents_of c.args.contents.items)
     (subst (λ (contents : List (Vec ℕ)). AreNotedOf c.in-Err.fault c.args.names.now (contents_of contents)) c.deref.ensures.value c.in-Err.ensures.refused)) c.refused.ensures.due
+
+pub returns-in-Err-clause-valid : goal.returns-in-Err-clause-valid
+returns-in-Err-clause-valid c = IfOk-weaker c.refused.result _ _ (λ job can. can c.args.outers.now) c.refused.ensures.valid

@@ -2,7 +2,7 @@ use Rattle.std.proofs.Common.{All, List, [], ◌∷◌, sym, subst}
 use Rattle.std.proofs.lemmas.List.Elements.{All-append, All-cons, All-nil}
 use Rattle.mg_calc.specs.declared.shape.OuterShape.{OuterShape}
 use Rattle.mg_check.specs.Check.{IsOuterShape}
-use Rattle.mg_run.specs.Boxes.{outer_told}
+use Rattle.mg_run.specs.Boxes.{outer_told, MayBeHandedIn}
 use Rattle.mg_run.proofs.Told.{known-more}
 use Rattle.mg_run.proofs.outers.outers_of.Goals as goal
 
@@ -14,4 +14,7 @@ loop-calculator-preserved g c = (
   subst (λ (outers : List OuterShape). All IsOuterShape outers) (sym c.in_ok-push.ensures.items)
       (All-append IsOuterShape c.loop-calculator.outers.items (c.in_ok-outer_of.field-0 ∷ []) c.loop-calculator.invariant.1
       (All-cons IsOuterShape c.in_ok-outer_of.field-0 [] c.in_ok-outer_of.ensures.shaped (All-nil IsOuterShape))),
+  subst (λ (outers : List OuterShape). All MayBeHandedIn outers) (sym c.in_ok-push.ensures.items)
+      (All-append MayBeHandedIn c.loop-calculator.outers.items (c.in_ok-outer_of.field-0 ∷ []) c.loop-calculator.invariant.2
+      (All-cons MayBeHandedIn c.in_ok-outer_of.field-0 [] c.in_ok-outer_of.ensures.lawful (All-nil MayBeHandedIn))),
 )

@@ -30,7 +30,7 @@ pub returns-clause-engine : goal.returns-clause-engine
 returns-clause-engine g c = λ planned there_too.
     let there : slice_get c.args.plan.now.nodes c.args.node ≡ Some c.index-as_slice-node.result = read_at _ _ _ _ c.as_slice.ensures c.requires.node c.index-as_slice-node.is in
     engine_made c.index-as_slice-node.result planned c.args.node c.args.holder _ _ _ c.len.result _ _ _ (some_same _ _ _ there there_too) c.role_of.ensures c.first_of.ensures c.len-3.ensures c.len.ensures c.in-Ok.ensures.items c.in-Ok-with_capacity.ensures.items
-    (benches_made c.index-as_slice-node.result c.args.holder _ c.in-Ok-own_benches.idle.items _ c.new-2.result c.in-Ok-new.set c.len-2.result refl c.in-Ok-own_benches.ensures.items c.in-Ok-new.ensures c.len-2.ensures c.new-2.ensures c.push_reserved.ensures.items)
+    (benches_made c.index-as_slice-node.result c.args.holder _ c.in-Ok-own_benches.idle.items c.push_reserved.new.self.items c.in_ok-bench.bench c.in-Ok-new.set c.len-2.result refl c.in-Ok-own_benches.ensures.items c.in-Ok-new.ensures c.len-2.ensures c.in_ok-bench.ensures.made c.push_reserved.ensures.items)
 
 pub returns-clause-lawful : goal.returns-clause-lawful
 returns-clause-lawful g c = λ job planned same handed.

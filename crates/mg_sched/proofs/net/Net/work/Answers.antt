@@ -1,74 +1,27 @@
 use Rattle.mg_sched.proofs.Becoming.{becomes_runs, becomes_some, becomes_trans}
-use Rattle.mg_sched.proofs.Sweeping.{still_there, works_go, works_rest}
+use Rattle.mg_sched.proofs.Sweeping.{goes_true, still_there, raises_go, raises_rest}
 use Rattle.mg_sched.proofs.net.Net.work.Goals as goal
 
-pub perform_all-requires-clause-running : goal.perform_all-requires-clause-running
-perform_all-requires-clause-running g c = becomes_runs c.args.self.now c.step.new.self c.requires.running c.in_ok-claimed.ensures.becomes
+pub returns-then-worked-clause-goes : goal.returns-then-worked-clause-goes
+returns-then-worked-clause-goes g c = goes_true c.in_ok-worked.worked c.args.self.now c.work_on.new.self c.if-worked.true c.in_ok-worked.ensures.goes
 
-pub perform_all-requires-clause-stands : goal.perform_all-requires-clause-stands
-perform_all-requires-clause-stands g c = becomes_some c.args.self.now c.step.new.self c.requires.running c.requires.stands c.in_ok-claimed.ensures.becomes
+pub step-requires-clause-event : goal.step-requires-clause-event
+step-requires-clause-event g c = still_there c.args.node c.args.self.now c.work_on.new.self c.in_ok-worked.ensures.becomes c.requires.there
 
-pub perform_all-requires-clause-there : goal.perform_all-requires-clause-there
-perform_all-requires-clause-there g c = still_there c.args.node c.args.self.now c.step.new.self c.in_ok-claimed.ensures.becomes c.requires.there
+pub step-requires-clause-running : goal.step-requires-clause-running
+step-requires-clause-running g c = becomes_runs c.args.self.now c.work_on.new.self c.requires.running c.in_ok-worked.ensures.becomes
 
-pub returns-in_err-performed-clause-becomes : goal.returns-in_err-performed-clause-becomes
-returns-in_err-performed-clause-becomes g c = becomes_trans c.args.self.now c.step.new.self c.perform_all.new.self c.in_ok-claimed.ensures.becomes c.in_err-performed.ensures.becomes
-
-pub commit_all-requires-clause-running : goal.commit_all-requires-clause-running
-commit_all-requires-clause-running g c =
-    becomes_runs c.args.self.now c.perform_all.new.self c.requires.running (becomes_trans c.args.self.now c.step.new.self c.perform_all.new.self c.in_ok-claimed.ensures.becomes c.in_ok-performed.ensures.becomes)
-
-pub commit_all-requires-clause-stands : goal.commit_all-requires-clause-stands
-commit_all-requires-clause-stands g c =
-    becomes_some c.args.self.now c.perform_all.new.self c.requires.running c.requires.stands
-    (becomes_trans c.args.self.now c.step.new.self c.perform_all.new.self c.in_ok-claimed.ensures.becomes c.in_ok-performed.ensures.becomes)
-
-pub commit_all-requires-clause-there : goal.commit_all-requires-clause-there
-commit_all-requires-clause-there g c =
-    still_there c.args.node c.args.self.now c.perform_all.new.self
-    (becomes_trans c.args.self.now c.step.new.self c.perform_all.new.self c.in_ok-claimed.ensures.becomes c.in_ok-performed.ensures.becomes) c.requires.there
-
-pub returns-in_err-committed-clause-becomes : goal.returns-in_err-committed-clause-becomes
-returns-in_err-committed-clause-becomes g c =
-    becomes_trans c.args.self.now c.perform_all.new.self c.commit_all.new.self
-    (becomes_trans c.args.self.now c.step.new.self c.perform_all.new.self c.in_ok-claimed.ensures.becomes c.in_ok-performed.ensures.becomes) c.in_err-committed.ensures.becomes
-
-pub step-requires-2-clause-event : goal.step-requires-2-clause-event
-step-requires-2-clause-event g c =
-    still_there c.args.node c.args.self.now c.commit_all.new.self
-    (becomes_trans c.args.self.now c.perform_all.new.self c.commit_all.new.self
-    (becomes_trans c.args.self.now c.step.new.self c.perform_all.new.self c.in_ok-claimed.ensures.becomes c.in_ok-performed.ensures.becomes) c.in_ok-committed.ensures.becomes) c.requires.there
-
-pub step-requires-2-clause-running : goal.step-requires-2-clause-running
-step-requires-2-clause-running g c =
-    becomes_runs c.args.self.now c.commit_all.new.self c.requires.running
-    (becomes_trans c.args.self.now c.perform_all.new.self c.commit_all.new.self
-    (becomes_trans c.args.self.now c.step.new.self c.perform_all.new.self c.in_ok-claimed.ensures.becomes c.in_ok-performed.ensures.becomes) c.in_ok-committed.ensures.becomes)
-
-pub step-requires-2-clause-stands : goal.step-requires-2-clause-stands
-step-requires-2-clause-stands g c =
-    becomes_some c.args.self.now c.commit_all.new.self c.requires.running c.requires.stands
-    (becomes_trans c.args.self.now c.perform_all.new.self c.commit_all.new.self
-    (becomes_trans c.args.self.now c.step.new.self c.perform_all.new.self c.in_ok-claimed.ensures.becomes c.in_ok-performed.ensures.becomes) c.in_ok-committed.ensures.becomes)
+pub step-requires-clause-stands : goal.step-requires-clause-stands
+step-requires-clause-stands g c = becomes_some c.args.self.now c.work_on.new.self c.requires.running c.requires.stands c.in_ok-worked.ensures.becomes
 
 pub returns-in_err-raised-clause-becomes : goal.returns-in_err-raised-clause-becomes
-returns-in_err-raised-clause-becomes g c =
-    becomes_trans c.args.self.now c.commit_all.new.self c.step-2.new.self
-    (becomes_trans c.args.self.now c.perform_all.new.self c.commit_all.new.self
-    (becomes_trans c.args.self.now c.step.new.self c.perform_all.new.self c.in_ok-claimed.ensures.becomes c.in_ok-performed.ensures.becomes) c.in_ok-committed.ensures.becomes) c.in_err-raised.ensures.becomes
+returns-in_err-raised-clause-becomes g c = becomes_trans c.args.self.now c.work_on.new.self c.step.new.self c.in_ok-worked.ensures.becomes c.in_err-raised.ensures.becomes
 
 pub returns-clause-becomes : goal.returns-clause-becomes
-returns-clause-becomes g c =
-    becomes_trans c.args.self.now c.commit_all.new.self c.step-2.new.self
-    (becomes_trans c.args.self.now c.perform_all.new.self c.commit_all.new.self
-    (becomes_trans c.args.self.now c.step.new.self c.perform_all.new.self c.in_ok-claimed.ensures.becomes c.in_ok-performed.ensures.becomes) c.in_ok-committed.ensures.becomes) c.in_ok-raised.ensures.becomes
+returns-clause-becomes g c = becomes_trans c.args.self.now c.work_on.new.self c.step.new.self c.in_ok-worked.ensures.becomes c.in_ok-raised.ensures.becomes
 
 pub returns-clause-goes : goal.returns-clause-goes
-returns-clause-goes g c =
-    works_go c.args.node c.in_ok-claimed.claimed c.in_ok-performed.performed c.in_ok-committed.committed c.in_ok-raised.raised c.args.self.now c.step.new.self c.perform_all.new.self c.commit_all.new.self c.step-2.new.self
-    c.in_ok-claimed.ensures.steps c.in_ok-performed.ensures.goes c.in_ok-committed.ensures.goes c.in_ok-raised.ensures.steps
+returns-clause-goes g c = raises_go c.args.node c.in_ok-worked.worked c.in_ok-raised.raised c.args.self.now c.work_on.new.self c.step.new.self c.in_ok-worked.ensures.goes c.if-worked.false c.in_ok-raised.ensures.steps
 
 pub returns-clause-rest : goal.returns-clause-rest
-returns-clause-rest g c =
-    works_rest c.args.node c.in_ok-claimed.claimed c.in_ok-performed.performed c.in_ok-committed.committed c.in_ok-raised.raised c.args.self.now c.step.new.self c.perform_all.new.self c.commit_all.new.self c.step-2.new.self
-    c.in_ok-claimed.ensures.steps c.in_ok-performed.ensures.goes c.in_ok-performed.ensures.none c.in_ok-committed.ensures.goes c.in_ok-committed.ensures.none c.in_ok-raised.ensures.steps
+returns-clause-rest g c = raises_rest c.args.node c.in_ok-worked.worked c.in_ok-raised.raised c.work_on.new.self c.step.new.self c.in_ok-worked.ensures.rest c.if-worked.false c.in_ok-raised.ensures.steps

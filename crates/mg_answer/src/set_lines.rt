@@ -1,0 +1,66 @@
+//! The lines of sets, at a text's end.
+ghost use Rattle.std.specs.Prelude.{◌≡◌, ◌<◌, ◌^◌, ◌++◌, All, length, IfOk, OnOk};
+ghost use Rattle.std.specs.Option.{option_copied};
+ghost use Rattle.mg_answer.specs.Text.{name_of, output_names, packet_text, set_text};
+
+use mg_calc::Plan;
+use mg_feed::LineWriter;
+use mg_value::{InputSet, MgText, Packet};
+use std::alloc::{AllocError, Global};
+
+/// What writes the lines of each output.
+pub fn writers_of(alloc: Global, plan: &Plan) -> Result<Vec<LineWriter>, AllocError>
+    requires { All (λ s. s < length plan.now.streams) plan.now.outputs }
+    ensures names { IfOk result (λ writers. writers.items ≡ output_names plan.now) }
+    ensures few { IfOk result (λ writers. length writers.items < 2 ^ 32) }
+{
+    let mut writers = Vec::with_capacity(alloc, plan.outputs.len() as usize)?;
+    for number in plan.outputs.as_slice() {
+        writers.push(writer_of(alloc, plan, *number)?)?;
+    }
+    Ok(writers)
+}
+
+fn writer_of(alloc: Global, plan: &Plan, number: u32) -> Result<LineWriter, AllocError>
+    requires { number < length plan.now.streams }
+    ensures { IfOk result (λ writer. writer ≡ name_of plan.now number) }
+{
+    LineWriter::new(alloc, stream_name(plan, number))
+}
+
+/// The name of a stream.
+pub fn stream_name(plan: &Plan, number: u32) -> &MgText
+    requires { number < length plan.now.streams }
+    ensures { result.now ≡ name_of plan.now number }
+{
+    &plan.streams.as_slice()[number as usize].name
+}
+
+/// Puts the lines of a set at a text's end.
+pub fn push_set(
+    text: &mut Vec<u8>,
+    writers: &[LineWriter],
+    set: &InputSet,
+) -> Result<(), AllocError>
+    requires { length writers.now < 2 ^ 32 }
+    ensures { OnOk result (text.new.items ≡ text.old.items ++ set_text writers.now set.now) }
+{
+    for (port, writer) in writers.iter().enumerate() {
+        push_packet(text, writer, set.get(port as u32))?;
+    }
+    Ok(())
+}
+
+// Puts the line of a packet, where there is one.
+fn push_packet(
+    text: &mut Vec<u8>,
+    writer: &LineWriter,
+    packet: Option<&Packet>,
+) -> Result<(), AllocError>
+    ensures { OnOk result (text.new.items ≡ text.old.items ++ packet_text writer.now (option_copied packet.entry)) }
+{
+    match packet {
+        Some(packet) => writer.push_line(text, packet),
+        None => Ok(()),
+    }
+}

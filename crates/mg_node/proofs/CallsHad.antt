@@ -1,0 +1,250 @@
+-- The calls that a calculator which was handed in has had, once its cell has come to rest and is wound up: all that its node has.
+use Rattle.std.proofs.Common.{◌≡◌, ℕ, ℤ, ◌+◌, ◌<◌, Bool, true, false, not, List, [], ◌∷◌, ◌++◌, length, map, take, append-nil, Option, Some, None, option_map, is_some, Result, Ok, Err, slice_get, ◌⊎◌, inl, inr, refl, ap, ap₂, sym, subst, ◌∙◌, arith, if◌then◌else◌}
+use Rattle.std.specs.Prelude.{◌&&◌, ⊤}
+use Rattle.std.specs.List.{AllByRecursion, fold, filter_map}
+use Rattle.std.proofs.lemmas.List.{append_assoc, same_from_push}
+use Rattle.std.proofs.lemmas.List.Elements.{recursion_from_All}
+use Rattle.mg_time.specs.Time.{done}
+use Rattle.mg_value.specs.Payload.{Plain}
+use Rattle.mg_value.specs.Prefix.{StreamPrefix}
+use Rattle.mg_value.specs.Settled.{TimedSet}
+use Rattle.mg_calc.specs.declared.call.Call.{Call}
+use Rattle.mg_calc.specs.declared.call.Call.TheVariants.{Begun, Shown, Finished}
+use Rattle.mg_calc.specs.declared.cause.Cause.{Cause}
+use Rattle.mg_calc.specs.declared.law.Law.{Law}
+use Rattle.mg_calc.specs.declared.node_fault.NodeFault.{NodeFault}
+use Rattle.mg_calc.specs.declared.node_fault.Phase.{Phase}
+use Rattle.mg_calc.specs.declared.node_fault.Phase.TheVariants.{Open, Call as SourceCall, Process, Close}
+use Rattle.mg_calc.specs.declared.plan_node.PlanNode.{PlanNode}
+use Rattle.mg_calc.specs.Answer.{Answer}
+use Rattle.mg_calc.specs.Law.{opening, step, finish}
+use Rattle.mg_calc.specs.Laying.{after, laid_behind, all_raised}
+use Rattle.mg_calc.specs.Outcome.{Failure, Outcome, after_laying, after_call, unopened, opened, unless_failed, shown, after_close}
+use Rattle.mg_calc.specs.Shape.{IsOuter}
+use Rattle.mg_calc.specs.Equations.{Job, sides_of, inputs_of, outcome_of}
+use Rattle.mg_calc.specs.Meaning.{last_call, log_of}
+use Rattle.mg_calc.specs.Plan.{FlightFits}
+use Rattle.mg_calc.specs.Told.{CalculatorTold, with_call}
+use Rattle.mg_route.specs.HolderView.{HolderView, told_by}
+use Rattle.mg_node.specs.Views.{IntakeView, BenchView, EntryView, EngineView}
+use Rattle.mg_node.specs.Job.{LoggedJob, Solves, sets_of, stage, IsLast, first_log, log_after, calls_before}
+use Rattle.mg_node.specs.Lawful.{of_node, come_to, calls_by, IsIdle, IsEngineOf, LawfulEngine, LawfulIntake, Agree}
+use Rattle.mg_node.specs.Claims.{has_ended}
+use Rattle.mg_node.specs.WindingUp.{closes_despite, lacks_close, FinishesLast, WindsUp}
+use Rattle.mg_node.specs.Leaving.{calculators_in, handed_told, first_handed}
+use Rattle.mg_node.specs.Resting.{IsResting, HasCome}
+use Rattle.mg_node.specs.Had.{HadCalls}
+use Rattle.mg_node.proofs.Performing.{of_node as at_node}
+use Rattle.mg_node.proofs.OneCalculator.{one_handed, boxed_some, one_bench}
+use Rattle.mg_node.proofs.RestingCounts.{HasBecome, rests_become}
+use Rattle.mg_node.proofs.RestingEnds.{of_these}
+use Rattle.mg_node.proofs.Stages.{outer_stage, outer_last}
+use Rattle.mg_node.proofs.TaskLogs.{shown_calls}
+
+-- In which phase a node fails: at a set or in Open it is before Close, and once it is closed in Close.
+
+abbrev IsEarlier : Option Failure → Type 0
+IsEarlier None = ⊤
+IsEarlier (Some failure) = failure.phase ≡ Close → ⊥
+
+abbrev IsOfClose : Option Failure → Type 0
+IsOfClose None = ⊤
+IsOfClose (Some failure) = failure.phase ≡ Close
+
+laid_earlier : (phase : Phase) (o : Outcome) (r : Result (List (StreamPrefix Plain)) Cause) → (phase ≡ Close → ⊥) → IsEarlier o.fault → IsEarlier (after_laying phase o r).fault
+laid_earlier phase o (Ok outputs) other earlier = earlier
+laid_earlier phase o (Err cause) other earlier = other
+
+call_earlier : (offset : Option ℤ) (phase : Phase) (o : Outcome) (answer : Answer) → (phase ≡ Close → ⊥) → IsEarlier o.fault → IsEarlier (after_call offset phase o answer).fault
+call_earlier offset phase o (Err cause) other earlier = other
+call_earlier offset phase o (Ok given) other earlier = laid_earlier phase (record o { state = given.0 }) (laid_behind offset phase o.outputs given.1) other earlier
+
+unless_earlier : (fault : Option Failure) (o next : Outcome) → IsEarlier o.fault → IsEarlier next.fault → IsEarlier (unless_failed fault o next).fault
+unless_earlier (Some failure) o next earlier later = earlier
+unless_earlier None o next earlier later = later
+
+set_earlier : (law : Law) (offset : Option ℤ) (o : Outcome) (set : TimedSet Plain) → IsEarlier o.fault → IsEarlier (shown law offset o set).fault
+set_earlier law offset o set earlier =
+    let before : Outcome = record o { outputs = all_raised offset set.at o.outputs; taken = o.taken + 1 } in
+    let answer = step law o.state set.at set.set in
+    unless_earlier o.fault o (after_call offset (Process set.at) before answer) earlier (call_earlier offset (Process set.at) before answer (λ e. absurd cc) earlier)
+
+sets_earlier : (law : Law) (offset : Option ℤ) (o : Outcome) (sets : List (TimedSet Plain)) → IsEarlier o.fault → IsEarlier (fold (shown law offset) o sets).fault
+sets_earlier law offset o [] earlier = earlier
+sets_earlier law offset o (set ∷ sets) earlier = sets_earlier law offset (shown law offset o set) sets (set_earlier law offset o set earlier)
+
+stage_earlier : (job : Job) (streams : List (StreamPrefix Plain)) (node : PlanNode) (n : ℕ) → IsOuter node.law → IsEarlier (stage job streams node n).fault
+stage_earlier job streams node n is =
+    let offset = node.shape.offset in
+    let sides = sides_of job node in
+    let begun = opened node.law offset (length node.outputs) sides in
+    subst (λ (o : Outcome). IsEarlier o.fault) (sym (outer_stage node.law job streams node n is))
+    (sets_earlier node.law offset begun (take n (sets_of streams node)) (call_earlier offset Open (unopened (length node.outputs)) (opening node.law sides) (λ e. absurd cc) tt))
+
+close_fails : (o : Outcome) (r : Result (List (StreamPrefix Plain)) Cause) → o.fault ≡ None → IsOfClose (after_close o r).fault
+close_fails o (Ok outputs) good = subst IsOfClose (sym good) tt
+close_fails o (Err cause) good = refl
+
+last_of_close : (job : Job) (streams : List (StreamPrefix Plain)) (node : PlanNode) (n : ℕ) → IsOuter node.law → IsLast job streams node n → IsOfClose (outcome_of job streams node).fault
+last_of_close job streams node n is last =
+    let offset = node.shape.offset in
+    let before = stage job streams node n in
+    let up : Outcome = record before { outputs = all_raised offset done before.outputs } in
+    subst (λ (o : Outcome). IsOfClose o.fault) (sym (outer_last job streams node n is last))
+    (close_fails up (after (finish node.law up.state) (λ given. laid_behind offset Close up.outputs given.1)) last.good)
+
+-- So Close is had once, or by winding up, but where Open fails.
+
+abbrev fault_with : ℕ → Failure → NodeFault
+fault_with number f = record { node = number; phase = f.phase; cause = f.cause }
+
+same_earlier : (number : ℕ) (f g : Option Failure) → option_map (fault_with number) f ≡ option_map (fault_with number) g → IsEarlier f → IsEarlier g
+same_earlier number f None e earlier = tt
+same_earlier number None (Some g) e earlier = absurd cc
+same_earlier number (Some f) (Some g) e earlier =
+    let both : Some f.phase ≡ Some g.phase = ap (option_map (λ (x : NodeFault). x.phase)) e in
+    λ close. earlier (let same : f.phase ≡ g.phase = cc in same ∙ close)
+
+abbrev pub finish_if : Bool → List Call
+finish_if b = if b then Finished ∷ [] else []
+
+at_phase : (closed : Bool) (phase : Phase) (number : ℕ) (cause : Cause) → (closed ≡ true → phase ≡ Close) → (closed ≡ false → phase ≡ Close → ⊥)
+    → finish_if closed ++ finish_if (not closed && closes_despite (Some (record { node = number; phase = phase; cause = cause }))) ≡ last_call (Some (record { phase = phase; cause = cause }))
+at_phase true Open number cause close earlier = absurd (let e = close refl in cc)
+at_phase true (SourceCall k) number cause close earlier = refl
+at_phase true (Process at) number cause close earlier = refl
+at_phase true Close number cause close earlier = refl
+at_phase false Open number cause close earlier = refl
+at_phase false (SourceCall k) number cause close earlier = refl
+at_phase false (Process at) number cause close earlier = refl
+at_phase false Close number cause close earlier = absurd (earlier refl refl)
+
+close_had : (closed : Bool) (number : ℕ) (f : Option Failure) → (closed ≡ true → IsOfClose f) → (closed ≡ false → IsEarlier f)
+    → finish_if closed ++ finish_if (not closed && closes_despite (option_map (fault_with number) f)) ≡ last_call f
+close_had true number None close earlier = refl
+close_had false number None close earlier = refl
+close_had closed number (Some f) close earlier = at_phase closed f.phase number f.cause close earlier
+
+-- The one bench of such a node is idle at rest.
+
+pub record HasOneBench (job : LoggedJob) (streams : List (StreamPrefix Plain)) (node : PlanNode) (engine : EngineView) : Type 0 where
+  pub bench : BenchView
+  pub idle : engine.idle ≡ bench ∷ []
+  pub window : engine.window ≡ []
+  pub is : IsIdle job streams node engine.laid engine.closed bench
+
+pub boxed_one : (job : LoggedJob) (number : ℕ) (engine : EngineView) (h : IsEngineOf job number engine) → is_some h.node.box_number ≡ true → length engine.idle + length engine.window ≡ 1
+boxed_one job number engine h boxed =
+    let flight : FlightFits h.node = at_node FlightFits job.job.plan.nodes number h.node h.solves.is_job.plan.flights h.there in
+    h.benches ∙ h.set_up.in_flight ∙ flight.boxed (boxed_some h.node.box_number boxed)
+
+pub bench_is : (job : LoggedJob) (number : ℕ) (engine : EngineView) (h : IsEngineOf job number engine) (bench : BenchView) → engine.idle ≡ bench ∷ [] → engine.window ≡ [] → HasOneBench job h.streams h.node engine
+bench_is job number engine h bench idle window =
+    let P : BenchView → Type 0 = IsIdle job h.streams h.node engine.laid engine.closed in
+    let all : AllByRecursion P (bench ∷ []) = subst (AllByRecursion P) idle (recursion_from_All P engine.idle h.idle) in
+    record { bench = bench; idle = idle; window = window; is = all.0 }
+
+pub one_idle : (job : LoggedJob) (number : ℕ) (engine : EngineView) (h : IsEngineOf job number engine) → is_some h.node.box_number ≡ true → (has_ended engine ≡ true) ⊎ (engine.window ≡ []) → HasOneBench job h.streams h.node engine
+one_idle job number engine h boxed rests = elim (one_bench engine.idle engine.window (boxed_one job number engine h boxed)) [
+  | inl b ↦ bench_is job number engine h b.0 b.1 b.2
+  | inr e ↦ elim rests [
+    | inl ended ↦ absurd (let some = h.ended ended in let none = ap length e.1 in omega (arith, some, none))
+    | inr empty ↦ absurd (let clash : [] ≡ e.0 ∷ [] = sym empty ∙ e.2 in cc)
+  ]
+]
+
+-- The engine is wound up.
+
+pub record EndsAs (bench : BenchView) (lacks : Bool) (now : EngineView) : Type 0 where
+  pub told : HolderView
+  pub found : first_handed now ≡ Some (told_by told)
+  pub log : told.log ≡ option_map (λ calls. calls ++ finish_if lacks) bench.told.log
+  pub state : told.state ≡ bench.told.state
+  pub law : told.law ≡ bench.told.law
+  pub shape : told.shape ≡ bench.told.shape
+
+pub first_of : (engine : EngineView) (bench : BenchView) → engine.idle ≡ bench ∷ [] → engine.window ≡ [] → bench.told.handed ≡ true → first_handed engine ≡ Some (told_by bench.told)
+first_of engine bench idle window handed =
+    let only : calculators_in engine ≡ bench.told ∷ [] = ap₂ (λ (bs : List BenchView) (es : List EntryView). calculators_in (record engine { idle = bs; window = es })) idle window in
+    ap (λ (hs : List HolderView). slice_get (filter_map handed_told hs) 0) only ∙ ap (λ (ts : List CalculatorTold). slice_get ts 0) (one_handed bench.told handed)
+
+pub none_more : (log : Option (List Call)) → log ≡ option_map (λ calls. calls ++ []) log
+none_more None = refl
+none_more (Some calls) = ap Some (sym (append-nil calls))
+
+pub ends_as : (engine now : EngineView) (bench : BenchView) (lacks : Bool) → lacks_close engine ≡ lacks → engine.idle ≡ bench ∷ [] → engine.window ≡ [] → bench.told.handed ≡ true → WindsUp engine now → EndsAs bench lacks now
+ends_as engine now bench false lacks idle window handed winds = record {
+  told = bench.told;
+  found = ap first_handed (winds.had_close lacks) ∙ first_of engine bench idle window handed;
+  log = none_more bench.told.log;
+  state = refl;
+  law = refl;
+  shape = refl;
+}
+ends_as engine now bench true lacks idle window handed winds =
+    let some : 0 < length engine.idle = (let one = ap length idle in omega (arith, one)) in
+    let f : FinishesLast engine now = winds.finishes lacks some in
+    let cut = same_from_push f.others [] f.bench bench (sym f.idle ∙ idle) in
+    let last : f.finished.told.handed ≡ true = f.is_finished.same_handed ∙ ap (λ (b : BenchView). b.told.handed) cut.1 ∙ handed in
+    let is : now ≡ record engine { idle = f.finished ∷ [] } = f.is ∙ ap (λ (bs : List BenchView). (let e : EngineView = record engine { idle = bs ++ f.finished ∷ [] } in e)) cut.0 in
+    record {
+      told = f.finished.told;
+      found = ap first_handed is ∙ first_of (record engine { idle = f.finished ∷ [] }) f.finished refl window last;
+      log = f.is_finished.log ∙ ap (λ (b : BenchView). with_call b.told.log Finished) cut.1;
+      state = f.is_finished.state ∙ ap (λ (b : BenchView). b.told.state) cut.1;
+      law = f.is_finished.law ∙ ap (λ (b : BenchView). b.told.law) cut.1;
+      shape = f.is_finished.shape ∙ ap (λ (b : BenchView). b.told.shape) cut.1;
+    }
+
+-- All calls are had.
+
+pub more_calls : (log : Option (List Call)) (xs ys : List Call) → option_map (λ calls. calls ++ ys) (option_map (λ calls. calls ++ xs) log) ≡ option_map (λ calls. calls ++ (xs ++ ys)) log
+more_calls None xs ys = refl
+more_calls (Some calls) xs ys = ap Some (append_assoc calls xs ys)
+
+abbrev Holds : LoggedJob → List (StreamPrefix Plain) → PlanNode → EngineView → Type 0
+Holds job solution node now = (told : CalculatorTold) × (first_handed now ≡ Some told) × HadCalls job solution node told
+
+had_by : (job : LoggedJob) (number : ℕ) (engine now : EngineView) (h : IsEngineOf job number engine) → is_some h.node.box_number ≡ true → IsOuter h.node.law → (has_ended engine ≡ true) ⊎ (engine.window ≡ [])
+    → HasBecome job h.streams number engine h.node → WindsUp engine now → Holds job h.streams h.node now
+had_by job number engine now h boxed outer rests become winds =
+    let node = h.node in
+    let streams = h.streams in
+    let laid = engine.laid in
+    let closed = engine.closed in
+    let fault = (outcome_of job.job streams node).fault in
+    let lacks = not closed && closes_despite engine.fault in
+    let one = one_idle job number engine h boxed rests in
+    let end = ends_as engine now one.bench lacks (ap (λ (b : Bool). b && not closed && closes_despite engine.fault) h.begun) one.idle one.window (one.is.fits.same_handed ∙ boxed) winds in
+    let early : closed ≡ false → IsEarlier fault = λ goes.
+    same_earlier number (come_to job streams node laid closed).fault fault (sym h.fault ∙ become.fault) (subst (λ (b : Bool). IsEarlier (come_to job streams node laid b).fault) (sym goes) (stage_earlier job.job streams node laid outer)) in
+    let last : finish_if closed ++ finish_if lacks ≡ last_call fault =
+    ap (λ (x : Option NodeFault). finish_if closed ++ finish_if (not closed && closes_despite x)) become.fault
+    ∙ close_had closed number fault (λ is. last_of_close job.job streams node laid outer (h.closed is)) early in
+    let before : calls_before streams node laid ≡ Begun ∷ map (λ e. Shown e.at e.set) (take (outcome_of job.job streams node).taken (sets_of streams node)) =
+    shown_calls node.law streams node laid (λ e. subst IsOuter e outer) ∙ ap (λ (n : ℕ). Begun ∷ map (λ (e : TimedSet Plain). Shown e.at e.set) (take n (sets_of streams node))) become.count in
+    let all : calls_by streams node laid closed ++ finish_if lacks ≡ log_of job.job streams node =
+    append_assoc (calls_before streams node laid) (finish_if closed) (finish_if lacks) ∙ ap₂ (λ (xs ys : List Call). xs ++ ys) before last in (
+      told_by end.told,
+      end.found,
+      record {
+        state = end.state ∙ one.is.state ∙ become.state;
+        log = end.log ∙ ap (option_map (λ calls. calls ++ finish_if lacks)) one.is.log ∙ more_calls (first_log job node) (calls_by streams node laid closed) (finish_if lacks) ∙ ap (log_after job node) all;
+        fits = record { same_law = end.law ∙ one.is.fits.same_law; same_shape = end.shape ∙ one.is.fits.same_shape };
+      },
+    )
+
+resting_one : (engine : EngineView) (intake : IntakeView) → IsResting engine intake → (has_ended engine ≡ true) ⊎ (engine.window ≡ [])
+resting_one engine intake rests = elim rests.claims [
+  | inl ended ↦ inl ended
+  | inr goes ↦ inr goes.0
+]
+
+pub had_calls : (job : LoggedJob) (number : ℕ) (node : PlanNode) (engine engine_now : EngineView) (intake : IntakeView) (solution : List (StreamPrefix Plain)) → Solves job solution → slice_get job.job.plan.nodes number ≡ Some node → is_some node.box_number ≡ true → IsOuter node.law
+    → LawfulEngine job (of_node number) engine → LawfulIntake job number intake → Agree engine intake → IsResting engine intake → HasCome intake (inputs_of solution node) → WindsUp engine engine_now
+    → (told : CalculatorTold) × (first_handed engine_now ≡ Some told) × HadCalls job solution node told
+unfolding LawfulEngine
+had_calls job number node engine engine_now intake solution solves there boxed outer h i agree rests came winds =
+    let become = rests_become job number node engine intake solution solves there h i agree rests came in
+    of_these (λ ss m. is_some m.box_number ≡ true → IsOuter m.law → HasBecome job ss number engine m → Holds job ss m engine_now) job number node engine solution h solves there
+    (λ b o become_too. had_by job number engine engine_now h b o (resting_one engine intake rests) become_too winds) boxed outer become

@@ -1,0 +1,14 @@
+use Rattle.mg_node.proofs.FrontsHad.{engine_front, unbegun_front, work_out_front, wound_front}
+use Rattle.mg_node.proofs.laws.what_is_under_way_had_a_front.Goals as goal
+
+pub returns-clause-engine : goal.returns-clause-engine
+returns-clause-engine c = engine_front
+
+pub returns-clause-unbegun : goal.returns-clause-unbegun
+returns-clause-unbegun c = unbegun_front
+
+pub returns-clause-work : goal.returns-clause-work
+returns-clause-work c = work_out_front
+
+pub returns-clause-wound : goal.returns-clause-wound
+returns-clause-wound c = wound_front

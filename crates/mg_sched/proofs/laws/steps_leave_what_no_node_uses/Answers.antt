@@ -1,0 +1,14 @@
+use Rattle.mg_sched.proofs.Becoming.{becomes_plan, becomes_spare, becomes_begun, becomes_taken}
+use Rattle.mg_sched.proofs.laws.steps_leave_what_no_node_uses.Goals as goal
+
+pub returns-clause-plan : goal.returns-clause-plan
+returns-clause-plan c = becomes_plan
+
+pub returns-clause-spare : goal.returns-clause-spare
+returns-clause-spare c = becomes_spare
+
+pub returns-clause-begun : goal.returns-clause-begun
+returns-clause-begun c = becomes_begun
+
+pub returns-clause-taken : goal.returns-clause-taken
+returns-clause-taken c = becomes_taken

@@ -1,0 +1,49 @@
+use Rattle.mg_sched.proofs.Becoming.{becomes_runs, becomes_some, becomes_trans}
+use Rattle.mg_sched.proofs.Sweeping.{still_there, works_go, works_rest}
+use Rattle.mg_sched.proofs.net.Net.work_on.Goals as goal
+
+pub perform_all-requires-clause-running : goal.perform_all-requires-clause-running
+perform_all-requires-clause-running g c = becomes_runs c.args.self.now c.step.new.self c.requires.running c.in_ok-claimed.ensures.becomes
+
+pub perform_all-requires-clause-stands : goal.perform_all-requires-clause-stands
+perform_all-requires-clause-stands g c = becomes_some c.args.self.now c.step.new.self c.requires.running c.requires.stands c.in_ok-claimed.ensures.becomes
+
+pub perform_all-requires-clause-there : goal.perform_all-requires-clause-there
+perform_all-requires-clause-there g c = still_there c.args.node c.args.self.now c.step.new.self c.in_ok-claimed.ensures.becomes c.requires.there
+
+pub returns-in_err-performed-clause-becomes : goal.returns-in_err-performed-clause-becomes
+returns-in_err-performed-clause-becomes g c = becomes_trans c.args.self.now c.step.new.self c.perform_all.new.self c.in_ok-claimed.ensures.becomes c.in_err-performed.ensures.becomes
+
+pub commit_all-requires-clause-running : goal.commit_all-requires-clause-running
+commit_all-requires-clause-running g c =
+    becomes_runs c.args.self.now c.perform_all.new.self c.requires.running (becomes_trans c.args.self.now c.step.new.self c.perform_all.new.self c.in_ok-claimed.ensures.becomes c.in_ok-performed.ensures.becomes)
+
+pub commit_all-requires-clause-stands : goal.commit_all-requires-clause-stands
+commit_all-requires-clause-stands g c =
+    becomes_some c.args.self.now c.perform_all.new.self c.requires.running c.requires.stands
+    (becomes_trans c.args.self.now c.step.new.self c.perform_all.new.self c.in_ok-claimed.ensures.becomes c.in_ok-performed.ensures.becomes)
+
+pub commit_all-requires-clause-there : goal.commit_all-requires-clause-there
+commit_all-requires-clause-there g c =
+    still_there c.args.node c.args.self.now c.perform_all.new.self
+    (becomes_trans c.args.self.now c.step.new.self c.perform_all.new.self c.in_ok-claimed.ensures.becomes c.in_ok-performed.ensures.becomes) c.requires.there
+
+pub returns-in_err-committed-clause-becomes : goal.returns-in_err-committed-clause-becomes
+returns-in_err-committed-clause-becomes g c =
+    becomes_trans c.args.self.now c.perform_all.new.self c.commit_all.new.self
+    (becomes_trans c.args.self.now c.step.new.self c.perform_all.new.self c.in_ok-claimed.ensures.becomes c.in_ok-performed.ensures.becomes) c.in_err-committed.ensures.becomes
+
+pub returns-clause-becomes : goal.returns-clause-becomes
+returns-clause-becomes g c =
+    becomes_trans c.args.self.now c.perform_all.new.self c.commit_all.new.self
+    (becomes_trans c.args.self.now c.step.new.self c.perform_all.new.self c.in_ok-claimed.ensures.becomes c.in_ok-performed.ensures.becomes) c.in_ok-committed.ensures.becomes
+
+pub returns-clause-goes : goal.returns-clause-goes
+returns-clause-goes g c =
+    works_go c.args.node c.in_ok-claimed.claimed c.in_ok-performed.performed c.in_ok-committed.committed c.args.self.now c.step.new.self c.perform_all.new.self c.commit_all.new.self
+    c.in_ok-claimed.ensures.steps c.in_ok-performed.ensures.goes c.in_ok-committed.ensures.goes
+
+pub returns-clause-rest : goal.returns-clause-rest
+returns-clause-rest g c =
+    works_rest c.args.node c.in_ok-claimed.claimed c.in_ok-performed.performed c.in_ok-committed.committed c.args.self.now c.step.new.self c.perform_all.new.self c.commit_all.new.self
+    c.in_ok-claimed.ensures.steps c.in_ok-performed.ensures.goes c.in_ok-performed.ensures.none c.in_ok-committed.ensures.goes c.in_ok-committed.ensures.none
