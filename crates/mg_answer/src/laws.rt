@@ -1,5 +1,5 @@
 //! Laws of what a run answers: each function does nothing, and its contract is the law.
-ghost use Rattle.std.specs.Prelude.{◌≡◌, ◌≢◌, ◌⊎◌, ℕ, Bool, false, List, [], ◌∷◌, ◌++◌};
+ghost use Rattle.std.specs.Prelude.{◌≡◌, ◌≢◌, ◌⊎◌, ℕ, Bool, false, List, [], ◌∷◌, ◌++◌, None};
 ghost use Rattle.mg_edge.specs.Edge.{SourceTold, SinkTold};
 ghost use Rattle.mg_edge.specs.Runs.{Gave};
 ghost use Rattle.mg_value.specs.Payload.{Plain};
@@ -7,16 +7,17 @@ ghost use Rattle.mg_value.specs.Prefix.{StreamPrefix};
 ghost use Rattle.mg_calc.specs.declared.plan.Plan.{Plan};
 ghost use Rattle.mg_calc.specs.Plan.{IsValid, InputsFit};
 ghost use Rattle.mg_calc.specs.Equations.{IsSolution};
+ghost use Rattle.mg_calc.specs.Meaning.{faults, stalled};
 ghost use Rattle.mg_feed.specs.declared.feed_end.FeedEnd.{FeedEnd};
 ghost use Rattle.mg_feed.specs.declared.feed_end.FeedEnd.TheVariants as ends;
 ghost use Rattle.mg_feed.specs.Graph.{GraphInputs, inputs_of};
 ghost use Rattle.mg_feed.specs.Lines.{all_lines};
-ghost use Rattle.mg_feed.specs.Accepted.{given_by, accepted};
+ghost use Rattle.mg_feed.specs.Accepted.{given_by, accepted, first_refused_after};
 ghost use Rattle.mg_feed.specs.Stands.{AllGood};
 ghost use Rattle.mg_feed.specs.Ran.{EndCame, MetEnd, FailedBy};
 ghost use Rattle.mg_feed.specs.Batch.{EndsAs};
 ghost use Rattle.mg_answer.specs.Text.{output_of};
-ghost use Rattle.mg_answer.specs.Answer.{Read, Answer, inputs_by, job_of, IsAnswer, AnswersEnded, AnswersCut};
+ghost use Rattle.mg_answer.specs.Answer.{Read, Answer, ended_input, inputs_by, job_of, IsAnswer, AnswersEnded, AnswersCut};
 ghost use Rattle.mg_answer.specs.Devices.{Device, device, RunDevices, HasRisen, NoneFailed, IsFront, TookFront};
 ghost use Rattle.mg_answer.specs.Put.{TextView, nothing_put, HasPut};
 ghost use Rattle.mg_answer.specs.Wrote.{Wrote};
@@ -35,6 +36,14 @@ pub fn there_is_one_answer()
     ensures ended { (plan : Plan) (bytes : List ℕ) → IsValid plan → (answer : Answer) × AnswersEnded plan bytes answer }
     ensures cut { (plan : Plan) (bytes : List ℕ) → IsValid plan → (answer : Answer) × AnswersCut plan bytes answer }
     ensures one { (plan : Plan) (read : Read) (answer other : Answer) → IsAnswer plan read answer → IsAnswer plan read other → answer ≡ other }
+{}
+
+/// Where each line is good, no node fails and no stream stalls, the answer over an input that ends well is a good one: all of the output
+/// text, and no note.
+pub fn what_has_no_fault_is_good()
+    ensures { (plan : Plan) (bytes : List ℕ) (streams : List (StreamPrefix Plain)) (answer : Answer) → IsSolution (job_of plan (ended_input (inputs_of plan) bytes)) streams
+        → first_refused_after (inputs_of plan) [] (all_lines bytes) ≡ None → faults (job_of plan (ended_input (inputs_of plan) bytes)) streams ≡ [] → stalled streams ≡ []
+        → AnswersEnded plan bytes answer → answer ≡ record { output = output_of plan streams; notes = []; status = Good } }
 {}
 
 /// Before anything is put of a text, all of an empty one was. And what is put of a text so far is taken in front.

@@ -66,14 +66,14 @@ found_in node None is = absurd is
 found_in node (Some told) is = (told, refl, is)
 
 -- the one that was handed in for it
-box_at : (plan : Plan) (boxes : List CalculatorTold) (number place : ℕ) (node : PlanNode) → BoxesFit plan boxes → slice_get plan.nodes number ≡ Some node → node.box_number ≡ Some place
+pub box_at : (plan : Plan) (boxes : List CalculatorTold) (number place : ℕ) (node : PlanNode) → BoxesFit plan boxes → slice_get plan.nodes number ≡ Some node → node.box_number ≡ Some place
     → (told : CalculatorTold) × (slice_get boxes place ≡ Some told) × FitsNew node told
 box_at plan boxes number place node fit there has =
     found_in node (slice_get boxes place)
     (subst (λ (o : Option ℕ). IfSome o (λ n. IsSomeAnd (slice_get boxes n) (FitsNew node))) has (all_at (FitsAt boxes) plan.nodes number node there fit))
 
 -- its log was that of the job
-log_was : (job : LoggedJob) (boxes : List CalculatorTold) (place : ℕ) (node : PlanNode) (told : CalculatorTold) → job.logs ≡ logs_of boxes → node.box_number ≡ Some place → slice_get boxes place ≡ Some told
+pub log_was : (job : LoggedJob) (boxes : List CalculatorTold) (place : ℕ) (node : PlanNode) (told : CalculatorTold) → job.logs ≡ logs_of boxes → node.box_number ≡ Some place → slice_get boxes place ≡ Some told
     → first_log job node ≡ told.log
 log_was job boxes place node told logs has there =
     ap (λ (o : Option ℕ). option_and_then (λ number. unwrap_or (slice_get job.logs number) None) o) has

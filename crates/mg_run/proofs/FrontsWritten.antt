@@ -55,7 +55,7 @@ none_left true first source bytes rest met was is e =
 none_left false first source bytes rest met was is e = absurd (let no : false ≡ true = e in cc)
 
 -- the lines so far stand in front of those that are accepted of the whole input
-lines_in_front : (start : Start) (source : SourceTold) (sink : SinkTold) (fed : Fed) (net : NetView) (text : TextView) (bytes : List ℕ) (u : IsUnderWay start More source sink fed net text)
+pub lines_in_front : (start : Start) (source : SourceTold) (sink : SinkTold) (fed : Fed) (net : NetView) (text : TextView) (bytes : List ℕ) (u : IsUnderWay start More source sink fed net text)
     → start.source.left ≡ Some bytes → (more : List (List ℕ)) × (accepted (inputs_of start.plan) (all_lines bytes) ≡ u.lines ++ more)
 lines_in_front start source sink fed net text bytes u was =
     let gave : Gave (Some bytes) source.left u.past = subst (λ (left : Option (List ℕ)). Gave left source.left u.past) was u.is_read.gave in

@@ -22,3 +22,4 @@ pub mod FrontsWritten
 pub mod Driving
 pub mod BoxesBack
 pub mod RunsEnd
+pub mod FrontsBack

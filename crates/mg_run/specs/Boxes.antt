@@ -1,14 +1,16 @@
 -- The calculators that are handed in, and what a run leaves of them.
-use Rattle.std.specs.Prelude.{◌≡◌, ◌≢◌, ℕ, List, ◌++◌, map, length, All, Bool, [], None, Some, option_map, codes, pos, false, slice_get, if◌then◌else◌}
+use Rattle.std.specs.Prelude.{◌≡◌, ◌≢◌, ◌⊎◌, ℕ, List, ◌∷◌, ◌++◌, map, take, length, All, Bool, [], None, Some, IfSome, option_map, codes, pos, false, slice_get, if◌then◌else◌}
 use Rattle.mg_value.specs.Payload.{Plain}
 use Rattle.mg_value.specs.Prefix.{StreamPrefix}
 use Rattle.mg_edge.specs.Edge.{SourceTold}
+use Rattle.mg_calc.specs.declared.call.Call.{Call}
+use Rattle.mg_calc.specs.declared.call.Call.TheVariants.{Begun, Shown, Finished}
 use Rattle.mg_calc.specs.declared.plan.Plan.{Plan}
 use Rattle.mg_calc.specs.declared.plan_node.PlanNode.{PlanNode}
 use Rattle.mg_calc.specs.Equations.{Job, IsSolution, outcome_of}
-use Rattle.mg_calc.specs.Meaning.{log_of}
+use Rattle.mg_calc.specs.Meaning.{shown_sets, log_of}
 use Rattle.mg_feed.specs.Graph.{inputs_of}
-use Rattle.mg_answer.specs.Answer.{Read, job_of}
+use Rattle.mg_answer.specs.Answer.{Read, ended_input, job_of}
 use Rattle.mg_answer.specs.Devices.{Device}
 use Rattle.mg_answer.specs.Ran.{CameTo}
 use Rattle.mg_answer.specs.declared.run_status.RunStatus.{RunStatus}
@@ -48,6 +50,12 @@ MayBeHandedIn outer = IsOuter outer.law
 
 -- What a run leaves --
 
+-- the first calls of a node's calculator, a number of them: Open, and a Process for each set that the node is shown; and perhaps Close
+-- behind them
+abbrev pub first_calls : Job → List (StreamPrefix Plain) → PlanNode → ℕ → Bool → List Call
+first_calls job streams node count close =
+    take count (Begun ∷ map (λ e. Shown e.at e.set) (shown_sets job streams node)) ++ (if close then Finished ∷ [] else [])
+
 -- A calculator had the calls that its node has in a solution: its log, where it tells one, grew by just these, in their order; and it
 -- keeps what the node comes to.
 pub record HadItsCalls (job : Job) (streams : List (StreamPrefix Plain)) (node : PlanNode) (before now : CalculatorTold) : Type 0 where
@@ -73,8 +81,36 @@ pub record HadCalls (plan : Plan) (input : Device SourceTold) (boxes : Device (L
   pub each : (number place : ℕ) (node : PlanNode) → slice_get plan.nodes number ≡ Some node → node.box_number ≡ Some place
       → IsAt place (HadItsCalls (job_of plan read) streams node) boxes
 
--- All come back in their order. One that no node uses had no call, and, unless memory ran out, the others had all of theirs.
+-- A calculator had a front of the calls that its node has in a solution: the first of them, a number of them, and perhaps Close behind
+-- them. Its log, where it tells one, grew by just these.
+pub record HadAFront (job : Job) (streams : List (StreamPrefix Plain)) (node : PlanNode) (before now : CalculatorTold) : Type 0 where
+  pub count : ℕ
+  pub close : Bool
+  pub log : now.log ≡ option_map (λ calls. calls ++ first_calls job streams node count close) before.log
+  pub law : now.law ≡ before.law
+  pub shape : now.shape ≡ before.shape
+
+-- Each calculator that a node uses had such a front, in the solution over what an input came to.
+pub record HadFronts (plan : Plan) (read : Read) (boxes : Device (List CalculatorTold)) : Type 0 where
+  pub streams : List (StreamPrefix Plain)
+  pub solution : IsSolution (job_of plan read) streams
+  pub each : (number place : ℕ) (node : PlanNode) → slice_get plan.nodes number ≡ Some node → node.box_number ≡ Some place
+      → IsAt place (HadAFront (job_of plan read) streams node) boxes
+
+-- The input was read, and so it is over what it came to.
+pub record HadFrontsOfRead (plan : Plan) (input : Device SourceTold) (boxes : Device (List CalculatorTold)) : Type 0 where
+  pub read : Read
+  pub came : CameTo (inputs_of plan) input read
+  pub fronts : HadFronts plan read boxes
+
+-- Memory ran out: so it is over what the input came to; or, where the input tells its bytes, over an input that ends after them.
+abbrev pub HadSome : Plan → Device SourceTold → Device (List CalculatorTold) → Type 0
+HadSome plan input boxes = HadFrontsOfRead plan input boxes ⊎ IfSome input.before.left (λ bytes. HadFronts plan (ended_input (inputs_of plan) bytes) boxes)
+
+-- All come back in their order. One that no node uses had no call. The others had all of theirs, and where memory ran out a front of
+-- them, perhaps with Close behind it.
 pub record RunLeaves (plan : Plan) (status : RunStatus) (input : Device SourceTold) (boxes : Device (List CalculatorTold)) : Type 0 where
   pub count : length boxes.now ≡ length boxes.before
   pub unused : (place : ℕ) → All (λ node. ¬ (node.box_number ≡ Some place)) plan.nodes → slice_get boxes.now place ≡ slice_get boxes.before place
   pub used : status ≢ OutOfMemory → HadCalls plan input boxes
+  pub short : status ≡ OutOfMemory → HadSome plan input boxes

@@ -10,10 +10,13 @@ ghost use Rattle.mg_answer.specs.Put.{TextView};
 ghost use Rattle.mg_answer.specs.Answer.{is_ended as ended_well};
 ghost use Rattle.mg_answer.specs.Devices.{Device, device, run_devices};
 ghost use Rattle.mg_answer.specs.Ran.{RanShortOf};
+ghost use Rattle.mg_calc.specs.Told.{CalculatorTold};
 ghost use Rattle.mg_node.specs.Job.{LoggedJob, Solves};
 ghost use Rattle.mg_sched.specs.StandsFor.{StandsFor, StandsForSome, IsRunning};
+ghost use Rattle.mg_sched.specs.GivesBack.{given_back};
 ghost use Rattle.mg_sched.specs.Taking.{taken_out, settled_outputs, HasAllOutputs, LeavesNodes};
-ghost use Rattle.mg_run.specs.Code.Running.{has_ended as the_end, IsMore, HadMemory, IsRead, HasBatch, Start, IsPut, PutFront, IsUnderWay, IsSomeRun, IsSomeMore, HasRested, IsOver, Keeps, StandsWith};
+ghost use Rattle.mg_run.specs.Boxes.{HadSome};
+ghost use Rattle.mg_run.specs.Code.Running.{has_ended as the_end, IsMore, HadMemory, IsRead, HasBatch, Start, HandedIn, IsPut, PutFront, IsUnderWay, IsSomeRun, IsSomeMore, HasRested, IsOver, Keeps, StandsWith};
 
 use mg_answer::OutputText;
 use mg_calc::{Calculator, Inputs};
@@ -113,6 +116,7 @@ fn next_batch<C: Calculator, S: Source>(
     ensures few { OnOk result ((fed feed.new).view.lines ≤ most_lines) }
     ensures stands { (start : Start) (sink : SinkTold) (text : TextView)
         → IsUnderWay start BatchEnd.More (S.told input.old) sink (fed feed.old) net.old text → StandsWith start.logs net.new }
+    ensures same { OnErr result ((job : LoggedJob) → StandsFor job net.old → StandsFor job net.new) }
     ensures running { IsRunning net.old → IsRunning net.new }
     ensures keeps { Keeps net.old net.new }
 {
@@ -193,6 +197,9 @@ pub fn drive<G: Gate, C: Calculator, S: Source, K: Sink>(
     ensures short { OnErr result ((start : Start) (notes : Device SinkTold)
         → IsUnderWay start first (S.told input.old) (K.told output.old) (fed ends.old.feed) net.old ends.old.text
         → RanShortOf start.plan (run_devices (device start.source (S.told input.new)) (device start.sink (K.told output.new)) notes)) }
+    ensures fronts { OnErr result ((start : Start) (boxes : List CalculatorTold) → HandedIn start boxes
+        → IsUnderWay start first (S.told input.old) (K.told output.old) (fed ends.old.feed) net.old ends.old.text
+        → HadSome start.plan (device start.source (S.told input.new)) (device boxes (given_back net.new))) }
     ensures stands { (start : Start) → IsUnderWay start first (S.told input.old) (K.told output.old) (fed ends.old.feed) net.old ends.old.text
         → StandsWith start.logs net.new }
     ensures keeps { Keeps net.old net.new }

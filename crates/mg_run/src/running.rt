@@ -2,6 +2,7 @@
 ghost use Rattle.std.specs.Prelude.{◌≡◌, ◌<◌, ◌^◌, ◌⊎◌, [], map, length, List, ℕ, IfOk, OnOk, OnErr, MatchResult};
 ghost use Rattle.mg_edge.specs.Edge.{SourceTold, SinkTold};
 ghost use Rattle.mg_calc.specs.Plan.{IsValid};
+ghost use Rattle.mg_calc.specs.Told.{CalculatorTold};
 ghost use Rattle.mg_node.specs.Job.{LoggedJob};
 ghost use Rattle.mg_feed.specs.FeedSeen.{fed};
 ghost use Rattle.mg_feed.specs.Graph.{inputs_of};
@@ -13,8 +14,9 @@ ghost use Rattle.mg_answer.specs.Ran.{RanOn, RanShortOf};
 ghost use Rattle.mg_sched.specs.StandsFor.{StandsFor};
 ghost use Rattle.mg_sched.specs.Made.{BoxesFit};
 ghost use Rattle.mg_sched.specs.WindsUp.{WindsUpNet};
-ghost use Rattle.mg_run.specs.Boxes.{HadCalls, RunLeaves};
-ghost use Rattle.mg_run.specs.Code.Running.{IsRead, HasFirst, Start, IsPut, PutFront, IsUnderWay, IsSomeRun, HasRested, SomeRested, Keeps, StoodWith, HadAll, CameBack};
+ghost use Rattle.mg_sched.specs.GivesBack.{given_back};
+ghost use Rattle.mg_run.specs.Boxes.{HadCalls, HadSome, RunLeaves};
+ghost use Rattle.mg_run.specs.Code.Running.{IsRead, HasFirst, Start, HandedIn, IsPut, PutFront, IsUnderWay, IsSomeRun, HasRested, SomeRested, Keeps, StoodWith, HadAll, CameBack};
 
 use crate::batches::{Batch, Ends, drive, read_on};
 use mg_answer::{OutputText, RunStatus, conclude};
@@ -74,6 +76,7 @@ fn run_whole<G: Gate, C: Calculator, S: Source, K: Sink, E: Sink>(
     ensures short { OnErr result (RanShortOf plan.now (run_devices (device (S.told input.old) (S.told input.new))
         (device (K.told output.old) (K.told output.new)) (device (E.told notes.old) (E.told notes.new)))) }
     ensures used { OnOk result (HadCalls plan.now (device (S.told input.old) (S.told input.new)) (device (map C.told boxes.old.items) (map C.told boxes.new.items))) }
+    ensures fronts { OnErr result (HadSome plan.now (device (S.told input.old) (S.told input.new)) (device (map C.told boxes.old.items) (map C.told boxes.new.items))) }
     ensures back { CameBack plan.now (map C.told boxes.old.items) (map C.told boxes.new.items) }
 {
     let mut ends = ends_of(alloc, plan)?;
@@ -118,6 +121,8 @@ fn run_boxes<G: Gate, C: Calculator, S: Source, K: Sink, E: Sink>(
         → RanShortOf plan.now (run_devices (device source (S.told input.new)) (device (K.told output.old) (K.told output.new)) (device (E.told notes.old) (E.told notes.new)))) }
     ensures used { OnOk result ((source : SourceTold) → HasFirst plan.now source first.end first.inputs (S.told input.old) (fed ends.feed)
         → HadCalls plan.now (device source (S.told input.new)) (device (map C.told boxes.old.items) (map C.told boxes.new.items))) }
+    ensures fronts { OnErr result ((source : SourceTold) → HasFirst plan.now source first.end first.inputs (S.told input.old) (fed ends.feed)
+        → HadSome plan.now (device source (S.told input.new)) (device (map C.told boxes.old.items) (map C.told boxes.new.items))) }
     ensures back { CameBack plan.now (map C.told boxes.old.items) (map C.told boxes.new.items) }
 {
     let handed = mem::replace(boxes, Vec::new(alloc));
@@ -159,6 +164,9 @@ fn run_net<G: Gate, C: Calculator, S: Source, K: Sink, E: Sink>(
         → RanShortOf plan.now (run_devices (device start.source (S.told input.new)) (device start.sink (K.told output.new)) (device (E.told notes.old) (E.told notes.new)))) }
     ensures used { OnOk result ((start : Start) → IsUnderWay start first (S.told input.old) (K.told output.old) (fed ends.feed) net.old ends.text
         → HadAll start (S.told input.new) net.new) }
+    ensures fronts { OnErr result ((start : Start) (given : List CalculatorTold) → start.plan ≡ plan.now → HandedIn start given
+        → IsUnderWay start first (S.told input.old) (K.told output.old) (fed ends.feed) net.old ends.text
+        → HadSome plan.now (device start.source (S.told input.new)) (device given (given_back net.new))) }
     ensures stood { (start : Start) → IsUnderWay start first (S.told input.old) (K.told output.old) (fed ends.feed) net.old ends.text
         → StoodWith start.logs net.new }
     ensures keeps { Keeps net.old net.new }

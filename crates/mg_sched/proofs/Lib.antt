@@ -53,6 +53,7 @@ pub mod RestingReports
 pub mod GivenBack
 pub mod CountedBack
 pub mod HadBack
+pub mod FrontsBack
 pub mod Becoming
 pub mod SumsFall
 pub mod LeftParts

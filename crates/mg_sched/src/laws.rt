@@ -1,5 +1,5 @@
 //! Laws of the definitions: each function does nothing, and its contract is the law.
-ghost use Rattle.std.specs.Prelude.{◌≡◌, ℕ, ◌+◌, ◌-◌, ◌<◌, ◌≤◌, Bool, true, false, List, length, map, All, Option, Some, None, slice_get};
+ghost use Rattle.std.specs.Prelude.{◌≡◌, ◌⊎◌, ℕ, ◌+◌, ◌-◌, ◌<◌, ◌≤◌, Bool, true, false, List, length, map, All, Option, Some, None, slice_get};
 ghost use Rattle.mg_value.specs.Payload.{Plain};
 ghost use Rattle.mg_value.specs.Prefix.{Stamped, StreamPrefix};
 ghost use Rattle.mg_value.specs.Settled.{settled_sets, inputs_of};
@@ -16,7 +16,8 @@ ghost use Rattle.mg_node.specs.Outputs.{laid_at};
 ghost use Rattle.mg_node.specs.Intakes.{next_set_of};
 ghost use Rattle.mg_node.specs.Job.{LoggedJob, Solves, ports_of, streams_at};
 ghost use Rattle.mg_node.specs.Resting.{HasCome};
-ghost use Rattle.mg_node.specs.Had.{HadCalls};
+ghost use Rattle.mg_node.specs.Had.{HadCalls, HadFront};
+ghost use Rattle.mg_node.specs.Batches.{Grows};
 ghost use Rattle.mg_sched.specs.Views.{NetView};
 ghost use Rattle.mg_sched.specs.Places.{place_of};
 ghost use Rattle.mg_sched.specs.StandsFor.{StandsFor, IsRunning};
@@ -124,4 +125,13 @@ pub fn what_comes_back_had_its_calls()
         → slice_get net.spare place ≡ Some (Some told) → slice_get (given_back net) place ≡ Some told }
     ensures unused_there { (job : LoggedJob) (net : NetView) (place : ℕ) → StandsFor job net → place < length job.logs
         → All (λ n. ¬ (n.box_number ≡ Some place)) net.plan.nodes → (told : CalculatorTold) × (slice_get net.spare place ≡ Some (Some told)) }
+{}
+
+/// Whenever a run ends, the calculator of a node comes back with a front of its calls: in the solution of the net's job, and in that of
+/// every job with more lines.
+pub fn what_comes_back_had_a_front()
+    ensures { (job later : LoggedJob) (net : NetView) (solution : List (StreamPrefix Plain)) (number place : ℕ) (node : PlanNode)
+        → StoodFor job net → (later ≡ job) ⊎ Grows job later → Solves later solution
+        → slice_get net.plan.nodes number ≡ Some node → node.box_number ≡ Some place → IsOuter node.law
+        → (told : CalculatorTold) × (slice_get (given_back net) place ≡ Some told) × HadFront later solution node told }
 {}

@@ -1,5 +1,5 @@
 -- A run of a graph's net over batches of lines, while it is under way.
-use Rattle.std.specs.Prelude.{◌≡◌, ◌≢◌, ◌<◌, ◌≤◌, ℕ, List, [], ◌++◌, length, take, All, Bool, true, false, Option, Some, ⊤, slice_get}
+use Rattle.std.specs.Prelude.{◌≡◌, ◌≢◌, ◌<◌, ◌≤◌, ℕ, List, [], ◌++◌, map, length, take, All, Bool, true, false, Option, Some, ⊤, slice_get}
 use Rattle.mg_edge.specs.Edge.{SourceTold, SinkTold}
 use Rattle.mg_edge.specs.Runs.{Gave}
 use Rattle.mg_value.specs.Payload.{Plain}
@@ -33,6 +33,7 @@ use Rattle.mg_node.specs.Job.{LoggedJob, Solves}
 use Rattle.mg_node.specs.Had.{HadCalls}
 use Rattle.mg_sched.specs.Views.{NetView}
 use Rattle.mg_sched.specs.StandsFor.{StandsFor, IsRunning}
+use Rattle.mg_sched.specs.Made.{BoxesFit}
 use Rattle.mg_sched.specs.AtRest.{IsAtRest}
 use Rattle.mg_sched.specs.Taking.{taken_out, settled_outputs, LeavesNodes}
 use Rattle.mg_sched.specs.GivesBack.{StoodFor, given_back}
@@ -104,6 +105,11 @@ pub record Start : Type 0 where
   pub logs : List (Option (List Call))
   pub source : SourceTold
   pub sink : SinkTold
+
+-- the calculators that were handed in to a run: they fit its plan, and their logs are the run's
+pub record HandedIn (start : Start) (boxes : List CalculatorTold) : Type 0 where
+  pub fit : BoxesFit start.plan boxes
+  pub logs : start.logs ≡ map (λ b. b.log) boxes
 
 -- the job of the lines so far
 abbrev pub job_at : Start → List (List ℕ) → Bool → LoggedJob

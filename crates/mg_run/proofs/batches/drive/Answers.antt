@@ -4,6 +4,7 @@ use Rattle.mg_feed.specs.FeedSeen.{fed}
 use Rattle.mg_calc.specs.declared.plan.Plan.{Plan}
 use Rattle.mg_feed.specs.declared.feed_end.BatchEnd.TheVariants.{More}
 use Rattle.mg_run.proofs.Driving.{fewer_batches, keeps_on, begins_keep, begins_taken, stands_some, stands_with, still_under_way, short_here, short_before, short_by, over_at, flushed}
+use Rattle.mg_run.proofs.FrontsBack.{fronts_at, fronts_before}
 use Rattle.mg_run.proofs.batches.drive.Goals as goal
 
 pub begin-requires : goal.begin-requires
@@ -13,6 +14,11 @@ pub returns-in_err-begin-clause-short : goal.returns-in_err-begin-clause-short
 returns-in_err-begin-clause-short g c =
     let is = err_from_is_err_and c.from_residual.result c.from_residual.ensures.1 in
     rw is.1 (λ start notes u. short_here start c.args.first _ _ _ c.args.net.now _ notes u)
+
+pub returns-in_err-begin-clause-fronts : goal.returns-in_err-begin-clause-fronts
+returns-in_err-begin-clause-fronts g c =
+    let is = err_from_is_err_and c.from_residual.result c.from_residual.ensures.1 in
+    rw is.1 (λ start boxes handed u. fronts_at start boxes c.args.first _ _ _ c.args.net.now c.begin.new.self _ handed u c.in_err-begin.ensures.stands)
 
 pub returns-in_err-begin-clause-stands : goal.returns-in_err-begin-clause-stands
 returns-in_err-begin-clause-stands g c = λ start u. stands_with start c.args.first _ _ _ c.args.net.now c.begin.new.self _ c.in_err-begin.ensures.stands u
@@ -37,6 +43,12 @@ returns-in_err-advance-clause-short g c =
     let is = err_from_is_err_and c.from_residual-in_err-advance.result c.from_residual-in_err-advance.ensures.1 in
     rw is.1 (λ start notes u.
     short_by start c.batches.last _ (g.K.Sink.told c.batches.output) (g.K.Sink.told c.advance.new.output) _ c.batches.net _ notes c.in_err-advance.ensures.front (c.batches.invariant.under_way start u))
+
+pub returns-in_err-advance-clause-fronts : goal.returns-in_err-advance-clause-fronts
+returns-in_err-advance-clause-fronts g c =
+    let is = err_from_is_err_and c.from_residual-in_err-advance.result c.from_residual-in_err-advance.ensures.1 in
+    rw is.1 (λ start boxes handed u.
+    fronts_at start boxes c.batches.last _ _ _ c.batches.net c.advance.new.net _ handed (c.batches.invariant.under_way start u) c.in_err-advance.ensures.stands)
 
 pub returns-in_err-advance-clause-stands : goal.returns-in_err-advance-clause-stands
 returns-in_err-advance-clause-stands g c = λ start u. stands_with start c.batches.last _ _ _ c.batches.net c.advance.new.net _ c.in_err-advance.ensures.stands (c.batches.invariant.under_way start u)
@@ -75,6 +87,14 @@ returns-in_err-last-clause-short g c =
     let more = flushed start c.batches.last (g.S.Source.told c.batches.input) (g.K.Sink.told c.batches.output) (g.K.Sink.told c.advance.new.output) (g.K.Sink.told c.flush.new.output) (fed c.batches.ends.feed) c.batches.net c.advance.new.net
     c.batches.ends.text c.advance.new.text c.flush.new.self c.in-More.is c.in_ok-advance.ensures.stands c.in_ok-advance.ensures.put c.flush.ensures.names c.flush.ensures.put (c.batches.invariant.under_way start u) in
     short_before start More (g.S.Source.told c.batches.input) (g.S.Source.told c.next_batch.new.input) (g.K.Sink.told c.flush.new.output) (fed c.batches.ends.feed) c.advance.new.net c.flush.new.self notes refl more)
+
+pub returns-in_err-last-clause-fronts : goal.returns-in_err-last-clause-fronts
+returns-in_err-last-clause-fronts g c =
+    let is = err_from_is_err_and c.from_residual-in_err-last.result c.from_residual-in_err-last.ensures.1 in
+    rw is.1 (λ start boxes handed u.
+    let more = flushed start c.batches.last (g.S.Source.told c.batches.input) (g.K.Sink.told c.batches.output) (g.K.Sink.told c.advance.new.output) (g.K.Sink.told c.flush.new.output) (fed c.batches.ends.feed) c.batches.net c.advance.new.net
+    c.batches.ends.text c.advance.new.text c.flush.new.self c.in-More.is c.in_ok-advance.ensures.stands c.in_ok-advance.ensures.put c.flush.ensures.names c.flush.ensures.put (c.batches.invariant.under_way start u) in
+    fronts_before start boxes _ (g.S.Source.told c.next_batch.new.input) _ _ c.advance.new.net c.next_batch.new.net _ handed more c.in_err-last.ensures.same)
 
 pub returns-in_err-last-clause-stands : goal.returns-in_err-last-clause-stands
 returns-in_err-last-clause-stands g c = λ start u.

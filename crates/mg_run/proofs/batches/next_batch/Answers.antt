@@ -1,4 +1,5 @@
 use Rattle.std.proofs.Common.{◌∙◌, sym, subst}
+use Rattle.std.proofs.lemmas.Result.{err_from_is_err_and}
 use Rattle.mg_sched.specs.Views.{NetView}
 use Rattle.mg_sched.specs.StandsFor.{StandsFor, IsRunning}
 use Rattle.mg_feed.specs.FeedSeen.{fed}
@@ -22,6 +23,11 @@ extend-requires g c =
 pub returns-in_err-batch-clause-stands : goal.returns-in_err-batch-clause-stands
 returns-in_err-batch-clause-stands g c = λ start sink text u. stands_with start _ _ sink _ c.args.net.now c.trim.new.self text c.trim.ensures.stands u
 
+pub returns-in_err-batch-clause-same : goal.returns-in_err-batch-clause-same
+returns-in_err-batch-clause-same g c =
+    let is = err_from_is_err_and c.from_residual.result c.from_residual.ensures.1 in
+    rw is.1 c.trim.ensures.stands
+
 pub returns-in_err-batch-clause-running : goal.returns-in_err-batch-clause-running
 returns-in_err-batch-clause-running g c = trims_run c.args.net.now c.trim.new.self c.trim.ensures.trims
 
@@ -31,6 +37,11 @@ returns-in_err-batch-clause-keeps g c = trims_keep c.args.net.now c.trim.new.sel
 pub returns-in_err-extend-clause-stands : goal.returns-in_err-extend-clause-stands
 returns-in_err-extend-clause-stands g c = λ start sink text u.
     stands_with start _ _ sink _ c.args.net.now c.extend.new.self text (λ job h. subst (λ (v : NetView). StandsFor job v) (sym c.in_err-extend.ensures.unchanged) (c.trim.ensures.stands job h)) u
+
+pub returns-in_err-extend-clause-same : goal.returns-in_err-extend-clause-same
+returns-in_err-extend-clause-same g c =
+    let is = err_from_is_err_and c.from_residual-in_err-extend.result c.from_residual-in_err-extend.ensures.1 in
+    rw is.1 (λ job h. subst (λ (v : NetView). StandsFor job v) (sym c.in_err-extend.ensures.unchanged) (c.trim.ensures.stands job h))
 
 pub returns-in_err-extend-clause-running : goal.returns-in_err-extend-clause-running
 returns-in_err-extend-clause-running g c running = subst IsRunning (sym c.in_err-extend.ensures.unchanged) (trims_run c.args.net.now c.trim.new.self c.trim.ensures.trims running)

@@ -1,7 +1,12 @@
+use Rattle.std.proofs.Common.{subst}
 use Rattle.std.proofs.lemmas.Result.{err_from_is_err_and}
+use Rattle.mg_calc.specs.declared.plan.Plan.{Plan}
 use Rattle.mg_feed.specs.FeedSeen.{fed}
 use Rattle.mg_answer.specs.Devices.{device}
+use Rattle.mg_sched.specs.GivesBack.{given_back}
+use Rattle.mg_run.specs.Boxes.{HadSome}
 use Rattle.mg_run.proofs.RunsEnd.{some_rested, ran_over, short_over, had_at, stood_with, stood_after}
+use Rattle.mg_run.proofs.FrontsBack.{fronts_over}
 use Rattle.mg_run.proofs.running.run_net.Goals as goal
 
 pub drive-requires-clause-under_way : goal.drive-requires-clause-under_way
@@ -39,3 +44,11 @@ returns-clause-used g c = λ start u.
 
 pub returns-clause-stood : goal.returns-clause-stood
 returns-clause-stood g c = λ start u. stood_after start.logs c.drive.new.net c.finish.new.net (c.in_ok-end.ensures.stands start u) c.in_ok-status.ensures.since
+
+pub returns-in_err-status-clause-fronts : goal.returns-in_err-status-clause-fronts
+returns-in_err-status-clause-fronts g c =
+    let is = err_from_is_err_and c.from_residual-in_err-status.result c.from_residual-in_err-status.ensures.1 in
+    rw is.1 (λ start given plan handed u.
+    subst (λ (p : Plan). HadSome p (device start.source (g.S.Source.told c.drive.new.input)) (device given (given_back c.finish.new.net))) plan
+    (fronts_over start given c.in_ok-end.end (g.S.Source.told c.drive.new.input) (g.K.Sink.told c.drive.new.output) (fed c.drive.new.ends.feed) c.drive.new.net c.finish.new.net c.drive.new.ends.text handed
+    (c.in_ok-end.ensures.over start u) c.in_err-status.ensures.since))

@@ -1,0 +1,187 @@
+-- What a net gives back whenever its run ends: the calculator of a node with a front of its calls.
+use Rattle.std.proofs.Common.{◌≡◌, ◌⊎◌, inl, inr, ℕ, zero, suc, ◌<◌, ◌≤◌, Bool, true, false, nat_lt, is_some, List, [], ◌∷◌, length, map, Option, Some, None, slice_get, ap, sym, refl, subst, ◌∙◌, arith}
+use Rattle.std.specs.List.{filter_map, cons_option}
+use Rattle.std.proofs.lemmas.Option.{same_Some, slice_get_within}
+use Rattle.mg_value.specs.Payload.{Plain}
+use Rattle.mg_value.specs.Prefix.{StreamPrefix}
+use Rattle.mg_calc.specs.Told.{CalculatorTold}
+use Rattle.mg_calc.specs.Shape.{IsOuter}
+use Rattle.mg_calc.specs.Equations.{sides_of}
+use Rattle.mg_calc.specs.declared.plan.Plan.{Plan}
+use Rattle.mg_calc.specs.declared.plan_node.PlanNode.{PlanNode}
+use Rattle.mg_route.specs.HolderView.{told_by}
+use Rattle.mg_node.specs.Views.{IntakeView, WorkView, EngineView}
+use Rattle.mg_node.specs.Job.{LoggedJob, Solves}
+use Rattle.mg_node.specs.Lawful.{of_node, LawfulWork, LawfulEngine}
+use Rattle.mg_node.specs.Begun.{IsUnbegun, IsUnbegunOf, LawfulUnbegun}
+use Rattle.mg_node.specs.Batches.{Grows}
+use Rattle.mg_node.specs.Shelves.{IsOut}
+use Rattle.mg_node.specs.Leaving.{handed_told, first_handed, HasHanded}
+use Rattle.mg_node.specs.WindingUp.{lacks_close, WindsUp}
+use Rattle.mg_node.specs.Had.{HadFront}
+use Rattle.mg_node.proofs.FrontsHad.{engine_front, unbegun_front, work_out_front, wound_front}
+use Rattle.mg_node.proofs.Knowing.{engine_known}
+use Rattle.mg_node.proofs.LaterParts.{engine_stays, unbegun_stays, work_stays}
+use Rattle.mg_node.proofs.OneCalculator.{handed_there}
+use Rattle.mg_node.proofs.Performing.{of_node as at_node}
+use Rattle.mg_sched.specs.Views.{DeskView, NetView}
+use Rattle.mg_sched.specs.StandsFor.{IsCell, StandsFor}
+use Rattle.mg_sched.specs.WindsUp.{WindsUpNet}
+use Rattle.mg_sched.specs.GivesBack.{on_desk, or_else, cell_told, given_back, StoodFor}
+use Rattle.mg_sched.proofs.Finding.{found}
+use Rattle.mg_sched.proofs.WoundNets.{order_of}
+use Rattle.mg_sched.proofs.CountedBack.{knows_back, own_back}
+
+-- What is lawful for a job is so for that of more lines.
+
+abbrev IsLater : LoggedJob → LoggedJob → Type 0
+IsLater job later = (later ≡ job) ⊎ Grows job later
+
+engine_later : (job later : LoggedJob) (number : ℕ) (engine : EngineView) → IsLater job later → LawfulEngine job (of_node number) engine → LawfulEngine later (of_node number) engine
+engine_later job later number engine (inl same) h = subst (λ (j : LoggedJob). LawfulEngine j (of_node number) engine) (sym same) h
+engine_later job later number engine (inr grows) h = engine_stays job later number engine grows h
+
+unbegun_later : (job later : LoggedJob) (number : ℕ) (engine : EngineView) → IsLater job later → LawfulUnbegun job number engine → LawfulUnbegun later number engine
+unbegun_later job later number engine (inl same) h = subst (λ (j : LoggedJob). LawfulUnbegun j number engine) (sym same) h
+unbegun_later job later number engine (inr grows) h = unbegun_stays job later number engine grows h
+
+work_later : (job later : LoggedJob) (work : WorkView) → IsLater job later → LawfulWork job work → LawfulWork later work
+work_later job later work (inl same) h = subst (λ (j : LoggedJob). LawfulWork j work) (sym same) h
+work_later job later work (inr grows) h = work_stays job later work grows h
+
+plan_later : (job later : LoggedJob) → IsLater job later → later.job.plan ≡ job.job.plan
+plan_later job later (inl same) = ap (λ (j : LoggedJob). j.job.plan) same
+plan_later job later (inr grows) = grows.plan
+
+-- The one that lies first on a desk is there with a work.
+
+record LiesWith (works : List WorkView) (told : CalculatorTold) : Type 0 where
+  place : ℕ
+  work : WorkView
+  at : slice_get works place ≡ Some work
+  handed : handed_told work.bench.told ≡ Some told
+
+abbrev first_on : List WorkView → Option CalculatorTold
+first_on works = slice_get (filter_map handed_told (map (λ (w : WorkView). w.bench.told) works)) 0
+
+lies_first : (w : WorkView) (works : List WorkView) (told : CalculatorTold) (o : Option CalculatorTold) → handed_told w.bench.told ≡ o → (first_on works ≡ Some told → LiesWith works told)
+    → slice_get (cons_option o (filter_map handed_told (map (λ (v : WorkView). v.bench.told) works))) 0 ≡ Some told → LiesWith (w ∷ works) told
+lies_first w works told None is rest found = (let r = rest found in record { place = suc r.place; work = r.work; at = r.at; handed = r.handed })
+lies_first w works told (Some t) is rest found = record { place = zero; work = w; at = refl; handed = is ∙ found }
+
+lies_with : (works : List WorkView) (told : CalculatorTold) → first_on works ≡ Some told → LiesWith works told
+lies_with [] told found = absurd cc
+lies_with (w ∷ works) told found = lies_first w works told (handed_told w.bench.told) refl (lies_with works told) found
+
+-- The calculator of a cell.
+
+-- a node that isn't begun isn't wound up
+not_wound : (job : LoggedJob) (number : ℕ) (engine : EngineView) → LawfulUnbegun job number engine → lacks_close engine ≡ false
+unfolding LawfulUnbegun
+not_wound job number engine lawful =
+    let h : IsUnbegunOf job number engine = lawful in
+    let unbegun : IsUnbegun h.node number h.told (sides_of job.job h.node) engine = h.unbegun in
+    elim unbegun [
+      | inl fresh ↦ ap lacks_close fresh
+      | inr o ↦ ap lacks_close o.is
+    ]
+
+unbegun_front_of : (later : LoggedJob) (number : ℕ) (node : PlanNode) (engine now : EngineView) (desk : DeskView) (solution : List (StreamPrefix Plain)) (told : CalculatorTold) → Solves later solution → slice_get later.job.plan.nodes number ≡ Some node
+    → is_some node.box_number ≡ true → IsOuter node.law → LawfulUnbegun later number engine → now ≡ engine → cell_told now desk ≡ Some told → HadFront later solution node told
+unbegun_front_of later number node engine now desk solution told solves there boxed outer lawful same has =
+    let h : HasHanded later number node engine = handed_there later number node engine lawful there boxed in
+    let here : first_handed engine ≡ Some (told_by h.held) = ap (λ (ts : List CalculatorTold). slice_get ts 0) h.found in
+    let is : Some (told_by h.held) ≡ Some told =
+    ap (λ (o : Option CalculatorTold). or_else o (on_desk desk)) (sym here) ∙ ap (λ (v : EngineView). cell_told v desk) (sym same) ∙ has in
+    unbegun_front later number node engine solution told solves there boxed outer lawful (here ∙ is)
+
+begun_front_of : (later : LoggedJob) (number : ℕ) (node : PlanNode) (engine now : EngineView) (desk : DeskView) (solution : List (StreamPrefix Plain)) (told : CalculatorTold) (o : Option CalculatorTold) → Solves later solution
+    → slice_get later.job.plan.nodes number ≡ Some node → is_some node.box_number ≡ true → IsOuter node.law → LawfulEngine later (of_node number) engine
+    → ((place : ℕ) (work : WorkView) → slice_get desk.works place ≡ Some work → LawfulWork later work × IsOut engine work) → (now ≡ engine) ⊎ WindsUp engine now
+    → first_handed now ≡ o → or_else o (on_desk desk) ≡ Some told → HadFront later solution node told
+begun_front_of later number node engine now desk solution told None solves there boxed outer lawful works wound is has =
+    let lies = lies_with desk.works told has in
+    let work = works lies.place lies.work lies.at in
+    let known = (engine_known later number engine node lawful there).set_up.number_is in
+    work_out_front later number node engine lies.work solution told solves there boxed outer lawful work.0 (work.1.node_is ∙ known) work.1 lies.handed
+begun_front_of later number node engine now desk solution told (Some t) solves there boxed outer lawful works (inl same) is has =
+    engine_front later number node engine solution told solves there boxed outer lawful (ap first_handed (sym same) ∙ is ∙ has)
+begun_front_of later number node engine now desk solution told (Some t) solves there boxed outer lawful works (inr winds) is has =
+    wound_front later number node engine now solution told solves there boxed outer lawful winds (is ∙ has)
+
+cell_front : (job later : LoggedJob) (begun : Bool) (number : ℕ) (node : PlanNode) (engine now : EngineView) (intake : IntakeView) (desk : DeskView) (solution : List (StreamPrefix Plain)) (told : CalculatorTold) → IsLater job later → Solves later solution
+    → slice_get later.job.plan.nodes number ≡ Some node → is_some node.box_number ≡ true → IsOuter node.law → IsCell job begun number engine intake desk → (now ≡ engine) ⊎ WindsUp engine now → cell_told now desk ≡ Some told → HadFront later solution node told
+cell_front job later false number node engine now intake desk solution told since solves there boxed outer c wound has =
+    let lawful = unbegun_later job later number engine since c.lawful_engine in
+    let same : now ≡ engine = elim wound [ inl is ↦ is | inr w ↦ w.had_close (not_wound job number engine c.lawful_engine) ] in
+    unbegun_front_of later number node engine now desk solution told solves there boxed outer lawful same has
+cell_front job later true number node engine now intake desk solution told since solves there boxed outer c wound has =
+    begun_front_of later number node engine now desk solution told (first_handed now) solves there boxed outer (engine_later job later number engine since c.lawful_engine)
+    (λ place work at. (work_later job later work since (at_node (LawfulWork job) desk.works place work c.works.lawful at), at_node (IsOut engine) desk.works place work c.works.out at)) wound refl has
+
+-- Nets.
+
+-- the parts of a node in a net that stands for a job
+record HasCell (job : LoggedJob) (net : NetView) (number : ℕ) : Type 0 where
+  begun : Bool
+  engine : EngineView
+  intake : IntakeView
+  desk : DeskView
+  is_cell : IsCell job begun number engine intake desk
+  at : slice_get net.engines number ≡ Some engine
+  on : slice_get net.desks number ≡ Some desk
+
+has_cell : (job : LoggedJob) (net : NetView) (number : ℕ) → StandsFor job net → number < length net.plan.nodes → HasCell job net number
+unfolding StandsFor
+has_cell job net number h within =
+    let engines = h.engines in let intakes = h.intakes in let desks = h.desks in
+    let e = found net.engines number (omega (arith, within, engines)) in
+    let i = found net.intakes number (omega (arith, within, intakes)) in
+    let d = found net.desks number (omega (arith, within, desks)) in
+    record { begun = nat_lt number net.begun; engine = e.0; intake = i.0; desk = d.0; is_cell = h.cells number e.0 i.0 d.0 e.1 i.1 d.1; at = e.1; on = d.1 }
+
+-- its engine, and what became of it since
+record HasSince (net : NetView) (number : ℕ) (engine : EngineView) : Type 0 where
+  now : EngineView
+  at : slice_get net.engines number ≡ Some now
+  since : (now ≡ engine) ⊎ WindsUp engine now
+
+engine_since : (before net : NetView) (number : ℕ) (engine now : EngineView) → WindsUpNet before net → slice_get before.engines number ≡ Some engine → slice_get net.engines number ≡ Some now → (number < before.wound) ⊎ (before.wound ≤ number)
+    → (number < net.wound) ⊎ (net.wound ≤ number) → (now ≡ engine) ⊎ WindsUp engine now
+engine_since before net number engine now w at now_at (inl early) upto = inl (same_Some now engine (sym now_at ∙ w.had_been number early ∙ at))
+engine_since before net number engine now w at now_at (inr from) (inl upto) = inr (w.wound_up number engine now from upto at now_at)
+engine_since before net number engine now w at now_at (inr from) (inr past) = inl (same_Some now engine (sym now_at ∙ w.others number past ∙ at))
+
+since_then : (before net : NetView) (number : ℕ) (engine : EngineView) → (net ≡ before) ⊎ WindsUpNet before net → slice_get before.engines number ≡ Some engine → HasSince net number engine
+since_then before net number engine (inl same) at = record { now = engine; at = subst (λ (v : NetView). slice_get v.engines number ≡ Some engine) (sym same) at; since = inl refl }
+since_then before net number engine (inr w) at =
+    let within = slice_get_within before.engines number engine at in
+    let places = w.places in
+    let e = found net.engines number (omega (arith, within, places)) in
+    record { now = e.0; at = e.1; since = engine_since before net number engine e.0 w at e.1 (order_of number before.wound) (order_of number net.wound) }
+
+plan_since : (before net : NetView) → (net ≡ before) ⊎ WindsUpNet before net → net.plan ≡ before.plan
+plan_since before net (inl same) = ap (λ (v : NetView). v.plan) same
+plan_since before net (inr w) = ap (λ (v : NetView). v.plan) w.parts
+
+desks_since : (before net : NetView) → (net ≡ before) ⊎ WindsUpNet before net → net.desks ≡ before.desks
+desks_since before net (inl same) = ap (λ (v : NetView). v.desks) same
+desks_since before net (inr w) = ap (λ (v : NetView). v.desks) w.parts
+
+given_at : (job : LoggedJob) (solution : List (StreamPrefix Plain)) (node : PlanNode) (there o : Option CalculatorTold) → there ≡ o → is_some o ≡ true → ((told : CalculatorTold) → o ≡ Some told → HadFront job solution node told)
+    → (told : CalculatorTold) × (there ≡ Some told) × HadFront job solution node told
+given_at job solution node there None is some front = absurd cc
+given_at job solution node there (Some told) is some front = (told, is, front told refl)
+
+pub front_back : (job later : LoggedJob) (net : NetView) (solution : List (StreamPrefix Plain)) (number place : ℕ) (node : PlanNode) → StoodFor job net → (later ≡ job) ⊎ Grows job later → Solves later solution
+    → slice_get net.plan.nodes number ≡ Some node → node.box_number ≡ Some place → IsOuter node.law → (told : CalculatorTold) × (slice_get (given_back net) place ≡ Some told) × HadFront later solution node told
+front_back job later net solution number place node stood more solves there boxed outer =
+    let knows = knows_back job net stood in
+    let there_before : slice_get stood.before.plan.nodes number ≡ Some node = subst (λ (p : Plan). slice_get p.nodes number ≡ Some node) (plan_since stood.before net stood.since) there in
+    let c = has_cell job stood.before number stood.stands (slice_get_within stood.before.plan.nodes number node there_before) in
+    let e = since_then stood.before net number c.engine stood.since c.at in
+    let on : slice_get net.desks number ≡ Some c.desk = subst (λ (ds : List DeskView). slice_get ds number ≡ Some c.desk) (sym (desks_since stood.before net stood.since)) c.on in
+    let back = own_back (given_back net) job net number place node e.now c.desk refl knows there boxed e.at on in
+    let theirs : slice_get later.job.plan.nodes number ≡ Some node = subst (λ (p : Plan). slice_get p.nodes number ≡ Some node) (knows.plan ∙ sym (plan_later job later more)) there in
+    given_at later solution node (slice_get (given_back net) place) (cell_told e.now c.desk) back.0 back.1
+    (λ told has. cell_front job later c.begun number node c.engine e.now c.intake c.desk solution told more solves theirs (ap is_some boxed) outer c.is_cell e.since has)
