@@ -11,6 +11,7 @@ mod taking;
 mod trimming;
 mod winding;
 mod working;
+mod working_long;
 
 use crate::desk::Desk;
 use mg_calc::{Calculator, GivenList, Plan};

@@ -198,7 +198,7 @@ impl<C: Calculator> Net<C> {
             return Ok(false);
         }
         let was_full = self.is_full(node);
-        if !self.work(node, gate)? {
+        if !self.work_long(node, gate)? {
             return Ok(false);
         }
         go_on_with(agenda, node, was_full);
@@ -339,7 +339,7 @@ impl<C: Calculator> Net<C> {
 
     // Claims a node's next work, and performs and commits what is claimed; only where there is nothing of that, raises the node's
     // outputs. Tells whether something was done.
-    fn work<G: Gate>(&mut self, node: u32, gate: &G) -> Result<bool, AllocError>
+    pub(super) fn work<G: Gate>(&mut self, node: u32, gate: &G) -> Result<bool, AllocError>
         requires running { IsRunning self.old }
         requires stands { StandsForSome self.old }
         requires there { node < length self.old.plan.nodes }

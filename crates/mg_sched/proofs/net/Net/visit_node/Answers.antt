@@ -14,27 +14,27 @@ pub go_on_with-requires : goal.go_on_with-requires
 go_on_with-requires g c = node_place c.args.self.now.plan c.args.agenda.now c.args.node c.requires.agenda c.requires.there
 
 pub send-requires-clause-running : goal.send-requires-clause-running
-send-requires-clause-running g c = becomes_runs c.args.self.now c.work.new.self c.requires.running c.in_ok-work.ensures.becomes
+send-requires-clause-running g c = becomes_runs c.args.self.now c.work_long.new.self c.requires.running c.in_ok-work_long.ensures.becomes
 
 pub send-requires-clause-stands : goal.send-requires-clause-stands
-send-requires-clause-stands g c = becomes_some c.args.self.now c.work.new.self c.requires.running c.requires.stands c.in_ok-work.ensures.becomes
+send-requires-clause-stands g c = becomes_some c.args.self.now c.work_long.new.self c.requires.running c.requires.stands c.in_ok-work_long.ensures.becomes
 
 pub send-requires-clause-agenda : goal.send-requires-clause-agenda
 send-requires-clause-agenda g c =
-    agenda_on c.args.self.now c.work.new.self c.go_on_with.new.agenda c.in_ok-work.ensures.becomes
+    agenda_on c.args.self.now c.work_long.new.self c.go_on_with.new.agenda c.in_ok-work_long.ensures.becomes
     (agenda_same c.args.self.now.plan c.args.agenda.now c.go_on_with.new.agenda c.requires.agenda c.go_on_with.ensures.places c.go_on_with.ensures.edges)
 
 pub returns-in_err-send-clause-becomes : goal.returns-in_err-send-clause-becomes
-returns-in_err-send-clause-becomes g c = becomes_trans c.args.self.now c.work.new.self c.send.new.self c.in_ok-work.ensures.becomes c.in_err-send.ensures.becomes
+returns-in_err-send-clause-becomes g c = becomes_trans c.args.self.now c.work_long.new.self c.send.new.self c.in_ok-work_long.ensures.becomes c.in_err-send.ensures.becomes
 
 pub returns-in_err-send-clause-agenda : goal.returns-in_err-send-clause-agenda
-returns-in_err-send-clause-agenda g c = agenda_back c.args.self.now c.work.new.self c.send.new.agenda c.in_ok-work.ensures.becomes c.in_err-send.ensures.agenda
+returns-in_err-send-clause-agenda g c = agenda_back c.args.self.now c.work_long.new.self c.send.new.agenda c.in_ok-work_long.ensures.becomes c.in_err-send.ensures.agenda
 
 pub returns-clause-becomes : goal.returns-clause-becomes
-returns-clause-becomes g c = becomes_trans c.args.self.now c.work.new.self c.send.new.self c.in_ok-work.ensures.becomes c.in_ok-send.ensures.becomes
+returns-clause-becomes g c = becomes_trans c.args.self.now c.work_long.new.self c.send.new.self c.in_ok-work_long.ensures.becomes c.in_ok-send.ensures.becomes
 
 pub returns-clause-agenda : goal.returns-clause-agenda
-returns-clause-agenda g c = agenda_back c.args.self.now c.work.new.self c.send.new.agenda c.in_ok-work.ensures.becomes c.in_ok-send.ensures.agenda
+returns-clause-agenda g c = agenda_back c.args.self.now c.work_long.new.self c.send.new.agenda c.in_ok-work_long.ensures.becomes c.in_ok-send.ensures.agenda
 
 pub returns-clause-goes : goal.returns-clause-goes
-returns-clause-goes g c = goes_then true c.in_ok-send.field-0 c.args.self.now c.work.new.self c.send.new.self (goes_true c.in_ok-work.field-0 c.args.self.now c.work.new.self c.if-not-branch.false c.in_ok-work.ensures.goes) c.in_ok-send.ensures.goes
+returns-clause-goes g c = goes_then true c.in_ok-send.field-0 c.args.self.now c.work_long.new.self c.send.new.self (goes_true c.in_ok-work_long.field-0 c.args.self.now c.work_long.new.self c.if-not-branch.false c.in_ok-work_long.ensures.goes) c.in_ok-send.ensures.goes

@@ -1,0 +1,35 @@
+use Rattle.std.proofs.Common.{refl}
+use Rattle.mg_sched.specs.Sweeps.{itself}
+use Rattle.mg_sched.proofs.Becoming.{becomes_runs, becomes_some, becomes_trans}
+use Rattle.mg_sched.proofs.Sweeping.{goes_less, goes_same, goes_true, goes_false, still_there}
+use Rattle.mg_sched.proofs.net.Net.work_until_idle.Goals as goal
+
+pub works-init : goal.works-init
+works-init g c = record { becomes = itself; goes = refl }
+
+pub work-requires-clause-running : goal.work-requires-clause-running
+work-requires-clause-running g c = becomes_runs c.args.self.now c.works.self c.requires.running c.works.invariant.becomes
+
+pub work-requires-clause-stands : goal.work-requires-clause-stands
+work-requires-clause-stands g c = becomes_some c.args.self.now c.works.self c.requires.running c.requires.stands c.works.invariant.becomes
+
+pub work-requires-clause-there : goal.work-requires-clause-there
+work-requires-clause-there g c = still_there c.args.node c.args.self.now c.works.self c.works.invariant.becomes c.requires.there
+
+pub returns-in_err-work-clause-becomes : goal.returns-in_err-work-clause-becomes
+returns-in_err-work-clause-becomes g c = becomes_trans c.args.self.now c.works.self c.work.new.self c.works.invariant.becomes c.in_err-work.ensures.becomes
+
+pub works-smaller : goal.works-smaller
+works-smaller g c = goes_true c.in_ok-work.field-0 c.works.self c.work.new.self c.if-branch.true c.in_ok-work.ensures.goes
+
+pub works-preserved : goal.works-preserved
+works-preserved g c = record {
+  becomes = becomes_trans c.args.self.now c.works.self c.work.new.self c.works.invariant.becomes c.in_ok-work.ensures.becomes;
+  goes = goes_less c.works.did c.args.self.now c.works.self c.work.new.self c.works.invariant.goes (goes_true c.in_ok-work.field-0 c.works.self c.work.new.self c.if-branch.true c.in_ok-work.ensures.goes);
+}
+
+pub returns-clause-becomes : goal.returns-clause-becomes
+returns-clause-becomes g c = becomes_trans c.args.self.now c.works.self c.work.new.self c.works.invariant.becomes c.in_ok-work.ensures.becomes
+
+pub returns-clause-goes : goal.returns-clause-goes
+returns-clause-goes g c = goes_same c.works.did c.args.self.now c.works.self c.work.new.self c.works.invariant.goes (goes_false c.in_ok-work.field-0 c.works.self c.work.new.self c.if-branch.false c.in_ok-work.ensures.goes)
