@@ -12,61 +12,65 @@ use Rattle.mg_calc.specs.Meaning.{faults, stalled}
 use Rattle.mg_feed.specs.Graph.{GraphInputs, inputs_of}
 use Rattle.mg_feed.specs.Ran.{EndCame, MetEnd, FailedBy}
 use Rattle.mg_feed.specs.Sent.{Sent}
-use Rattle.mg_answer.specs.Notes.{bounds_of, notes_by, notes_of}
+use Rattle.mg_answer.specs.Notes.{bounds_of, notes_by}
+use Rattle.mg_answer.specs.Report.{report_by, asked_report}
+use Rattle.mg_answer.specs.Outcomes.{TellsOf}
 use Rattle.mg_feed.specs.declared.feed_end.FeedEnd.{FeedEnd}
 use Rattle.mg_feed.specs.declared.feed_end.FeedEnd.TheVariants.{Ended, Failed, Refused, OutOfMemory as no_lines}
 use Rattle.mg_answer.specs.Text.{output_of}
 use Rattle.mg_answer.specs.Told.{status_of}
-use Rattle.mg_answer.specs.Answer.{Read, Answer, ended_input, inputs_by, job_of, answer_of, IsAnswer, AnswersEnded}
+use Rattle.mg_answer.specs.Answer.{Read, Form, Telling, by_lines, output_in, Answer, ended_input, inputs_by, job_of, answer_of, IsAnswer, AnswersEnded}
 use Rattle.mg_answer.specs.Devices.{Device, device, RunDevices, run_devices, TookFront, HasRisen, Unrisen, NoneFailed}
 use Rattle.mg_answer.specs.Ran.{CameAs, CameTo, Meets, RanAll, RanShort, TookSome, Ran, IsAnswered, IsOneOf}
 use Rattle.mg_answer.specs.Put.{TextView, HasPut}
 use Rattle.mg_answer.specs.Wrote.{WroteAll, WroteShort, WroteBy, Wrote}
 use Rattle.mg_answer.specs.Code.Answered.{WroteSome}
-use Rattle.mg_answer.specs.Code.Bounds.{open_numbers}
+use Rattle.mg_answer.specs.Code.Bounds.{open_numbers, end_bounds}
+use Rattle.mg_answer.specs.Code.Said.{all_notes}
+use Rattle.mg_answer.specs.declared.outcomes.Outcomes.{Outcomes}
 use Rattle.mg_answer.specs.Code.Gathered.{Gathered}
 use Rattle.mg_answer.specs.declared.run_status.RunStatus.{RunStatus}
 use Rattle.mg_answer.specs.declared.run_status.RunStatus.TheVariants.{Good, LineRefused, NodeFault, Stalled, ReadFault, WriteFault, OutOfMemory}
 use Rattle.mg_answer.proofs.Writing.{front-sent, put-sent}
-use Rattle.mg_answer.proofs.Telling.{open-stalled}
+use Rattle.mg_answer.proofs.Telling.{open-stalled, bounds-told}
 
 -- The answer --
 
 abbrev plain_job : Plan → Inputs → Job
 plain_job plan inputs = record { plan = plan; inputs = inputs }
 
+abbrev told : Bool → Plan → Inputs → FeedEnd → List (StreamPrefix Plain) → Answer
+told report plan inputs end streams = answer_of (by_lines report) (plain_job plan inputs) end streams
+
 -- an answer of the job is that of the plan over what was read
-is-answer : (plan : Plan) (inputs : Inputs) (end : FeedEnd) (read : Read) (streams : List (StreamPrefix Plain)) → inputs ≡ inputs_by (inputs_of plan) read → end ≡ read.end
-    → IsSolution (plain_job plan inputs) streams → IsAnswer plan read (answer_of (output_of plan streams) (plain_job plan inputs) end streams)
-is-answer plan inputs end read streams is ended solution = record {
+is-answer : (report : Bool) (plan : Plan) (inputs : Inputs) (end : FeedEnd) (read : Read) (streams : List (StreamPrefix Plain)) → inputs ≡ inputs_by (inputs_of plan) read → end ≡ read.end
+    → IsSolution (plain_job plan inputs) streams → IsAnswer report plan read (told report plan inputs end streams)
+is-answer report plan inputs end read streams is ended solution = record {
   streams = streams;
   solution = subst (λ (i : Inputs). IsSolution (plain_job plan i) streams) is solution;
-  is = ap (λ (i : Inputs). answer_of (output_of plan streams) (plain_job plan i) end streams) is
-      ∙ ap (λ (e : FeedEnd). answer_of (output_of plan streams) (job_of plan read) e streams) ended;
+  is = ap (λ (i : Inputs). answer_of (by_lines report) (plain_job plan i) end streams) is ∙ ap (λ (e : FeedEnd). answer_of (by_lines report) (job_of plan read) e streams) ended;
 }
 
-ran-all : (plan : Plan) (input : Device SourceTold) (end : FeedEnd) (inputs : Inputs) (status : RunStatus) (output notes : Device SinkTold) (streams : List (StreamPrefix Plain))
+ran-all : (report : Bool) (plan : Plan) (input : Device SourceTold) (end : FeedEnd) (inputs : Inputs) (status : RunStatus) (output notes : Device SinkTold) (streams : List (StreamPrefix Plain))
     → Gathered (inputs_of plan) input end inputs → IsSolution (plain_job plan inputs) streams
-    → WroteAll (answer_of (output_of plan streams) (plain_job plan inputs) end streams) status output notes → RanAll plan status (run_devices input output notes)
-ran-all plan input end inputs status output notes streams gathered solution wrote = record {
+    → WroteAll (told report plan inputs end streams) status output notes → RanAll report plan status (run_devices input output notes)
+ran-all report plan input end inputs status output notes streams gathered solution wrote = record {
   read = gathered.read;
   input = gathered.came;
-  answer = answer_of (output_of plan streams) (plain_job plan inputs) end streams;
-  is = is-answer plan inputs end gathered.read streams gathered.given gathered.ended solution;
+  answer = told report plan inputs end streams;
+  is = is-answer report plan inputs end gathered.read streams gathered.given gathered.ended solution;
   met = record { text = wrote.text; noted = wrote.noted; told = wrote.told };
 }
 
-ran-short : (plan : Plan) (input : Device SourceTold) (end : FeedEnd) (inputs : Inputs) (output notes : Device SinkTold) (streams : List (StreamPrefix Plain))
+ran-short : (report : Bool) (plan : Plan) (input : Device SourceTold) (end : FeedEnd) (inputs : Inputs) (output notes : Device SinkTold) (streams : List (StreamPrefix Plain))
     → Gathered (inputs_of plan) input end inputs → IsSolution (plain_job plan inputs) streams
-    → WroteShort (answer_of (output_of plan streams) (plain_job plan inputs) end streams) output notes → RanShort plan (run_devices input output notes)
-ran-short plan input end inputs output notes streams gathered solution wrote = record {
+    → WroteShort (told report plan inputs end streams) output notes → RanShort report plan (run_devices input output notes)
+ran-short report plan input end inputs output notes streams gathered solution wrote = record {
   read = gathered.read;
   input = gathered.came;
-  answer = answer_of (output_of plan streams) (plain_job plan inputs) end streams;
-  is = is-answer plan inputs end gathered.read streams gathered.given gathered.ended solution;
-  rose = wrote.rose;
-  front = wrote.front;
-  whole = wrote.whole;
+  answer = told report plan inputs end streams;
+  is = is-answer report plan inputs end gathered.read streams gathered.given gathered.ended solution;
+  short = record { rose = wrote.rose; front = wrote.front; whole = wrote.whole };
 }
 
 took-some : (plan : Plan) (input : Device SourceTold) (end : FeedEnd) (inputs : Inputs) (output notes : Device SinkTold) (streams : List (StreamPrefix Plain))
@@ -74,31 +78,31 @@ took-some : (plan : Plan) (input : Device SourceTold) (end : FeedEnd) (inputs : 
 took-some plan input end inputs output notes streams gathered solution front = record {
   read = gathered.read;
   input = gathered.came;
-  answer = answer_of (output_of plan streams) (plain_job plan inputs) end streams;
-  is = is-answer plan inputs end gathered.read streams gathered.given gathered.ended solution;
+  streams = streams;
+  solution = subst (λ (i : Inputs). IsSolution (plain_job plan i) streams) gathered.given solution;
   front = front;
 }
 
-ran-by : (plan : Plan) (input : Device SourceTold) (end : FeedEnd) (inputs : Inputs) (status : RunStatus) (output notes : Device SinkTold) (streams : List (StreamPrefix Plain))
+ran-by : (report : Bool) (plan : Plan) (input : Device SourceTold) (end : FeedEnd) (inputs : Inputs) (status : RunStatus) (output notes : Device SinkTold) (streams : List (StreamPrefix Plain))
     → Gathered (inputs_of plan) input end inputs → IsSolution (plain_job plan inputs) streams
-    → WroteBy status (answer_of (output_of plan streams) (plain_job plan inputs) end streams) output notes → Ran plan status (run_devices input output notes)
-ran-by plan input end inputs Good output notes streams gathered solution by = ran-all plan input end inputs Good output notes streams gathered solution by
-ran-by plan input end inputs LineRefused output notes streams gathered solution by = ran-all plan input end inputs LineRefused output notes streams gathered solution by
-ran-by plan input end inputs NodeFault output notes streams gathered solution by = ran-all plan input end inputs NodeFault output notes streams gathered solution by
-ran-by plan input end inputs Stalled output notes streams gathered solution by = ran-all plan input end inputs Stalled output notes streams gathered solution by
-ran-by plan input end inputs ReadFault output notes streams gathered solution by = ran-all plan input end inputs ReadFault output notes streams gathered solution by
-ran-by plan input end inputs WriteFault output notes streams gathered solution by = ran-short plan input end inputs output notes streams gathered solution by
-ran-by plan input end inputs OutOfMemory output notes streams gathered solution by =
+    → WroteBy status (told report plan inputs end streams) output notes → Ran report plan status (run_devices input output notes)
+ran-by report plan input end inputs Good output notes streams gathered solution by = ran-all report plan input end inputs Good output notes streams gathered solution by
+ran-by report plan input end inputs LineRefused output notes streams gathered solution by = ran-all report plan input end inputs LineRefused output notes streams gathered solution by
+ran-by report plan input end inputs NodeFault output notes streams gathered solution by = ran-all report plan input end inputs NodeFault output notes streams gathered solution by
+ran-by report plan input end inputs Stalled output notes streams gathered solution by = ran-all report plan input end inputs Stalled output notes streams gathered solution by
+ran-by report plan input end inputs ReadFault output notes streams gathered solution by = ran-all report plan input end inputs ReadFault output notes streams gathered solution by
+ran-by report plan input end inputs WriteFault output notes streams gathered solution by = ran-short report plan input end inputs output notes streams gathered solution by
+ran-by report plan input end inputs OutOfMemory output notes streams gathered solution by =
     inr (took-some plan input end inputs output notes streams gathered solution (front-sent true output.before output.now (output_of plan streams) by.text))
 
-pub ran-wrote : (plan : Plan) (input : Device SourceTold) (end : FeedEnd) (inputs : Inputs) (status : RunStatus) (output notes : Device SinkTold)
-    → Gathered (inputs_of plan) input end inputs → Wrote (plain_job plan inputs) end status output notes → Ran plan status (run_devices input output notes)
-ran-wrote plan input end inputs status output notes gathered wrote = ran-by plan input end inputs status output notes wrote.streams gathered wrote.solution wrote.by
+pub ran-wrote : (report : Bool) (plan : Plan) (input : Device SourceTold) (end : FeedEnd) (inputs : Inputs) (status : RunStatus) (output notes : Device SinkTold)
+    → Gathered (inputs_of plan) input end inputs → Wrote (by_lines report) (plain_job plan inputs) end status output notes → Ran report plan status (run_devices input output notes)
+ran-wrote report plan input end inputs status output notes gathered wrote = ran-by report plan input end inputs status output notes wrote.streams gathered wrote.solution wrote.by
 
-pub ran-out : (plan : Plan) (input : Device SourceTold) (end : FeedEnd) (inputs : Inputs) (output notes : Device SinkTold)
-    → Gathered (inputs_of plan) input end inputs → WroteSome (plain_job plan inputs) output → Ran plan OutOfMemory (run_devices input output notes)
-ran-out plan input end inputs output notes gathered (inl untouched) = inl untouched
-ran-out plan input end inputs output notes gathered (inr wrote) = inr (took-some plan input end inputs output notes wrote.streams gathered wrote.solution wrote.front)
+pub ran-out : (report : Bool) (plan : Plan) (input : Device SourceTold) (end : FeedEnd) (inputs : Inputs) (output notes : Device SinkTold)
+    → Gathered (inputs_of plan) input end inputs → WroteSome (plain_job plan inputs) output → Ran report plan OutOfMemory (run_devices input output notes)
+ran-out report plan input end inputs output notes gathered (inl untouched) = inl untouched
+ran-out report plan input end inputs output notes gathered (inr wrote) = inr (took-some plan input end inputs output notes wrote.streams gathered wrote.solution wrote.front)
 
 -- What was written --
 
@@ -121,38 +125,44 @@ wrote-by end fs ns answer status true false output notes is told text noted =
 wrote-by end fs ns answer status false noted' output notes is told text noted =
     record { rose = inl text.rose; front = front-sent false output.before output.now answer.output text; whole = inl text.rose }
 
-wrote : (job : Job) (end : FeedEnd) (streams : List (StreamPrefix Plain)) (status result : RunStatus) (written noted : Bool) (output notes : Device SinkTold) → IsSolution job streams
-    → status ≡ status_of end (faults job streams) (stalled streams) → Sent written output.before output.now (output_of job.plan streams)
-    → Sent noted notes.before notes.now (notes_of job.plan end (faults job streams) streams) → result ≡ (if written && noted then status else WriteFault)
-    → Wrote job end result output notes
-wrote job end streams status result written noted output notes solution is text notes_text result_is = record {
+wrote : (telling : Telling) (job : Job) (end : FeedEnd) (streams : List (StreamPrefix Plain)) (status result : RunStatus) (written noted : Bool) (output notes : Device SinkTold)
+    → IsSolution job streams → status ≡ status_of end (faults job streams) (stalled streams) → Sent written output.before output.now (answer_of telling job end streams).output
+    → Sent noted notes.before notes.now (answer_of telling job end streams).notes → result ≡ (if written && noted then status else WriteFault)
+    → Wrote telling job end result output notes
+wrote telling job end streams status result written noted output notes solution is text notes_text result_is = record {
   streams = streams;
   solution = solution;
-  by = subst (λ (s : RunStatus). WroteBy s (answer_of (output_of job.plan streams) job end streams) output notes) (sym result_is)
-      (wrote-by end (faults job streams) (stalled streams) (answer_of (output_of job.plan streams) job end streams) status written noted output notes is refl text notes_text);
+  by = subst (λ (s : RunStatus). WroteBy s (answer_of telling job end streams) output notes) (sym result_is)
+      (wrote-by end (faults job streams) (stalled streams) (answer_of telling job end streams) status written noted output notes is refl text notes_text);
 }
 
--- the same, where the text was put, and the faults and the bounds tell the rest
-pub wrote-told : (plan : Plan) (end : FeedEnd) (fs : List Fault) (bounds : List ℕ) (view view' : TextView) (status result : RunStatus) (written noted : Bool) (bytes said : List ℕ)
+-- what is said of outcomes that a job's streams tell
+said-of : (plan : Plan) (end : FeedEnd) (outcomes : Outcomes) (report : Bool) (form : Form) (job : Job) (streams : List (StreamPrefix Plain)) → job.plan ≡ plan
+    → TellsOf job streams outcomes → all_notes plan end outcomes report ≡ (answer_of (record { form = form; report = report }) job end streams).notes
+said-of plan end outcomes report form job streams plan_is tells =
+    let bounds : end_bounds outcomes.ends.items ≡ bounds_of streams = ap end_bounds tells.ends ∙ bounds-told streams in
+    let numbers : open_numbers outcomes.ends.items ≡ stalled streams = ap open_numbers tells.ends ∙ open-stalled streams in
+    λ i. notes_by (sym plan_is i) end (tells.faults i) (bounds i) (numbers i) ++ asked_report report (report_by (sym plan_is i) (tells.sets i) (tells.ends i))
+
+-- the same, where the text was put, and the outcomes tell the rest
+pub wrote-told : (plan : Plan) (end : FeedEnd) (outcomes : Outcomes) (report : Bool) (view view' : TextView) (status result : RunStatus) (written noted : Bool) (bytes said : List ℕ)
     (before now notes_before notes_now : SinkTold) → ((first : SinkTold) (text : List ℕ) → HasPut first before view text → HasPut first now view' text)
-    → (view'.failed ≡ false → view'.kept ≡ []) → written ≡ not view'.failed → status ≡ status_of end fs (open_numbers bounds) → said ≡ notes_by plan end fs bounds (open_numbers bounds)
-    → bytes ≡ said → Sent noted notes_before notes_now bytes → result ≡ (if written && noted then status else WriteFault)
-    → (job : Job) (streams : List (StreamPrefix Plain)) (first : SinkTold) → job.plan ≡ plan → IsSolution job streams → fs ≡ faults job streams → bounds ≡ bounds_of streams
-    → HasPut first before view (output_of plan streams) → Wrote job end result (device first now) (device notes_before notes_now)
-wrote-told plan end fs bounds view view' status result written noted bytes said before now notes_before notes_now flush none written_is is said_is bytes_is sent result_is
-    job streams first plan_is solution fs_is bounds_is put =
-    let numbers : open_numbers bounds ≡ stalled streams = ap open_numbers bounds_is ∙ open-stalled streams in
-    let told : status ≡ status_of end (faults job streams) (stalled streams) =
-    is ∙ ap (λ l. status_of end l (open_numbers bounds)) fs_is ∙ ap (status_of end (faults job streams)) numbers in
-    let noted_is : bytes ≡ notes_of job.plan end (faults job streams) streams =
-    bytes_is ∙ said_is ∙ ap (λ (p : Plan). notes_by p end fs bounds (open_numbers bounds)) (sym plan_is) ∙ ap (λ l. notes_by job.plan end l bounds (open_numbers bounds)) fs_is
-    ∙ ap (λ l. notes_by job.plan end (faults job streams) l (open_numbers bounds)) bounds_is
-    ∙ ap (λ l. notes_by job.plan end (faults job streams) (bounds_of streams) l) numbers in
-    let text : Sent (not view'.failed) first now (output_of plan streams) =
-    put-sent view'.failed first now view'.kept (output_of plan streams) none (flush first (output_of plan streams) put) in
-    wrote job end streams status result written noted (device first now) (device notes_before notes_now) solution told
-    (subst (λ (b : Bool). Sent b first now (output_of job.plan streams)) (sym written_is)
-    (subst (λ (p : Plan). Sent (not view'.failed) first now (output_of p streams)) (sym plan_is) text))
+    → (view'.failed ≡ false → view'.kept ≡ []) → written ≡ not view'.failed → status ≡ status_of end outcomes.faults (open_numbers outcomes.ends.items)
+    → said ≡ all_notes plan end outcomes report → bytes ≡ said → Sent noted notes_before notes_now bytes → result ≡ (if written && noted then status else WriteFault)
+    → (form : Form) (job : Job) (streams : List (StreamPrefix Plain)) (first : SinkTold) → job.plan ≡ plan → IsSolution job streams → TellsOf job streams outcomes
+    → HasPut first before view (output_in form plan streams) → Wrote (record { form = form; report = report }) job end result (device first now) (device notes_before notes_now)
+wrote-told plan end outcomes report view view' status result written noted bytes said before now notes_before notes_now flush none written_is is said_is bytes_is sent result_is
+    form job streams first plan_is solution tells put =
+    let telling : Telling = record { form = form; report = report } in
+    let numbers : open_numbers outcomes.ends.items ≡ stalled streams = ap open_numbers tells.ends ∙ open-stalled streams in
+    let told_is : status ≡ status_of end (faults job streams) (stalled streams) =
+    is ∙ ap (λ l. status_of end l (open_numbers outcomes.ends.items)) tells.faults ∙ ap (status_of end (faults job streams)) numbers in
+    let noted_is : bytes ≡ (answer_of telling job end streams).notes = bytes_is ∙ said_is ∙ said-of plan end outcomes report form job streams plan_is tells in
+    let text : Sent (not view'.failed) first now (output_in form plan streams) =
+    put-sent view'.failed first now view'.kept (output_in form plan streams) none (flush first (output_in form plan streams) put) in
+    wrote telling job end streams status result written noted (device first now) (device notes_before notes_now) solution told_is
+    (subst (λ (b : Bool). Sent b first now (output_in form job.plan streams)) (sym written_is)
+    (subst (λ (p : Plan). Sent (not view'.failed) first now (output_in form p streams)) (sym plan_is) text))
     (subst (λ (l : List ℕ). Sent noted notes_before notes_now l) noted_is sent) result_is
 
 -- memory ran out after the output was written
@@ -162,20 +172,20 @@ wrote-front job streams output solution front = inr (record { streams = streams;
 -- What follows --
 
 -- the status of an answer is told by how the input ended
-told-by : (plan : Plan) (status : RunStatus) (all : RunDevices) (ran : RanAll plan status all)
+told-by : (report : Bool) (plan : Plan) (status : RunStatus) (all : RunDevices) (ran : RanAll report plan status all)
     → (fs : List Fault) × (ns : List ℕ) × (status ≡ status_of ran.read.end fs ns)
-told-by plan status all ran =
+told-by report plan status all ran =
     (faults (job_of plan ran.read) ran.is.streams, stalled ran.is.streams, ran.met.told ∙ ap (λ (a : Answer). a.status) ran.is.is)
 
 -- the input was read, unless memory ran out
-pub ran-read : (plan : Plan) (status : RunStatus) (all : RunDevices) → Ran plan status all → status ≢ OutOfMemory → (read : Read) × CameTo (inputs_of plan) all.input read
-ran-read plan Good all ran some = (ran.read, ran.input)
-ran-read plan LineRefused all ran some = (ran.read, ran.input)
-ran-read plan NodeFault all ran some = (ran.read, ran.input)
-ran-read plan Stalled all ran some = (ran.read, ran.input)
-ran-read plan ReadFault all ran some = (ran.read, ran.input)
-ran-read plan WriteFault all ran some = (ran.read, ran.input)
-ran-read plan OutOfMemory all ran some = absurd (some refl)
+pub ran-read : (report : Bool) (plan : Plan) (status : RunStatus) (all : RunDevices) → Ran report plan status all → status ≢ OutOfMemory → (read : Read) × CameTo (inputs_of plan) all.input read
+ran-read report plan Good all ran some = (ran.read, ran.input)
+ran-read report plan LineRefused all ran some = (ran.read, ran.input)
+ran-read report plan NodeFault all ran some = (ran.read, ran.input)
+ran-read report plan Stalled all ran some = (ran.read, ran.input)
+ran-read report plan ReadFault all ran some = (ran.read, ran.input)
+ran-read report plan WriteFault all ran some = (ran.read, ran.input)
+ran-read report plan OutOfMemory all ran some = absurd (some refl)
 
 abbrev pub ended_statuses : List RunStatus
 ended_statuses = Good ∷ NodeFault ∷ Stalled ∷ []
@@ -194,9 +204,9 @@ end-by (Refused line cause) status fs ns graph input came read is (inr (inr (inl
 end-by (Refused line cause) status fs ns graph input came read is (inr (inr (inr e))) by = absurd e
 end-by no_lines status fs ns graph input came read is one by = absurd by
 
-all-ended : (plan : Plan) (status : RunStatus) (all : RunDevices) → RanAll plan status all → IsOneOf status ended_statuses → EndCame all.input.before all.input.now
-all-ended plan status all ran one =
-    let told = told-by plan status all ran in
+all-ended : (report : Bool) (plan : Plan) (status : RunStatus) (all : RunDevices) → RanAll report plan status all → IsOneOf status ended_statuses → EndCame all.input.before all.input.now
+all-ended report plan status all ran one =
+    let told = told-by report plan status all ran in
     end-by ran.read.end status told.0 told.1 (inputs_of plan) all.input ran.input.came ran.read told.2 one ran.input.by
 
 no-one : (status : RunStatus) → (status ≡ WriteFault) ⊎ (status ≡ OutOfMemory) → IsOneOf status ended_statuses → ⊥
@@ -209,24 +219,24 @@ no-one status (inr e) (inr (inl f)) = cc
 no-one status (inr e) (inr (inr (inl f))) = cc
 no-one status (inr e) (inr (inr (inr f))) = f
 
-pub ran-ended : (plan : Plan) (status : RunStatus) (all : RunDevices) → Ran plan status all → IsOneOf status ended_statuses → EndCame all.input.before all.input.now
-ran-ended plan Good all ran one = all-ended plan Good all ran one
-ran-ended plan LineRefused all ran one = all-ended plan LineRefused all ran one
-ran-ended plan NodeFault all ran one = all-ended plan NodeFault all ran one
-ran-ended plan Stalled all ran one = all-ended plan Stalled all ran one
-ran-ended plan ReadFault all ran one = all-ended plan ReadFault all ran one
-ran-ended plan WriteFault all ran one = absurd (no-one WriteFault (inl refl) one)
-ran-ended plan OutOfMemory all ran one = absurd (no-one OutOfMemory (inr refl) one)
+pub ran-ended : (report : Bool) (plan : Plan) (status : RunStatus) (all : RunDevices) → Ran report plan status all → IsOneOf status ended_statuses → EndCame all.input.before all.input.now
+ran-ended report plan Good all ran one = all-ended report plan Good all ran one
+ran-ended report plan LineRefused all ran one = all-ended report plan LineRefused all ran one
+ran-ended report plan NodeFault all ran one = all-ended report plan NodeFault all ran one
+ran-ended report plan Stalled all ran one = all-ended report plan Stalled all ran one
+ran-ended report plan ReadFault all ran one = all-ended report plan ReadFault all ran one
+ran-ended report plan WriteFault all ran one = absurd (no-one WriteFault (inl refl) one)
+ran-ended report plan OutOfMemory all ran one = absurd (no-one OutOfMemory (inr refl) one)
 
 -- Faults --
 
-steady-risen : (a b : ℕ) → b ≡ a → HasRisen a b → ⊥
+pub steady-risen : (a b : ℕ) → b ≡ a → HasRisen a b → ⊥
 steady-risen a b steady risen = absurd (omega (arith, steady, risen))
 
 one-unrisen : (a b : ℕ) → b ≡ one_more a → Unrisen a b → ⊥
 one-unrisen a b more un = absurd (omega (arith, more, un.0, un.1))
 
-rose-unrisen : (a b : ℕ) → Rose a b → Unrisen a b → ⊥
+pub rose-unrisen : (a b : ℕ) → Rose a b → Unrisen a b → ⊥
 rose-unrisen a b rose un = absurd (omega (arith, rose, un.0, un.1))
 
 abbrev pub read_statuses : List RunStatus
@@ -239,35 +249,35 @@ failed-by (Failed lines) status fs ns before now graph input came read is un by 
 failed-by (Refused line cause) status fs ns before now graph input came read is un by risen = absurd (steady-risen before.faults now.faults un.steady risen)
 failed-by no_lines status fs ns before now graph input came read is un by risen = absurd by
 
-all-risen : (plan : Plan) (status : RunStatus) (all : RunDevices) → RanAll plan status all → HasRisen all.input.before.faults all.input.now.faults → IsOneOf status read_statuses
-all-risen plan status all ran risen =
-    let told = told-by plan status all ran in
+all-risen : (report : Bool) (plan : Plan) (status : RunStatus) (all : RunDevices) → RanAll report plan status all → HasRisen all.input.before.faults all.input.now.faults → IsOneOf status read_statuses
+all-risen report plan status all ran risen =
+    let told = told-by report plan status all ran in
     failed-by ran.read.end status told.0 told.1 all.input.before all.input.now (inputs_of plan) all.input ran.input.came ran.read told.2 ran.input.faults ran.input.by risen
 
-pub read-risen : (plan : Plan) (status : RunStatus) (all : RunDevices) → Ran plan status all → HasRisen all.input.before.faults all.input.now.faults → IsOneOf status read_statuses
-read-risen plan Good all ran risen = all-risen plan Good all ran risen
-read-risen plan LineRefused all ran risen = all-risen plan LineRefused all ran risen
-read-risen plan NodeFault all ran risen = all-risen plan NodeFault all ran risen
-read-risen plan Stalled all ran risen = all-risen plan Stalled all ran risen
-read-risen plan ReadFault all ran risen = all-risen plan ReadFault all ran risen
-read-risen plan WriteFault all ran risen = inr (inl refl)
-read-risen plan OutOfMemory all ran risen = inr (inr (inl refl))
+pub read-risen : (report : Bool) (plan : Plan) (status : RunStatus) (all : RunDevices) → Ran report plan status all → HasRisen all.input.before.faults all.input.now.faults → IsOneOf status read_statuses
+read-risen report plan Good all ran risen = all-risen report plan Good all ran risen
+read-risen report plan LineRefused all ran risen = all-risen report plan LineRefused all ran risen
+read-risen report plan NodeFault all ran risen = all-risen report plan NodeFault all ran risen
+read-risen report plan Stalled all ran risen = all-risen report plan Stalled all ran risen
+read-risen report plan ReadFault all ran risen = all-risen report plan ReadFault all ran risen
+read-risen report plan WriteFault all ran risen = inr (inl refl)
+read-risen report plan OutOfMemory all ran risen = inr (inr (inl refl))
 
 abbrev pub WriteRisen : RunDevices → Type 0
 WriteRisen all = HasRisen all.output.before.faults all.output.now.faults ⊎ HasRisen all.notes.before.faults all.notes.now.faults
 
-write-steady : (plan : Plan) (status : RunStatus) (all : RunDevices) → RanAll plan status all → WriteRisen all → ⊥
-write-steady plan status all ran (inl risen) = steady-risen _ _ ran.met.text.steady risen
-write-steady plan status all ran (inr risen) = steady-risen _ _ ran.met.noted.steady risen
+write-steady : (report : Bool) (plan : Plan) (status : RunStatus) (all : RunDevices) → RanAll report plan status all → WriteRisen all → ⊥
+write-steady report plan status all ran (inl risen) = steady-risen _ _ ran.met.text.steady risen
+write-steady report plan status all ran (inr risen) = steady-risen _ _ ran.met.noted.steady risen
 
-pub write-risen : (plan : Plan) (status : RunStatus) (all : RunDevices) → Ran plan status all → WriteRisen all → IsOneOf status (WriteFault ∷ OutOfMemory ∷ [])
-write-risen plan Good all ran risen = absurd (write-steady plan Good all ran risen)
-write-risen plan LineRefused all ran risen = absurd (write-steady plan LineRefused all ran risen)
-write-risen plan NodeFault all ran risen = absurd (write-steady plan NodeFault all ran risen)
-write-risen plan Stalled all ran risen = absurd (write-steady plan Stalled all ran risen)
-write-risen plan ReadFault all ran risen = absurd (write-steady plan ReadFault all ran risen)
-write-risen plan WriteFault all ran risen = inl refl
-write-risen plan OutOfMemory all ran risen = inr (inl refl)
+pub write-risen : (report : Bool) (plan : Plan) (status : RunStatus) (all : RunDevices) → Ran report plan status all → WriteRisen all → IsOneOf status (WriteFault ∷ OutOfMemory ∷ [])
+write-risen report plan Good all ran risen = absurd (write-steady report plan Good all ran risen)
+write-risen report plan LineRefused all ran risen = absurd (write-steady report plan LineRefused all ran risen)
+write-risen report plan NodeFault all ran risen = absurd (write-steady report plan NodeFault all ran risen)
+write-risen report plan Stalled all ran risen = absurd (write-steady report plan Stalled all ran risen)
+write-risen report plan ReadFault all ran risen = absurd (write-steady report plan ReadFault all ran risen)
+write-risen report plan WriteFault all ran risen = inl refl
+write-risen report plan OutOfMemory all ran risen = inr (inl refl)
 
 -- The whole input --
 
@@ -293,29 +303,29 @@ whole-read graph input read bytes came is un =
     let gave : Gave (Some bytes) input.now.left came.came = subst (λ (o : Option (List ℕ)). Gave o input.now.left came.came) is came.gave in
     whole-by read.end graph input came.came bytes gave.0 read is gave.1 gave.2 came.by came.faults un
 
-all-answered : (plan : Plan) (status : RunStatus) (all : RunDevices) → RanAll plan status all → NoneFailed all → IsAnswered plan status all
-all-answered plan status all ran none = by all.input.before.left refl
+all-answered : (report : Bool) (plan : Plan) (status : RunStatus) (all : RunDevices) → RanAll report plan status all → NoneFailed all → IsAnswered report plan status all
+all-answered report plan status all ran none = by all.input.before.left refl
   where
-    by : (o : Option (List ℕ)) → all.input.before.left ≡ o → IfSome o (λ bytes. (answer : Answer) × AnswersEnded plan bytes answer × Meets answer status all)
+    by : (o : Option (List ℕ)) → all.input.before.left ≡ o → IfSome o (λ bytes. (answer : Answer) × AnswersEnded report plan bytes answer × Meets answer status all)
     by None is = tt
     by (Some bytes) is = (
       ran.answer,
-      subst (λ (r : Read). IsAnswer plan r ran.answer) (whole-read (inputs_of plan) all.input ran.read bytes ran.input is none.input) ran.is,
+      subst (λ (r : Read). IsAnswer report plan r ran.answer) (whole-read (inputs_of plan) all.input ran.read bytes ran.input is none.input) ran.is,
       ran.met,
     )
 
-short-failed : (plan : Plan) (all : RunDevices) → RanShort plan all → NoneFailed all → ⊥
-short-failed plan all ran none = by ran.rose
+short-failed : (report : Bool) (plan : Plan) (all : RunDevices) → RanShort report plan all → NoneFailed all → ⊥
+short-failed report plan all ran none = by ran.short.rose
   where
     by : Rose all.output.before.faults all.output.now.faults ⊎ Rose all.notes.before.faults all.notes.now.faults → ⊥
     by (inl rose) = rose-unrisen _ _ rose none.output
     by (inr rose) = rose-unrisen _ _ rose none.notes
 
-pub ran-answered : (plan : Plan) (status : RunStatus) (all : RunDevices) → Ran plan status all → NoneFailed all → status ≢ OutOfMemory → IsAnswered plan status all
-ran-answered plan Good all ran none some = all-answered plan Good all ran none
-ran-answered plan LineRefused all ran none some = all-answered plan LineRefused all ran none
-ran-answered plan NodeFault all ran none some = all-answered plan NodeFault all ran none
-ran-answered plan Stalled all ran none some = all-answered plan Stalled all ran none
-ran-answered plan ReadFault all ran none some = all-answered plan ReadFault all ran none
-ran-answered plan WriteFault all ran none some = absurd (short-failed plan all ran none)
-ran-answered plan OutOfMemory all ran none some = absurd (some refl)
+pub ran-answered : (report : Bool) (plan : Plan) (status : RunStatus) (all : RunDevices) → Ran report plan status all → NoneFailed all → status ≢ OutOfMemory → IsAnswered report plan status all
+ran-answered report plan Good all ran none some = all-answered report plan Good all ran none
+ran-answered report plan LineRefused all ran none some = all-answered report plan LineRefused all ran none
+ran-answered report plan NodeFault all ran none some = all-answered report plan NodeFault all ran none
+ran-answered report plan Stalled all ran none some = all-answered report plan Stalled all ran none
+ran-answered report plan ReadFault all ran none some = all-answered report plan ReadFault all ran none
+ran-answered report plan WriteFault all ran none some = absurd (short-failed report plan all ran none)
+ran-answered report plan OutOfMemory all ran none some = absurd (some refl)

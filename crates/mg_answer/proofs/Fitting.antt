@@ -38,7 +38,7 @@ found-all xs k (suc n) fits =
     let here = there xs k (omega (arith, fits)) in
     found-one (slice_get xs) k (range_with_len (k + 1) n) here.0 here.1 ∙ ap suc (found-all xs (k + 1) n (omega (arith, fits)))
 
-input-count : (plan : Plan) → IsValid plan → length (inputs_of plan).kinds ≡ length plan.inputs
+pub input-count : (plan : Plan) → IsValid plan → length (inputs_of plan).kinds ≡ length plan.inputs
 input-count plan valid =
     let whole : length plan.inputs + length (flat_map (λ node. node.outputs) plan.nodes) ≡ length plan.streams =
     sym (length-append plan.inputs (flat_map (λ node. node.outputs) plan.nodes)) ∙ ap length valid.streams ∙ length-range_with_len 0 (length plan.streams) in
@@ -49,7 +49,7 @@ input-count plan valid =
 
 -- Side packets --
 
-length-stepped : {X : Type 0} (place : ℕ) (step : X → X) (xs : List X) → length (stepped place step xs) ≡ length xs
+pub length-stepped : {X : Type 0} (place : ℕ) (step : X → X) (xs : List X) → length (stepped place step xs) ≡ length xs
 length-stepped place step [] = refl
 length-stepped zero step (x ∷ xs) = refl
 length-stepped (suc place) step (x ∷ xs) = ap suc (length-stepped place step xs)
@@ -99,7 +99,7 @@ side-by : (v : PlainSideValue) (s : PlainSide) (sides : List PlainSide) → s.va
 side-by (given_at place) s sides is same = rw is (ap suc same)
 side-by (fixed value) s sides is same = rw is same
 
-side-count : (sides : List PlainSide) → length (given_sides sides) ≡ length (filter_map (λ (e : PlainSide). side_place e.value) sides)
+pub side-count : (sides : List PlainSide) → length (given_sides sides) ≡ length (filter_map (λ (e : PlainSide). side_place e.value) sides)
 side-count [] = refl
 side-count (s ∷ sides) = side-by s.value s sides refl (side-count sides)
 

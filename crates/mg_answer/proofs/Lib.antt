@@ -1,10 +1,15 @@
 pub mod Keys
 pub mod Prefixes
 pub mod Fitting
+pub mod GeneratedFits
 pub mod OneAnswer
 pub mod Writing
 pub mod Gathering
 pub mod Telling
 pub mod Answering
 pub mod RunningOn
+pub mod Generating
+pub mod AddingSets
+pub mod Summing
 pub mod LongerTexts
+pub mod WorkedSummary

@@ -21,7 +21,7 @@ use Rattle.mg_feed.specs.Given.{ended_streams}
 use Rattle.mg_feed.specs.Stands.{AllGood}
 use Rattle.mg_feed.specs.declared.feed_end.FeedEnd.TheVariants.{Failed}
 use Rattle.mg_answer.specs.Text.{output_names, set_text, output_of}
-use Rattle.mg_answer.specs.Answer.{Read, Answer, ended_input, is_ended, inputs_by, AnswersEnded}
+use Rattle.mg_answer.specs.Answer.{Read, ended_input, is_ended, inputs_by, job_of}
 use Rattle.mg_answer.specs.Devices.{IsFront}
 use Rattle.mg_answer.proofs.Fitting.{inputs-fit, accepted-fit}
 
@@ -77,17 +77,18 @@ given-by-lines : (graph : GraphInputs) (read : Read) (lines : List (List ℕ)) (
     → AreExtendedBy streams (ended_streams (is_ended read.end) (given_by graph lines).streams) → AreExtendedBy streams (inputs_by graph read).streams
 given-by-lines graph read lines streams is e = subst (λ (l : List (List ℕ)). AreExtendedBy streams (ended_streams (is_ended read.end) (given_by graph l).streams)) (sym is) e
 
-pub texts-grow : (plan : Plan) (bytes : List ℕ) (lines more : List (List ℕ)) (streams : List (StreamPrefix Plain)) (answer : Answer) → IsValid plan
+pub texts-grow : (plan : Plan) (bytes : List ℕ) (lines more : List (List ℕ)) (streams longer : List (StreamPrefix Plain)) → IsValid plan
     → AllGood (inputs_of plan) [] (lines ++ more)
     → AreExtendedBy (given_by (inputs_of plan) lines).streams (ended_streams (is_ended (read_of plan bytes).end) (given_by (inputs_of plan) (lines ++ more)).streams)
     → accepted (inputs_of plan) (all_lines bytes) ≡ lines ++ more → (given_by (inputs_of plan) lines).sides ≡ (given_by (inputs_of plan) (lines ++ more)).sides
-    → IsSolution (record { plan = plan; inputs = given_so_far (inputs_of plan) lines }) streams → AnswersEnded plan bytes answer → IsFront (output_of plan streams) answer.output
-texts-grow plan bytes lines more streams answer valid good grows is sides solution answers =
+    → IsSolution (record { plan = plan; inputs = given_so_far (inputs_of plan) lines }) streams
+    → IsSolution (job_of plan (read_of plan bytes)) longer → IsFront (output_of plan streams) (output_of plan longer)
+texts-grow plan bytes lines more streams longer valid good grows is sides solution whole =
     let graph = inputs_of plan in
     let all = inputs_by graph (read_of plan bytes) in
     let here : IsJob (record { plan = plan; inputs = given_so_far graph lines }) = record { plan = valid; inputs = so-far-fits plan lines valid (good-front graph [] lines more good) } in
     let there : IsJob (record { plan = plan; inputs = all }) = record { plan = valid; inputs = accepted-fit plan (all_lines bytes) (read_of plan bytes).end valid } in
     let same : (given_so_far graph lines).sides ≡ all.sides = sides ∙ ap (λ l. (given_by graph l).sides) (sym is) in
-    let later : AreExtendedBy streams answers.streams =
-    solution_grows plan (given_so_far graph lines) all streams answers.streams here there same (given-by-lines graph (read_of plan bytes) (lines ++ more) _ is grows) solution answers.solution in
-    subst (λ (a : Answer). IsFront (output_of plan streams) a.output) (sym answers.is) (text-grows plan streams answers.streams later)
+    let later : AreExtendedBy streams longer =
+    solution_grows plan (given_so_far graph lines) all streams longer here there same (given-by-lines graph (read_of plan bytes) (lines ++ more) _ is grows) solution whole in
+    text-grows plan streams longer later

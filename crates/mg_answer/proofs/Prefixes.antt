@@ -45,7 +45,7 @@ same-name k (x ∷ xs) n m i e f =
 
 -- Streams --
 
-each-stepped : {X : Type 0} (P : X → Type 0) (i : ℕ) (f : X → X) (xs : List X) → IfSome (slice_get xs i) (λ x. P x → P (f x)) → Each P xs → Each P (stepped i f xs)
+pub each-stepped : {X : Type 0} (P : X → Type 0) (i : ℕ) (f : X → X) (xs : List X) → IfSome (slice_get xs i) (λ x. P x → P (f x)) → Each P xs → Each P (stepped i f xs)
 each-stepped P i f [] step h = tt
 each-stepped P zero f (x ∷ xs) step h = (step h.0, h.1)
 each-stepped P (suc i) f (x ∷ xs) step h = (h.0, each-stepped P i f xs step h.1)
@@ -130,7 +130,7 @@ each-lines graph names before (line ∷ lines) places good all =
     subst (λ (l : List (List ℕ)). Each IsPrefix (given_by graph l).streams) (append_assoc before (line ∷ []) lines)
     (each-lines graph names (before ++ line ∷ []) lines places good.1 next)
 
-each-fresh : (n : ℕ) → Each IsPrefix (replicate n (empty_prefix {X = Plain}))
+pub each-fresh : (n : ℕ) → Each IsPrefix (replicate n (empty_prefix {X = Plain}))
 each-fresh zero = tt
 each-fresh (suc n) = (empty_is_prefix, each-fresh n)
 

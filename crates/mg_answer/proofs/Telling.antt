@@ -17,44 +17,50 @@ use Rattle.mg_calc.specs.Plan.{IsValid, InputsFit}
 use Rattle.mg_calc.proofs.Solutions.{solution_keeps, solution_has_each}
 use Rattle.mg_calc.proofs.Jobs.{any_state, job_known}
 use Rattle.mg_answer.specs.Notes.{bounds_of}
-use Rattle.mg_answer.specs.Code.Bounds.{open_numbers}
+use Rattle.mg_answer.specs.Report.{end_of}
+use Rattle.mg_answer.specs.declared.outcomes.StreamEnd.{StreamEnd}
+use Rattle.mg_answer.specs.Code.Bounds.{open_numbers, end_bounds}
 
 -- streams
-open-by : (b : Bool) (n k bound : ℕ) (more : List (ℕ × ℕ)) → k < n → Each (λ i. i < n) (map (λ e. e.0) (filter (λ (e : ℕ × ℕ). not (e.1 == done)) more))
-    → not (bound == done) ≡ b → Each (λ i. i < n) (map (λ e. e.0) (filter (λ (e : ℕ × ℕ). not (e.1 == done)) ((k, bound) ∷ more)))
-open-by true n k bound more lt all is = rw is (lt, all)
-open-by false n k bound more lt all is = rw is all
+open-by : (b : Bool) (n k : ℕ) (end : StreamEnd) (more : List (ℕ × StreamEnd)) → k < n → Each (λ i. i < n) (map (λ e. e.0) (filter (λ (e : ℕ × StreamEnd). not (e.1.bound == done)) more))
+    → not (end.bound == done) ≡ b → Each (λ i. i < n) (map (λ e. e.0) (filter (λ (e : ℕ × StreamEnd). not (e.1.bound == done)) ((k, end) ∷ more)))
+open-by true n k end more lt all is = rw is (lt, all)
+open-by false n k end more lt all is = rw is all
 
-open-from : (n k : ℕ) (bounds : List ℕ) → k + length bounds ≤ n → Each (λ i. i < n) (map (λ e. e.0) (filter (λ (e : ℕ × ℕ). not (e.1 == done)) (enumerate_from k bounds)))
+open-from : (n k : ℕ) (ends : List StreamEnd) → k + length ends ≤ n → Each (λ i. i < n) (map (λ e. e.0) (filter (λ (e : ℕ × StreamEnd). not (e.1.bound == done)) (enumerate_from k ends)))
 open-from n k [] fits = tt
-open-from n k (b ∷ bs) fits = open-by (not (b == done)) n k b (enumerate_from (k + 1) bs) (omega (arith, fits)) (open-from n (k + 1) bs (omega (arith, fits))) refl
+open-from n k (e ∷ es) fits = open-by (not (e.bound == done)) n k e (enumerate_from (k + 1) es) (omega (arith, fits)) (open-from n (k + 1) es (omega (arith, fits))) refl
 
-open-below : (bounds : List ℕ) → All (λ i. i < length bounds) (open_numbers bounds)
-open-below bounds = All-from_recursion (λ i. i < length bounds) (open_numbers bounds) (open-from (length bounds) 0 bounds (omega arith))
+open-below : (ends : List StreamEnd) → All (λ i. i < length ends) (open_numbers ends)
+open-below ends = All-from_recursion (λ i. i < length ends) (open_numbers ends) (open-from (length ends) 0 ends (omega arith))
 
-pub open-there : (ns bounds : List ℕ) → ns ≡ open_numbers bounds → All (λ i. i < length bounds) ns
-open-there ns bounds is = subst (λ (l : List ℕ). All (λ i. i < length bounds) l) (sym is) (open-below bounds)
+pub open-there : (ns : List ℕ) (ends : List StreamEnd) → ns ≡ open_numbers ends → All (λ i. i < length ends) ns
+open-there ns ends is = subst (λ (l : List ℕ). All (λ i. i < length ends) l) (sym is) (open-below ends)
 
--- the streams that haven't ended are told by the bounds
-open-more : (b : Bool) (k : ℕ) (s : StreamPrefix Plain) (bounds : List (ℕ × ℕ)) (more : List (ℕ × StreamPrefix Plain)) → not (s.bound == done) ≡ b
-    → map (λ e. e.0) (filter (λ (e : ℕ × ℕ). not (e.1 == done)) bounds) ≡ map (λ e. e.0) (filter (λ (e : ℕ × StreamPrefix Plain). not (e.1.bound == done)) more)
-    → map (λ e. e.0) (filter (λ (e : ℕ × ℕ). not (e.1 == done)) ((k, s.bound) ∷ bounds))
+-- the streams that haven't ended are told by their ends
+open-more : (b : Bool) (k : ℕ) (s : StreamPrefix Plain) (ends : List (ℕ × StreamEnd)) (more : List (ℕ × StreamPrefix Plain)) → not (s.bound == done) ≡ b
+    → map (λ e. e.0) (filter (λ (e : ℕ × StreamEnd). not (e.1.bound == done)) ends) ≡ map (λ e. e.0) (filter (λ (e : ℕ × StreamPrefix Plain). not (e.1.bound == done)) more)
+    → map (λ e. e.0) (filter (λ (e : ℕ × StreamEnd). not (e.1.bound == done)) ((k, end_of s) ∷ ends))
     ≡ map (λ e. e.0) (filter (λ (e : ℕ × StreamPrefix Plain). not (e.1.bound == done)) ((k, s) ∷ more))
-open-more true k s bounds more is same = rw is (ap (λ (l : List ℕ). k ∷ l) same)
-open-more false k s bounds more is same = rw is same
+open-more true k s ends more is same = rw is (ap (λ (l : List ℕ). k ∷ l) same)
+open-more false k s ends more is same = rw is same
 
 open-each : (k : ℕ) (ss : List (StreamPrefix Plain))
-    → map (λ e. e.0) (filter (λ (e : ℕ × ℕ). not (e.1 == done)) (enumerate_from k (bounds_of ss)))
+    → map (λ e. e.0) (filter (λ (e : ℕ × StreamEnd). not (e.1.bound == done)) (enumerate_from k (map end_of ss)))
     ≡ map (λ e. e.0) (filter (λ (e : ℕ × StreamPrefix Plain). not (e.1.bound == done)) (enumerate_from k ss))
 open-each k [] = refl
-open-each k (s ∷ ss) = open-more (not (s.bound == done)) k s (enumerate_from (k + 1) (bounds_of ss)) (enumerate_from (k + 1) ss) refl (open-each (k + 1) ss)
+open-each k (s ∷ ss) = open-more (not (s.bound == done)) k s (enumerate_from (k + 1) (map end_of ss)) (enumerate_from (k + 1) ss) refl (open-each (k + 1) ss)
 
-pub open-stalled : (ss : List (StreamPrefix Plain)) → open_numbers (bounds_of ss) ≡ stalled ss
+pub open-stalled : (ss : List (StreamPrefix Plain)) → open_numbers (map end_of ss) ≡ stalled ss
 open-stalled ss = open-each 0 ss
 
--- there is a bound for each stream
-pub bounds-each : (bounds : List ℕ) (ss : List (StreamPrefix Plain)) → bounds ≡ bounds_of ss → length bounds ≡ length ss
-bounds-each bounds ss is = ap length is ∙ length-map ss (λ s. s.bound)
+pub bounds-told : (ss : List (StreamPrefix Plain)) → end_bounds (map end_of ss) ≡ bounds_of ss
+bounds-told [] = refl
+bounds-told (s ∷ ss) = ap (λ (l : List ℕ). s.bound ∷ l) (bounds-told ss)
+
+-- there is an end for each stream
+pub ends-each : (ends : List StreamEnd) (ss : List (StreamPrefix Plain)) → ends ≡ map end_of ss → length ends ≡ length ss
+ends-each ends ss is = ap length is ∙ length-map ss end_of
 
 -- nodes
 fault-cons : (n : ℕ) (e : ℕ × PlanNode) (job : Job) (ss : List (StreamPrefix Plain)) (more : List (ℕ × PlanNode)) (o : Option Failure) → (outcome_of job ss e.1).fault ≡ o → e.0 < n

@@ -1,6 +1,6 @@
--- What a run of a graph answers: its output text, its notes and its status, as a function of the plan, of the lines that
--- count and of the solution. There is one solution (mg_calc), so the input's bytes decide the answer.
-use Rattle.std.specs.Prelude.{◌≡◌, ℕ, List, [], Bool, true, false, Option, None, Some, length}
+-- What a run of a graph answers: its output, its notes and its status, as a function of the plan, of what is handed in and of
+-- the solution. There is one solution (mg_calc), so the input's bytes, or the number of packets that are made, decide the answer.
+use Rattle.std.specs.Prelude.{◌≡◌, ℕ, List, [], ◌++◌, Bool, true, false, Option, None, Some, length}
 use Rattle.mg_value.specs.Payload.{Plain}
 use Rattle.mg_value.specs.Prefix.{StreamPrefix}
 use Rattle.mg_calc.specs.declared.inputs.Inputs.{Inputs}
@@ -11,9 +11,12 @@ use Rattle.mg_feed.specs.Graph.{GraphInputs, inputs_of}
 use Rattle.mg_feed.specs.Lines.{all_lines, whole_lines}
 use Rattle.mg_feed.specs.Accepted.{Refused as RefusedLine, given_by, accepted, first_refused_after}
 use Rattle.mg_feed.specs.Given.{ended_streams}
+use Rattle.mg_feed.specs.Generated.{generated, generated_sides}
 use Rattle.mg_feed.specs.declared.feed_end.FeedEnd.{FeedEnd}
 use Rattle.mg_feed.specs.declared.feed_end.FeedEnd.TheVariants.{Ended, Failed, Refused, OutOfMemory}
 use Rattle.mg_answer.specs.Text.{output_of}
+use Rattle.mg_answer.specs.Summary.{summary_of}
+use Rattle.mg_answer.specs.Report.{report_of, asked_report}
 use Rattle.mg_answer.specs.Told.{status_of}
 use Rattle.mg_answer.specs.Notes.{notes_of}
 use Rattle.mg_answer.specs.declared.run_status.RunStatus.{RunStatus}
@@ -58,34 +61,68 @@ inputs_by graph read = record {
 abbrev pub job_of : Plan → Read → Job
 job_of plan read = record { plan = plan; inputs = inputs_by (inputs_of plan) read }
 
+-- What is made for a graph where it is run without an input: so many packets, behind which every stream closes.
+abbrev pub generated_inputs : GraphInputs → ℕ → Inputs
+generated_inputs graph number = record {
+  streams = generated graph.kinds number;
+  sides = generated_sides (length graph.sides);
+  ended = true;
+}
+
+abbrev pub generated_job : Plan → ℕ → Job
+generated_job plan number = record { plan = plan; inputs = generated_inputs (inputs_of plan) number }
+
 -- The answer --
+
+-- How a solution is told: by the lines of its outputs or by a summary of these, and with a report behind the notes or without.
+pub data Form : Type 0 where
+  packet_lines : Form
+  totals : Form
+
+pub record Telling : Type 0 where
+  pub form : Form
+  pub report : Bool
+
+abbrev pub by_lines : Bool → Telling
+by_lines report = record { form = packet_lines; report = report }
+
+abbrev pub by_summary : Bool → Telling
+by_summary report = record { form = totals; report = report }
+
+abbrev pub output_in : Form → Plan → List (StreamPrefix Plain) → List ℕ
+output_in packet_lines plan streams = output_of plan streams
+output_in totals plan streams = summary_of plan streams
 
 pub record Answer : Type 0 where
   pub output : List ℕ
   pub notes : List ℕ
   pub status : RunStatus
 
--- the answer of a job with this output text, whose input ended so: notes and status are told of the streams
-abbrev pub answer_of : List ℕ → Job → FeedEnd → List (StreamPrefix Plain) → Answer
-answer_of output job end streams = record {
-  output = output;
-  notes = notes_of job.plan end (faults job streams) streams;
+-- the answer that the streams of a job make, whose input ended so
+abbrev pub answer_of : Telling → Job → FeedEnd → List (StreamPrefix Plain) → Answer
+answer_of telling job end streams = record {
+  output = output_in telling.form job.plan streams;
+  notes = notes_of job.plan end (faults job streams) streams ++ asked_report telling.report (report_of job streams);
   status = status_of end (faults job streams) (stalled streams);
 }
 
--- the answer that the streams of a plan make, over an input that came to this
-abbrev pub run_answer : Plan → Read → List (StreamPrefix Plain) → Answer
-run_answer plan read streams = answer_of (output_of plan streams) (job_of plan read) read.end streams
-
--- An answer is that of a graph over an input that came to this: the answer of the solution.
-pub record IsAnswer (plan : Plan) (read : Read) (answer : Answer) : Type 0 where
+-- An answer is that of a job whose input ended so: the answer of the solution.
+pub record IsAnswerOf (telling : Telling) (job : Job) (end : FeedEnd) (answer : Answer) : Type 0 where
   pub streams : List (StreamPrefix Plain)
-  pub solution : IsSolution (job_of plan read) streams
-  pub is : answer ≡ run_answer plan read streams
+  pub solution : IsSolution job streams
+  pub is : answer ≡ answer_of telling job end streams
+
+-- the answer of a graph over an input that came to this, with a report or without
+abbrev pub IsAnswer : Bool → Plan → Read → Answer → Type 0
+IsAnswer report plan read answer = IsAnswerOf (by_lines report) (job_of plan read) read.end answer
 
 -- the answer of a graph over an input that ended after these bytes, and over one of which a read failed after them
-abbrev pub AnswersEnded : Plan → List ℕ → Answer → Type 0
-AnswersEnded plan bytes answer = IsAnswer plan (ended_input (inputs_of plan) bytes) answer
+abbrev pub AnswersEnded : Bool → Plan → List ℕ → Answer → Type 0
+AnswersEnded report plan bytes answer = IsAnswer report plan (ended_input (inputs_of plan) bytes) answer
 
-abbrev pub AnswersCut : Plan → List ℕ → Answer → Type 0
-AnswersCut plan bytes answer = IsAnswer plan (cut_input (inputs_of plan) bytes) answer
+abbrev pub AnswersCut : Bool → Plan → List ℕ → Answer → Type 0
+AnswersCut report plan bytes answer = IsAnswer report plan (cut_input (inputs_of plan) bytes) answer
+
+-- the answer of a graph over so many packets that are made: a summary
+abbrev pub AnswersGenerated : Bool → Plan → ℕ → Answer → Type 0
+AnswersGenerated report plan number answer = IsAnswerOf (by_summary report) (generated_job plan number) Ended answer

@@ -1,6 +1,9 @@
 pub mod Shown
 pub mod Text
 pub mod Told
+pub mod Summary
+pub mod Report
+pub mod Outcomes
 pub mod Notes
 pub mod Answer
 pub mod Devices

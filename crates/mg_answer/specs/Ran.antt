@@ -8,7 +8,12 @@ use Rattle.mg_feed.specs.Lines.{whole_lines}
 use Rattle.mg_feed.specs.Ran.{EndCame, MetEnd, FailedBy}
 use Rattle.mg_feed.specs.declared.feed_end.FeedEnd.{FeedEnd}
 use Rattle.mg_feed.specs.declared.feed_end.FeedEnd.TheVariants.{Ended, Failed, Refused, OutOfMemory as no_lines}
-use Rattle.mg_answer.specs.Answer.{Read, Answer, ended_input, cut_input, IsAnswer, AnswersEnded}
+use Rattle.mg_value.specs.Payload.{Plain}
+use Rattle.mg_value.specs.Prefix.{StreamPrefix}
+use Rattle.mg_calc.specs.Equations.{IsSolution}
+use Rattle.mg_answer.specs.Text.{output_of}
+use Rattle.mg_answer.specs.Summary.{summary_of}
+use Rattle.mg_answer.specs.Answer.{Read, Answer, ended_input, cut_input, job_of, generated_job, IsAnswer, AnswersEnded, AnswersGenerated}
 use Rattle.mg_answer.specs.Devices.{Device, RunDevices, Untouched, TookFront, TookText}
 use Rattle.mg_answer.specs.declared.run_status.RunStatus.{RunStatus}
 use Rattle.mg_answer.specs.declared.run_status.RunStatus.TheVariants.{WriteFault, OutOfMemory}
@@ -42,56 +47,88 @@ pub record Meets (answer : Answer) (status : RunStatus) (devices : RunDevices) :
   pub told : status ≡ answer.status
 
 -- The run met the answer over what its input came to.
-pub record RanAll (plan : Plan) (status : RunStatus) (devices : RunDevices) : Type 0 where
+pub record RanAll (report : Bool) (plan : Plan) (status : RunStatus) (devices : RunDevices) : Type 0 where
   pub read : Read
   pub input : CameTo (inputs_of plan) devices.input read
   pub answer : Answer
-  pub is : IsAnswer plan read answer
+  pub is : IsAnswer report plan read answer
   pub met : Meets answer status devices
 
--- A write failed, after the input was read. Where none to the output did, it took all of the answer's text.
-pub record RanShort (plan : Plan) (devices : RunDevices) : Type 0 where
-  pub read : Read
-  pub input : CameTo (inputs_of plan) devices.input read
-  pub answer : Answer
-  pub is : IsAnswer plan read answer
+-- A write failed, after all was told. Where none to the output did, it took all of the answer's text.
+pub record MetShort (answer : Answer) (devices : RunDevices) : Type 0 where
   pub rose : Rose devices.output.before.faults devices.output.now.faults ⊎ Rose devices.notes.before.faults devices.notes.now.faults
   pub front : TookFront devices.output answer.output
   pub whole : Rose devices.output.before.faults devices.output.now.faults ⊎ TookText devices.output answer.output
+
+-- A write failed, after the input was read.
+pub record RanShort (report : Bool) (plan : Plan) (devices : RunDevices) : Type 0 where
+  pub read : Read
+  pub input : CameTo (inputs_of plan) devices.input read
+  pub answer : Answer
+  pub is : IsAnswer report plan read answer
+  pub short : MetShort answer devices
 
 -- The output took a front of the answer's text over what the input came to.
 pub record TookSome (plan : Plan) (devices : RunDevices) : Type 0 where
   pub read : Read
   pub input : CameTo (inputs_of plan) devices.input read
-  pub answer : Answer
-  pub is : IsAnswer plan read answer
-  pub front : TookFront devices.output answer.output
+  pub streams : List (StreamPrefix Plain)
+  pub solution : IsSolution (job_of plan read) streams
+  pub front : TookFront devices.output (output_of plan streams)
 
 -- Memory ran out, before anything was written or after the input was read.
 abbrev pub RanOut : Plan → RunDevices → Type 0
 RanOut plan devices = Untouched devices.output ⊎ TookSome plan devices
 
 -- A run ended with this status.
-abbrev pub Ran : Plan → RunStatus → RunDevices → Type 0
-Ran plan WriteFault devices = RanShort plan devices
-Ran plan OutOfMemory devices = RanOut plan devices
-Ran plan status devices = RanAll plan status devices
+abbrev pub Ran : Bool → Plan → RunStatus → RunDevices → Type 0
+Ran report plan WriteFault devices = RanShort report plan devices
+Ran report plan OutOfMemory devices = RanOut plan devices
+Ran report plan status devices = RanAll report plan status devices
 
 -- Memory ran out: after the input was read, and the output took a front of the answer's text over what it came to; or while it
 -- came, and where the input tells its bytes the output took a front of the answer's text over an input that ends after them.
 abbrev pub RanShortOf : Plan → RunDevices → Type 0
 RanShortOf plan devices =
-    TookSome plan devices ⊎ IfSome devices.input.before.left (λ bytes. (answer : Answer) → AnswersEnded plan bytes answer → TookFront devices.output answer.output)
+    TookSome plan devices ⊎ IfSome devices.input.before.left (λ bytes. (streams : List (StreamPrefix Plain))
+    → IsSolution (job_of plan (ended_input (inputs_of plan) bytes)) streams → TookFront devices.output (output_of plan streams))
 
 -- A run that writes as it goes ended with this status.
-abbrev pub RanOn : Plan → RunStatus → RunDevices → Type 0
-RanOn plan WriteFault devices = RanShort plan devices
-RanOn plan OutOfMemory devices = RanShortOf plan devices
-RanOn plan status devices = RanAll plan status devices
+abbrev pub RanOn : Bool → Plan → RunStatus → RunDevices → Type 0
+RanOn report plan WriteFault devices = RanShort report plan devices
+RanOn report plan OutOfMemory devices = RanShortOf plan devices
+RanOn report plan status devices = RanAll report plan status devices
 
 -- Where the input tells its bytes, the run met the answer over an input that ends after them.
-abbrev pub IsAnswered : Plan → RunStatus → RunDevices → Type 0
-IsAnswered plan status devices = IfSome devices.input.before.left (λ bytes. (answer : Answer) × AnswersEnded plan bytes answer × Meets answer status devices)
+abbrev pub IsAnswered : Bool → Plan → RunStatus → RunDevices → Type 0
+IsAnswered report plan status devices =
+    IfSome devices.input.before.left (λ bytes. (answer : Answer) × AnswersEnded report plan bytes answer × Meets answer status devices)
+
+-- A run over packets that are made --
+
+-- It met the answer over these.
+pub record GeneratedAll (report : Bool) (plan : Plan) (number : ℕ) (status : RunStatus) (devices : RunDevices) : Type 0 where
+  pub answer : Answer
+  pub is : AnswersGenerated report plan number answer
+  pub met : Meets answer status devices
+
+-- A write failed.
+pub record GeneratedShort (report : Bool) (plan : Plan) (number : ℕ) (devices : RunDevices) : Type 0 where
+  pub answer : Answer
+  pub is : AnswersGenerated report plan number answer
+  pub short : MetShort answer devices
+
+-- Memory ran out: the output took a front of the summary.
+pub record GeneratedSome (plan : Plan) (number : ℕ) (devices : RunDevices) : Type 0 where
+  pub streams : List (StreamPrefix Plain)
+  pub solution : IsSolution (generated_job plan number) streams
+  pub front : TookFront devices.output (summary_of plan streams)
+
+-- A run over so many packets that are made ended with this status.
+abbrev pub RanGenerated : Bool → Plan → ℕ → RunStatus → RunDevices → Type 0
+RanGenerated report plan number WriteFault devices = GeneratedShort report plan number devices
+RanGenerated report plan number OutOfMemory devices = GeneratedSome plan number devices
+RanGenerated report plan number status devices = GeneratedAll report plan number status devices
 
 -- a status is one of these
 abbrev pub IsOneOf : RunStatus → List RunStatus → Type 0

@@ -5,8 +5,7 @@ use Rattle.mg_value.specs.Payload.{Plain}
 use Rattle.mg_value.specs.Prefix.{StreamPrefix}
 use Rattle.mg_calc.specs.Equations.{Job, IsSolution}
 use Rattle.mg_feed.specs.declared.feed_end.FeedEnd.{FeedEnd}
-use Rattle.mg_answer.specs.Text.{output_of}
-use Rattle.mg_answer.specs.Answer.{Answer, answer_of}
+use Rattle.mg_answer.specs.Answer.{Telling, Answer, answer_of}
 use Rattle.mg_answer.specs.Devices.{Device, TookFront, TookText}
 use Rattle.mg_answer.specs.declared.run_status.RunStatus.{RunStatus}
 use Rattle.mg_answer.specs.declared.run_status.RunStatus.TheVariants.{WriteFault}
@@ -27,8 +26,8 @@ abbrev pub WroteBy : RunStatus → Answer → Device SinkTold → Device SinkTol
 WroteBy WriteFault answer output notes = WroteShort answer output notes
 WroteBy status answer output notes = WroteAll answer status output notes
 
--- the answer of a job's solution was written
-pub record Wrote (job : Job) (end : FeedEnd) (status : RunStatus) (output notes : Device SinkTold) : Type 0 where
+-- the answer of a job's solution was written, told so
+pub record Wrote (telling : Telling) (job : Job) (end : FeedEnd) (status : RunStatus) (output notes : Device SinkTold) : Type 0 where
   pub streams : List (StreamPrefix Plain)
   pub solution : IsSolution job streams
-  pub by : WroteBy status (answer_of (output_of job.plan streams) job end streams) output notes
+  pub by : WroteBy status (answer_of telling job end streams) output notes

@@ -1,12 +1,14 @@
 //! Laws of what a run answers: each function does nothing, and its contract is the law.
-ghost use Rattle.std.specs.Prelude.{◌≡◌, ◌≢◌, ◌⊎◌, ℕ, Bool, false, List, [], ◌∷◌, ◌++◌, None};
+ghost use Rattle.std.specs.Prelude.{◌≡◌, ◌≢◌, ◌⊎◌, ◌<◌, ◌^◌, ℕ, length, Bool, false, List, [], ◌∷◌, ◌++◌, None};
 ghost use Rattle.mg_edge.specs.Edge.{SourceTold, SinkTold};
 ghost use Rattle.mg_edge.specs.Runs.{Gave};
 ghost use Rattle.mg_value.specs.Payload.{Plain};
 ghost use Rattle.mg_value.specs.Prefix.{StreamPrefix};
+ghost use Rattle.mg_value.specs.declared.policy.Policy.TheVariants.{Default};
+ghost use Rattle.mg_value.specs.Settled.{settled_sets, inputs_of as ports_of};
 ghost use Rattle.mg_calc.specs.declared.plan.Plan.{Plan};
 ghost use Rattle.mg_calc.specs.Plan.{IsValid, InputsFit};
-ghost use Rattle.mg_calc.specs.Equations.{IsSolution};
+ghost use Rattle.mg_calc.specs.Equations.{Job, IsJob, IsSolution};
 ghost use Rattle.mg_calc.specs.Meaning.{faults, stalled};
 ghost use Rattle.mg_feed.specs.declared.feed_end.FeedEnd.{FeedEnd};
 ghost use Rattle.mg_feed.specs.declared.feed_end.FeedEnd.TheVariants as ends;
@@ -17,11 +19,13 @@ ghost use Rattle.mg_feed.specs.Stands.{AllGood};
 ghost use Rattle.mg_feed.specs.Ran.{EndCame, MetEnd, FailedBy};
 ghost use Rattle.mg_feed.specs.Batch.{EndsAs};
 ghost use Rattle.mg_answer.specs.Text.{output_of};
-ghost use Rattle.mg_answer.specs.Answer.{Read, Answer, ended_input, inputs_by, job_of, IsAnswer, AnswersEnded, AnswersCut};
-ghost use Rattle.mg_answer.specs.Devices.{Device, device, RunDevices, HasRisen, NoneFailed, IsFront, TookFront};
+ghost use Rattle.mg_answer.specs.Summary.{summary_of};
+ghost use Rattle.mg_answer.specs.Report.{report_of, asked_report};
+ghost use Rattle.mg_answer.specs.Answer.{Read, Telling, by_lines, by_summary, Answer, ended_input, inputs_by, job_of, generated_inputs, generated_job, IsAnswerOf, AnswersEnded, AnswersCut, AnswersGenerated};
+ghost use Rattle.mg_answer.specs.Devices.{Device, device, RunDevices, HasRisen, Unrisen, NoneFailed, IsFront, TookFront};
 ghost use Rattle.mg_answer.specs.Put.{TextView, nothing_put, HasPut};
 ghost use Rattle.mg_answer.specs.Wrote.{Wrote};
-ghost use Rattle.mg_answer.specs.Ran.{CameTo, RanOn, IsAnswered, IsOneOf};
+ghost use Rattle.mg_answer.specs.Ran.{CameTo, Meets, RanOn, RanGenerated, IsAnswered, IsOneOf};
 ghost use Rattle.mg_answer.specs.declared.run_status.RunStatus.{RunStatus};
 ghost use Rattle.mg_answer.specs.declared.run_status.RunStatus.TheVariants.{Good, NodeFault, Stalled, ReadFault, WriteFault, OutOfMemory};
 
@@ -31,19 +35,30 @@ pub fn what_lines_give_fits()
     ensures { (plan : Plan) (read : Read) → IsValid plan → AllGood (inputs_of plan) [] read.lines → InputsFit plan (inputs_by (inputs_of plan) read) }
 {}
 
-/// Over whatever bytes a valid plan's graph has one answer, whether the input ended after them or a read failed.
+/// So many packets as the inputs of a valid plan's graph are given fit the plan, each input with a prefix that has ended.
+pub fn generated_packets_fit()
+    ensures { (plan : Plan) (number : ℕ) → IsValid plan → number < 2 ^ 32 → InputsFit plan (generated_inputs (inputs_of plan) number) }
+{}
+
+/// Over whatever bytes a valid plan's graph has one answer, whether the input ended after them or a read failed, and so it has
+/// over packets that are made.
 pub fn there_is_one_answer()
-    ensures ended { (plan : Plan) (bytes : List ℕ) → IsValid plan → (answer : Answer) × AnswersEnded plan bytes answer }
-    ensures cut { (plan : Plan) (bytes : List ℕ) → IsValid plan → (answer : Answer) × AnswersCut plan bytes answer }
-    ensures one { (plan : Plan) (read : Read) (answer other : Answer) → IsAnswer plan read answer → IsAnswer plan read other → answer ≡ other }
+    ensures ended { (report : Bool) (plan : Plan) (bytes : List ℕ) → IsValid plan → (answer : Answer) × AnswersEnded report plan bytes answer }
+    ensures cut { (report : Bool) (plan : Plan) (bytes : List ℕ) → IsValid plan → (answer : Answer) × AnswersCut report plan bytes answer }
+    ensures generated { (report : Bool) (plan : Plan) (number : ℕ) → IsValid plan → number < 2 ^ 32 → (answer : Answer) × AnswersGenerated report plan number answer }
+    ensures one { (telling : Telling) (job : Job) (end : FeedEnd) (answer other : Answer) → IsAnswerOf telling job end answer → IsAnswerOf telling job end other → answer ≡ other }
 {}
 
 /// Where each line is good, no node fails and no stream stalls, the answer over an input that ends well is a good one: all of the output
-/// text, and no note.
+/// text, and no note but the report where it is asked for. Packets that are made have no line.
 pub fn what_has_no_fault_is_good()
-    ensures { (plan : Plan) (bytes : List ℕ) (streams : List (StreamPrefix Plain)) (answer : Answer) → IsSolution (job_of plan (ended_input (inputs_of plan) bytes)) streams
-        → first_refused_after (inputs_of plan) [] (all_lines bytes) ≡ None → faults (job_of plan (ended_input (inputs_of plan) bytes)) streams ≡ [] → stalled streams ≡ []
-        → AnswersEnded plan bytes answer → answer ≡ record { output = output_of plan streams; notes = []; status = Good } }
+    ensures read { (report : Bool) (plan : Plan) (bytes : List ℕ) (streams : List (StreamPrefix Plain)) (answer : Answer)
+        → let job = job_of plan (ended_input (inputs_of plan) bytes) in IsSolution job streams
+        → first_refused_after (inputs_of plan) [] (all_lines bytes) ≡ None → faults job streams ≡ [] → stalled streams ≡ []
+        → AnswersEnded report plan bytes answer → answer ≡ record { output = output_of plan streams; notes = asked_report report (report_of job streams); status = Good } }
+    ensures generated { (report : Bool) (plan : Plan) (number : ℕ) (streams : List (StreamPrefix Plain)) (answer : Answer)
+        → let job = generated_job plan number in IsSolution job streams → faults job streams ≡ [] → stalled streams ≡ []
+        → AnswersGenerated report plan number answer → answer ≡ record { output = summary_of plan streams; notes = asked_report report (report_of job streams); status = Good } }
 {}
 
 /// Before anything is put of a text, all of an empty one was. And what is put of a text so far is taken in front.
@@ -61,23 +76,43 @@ pub fn the_front_of_the_text()
 /// end, its first line that isn't good, or its first fault, and where no device failed the run met the answer; where it went
 /// well, or a node failed or a stream never closed, the input's end was met. No fault of a device hides behind another status.
 pub fn runs_that_write_as_they_go()
-    ensures read { (plan : Plan) (status : RunStatus) (devices : RunDevices) → RanOn plan status devices → status ≢ OutOfMemory
+    ensures read { (report : Bool) (plan : Plan) (status : RunStatus) (devices : RunDevices) → RanOn report plan status devices → status ≢ OutOfMemory
         → (read : Read) × CameTo (inputs_of plan) devices.input read }
-    ensures ended { (plan : Plan) (status : RunStatus) (devices : RunDevices) → RanOn plan status devices → IsOneOf status (Good ∷ NodeFault ∷ Stalled ∷ [])
+    ensures ended { (report : Bool) (plan : Plan) (status : RunStatus) (devices : RunDevices) → RanOn report plan status devices → IsOneOf status (Good ∷ NodeFault ∷ Stalled ∷ [])
         → EndCame devices.input.before devices.input.now }
-    ensures answered { (plan : Plan) (status : RunStatus) (devices : RunDevices) → RanOn plan status devices → NoneFailed devices → status ≢ OutOfMemory
-        → IsAnswered plan status devices }
-    ensures read_rose { (plan : Plan) (status : RunStatus) (devices : RunDevices) → RanOn plan status devices
+    ensures answered { (report : Bool) (plan : Plan) (status : RunStatus) (devices : RunDevices) → RanOn report plan status devices → NoneFailed devices → status ≢ OutOfMemory
+        → IsAnswered report plan status devices }
+    ensures read_rose { (report : Bool) (plan : Plan) (status : RunStatus) (devices : RunDevices) → RanOn report plan status devices
         → HasRisen devices.input.before.faults devices.input.now.faults → IsOneOf status (ReadFault ∷ WriteFault ∷ OutOfMemory ∷ []) }
-    ensures write_rose { (plan : Plan) (status : RunStatus) (devices : RunDevices) → RanOn plan status devices
+    ensures write_rose { (report : Bool) (plan : Plan) (status : RunStatus) (devices : RunDevices) → RanOn report plan status devices
         → HasRisen devices.output.before.faults devices.output.now.faults ⊎ HasRisen devices.notes.before.faults devices.notes.now.faults
         → IsOneOf status (WriteFault ∷ OutOfMemory ∷ []) }
 {}
 
-/// Where the input came to something and the answer over it was written, a run that writes as it goes ended so.
+/// What follows where a run over packets that are made ended with a status: unless memory ran out, it met the answer where neither
+/// the output nor the notes failed, and no fault of them hides behind another status.
+pub fn runs_over_generated_packets()
+    ensures answered { (report : Bool) (plan : Plan) (number : ℕ) (status : RunStatus) (devices : RunDevices) → RanGenerated report plan number status devices
+        → Unrisen devices.output.before.faults devices.output.now.faults → Unrisen devices.notes.before.faults devices.notes.now.faults → status ≢ OutOfMemory
+        → (answer : Answer) × AnswersGenerated report plan number answer × Meets answer status devices }
+    ensures write_rose { (report : Bool) (plan : Plan) (number : ℕ) (status : RunStatus) (devices : RunDevices) → RanGenerated report plan number status devices
+        → HasRisen devices.output.before.faults devices.output.now.faults ⊎ HasRisen devices.notes.before.faults devices.notes.now.faults
+        → IsOneOf status (WriteFault ∷ OutOfMemory ∷ []) }
+{}
+
+/// Where the input came to something and the answer over it was written, a run that writes as it goes ended so; and where that
+/// over packets that are made was, a run over these did.
 pub fn what_is_written_ran()
-    ensures { (plan : Plan) (read : Read) (devices : RunDevices) (status : RunStatus) → CameTo (inputs_of plan) devices.input read
-        → Wrote (job_of plan read) read.end status devices.output devices.notes → RanOn plan status devices }
+    ensures read { (report : Bool) (plan : Plan) (read : Read) (devices : RunDevices) (status : RunStatus) → CameTo (inputs_of plan) devices.input read
+        → Wrote (by_lines report) (job_of plan read) read.end status devices.output devices.notes → RanOn report plan status devices }
+    ensures generated { (report : Bool) (plan : Plan) (number : ℕ) (devices : RunDevices) (status : RunStatus)
+        → Wrote (by_summary report) (generated_job plan number) ends.Ended status devices.output devices.notes → RanGenerated report plan number status devices }
+{}
+
+/// The outputs of a solution have fewer settled sets than 64 bits count.
+pub fn sets_are_few()
+    ensures { (job : Job) (streams : List (StreamPrefix Plain)) → IsJob job → IsSolution job streams
+        → length (settled_sets Default (ports_of streams job.plan.outputs)) < 2 ^ 64 }
 {}
 
 /// What batches in a row came to: bytes that the source gave, lines that were accepted of them, and an end that these lines
@@ -88,15 +123,15 @@ pub fn what_batches_came_to()
         → FailedBy end input.before input.now → end ≢ ends.OutOfMemory → CameTo graph input (record { lines = lines; end = end }) }
 {}
 
-/// The output text of lines so far is a front of the text that is answered over a whole input that begins with them, where no
-/// side packet comes behind them.
+/// The output text of lines so far is a front of the text of a whole input that begins with them, where no side packet comes behind
+/// them.
 pub fn texts_grow()
-    ensures { (plan : Plan) (bytes : List ℕ) (lines more : List (List ℕ)) (streams : List (StreamPrefix Plain)) (answer : Answer) → IsValid plan
+    ensures { (plan : Plan) (bytes : List ℕ) (lines more : List (List ℕ)) (streams longer : List (StreamPrefix Plain)) → IsValid plan
         → accepted (inputs_of plan) (all_lines bytes) ≡ lines ++ more
         → (given_by (inputs_of plan) lines).sides ≡ (given_by (inputs_of plan) (lines ++ more)).sides
         → IsSolution (record {
           plan = plan;
           inputs = record { streams = (given_by (inputs_of plan) lines).streams; sides = (given_by (inputs_of plan) lines).sides; ended = false };
         }) streams
-        → AnswersEnded plan bytes answer → IsFront (output_of plan streams) answer.output }
+        → IsSolution (job_of plan (ended_input (inputs_of plan) bytes)) longer → IsFront (output_of plan streams) (output_of plan longer) }
 {}

@@ -1,21 +1,30 @@
-//! What a run of a graph answers: its output text, its notes and its status, as functions of the plan, of the input's bytes
-//! and of the solution; how it is written, set by set and then the end; and a run that computes its answer plainly.
-//! Answers to the definitions of `specs/Text.antt`, `specs/Told.antt`, `specs/Notes.antt`, `specs/Answer.antt`, `specs/Put.antt`,
-//! `specs/Wrote.antt` and `specs/Ran.antt`.
+//! What a run of a graph answers: its output text or a summary of it, its notes with a report behind them, and its status, as
+//! functions of the plan, of the input's bytes and of the solution; how it is written, set by set and then the end; and a run
+//! that computes its answer plainly.
+//! Answers to the definitions of `specs/Text.antt`, `specs/Summary.antt`, `specs/Told.antt`, `specs/Notes.antt`, `specs/Report.antt`,
+//! `specs/Answer.antt`, `specs/Put.antt`, `specs/Wrote.antt` and `specs/Ran.antt`.
 #![tactic(auto)]
 
 mod concluding;
 pub mod laws;
 mod notes;
+mod outcomes;
+mod output_summary;
 mod output_text;
+mod pieces;
+mod report;
 mod run_status;
 mod set_lines;
 mod shown;
 mod solving;
 mod told;
+mod total;
+mod total_lines;
 mod words;
 
 pub use concluding::conclude;
+pub use outcomes::{Outcomes, StreamEnd};
+pub use output_summary::OutputSummary;
 pub use output_text::OutputText;
 pub use run_status::RunStatus;
 pub use shown::put_shown;

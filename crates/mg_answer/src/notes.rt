@@ -1,19 +1,18 @@
 //! The notes of a run.
-ghost use Rattle.std.specs.Prelude.{◌≡◌, ◌<◌, ◌++◌, All, length, slice_index_or, decimal, IfOk, OnOk};
+ghost use Rattle.std.specs.Prelude.{◌≡◌, ◌<◌, ◌++◌, All, length, slice_index_or, OnOk};
 ghost use Rattle.std.specs.List.{flat_map};
 ghost use Rattle.mg_time.specs.Time.{pre_stream};
-ghost use Rattle.mg_time.specs.Text.{time_text};
 ghost use Rattle.mg_answer.specs.Notes as notes;
+ghost use Rattle.mg_answer.specs.Code.Bounds.{end_bounds};
 
-use crate::RunStatus;
+use crate::pieces::{label_at, put, put_number, put_time};
 use crate::set_lines::stream_name;
 use crate::shown::put_shown;
 use crate::words::{cause_name, line_refusal};
-use itoa::Buffer;
+use crate::{RunStatus, StreamEnd};
 use mg_calc::{NodeFault, Phase, Plan};
 use mg_feed::{FeedEnd, LineFault};
 use mg_time::Timestamp;
-use mg_value::MgText;
 use std::alloc::AllocError;
 
 /// Puts the note of how an input ended, where it didn't end well, at a text's end.
@@ -79,16 +78,8 @@ fn put_node(text: &mut Vec<u8>, plan: &Plan, node: u32) -> Result<(), AllocError
     put(text, b"node ")?;
     put_number(text, u64::from(node))?;
     put(text, b" ")?;
-    put_shown(text, label_at(plan, node).as_bytes())?;
+    put_shown(text, label_at(plan, node as usize).as_bytes())?;
     put(text, b": ")
-}
-
-// The label of a node.
-fn label_at(plan: &Plan, node: u32) -> &MgText
-    requires { node < length plan.now.nodes }
-    ensures { result.now ≡ notes.label_of plan.now node }
-{
-    &plan.nodes.as_slice()[node as usize].label
 }
 
 // Puts when a node failed.
@@ -114,18 +105,18 @@ pub fn put_stalled(
     text: &mut Vec<u8>,
     status: RunStatus,
     plan: &Plan,
-    bounds: &[Timestamp],
+    ends: &[StreamEnd],
     stalled: &[u32],
 ) -> Result<(), AllocError>
-    requires numbers { All (λ number. number < length bounds.now) stalled.now }
-    requires many { length bounds.now ≡ length plan.now.streams }
-    ensures { OnOk result (text.new.items ≡ text.old.items ++ notes.stall_notes status plan.now bounds.now stalled.now) }
+    requires numbers { All (λ number. number < length ends.now) stalled.now }
+    requires many { length ends.now ≡ length plan.now.streams }
+    ensures { OnOk result (text.new.items ≡ text.old.items ++ notes.stall_notes status plan.now (end_bounds ends.now) stalled.now) }
 {
     if status != RunStatus::Stalled {
         return Ok(());
     }
     for number in stalled {
-        put_stall(text, plan, bounds, *number)?;
+        put_stall(text, plan, ends, *number)?;
     }
     Ok(())
 }
@@ -134,47 +125,24 @@ pub fn put_stalled(
 fn put_stall(
     text: &mut Vec<u8>,
     plan: &Plan,
-    bounds: &[Timestamp],
+    ends: &[StreamEnd],
     number: u32,
 ) -> Result<(), AllocError>
-    requires there { number < length bounds.now }
-    requires many { length bounds.now ≡ length plan.now.streams }
-    ensures { OnOk result (text.new.items ≡ text.old.items ++ notes.stall_note plan.now bounds.now number) }
+    requires there { number < length ends.now }
+    requires many { length ends.now ≡ length plan.now.streams }
+    ensures { OnOk result (text.new.items ≡ text.old.items ++ notes.stall_note plan.now (end_bounds ends.now) number) }
 {
     put(text, b"stalled: ")?;
     put_shown(text, stream_name(plan, number).as_bytes())?;
     put(text, b" ")?;
-    put_time(text, bound_at(bounds, number))?;
+    put_time(text, bound_at(ends, number))?;
     put(text, b"\n")
 }
 
-// The bound of a stream, of the bounds of all.
-fn bound_at(bounds: &[Timestamp], number: u32) -> Timestamp
-    requires { number < length bounds.now }
-    ensures { result ≡ slice_index_or bounds.now number pre_stream }
+// The bound of a stream, of the ends of all.
+fn bound_at(ends: &[StreamEnd], number: u32) -> Timestamp
+    requires { number < length ends.now }
+    ensures { result ≡ slice_index_or (end_bounds ends.now) number pre_stream }
 {
-    bounds[number as usize]
-}
-
-// Puts a timestamp.
-fn put_time(text: &mut Vec<u8>, time: Timestamp) -> Result<(), AllocError>
-    ensures { OnOk result (text.new.items ≡ text.old.items ++ time_text time) }
-{
-    let alloc = *text.allocator();
-    put(text, &time.print_text(alloc)?)
-}
-
-// Puts a number's digits.
-fn put_number(text: &mut Vec<u8>, number: u64) -> Result<(), AllocError>
-    ensures { OnOk result (text.new.items ≡ text.old.items ++ decimal number) }
-{
-    let mut digits = Buffer::new();
-    put(text, digits.format(number).as_bytes())
-}
-
-// Puts bytes.
-fn put(text: &mut Vec<u8>, bytes: &[u8]) -> Result<(), AllocError>
-    ensures { OnOk result (text.new.items ≡ text.old.items ++ bytes.now) }
-{
-    text.extend_from_slice(bytes)
+    ends[number as usize].bound
 }

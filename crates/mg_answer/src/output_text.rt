@@ -52,6 +52,17 @@ impl OutputText {
         })
     }
 
+    /// A text that was put whole, of which nothing is written yet. No sets are put behind it.
+    pub fn whole(alloc: Global, text: Vec<u8>) -> OutputText
+        ensures { result ≡ record { names = []; kept = text.items; failed = false } }
+    {
+        OutputText {
+            writers: Vec::new(alloc),
+            text,
+            failed: false,
+        }
+    }
+
     /// Puts the lines of a set, and writes what isn't written once it has a block of bytes. After a failed write it puts
     /// nothing more. After an `Err` nothing of the set was written, but a part of it may be kept: let the text go then.
     pub fn put_set<K: Sink>(&mut self, set: &InputSet, output: &mut K) -> Result<(), AllocError>

@@ -1,5 +1,5 @@
 //! A run that computes its answer plainly: the whole input is read, and then its solution is written.
-ghost use Rattle.std.specs.Prelude.{◌≡◌, ◌≢◌, ◌<◌, ◌⊎◌, ◌∷◌, [], false, All, length, MatchResult, IfOk};
+ghost use Rattle.std.specs.Prelude.{◌≡◌, ◌≢◌, ◌<◌, ◌⊎◌, ◌∷◌, [], false, All, length, map, MatchResult, IfOk};
 ghost use Rattle.mg_value.specs.Prefix.{IsPrefix};
 ghost use Rattle.mg_feed.specs.Stands.{Stands, nothing_taken};
 ghost use Rattle.mg_feed.specs.FeedSeen.{seen, fed};
@@ -7,40 +7,41 @@ ghost use Rattle.mg_answer.specs.Code.Gathered.{Gathered};
 ghost use Rattle.mg_calc.specs.Plan.{IsValid, InputsFit};
 ghost use Rattle.mg_feed.specs.Ran.{EndCame};
 ghost use Rattle.mg_answer.specs.Text.{sets_text, output_of};
-ghost use Rattle.mg_answer.specs.Notes.{bounds_of};
+ghost use Rattle.mg_answer.specs.Report.{end_of};
 ghost use Rattle.mg_answer.specs.Put.{nothing_put, HasPut};
 ghost use Rattle.mg_answer.specs.Wrote.{Wrote};
 ghost use Rattle.mg_answer.specs.Devices.{device, run_devices, HasRisen, NoneFailed, TookFront};
 ghost use Rattle.mg_answer.specs.Ran.{Ran, CameTo, IsAnswered, IsOneOf};
 ghost use Rattle.mg_answer.specs.Code.Answered.{WroteSome};
 ghost use Rattle.mg_feed.specs.Graph.{inputs_of};
-ghost use Rattle.mg_answer.specs.Answer.{Read};
+ghost use Rattle.mg_answer.specs.Answer.{Read, by_lines};
 
 use crate::concluding::conclude;
 use crate::told::{is_ended, ran_out};
-use crate::{OutputText, RunStatus};
+use crate::{Outcomes, OutputText, RunStatus, StreamEnd};
 use mg_calc::{Inputs, Plan};
 use mg_edge::{Sink, Source};
 use mg_equations::solve;
 use mg_feed::{Feed, FeedEnd};
-use mg_time::Timestamp;
 use mg_value::{Policy, Prefix, PrefixList, TimedSet, settled_sets};
 use std::alloc::{AllocError, Global};
 
 /// Reads packet lines to the input's end, its first fault or its first line that isn't good, solves the graph's equations for
-/// what they give, and writes the output text and then the notes. It calls no calculator that is handed in.
+/// what they give, and writes the output text and then the notes, with the report behind them where it is asked for. It calls
+/// no calculator that is handed in.
 ///
 /// Once a write to the output has failed nothing more is written to it; the notes are written all the same.
 pub fn solve_input<S: Source, K: Sink, E: Sink>(
     alloc: Global,
     plan: &Plan,
+    report: bool,
     input: &mut S,
     output: &mut K,
     notes: &mut E,
 ) -> RunStatus
     requires { IsValid plan.now }
     // What each status means: the answer's, unless a write failed or memory ran out.
-    ensures ran { Ran plan.now result (run_devices (device (S.told input.old) (S.told input.new))
+    ensures ran { Ran report plan.now result (run_devices (device (S.told input.old) (S.told input.new))
         (device (K.told output.old) (K.told output.new)) (device (E.told notes.old) (E.told notes.new))) }
 
     // Unless memory ran out, the input was read to its end, its first line that isn't good, or its first fault.
@@ -53,7 +54,7 @@ pub fn solve_input<S: Source, K: Sink, E: Sink>(
     // input's bytes.
     ensures answered { let all = run_devices (device (S.told input.old) (S.told input.new))
         (device (K.told output.old) (K.told output.new)) (device (E.told notes.old) (E.told notes.new)) in
-        NoneFailed all → result ≢ RunStatus.OutOfMemory → IsAnswered plan.now result all }
+        NoneFailed all → result ≢ RunStatus.OutOfMemory → IsAnswered report plan.now result all }
 
     // No fault of a device hides behind another status.
     ensures read_rose { HasRisen (S.told input.old).faults (S.told input.new).faults
@@ -61,23 +62,24 @@ pub fn solve_input<S: Source, K: Sink, E: Sink>(
     ensures write_rose { HasRisen (K.told output.old).faults (K.told output.new).faults ⊎ HasRisen (E.told notes.old).faults (E.told notes.new).faults
         → IsOneOf result (RunStatus.WriteFault ∷ RunStatus.OutOfMemory ∷ []) }
 {
-    solve_whole(alloc, plan, input, output, notes)
+    solve_whole(alloc, plan, report, input, output, notes)
 }
 
 // Makes a feed for the plan, and goes on with it.
 fn solve_whole<S: Source, K: Sink, E: Sink>(
     alloc: Global,
     plan: &Plan,
+    report: bool,
     input: &mut S,
     output: &mut K,
     notes: &mut E,
 ) -> RunStatus
     requires { IsValid plan.now }
-    ensures { Ran plan.now result (run_devices (device (S.told input.old) (S.told input.new))
+    ensures { Ran report plan.now result (run_devices (device (S.told input.old) (S.told input.new))
         (device (K.told output.old) (K.told output.new)) (device (E.told notes.old) (E.told notes.new))) }
 {
     match Feed::new(alloc, plan) {
-        Ok(feed) => solve_feed(alloc, plan, feed, input, output, notes),
+        Ok(feed) => solve_feed(alloc, plan, report, feed, input, output, notes),
         Err(_) => RunStatus::OutOfMemory,
     }
 }
@@ -86,6 +88,7 @@ fn solve_whole<S: Source, K: Sink, E: Sink>(
 fn solve_feed<S: Source, K: Sink, E: Sink>(
     alloc: Global,
     plan: &Plan,
+    report: bool,
     feed: Feed,
     input: &mut S,
     output: &mut K,
@@ -95,14 +98,14 @@ fn solve_feed<S: Source, K: Sink, E: Sink>(
     requires graph { (seen feed).graph ≡ inputs_of plan.now }
     requires stands { Stands [] (nothing_taken (inputs_of plan.now)) (seen feed) }
     requires unread { (fed feed).read ≡ record { kept = []; ended = false } }
-    ensures { Ran plan.now result (run_devices (device (S.told input.old) (S.told input.new))
+    ensures { Ran report plan.now result (run_devices (device (S.told input.old) (S.told input.new))
         (device (K.told output.old) (K.told output.new)) (device (E.told notes.old) (E.told notes.new))) }
 {
     let (end, inputs) = read_inputs(feed, input);
     if ran_out(end) {
         return RunStatus::OutOfMemory;
     }
-    match answer(alloc, plan, &inputs, end, output, notes) {
+    match answer(alloc, plan, report, &inputs, end, output, notes) {
         Ok(status) => status,
         Err(_) => RunStatus::OutOfMemory,
     }
@@ -123,6 +126,7 @@ fn read_inputs<S: Source>(mut feed: Feed, input: &mut S) -> (FeedEnd, Inputs)
 fn answer<K: Sink, E: Sink>(
     alloc: Global,
     plan: &Plan,
+    report: bool,
     inputs: &Inputs,
     end: FeedEnd,
     output: &mut K,
@@ -131,22 +135,18 @@ fn answer<K: Sink, E: Sink>(
     requires plan { IsValid plan.now }
     requires inputs { InputsFit plan.now inputs.now }
     ensures { MatchResult result
-        (λ status. Wrote (record { plan = plan.now; inputs = inputs.now }) end status (device (K.told output.old) (K.told output.new)) (device (E.told notes.old) (E.told notes.new)))
+        (λ status. Wrote (by_lines report) (record { plan = plan.now; inputs = inputs.now }) end status (device (K.told output.old) (K.told output.new)) (device (E.told notes.old) (E.told notes.new)))
         (λ _. WroteSome (record { plan = plan.now; inputs = inputs.now }) (device (K.told output.old) (K.told output.new))) }
 {
     let solved = solve(alloc, plan, inputs)?;
-    let bounds = bounds_of(alloc, solved.prefixes.as_slice())?;
+    let ends = ends_of(alloc, solved.prefixes.as_slice())?;
     let text = write_output(alloc, plan, &solved.prefixes, output)?;
-    let status = conclude(
-        alloc,
-        plan,
-        end,
-        solved.faults.as_slice(),
-        &bounds,
-        text,
-        output,
-        notes,
-    )?;
+    let outcomes = Outcomes {
+        faults: solved.faults,
+        sets: solved.sets,
+        ends,
+    };
+    let status = conclude(alloc, plan, end, &outcomes, report, text, output, notes)?;
     Ok(status)
 }
 
@@ -185,13 +185,23 @@ fn put_sets<K: Sink>(
     Ok(())
 }
 
-// The bounds of streams.
-fn bounds_of(alloc: Global, streams: &[Prefix]) -> Result<Vec<Timestamp>, AllocError>
-    ensures { IfOk result (λ bounds. bounds.items ≡ bounds_of streams.now) }
+// How far each stream has come.
+fn ends_of(alloc: Global, streams: &[Prefix]) -> Result<Vec<StreamEnd>, AllocError>
+    ensures { IfOk result (λ ends. ends.items ≡ map end_of streams.now) }
 {
-    let mut bounds = Vec::with_capacity(alloc, streams.len())?;
+    let mut ends = Vec::with_capacity(alloc, streams.len())?;
     for stream in streams {
-        bounds.push(stream.bound)?;
+        ends.push(stream_end(stream))?;
     }
-    Ok(bounds)
+    Ok(ends)
+}
+
+// How far a stream has come.
+fn stream_end(stream: &Prefix) -> StreamEnd
+    ensures { result ≡ end_of stream.now }
+{
+    StreamEnd {
+        packets: u64::from(stream.packets.len()),
+        bound: stream.bound,
+    }
 }

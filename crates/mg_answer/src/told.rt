@@ -4,20 +4,20 @@ ghost use Rattle.mg_answer.specs.Answer.{is_ended};
 ghost use Rattle.mg_answer.specs.Told.{status_of};
 ghost use Rattle.mg_answer.specs.Code.Bounds.{open_numbers};
 
-use crate::RunStatus;
+use crate::{RunStatus, StreamEnd};
 use mg_calc::NodeFault;
 use mg_feed::FeedEnd;
 use mg_time::Timestamp;
 use std::alloc::{AllocError, Global};
 
-/// The numbers of the streams that haven't ended, by their bounds.
-pub fn stalled_of(alloc: Global, bounds: &[Timestamp]) -> Result<Vec<u32>, AllocError>
-    requires { length bounds.now < 2 ^ 32 }
-    ensures { IfOk result (λ numbers. numbers.items ≡ open_numbers bounds.now) }
+/// The numbers of the streams that haven't ended, by their ends.
+pub fn stalled_of(alloc: Global, ends: &[StreamEnd]) -> Result<Vec<u32>, AllocError>
+    requires { length ends.now < 2 ^ 32 }
+    ensures { IfOk result (λ numbers. numbers.items ≡ open_numbers ends.now) }
 {
     let mut numbers = Vec::new(alloc);
-    for (number, bound) in bounds.iter().enumerate() {
-        if *bound != Timestamp::DONE {
+    for (number, end) in ends.iter().enumerate() {
+        if end.bound != Timestamp::DONE {
             numbers.push(number as u32)?;
         }
     }

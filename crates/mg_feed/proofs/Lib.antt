@@ -21,3 +21,4 @@ pub mod Joining
 pub mod Coming
 pub mod Moving
 pub mod Stepping
+pub mod Frames

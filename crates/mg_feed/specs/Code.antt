@@ -10,3 +10,4 @@ pub mod LineEnd
 pub mod Readers
 pub mod Filled
 pub mod Moves
+pub mod Frames

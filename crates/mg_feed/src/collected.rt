@@ -1,21 +1,19 @@
-ghost use Rattle.std.specs.Prelude.{◌≡◌, ◌≢◌, ◌<◌, ◌≤◌, ◌^◌, [], IfOk, IfErr, None, Some, map, vec_len, vec_capacity};
-ghost use Rattle.std.specs.List.{list_all};
-ghost use Rattle.std.specs.Arc.{arc_value};
-ghost use Rattle.serde_json.specs.View.{view};
-ghost use Rattle.mg_value.specs.Payload.{plain};
-ghost use Rattle.mg_calc.specs.Given.{given};
-ghost use Rattle.mg_feed.specs.Accepted.{stepped, most_lines};
+ghost use Rattle.std.specs.Prelude.{◌≡◌, ◌<◌, ◌≤◌, ◌^◌, [], vec_len, vec_capacity};
+ghost use Rattle.mg_feed.specs.Accepted.{most_lines};
 
 use crate::due::{Due, lay, make_room};
 use crate::feed_stream::FeedStream;
 use crate::form::{Form, form_by};
+use crate::frame::frame_of;
 use crate::graph::Graph;
 use crate::judge::{packet_by, payload_by};
 use crate::limits::{LONGEST_LINE, MOST_LINES};
 use crate::line_json::{is_blank_line, json_by};
+use crate::sides::put_at;
 use crate::streams::{append_at, close_at, raise_at, standing_at};
 use crate::times::time_by;
 use crate::{LineFault, Standing};
+use json::Scratch;
 use mg_time::Timestamp;
 use mg_value::{Kind, Packet, Payload, Prefix};
 use serde_json::{Map, Value};
@@ -59,7 +57,12 @@ impl Collected {
     ghost use Rattle.mg_feed.specs.Code.Heard.{Heard, Took};
 
     /// Takes the next line, or tells why it isn't good. The answer is whether it names a stream.
-    pub fn line(&mut self, alloc: Global, text: &[u8]) -> Result<bool, LineFault>
+    pub fn line(
+        &mut self,
+        alloc: Global,
+        scratch: &mut Scratch,
+        text: &[u8],
+    ) -> Result<bool, LineFault>
         ensures named { IfOk result (λ named. named ≡ names_stream text.now) }
         ensures took { Took (collected self.old) (collected self.new) result (line_refusal (before_seen (collected self.old)) text.now)
             (with_line (collected self.old).graph (collected self.old).given text.now) }
@@ -70,13 +73,18 @@ impl Collected {
         if self.lines >= MOST_LINES {
             return Err(LineFault::TooManyLines);
         }
-        let named = self.words(alloc, text)?;
+        let named = self.words(alloc, scratch, text)?;
         self.lines += 1;
         Ok(named)
     }
 
     // Takes what a line says.
-    fn words(&mut self, alloc: Global, text: &[u8]) -> Result<bool, LineFault>
+    fn words(
+        &mut self,
+        alloc: Global,
+        scratch: &mut Scratch,
+        text: &[u8],
+    ) -> Result<bool, LineFault>
         ensures named { IfOk result (λ named. named ≡ names_stream text.now) }
         ensures heard { Heard (collected self.old) (collected self.new) result (words_refusal (before_seen (collected self.old)) text.now)
             (with_line (collected self.old).graph (collected self.old).given text.now) }
@@ -84,12 +92,26 @@ impl Collected {
         if is_blank_line(text) {
             return Ok(false);
         }
-        let named = self.json(alloc, text)?;
+        let named = self.json(alloc, scratch, text)?;
         Ok(named)
     }
 
-    // Takes what a line says that isn't blank.
-    fn json(&mut self, alloc: Global, text: &[u8]) -> Result<bool, LineFault>
+    // Takes what a line says that isn't blank. A usual packet line is read from its tokens, any other as a JSON value.
+    fn json(&mut self, alloc: Global, scratch: &mut Scratch, text: &[u8]) -> Result<bool, LineFault>
+        ensures named { IfOk result (λ named. named ≡ form_names (option_and_then form_of (json_value text.now))) }
+        ensures heard { Heard (collected self.old) (collected self.new) result (json_refusal (before_seen (collected self.old)) (json_value text.now))
+            (with_said (collected self.old).graph (collected self.old).given (option_and_then form_of (json_value text.now))) }
+    {
+        if let Some(frame) = frame_of(alloc, text, scratch) {
+            self.packet(alloc, frame.stream, &frame.time, &frame.value)?;
+            return Ok(true);
+        }
+        let named = self.tree(alloc, text)?;
+        Ok(named)
+    }
+
+    // Takes what a line says as a JSON value.
+    fn tree(&mut self, alloc: Global, text: &[u8]) -> Result<bool, LineFault>
         ensures named { IfOk result (λ named. named ≡ form_names (option_and_then form_of (json_value text.now))) }
         ensures heard { Heard (collected self.old) (collected self.new) result (json_refusal (before_seen (collected self.old)) (json_value text.now))
             (with_said (collected self.old).graph (collected self.old).given (option_and_then form_of (json_value text.now))) }
@@ -369,15 +391,5 @@ impl Collected {
         ensures { collected self.new ≡ with_side (collected self.old) place (plain (arc_value payload)) }
     {
         put_at(&mut self.sides, place, payload);
-    }
-}
-
-// Puts a side packet at its place.
-fn put_at(sides: &mut [Option<Arc<Payload>>], place: u32, payload: Arc<Payload>)
-    ensures { map given sides.new ≡ stepped place (λ _. Some (plain (arc_value payload))) (map given sides.old) }
-{
-    let i = place as usize;
-    if i < sides.len() {
-        sides[i] = Some(payload);
     }
 }

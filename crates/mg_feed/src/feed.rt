@@ -2,6 +2,7 @@ use crate::collected::Collected;
 use crate::feed_end::Step;
 use crate::reader::Reader;
 use crate::{BatchEnd, FeedEnd, LineFault};
+use json::Scratch;
 use mg_calc::{Inputs, Plan};
 use mg_edge::{Got, Source};
 use std::alloc::{AllocError, Global};
@@ -12,6 +13,8 @@ pub struct Feed {
     alloc: Global,
     collected: Collected,
     reader: Reader,
+    // Room for reading a line.
+    scratch: Scratch,
 }
 
 impl Feed {
@@ -43,6 +46,7 @@ impl Feed {
             alloc,
             collected,
             reader,
+            scratch: Scratch::new(alloc),
         })
     }
 
@@ -57,7 +61,7 @@ impl Feed {
         ensures graph { (seen self.new).graph ≡ (seen self.old).graph }
         ensures read { (fed self.new).read ≡ (fed self.old).read }
     {
-        self.collected.line(self.alloc, text)?;
+        self.collected.line(self.alloc, &mut self.scratch, text)?;
         Ok(())
     }
 
@@ -87,8 +91,10 @@ impl Feed {
             alloc,
             collected,
             reader,
+            scratch,
         } = self;
         drop(reader);
+        drop(scratch);
         collected.into_inputs(alloc, ended)
     }
 
@@ -171,7 +177,9 @@ impl Feed {
         requires end { EndsLine (left_of self.old.reader) end }
         ensures { TookNext result (fed self.old) (fed self.new) }
     {
-        let named = self.collected.line(self.alloc, self.reader.front(end))?;
+        let named = self
+            .collected
+            .line(self.alloc, &mut self.scratch, self.reader.front(end))?;
         self.reader.pass(end + 1);
         Ok(named)
     }
@@ -182,7 +190,9 @@ impl Feed {
         ensures { TookNext result (fed self.old) (fed self.new) }
     {
         self.reader.hold(end)?;
-        let named = self.collected.line(self.alloc, &self.reader.cut)?;
+        let named = self
+            .collected
+            .line(self.alloc, &mut self.scratch, &self.reader.cut)?;
         self.reader.pass_cut();
         Ok(named)
     }

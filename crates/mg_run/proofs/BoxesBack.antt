@@ -10,7 +10,6 @@ use Rattle.mg_calc.specs.declared.plan_node.PlanNode.{PlanNode}
 use Rattle.mg_calc.specs.Shape.{IsOuter}
 use Rattle.mg_calc.specs.Told.{CalculatorTold}
 use Rattle.mg_calc.specs.Meaning.{log_of}
-use Rattle.mg_answer.specs.Answer.{job_of}
 use Rattle.mg_answer.specs.Devices.{device}
 use Rattle.mg_node.specs.Job.{LoggedJob, first_log}
 use Rattle.mg_sched.specs.Views.{NetView}
@@ -18,11 +17,11 @@ use Rattle.mg_sched.specs.Made.{job_of as made_job, FitsNew, BoxesFit, IsMade}
 use Rattle.mg_sched.specs.GivesBack.{given_back}
 use Rattle.mg_sched.proofs.PlanEdges.{all_at}
 use Rattle.mg_sched.proofs.HadBack.{count_back as as_many_back, unused_is_back, unused_lies}
-use Rattle.mg_run.specs.Boxes.{HadCalls}
-use Rattle.mg_run.specs.Code.Running.{Start, job_by, HadAll, Keeps, StoodWith, CameBack}
+use Rattle.mg_run.specs.Boxes.{HadCallsOf, HadCalls}
+use Rattle.mg_run.specs.Code.Running.{Start, job_by, HadAllOf, HadAll, Keeps, StoodWith, CameBack}
 use Rattle.mg_run.proofs.GoingOn.{plan_stood}
 
-abbrev logs_of : List CalculatorTold → List (Option (List Call))
+abbrev pub logs_of : List CalculatorTold → List (Option (List Call))
 logs_of boxes = map (λ b. b.log) boxes
 
 -- One that no node uses --
@@ -81,15 +80,12 @@ log_was job boxes place node told logs has there =
     ∙ ap (λ (o : Option (Option (List Call))). unwrap_or o None) (slice_get-map (λ (b : CalculatorTold). b.log) boxes place ∙ ap (option_map (λ (b : CalculatorTold). b.log)) there)
 
 -- each that a node uses had its calls
-pub all_had : (start : Start) (boxes : List CalculatorTold) (source : SourceTold) (net : NetView) → BoxesFit start.plan boxes → start.logs ≡ logs_of boxes → HadAll start source net
-    → HadCalls start.plan (device start.source source) (device boxes (given_back net))
-all_had start boxes source net fit logs had = record {
-  read = had.read;
-  came = had.came;
+all_had : (job : LoggedJob) (boxes : List CalculatorTold) (net : NetView) → BoxesFit job.job.plan boxes → job.logs ≡ logs_of boxes → HadAllOf job net → HadCallsOf job.job (device boxes (given_back net))
+all_had job boxes net fit logs had = record {
   streams = had.streams;
   solution = had.solution;
   each = λ number place node there has.
-      let box = box_at start.plan boxes number place node fit there has in
+      let box = box_at job.job.plan boxes number place node fit there has in
       let outer : IsOuter node.law = subst IsOuter box.2.fits.same_law box.2.outer in
       let back = had.each number place node there has outer in
       record {
@@ -98,7 +94,7 @@ all_had start boxes source net fit logs had = record {
         was = box.1;
         is = back.there;
         holds = record {
-          log = back.had.log ∙ ap (option_map (λ (calls : List Call). calls ++ log_of (job_of start.plan had.read) had.streams node)) (log_was (job_by start had.read) boxes place node box.0 logs has box.1);
+          log = back.had.log ∙ ap (option_map (λ (calls : List Call). calls ++ log_of job.job had.streams node)) (log_was job boxes place node box.0 logs has box.1);
           state = back.had.state;
           law = back.had.fits.same_law ∙ sym box.2.fits.same_law;
           shape = back.had.fits.same_shape ∙ sym box.2.fits.same_shape;
@@ -107,9 +103,13 @@ all_had start boxes source net fit logs had = record {
 }
 
 -- by what came back
+pub all_had_now : (job : LoggedJob) (boxes now : List CalculatorTold) (net : NetView) → BoxesFit job.job.plan boxes → job.logs ≡ logs_of boxes → now ≡ given_back net → HadAllOf job net → HadCallsOf job.job (device boxes now)
+all_had_now job boxes now net fit logs is had = subst (λ (bs : List CalculatorTold). HadCallsOf job.job (device boxes bs)) (sym is) (all_had job boxes net fit logs had)
+
+-- over what the input came to
 pub all_had_then : (start : Start) (boxes now : List CalculatorTold) (source : SourceTold) (net : NetView) → BoxesFit start.plan boxes → start.logs ≡ logs_of boxes → now ≡ given_back net → HadAll start source net
     → HadCalls start.plan (device start.source source) (device boxes now)
-all_had_then start boxes now source net fit logs is had = subst (λ (bs : List CalculatorTold). HadCalls start.plan (device start.source source) (device boxes bs)) (sym is) (all_had start boxes source net fit logs had)
+all_had_then start boxes now source net fit logs is h = record { read = h.read; came = h.came; had = all_had_now (job_by start h.read) boxes now net fit logs is h.had }
 
 pub came_back_then : (plan : Plan) (inputs : Inputs) (boxes handed now : List CalculatorTold) (made net : NetView) → handed ≡ boxes → IsMade plan inputs handed made → Keeps made net → StoodWith (logs_of boxes) net
     → now ≡ given_back net → CameBack plan boxes now

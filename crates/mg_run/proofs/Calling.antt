@@ -1,8 +1,8 @@
 -- What a call came to.
-use Rattle.std.proofs.Common.{◌≡◌, ◌≢◌, ℕ, List, [], Bool, true, false, Option, None, Some, IfSome, if◌then◌else◌, ◌⊎◌, inl, inr, refl, ap, ◌∙◌, subst, arith}
+use Rattle.std.proofs.Common.{◌≡◌, ◌≢◌, ℕ, List, [], Bool, true, false, Option, None, Some, IfSome, ◌⊎◌, inl, inr, refl, ap, ◌∙◌, subst, arith}
 use Rattle.mg_edge.specs.Edge.{SourceTold, SinkTold, StoreTold, Rose, one_more}
 use Rattle.mg_calc.specs.Told.{CalculatorTold}
-use Rattle.mg_run.specs.Boxes.{RunLeaves}
+use Rattle.mg_run.specs.Boxes.{RunLeaves, GeneratedLeaves}
 use Rattle.mg_edge.proofs.Runs.{TookAll-start}
 use Rattle.mg_run.proofs.Together.{one-reading}
 use Rattle.mg_run.proofs.Loading.{of-loads}
@@ -11,16 +11,18 @@ use Rattle.mg_run.specs.Files.{Files, AreFiles}
 use Rattle.mg_run.specs.Loads.{AreLoaded, LoadedAll, loads_of}
 use Rattle.mg_calc.specs.declared.plan.Plan.{Plan}
 use Rattle.mg_answer.specs.Answer as runs
+use Rattle.mg_answer.specs.Text.{output_of}
 use Rattle.mg_answer.specs.Devices as running_devices
 use Rattle.mg_answer.specs.Ran as running
 use Rattle.mg_answer.specs.declared.run_status.RunStatus.{RunStatus}
 use Rattle.mg_answer.specs.declared.run_status.RunStatus.TheVariants as ended
 use Rattle.mg_answer.proofs.Answering.{ran-answered}
 use Rattle.mg_answer.proofs.RunningOn.{on-answered}
-use Rattle.mg_run.specs.Answer.{Answer, Job, refuse, show, run_plan, solve, job_of, answer_from, IsRunAnswer}
+use Rattle.mg_answer.proofs.Generating.{generated-answered}
+use Rattle.mg_run.specs.Answer.{Answer, Job, refuse, show, run_plan, solve, generate, job_of, answer_from, IsRunAnswer, IsGeneratedAnswer}
 use Rattle.mg_run.specs.Status.{status_from}
 use Rattle.mg_run.specs.Devices.{Device, device, Devices, devices, run_of, Untouched, Unrisen, NoneFailed, TookFront, TookText, TookPart, Noted}
-use Rattle.mg_run.specs.Call.{Meets, WasShown, Did, IsJob, CallDid, Short, ShortRun, CallShort, Called, MetAnswer, IsAnswered}
+use Rattle.mg_run.specs.Call.{Meets, WasShown, Did, IsJob, CallDid, Short, ShortRun, ShortGenerated, CallShort, Called, MetAnswer, IsAnswered}
 use Rattle.mg_feed.specs.Sent.{Sent}
 use Rattle.mg_run.specs.declared.status.Status.{Status}
 use Rattle.mg_run.specs.declared.status.Status.TheVariants.{Good, StoreFault, Usage, GraphRefused, LineRefused, NodeFault, Stalled, ReadFault, WriteFault, OutOfMemory}
@@ -46,8 +48,10 @@ short-none : (job : Job) (store : Device StoreTold) (input : Device SourceTold) 
     → Short job (devices store input (device output output) notes boxes)
 short-none (refuse note) store input output notes boxes = front-none output []
 short-none (show text) store input output notes boxes = front-none output text
-short-none (run_plan plan) store input output notes boxes = inr (if-any input.before.left _ (λ bytes answer is. front-none output answer.output))
-short-none (solve plan) store input output notes boxes = inl refl
+short-none (run_plan report plan) store input output notes boxes =
+    inr (if-any input.before.left _ (λ bytes streams solution. front-none output (output_of plan streams)))
+short-none (solve report plan) store input output notes boxes = inl refl
+short-none (generate report number plan) store input output notes boxes = inl refl
 
 pub short-nothing : (task : Task) (store : Device StoreTold) (input : Device SourceTold) (output : SinkTold) (notes : Device SinkTold) (boxes : List CalculatorTold)
     → CallShort task (devices store input (device output output) notes (device boxes boxes))
@@ -102,14 +106,16 @@ no-memory ended.OutOfMemory e = refl
 did-store : (job : Job) (all : Devices) → Did job StoreFault all → ⊥
 did-store (refuse note) all did = let e = did.ended in cc
 did-store (show text) all did = not-shown text StoreFault all (λ e. cc) (λ e. cc) did
-did-store (run_plan plan) all did = no-store did.run_status did.told
-did-store (solve plan) all did = no-store did.run_status did.told
+did-store (run_plan report plan) all did = no-store did.run_status did.told
+did-store (solve report plan) all did = no-store did.run_status did.told
+did-store (generate report number plan) all did = no-store did.run_status did.told
 
 did-usage : (job : Job) (all : Devices) → Did job Usage all → ⊥
 did-usage (refuse note) all did = let e = did.ended in cc
 did-usage (show text) all did = not-shown text Usage all (λ e. cc) (λ e. cc) did
-did-usage (run_plan plan) all did = no-usage did.run_status did.told
-did-usage (solve plan) all did = no-usage did.run_status did.told
+did-usage (run_plan report plan) all did = no-usage did.run_status did.told
+did-usage (solve report plan) all did = no-usage did.run_status did.told
+did-usage (generate report number plan) all did = no-usage did.run_status did.told
 
 did-short : (job : Job) (all : Devices) → Did job OutOfMemory all → Short job all
 did-short (refuse note) all did = let e = did.ended in absurd (differ e)
@@ -117,22 +123,34 @@ did-short (refuse note) all did = let e = did.ended in absurd (differ e)
     differ : OutOfMemory ≡ GraphRefused → ⊥
     differ e = cc
 did-short (show text) all did = absurd (not-shown text OutOfMemory all (λ e. cc) (λ e. cc) did)
-did-short (run_plan plan) all did = subst (λ (run : RunStatus). running.RanOn plan run (run_of all)) (no-memory did.run_status did.told) did.ran
-did-short (solve plan) all did = subst (λ (run : RunStatus). running.Ran plan run (run_of all)) (no-memory did.run_status did.told) did.ran
+did-short (run_plan report plan) all did = subst (λ (run : RunStatus). running.RanOn report plan run (run_of all)) (no-memory did.run_status did.told) did.ran
+did-short (solve report plan) all did = subst (λ (run : RunStatus). running.Ran report plan run (run_of all)) (no-memory did.run_status did.told) did.ran
+did-short (generate report number plan) all did =
+    inr (subst (λ (run : RunStatus). running.RanGenerated report plan number run (run_of all)) (no-memory did.run_status did.told) did.ran)
 
 -- what is left of the calculators that are handed in
 short-boxes : (job : Job) (task : Task) (contents : List (List ℕ)) (all : Devices) → LoadedAll task.files contents all.store → IsJob task contents job → Did job OutOfMemory all
-    → Untouched all.boxes ⊎ ShortRun task all
+    → Untouched all.boxes ⊎ (ShortRun task all ⊎ ShortGenerated task all)
 short-boxes (refuse note) task contents all loaded due did = inl did.uncalled
 short-boxes (show text) task contents all loaded due did = inl did.uncalled
-short-boxes (solve plan) task contents all loaded due did = inl did.uncalled
-short-boxes (run_plan plan) task contents all loaded due did = inr (record {
+short-boxes (solve report plan) task contents all loaded due did = inl did.uncalled
+short-boxes (run_plan report plan) task contents all loaded due did = inr (inl (record {
   contents = contents;
   loaded = loaded;
+  report = report;
   plan = plan;
   due = due;
   left = subst (λ (run : RunStatus). RunLeaves plan run all.input all.boxes) (no-memory did.run_status did.told) did.left;
-})
+}))
+short-boxes (generate report number plan) task contents all loaded due did = inr (inr (record {
+  contents = contents;
+  loaded = loaded;
+  report = report;
+  number = number;
+  plan = plan;
+  due = due;
+  left = subst (λ (run : RunStatus). GeneratedLeaves plan number run all.boxes) (no-memory did.run_status did.told) did.left;
+}))
 
 call-short : (job : Job) (task : Task) (contents : List (List ℕ)) (all : Devices) → AreLoaded all.store.before.content task.files contents → IsJob task contents job
     → LoadedAll task.files contents all.store → Did job OutOfMemory all → CallShort task all
@@ -182,12 +200,19 @@ shown-answer text status all shown none = by shown.written
     by (inl good) = record { text = good.1; noted = took-nothing all.notes shown.unnoted; ended = good.0 }
     by (inr failed) = absurd (unrisen-rose all.output.before.faults all.output.now.faults none.output failed.1.rose)
 
-graph-meets : (plan : Plan) (status : Status) (run : RunStatus) (input : Option (List ℕ)) (all : Devices) → status ≡ status_from run
-    → IfSome input (λ read. (answer : runs.Answer) × runs.AnswersEnded plan read answer × running.Meets answer run (run_of all))
-    → IfSome input (λ read. (given : Answer) × IsRunAnswer plan read given × Meets given status all)
-graph-meets plan status run None all told meets = tt
-graph-meets plan status run (Some read) all told (answer, is, met) =
-    (answer_from answer, (answer, is, refl), record { text = met.text; noted = met.noted; ended = told ∙ ap status_from met.told })
+run-meets : (status : Status) (run : RunStatus) (all : Devices) (answer : runs.Answer) → status ≡ status_from run → running.Meets answer run (run_of all) → Meets (answer_from answer) status all
+run-meets status run all answer told met = record { text = met.text; noted = met.noted; ended = told ∙ ap status_from met.told }
+
+graph-meets : (report : Bool) (plan : Plan) (status : Status) (run : RunStatus) (input : Option (List ℕ)) (all : Devices) → status ≡ status_from run
+    → IfSome input (λ read. (answer : runs.Answer) × runs.AnswersEnded report plan read answer × running.Meets answer run (run_of all))
+    → IfSome input (λ read. (given : Answer) × IsRunAnswer report plan read given × Meets given status all)
+graph-meets report plan status run None all told meets = tt
+graph-meets report plan status run (Some read) all told (answer, is, met) = (answer_from answer, (answer, is, refl), run-meets status run all answer told met)
+
+made-meets : (report : Bool) (number : ℕ) (plan : Plan) (status : Status) (run : RunStatus) (all : Devices) → status ≡ status_from run
+    → (answer : runs.Answer) × runs.AnswersGenerated report plan number answer × running.Meets answer run (run_of all)
+    → (given : Answer) × IsGeneratedAnswer report plan number given × Meets given status all
+made-meets report number plan status run all told (answer, is, met) = (answer_from answer, (answer, is, refl), run-meets status run all answer told met)
 
 some-run : (status : Status) (run : RunStatus) → status ≡ status_from run → status ≢ OutOfMemory → run ≢ ended.OutOfMemory
 some-run status run told some = λ is. some (told ∙ ap status_from is)
@@ -202,12 +227,16 @@ did-answer (refuse note) status all did none some =
     (λ r. (refuse_answer note, refl, record { text = took-nothing all.output did.unwritten; noted = took-noted all.notes note none.notes did.noted; ended = did.ended }))
 did-answer (show text) status all did none some =
     if-any all.input.before.left (λ r. MetAnswer (show text) r status all) (λ r. (show_answer text, refl, shown-answer text status all did none))
-did-answer (run_plan plan) status all did none some =
-    graph-meets plan status did.run_status all.input.before.left all did.told
-    (on-answered plan did.run_status (run_of all) did.ran (none-run all none) (some-run status did.run_status did.told some))
-did-answer (solve plan) status all did none some =
-    graph-meets plan status did.run_status all.input.before.left all did.told
-    (ran-answered plan did.run_status (run_of all) did.ran (none-run all none) (some-run status did.run_status did.told some))
+did-answer (run_plan report plan) status all did none some =
+    graph-meets report plan status did.run_status all.input.before.left all did.told
+    (on-answered report plan did.run_status (run_of all) did.ran (none-run all none) (some-run status did.run_status did.told some))
+did-answer (solve report plan) status all did none some =
+    graph-meets report plan status did.run_status all.input.before.left all did.told
+    (ran-answered report plan did.run_status (run_of all) did.ran (none-run all none) (some-run status did.run_status did.told some))
+did-answer (generate report number plan) status all did none some =
+    if-any all.input.before.left (λ r. MetAnswer (generate report number plan) r status all)
+    (λ r. made-meets report number plan status did.run_status all did.told
+    (generated-answered report plan number did.run_status (run_of all) did.ran none.output none.notes (some-run status did.run_status did.told some)))
 
 -- The answer of the job is that of the files' bytes and the input's.
 job-answered : (task : Task) (contents : List (List ℕ)) (status : Status) (job : Job) (input : Option (List ℕ)) (all : Devices) → IsJob task contents job

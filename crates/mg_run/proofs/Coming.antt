@@ -1,5 +1,5 @@
 -- What a call came to, by what its words ask for.
-use Rattle.std.proofs.Common.{◌≡◌, ◌≢◌, ◌↔◌, ◌⊎◌, inl, inr, refl, sym, ap, ◌∙◌, subst, ℕ, ℤ, Bool, true, false, List, [], ◌∷◌, map, length, Option, Result, Ok, Err, IfSome}
+use Rattle.std.proofs.Common.{◌≡◌, ◌≢◌, ◌↔◌, ◌⊎◌, inl, inr, refl, sym, ap, ◌∙◌, subst, ℕ, Bool, true, false, List, [], ◌∷◌, map, length, Result, Ok, Err, IfSome}
 use Rattle.std.proofs.lemmas.Bool.{false≢true}
 use Rattle.mg_subgraph.proofs.Steps.{length-map}
 use Rattle.mg_config.specs.Config.{GraphView}
@@ -13,15 +13,15 @@ use Rattle.mg_calc.specs.declared.shape.OuterShape.{OuterShape}
 use Rattle.mg_calc.specs.Told.{CalculatorTold}
 use Rattle.mg_run.specs.Task.{Task, task}
 use Rattle.mg_run.specs.Files.{Files, graphs, no_graphs}
-use Rattle.mg_run.specs.Answer.{Job, refuse, show, run_plan, solve, solve_job, check_job, verb_job, expanded_job, files_job}
+use Rattle.mg_run.specs.Answer.{Job, refuse, show, run_plan, solve, generate, solve_job, check_job, verb_job, expanded_job, files_job}
 use Rattle.mg_run.specs.Words.{Asked, asks_usage, asks_text, asks_command, command_by}
 use Rattle.mg_run.specs.Devices.{device, Devices, devices, Untouched, HasEnded, HasRisen, NoneFailed, TookText, TookPart, Noted}
 use Rattle.mg_run.specs.Notes.{usage_note}
-use Rattle.mg_run.specs.Call.{WasUsage, WasTold, Did, IsJob, CallDid, ShortRun, Came, Called, IsAnswered, IsOneOf}
+use Rattle.mg_run.specs.Call.{WasUsage, WasTold, Did, IsJob, CallDid, ShortRun, ShortGenerated, Came, Called, IsAnswered, IsOneOf}
 use Rattle.mg_run.specs.Command.{reads_input, calls_boxes}
 use Rattle.mg_run.specs.declared.words.Order.{Order}
 use Rattle.mg_run.specs.declared.words.Verb.{Verb}
-use Rattle.mg_run.specs.declared.words.Verb.TheVariants.{Run, Solve, Check, Expand}
+use Rattle.mg_run.specs.declared.words.Verb.TheVariants.{Run, Solve, Check, Expand, Generate}
 use Rattle.mg_run.specs.declared.status.Status.{Status}
 use Rattle.mg_run.specs.declared.status.Status.TheVariants.{Good, StoreFault, Usage, GraphRefused, LineRefused, NodeFault, Stalled, ReadFault, WriteFault, OutOfMemory}
 use Rattle.mg_feed.specs.Sent.{Sent}
@@ -149,12 +149,14 @@ came-write outers (asks_command command) status all came risen = inr (write-rise
 did-boxes : (job : Job) (status : Status) (all : Devices) → Did job status all → length all.boxes.now ≡ length all.boxes.before
 did-boxes (refuse note) status all did = ap length did.uncalled
 did-boxes (show text) status all did = ap length did.uncalled
-did-boxes (run_plan plan) status all did = did.left.count
-did-boxes (solve plan) status all did = ap length did.uncalled
+did-boxes (run_plan report plan) status all did = did.left.count
+did-boxes (solve report plan) status all did = ap length did.uncalled
+did-boxes (generate report number plan) status all did = did.left.count
 
-short-boxes : (task : Task) (all : Devices) → Untouched all.boxes ⊎ ShortRun task all → length all.boxes.now ≡ length all.boxes.before
+short-boxes : (task : Task) (all : Devices) → Untouched all.boxes ⊎ (ShortRun task all ⊎ ShortGenerated task all) → length all.boxes.now ≡ length all.boxes.before
 short-boxes task all (inl untouched) = ap length untouched
-short-boxes task all (inr short) = short.left.count
+short-boxes task all (inr (inl short)) = short.left.count
+short-boxes task all (inr (inr short)) = short.left.count
 
 called-boxes : (status : Status) (task : Task) (all : Devices) → Called status task all → length all.boxes.now ≡ length all.boxes.before
 called-boxes StoreFault task all called = ap length called.uncalled
@@ -181,25 +183,27 @@ count-of f xs ys same = sym (length-map f xs) ∙ (same ∙ length-map f ys)
 abbrev IsRun : Job → Type 0
 IsRun (refuse note) = ⊥
 IsRun (show text) = ⊥
-IsRun (run_plan plan) = Unit {0}
-IsRun (solve plan) = ⊥
+IsRun (run_plan report plan) = Unit {0}
+IsRun (solve report plan) = ⊥
+IsRun (generate report number plan) = Unit {0}
 
 check-no-run : (checked : Result Plan CheckFault) → IsRun (check_job checked) → ⊥
 check-no-run (Ok plan) runs = runs
 check-no-run (Err fault) runs = runs
 
-solve-no-run : (checked : Result Plan CheckFault) → IsRun (solve_job checked) → ⊥
-solve-no-run (Ok plan) runs = runs
-solve-no-run (Err fault) runs = runs
+solve-no-run : (report : Bool) (checked : Result Plan CheckFault) → IsRun (solve_job report checked) → ⊥
+solve-no-run report (Ok plan) runs = runs
+solve-no-run report (Err fault) runs = runs
 
-verb-no-run : (verb : Verb) (limit : Option ℤ) (outers : List OuterShape) (g : GraphView) → calls_boxes verb ≡ false → IsRun (verb_job verb limit outers g) → ⊥
-verb-no-run Run limit outers g is runs = false≢true (sym is)
-verb-no-run Solve limit outers g is runs = solve-no-run (check_of outers g) runs
-verb-no-run Check limit outers g is runs = check-no-run (check_of outers g) runs
-verb-no-run Expand limit outers g is runs = runs
+verb-no-run : (verb : Verb) (order : Order) (outers : List OuterShape) (g : GraphView) → calls_boxes verb ≡ false → IsRun (verb_job verb order outers g) → ⊥
+verb-no-run Run order outers g is runs = false≢true (sym is)
+verb-no-run Solve order outers g is runs = solve-no-run order.report (check_of outers g) runs
+verb-no-run Check order outers g is runs = check-no-run (check_of outers g) runs
+verb-no-run Expand order outers g is runs = runs
+verb-no-run Generate order outers g is runs = false≢true (sym is)
 
 expanded-no-run : (order : Order) (outers : List OuterShape) (expanded : Result GraphView ExpandFault) → calls_boxes order.verb ≡ false → IsRun (expanded_job order outers expanded) → ⊥
-expanded-no-run order outers (Ok g) is runs = verb-no-run order.verb order.limit outers g is runs
+expanded-no-run order outers (Ok g) is runs = verb-no-run order.verb order outers g is runs
 expanded-no-run order outers (Err fault) is runs = runs
 
 files-no-run : (order : Order) (outers : List OuterShape) (files : Files) → calls_boxes order.verb ≡ false → IsRun (files_job order outers files) → ⊥
@@ -213,15 +217,17 @@ due-no-run task contents job is (files, are, same) runs = files-no-run task.orde
 did-uncalled : (job : Job) (status : Status) (all : Devices) → (IsRun job → ⊥) → Did job status all → Untouched all.boxes
 did-uncalled (refuse note) status all none did = did.uncalled
 did-uncalled (show text) status all none did = did.uncalled
-did-uncalled (run_plan plan) status all none did = absurd (none tt)
-did-uncalled (solve plan) status all none did = did.uncalled
+did-uncalled (run_plan report plan) status all none did = absurd (none tt)
+did-uncalled (solve report plan) status all none did = did.uncalled
+did-uncalled (generate report number plan) status all none did = absurd (none tt)
 
 call-uncalled : (status : Status) (task : Task) (all : Devices) → calls_boxes task.order.verb ≡ false → CallDid status task all → Untouched all.boxes
 call-uncalled status task all is called = did-uncalled called.job status all (due-no-run task called.contents called.job is called.due) called.did
 
-short-uncalled : (task : Task) (all : Devices) → calls_boxes task.order.verb ≡ false → Untouched all.boxes ⊎ ShortRun task all → Untouched all.boxes
+short-uncalled : (task : Task) (all : Devices) → calls_boxes task.order.verb ≡ false → Untouched all.boxes ⊎ (ShortRun task all ⊎ ShortGenerated task all) → Untouched all.boxes
 short-uncalled task all is (inl untouched) = untouched
-short-uncalled task all is (inr short) = absurd (due-no-run task short.contents (run_plan short.plan) is short.due tt)
+short-uncalled task all is (inr (inl short)) = absurd (due-no-run task short.contents (run_plan short.report short.plan) is short.due tt)
+short-uncalled task all is (inr (inr short)) = absurd (due-no-run task short.contents (generate short.report short.number short.plan) is short.due tt)
 
 called-uncalled : (status : Status) (task : Task) (all : Devices) → calls_boxes task.order.verb ≡ false → Called status task all → Untouched all.boxes
 called-uncalled StoreFault task all is called = called.uncalled

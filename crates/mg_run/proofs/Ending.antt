@@ -1,5 +1,5 @@
 -- Who reads the input, and that it met its end.
-use Rattle.std.proofs.Common.{◌≡◌, ℕ, ℤ, List, [], ◌∷◌, true, false, Option, None, Some, Result, Ok, Err, ◌⊎◌, inl, inr, refl, sym, subst, arith}
+use Rattle.std.proofs.Common.{◌≡◌, ℕ, List, [], ◌∷◌, true, false, Bool, Result, Ok, Err, ◌⊎◌, inl, inr, refl, sym, subst, arith}
 use Rattle.std.proofs.lemmas.Bool.{false≢true}
 use Rattle.mg_edge.specs.Edge.{SourceTold}
 use Rattle.mg_feed.specs.Ran.{EndCame}
@@ -19,29 +19,34 @@ use Rattle.mg_run.specs.Command.{reads_input}
 use Rattle.mg_run.specs.Task.{Task}
 use Rattle.mg_run.specs.Files.{Files, graphs, no_graphs}
 use Rattle.mg_run.specs.Status.{status_from}
-use Rattle.mg_run.specs.Answer.{Job, refuse, show, run_plan, solve, run_job, solve_job, check_job, verb_job, expanded_job, files_job}
+use Rattle.mg_run.specs.Answer.{Job, refuse, show, run_plan, solve, generate, run_job, solve_job, check_job, generate_job, verb_job, expanded_job, files_job}
 use Rattle.mg_run.specs.Devices.{Device, Devices, run_of, Untouched, HasEnded}
 use Rattle.mg_run.specs.Call.{Did, IsJob, CallDid, Called, IsOneOf}
 use Rattle.mg_run.specs.Code.Job.{MayRead}
 use Rattle.mg_run.specs.declared.words.Order.{Order}
 use Rattle.mg_run.specs.declared.words.Verb.{Verb}
-use Rattle.mg_run.specs.declared.words.Verb.TheVariants.{Run, Solve, Check, Expand}
+use Rattle.mg_run.specs.declared.words.Verb.TheVariants.{Run, Solve, Check, Expand, Generate}
 use Rattle.mg_run.specs.declared.status.Status.{Status}
 use Rattle.mg_run.specs.declared.status.Status.TheVariants.{Good, StoreFault, Usage, GraphRefused, LineRefused, NodeFault, Stalled, ReadFault, WriteFault, OutOfMemory}
 
--- A check and an expansion don't read it.
+-- A check, an expansion and a run over packets that are made don't read it.
 check-unread : (checked : Result Plan CheckFault) → MayRead (check_job checked) → ⊥
 check-unread (Ok plan) may = may
 check-unread (Err fault) may = may
 
-graph-unread : (verb : Verb) (limit : Option ℤ) (outers : List OuterShape) (g : GraphView) → reads_input verb ≡ false → MayRead (verb_job verb limit outers g) → ⊥
-graph-unread Run limit outers g is may = false≢true (sym is)
-graph-unread Solve limit outers g is may = false≢true (sym is)
-graph-unread Check limit outers g is may = check-unread (check_of outers g) may
-graph-unread Expand limit outers g is may = may
+generate-unread : (order : Order) (checked : Result Plan CheckFault) → MayRead (generate_job order checked) → ⊥
+generate-unread order (Ok plan) may = may
+generate-unread order (Err fault) may = may
+
+graph-unread : (verb : Verb) (order : Order) (outers : List OuterShape) (g : GraphView) → reads_input verb ≡ false → MayRead (verb_job verb order outers g) → ⊥
+graph-unread Run order outers g is may = false≢true (sym is)
+graph-unread Solve order outers g is may = false≢true (sym is)
+graph-unread Check order outers g is may = check-unread (check_of outers g) may
+graph-unread Expand order outers g is may = may
+graph-unread Generate order outers g is may = generate-unread order (check_of outers g) may
 
 expanded-unread : (order : Order) (outers : List OuterShape) (expanded : Result GraphView ExpandFault) → reads_input order.verb ≡ false → MayRead (expanded_job order outers expanded) → ⊥
-expanded-unread order outers (Ok g) is may = graph-unread order.verb order.limit outers g is may
+expanded-unread order outers (Ok g) is may = graph-unread order.verb order outers g is may
 expanded-unread order outers (Err fault) is may = may
 
 files-unread : (order : Order) (outers : List OuterShape) (files : Files) → reads_input order.verb ≡ false → MayRead (files_job order outers files) → ⊥
@@ -54,35 +59,40 @@ pub unread-by : (task : Task) (contents : List (List ℕ)) (job : Job) (input : 
 unread-by task contents job input due (inr untouched) is = untouched
 unread-by task contents job input (files, are, same) (inl may) is = absurd (files-unread task.order task.outers files is (subst MayRead same may))
 
--- A run and a solution show no text but their own.
-abbrev IsShown : Job → Type 0
-IsShown (refuse note) = ⊥
-IsShown (show text) = Unit {0}
-IsShown (run_plan plan) = ⊥
-IsShown (solve plan) = ⊥
+-- What reads it is refused, or reads: it shows no text, and no packets are made.
+abbrev NeedsNone : Job → Type 0
+NeedsNone (refuse note) = ⊥
+NeedsNone (show text) = Unit {0}
+NeedsNone (run_plan report plan) = ⊥
+NeedsNone (solve report plan) = ⊥
+NeedsNone (generate report number plan) = Unit {0}
 
-run-unshown : (limit : Option ℤ) (checked : Result Plan CheckFault) → IsShown (run_job limit checked) → ⊥
-run-unshown limit (Ok plan) shows = shows
-run-unshown limit (Err fault) shows = shows
+run-reads : (order : Order) (checked : Result Plan CheckFault) → NeedsNone (run_job order checked) → ⊥
+run-reads order (Ok plan) none = none
+run-reads order (Err fault) none = none
 
-solve-unshown : (checked : Result Plan CheckFault) → IsShown (solve_job checked) → ⊥
-solve-unshown (Ok plan) shows = shows
-solve-unshown (Err fault) shows = shows
+solve-reads : (report : Bool) (checked : Result Plan CheckFault) → NeedsNone (solve_job report checked) → ⊥
+solve-reads report (Ok plan) none = none
+solve-reads report (Err fault) none = none
 
-graph-unshown : (verb : Verb) (limit : Option ℤ) (outers : List OuterShape) (g : GraphView) → reads_input verb ≡ true → IsShown (verb_job verb limit outers g) → ⊥
-graph-unshown Run limit outers g is shows = run-unshown limit (check_of outers g) shows
-graph-unshown Solve limit outers g is shows = solve-unshown (check_of outers g) shows
-graph-unshown Check limit outers g is shows = false≢true is
-graph-unshown Expand limit outers g is shows = false≢true is
+graph-reads : (verb : Verb) (order : Order) (outers : List OuterShape) (g : GraphView) → reads_input verb ≡ true → NeedsNone (verb_job verb order outers g) → ⊥
+graph-reads Run order outers g is none = run-reads order (check_of outers g) none
+graph-reads Solve order outers g is none = solve-reads order.report (check_of outers g) none
+graph-reads Check order outers g is none = false≢true is
+graph-reads Expand order outers g is none = false≢true is
+graph-reads Generate order outers g is none = false≢true is
 
-expanded-unshown : (order : Order) (outers : List OuterShape) (expanded : Result GraphView ExpandFault) → reads_input order.verb ≡ true → IsShown (expanded_job order outers expanded) → ⊥
-expanded-unshown order outers (Ok g) is shows = graph-unshown order.verb order.limit outers g is shows
-expanded-unshown order outers (Err fault) is shows = shows
+expanded-reads : (order : Order) (outers : List OuterShape) (expanded : Result GraphView ExpandFault) → reads_input order.verb ≡ true → NeedsNone (expanded_job order outers expanded) → ⊥
+expanded-reads order outers (Ok g) is none = graph-reads order.verb order outers g is none
+expanded-reads order outers (Err fault) is none = none
 
-files-unshown : (order : Order) (outers : List OuterShape) (files : Files) → reads_input order.verb ≡ true → IsShown (files_job order outers files) → ⊥
-files-unshown order outers (graphs []) is shows = shows
-files-unshown order outers (graphs (main ∷ library)) is shows = expanded-unshown order outers (expansion_of main library) is shows
-files-unshown order outers (no_graphs note) is shows = shows
+files-read : (order : Order) (outers : List OuterShape) (files : Files) → reads_input order.verb ≡ true → NeedsNone (files_job order outers files) → ⊥
+files-read order outers (graphs []) is none = none
+files-read order outers (graphs (main ∷ library)) is none = expanded-reads order outers (expansion_of main library) is none
+files-read order outers (no_graphs note) is none = none
+
+due-reads : (task : Task) (contents : List (List ℕ)) (job : Job) → IsJob task contents job → reads_input task.order.verb ≡ true → NeedsNone job → ⊥
+due-reads task contents job (files, are, same) reads none = files-read task.order task.outers files reads (subst NeedsNone same none)
 
 -- The input's end --
 
@@ -135,11 +145,12 @@ end-came input came = record { rose = let more = came.rose in omega (arith, more
 did-ended : (task : Task) (contents : List (List ℕ)) (job : Job) (status : Status) (all : Devices) → IsJob task contents job → Did job status all → reads_input task.order.verb ≡ true
     → IsOneOf status ended_statuses → HasEnded all.input
 did-ended task contents (refuse note) status all due did reads one = absurd (refused-ended status did.ended one)
-did-ended task contents (show text) status all (files, are, same) did reads one = absurd (files-unshown task.order task.outers files reads (subst IsShown same tt))
-did-ended task contents (run_plan plan) status all due did reads one =
-    end-came all.input (on-ended plan did.run_status (run_of all) did.ran (run-status status did.run_status did.told one))
-did-ended task contents (solve plan) status all due did reads one =
-    end-came all.input (ran-ended plan did.run_status (run_of all) did.ran (run-status status did.run_status did.told one))
+did-ended task contents (show text) status all due did reads one = absurd (due-reads task contents (show text) due reads tt)
+did-ended task contents (run_plan report plan) status all due did reads one =
+    end-came all.input (on-ended report plan did.run_status (run_of all) did.ran (run-status status did.run_status did.told one))
+did-ended task contents (solve report plan) status all due did reads one =
+    end-came all.input (ran-ended report plan did.run_status (run_of all) did.ran (run-status status did.run_status did.told one))
+did-ended task contents (generate report number plan) status all due did reads one = absurd (due-reads task contents (generate report number plan) due reads tt)
 
 call-ended : (status : Status) (task : Task) (all : Devices) → CallDid status task all → reads_input task.order.verb ≡ true → IsOneOf status ended_statuses → HasEnded all.input
 call-ended status task all called reads one = did-ended task called.contents called.job status all called.due called.did reads one

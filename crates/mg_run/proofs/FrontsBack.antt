@@ -1,5 +1,6 @@
 -- What a run leaves of the calculators that were handed in where memory ran out: a front of their calls.
-use Rattle.std.proofs.Common.{◌≡◌, ◌⊎◌, inl, inr, ℕ, suc, List, [], ◌∷◌, ◌++◌, length, map, take, append-nil, Bool, true, false, Option, Some, None, IfSome, slice_get, option_map, if◌then◌else◌, refl, sym, ap, ◌∙◌, subst}
+use Rattle.std.proofs.Common.{◌≡◌, ◌⊎◌, inl, inr, ℕ, suc, List, [], ◌∷◌, ◌++◌, length, map, append-nil, Bool, true, false, Option, Some, None, IfSome, slice_get, option_map, if◌then◌else◌, refl, sym, ap, ◌∙◌, subst}
+use Rattle.std.proofs.Math.Seq.{take-length}
 use Rattle.mg_edge.specs.Edge.{SourceTold, SinkTold}
 use Rattle.mg_value.specs.Payload.{Plain}
 use Rattle.mg_value.specs.Prefix.{StreamPrefix}
@@ -42,19 +43,19 @@ use Rattle.mg_sched.specs.GivesBack.{given_back, StoodFor}
 use Rattle.mg_sched.proofs.CountedBack.{knows_back}
 use Rattle.mg_sched.proofs.FrontsBack.{front_back}
 use Rattle.mg_sched.proofs.Solved.{solved}
-use Rattle.mg_run.specs.Boxes.{first_calls, HadAFront, IsAt, HadCalls, HadFronts, HadSome}
+use Rattle.mg_run.specs.Boxes.{first_calls, HadAFront, IsAt, HadCallsOf, HadCalls, HadFronts, HadSome}
 use Rattle.mg_run.specs.Code.Running.{Start, HandedIn, job_at, job_by, IsUnderWay, IsOver}
-use Rattle.mg_run.proofs.BoxesBack.{box_at, log_was}
+use Rattle.mg_run.proofs.BoxesBack.{logs_of, box_at, log_was}
 use Rattle.mg_run.proofs.GoingOn.{valid_plan, not_ended}
 use Rattle.mg_run.proofs.FrontsWritten.{lines_in_front, came_at}
 
 -- Calculators of a net --
 
 -- one comes back with a front of its calls
-one_front : (start : Start) (boxes : List CalculatorTold) (job later : LoggedJob) (net : NetView) (streams : List (StreamPrefix Plain)) (number place : ℕ) (node : PlanNode) → HandedIn start boxes → StoodFor job net → (later ≡ job) ⊎ Grows job later
-    → later.logs ≡ start.logs → net.plan ≡ start.plan → Solves later streams → slice_get start.plan.nodes number ≡ Some node → node.box_number ≡ Some place → IsAt place (HadAFront later.job streams node) (device boxes (given_back net))
-one_front start boxes job later net streams number place node handed stood more logs plan_is solves there has =
-    let box = box_at start.plan boxes number place node handed.fit there has in
+one_front : (boxes : List CalculatorTold) (job later : LoggedJob) (net : NetView) (streams : List (StreamPrefix Plain)) (number place : ℕ) (node : PlanNode) → BoxesFit later.job.plan boxes → later.logs ≡ logs_of boxes → StoodFor job net
+    → (later ≡ job) ⊎ Grows job later → net.plan ≡ later.job.plan → Solves later streams → slice_get later.job.plan.nodes number ≡ Some node → node.box_number ≡ Some place → IsAt place (HadAFront later.job streams node) (device boxes (given_back net))
+one_front boxes job later net streams number place node fit logs stood more plan_is solves there has =
+    let box = box_at later.job.plan boxes number place node fit there has in
     let outer : IsOuter node.law = subst IsOuter box.2.fits.same_law box.2.outer in
     let back = front_back job later net streams number place node stood more solves (ap (λ (p : Plan). slice_get p.nodes number) plan_is ∙ there) has outer in
     record {
@@ -65,23 +66,27 @@ one_front start boxes job later net streams number place node handed stood more 
       holds = record {
         count = back.2.count;
         close = back.2.close;
-        log = back.2.log ∙ ap (option_map (λ (calls : List Call). calls ++ first_calls later.job streams node back.2.count back.2.close)) (log_was later boxes place node box.0 (logs ∙ handed.logs) has box.1);
+        log = back.2.log ∙ ap (option_map (λ (calls : List Call). calls ++ first_calls later.job streams node back.2.count back.2.close)) (log_was later boxes place node box.0 logs has box.1);
         law = back.2.fits.same_law ∙ sym box.2.fits.same_law;
         shape = back.2.fits.same_shape ∙ sym box.2.fits.same_shape;
       };
     }
 
--- and so does each, over an input whose job goes on from the net's
-all_fronts : (start : Start) (boxes : List CalculatorTold) (job : LoggedJob) (read : Read) (net : NetView) → HandedIn start boxes → StoodFor job net → job.job.plan ≡ start.plan → (job_by start read ≡ job) ⊎ Grows job (job_by start read)
-    → IsJob (job_of start.plan read) → HadFronts start.plan read (device boxes (given_back net))
-all_fronts start boxes job read net handed stood same more is =
-    let later = job_by start read in
+-- and so does each, in the solution of a job that the net's is or that goes on from it
+pub all_fronts : (boxes : List CalculatorTold) (job later : LoggedJob) (net : NetView) → BoxesFit later.job.plan boxes → later.logs ≡ logs_of boxes → StoodFor job net → job.job.plan ≡ later.job.plan → (later ≡ job) ⊎ Grows job later
+    → IsJob later.job → HadFronts later.job (device boxes (given_back net))
+all_fronts boxes job later net fit logs stood same more is =
     let found = solved later is in
     record {
       streams = found.0;
       solution = found.1.solution;
-      each = λ number place node there has. one_front start boxes job later net found.0 number place node handed stood more refl ((knows_back job net stood).plan ∙ same) found.1 there has;
+      each = λ number place node there has. one_front boxes job later net found.0 number place node fit logs stood more ((knows_back job net stood).plan ∙ same) found.1 there has;
     }
+
+-- in that of the net's own, by what came back
+pub fronts_now : (boxes now : List CalculatorTold) (job : LoggedJob) (net : NetView) → BoxesFit job.job.plan boxes → job.logs ≡ logs_of boxes → StoodFor job net → IsJob job.job → now ≡ given_back net → HadFronts job.job (device boxes now)
+fronts_now boxes now job net fit logs stood is back =
+    subst (λ (bs : List CalculatorTold). HadFronts job.job (device boxes bs)) (sym back) (all_fronts boxes job job net fit logs stood refl (inl refl) is)
 
 -- The input came to its end --
 
@@ -93,7 +98,7 @@ fronts_end start boxes end source sink fed net now text handed u stood =
     inl (record {
       read = read;
       came = came_at start end source sink fed net text u;
-      fronts = all_fronts start boxes job read now handed stood refl (inl refl) (valid_plan job net u.stands);
+      fronts = all_fronts boxes job job now handed.fit handed.logs stood refl (inl refl) (valid_plan job net u.stands);
     })
 
 -- There is more behind the batch --
@@ -116,13 +121,13 @@ goes_on_to start lines more bytes valid named is =
     }
 
 fronts_by : (start : Start) (boxes : List CalculatorTold) (source : SourceTold) (sink : SinkTold) (fed : Fed) (net now : NetView) (text : TextView) (left : Option (List ℕ)) → HandedIn start boxes → (u : IsUnderWay start More source sink fed net text)
-    → StoodFor (job_at start u.lines false) now → start.source.left ≡ left → IfSome left (λ bytes. HadFronts start.plan (ended_input (inputs_of start.plan) bytes) (device boxes (given_back now)))
+    → StoodFor (job_at start u.lines false) now → start.source.left ≡ left → IfSome left (λ bytes. HadFronts (job_of start.plan (ended_input (inputs_of start.plan) bytes)) (device boxes (given_back now)))
 fronts_by start boxes source sink fed net now text None handed u stood was = tt
 fronts_by start boxes source sink fed net now text (Some bytes) handed u stood was =
     let job = job_at start u.lines false in
     let front = lines_in_front start source sink fed net text bytes u was in
     let grows = goes_on_to start u.lines front.0 bytes (valid_plan job net u.stands).plan (u.named tt) front.1 in
-    all_fronts start boxes job (ended_input (inputs_of start.plan) bytes) now handed stood refl (inr grows) grows.is_job
+    all_fronts boxes job (job_by start (ended_input (inputs_of start.plan) bytes)) now handed.fit handed.logs stood refl (inr grows) grows.is_job
 
 pub fronts_more : (start : Start) (boxes : List CalculatorTold) (source later : SourceTold) (sink : SinkTold) (fed : Fed) (net now : NetView) (text : TextView) → HandedIn start boxes → (u : IsUnderWay start More source sink fed net text)
     → StoodFor (job_at start u.lines false) now → HadSome start.plan (device start.source later) (device boxes (given_back now))
@@ -130,7 +135,7 @@ fronts_more start boxes source later sink fed net now text handed u stood = inr 
 
 -- A run that is under way --
 
-stands_still : (job : LoggedJob) (net : NetView) → StandsFor job net → StoodFor job net
+pub stands_still : (job : LoggedJob) (net : NetView) → StandsFor job net → StoodFor job net
 stands_still job net stands = record { before = net; stands = stands; since = inl refl }
 
 -- memory ran out, by how the last batch ended
@@ -160,16 +165,15 @@ none_more : (log : Option (List Call)) → log ≡ option_map (λ (calls : List 
 none_more None = refl
 none_more (Some calls) = ap Some (sym (append-nil calls))
 
-none_by : (plan : Plan) (left : Option (List ℕ)) (boxes : List CalculatorTold) → IsValid plan → BoxesFit plan boxes → IfSome left (λ bytes. HadFronts plan (ended_input (inputs_of plan) bytes) (device boxes boxes))
-none_by plan None boxes valid fit = tt
-none_by plan (Some bytes) boxes valid fit =
-    let read = ended_input (inputs_of plan) bytes in
-    let found = solved (record { job = job_of plan read; logs = [] }) (record { plan = valid; inputs = accepted-fit plan (all_lines bytes) read.end valid }) in
+-- they had a front of none in any job
+pub none_had : (job : Job) (boxes : List CalculatorTold) → IsJob job → BoxesFit job.plan boxes → HadFronts job (device boxes boxes)
+none_had job boxes is fit =
+    let found = solved (record { job = job; logs = [] }) is in
     record {
       streams = found.0;
       solution = found.1.solution;
       each = λ number place node there has.
-          (let box = box_at plan boxes number place node fit there has in
+          (let box = box_at job.plan boxes number place node fit there has in
           record {
             before = box.0;
             now = box.0;
@@ -178,6 +182,12 @@ none_by plan (Some bytes) boxes valid fit =
             holds = record { count = 0; close = false; log = none_more box.0.log; law = refl; shape = refl };
           });
     }
+
+none_by : (plan : Plan) (left : Option (List ℕ)) (boxes : List CalculatorTold) → IsValid plan → BoxesFit plan boxes → IfSome left (λ bytes. HadFronts (job_of plan (ended_input (inputs_of plan) bytes)) (device boxes boxes))
+none_by plan None boxes valid fit = tt
+none_by plan (Some bytes) boxes valid fit =
+    let read = ended_input (inputs_of plan) bytes in
+    none_had (job_of plan read) boxes (record { plan = valid; inputs = accepted-fit plan (all_lines bytes) read.end valid }) fit
 
 -- they lie as they lay
 pub had_none : (plan : Plan) (input : Device SourceTold) (boxes : List CalculatorTold) → IsValid plan → BoxesFit plan boxes → HadSome plan input (device boxes boxes)
@@ -207,40 +217,34 @@ last_is : (fault : Option Failure) → last_call fault ≡ finish (closes fault)
 last_is None = refl
 last_is (Some failure) = last_at failure.phase failure.cause
 
-take_whole : {X : Type 0} (xs : List X) → take (length xs) xs ≡ xs
-take_whole [] = refl
-take_whole {X} (x ∷ xs) = ap (λ (ys : List X). x ∷ ys) (take_whole xs)
-
 -- all of a node's calls are a front of them
 all_first : (job : Job) (streams : List (StreamPrefix Plain)) (node : PlanNode) → log_of job streams node ≡ first_calls job streams node (suc (length (map (λ e. Shown e.at e.set) (shown_sets job streams node)))) (closes (outcome_of job streams node).fault)
 all_first job streams node =
     let shown : List Call = map (λ e. Shown e.at e.set) (shown_sets job streams node) in
     let fault = (outcome_of job streams node).fault in
-    ap (λ (last : List Call). (Begun ∷ shown) ++ last) (last_is fault) ∙ ap (λ (calls : List Call). calls ++ finish (closes fault)) (sym (take_whole (Begun ∷ shown)))
+    ap (λ (last : List Call). (Begun ∷ shown) ++ last) (last_is fault) ∙ ap (λ (calls : List Call). calls ++ finish (closes fault)) (sym (take-length (Begun ∷ shown)))
 
 -- so those that had all had a front
+pub all_are_fronts : (job : Job) (boxes : Device (List CalculatorTold)) → HadCallsOf job boxes → HadFronts job boxes
+all_are_fronts job boxes had = record {
+  streams = had.streams;
+  solution = had.solution;
+  each = λ number place node there has.
+      (let at = had.each number place node there has in
+      record {
+        before = at.before;
+        now = at.now;
+        was = at.was;
+        is = at.is;
+        holds = record {
+          count = suc (length (map (λ e. Shown e.at e.set) (shown_sets job had.streams node)));
+          close = closes (outcome_of job had.streams node).fault;
+          log = at.holds.log ∙ ap (λ (more : List Call). option_map (λ (calls : List Call). calls ++ more) at.before.log) (all_first job had.streams node);
+          law = at.holds.law;
+          shape = at.holds.shape;
+        };
+      });
+}
+
 pub all_are_some : (plan : Plan) (input : Device SourceTold) (boxes : Device (List CalculatorTold)) → HadCalls plan input boxes → HadSome plan input boxes
-all_are_some plan input boxes had = inl (record {
-  read = had.read;
-  came = had.came;
-  fronts = record {
-    streams = had.streams;
-    solution = had.solution;
-    each = λ number place node there has.
-        (let at = had.each number place node there has in
-        let job = job_of plan had.read in
-        record {
-          before = at.before;
-          now = at.now;
-          was = at.was;
-          is = at.is;
-          holds = record {
-            count = suc (length (map (λ e. Shown e.at e.set) (shown_sets job had.streams node)));
-            close = closes (outcome_of job had.streams node).fault;
-            log = at.holds.log ∙ ap (λ (more : List Call). option_map (λ (calls : List Call). calls ++ more) at.before.log) (all_first job had.streams node);
-            law = at.holds.law;
-            shape = at.holds.shape;
-          };
-        });
-  };
-})
+all_are_some plan input boxes h = inl (record { read = h.read; came = h.came; fronts = all_are_fronts (job_of plan h.read) boxes h.had })

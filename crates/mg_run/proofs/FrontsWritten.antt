@@ -18,7 +18,7 @@ use Rattle.mg_feed.proofs.Accepting.{good-accepted}
 use Rattle.mg_feed.proofs.Coming.{came-front}
 use Rattle.mg_feed.proofs.Growing.{streams-grow, sides-stay}
 use Rattle.mg_answer.specs.Text.{output_of}
-use Rattle.mg_answer.specs.Answer.{Read, Answer, is_ended, ended_input, run_answer, AnswersEnded}
+use Rattle.mg_answer.specs.Answer.{Read, by_lines, is_ended, ended_input, job_of}
 use Rattle.mg_answer.specs.Devices.{Device, device, run_devices, TookFront}
 use Rattle.mg_answer.specs.Put.{TextView}
 use Rattle.mg_answer.specs.Wrote.{Wrote}
@@ -35,9 +35,10 @@ use Rattle.mg_run.proofs.GoingOn.{valid_plan, not_ended}
 
 -- Nothing was written --
 
-unwritten : (plan : Plan) (left : Option (List ℕ)) (sink : SinkTold) → IfSome left (λ bytes. (answer : Answer) → AnswersEnded plan bytes answer → TookFront (device sink sink) answer.output)
+unwritten : (plan : Plan) (left : Option (List ℕ)) (sink : SinkTold)
+    → IfSome left (λ bytes. (streams : List (StreamPrefix Plain)) → IsSolution (job_of plan (ended_input (inputs_of plan) bytes)) streams → TookFront (device sink sink) (output_of plan streams))
 unwritten plan None sink = tt
-unwritten plan (Some bytes) sink = λ answer is. front-none sink answer.output
+unwritten plan (Some bytes) sink = λ streams is. front-none sink (output_of plan streams)
 
 -- memory ran out before anything was written
 pub short_unwritten : (plan : Plan) (input : Device SourceTold) (sink now : SinkTold) (notes : Device SinkTold) → now ≡ sink → RanShortOf plan (run_devices input (device sink now) notes)
@@ -64,9 +65,10 @@ lines_in_front start source sink fed net text bytes u was =
 
 front_more : (start : Start) (source : SourceTold) (sink now : SinkTold) (fed : Fed) (net : NetView) (text : TextView) (left : Option (List ℕ)) (u : IsUnderWay start More source sink fed net text)
     → PutFront start.sink now (job_at start u.lines false).job → start.source.left ≡ left
-    → IfSome left (λ bytes. (answer : Answer) → AnswersEnded start.plan bytes answer → TookFront (device start.sink now) answer.output)
+    → IfSome left (λ bytes. (streams : List (StreamPrefix Plain)) → IsSolution (job_of start.plan (ended_input (inputs_of start.plan) bytes)) streams
+    → TookFront (device start.sink now) (output_of start.plan streams))
 front_more start source sink now fed net text None u put was = tt
-front_more start source sink now fed net text (Some bytes) u put was = λ answer is.
+front_more start source sink now fed net text (Some bytes) u put was = λ streams is.
     let graph = inputs_of start.plan in
     let job = job_at start u.lines false in
     let is_job = valid_plan job net u.stands in
@@ -77,8 +79,8 @@ front_more start source sink now fed net text (Some bytes) u put was = λ answer
     let solution : IsSolution (record { plan = start.plan; inputs = record { streams = (given_by graph u.lines).streams; sides = (given_by graph u.lines).sides; ended = false } }) found.0 =
     subst (λ (ss : List (StreamPrefix Plain)). IsSolution (record { plan = start.plan; inputs = record { streams = ss; sides = (given_by graph u.lines).sides; ended = false } }) found.0)
     (not_ended (given_by graph u.lines).streams) found.1.solution in
-    front-on (device start.sink now) (output_of start.plan found.0) answer.output
-    (texts-grow start.plan bytes u.lines front.0 found.0 answer is_job.plan good (streams-grow graph u.lines front.0 (is_ended (ended_input graph bytes).end) good) front.1 same solution is) (put found.0 found.1.solution)
+    front-on (device start.sink now) (output_of start.plan found.0) (output_of start.plan streams)
+    (texts-grow start.plan bytes u.lines front.0 found.0 streams is_job.plan good (streams-grow graph u.lines front.0 (is_ended (ended_input graph bytes).end) good) front.1 same solution is) (put found.0 found.1.solution)
 
 -- memory ran out while the input came, and a front of the text of the lines so far was taken
 pub short_more : (start : Start) (source later : SourceTold) (sink now : SinkTold) (fed : Fed) (net : NetView) (text : TextView) (notes : Device SinkTold) (u : IsUnderWay start More source sink fed net text)
@@ -103,15 +105,15 @@ short_end start end source sink now fed net text notes u put =
     inl (record {
       read = read;
       input = came_at start end source sink fed net text u;
-      answer = run_answer start.plan read found.0;
-      is = record { streams = found.0; solution = found.1.solution; is = refl };
+      streams = found.0;
+      solution = found.1.solution;
       front = put found.0 found.1.solution;
     })
 
 -- the answer was written
-pub ran_at : (start : Start) (end : FeedEnd) (source : SourceTold) (sink now : SinkTold) (fed : Fed) (net : NetView) (text : TextView) (status : RunStatus) (notes : Device SinkTold)
-    (u : IsUnderWay start (End end) source sink fed net text) → Wrote (job_at start u.lines (is_ended end)).job end status (device start.sink now) notes
-    → RanOn start.plan status (run_devices (device start.source source) (device start.sink now) notes)
-ran_at start end source sink now fed net text status notes u wrote =
-    written-ran start.plan (record { lines = u.lines; end = end }) (run_devices (device start.source source) (device start.sink now) notes) status
+pub ran_at : (report : Bool) (start : Start) (end : FeedEnd) (source : SourceTold) (sink now : SinkTold) (fed : Fed) (net : NetView) (text : TextView) (status : RunStatus) (notes : Device SinkTold)
+    (u : IsUnderWay start (End end) source sink fed net text) → Wrote (by_lines report) (job_at start u.lines (is_ended end)).job end status (device start.sink now) notes
+    → RanOn report start.plan status (run_devices (device start.source source) (device start.sink now) notes)
+ran_at report start end source sink now fed net text status notes u wrote =
+    written-ran report start.plan (record { lines = u.lines; end = end }) (run_devices (device start.source source) (device start.sink now) notes) status
     (came_at start end source sink fed net text u) wrote

@@ -1,5 +1,5 @@
 -- The calculators that are handed in fit a plan that was checked with what is known of them.
-use Rattle.std.proofs.Common.{◌≡◌, ℕ, List, [], ◌∷◌, map, All, Option, None, Some, IfSome, IsSomeAnd, option_map, slice_get, refl, sym, ap, ◌∙◌, subst}
+use Rattle.std.proofs.Common.{◌≡◌, ℕ, List, All, Option, None, Some, IfSome, IsSomeAnd, option_map, slice_get, subst}
 use Rattle.std.proofs.lemmas.Option.{slice_get-map}
 use Rattle.std.proofs.lemmas.List.Elements.{All-weaker}
 use Rattle.mg_sched.proofs.PlanEdges.{all_at}

@@ -21,5 +21,7 @@ pub mod PuttingSets
 pub mod FrontsWritten
 pub mod Driving
 pub mod BoxesBack
+pub mod Reported
 pub mod RunsEnd
+pub mod Summing
 pub mod FrontsBack

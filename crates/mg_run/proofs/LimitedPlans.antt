@@ -1,5 +1,5 @@
 -- A plan with another limit of queues is valid where it was.
-use Rattle.std.proofs.Common.{◌≡◌, ◌≢◌, ℤ, pos}
+use Rattle.std.proofs.Common.{◌≢◌, ℤ, pos}
 use Rattle.mg_calc.specs.declared.plan.Plan.{Plan}
 use Rattle.mg_calc.specs.Plan.{IsValid}
 

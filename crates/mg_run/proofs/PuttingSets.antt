@@ -1,5 +1,5 @@
 -- The sets that leave a net, and the text that is put of them.
-use Rattle.std.proofs.Common.{◌≡◌, ◌<◌, ◌≤◌, ◌-◌, ◌^◌, ℕ, zero, suc, List, [], ◌∷◌, ◌++◌, length, take, drop, Bool, true, false, Option, Some, slice_get, sym, ap, ◌∙◌, subst, arith, append_assoc, append-nil, take-append-drop}
+use Rattle.std.proofs.Common.{◌≡◌, ◌<◌, ◌≤◌, ◌-◌, ◌^◌, ℕ, zero, suc, List, [], ◌∷◌, ◌++◌, length, take, drop, Bool, true, false, Option, Some, slice_get, sym, ap, ◌∙◌, subst, arith, append-nil, take-append-drop}
 use Rattle.std.specs.Bool.{OnTrue}
 use Rattle.std.proofs.lemmas.Grind.{flat_map-append}
 use Rattle.std.proofs.lemmas.List.{length-map}
@@ -58,15 +58,18 @@ fewer_to_take set_old set_now before now some takes =
 
 -- Text --
 
+-- one more of a list
+pub take_more : {X : Type 0} (xs : List X) (n : ℕ) (x : X) → slice_get xs n ≡ Some x → take (suc n) xs ≡ take n xs ++ x ∷ []
+take_more [] n x is = cc
+take_more {X} (y ∷ xs) zero x is = (let one : y ≡ x = cc in ap (λ (z : X). z ∷ []) one)
+take_more {X} (y ∷ xs) (suc n) x is = ap (λ (l : List X). y ∷ l) (take_more xs n x is)
+
 -- the lines of one more set
-sets_more : (names : List (List ℕ)) (sets : List (TimedSet Plain)) (n at : ℕ) (set : List (Option (Stamped Plain))) → slice_get sets n ≡ Some (record { at = at; set = set })
-    → sets_text names (take (suc n) sets) ≡ sets_text names (take n sets) ++ set_text names set
-sets_more names [] n at set is = cc
-sets_more names (s ∷ sets) zero at set is =
-    let one : s ≡ record { at = at; set = set } = cc in
-    append-nil (set_text names s.set) ∙ ap (λ (t : TimedSet Plain). set_text names t.set) one
-sets_more names (s ∷ sets) (suc n) at set is =
-    ap (λ l. set_text names s.set ++ l) (sets_more names sets n at set is) ∙ sym (append_assoc (set_text names s.set) (sets_text names (take n sets)) (set_text names set))
+sets_more : (names : List (List ℕ)) (sets : List (TimedSet Plain)) (n : ℕ) (set : TimedSet Plain) → slice_get sets n ≡ Some set
+    → sets_text names (take (suc n) sets) ≡ sets_text names (take n sets) ++ set_text names set.set
+sets_more names sets n set is =
+    ap (sets_text names) (take_more sets n set is) ∙ flat_map-append (λ (t : TimedSet Plain). set_text names t.set) (take n sets) (set ∷ [])
+    ∙ ap (λ l. sets_text names (take n sets) ++ l) (append-nil (set_text names set.set))
 
 -- what is put of the first sets stands at the front of all of them
 pub first_sets : (names : List (List ℕ)) (sets : List (TimedSet Plain)) (n : ℕ) → IsFront (sets_text names (take n sets)) (sets_text names sets)
@@ -88,7 +91,7 @@ front_put job first sink net text stands put streams solution =
     (put-front text.failed first sink text.kept _ (put.put streams solution))
 
 -- a set that was taken is that of its number in the solution
-set_there : (job : LoggedJob) (streams : List (StreamPrefix Plain)) (before : NetView) (set : List (Option (Stamped Plain))) → StandsFor job before
+pub set_there : (job : LoggedJob) (streams : List (StreamPrefix Plain)) (before : NetView) (set : List (Option (Stamped Plain))) → StandsFor job before
     → HasSet job streams (length before.plan.nodes) (taken_out before) set → (at : ℕ) × (slice_get (settled_outputs job.job.plan streams) (taken_out before) ≡ Some (record { at = at; set = set }))
 set_there job streams before set stands has =
     let h : HasSet job streams (length job.job.plan.nodes) (taken_out before) set = subst (λ (p : Plan). HasSet job streams (length p.nodes) (taken_out before) set) (plan_stood job before stands) has in
@@ -107,7 +110,7 @@ put_more job first was sink before now old text set_old set stands put takes sho
       let at = set_there job streams before set stands (shows streams (record { is_job = valid_plan job before stands; solution = solution })) in
       let longer : taken_out now ≡ suc (taken_out before) = (let more = one_more_taken set_old set before now takes in omega (arith, more)) in
       let text_is : sets_text names_are (take (taken_out now) sets) ≡ sets_text names_are (take (taken_out before) sets) ++ set_text old.names set =
-      ap (λ (n : ℕ). sets_text names_are (take n sets)) longer ∙ sets_more names_are sets (taken_out before) at.0 set at.1
+      ap (λ (n : ℕ). sets_text names_are (take n sets)) longer ∙ sets_more names_are sets (taken_out before) (record { at = at.0; set = set }) at.1
       ∙ ap (λ (ns : List (List ℕ)). sets_text names_are (take (taken_out before) sets) ++ set_text ns set) (sym put.names) in
       subst (λ (t : List ℕ). HasPut first sink text t) (sym text_is) (puts _ (put.put streams solution));
 }
@@ -123,9 +126,13 @@ pub taken_false : (taken : Bool) (set_old set_now : List (Option (Stamped Plain)
 taken_false taken set_old set_now before now is takes = subst (λ (b : Bool). TakesOut b set_old set_now before now) is takes
 
 -- the set that was taken is the solution's
-pub shown_true : (taken : Bool) (P : Type 0) → taken ≡ true → OnTrue taken P → P
+shown_true : (taken : Bool) (P : Type 0) → taken ≡ true → OnTrue taken P → P
 shown_true true P is p = p
 shown_true false P is p = absurd (let no : false ≡ true = is in cc)
+
+pub set_shown : (taken : Bool) (job : LoggedJob) (streams : List (StreamPrefix Plain)) (net : NetView) (set : List (Option (Stamped Plain))) → taken ≡ true
+    → OnTrue taken (HasSet job streams (length net.plan.nodes) (taken_out net) set) → HasSet job streams (length net.plan.nodes) (taken_out net) set
+set_shown taken job streams net set is has = shown_true taken (HasSet job streams (length net.plan.nodes) (taken_out net) set) is has
 
 -- a set has a place for each output
 pub set_places : (job : LoggedJob) (before : NetView) (set : List (Option (Stamped Plain))) → StandsFor job before

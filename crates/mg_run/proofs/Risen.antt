@@ -7,7 +7,8 @@ use Rattle.mg_answer.specs.declared.run_status.RunStatus.{RunStatus}
 use Rattle.mg_answer.specs.declared.run_status.RunStatus.TheVariants as ended
 use Rattle.mg_answer.proofs.Answering.{read-risen as run-read-risen, write-risen as run-write-risen}
 use Rattle.mg_answer.proofs.RunningOn.{on-read-risen as run-on-read, on-write-risen as run-on-write}
-use Rattle.mg_run.specs.Answer.{Job, refuse, show, run_plan, solve}
+use Rattle.mg_answer.proofs.Generating.{generated-risen}
+use Rattle.mg_run.specs.Answer.{Job, refuse, show, run_plan, solve, generate}
 use Rattle.mg_run.specs.Status.{status_from}
 use Rattle.mg_run.specs.Devices.{Device, Devices, run_of, Untouched, HasRisen, TookText, TookPart}
 use Rattle.mg_run.specs.Call.{WasShown, Did, Called, IsOneOf}
@@ -50,8 +51,9 @@ read-status status run told (inr (inr (inr is))) = absurd is
 read-did : (job : Job) (status : Status) (all : Devices) → Did job status all → HasRisen all.input.before.faults all.input.now.faults → IsOneOf status read_statuses
 read-did (refuse note) status all did risen = absurd (risen-unread all.input risen did.unread)
 read-did (show text) status all did risen = absurd (risen-unread all.input risen did.unread)
-read-did (run_plan plan) status all did risen = read-status status did.run_status did.told (run-on-read plan did.run_status (run_of all) did.ran risen)
-read-did (solve plan) status all did risen = read-status status did.run_status did.told (run-read-risen plan did.run_status (run_of all) did.ran risen)
+read-did (run_plan report plan) status all did risen = read-status status did.run_status did.told (run-on-read report plan did.run_status (run_of all) did.ran risen)
+read-did (solve report plan) status all did risen = read-status status did.run_status did.told (run-read-risen report plan did.run_status (run_of all) did.ran risen)
+read-did (generate report number plan) status all did risen = absurd (risen-unread all.input risen did.unread)
 
 pub read-risen : (status : Status) (task : Task) (all : Devices) → Called status task all → HasRisen all.input.before.faults all.input.now.faults → IsOneOf status read_statuses
 read-risen Good task all called risen = read-did called.job Good all called.did risen
@@ -92,8 +94,10 @@ write-status status run told (inr (inr is)) = absurd is
 write-did : (job : Job) (status : Status) (all : Devices) → Did job status all → EitherRisen all → IsOneOf status write_statuses
 write-did (refuse note) status all did risen = inr (inl did.ended)
 write-did (show text) status all did risen = write-shown text status all did risen
-write-did (run_plan plan) status all did risen = write-status status did.run_status did.told (run-on-write plan did.run_status (run_of all) did.ran risen)
-write-did (solve plan) status all did risen = write-status status did.run_status did.told (run-write-risen plan did.run_status (run_of all) did.ran risen)
+write-did (run_plan report plan) status all did risen = write-status status did.run_status did.told (run-on-write report plan did.run_status (run_of all) did.ran risen)
+write-did (solve report plan) status all did risen = write-status status did.run_status did.told (run-write-risen report plan did.run_status (run_of all) did.ran risen)
+write-did (generate report number plan) status all did risen =
+    write-status status did.run_status did.told (generated-risen report plan number did.run_status (run_of all) did.ran risen)
 
 pub write-risen : (status : Status) (task : Task) (all : Devices) → Called status task all → EitherRisen all → IsOneOf status write_statuses
 write-risen Good task all called risen = write-did called.job Good all called.did risen

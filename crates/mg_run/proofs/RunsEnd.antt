@@ -1,48 +1,38 @@
 -- How a run begins, and how it ends once its net has come to rest.
-use Rattle.std.proofs.Common.{◌≡◌, ◌<◌, ◌⊎◌, inl, inr, ℕ, List, [], ◌∷◌, length, map, take, All, Option, Some, None, slice_get, unwrap_or, option_map, refl, sym, ap, ◌∙◌, subst}
-use Rattle.std.proofs.lemmas.List.{length-map}
+use Rattle.std.proofs.Common.{◌≡◌, ◌⊎◌, inl, inr, ℕ, List, [], length, map, take, Bool, Option, Some, None, slice_get, unwrap_or, option_map, refl, sym, ap, ◌∙◌, subst}
+use Rattle.std.proofs.Math.Seq.{take-length}
 use Rattle.mg_edge.specs.Edge.{SourceTold, SinkTold}
 use Rattle.mg_value.specs.Payload.{Plain}
 use Rattle.mg_value.specs.Prefix.{StreamPrefix}
 use Rattle.mg_calc.specs.declared.inputs.Inputs.{Inputs}
 use Rattle.mg_calc.specs.declared.plan.Plan.{Plan}
-use Rattle.mg_calc.specs.declared.node_fault.NodeFault.{NodeFault}
 use Rattle.mg_calc.specs.Plan.{IsValid}
 use Rattle.mg_calc.specs.Told.{CalculatorTold}
-use Rattle.mg_calc.specs.Equations.{IsJob, IsSolution}
-use Rattle.mg_calc.specs.Meaning.{faults}
-use Rattle.mg_calc.proofs.Solutions.{solution_has_each}
-use Rattle.mg_calc.proofs.Jobs.{any_state, job_known}
+use Rattle.mg_calc.specs.Equations.{Job, IsJob, IsSolution}
 use Rattle.mg_feed.specs.Graph.{GraphInputs, inputs_of}
 use Rattle.mg_feed.specs.Stands.{AllGood}
 use Rattle.mg_feed.specs.Fed.{Fed}
 use Rattle.mg_feed.specs.declared.feed_end.FeedEnd.{FeedEnd}
 use Rattle.mg_feed.specs.declared.feed_end.BatchEnd.{BatchEnd}
 use Rattle.mg_answer.specs.Text.{output_names, sets_text, output_of}
-use Rattle.mg_answer.specs.Notes.{bounds_of}
-use Rattle.mg_answer.specs.Answer.{is_ended}
+use Rattle.mg_answer.specs.Answer.{Form, packet_lines, output_in, is_ended}
 use Rattle.mg_answer.specs.Devices.{Device, device, run_devices}
 use Rattle.mg_answer.specs.Wrote.{Wrote}
 use Rattle.mg_answer.specs.Ran.{RanOn, RanShortOf}
 use Rattle.mg_answer.specs.declared.run_status.RunStatus.{RunStatus}
 use Rattle.mg_calc.specs.declared.call.Call.{Call}
 use Rattle.mg_answer.specs.Put.{TextView, nothing_put, HasPut}
-use Rattle.mg_answer.proofs.Writing.{nothing-put}
-use Rattle.mg_answer.proofs.Telling.{faults-below}
+use Rattle.mg_answer.proofs.Writing.{nothing-put, put-front}
 use Rattle.mg_node.specs.Views.{IntakeView}
 use Rattle.mg_node.specs.Job.{LoggedJob, Solves}
-use Rattle.mg_sched.specs.declared.report.StreamEnd.{StreamEnd}
-use Rattle.mg_sched.specs.declared.report.Report.{Report}
 use Rattle.mg_sched.specs.Views.{NetView}
 use Rattle.mg_sched.specs.StandsFor.{StandsFor}
 use Rattle.mg_sched.specs.Made.{job_of as made_job, IsMade}
 use Rattle.mg_sched.specs.Taking.{collector_of, taken_out, settled_outputs}
-use Rattle.mg_sched.specs.Reports.{report_of, stream_end}
 use Rattle.mg_sched.specs.WindsUp.{WindsUpNet}
 use Rattle.mg_sched.proofs.Solved.{solved}
 use Rattle.mg_sched.proofs.HadBack.{used_back}
-use Rattle.mg_sched.proofs.RestingReports.{rests_with_all_faults, rests_with_ends}
-use Rattle.mg_run.specs.Code.Running.{has_ended, HasFirst, Start, job_at, IsPut, PutFront, IsUnderWay, HasRested, SomeRested, IsOver, HadAll, Keeps, StandsWith, StoodWith}
+use Rattle.mg_run.specs.Code.Running.{has_ended, HasFirst, Start, job_at, IsPut, FrontIn, IsWhole, IsUnderWay, HasRested, SomeRested, IsOver, HadAllOf, HadAll, Keeps, StandsWith, StoodWith}
 use Rattle.mg_run.proofs.GoingOn.{job_of_lines, valid_plan, plan_stood}
 use Rattle.mg_run.proofs.PuttingSets.{all_sets}
 use Rattle.mg_run.proofs.FrontsWritten.{came_at, ran_at, short_end}
@@ -61,6 +51,9 @@ none_taken : (net : NetView) (o : Option IntakeView) → collector_of net ≡ o 
 none_taken net None is fresh = refl
 none_taken net (Some intake) is fresh = fresh intake is
 
+pub none_yet : (plan : Plan) (inputs : Inputs) (boxes : List CalculatorTold) (net : NetView) → IsMade plan inputs boxes net → taken_out net ≡ 0
+none_yet plan inputs boxes net made = none_taken net (collector_of net) refl (λ intake there. (made.fresh (length net.plan.nodes) intake there).claimed)
+
 -- a net that was made of it begins a run
 pub begins : (plan : Plan) (boxes : List CalculatorTold) (first : SourceTold) (end : BatchEnd) (inputs : Inputs) (now : SourceTold) (sink : SinkTold) (fed : Fed) (net : NetView) (text : TextView)
     → HasFirst plan first end inputs now fed → IsMade plan inputs boxes net → text ≡ nothing_put (output_names plan)
@@ -74,8 +67,7 @@ begins plan boxes first end inputs now sink fed net text has made is = record {
   is_put = record {
     names = ap (λ (t : TextView). t.names) is;
     put = λ streams solution.
-        let none : taken_out net ≡ 0 = none_taken net (collector_of net) refl (λ intake there. (made.fresh (length net.plan.nodes) intake there).claimed) in
-        subst (λ (n : ℕ). HasPut sink sink text (sets_text (output_names plan) (take n (settled_outputs plan streams)))) (sym none)
+        subst (λ (n : ℕ). HasPut sink sink text (sets_text (output_names plan) (take n (settled_outputs plan streams)))) (sym (none_yet plan inputs boxes net made))
         (subst (λ (t : TextView). HasPut sink sink t []) (sym is) (nothing-put sink (output_names plan)));
   };
 }
@@ -89,76 +81,53 @@ pub begun_at : (plan : Plan) (boxes handed : List CalculatorTold) (first : Sourc
 begun_at plan boxes handed first end inputs now sink fed net text same made is has =
     begins plan boxes first end inputs now sink fed net text has (subst (λ (bs : List CalculatorTold). IsMade plan inputs bs net) same made) is
 
--- The report --
+-- The text --
 
-ends_bounds : (ss : List (StreamPrefix Plain)) → map (λ (e : StreamEnd). e.bound) (map stream_end ss) ≡ bounds_of ss
-ends_bounds [] = refl
-ends_bounds (s ∷ ss) = ap (λ l. s.bound ∷ l) (ends_bounds ss)
+-- all sets were taken
+pub all_taken : (job : LoggedJob) (net : NetView) (streams : List (StreamPrefix Plain)) → StandsFor job net → HasRested job net → Solves job streams → taken_out net ≡ length (settled_outputs job.job.plan streams)
+all_taken job net streams stands h solves = h.all streams solves ∙ ap (λ (p : Plan). length (settled_outputs p streams)) (plan_stood job net stands)
 
--- it is that of the net at rest
-same_report : (job : LoggedJob) (net : NetView) (h : HasRested job net) → report_of net ≡ report_of h.rested
-same_report job net h = ap report_of h.since
-
--- the bounds of the streams, and the faults, are the solution's
-pub bounds_at : (job : LoggedJob) (net : NetView) (streams : List (StreamPrefix Plain)) (report : Report) (bounds : List ℕ) → HasRested job net → Solves job streams → report ≡ report_of net
-    → bounds ≡ map (λ (e : StreamEnd). e.bound) report.streams → bounds ≡ bounds_of streams
-bounds_at job net streams report bounds h solves is are =
-    are ∙ ap (λ (r : Report). map (λ (e : StreamEnd). e.bound) r.streams) (is ∙ same_report job net h)
-    ∙ ap (map (λ (e : StreamEnd). e.bound)) (rests_with_ends job h.rested streams h.stands h.running h.rests solves) ∙ ends_bounds streams
-
-pub faults_at : (job : LoggedJob) (net : NetView) (streams : List (StreamPrefix Plain)) (report : Report) → HasRested job net → Solves job streams → report ≡ report_of net
-    → report.faults ≡ faults job.job streams
-faults_at job net streams report h solves is =
-    ap (λ (r : Report). r.faults) (is ∙ same_report job net h) ∙ rests_with_all_faults job h.rested streams h.stands h.running h.rests solves
-
--- there is a bound for each stream of the plan, and the faults are of its nodes
-pub bounds_many : (plan : Plan) (net : NetView) (report : Report) (bounds : List ℕ) → SomeRested plan net → report ≡ report_of net → bounds ≡ map (λ (e : StreamEnd). e.bound) report.streams
-    → length bounds ≡ length plan.streams
-bounds_many plan net report bounds some is are =
-    let found = solved some.job (valid_plan some.job net some.stands) in
-    ap length (bounds_at some.job net found.0 report bounds some.has_rested found.1 is are) ∙ length-map found.0 (λ (s : StreamPrefix Plain). s.bound)
-    ∙ solution_has_each any_state some.job.job (job_known some.job.job found.1.is_job) found.0 found.1.solution ∙ ap (λ (p : Plan). length p.streams) some.plan_is
-
-pub faults_there : (plan : Plan) (net : NetView) (report : Report) → SomeRested plan net → report ≡ report_of net → All (λ (fault : NodeFault). fault.node < length plan.nodes) report.faults
-faults_there plan net report some is =
-    let found = solved some.job (valid_plan some.job net some.stands) in
-    subst (λ (fs : List NodeFault). All (λ fault. fault.node < length plan.nodes) fs) (sym (faults_at some.job net found.0 report some.has_rested found.1 is))
-    (subst (λ (p : Plan). All (λ fault. fault.node < length p.nodes) (faults some.job.job found.0)) some.plan_is (faults-below some.job.job found.0))
-
--- all sets were put
-pub all_put : (job : LoggedJob) (first sink : SinkTold) (net : NetView) (text : TextView) (streams : List (StreamPrefix Plain)) → StandsFor job net → HasRested job net → IsPut first sink job.job net text
+-- and put
+all_put : (job : LoggedJob) (first sink : SinkTold) (net : NetView) (text : TextView) (streams : List (StreamPrefix Plain)) → StandsFor job net → HasRested job net → IsPut first sink job.job net text
     → IsSolution job.job streams → HasPut first sink text (output_of job.job.plan streams)
 all_put job first sink net text streams stands h put solution =
     let solves : Solves job streams = record { is_job = valid_plan job net stands; solution = solution } in
     let names = output_names job.job.plan in
     let sets = settled_outputs job.job.plan streams in
-    let all : taken_out net ≡ length sets = h.all streams solves ∙ ap (λ (p : Plan). length (settled_outputs p streams)) (plan_stood job net stands) in
-    subst (λ (t : List ℕ). HasPut first sink text t) (ap (λ (n : ℕ). sets_text names (take n sets)) all ∙ ap (sets_text names) (take_whole sets) ∙ all_sets job streams solves) (put.put streams solution)
-  where
-    take_whole : {X : Type 0} (xs : List X) → take (length xs) xs ≡ xs
-    take_whole [] = refl
-    take_whole (x ∷ xs) = ap (λ l. x ∷ l) (take_whole xs)
+    let text_is = ap (λ (n : ℕ). sets_text names (take n sets)) (all_taken job net streams stands h solves) ∙ ap (sets_text names) (take-length sets) ∙ all_sets job streams solves in
+    subst (λ (t : List ℕ). HasPut first sink text t) text_is (put.put streams solution)
+
+pub whole_put : (job : LoggedJob) (first sink : SinkTold) (net : NetView) (text : TextView) → StandsFor job net → HasRested job net → IsPut first sink job.job net text → IsWhole packet_lines first sink job.job text
+whole_put job first sink net text stands h put = λ streams solution. all_put job first sink net text streams stands h put solution
+
+-- a front of what was put was taken
+pub front_whole : (form : Form) (first sink : SinkTold) (job : Job) (text : TextView) → IsWhole form first sink job text → FrontIn form first sink job
+front_whole form first sink job text whole = λ streams solution. put-front text.failed first sink text.kept (output_in form job.plan streams) (whole streams solution)
 
 -- Calculators --
 
 -- each that a node uses comes back with all its calls
-pub had_at : (start : Start) (end : FeedEnd) (source : SourceTold) (sink : SinkTold) (fed : Fed) (net wound : NetView) (text : TextView) (over : IsOver start end source sink fed net text)
-    → WindsUpNet net wound → wound.wound ≡ length net.plan.nodes → HadAll start source wound
-had_at start end source sink fed net wound text over winds all =
-    let u = over.under_way in
-    let h = over.has_rested in
-    let job = job_at start u.lines (is_ended end) in
-    let found = solved job (valid_plan job net u.stands) in
-    let plan_is = plan_stood job net u.stands in
+pub had_of : (job : LoggedJob) (net wound : NetView) → StandsFor job net → HasRested job net → WindsUpNet net wound → wound.wound ≡ length net.plan.nodes → HadAllOf job wound
+had_of job net wound stands h winds all =
+    let found = solved job (valid_plan job net stands) in
     record {
-      read = record { lines = u.lines; end = end };
-      came = came_at start end source sink fed net text u;
       streams = found.0;
       solution = found.1.solution;
       each = λ number place node there has outer.
           let back = used_back job h.rested net wound found.0 number place node h.stands h.running h.rests found.1 h.since winds all
-          (ap (λ (p : Plan). slice_get p.nodes number) plan_is ∙ there) has outer in
+          (ap (λ (p : Plan). slice_get p.nodes number) (plan_stood job net stands) ∙ there) has outer in
           record { told = back.0; there = back.1; had = back.2 };
+    }
+
+-- which is so over what the input came to
+pub had_at : (start : Start) (end : FeedEnd) (source : SourceTold) (sink : SinkTold) (fed : Fed) (net wound : NetView) (text : TextView) (over : IsOver start end source sink fed net text)
+    → WindsUpNet net wound → wound.wound ≡ length net.plan.nodes → HadAll start source wound
+had_at start end source sink fed net wound text over winds all =
+    let u = over.under_way in
+    record {
+      read = record { lines = u.lines; end = end };
+      came = came_at start end source sink fed net text u;
+      had = had_of (job_at start u.lines (is_ended end)) net wound u.stands over.has_rested winds all;
     }
 
 -- The end --
@@ -170,24 +139,26 @@ some_rested plan start end source sink fed net text is over =
     record { job = job_at start over.under_way.lines (is_ended end); plan_is = is; stands = over.under_way.stands; has_rested = over.has_rested }
 
 -- its answer was written
-pub ran_over : (plan : Plan) (start : Start) (end : FeedEnd) (source : SourceTold) (sink now : SinkTold) (fed : Fed) (net : NetView) (text : TextView) (status : RunStatus) (notes : Device SinkTold) → start.plan ≡ plan
-    → ((job : LoggedJob) (first : SinkTold) → job.job.plan ≡ plan → StandsFor job net → HasRested job net → IsPut first sink job.job net text → Wrote job.job end status (device first now) notes)
-    → IsOver start end source sink fed net text → RanOn plan status (run_devices (device start.source source) (device start.sink now) notes)
-ran_over plan start end source sink now fed net text status notes is wrote over =
+pub ran_over : (report : Bool) (plan : Plan) (start : Start) (end : FeedEnd) (source : SourceTold) (sink now : SinkTold) (fed : Fed) (net : NetView) (text : TextView) (status : RunStatus) (notes : Device SinkTold) → start.plan ≡ plan
+    → ((form : Form) (job : LoggedJob) (first : SinkTold) → job.job.plan ≡ plan → StandsFor job net → HasRested job net → IsWhole form first sink job.job text
+    → Wrote (record { form = form; report = report }) job.job end status (device first now) notes)
+    → IsOver start end source sink fed net text → RanOn report plan status (run_devices (device start.source source) (device start.sink now) notes)
+ran_over report plan start end source sink now fed net text status notes is wrote over =
     let u = over.under_way in
     let job = job_at start u.lines (is_ended end) in
-    subst (λ (p : Plan). RanOn p status (run_devices (device start.source source) (device start.sink now) notes)) is
-    (ran_at start end source sink now fed net text status notes u (wrote job start.sink is u.stands over.has_rested u.is_put))
+    subst (λ (p : Plan). RanOn report p status (run_devices (device start.source source) (device start.sink now) notes)) is
+    (ran_at report start end source sink now fed net text status notes u
+    (wrote packet_lines job start.sink is u.stands over.has_rested (whole_put job start.sink sink net text u.stands over.has_rested u.is_put)))
 
 -- or memory ran out
 pub short_over : (plan : Plan) (start : Start) (end : FeedEnd) (source : SourceTold) (sink now : SinkTold) (fed : Fed) (net : NetView) (text : TextView) (notes : Device SinkTold) → start.plan ≡ plan
-    → ((job : LoggedJob) (first : SinkTold) → job.job.plan ≡ plan → StandsFor job net → HasRested job net → IsPut first sink job.job net text → PutFront first now job.job)
+    → ((form : Form) (job : Job) (first : SinkTold) → IsWhole form first sink job text → FrontIn form first now job)
     → IsOver start end source sink fed net text → RanShortOf plan (run_devices (device start.source source) (device start.sink now) notes)
 short_over plan start end source sink now fed net text notes is front over =
     let u = over.under_way in
     let job = job_at start u.lines (is_ended end) in
     subst (λ (p : Plan). RanShortOf p (run_devices (device start.source source) (device start.sink now) notes)) is
-    (short_end start end source sink now fed net text notes u (front job start.sink is u.stands over.has_rested u.is_put))
+    (short_end start end source sink now fed net text notes u (front packet_lines job.job start.sink (whole_put job start.sink sink net text u.stands over.has_rested u.is_put)))
 
 -- What is left of the net --
 

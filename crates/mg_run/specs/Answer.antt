@@ -1,6 +1,6 @@
 -- What the program answers: the output text, the notes and the status, by the command, by what its files are, and by the
 -- input's bytes. There is one answer (`src/laws.rt`).
-use Rattle.std.specs.Prelude.{◌≡◌, ℕ, ℤ, pos, negsuc, ◌==◌, List, [], ◌∷◌, Option, None, Some, Result, Ok, Err, if◌then◌else◌}
+use Rattle.std.specs.Prelude.{◌≡◌, ℕ, ℤ, pos, negsuc, Bool, ◌==◌, List, [], ◌∷◌, Option, None, Some, Result, Ok, Err, if◌then◌else◌}
 use Rattle.mg_text.specs.Canonical.{canonical}
 use Rattle.mg_config.specs.Config.{GraphView}
 use Rattle.mg_config.specs.Written.{tree_of}
@@ -17,7 +17,7 @@ use Rattle.mg_answer.specs.Answer as runs
 use Rattle.mg_run.specs.Notes.{expand_note}
 use Rattle.mg_run.specs.declared.words.Order.{Order}
 use Rattle.mg_run.specs.declared.words.Verb.{Verb}
-use Rattle.mg_run.specs.declared.words.Verb.TheVariants.{Run, Solve, Check, Expand}
+use Rattle.mg_run.specs.declared.words.Verb.TheVariants.{Run, Solve, Check, Expand, Generate}
 use Rattle.mg_run.specs.Status.{status_from}
 use Rattle.mg_run.specs.declared.status.Status.{Status}
 use Rattle.mg_run.specs.declared.status.Status.TheVariants.{Good, GraphRefused}
@@ -31,21 +31,22 @@ graph_text g = canonical (tree_of g)
 -- What is to be done --
 
 -- A file, the expansion or the graph is refused, with a note; or a text is the output; or the graph of this plan is run; or it is
--- solved.
+-- solved; or it is run over so many packets that are made. The notes of the last three end with a report or not.
 pub data Job : Type 0 where
   refuse : List ℕ → Job
   show : List ℕ → Job
-  run_plan : Plan → Job
-  solve : Plan → Job
+  run_plan : Bool → Plan → Job
+  solve : Bool → Plan → Job
+  generate : Bool → ℕ → Plan → Job
 
 -- A graph that is checked has a text that is written, or it is refused; one that is run or solved is checked before.
 abbrev pub check_job : Result Plan CheckFault → Job
 check_job (Ok plan) = show (check_text plan)
 check_job (Err fault) = refuse (check_note fault)
 
-abbrev pub solve_job : Result Plan CheckFault → Job
-solve_job (Ok plan) = solve plan
-solve_job (Err fault) = refuse (check_note fault)
+abbrev pub solve_job : Bool → Result Plan CheckFault → Job
+solve_job report (Ok plan) = solve report plan
+solve_job report (Err fault) = refuse (check_note fault)
 
 -- the limit that the words ask for; 0 asks for the plan's own
 abbrev pub limit_or : ℤ → ℤ → ℤ
@@ -57,18 +58,23 @@ abbrev pub with_limit : Option ℤ → Plan → Plan
 with_limit None plan = plan
 with_limit (Some limit) plan = record plan { limit = limit_or limit plan.limit }
 
-abbrev pub run_job : Option ℤ → Result Plan CheckFault → Job
-run_job limit (Ok plan) = run_plan (with_limit limit plan)
-run_job limit (Err fault) = refuse (check_note fault)
+abbrev pub run_job : Order → Result Plan CheckFault → Job
+run_job order (Ok plan) = run_plan order.report (with_limit order.limit plan)
+run_job order (Err fault) = refuse (check_note fault)
 
-abbrev pub verb_job : Verb → Option ℤ → List OuterShape → GraphView → Job
-verb_job Run limit outers g = run_job limit (check_of outers g)
-verb_job Solve limit outers g = solve_job (check_of outers g)
-verb_job Check limit outers g = check_job (check_of outers g)
-verb_job Expand limit outers g = show (graph_text g)
+abbrev pub generate_job : Order → Result Plan CheckFault → Job
+generate_job order (Ok plan) = generate order.report order.number (with_limit order.limit plan)
+generate_job order (Err fault) = refuse (check_note fault)
+
+abbrev pub verb_job : Verb → Order → List OuterShape → GraphView → Job
+verb_job Run order outers g = run_job order (check_of outers g)
+verb_job Solve order outers g = solve_job order.report (check_of outers g)
+verb_job Check order outers g = check_job (check_of outers g)
+verb_job Expand order outers g = show (graph_text g)
+verb_job Generate order outers g = generate_job order (check_of outers g)
 
 abbrev pub graph_job : Order → List OuterShape → GraphView → Job
-graph_job order outers g = verb_job order.verb order.limit outers g
+graph_job order outers g = verb_job order.verb order outers g
 
 abbrev pub expanded_job : Order → List OuterShape → Result GraphView ExpandFault → Job
 expanded_job order outers (Ok g) = graph_job order outers g
@@ -97,13 +103,19 @@ pub record Answer : Type 0 where
 abbrev pub answer_from : runs.Answer → Answer
 answer_from given = record { output = given.output; notes = given.notes; status = status_from given.status }
 
--- what a run of the graph of a plan answers over an input that ends after these bytes
-abbrev pub IsRunAnswer : Plan → List ℕ → Answer → Type 0
-IsRunAnswer plan input given = (of_run : runs.Answer) × runs.AnswersEnded plan input of_run × (given ≡ answer_from of_run)
+-- what a run of the graph of a plan answers over an input that ends after these bytes, with a report or without
+abbrev pub IsRunAnswer : Bool → Plan → List ℕ → Answer → Type 0
+IsRunAnswer report plan input given = (of_run : runs.Answer) × runs.AnswersEnded report plan input of_run × (given ≡ answer_from of_run)
 
--- An answer is that of a job where an input of these bytes ends well. To run a graph and to solve it is to answer the same.
+-- and over so many packets that are made
+abbrev pub IsGeneratedAnswer : Bool → Plan → ℕ → Answer → Type 0
+IsGeneratedAnswer report plan number given = (of_run : runs.Answer) × runs.AnswersGenerated report plan number of_run × (given ≡ answer_from of_run)
+
+-- An answer is that of a job where an input of these bytes ends well. To run a graph and to solve it is to answer the same. Where packets
+-- are made no input matters.
 abbrev pub IsAnswerOf : Job → List ℕ → Answer → Type 0
 IsAnswerOf (refuse note) input given = given ≡ record { output = []; notes = note; status = GraphRefused }
 IsAnswerOf (show text) input given = given ≡ record { output = text; notes = []; status = Good }
-IsAnswerOf (run_plan plan) input given = IsRunAnswer plan input given
-IsAnswerOf (solve plan) input given = IsRunAnswer plan input given
+IsAnswerOf (run_plan report plan) input given = IsRunAnswer report plan input given
+IsAnswerOf (solve report plan) input given = IsRunAnswer report plan input given
+IsAnswerOf (generate report number plan) input given = IsGeneratedAnswer report plan number given

@@ -10,7 +10,7 @@ use Rattle.mg_calc.specs.declared.plan_node.PlanNode.{PlanNode}
 use Rattle.mg_calc.specs.Equations.{Job, IsSolution, outcome_of}
 use Rattle.mg_calc.specs.Meaning.{shown_sets, log_of}
 use Rattle.mg_feed.specs.Graph.{inputs_of}
-use Rattle.mg_answer.specs.Answer.{Read, ended_input, job_of}
+use Rattle.mg_answer.specs.Answer.{Read, ended_input, job_of, generated_job}
 use Rattle.mg_answer.specs.Devices.{Device}
 use Rattle.mg_answer.specs.Ran.{CameTo}
 use Rattle.mg_answer.specs.declared.run_status.RunStatus.{RunStatus}
@@ -72,14 +72,18 @@ pub record IsAt (place : ℕ) (P : CalculatorTold → CalculatorTold → Type 0)
   pub is : slice_get boxes.now place ≡ Some now
   pub holds : P before now
 
--- Each calculator that a node uses had its calls, over what the input came to.
+-- Each calculator that a node uses had its calls, in the solution of a job.
+pub record HadCallsOf (job : Job) (boxes : Device (List CalculatorTold)) : Type 0 where
+  pub streams : List (StreamPrefix Plain)
+  pub solution : IsSolution job streams
+  pub each : (number place : ℕ) (node : PlanNode) → slice_get job.plan.nodes number ≡ Some node → node.box_number ≡ Some place
+      → IsAt place (HadItsCalls job streams node) boxes
+
+-- So it is over what the input came to.
 pub record HadCalls (plan : Plan) (input : Device SourceTold) (boxes : Device (List CalculatorTold)) : Type 0 where
   pub read : Read
   pub came : CameTo (inputs_of plan) input read
-  pub streams : List (StreamPrefix Plain)
-  pub solution : IsSolution (job_of plan read) streams
-  pub each : (number place : ℕ) (node : PlanNode) → slice_get plan.nodes number ≡ Some node → node.box_number ≡ Some place
-      → IsAt place (HadItsCalls (job_of plan read) streams node) boxes
+  pub had : HadCallsOf (job_of plan read) boxes
 
 -- A calculator had a front of the calls that its node has in a solution: the first of them, a number of them, and perhaps Close behind
 -- them. Its log, where it tells one, grew by just these.
@@ -90,22 +94,22 @@ pub record HadAFront (job : Job) (streams : List (StreamPrefix Plain)) (node : P
   pub law : now.law ≡ before.law
   pub shape : now.shape ≡ before.shape
 
--- Each calculator that a node uses had such a front, in the solution over what an input came to.
-pub record HadFronts (plan : Plan) (read : Read) (boxes : Device (List CalculatorTold)) : Type 0 where
+-- Each calculator that a node uses had such a front, in the solution of a job.
+pub record HadFronts (job : Job) (boxes : Device (List CalculatorTold)) : Type 0 where
   pub streams : List (StreamPrefix Plain)
-  pub solution : IsSolution (job_of plan read) streams
-  pub each : (number place : ℕ) (node : PlanNode) → slice_get plan.nodes number ≡ Some node → node.box_number ≡ Some place
-      → IsAt place (HadAFront (job_of plan read) streams node) boxes
+  pub solution : IsSolution job streams
+  pub each : (number place : ℕ) (node : PlanNode) → slice_get job.plan.nodes number ≡ Some node → node.box_number ≡ Some place
+      → IsAt place (HadAFront job streams node) boxes
 
 -- The input was read, and so it is over what it came to.
 pub record HadFrontsOfRead (plan : Plan) (input : Device SourceTold) (boxes : Device (List CalculatorTold)) : Type 0 where
   pub read : Read
   pub came : CameTo (inputs_of plan) input read
-  pub fronts : HadFronts plan read boxes
+  pub fronts : HadFronts (job_of plan read) boxes
 
 -- Memory ran out: so it is over what the input came to; or, where the input tells its bytes, over an input that ends after them.
 abbrev pub HadSome : Plan → Device SourceTold → Device (List CalculatorTold) → Type 0
-HadSome plan input boxes = HadFrontsOfRead plan input boxes ⊎ IfSome input.before.left (λ bytes. HadFronts plan (ended_input (inputs_of plan) bytes) boxes)
+HadSome plan input boxes = HadFrontsOfRead plan input boxes ⊎ IfSome input.before.left (λ bytes. HadFronts (job_of plan (ended_input (inputs_of plan) bytes)) boxes)
 
 -- All come back in their order. One that no node uses had no call. The others had all of theirs, and where memory ran out a front of
 -- them, perhaps with Close behind it.
@@ -114,3 +118,10 @@ pub record RunLeaves (plan : Plan) (status : RunStatus) (input : Device SourceTo
   pub unused : (place : ℕ) → All (λ node. ¬ (node.box_number ≡ Some place)) plan.nodes → slice_get boxes.now place ≡ slice_get boxes.before place
   pub used : status ≢ OutOfMemory → HadCalls plan input boxes
   pub short : status ≡ OutOfMemory → HadSome plan input boxes
+
+-- What a run over packets that are made leaves.
+pub record GeneratedLeaves (plan : Plan) (number : ℕ) (status : RunStatus) (boxes : Device (List CalculatorTold)) : Type 0 where
+  pub count : length boxes.now ≡ length boxes.before
+  pub unused : (place : ℕ) → All (λ node. ¬ (node.box_number ≡ Some place)) plan.nodes → slice_get boxes.now place ≡ slice_get boxes.before place
+  pub used : status ≢ OutOfMemory → HadCallsOf (generated_job plan number) boxes
+  pub short : status ≡ OutOfMemory → HadFronts (generated_job plan number) boxes

@@ -1,5 +1,5 @@
 -- What a call came to, by its status.
-use Rattle.std.specs.Prelude.{◌≡◌, ℕ, ◌⊎◌, List, [], ◌∷◌, IfSome}
+use Rattle.std.specs.Prelude.{◌≡◌, ℕ, ◌⊎◌, Bool, List, [], ◌∷◌, IfSome}
 use Rattle.mg_calc.specs.declared.plan.Plan.{Plan}
 use Rattle.mg_calc.specs.declared.shape.OuterShape.{OuterShape}
 use Rattle.mg_run.specs.Task.{Task, task}
@@ -10,12 +10,12 @@ use Rattle.mg_run.specs.Notes.{usage_note, store_note}
 use Rattle.mg_answer.specs.Ran as runs
 use Rattle.mg_answer.specs.declared.run_status.RunStatus.{RunStatus}
 use Rattle.mg_answer.specs.declared.run_status.RunStatus.TheVariants.{OutOfMemory as no_memory}
-use Rattle.mg_run.specs.Boxes.{RunLeaves}
-use Rattle.mg_run.specs.Answer.{Answer, Job, refuse, show, run_plan, solve, job_of, IsAnswerOf}
+use Rattle.mg_run.specs.Boxes.{RunLeaves, GeneratedLeaves}
+use Rattle.mg_run.specs.Answer.{Answer, Job, refuse, show, run_plan, solve, generate, job_of, IsAnswerOf}
 use Rattle.mg_run.specs.Devices.{Devices, run_of, Untouched, TookFront, TookText, TookPart, Noted}
 use Rattle.mg_run.specs.Status.{status_from}
 use Rattle.mg_run.specs.declared.status.Status.{Status}
-use Rattle.mg_run.specs.declared.status.Status.TheVariants.{Good, StoreFault, Usage, GraphRefused, LineRefused, NodeFault, Stalled, ReadFault, WriteFault, OutOfMemory}
+use Rattle.mg_run.specs.declared.status.Status.TheVariants.{Good, StoreFault, Usage, GraphRefused, WriteFault, OutOfMemory}
 
 -- The output and the notes took an answer's texts, and the status is the answer's.
 pub record Meets (given : Answer) (status : Status) (devices : Devices) : Type 0 where
@@ -72,26 +72,36 @@ pub record WasShown (text : List ℕ) (status : Status) (devices : Devices) : Ty
 
 -- The graph of this plan was run over the input, and written as its outputs settled; the call has the run's status. What each status of
 -- a run means is said in mg_answer.
-pub record RanGraph (plan : Plan) (status : Status) (devices : Devices) : Type 0 where
+pub record RanGraph (report : Bool) (plan : Plan) (status : Status) (devices : Devices) : Type 0 where
   pub run_status : RunStatus
   pub told : status ≡ status_from run_status
-  pub ran : runs.RanOn plan run_status (run_of devices)
+  pub ran : runs.RanOn report plan run_status (run_of devices)
   pub left : RunLeaves plan run_status devices.input devices.boxes
 
 -- The graph of this plan was solved.
-pub record SolvedGraph (plan : Plan) (status : Status) (devices : Devices) : Type 0 where
+pub record SolvedGraph (report : Bool) (plan : Plan) (status : Status) (devices : Devices) : Type 0 where
   pub run_status : RunStatus
   pub told : status ≡ status_from run_status
-  pub ran : runs.Ran plan run_status (run_of devices)
+  pub ran : runs.Ran report plan run_status (run_of devices)
   pub uncalled : Untouched devices.boxes
+
+-- The graph of this plan was run over so many packets that are made, and a summary of its outputs was written. The input was left as it
+-- was.
+pub record GeneratedGraph (report : Bool) (number : ℕ) (plan : Plan) (status : Status) (devices : Devices) : Type 0 where
+  pub run_status : RunStatus
+  pub told : status ≡ status_from run_status
+  pub ran : runs.RanGenerated report plan number run_status (run_of devices)
+  pub left : GeneratedLeaves plan number run_status devices.boxes
+  pub unread : Untouched devices.input
 
 -- A call --
 
 abbrev pub Did : Job → Status → Devices → Type 0
 Did (refuse note) status devices = WasRefused note status devices
 Did (show text) status devices = WasShown text status devices
-Did (run_plan plan) status devices = RanGraph plan status devices
-Did (solve plan) status devices = SolvedGraph plan status devices
+Did (run_plan report plan) status devices = RanGraph report plan status devices
+Did (solve report plan) status devices = SolvedGraph report plan status devices
+Did (generate report number plan) status devices = GeneratedGraph report number plan status devices
 
 -- what a command has to do with the contents of its files
 abbrev pub IsJob : Task → List (List ℕ) → Job → Type 0
@@ -109,23 +119,35 @@ pub record CallDid (status : Status) (task : Task) (devices : Devices) : Type 0 
 abbrev pub Short : Job → Devices → Type 0
 Short (refuse note) devices = TookFront devices.output []
 Short (show text) devices = TookFront devices.output text
-Short (run_plan plan) devices = runs.RanShortOf plan (run_of devices)
-Short (solve plan) devices = runs.RanOut plan (run_of devices)
+Short (run_plan report plan) devices = runs.RanShortOf plan (run_of devices)
+Short (solve report plan) devices = runs.RanOut plan (run_of devices)
+Short (generate report number plan) devices = Untouched devices.output ⊎ runs.GeneratedSome plan number (run_of devices)
 
 -- Memory ran out in the run of a graph. What is left of the calculators that are handed in is what a run leaves.
 pub record ShortRun (task : Task) (devices : Devices) : Type 0 where
   pub contents : List (List ℕ)
   pub loaded : LoadedAll task.files contents devices.store
+  pub report : Bool
   pub plan : Plan
-  pub due : IsJob task contents (run_plan plan)
+  pub due : IsJob task contents (run_plan report plan)
   pub left : RunLeaves plan no_memory devices.input devices.boxes
+
+-- So it is where the graph was run over packets that are made.
+pub record ShortGenerated (task : Task) (devices : Devices) : Type 0 where
+  pub contents : List (List ℕ)
+  pub loaded : LoadedAll task.files contents devices.store
+  pub report : Bool
+  pub number : ℕ
+  pub plan : Plan
+  pub due : IsJob task contents (generate report number plan)
+  pub left : GeneratedLeaves plan number no_memory devices.boxes
 
 -- Memory ran out. Where the store tells the files' bytes, the output took a front of what is due; and no calculator that is handed in
 -- had a call, unless a graph was run.
 pub record CallShort (task : Task) (devices : Devices) : Type 0 where
   pub front : IfSome (loads_of devices.store.before.content task.files) (λ contents.
       (files : Files) → AreFiles task.files contents files → Short (job_of task files) devices)
-  pub called : Untouched devices.boxes ⊎ ShortRun task devices
+  pub called : Untouched devices.boxes ⊎ (ShortRun task devices ⊎ ShortGenerated task devices)
 
 -- A call with a command ended with this status.
 abbrev pub Called : Status → Task → Devices → Type 0

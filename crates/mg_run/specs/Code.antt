@@ -3,3 +3,4 @@ pub mod Asked
 pub mod Job
 pub mod Reads
 pub mod Running
+pub mod Generating

@@ -4,7 +4,7 @@ use Rattle.std.specs.Str.{bytes_eq}
 use Rattle.mg_run.specs.declared.limits.TheConstants.{MOST_FILES}
 use Rattle.mg_run.specs.declared.words.Order.{Order}
 use Rattle.mg_run.specs.declared.words.Verb.{Verb}
-use Rattle.mg_run.specs.declared.words.Verb.TheVariants.{Run, Solve, Check, Expand}
+use Rattle.mg_run.specs.declared.words.Verb.TheVariants.{Run, Solve, Check, Expand, Generate}
 
 -- what is done, and the names of the files: that of the main graph, and then those of its library
 pub record Command : Type 0 where
@@ -14,13 +14,14 @@ pub record Command : Type 0 where
 abbrev pub command : Order → List (List ℕ) → Command
 command order files = record { order = order; files = files }
 
--- The words that are built so far: here a further one begins to be a command.
+-- The words that COMMAND may be.
 abbrev pub verb_of : List ℕ → Option Verb
 verb_of word =
     if bytes_eq word (codes "run") then Some Run
     else (if bytes_eq word (codes "solve") then Some Solve
     else (if bytes_eq word (codes "check") then Some Check
-    else (if bytes_eq word (codes "expand") then Some Expand else None)))
+    else (if bytes_eq word (codes "expand") then Some Expand
+    else (if bytes_eq word (codes "generate") then Some Generate else None))))
 
 -- whether the input is read, where no file is refused
 abbrev pub reads_input : Verb → Bool
@@ -28,6 +29,7 @@ reads_input Run = true
 reads_input Solve = true
 reads_input Check = false
 reads_input Expand = false
+reads_input Generate = false
 
 -- whether calculators that are handed in are called, where no file is refused
 abbrev pub calls_boxes : Verb → Bool
@@ -35,6 +37,7 @@ calls_boxes Run = true
 calls_boxes Solve = false
 calls_boxes Check = false
 calls_boxes Expand = false
+calls_boxes Generate = true
 
 -- the most files: the main graph, and 64 further ones
 abbrev pub most_files : ℕ

@@ -12,7 +12,7 @@ ghost use Rattle.mg_edge.specs.Edge.{StoreTold};
 
 use crate::Status;
 use crate::fault::Fault;
-use crate::graph::{run_graph, solve_graph};
+use crate::graph::{generate_graph, run_graph, solve_graph};
 use crate::help::{help_text, version_text};
 use crate::job::{Job, job_of};
 use crate::load::load_all;
@@ -62,7 +62,7 @@ pub fn run_words<S: Source, K: Sink, E: Sink, T: Store, G: Gate>(
         (device (map (λ b. (Calculator-box b).told b.value) boxes.old.items) (map (λ b. (Calculator-box b).told b.value) boxes.new.items)) in
         NoneFailed all → result ≢ Status.OutOfMemory → IsAnswered result (task command (outers_told (map (λ b. (Calculator-box b).told b.value) boxes.old.items))) all) }
 
-    // A `check` and an `expand` leave the input as it was.
+    // A `check`, an `expand` and a `generate` leave the input as it was.
     ensures unread { IfSome (command_of words.now) (λ command. reads_input command.order.verb ≡ false
         → Untouched (device (S.told input.old) (S.told input.new))) }
 
@@ -241,7 +241,14 @@ fn do_job<G: Gate, C: Calculator, S: Source, K: Sink, E: Sink>(
                 Status::WriteFault
             }
         }
-        Job::Run(plan) => run_graph(alloc, &plan, gate, boxes, input, output, notes),
-        Job::Solve(plan) => solve_graph(alloc, &plan, boxes, input, output, notes),
+        Job::Run(report, plan) => run_graph(
+            alloc, &plan, report, gate, boxes, input, output, notes,
+        ),
+        Job::Solve(report, plan) => {
+            solve_graph(alloc, &plan, report, boxes, input, output, notes)
+        }
+        Job::Generate(report, number, plan) => generate_graph(
+            alloc, &plan, number, report, gate, boxes, output, notes,
+        ),
     }
 }

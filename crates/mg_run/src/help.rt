@@ -34,7 +34,6 @@ commands:\n\
 \x20 check      tell whether the graph is valid, and what it counts\n\
 \x20 expand     write the graph with its subgraphs put in\n\
 \x20 generate   run the graph on packets that are made up, write a summary\n\
-This version has run, solve, check and expand.\n\
 \n\
 options:\n\
 \x20 --workers N          threads, 0 to 64; without it num_threads of the graph\n\
@@ -45,7 +44,7 @@ options:\n\
 \x20 --report             note what each node and each stream did\n\
 \x20 -h, --help           write this text\n\
 \x20 -V, --version        write the version\n\
-This version has --max-queue-size, --no-queue-limit, -h and -V.\n\
+This version has no --workers yet.\n\
 \n\
 statuses:\n\
 \x20 0  all went well\n\

@@ -33,10 +33,12 @@ pub enum Job {
     Refuse(Vec<u8>),
     /// This text is written.
     Show(Vec<u8>),
-    /// The graph of this plan is run.
-    Run(Plan),
-    /// The graph of this plan is solved.
-    Solve(Plan),
+    /// The graph of this plan is run, with a report or without.
+    Run(bool, Plan),
+    /// The graph of this plan is solved, with a report or without.
+    Solve(bool, Plan),
+    /// The graph of this plan is run over so many packets that are made, with a report or without.
+    Generate(bool, u32, Plan),
 }
 
 /// Reads the contents of the files of these names, and finds what the verb has to do with them, where these calculators
@@ -127,22 +129,28 @@ fn graph_job(
     ensures valid { IfOk result (λ job. CanBeDone outers.now (job_view job)) }
 {
     match order.verb {
-        Verb::Run => run_job(alloc, order.limit, outers, &graph),
-        Verb::Solve => solve_job(alloc, outers, &graph),
+        Verb::Run => run_job(alloc, order, outers, &graph),
+        Verb::Solve => solve_job(alloc, order.report, outers, &graph),
         Verb::Check => check_job(alloc, outers, &graph),
         Verb::Expand => Ok(Job::Show(graph_text(alloc, graph)?)),
+        Verb::Generate => generate_job(alloc, order, outers, &graph),
     }
 }
 
 // A graph that has a plan is solved, and any other is refused.
-fn solve_job(alloc: Global, outers: &[OuterShape], graph: &GraphConfig) -> Result<Job, AllocError>
+fn solve_job(
+    alloc: Global,
+    report: bool,
+    outers: &[OuterShape],
+    graph: &GraphConfig,
+) -> Result<Job, AllocError>
     requires few { length graph.now.nodes ≤ 4096 }
     requires outers { All IsOuterShape outers.now }
-    ensures due { IfOk result (λ job. job_view job ≡ answers.solve_job (check_of outers.now (graph_view graph.now))) }
+    ensures due { IfOk result (λ job. job_view job ≡ answers.solve_job report (check_of outers.now (graph_view graph.now))) }
     ensures valid { IfOk result (λ job. CanBeDone outers.now (job_view job)) }
 {
     match check(alloc, graph, outers) {
-        Ok(plan) => Ok(Job::Solve(plan)),
+        Ok(plan) => Ok(Job::Solve(report, plan)),
         Err(fault) => Ok(Job::Refuse(check_note(alloc, &fault)?)),
     }
 }
@@ -163,17 +171,38 @@ fn check_job(alloc: Global, outers: &[OuterShape], graph: &GraphConfig) -> Resul
 // A graph that has a plan is run, with the limit of queues that is asked for, and any other is refused.
 fn run_job(
     alloc: Global,
-    limit: Option<i32>,
+    order: Order,
     outers: &[OuterShape],
     graph: &GraphConfig,
 ) -> Result<Job, AllocError>
     requires few { length graph.now.nodes ≤ 4096 }
     requires outers { All IsOuterShape outers.now }
-    ensures due { IfOk result (λ job. job_view job ≡ answers.run_job limit (check_of outers.now (graph_view graph.now))) }
+    ensures due { IfOk result (λ job. job_view job ≡ answers.run_job order (check_of outers.now (graph_view graph.now))) }
     ensures valid { IfOk result (λ job. CanBeDone outers.now (job_view job)) }
 {
     match check(alloc, graph, outers) {
-        Ok(plan) => Ok(Job::Run(limited(limit, plan))),
+        Ok(plan) => Ok(Job::Run(order.report, limited(order.limit, plan))),
+        Err(fault) => Ok(Job::Refuse(check_note(alloc, &fault)?)),
+    }
+}
+
+// The same over packets that are made.
+fn generate_job(
+    alloc: Global,
+    order: Order,
+    outers: &[OuterShape],
+    graph: &GraphConfig,
+) -> Result<Job, AllocError>
+    requires few { length graph.now.nodes ≤ 4096 }
+    requires outers { All IsOuterShape outers.now }
+    ensures due { IfOk result (λ job. job_view job ≡ answers.generate_job order (check_of outers.now (graph_view graph.now))) }
+    ensures valid { IfOk result (λ job. CanBeDone outers.now (job_view job)) }
+{
+    match check(alloc, graph, outers) {
+        Ok(plan) => {
+            let plan = limited(order.limit, plan);
+            Ok(Job::Generate(order.report, order.number, plan))
+        }
         Err(fault) => Ok(Job::Refuse(check_note(alloc, &fault)?)),
     }
 }

@@ -8,6 +8,8 @@ mod check_note;
 mod command_line;
 mod fault;
 mod files;
+mod finishing;
+mod generating;
 mod graph;
 mod help;
 mod job;

@@ -37,11 +37,11 @@ impl Options {
         }
     }
 
-    /// Whether none was used that is built later.
+    /// Whether that on workers wasn't used, which is built later.
     pub fn have_no_later(self) -> bool
         ensures { result ≡ asking.has_no_later_option self }
     {
-        self.workers.is_none() && self.number.is_none() && !self.report
+        self.workers.is_none()
     }
 
     /// The limit of queues that is asked for, as plans have it: below 0 there is none.

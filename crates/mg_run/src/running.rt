@@ -1,42 +1,39 @@
 //! A run of a graph by a net of cells, on one thread.
-ghost use Rattle.std.specs.Prelude.{◌≡◌, ◌<◌, ◌^◌, ◌⊎◌, [], map, length, List, ℕ, IfOk, OnOk, OnErr, MatchResult};
-ghost use Rattle.mg_edge.specs.Edge.{SourceTold, SinkTold};
+ghost use Rattle.std.specs.Prelude.{◌≡◌, [], map, length, List, IfOk, OnOk, OnErr};
+ghost use Rattle.mg_edge.specs.Edge.{SourceTold};
 ghost use Rattle.mg_calc.specs.Plan.{IsValid};
 ghost use Rattle.mg_calc.specs.Told.{CalculatorTold};
-ghost use Rattle.mg_node.specs.Job.{LoggedJob};
 ghost use Rattle.mg_feed.specs.FeedSeen.{fed};
-ghost use Rattle.mg_feed.specs.Graph.{inputs_of};
 ghost use Rattle.mg_answer.specs.Text.{output_names};
 ghost use Rattle.mg_answer.specs.Put.{nothing_put};
-ghost use Rattle.mg_answer.specs.Wrote.{Wrote};
 ghost use Rattle.mg_answer.specs.Devices.{device, run_devices};
 ghost use Rattle.mg_answer.specs.Ran.{RanOn, RanShortOf};
-ghost use Rattle.mg_sched.specs.StandsFor.{StandsFor};
 ghost use Rattle.mg_sched.specs.Made.{BoxesFit};
-ghost use Rattle.mg_sched.specs.WindsUp.{WindsUpNet};
 ghost use Rattle.mg_sched.specs.GivesBack.{given_back};
 ghost use Rattle.mg_run.specs.Boxes.{HadCalls, HadSome, RunLeaves};
-ghost use Rattle.mg_run.specs.Code.Running.{IsRead, HasFirst, Start, HandedIn, IsPut, PutFront, IsUnderWay, IsSomeRun, HasRested, SomeRested, Keeps, StoodWith, HadAll, CameBack};
+ghost use Rattle.mg_run.specs.Code.Running.{IsRead, HasFirst, Start, HandedIn, IsUnderWay, IsSomeRun, Keeps, StoodWith, HadAll, CameBack};
 
 use crate::batches::{Batch, Ends, drive, read_on};
-use mg_answer::{OutputText, RunStatus, conclude};
+use crate::finishing::finish;
+use mg_answer::{OutputText, RunStatus};
 use mg_calc::{Calculator, Plan};
 use mg_edge::{Gate, Sink, Source};
-use mg_feed::{BatchEnd, Feed, FeedEnd};
-use mg_sched::{Net, StreamEnd};
-use mg_time::Timestamp;
+use mg_feed::{BatchEnd, Feed};
+use mg_sched::Net;
 use mg_value::InputSet;
 use std::alloc::{AllocError, Global};
 use std::mem;
 
 /// Runs the graph of a plan over packet lines, with the calculators that are handed in, and leaves these in their places. It reads
 /// batches of lines, drives a net over them, and writes the sets of its outputs as they come; at the input's end, its first fault or
-/// its first line that isn't good it writes the notes. Each Process call goes through the gate.
+/// its first line that isn't good it writes the notes, with the report behind them where it is asked for. Each Process call goes
+/// through the gate.
 ///
 /// Once a write to the output has failed nothing more is written to it. The run goes on all the same, and the notes are written.
 pub fn run_input<G: Gate, C: Calculator, S: Source, K: Sink, E: Sink>(
     alloc: Global,
     plan: &Plan,
+    report: bool,
     gate: &G,
     boxes: &mut Vec<C>,
     input: &mut S,
@@ -47,13 +44,13 @@ pub fn run_input<G: Gate, C: Calculator, S: Source, K: Sink, E: Sink>(
     requires boxes { BoxesFit plan.now (map C.told boxes.old.items) }
 
     // What each status means: the answer's, unless a write failed or memory ran out.
-    ensures ran { RanOn plan.now result (run_devices (device (S.told input.old) (S.told input.new))
+    ensures ran { RanOn report plan.now result (run_devices (device (S.told input.old) (S.told input.new))
         (device (K.told output.old) (K.told output.new)) (device (E.told notes.old) (E.told notes.new))) }
 
     // What it leaves of the calculators.
     ensures left { RunLeaves plan.now result (device (S.told input.old) (S.told input.new)) (device (map C.told boxes.old.items) (map C.told boxes.new.items)) }
 {
-    match run_whole(alloc, plan, gate, boxes, input, output, notes) {
+    match run_whole(alloc, plan, report, gate, boxes, input, output, notes) {
         Ok(status) => status,
         Err(_) => RunStatus::OutOfMemory,
     }
@@ -63,6 +60,7 @@ pub fn run_input<G: Gate, C: Calculator, S: Source, K: Sink, E: Sink>(
 fn run_whole<G: Gate, C: Calculator, S: Source, K: Sink, E: Sink>(
     alloc: Global,
     plan: &Plan,
+    report: bool,
     gate: &G,
     boxes: &mut Vec<C>,
     input: &mut S,
@@ -71,7 +69,7 @@ fn run_whole<G: Gate, C: Calculator, S: Source, K: Sink, E: Sink>(
 ) -> Result<RunStatus, AllocError>
     requires valid { IsValid plan.now }
     requires boxes { BoxesFit plan.now (map C.told boxes.old.items) }
-    ensures ran { IfOk result (λ status. RanOn plan.now status (run_devices (device (S.told input.old) (S.told input.new))
+    ensures ran { IfOk result (λ status. RanOn report plan.now status (run_devices (device (S.told input.old) (S.told input.new))
         (device (K.told output.old) (K.told output.new)) (device (E.told notes.old) (E.told notes.new)))) }
     ensures short { OnErr result (RanShortOf plan.now (run_devices (device (S.told input.old) (S.told input.new))
         (device (K.told output.old) (K.told output.new)) (device (E.told notes.old) (E.told notes.new)))) }
@@ -81,7 +79,9 @@ fn run_whole<G: Gate, C: Calculator, S: Source, K: Sink, E: Sink>(
 {
     let mut ends = ends_of(alloc, plan)?;
     let first = read_on(&mut ends.feed, input)?;
-    let status = run_boxes(alloc, plan, gate, boxes, ends, first, input, output, notes)?;
+    let status = run_boxes(
+        alloc, plan, report, gate, boxes, ends, first, input, output, notes,
+    )?;
     Ok(status)
 }
 
@@ -102,6 +102,7 @@ fn ends_of(alloc: Global, plan: &Plan) -> Result<Ends, AllocError>
 fn run_boxes<G: Gate, C: Calculator, S: Source, K: Sink, E: Sink>(
     alloc: Global,
     plan: &Plan,
+    report: bool,
     gate: &G,
     boxes: &mut Vec<C>,
     ends: Ends,
@@ -116,7 +117,7 @@ fn run_boxes<G: Gate, C: Calculator, S: Source, K: Sink, E: Sink>(
     requires set { length ends.set ≡ length plan.now.outputs }
     requires text { ends.text ≡ nothing_put (output_names plan.now) }
     ensures ran { IfOk result (λ status. (source : SourceTold) → HasFirst plan.now source first.end first.inputs (S.told input.old) (fed ends.feed)
-        → RanOn plan.now status (run_devices (device source (S.told input.new)) (device (K.told output.old) (K.told output.new)) (device (E.told notes.old) (E.told notes.new)))) }
+        → RanOn report plan.now status (run_devices (device source (S.told input.new)) (device (K.told output.old) (K.told output.new)) (device (E.told notes.old) (E.told notes.new)))) }
     ensures short { OnErr result ((source : SourceTold) → HasFirst plan.now source first.end first.inputs (S.told input.old) (fed ends.feed)
         → RanShortOf plan.now (run_devices (device source (S.told input.new)) (device (K.told output.old) (K.told output.new)) (device (E.told notes.old) (E.told notes.new)))) }
     ensures used { OnOk result ((source : SourceTold) → HasFirst plan.now source first.end first.inputs (S.told input.old) (fed ends.feed)
@@ -130,7 +131,7 @@ fn run_boxes<G: Gate, C: Calculator, S: Source, K: Sink, E: Sink>(
         Ok(net) => {
             let mut net = net;
             let ran = run_net(
-                alloc, plan, gate, &mut net, ends, first.end, input, output, notes,
+                alloc, plan, report, gate, &mut net, ends, first.end, input, output, notes,
             );
             *boxes = net.give_back();
             ran
@@ -146,6 +147,7 @@ fn run_boxes<G: Gate, C: Calculator, S: Source, K: Sink, E: Sink>(
 fn run_net<G: Gate, C: Calculator, S: Source, K: Sink, E: Sink>(
     alloc: Global,
     plan: &Plan,
+    report: bool,
     gate: &G,
     net: &mut Net<C>,
     ends: Ends,
@@ -158,7 +160,7 @@ fn run_net<G: Gate, C: Calculator, S: Source, K: Sink, E: Sink>(
     requires places { length ends.set ≡ length net.old.plan.outputs }
     ensures ran { IfOk result (λ status. (start : Start) → start.plan ≡ plan.now
         → IsUnderWay start first (S.told input.old) (K.told output.old) (fed ends.feed) net.old ends.text
-        → RanOn plan.now status (run_devices (device start.source (S.told input.new)) (device start.sink (K.told output.new)) (device (E.told notes.old) (E.told notes.new)))) }
+        → RanOn report plan.now status (run_devices (device start.source (S.told input.new)) (device start.sink (K.told output.new)) (device (E.told notes.old) (E.told notes.new)))) }
     ensures short { OnErr result ((start : Start) → start.plan ≡ plan.now
         → IsUnderWay start first (S.told input.old) (K.told output.old) (fed ends.feed) net.old ends.text
         → RanShortOf plan.now (run_devices (device start.source (S.told input.new)) (device start.sink (K.told output.new)) (device (E.told notes.old) (E.told notes.new)))) }
@@ -173,52 +175,6 @@ fn run_net<G: Gate, C: Calculator, S: Source, K: Sink, E: Sink>(
 {
     let mut ends = ends;
     let end = drive(gate, net, &mut ends, first, input, output)?;
-    let status = finish(alloc, plan, net, end, ends, output, notes)?;
+    let status = finish(alloc, plan, net, end, report, ends.text, output, notes)?;
     Ok(status)
-}
-
-// Ends a run whose net has come to rest: the nodes are wound up, and then the rest of the text and the notes are written.
-fn finish<C: Calculator, K: Sink, E: Sink>(
-    alloc: Global,
-    plan: &Plan,
-    net: &mut Net<C>,
-    end: FeedEnd,
-    ends: Ends,
-    output: &mut K,
-    notes: &mut E,
-) -> Result<RunStatus, AllocError>
-    requires rested { SomeRested plan.now net.old }
-    ensures wrote { IfOk result (λ status. (job : LoggedJob) (first : SinkTold) → job.job.plan ≡ plan.now → StandsFor job net.old → HasRested job net.old
-        → IsPut first (K.told output.old) job.job net.old ends.text
-        → Wrote job.job end status (device first (K.told output.new)) (device (E.told notes.old) (E.told notes.new))) }
-    ensures front { OnErr result ((job : LoggedJob) (first : SinkTold) → job.job.plan ≡ plan.now → StandsFor job net.old → HasRested job net.old
-        → IsPut first (K.told output.old) job.job net.old ends.text → PutFront first (K.told output.new) job.job) }
-    ensures since { (net.new ≡ net.old) ⊎ WindsUpNet net.old net.new }
-    ensures wound { OnOk result (WindsUpNet net.old net.new × (net.new.wound ≡ length net.old.plan.nodes)) }
-{
-    let report = net.report(alloc)?;
-    let bounds = bounds_of(alloc, report.streams.as_slice())?;
-    net.wind_up()?;
-    let status = conclude(
-        alloc,
-        plan,
-        end,
-        report.faults.as_slice(),
-        &bounds,
-        ends.text,
-        output,
-        notes,
-    )?;
-    Ok(status)
-}
-
-// The bounds of streams.
-fn bounds_of(alloc: Global, streams: &[StreamEnd]) -> Result<Vec<Timestamp>, AllocError>
-    ensures { IfOk result (λ v. v.items ≡ map (λ s. s.bound) streams.now) }
-{
-    let mut bounds = Vec::with_capacity(alloc, streams.len())?;
-    for stream in streams {
-        bounds.push(stream.bound)?;
-    }
-    Ok(bounds)
 }

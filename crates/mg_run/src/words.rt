@@ -28,14 +28,20 @@ pub enum Verb {
     Check,
     /// The text of its configuration is written.
     Expand,
+    /// It is run over packets that are made, and a summary of its outputs is written.
+    Generate,
 }
 
 /// What is done with a graph, and how.
 #[derive(Clone, Copy, Debug, PartialEq, Eq)]
 pub struct Order {
     pub verb: Verb,
-    /// The limit of queues where the words say one, in packets; below 0 there is none. It is for a run alone.
+    /// The limit of queues where the words say one, in packets; below 0 there is none. It is for runs alone.
     pub limit: Option<i32>,
+    /// How many packets are made, where that is done, 0 to 1,000,000.
+    pub number: u32,
+    /// Whether the notes of a run or a solution end with a report.
+    pub report: bool,
 }
 
 /// What words ask for.
@@ -108,17 +114,22 @@ fn order_in(word: &str, files: usize, options: Options) -> Option<Order>
     ensures { (all : List (List ℕ)) → length all ≡ files → option_map (λ o. commands.command o all) result ≡ asking.command_in (record { word = word.now; files = all; options = options }) }
 {
     if keeps_rules(word, files, options) && options.have_no_later() {
-        ordered(verb_of(word), options.limit())
+        ordered(verb_of(word), options)
     } else {
         None
     }
 }
 
-fn ordered(verb: Option<Verb>, limit: Option<i32>) -> Option<Order>
-    ensures { result ≡ option_map (λ v. record { verb = v; limit = limit }) verb }
+fn ordered(verb: Option<Verb>, options: Options) -> Option<Order>
+    ensures { result ≡ option_map (asking.order_in options) verb }
 {
     match verb {
-        Some(verb) => Some(Order { verb, limit }),
+        Some(verb) => Some(Order {
+            verb,
+            limit: options.limit(),
+            number: options.number.unwrap_or(0),
+            report: options.report,
+        }),
         None => None,
     }
 }
@@ -130,7 +141,7 @@ fn keeps_rules(word: &str, files: usize, options: Options) -> bool
     files <= MOST_FILES && (options.number.is_some() || word != "generate")
 }
 
-// What is built so far of COMMAND's words.
+// What is done by COMMAND.
 fn verb_of(word: &str) -> Option<Verb>
     ensures { result ≡ commands.verb_of word.now }
 {
@@ -139,6 +150,7 @@ fn verb_of(word: &str) -> Option<Verb>
         "solve" => Some(Verb::Solve),
         "check" => Some(Verb::Check),
         "expand" => Some(Verb::Expand),
+        "generate" => Some(Verb::Generate),
         _ => None,
     }
 }

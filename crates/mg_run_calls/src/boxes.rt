@@ -28,7 +28,7 @@ fn tell<C: Calculator>(
 }
 
 // What so many calls come to with the same four calculators, which tell their calls.
-fn told_of(alloc: Global, verb: &str, calls: u32) -> Result<String, Fail> {
+fn told_of(alloc: Global, command: &str, calls: u32) -> Result<String, Fail> {
     let mut boxes = Vec::new(alloc);
     for _ in 0..BOXES {
         let tally: Box<dyn Calculator + Send> = Box::new(alloc, tally_box(alloc, true)?)?;
@@ -36,7 +36,7 @@ fn told_of(alloc: Global, verb: &str, calls: u32) -> Result<String, Fail> {
     }
     let mut told = String::new(alloc);
     for _ in 0..calls {
-        let mut outside = outside_of(alloc, verb, counting(), two_packets())?;
+        let mut outside = outside_of(alloc, command, counting(), two_packets())?;
         let status = run_words(
             alloc,
             &outside.words,
@@ -69,6 +69,29 @@ fn told_by_runs() -> &'static str {
 fn boxes_have_their_calls(rt: HostRuntime) -> Result<(), Fail> {
     let told = told_of(rt.alloc(), "run", 2)?;
     assert_text(told.as_str(), told_by_runs())
+}
+
+// The same over three packets that are made, whose report is in the notes: the input isn't read.
+fn told_by_generating() -> &'static str {
+    r#"0
+out packets=3 first=0 last=20 sum=6
+node 0 TallyCalculator sets=3
+stream in packets=3 bound=Done
+stream out packets=3 bound=Done
+ begun 0 10 20 finished;;;; 4@9
+0
+out packets=3 first=0 last=20 sum=6
+node 0 TallyCalculator sets=3
+stream in packets=3 bound=Done
+stream out packets=3 bound=Done
+ begun 0 10 20 finished 9 begun 0 10 20 finished;;;; 4@9
+"#
+}
+
+#[test]
+fn boxes_have_their_calls_of_packets_that_are_made(rt: HostRuntime) -> Result<(), Fail> {
+    let told = told_of(rt.alloc(), "generate --report --number 3", 2)?;
+    assert_text(told.as_str(), told_by_generating())
 }
 
 // None has a call, and the first counts from 1 on.

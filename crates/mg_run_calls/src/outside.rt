@@ -23,12 +23,12 @@ pub(crate) struct Outside {
 /// What a call is made with that does this with a graph, over these packet lines.
 pub(crate) fn outside_of(
     alloc: Global,
-    verb: &str,
+    command: &str,
     graph: &str,
     lines: &str,
 ) -> Result<Outside, Fail> {
     Ok(Outside {
-        words: words_of(alloc, verb)?,
+        words: words_of(alloc, command)?,
         store: store_of(alloc, graph)?,
         input: MemorySource::new(alloc, lines.as_bytes(), 16, &[])?,
         output: sink(alloc)?,
@@ -36,10 +36,14 @@ pub(crate) fn outside_of(
     })
 }
 
-fn words_of(alloc: Global, verb: &str) -> Result<Vec<MgText>, Fail> {
-    let verb = MgText::new(alloc, verb)?;
-    let file = MgText::new(alloc, "g.pbtxt")?;
-    Ok(vec![in alloc; verb, file]?)
+// The words of a command, with blanks between them, and behind them the name of the graph's file.
+fn words_of(alloc: Global, command: &str) -> Result<Vec<MgText>, Fail> {
+    let mut words = Vec::new(alloc);
+    for word in command.split(' ') {
+        words.push(MgText::new(alloc, word)?)?;
+    }
+    words.push(MgText::new(alloc, "g.pbtxt")?)?;
+    Ok(words)
 }
 
 fn store_of(alloc: Global, graph: &str) -> Result<MemoryStore, Fail> {
@@ -73,14 +77,14 @@ pub(crate) fn show_came(
 /// Does this with a graph, for which no calculators are handed in.
 pub(crate) fn status_of<S: Source, K: Sink, E: Sink, G: Gate>(
     alloc: Global,
-    verb: &str,
+    command: &str,
     graph: &str,
     input: &mut S,
     output: &mut K,
     notes: &mut E,
     gate: &G,
 ) -> Result<Status, Fail> {
-    let words = words_of(alloc, verb)?;
+    let words = words_of(alloc, command)?;
     let mut store = store_of(alloc, graph)?;
     let mut boxes: Vec<Box<dyn Calculator + Send>> = Vec::new(alloc);
     Ok(run_words(

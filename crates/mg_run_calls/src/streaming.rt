@@ -79,7 +79,7 @@ fn source<'a>(alloc: Global, has_taken: &'a AtomicBool) -> Result<Impatient<'a>,
 }
 
 // The status and the notes of a call over many packets, and how many bytes it wrote.
-fn came_by(alloc: Global, verb: &str) -> Result<String, Fail> {
+fn came_by(alloc: Global, command: &str) -> Result<String, Fail> {
     let has_taken = AtomicBool::new(false);
     let mut input = source(alloc, &has_taken)?;
     let mut output = Noting {
@@ -89,7 +89,7 @@ fn came_by(alloc: Global, verb: &str) -> Result<String, Fail> {
     let mut notes = sink(alloc)?;
     let status = status_of(
         alloc,
-        verb,
+        command,
         passing(),
         &mut input,
         &mut output,

@@ -50,12 +50,12 @@ impl Gate for Counts {
     }
 }
 
-// The status and the texts of a run of five packets through a gate.
-fn came_through(alloc: Global, gate: &Counts) -> Result<String, Fail> {
-    let mut outside = outside_of(alloc, "run", thinning(), five_packets())?;
+// The status and the texts that a command comes to through a gate, over five packets where it reads any.
+fn came_through(alloc: Global, command: &str, gate: &Counts) -> Result<String, Fail> {
+    let mut outside = outside_of(alloc, command, thinning(), five_packets())?;
     let status = status_of(
         alloc,
-        "run",
+        command,
         thinning(),
         &mut outside.input,
         &mut outside.output,
@@ -70,7 +70,17 @@ fn came_through(alloc: Global, gate: &Counts) -> Result<String, Fail> {
 fn gate_counts(rt: HostRuntime) -> Result<(), Fail> {
     let alloc = rt.alloc();
     let gate = Counts::new();
-    let came = came_through(alloc, &gate)?;
+    let came = came_through(alloc, "run", &gate)?;
     assert_text(came.as_str(), thinned())?;
     assert_text(gate.show(alloc)?.as_str(), "5 5 0")
+}
+
+// Of seven packets that are made each is shown.
+#[test]
+fn gate_counts_packets_that_are_made(rt: HostRuntime) -> Result<(), Fail> {
+    let alloc = rt.alloc();
+    let gate = Counts::new();
+    let came = came_through(alloc, "generate --number 7", &gate)?;
+    assert_text(came.as_str(), "0\nout packets=7 first=0 last=60 sum=21\n")?;
+    assert_text(gate.show(alloc)?.as_str(), "7 7 0")
 }

@@ -2,25 +2,28 @@
 use Rattle.std.specs.Prelude.{List}
 use Rattle.mg_calc.specs.declared.shape.OuterShape.{OuterShape}
 use Rattle.mg_calc.specs.Plan.{IsValid, OutersFit}
-use Rattle.mg_run.specs.Answer.{Job, refuse, show, run_plan, solve}
+use Rattle.mg_run.specs.Answer.{Job, refuse, show, run_plan, solve, generate}
 use Rattle.mg_run.specs.declared.job.Job as code
-use Rattle.mg_run.specs.declared.job.Job.TheVariants.{Refuse, Show, Run, Solve}
+use Rattle.mg_run.specs.declared.job.Job.TheVariants.{Refuse, Show, Run, Solve, Generate}
 
 abbrev pub job_view : code.Job → Job
 job_view (Refuse note) = refuse note.items
 job_view (Show text) = show text.items
-job_view (Run plan) = run_plan plan
-job_view (Solve plan) = solve plan
+job_view (Run report plan) = run_plan report plan
+job_view (Solve report plan) = solve report plan
+job_view (Generate report number plan) = generate report number plan
 
 abbrev pub MayRead : Job → Type 0
 MayRead (refuse note) = ⊥
 MayRead (show text) = ⊥
-MayRead (run_plan plan) = Unit {0}
-MayRead (solve plan) = Unit {0}
+MayRead (run_plan report plan) = Unit {0}
+MayRead (solve report plan) = Unit {0}
+MayRead (generate report number plan) = ⊥
 
 -- A plan that is run or solved is valid, and the calculators that are handed in fit one that is run.
 abbrev pub CanBeDone : List OuterShape → Job → Type 0
 CanBeDone outers (refuse note) = Unit {0}
 CanBeDone outers (show text) = Unit {0}
-CanBeDone outers (run_plan plan) = IsValid plan × OutersFit plan outers
-CanBeDone outers (solve plan) = IsValid plan
+CanBeDone outers (run_plan report plan) = IsValid plan × OutersFit plan outers
+CanBeDone outers (solve report plan) = IsValid plan
+CanBeDone outers (generate report number plan) = IsValid plan × OutersFit plan outers

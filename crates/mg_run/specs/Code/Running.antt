@@ -24,11 +24,13 @@ use Rattle.mg_feed.specs.declared.feed_end.FeedEnd.{FeedEnd}
 use Rattle.mg_feed.specs.declared.feed_end.FeedEnd.TheVariants.{OutOfMemory}
 use Rattle.mg_feed.specs.declared.feed_end.BatchEnd.{BatchEnd}
 use Rattle.mg_feed.specs.declared.feed_end.BatchEnd.TheVariants.{More, End}
-use Rattle.mg_answer.specs.Text.{output_names, sets_text, output_of}
-use Rattle.mg_answer.specs.Answer.{Read, is_ended, job_of}
+use Rattle.mg_answer.specs.Text.{output_names, sets_text}
+use Rattle.mg_answer.specs.Answer.{Read, Form, packet_lines, output_in, is_ended, job_of}
 use Rattle.mg_answer.specs.Devices.{device, TookFront}
 use Rattle.mg_answer.specs.Ran.{CameTo}
 use Rattle.mg_answer.specs.Put.{TextView, HasPut}
+use Rattle.mg_answer.specs.declared.outcomes.Outcomes.{Outcomes}
+use Rattle.mg_answer.specs.declared.outcomes.StreamEnd.{StreamEnd}
 use Rattle.mg_node.specs.Job.{LoggedJob, Solves}
 use Rattle.mg_node.specs.Had.{HadCalls}
 use Rattle.mg_sched.specs.Views.{NetView}
@@ -37,6 +39,8 @@ use Rattle.mg_sched.specs.Made.{BoxesFit}
 use Rattle.mg_sched.specs.AtRest.{IsAtRest}
 use Rattle.mg_sched.specs.Taking.{taken_out, settled_outputs, LeavesNodes}
 use Rattle.mg_sched.specs.GivesBack.{StoodFor, given_back}
+use Rattle.mg_sched.specs.Reports.{report_of}
+use Rattle.mg_sched.specs.declared.report.StreamEnd as nets
 
 -- The input.
 
@@ -121,9 +125,12 @@ pub record IsPut (first sink : SinkTold) (job : Job) (net : NetView) (text : Tex
   pub put : (streams : List (StreamPrefix Plain)) → IsSolution job streams
       → HasPut first sink text (sets_text (output_names job.plan) (take (taken_out net) (settled_outputs job.plan streams)))
 
--- a front of the text of a job's solution was taken
+-- a front of what a job's solution is told by was taken, in a form; and a front of its text
+abbrev pub FrontIn : Form → SinkTold → SinkTold → Job → Type 0
+FrontIn form first sink job = (streams : List (StreamPrefix Plain)) → IsSolution job streams → TookFront (device first sink) (output_in form job.plan streams)
+
 abbrev pub PutFront : SinkTold → SinkTold → Job → Type 0
-PutFront first sink job = (streams : List (StreamPrefix Plain)) → IsSolution job streams → TookFront (device first sink) (output_of job.plan streams)
+PutFront first sink job = FrontIn packet_lines first sink job
 
 -- A run over batches, the last of which ended so: its net stands for the job of the lines so far.
 pub record IsUnderWay (start : Start) (end : BatchEnd) (source : SourceTold) (sink : SinkTold) (fed : Fed) (net : NetView) (text : TextView) : Type 0 where
@@ -168,6 +175,22 @@ pub record IsOver (start : Start) (end : FeedEnd) (source : SourceTold) (sink : 
   pub under_way : IsUnderWay start (End end) source sink fed net text
   pub has_rested : HasRested (job_at start under_way.lines (is_ended end)) net
 
+-- The end of a run.
+
+-- all of what a job's solution is told by was put, in a form
+abbrev pub IsWhole : Form → SinkTold → SinkTold → Job → TextView → Type 0
+IsWhole form first sink job text = (streams : List (StreamPrefix Plain)) → IsSolution job streams → HasPut first sink text (output_in form job.plan streams)
+
+-- how far a stream of a net has come, as it is told
+abbrev pub told_end : nets.StreamEnd → StreamEnd
+told_end s = record { packets = s.packets; bound = s.bound }
+
+-- what is told is what a net reports
+pub record TellsNet (net : NetView) (outcomes : Outcomes) : Type 0 where
+  pub faults : outcomes.faults ≡ (report_of net).faults
+  pub sets : outcomes.sets ≡ (report_of net).sets
+  pub ends : outcomes.ends.items ≡ map told_end (report_of net).streams
+
 -- What a run leaves of its net.
 
 -- a net's plan is the same, and so are the places of the calculators that were handed in
@@ -196,14 +219,18 @@ pub record ComesBack (job : LoggedJob) (streams : List (StreamPrefix Plain)) (no
   pub there : slice_get (given_back net) place ≡ Some told
   pub had : HadCalls job streams node told
 
--- and so does each that a node uses, over what the input came to
+-- and so does each that a node uses, in a solution of a job
+pub record HadAllOf (job : LoggedJob) (net : NetView) : Type 0 where
+  pub streams : List (StreamPrefix Plain)
+  pub solution : IsSolution job.job streams
+  pub each : (number place : ℕ) (node : PlanNode) → slice_get job.job.plan.nodes number ≡ Some node → node.box_number ≡ Some place → IsOuter node.law
+      → ComesBack job streams node place net
+
+-- which is that of what the input came to
 pub record HadAll (start : Start) (source : SourceTold) (net : NetView) : Type 0 where
   pub read : Read
   pub came : CameTo (inputs_of start.plan) (device start.source source) read
-  pub streams : List (StreamPrefix Plain)
-  pub solution : IsSolution (job_of start.plan read) streams
-  pub each : (number place : ℕ) (node : PlanNode) → slice_get start.plan.nodes number ≡ Some node → node.box_number ≡ Some place → IsOuter node.law
-      → ComesBack (job_by start read) streams node place net
+  pub had : HadAllOf (job_by start read) net
 
 -- the calculators that came back: as many, and those that no node uses as they were
 pub record CameBack (plan : Plan) (before now : List CalculatorTold) : Type 0 where

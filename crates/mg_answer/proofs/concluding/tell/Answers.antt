@@ -3,4 +3,4 @@ use Rattle.mg_answer.proofs.Telling.{open-there}
 use Rattle.mg_answer.proofs.concluding.tell.Goals as goal
 
 pub put_stalled-requires-clause-numbers : goal.put_stalled-requires-clause-numbers
-put_stalled-requires-clause-numbers c = open-there c.deref-2.result.now c.args.bounds.now (c.deref-2.ensures.value ∙ c.in_ok-stalled.ensures)
+put_stalled-requires-clause-numbers c = open-there c.deref-2.result.now c.as_slice-ends.result.now (c.deref-2.ensures.value ∙ c.in_ok-stalled.ensures)

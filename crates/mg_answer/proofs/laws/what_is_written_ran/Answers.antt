@@ -1,5 +1,9 @@
 use Rattle.mg_answer.proofs.RunningOn.{written-ran}
+use Rattle.mg_answer.proofs.Generating.{generated-ran}
 use Rattle.mg_answer.proofs.laws.what_is_written_ran.Goals as goal
 
-pub returns : goal.returns
-returns c = λ plan read devices status came wrote. written-ran plan read devices status came wrote
+pub returns-clause-read : goal.returns-clause-read
+returns-clause-read c = λ report plan read devices status came wrote. written-ran report plan read devices status came wrote
+
+pub returns-clause-generated : goal.returns-clause-generated
+returns-clause-generated c = λ report plan number devices status wrote. generated-ran report plan number status devices wrote

@@ -1,5 +1,5 @@
 use Rattle.std.proofs.Common.{length, All, ◌<◌, sym, ap, ◌∙◌, subst}
-use Rattle.mg_answer.proofs.Telling.{faults-below, solved-prefixes, solved-each, bounds-each}
+use Rattle.mg_answer.proofs.Telling.{faults-below, solved-prefixes, solved-each, ends-each}
 use Rattle.mg_answer.proofs.solving.answer.Goals as goal
 
 pub write_output-requires-clause-streams : goal.write_output-requires-clause-streams
@@ -12,10 +12,10 @@ write_output-requires-clause-many g c =
 
 pub conclude-requires-clause-many : goal.conclude-requires-clause-many
 conclude-requires-clause-many g c =
-    bounds-each c.deref.result.now c.as_slice.result.now (c.deref.ensures.value ∙ c.in_ok-bounds.ensures) ∙ ap length c.as_slice.ensures
+    ends-each c.in_ok-ends.ends.items c.as_slice.result.now c.in_ok-ends.ensures ∙ ap length c.as_slice.ensures
     ∙ solved-each c.args.plan.now c.args.inputs.now c.in_ok-solved.solved.prefixes c.requires.plan c.requires.inputs c.in_ok-solved.ensures.solution
 
 pub conclude-requires-clause-nodes : goal.conclude-requires-clause-nodes
 conclude-requires-clause-nodes g c =
-    subst (λ fs. All (λ fault. fault.node < length c.args.plan.now.nodes) fs) (sym (c.as_slice-2.ensures ∙ c.in_ok-solved.ensures.faults))
+    subst (λ fs. All (λ fault. fault.node < length c.args.plan.now.nodes) fs) (sym c.in_ok-solved.ensures.faults)
     (faults-below (record { plan = c.args.plan.now; inputs = c.args.inputs.now }) c.in_ok-solved.solved.prefixes)

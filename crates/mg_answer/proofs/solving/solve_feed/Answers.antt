@@ -18,11 +18,11 @@ returns-in-Ok g c =
     let input = device (g.S.Source.told c.args.input.now) (g.S.Source.told c.read_inputs-end.new.input) in
     let gathered = subst (λ (graph : GraphInputs). Gathered graph input c.read_inputs-end.result.0 c.read_inputs-end.result.1) c.requires.graph
     (c.read_inputs-end.ensures (c.ran_out.ensures.0 c.if-ran_out.false)) in
-    ran-wrote c.args.plan.now input c.read_inputs-end.result.0 c.read_inputs-end.result.1 c.in-Ok.status _ _ gathered c.in-Ok.ensures
+    ran-wrote c.args.report c.args.plan.now input c.read_inputs-end.result.0 c.read_inputs-end.result.1 c.in-Ok.status _ _ gathered c.in-Ok.ensures
 
 pub returns : goal.returns
 returns g c =
     let input = device (g.S.Source.told c.args.input.now) (g.S.Source.told c.read_inputs-end.new.input) in
     let gathered = subst (λ (graph : GraphInputs). Gathered graph input c.read_inputs-end.result.0 c.read_inputs-end.result.1) c.requires.graph
     (c.read_inputs-end.ensures (c.ran_out.ensures.0 c.if-ran_out.false)) in
-    ran-out c.args.plan.now input c.read_inputs-end.result.0 c.read_inputs-end.result.1 _ _ gathered c.in-Err.ensures
+    ran-out c.args.report c.args.plan.now input c.read_inputs-end.result.0 c.read_inputs-end.result.1 _ _ gathered c.in-Err.ensures

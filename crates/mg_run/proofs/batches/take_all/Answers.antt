@@ -6,7 +6,7 @@ use Rattle.mg_sched.specs.Views.{NetView}
 use Rattle.mg_run.specs.Code.Running.{IsPut, PutFront}
 use Rattle.mg_sched.proofs.HadBack.{left_itself, left_further}
 use Rattle.mg_sched.proofs.OutputsTaken.{taking_leaves_nodes, taking_keeps, all_were_taken, nothing_changes}
-use Rattle.mg_run.proofs.PuttingSets.{front_put, put_more, fewer_to_take, taken_true, taken_false, shown_true, set_places}
+use Rattle.mg_run.proofs.PuttingSets.{front_put, put_more, fewer_to_take, taken_true, taken_false, set_shown, set_places}
 use Rattle.mg_run.proofs.batches.take_all.Goals as goal
 
 pub sets-init : goal.sets-init
@@ -21,13 +21,13 @@ sets-preserved g c =
     record {
       places = (let some = c.requires.stands in
           set_places some.job c.sets.net c.take_out.new.into (c.sets.invariant.stands some.job some.stands)
-          (λ streams solves. shown_true c.take_out.result _ c.sets-test.true (c.take_out.ensures.in_solution some.job streams solves (c.sets.invariant.stands some.job some.stands)))
+          (λ streams solves. set_shown c.take_out.result some.job streams c.sets.net c.take_out.new.into c.sets-test.true (c.take_out.ensures.in_solution some.job streams solves (c.sets.invariant.stands some.job some.stands)))
           ∙ ap (λ (v : NetView). length v.plan.outputs) (sym (taking_leaves_nodes true c.sets.set c.take_out.new.into c.sets.net c.take_out.new.self takes)));
       left = left_further c.args.net.now c.sets.net c.take_out.new.self c.sets.invariant.left (taking_leaves_nodes true c.sets.set c.take_out.new.into c.sets.net c.take_out.new.self takes);
       stands = λ job h. c.take_out.ensures.stands job (c.sets.invariant.stands job h);
       puts = λ job first h p. put_more job first (g.K.Sink.told c.sets.output) (g.K.Sink.told c.put_set.new.output) c.sets.net c.take_out.new.self c.sets.text c.put_set.new.self c.sets.set c.take_out.new.into
           (c.sets.invariant.stands job h) (c.sets.invariant.puts job first h p) takes
-          (λ streams solves. shown_true c.take_out.result _ c.sets-test.true (c.take_out.ensures.in_solution job streams solves (c.sets.invariant.stands job h)))
+          (λ streams solves. set_shown c.take_out.result job streams c.sets.net c.take_out.new.into c.sets-test.true (c.take_out.ensures.in_solution job streams solves (c.sets.invariant.stands job h)))
           c.in_ok-put_set.ensures.names (c.in_ok-put_set.ensures.put first);
       has = λ job streams h s a. taking_keeps job streams true c.sets.set c.take_out.new.into c.sets.net c.take_out.new.self (c.sets.invariant.stands job h) s (c.sets.invariant.has job streams h s a) takes;
     }
@@ -43,7 +43,7 @@ returns-in_err-put_set-clause-places g c =
     let takes = taken_true c.take_out.result c.sets.set c.take_out.new.into c.sets.net c.take_out.new.self c.sets-test.true c.take_out.ensures.taken in
     let some = c.requires.stands in
     set_places some.job c.sets.net c.take_out.new.into (c.sets.invariant.stands some.job some.stands)
-    (λ streams solves. shown_true c.take_out.result _ c.sets-test.true (c.take_out.ensures.in_solution some.job streams solves (c.sets.invariant.stands some.job some.stands)))
+    (λ streams solves. set_shown c.take_out.result some.job streams c.sets.net c.take_out.new.into c.sets-test.true (c.take_out.ensures.in_solution some.job streams solves (c.sets.invariant.stands some.job some.stands)))
     ∙ ap (λ (v : NetView). length v.plan.outputs) (sym (taking_leaves_nodes true c.sets.set c.take_out.new.into c.sets.net c.take_out.new.self takes))
 
 pub returns-in_err-put_set-clause-left : goal.returns-in_err-put_set-clause-left

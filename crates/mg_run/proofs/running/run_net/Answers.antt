@@ -34,7 +34,7 @@ returns-in_err-status-clause-stood g c = λ start u. stood_after start.logs c.dr
 
 pub returns-clause-ran : goal.returns-clause-ran
 returns-clause-ran g c = λ start plan u.
-    ran_over c.args.plan.now start c.in_ok-end.end (g.S.Source.told c.drive.new.input) (g.K.Sink.told c.drive.new.output) (g.K.Sink.told c.finish.new.output) (fed c.drive.new.ends.feed) c.drive.new.net c.drive.new.ends.text
+    ran_over c.args.report c.args.plan.now start c.in_ok-end.end (g.S.Source.told c.drive.new.input) (g.K.Sink.told c.drive.new.output) (g.K.Sink.told c.finish.new.output) (fed c.drive.new.ends.feed) c.drive.new.net c.drive.new.ends.text
     c.in_ok-status.status (device (g.E.Sink.told c.args.notes.now) (g.E.Sink.told c.finish.new.notes)) plan c.in_ok-status.ensures.wrote (c.in_ok-end.ensures.over start u)
 
 pub returns-clause-used : goal.returns-clause-used

@@ -1,0 +1,108 @@
+-- What a run over packets that are made came to, by its status, and what follows of it.
+use Rattle.std.proofs.Common.{◌≢◌, ◌<◌, ◌^◌, length, ◌⊎◌, inl, inr, ℕ, Bool, true, List, [], ◌∷◌, refl}
+use Rattle.mg_edge.specs.Edge.{Rose}
+use Rattle.mg_value.specs.Payload.{Plain}
+use Rattle.mg_value.specs.Prefix.{StreamPrefix}
+use Rattle.mg_value.specs.declared.policy.Policy.TheVariants.{Default}
+use Rattle.mg_value.specs.Settled.{settled_sets, inputs_of as ports_of}
+use Rattle.mg_value.proofs.Lemmas.{all_inputs}
+use Rattle.mg_calc.specs.declared.plan.Plan.{Plan}
+use Rattle.mg_calc.specs.Equations.{Job, IsJob, IsSolution}
+use Rattle.mg_equations.proofs.NodeSteps.{few_sets}
+use Rattle.mg_feed.specs.declared.feed_end.FeedEnd.TheVariants.{Ended}
+use Rattle.mg_answer.specs.Summary.{summary_of}
+use Rattle.mg_answer.specs.Answer.{Answer, by_summary, generated_job, answer_of, AnswersGenerated}
+use Rattle.mg_answer.specs.Devices.{RunDevices, Unrisen}
+use Rattle.mg_answer.specs.Wrote.{WroteAll, WroteShort, Wrote}
+use Rattle.mg_answer.specs.Ran.{Meets, GeneratedAll, GeneratedShort, RanGenerated, IsOneOf}
+use Rattle.mg_answer.specs.declared.run_status.RunStatus.{RunStatus}
+use Rattle.mg_answer.specs.declared.run_status.RunStatus.TheVariants.{Good, LineRefused, NodeFault, Stalled, ReadFault, WriteFault, OutOfMemory}
+use Rattle.mg_answer.proofs.Writing.{front-sent}
+use Rattle.mg_answer.proofs.Answering.{WriteRisen, steady-risen, rose-unrisen}
+use Rattle.mg_answer.proofs.OneAnswer.{answer-of}
+use Rattle.mg_answer.proofs.Telling.{solved-prefixes}
+
+-- there is an answer
+pub answer-generated : (report : Bool) (plan : Plan) (number : ℕ) → IsJob (generated_job plan number) → (answer : Answer) × AnswersGenerated report plan number answer
+answer-generated report plan number is = answer-of (by_summary report) (generated_job plan number) Ended is
+
+-- What was written --
+
+abbrev Written : Bool → Plan → ℕ → RunStatus → RunDevices → Type 0
+Written report plan number status all = Wrote (by_summary report) (generated_job plan number) Ended status all.output all.notes
+
+wrote-answer : (report : Bool) (plan : Plan) (number : ℕ) (status : RunStatus) (all : RunDevices) → (wrote : Written report plan number status all)
+    → WroteAll (answer_of (by_summary report) (generated_job plan number) Ended wrote.streams) status all.output all.notes → GeneratedAll report plan number status all
+wrote-answer report plan number status all wrote by = record {
+  answer = answer_of (by_summary report) (generated_job plan number) Ended wrote.streams;
+  is = record { streams = wrote.streams; solution = wrote.solution; is = refl };
+  met = record { text = by.text; noted = by.noted; told = by.told };
+}
+
+wrote-short : (report : Bool) (plan : Plan) (number : ℕ) (status : RunStatus) (all : RunDevices) → (wrote : Written report plan number status all)
+    → WroteShort (answer_of (by_summary report) (generated_job plan number) Ended wrote.streams) all.output all.notes → GeneratedShort report plan number all
+wrote-short report plan number status all wrote by = record {
+  answer = answer_of (by_summary report) (generated_job plan number) Ended wrote.streams;
+  is = record { streams = wrote.streams; solution = wrote.solution; is = refl };
+  short = record { rose = by.rose; front = by.front; whole = by.whole };
+}
+
+pub generated-ran : (report : Bool) (plan : Plan) (number : ℕ) (status : RunStatus) (all : RunDevices) → Written report plan number status all → RanGenerated report plan number status all
+generated-ran report plan number Good all wrote = wrote-answer report plan number Good all wrote wrote.by
+generated-ran report plan number LineRefused all wrote = wrote-answer report plan number LineRefused all wrote wrote.by
+generated-ran report plan number NodeFault all wrote = wrote-answer report plan number NodeFault all wrote wrote.by
+generated-ran report plan number Stalled all wrote = wrote-answer report plan number Stalled all wrote wrote.by
+generated-ran report plan number ReadFault all wrote = wrote-answer report plan number ReadFault all wrote wrote.by
+generated-ran report plan number WriteFault all wrote = wrote-short report plan number WriteFault all wrote wrote.by
+generated-ran report plan number OutOfMemory all wrote = record {
+  streams = wrote.streams;
+  solution = wrote.solution;
+  front = front-sent true all.output.before all.output.now (summary_of plan wrote.streams) wrote.by.text;
+}
+
+-- What follows --
+
+abbrev pub MetGenerated : Bool → Plan → ℕ → RunStatus → RunDevices → Type 0
+MetGenerated report plan number status all = (answer : Answer) × AnswersGenerated report plan number answer × Meets answer status all
+
+all-met : (report : Bool) (plan : Plan) (number : ℕ) (status : RunStatus) (all : RunDevices) → GeneratedAll report plan number status all → MetGenerated report plan number status all
+all-met report plan number status all ran = (ran.answer, ran.is, ran.met)
+
+short-failed : (report : Bool) (plan : Plan) (number : ℕ) (all : RunDevices) → GeneratedShort report plan number all
+    → Unrisen all.output.before.faults all.output.now.faults → Unrisen all.notes.before.faults all.notes.now.faults → ⊥
+short-failed report plan number all ran output notes = by ran.short.rose
+  where
+    by : Rose all.output.before.faults all.output.now.faults ⊎ Rose all.notes.before.faults all.notes.now.faults → ⊥
+    by (inl rose) = rose-unrisen _ _ rose output
+    by (inr rose) = rose-unrisen _ _ rose notes
+
+pub generated-answered : (report : Bool) (plan : Plan) (number : ℕ) (status : RunStatus) (all : RunDevices) → RanGenerated report plan number status all
+    → Unrisen all.output.before.faults all.output.now.faults → Unrisen all.notes.before.faults all.notes.now.faults → status ≢ OutOfMemory → MetGenerated report plan number status all
+generated-answered report plan number Good all ran output notes some = all-met report plan number Good all ran
+generated-answered report plan number LineRefused all ran output notes some = all-met report plan number LineRefused all ran
+generated-answered report plan number NodeFault all ran output notes some = all-met report plan number NodeFault all ran
+generated-answered report plan number Stalled all ran output notes some = all-met report plan number Stalled all ran
+generated-answered report plan number ReadFault all ran output notes some = all-met report plan number ReadFault all ran
+generated-answered report plan number WriteFault all ran output notes some = absurd (short-failed report plan number all ran output notes)
+generated-answered report plan number OutOfMemory all ran output notes some = absurd (some refl)
+
+write-steady : (report : Bool) (plan : Plan) (number : ℕ) (status : RunStatus) (all : RunDevices) → GeneratedAll report plan number status all → WriteRisen all → ⊥
+write-steady report plan number status all ran (inl risen) = steady-risen _ _ ran.met.text.steady risen
+write-steady report plan number status all ran (inr risen) = steady-risen _ _ ran.met.noted.steady risen
+
+pub generated-risen : (report : Bool) (plan : Plan) (number : ℕ) (status : RunStatus) (all : RunDevices) → RanGenerated report plan number status all → WriteRisen all
+    → IsOneOf status (WriteFault ∷ OutOfMemory ∷ [])
+generated-risen report plan number Good all ran risen = absurd (write-steady report plan number Good all ran risen)
+generated-risen report plan number LineRefused all ran risen = absurd (write-steady report plan number LineRefused all ran risen)
+generated-risen report plan number NodeFault all ran risen = absurd (write-steady report plan number NodeFault all ran risen)
+generated-risen report plan number Stalled all ran risen = absurd (write-steady report plan number Stalled all ran risen)
+generated-risen report plan number ReadFault all ran risen = absurd (write-steady report plan number ReadFault all ran risen)
+generated-risen report plan number WriteFault all ran risen = inl refl
+generated-risen report plan number OutOfMemory all ran risen = inr (inl refl)
+
+-- Sets --
+
+pub sets-few : (job : Job) (streams : List (StreamPrefix Plain)) → IsJob job → IsSolution job streams → length (settled_sets Default (ports_of streams job.plan.outputs)) < 2 ^ 64
+sets-few job streams is solution =
+    few_sets Default (ports_of streams job.plan.outputs)
+    (all_inputs streams job.plan.outputs (solved-prefixes job.plan job.inputs streams is.plan is.inputs solution))

@@ -1,0 +1,38 @@
+-- The report: how far each node and each stream has come.
+use Rattle.std.specs.Prelude.{ℕ, Bool, List, [], ◌++◌, map, length, codes, decimal, if◌then◌else◌}
+use Rattle.std.specs.List.{flat_map}
+use Rattle.mg_time.specs.Text.{time_text}
+use Rattle.mg_value.specs.Payload.{Plain}
+use Rattle.mg_value.specs.Prefix.{StreamPrefix}
+use Rattle.mg_calc.specs.declared.plan.Plan.{Plan}
+use Rattle.mg_calc.specs.Equations.{Job}
+use Rattle.mg_calc.specs.Meaning.{numbered, counts}
+use Rattle.mg_answer.specs.Shown.{shown}
+use Rattle.mg_answer.specs.Text.{name_of}
+use Rattle.mg_answer.specs.Notes.{label_of}
+use Rattle.mg_answer.specs.declared.outcomes.StreamEnd.{StreamEnd}
+
+-- how far a stream has come: how many packets it has, and its bound
+abbrev pub end_of : StreamPrefix Plain → StreamEnd
+end_of s = record { packets = length s.packets; bound = s.bound }
+
+-- a node, and how many sets it was shown; of a source how often it was called, and of a loopback how many packets it answered
+abbrev pub node_line : Plan → ℕ × ℕ → List ℕ
+node_line plan entry = codes "node " ++ decimal entry.0 ++ codes " " ++ shown (label_of plan entry.0) ++ codes " sets=" ++ decimal entry.1 ++ codes "\n"
+
+-- a stream, its packets and its bound
+abbrev pub stream_line : Plan → ℕ × StreamEnd → List ℕ
+stream_line plan entry =
+    codes "stream " ++ shown (name_of plan entry.0) ++ codes " packets=" ++ decimal entry.1.packets ++ codes " bound=" ++ time_text entry.1.bound ++ codes "\n"
+
+-- a line for each node, in node order, and then one for each stream, in stream order
+abbrev pub report_by : Plan → List ℕ → List StreamEnd → List ℕ
+report_by plan sets ends = flat_map (node_line plan) (numbered sets) ++ flat_map (stream_line plan) (numbered ends)
+
+-- the report that the streams of a job make
+abbrev pub report_of : Job → List (StreamPrefix Plain) → List ℕ
+report_of job streams = report_by job.plan (counts job streams) (map end_of streams)
+
+-- it stands behind the other notes where it is asked for
+abbrev pub asked_report : Bool → List ℕ → List ℕ
+asked_report asked report = if asked then report else []

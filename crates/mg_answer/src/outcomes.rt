@@ -1,0 +1,24 @@
+use mg_calc::NodeFaultList;
+use mg_time::Timestamp;
+use mg_value::BlockList;
+
+/// How far a stream has come.
+#[derive(Clone, Copy, Debug, PartialEq, Eq)]
+pub struct StreamEnd {
+    /// How many packets it has.
+    pub packets: u64,
+    /// The lowest timestamp that a further packet may have.
+    pub bound: Timestamp,
+}
+
+/// What a run tells of its solution in the notes and in the report.
+#[derive(Drop)]
+pub struct Outcomes {
+    /// The faults, in node order.
+    pub faults: NodeFaultList,
+    /// For each node how many sets it was shown, how often it was called if it is a source, and how many packets of MAIN it
+    /// answered if it is a loopback; the set or call that failed included.
+    pub sets: BlockList<u64>,
+    /// How far each stream has come.
+    pub ends: Vec<StreamEnd>,
+}

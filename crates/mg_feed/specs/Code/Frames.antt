@@ -1,0 +1,40 @@
+-- What the tokens of a usual packet line say.
+use Rattle.std.specs.Prelude.{◌≡◌, ℕ, List, [], ◌∷◌, Option, None, Some, codes, option_map}
+use Rattle.json.specs.Token.{Token, begin_object, end_object, begin_array, end_array, key, string, number, boolean, null, bad}
+use Rattle.serde_json.specs.Data as json
+use Rattle.serde_json.specs.Read.{number_of}
+
+-- the number that a text writes
+abbrev pub numbered : List ℕ → Option json.Data
+numbered s = option_map json.number (number_of s)
+
+-- the value that one token is by itself
+abbrev pub scalar_of : Token → Option json.Data
+scalar_of begin_object = None
+scalar_of end_object = None
+scalar_of begin_array = None
+scalar_of end_array = None
+scalar_of (key s) = None
+scalar_of (string s) = Some (json.string s)
+scalar_of (number s) = numbered s
+scalar_of (boolean b) = Some (json.boolean b)
+scalar_of null = Some json.null
+scalar_of bad = None
+
+-- an object of a stream's name, a number as its timestamp and a scalar as its value, in this order, and nothing behind it
+abbrev pub frame_tokens : List ℕ → List ℕ → Token → List Token
+frame_tokens name time t =
+    begin_object ∷ key (codes "stream") ∷ string name ∷ key (codes "ts") ∷ number time ∷ key (codes "value") ∷ t ∷ end_object ∷ []
+
+-- whether these tokens are that, with this name, this timestamp and this value
+abbrev pub IsFrame : List Token → List ℕ → json.Data → json.Data → Type 0
+IsFrame ts name time value =
+    (s : List ℕ) × (t : Token) × (ts ≡ frame_tokens name s t) × (numbered s ≡ Some time) × (scalar_of t ≡ Some value)
+
+-- whether of some tokens the first two are a key and a number of this value, and the others are these
+abbrev pub NumberAt : List ℕ → List Token → json.Data → List Token → Type 0
+NumberAt name old value new = (s : List ℕ) × (old ≡ key name ∷ number s ∷ new) × (numbered s ≡ Some value)
+
+-- whether they are a key and a token that is this value by itself
+abbrev pub ScalarAt : List ℕ → List Token → json.Data → List Token → Type 0
+ScalarAt name old value new = (t : Token) × (old ≡ key name ∷ t ∷ new) × (scalar_of t ≡ Some value)

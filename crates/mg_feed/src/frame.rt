@@ -1,0 +1,152 @@
+ghost use Rattle.std.specs.Prelude.{◌≡◌, [], ◌∷◌, Some, IfSome, IsTrue, codes, option_and_then};
+ghost use Rattle.json.specs.Token.{begin_object, end_object, key, string as text_token, number as number_token};
+ghost use Rattle.json.specs.Reads.{token_of};
+ghost use Rattle.serde_json.specs.Data.{number, string};
+ghost use Rattle.serde_json.specs.View.{view, number_view};
+ghost use Rattle.mg_feed.specs.Form.{packets, form_of, json_value};
+ghost use Rattle.mg_feed.specs.Code.Frames.{IsFrame, NumberAt, ScalarAt, scalar_of};
+
+use crate::whole::whole_by;
+use json::{Reader, Scratch, Token};
+use serde_json::{Number, Value};
+use std::alloc::Global;
+
+/// What a usual packet line says: an object of a stream's name, a whole number as its timestamp and a scalar as its value,
+/// in this order.
+#[derive(Drop)]
+pub struct Frame<'a> {
+    pub stream: &'a str,
+    pub time: Value,
+    pub value: Value,
+}
+
+/// What a line says, where it is a usual packet line. It is read from its tokens, with no JSON value of the whole line. Of
+/// any other line, and where there is no memory, nothing is told.
+pub fn frame_of<'a>(alloc: Global, text: &'a [u8], scratch: &'a mut Scratch) -> Option<Frame<'a>>
+    ensures { IfSome result (λ f. option_and_then form_of (json_value text.now)
+        ≡ Some (packets (view f.time) (record { name = f.stream.now; value = view f.value } ∷ []))) }
+{
+    let Ok(text) = simdutf8::compat::from_utf8(text) else {
+        return None;
+    };
+    let Ok(mut reader) = Reader::new(text, scratch) else {
+        return None;
+    };
+    let frame = frame_by(alloc, &mut reader)?;
+    Some(frame)
+}
+
+// What the tokens of a line say.
+fn frame_by<'a>(alloc: Global, reader: &mut Reader<'a>) -> Option<Frame<'a>>
+    ensures { IfSome result (λ f. IsFrame reader.old f.stream.now (view f.time) (view f.value)) }
+{
+    let stream = stream_by(reader)?;
+    let time = time_by(reader)?;
+    let value = value_by(alloc, reader)?;
+    if !ends(reader) {
+        return None;
+    }
+    Some(Frame {
+        stream,
+        time: Value::from(time),
+        value,
+    })
+}
+
+// The name that an object begins with.
+fn stream_by<'a>(reader: &mut Reader<'a>) -> Option<&'a str>
+    ensures { IfSome result (λ s. reader.old ≡ begin_object ∷ key (codes "stream") ∷ text_token s.now ∷ reader.new) }
+{
+    if !begins(reader) || !has_key(reader, "stream") {
+        return None;
+    }
+    text_by(reader)
+}
+
+// The timestamp that comes next.
+fn time_by(reader: &mut Reader<'_>) -> Option<Number>
+    ensures { IfSome result (λ n. NumberAt (codes "ts") reader.old (number (number_view n)) reader.new) }
+{
+    if !has_key(reader, "ts") {
+        return None;
+    }
+    let text = number_by(reader)?;
+    whole_by(text)
+}
+
+// The value that comes next.
+fn value_by(alloc: Global, reader: &mut Reader<'_>) -> Option<Value>
+    ensures { IfSome result (λ v. ScalarAt (codes "value") reader.old (view v) reader.new) }
+{
+    if !has_key(reader, "value") {
+        return None;
+    }
+    let token = reader.next()?;
+    scalar_by(alloc, token)
+}
+
+// The value that a token is by itself, but for `null`, which says no payload.
+fn scalar_by(alloc: Global, token: Token<'_>) -> Option<Value>
+    ensures { IfSome result (λ v. scalar_of (token_of token.entry) ≡ Some (view v)) }
+{
+    match token {
+        Token::Number(text) => Some(Value::from(whole_by(text)?)),
+        Token::Bool(flag) => Some(Value::from(flag)),
+        Token::String(text) => text_value(alloc, text),
+        _ => None,
+    }
+}
+
+// The value that is a text, where there is memory.
+fn text_value(alloc: Global, text: &str) -> Option<Value>
+    ensures { IfSome result (λ v. view v ≡ string text.now) }
+{
+    match String::from_str(alloc, text) {
+        Ok(text) => Some(Value::from(text)),
+        Err(_) => None,
+    }
+}
+
+// Whether an object begins.
+fn begins(reader: &mut Reader<'_>) -> bool
+    ensures { IsTrue result → reader.old ≡ begin_object ∷ reader.new }
+{
+    matches!(reader.next(), Some(Token::BeginObject))
+}
+
+// Whether an object ends, and nothing comes behind it.
+fn ends(reader: &mut Reader<'_>) -> bool
+    ensures { IsTrue result → reader.old ≡ end_object ∷ [] }
+{
+    matches!(reader.next(), Some(Token::EndObject)) && reader.next().is_none()
+}
+
+// Whether a key of this name comes next.
+fn has_key(reader: &mut Reader<'_>, name: &str) -> bool
+    ensures { IsTrue result → reader.old ≡ key name.now ∷ reader.new }
+{
+    match reader.next() {
+        Some(Token::Key(found)) => found == name,
+        _ => false,
+    }
+}
+
+// The text that comes next.
+fn text_by<'a>(reader: &mut Reader<'a>) -> Option<&'a str>
+    ensures { IfSome result (λ s. reader.old ≡ text_token s.now ∷ reader.new) }
+{
+    match reader.next() {
+        Some(Token::String(text)) => Some(text),
+        _ => None,
+    }
+}
+
+// The text of the number that comes next.
+fn number_by<'a>(reader: &mut Reader<'a>) -> Option<&'a str>
+    ensures { IfSome result (λ s. reader.old ≡ number_token s.now ∷ reader.new) }
+{
+    match reader.next() {
+        Some(Token::Number(text)) => Some(text),
+        _ => None,
+    }
+}

@@ -1,0 +1,46 @@
+ghost use Rattle.std.specs.Prelude.{◌≡◌, ◌==◌, ◌<◌, true, false, length, slice_index, Some, IfSome, IsTrue};
+ghost use Rattle.serde_json.specs.Data.{unsigned, negative as below_zero};
+ghost use Rattle.serde_json.specs.Read.{number_of, number_from};
+ghost use Rattle.serde_json.specs.View.{number_view};
+
+use fast_float::Numeral;
+use serde_json::Number;
+
+/// The number that a JSON number's text writes, where it is whole and has 64 bits.
+pub fn whole_by(text: &str) -> Option<Number>
+    ensures { IfSome result (λ n. number_of text.now ≡ Some (number_view n)) }
+{
+    let bytes = text.as_bytes();
+    if has_minus(bytes) {
+        negative(&Numeral::scan(&bytes[1..]))
+    } else {
+        unsigned(&Numeral::scan(bytes))
+    }
+}
+
+fn has_minus(bytes: &[u8]) -> bool
+    ensures value { result ≡ (slice_index bytes.now 0 == 45) }
+    ensures some { IsTrue result → 0 < length bytes.now }
+{
+    !bytes.is_empty() && bytes[0] == b'-'
+}
+
+// The whole number of a numeral without a sign.
+fn unsigned(numeral: &Numeral<'_>) -> Option<Number>
+    ensures { IfSome result (λ n. number_from false numeral.now ≡ Some (number_view n)) }
+{
+    let number = numeral.to_u64()?;
+    Some(Number::from(number))
+}
+
+// The whole number of a numeral behind a minus.
+fn negative(numeral: &Numeral<'_>) -> Option<Number>
+    ensures { IfSome result (λ n. number_from true numeral.now ≡ Some (number_view n)) }
+{
+    let number = numeral.to_i64(true)?;
+    if number < 0 {
+        Some(Number::from(number))
+    } else {
+        None
+    }
+}
