@@ -29,3 +29,4 @@ pub use output_text::OutputText;
 pub use run_status::RunStatus;
 pub use shown::put_shown;
 pub use solving::solve_input;
+pub use told::{is_ended, ran_out};

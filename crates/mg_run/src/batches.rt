@@ -7,7 +7,6 @@ ghost use Rattle.mg_value.specs.Prefix.{StreamPrefix};
 ghost use Rattle.mg_feed.specs.Accepted.{most_lines};
 ghost use Rattle.mg_feed.specs.FeedSeen.{fed};
 ghost use Rattle.mg_answer.specs.Put.{TextView};
-ghost use Rattle.mg_answer.specs.Answer.{is_ended as ended_well};
 ghost use Rattle.mg_answer.specs.Devices.{Device, device, run_devices};
 ghost use Rattle.mg_answer.specs.Ran.{RanShortOf};
 ghost use Rattle.mg_calc.specs.Told.{CalculatorTold};
@@ -18,7 +17,7 @@ ghost use Rattle.mg_sched.specs.Taking.{taken_out, settled_outputs, HasAllOutput
 ghost use Rattle.mg_run.specs.Boxes.{HadSome};
 ghost use Rattle.mg_run.specs.Code.Running.{has_ended as the_end, IsMore, HadMemory, IsRead, HasBatch, Start, HandedIn, IsPut, PutFront, IsUnderWay, IsSomeRun, IsSomeMore, HasRested, IsOver, Keeps, StandsWith};
 
-use mg_answer::OutputText;
+use mg_answer::{OutputText, is_ended, ran_out};
 use mg_calc::{Calculator, Inputs};
 use mg_edge::{Gate, Sink, Source};
 use mg_feed::{BatchEnd, Feed, FeedEnd};
@@ -44,19 +43,7 @@ pub struct Batch {
     pub inputs: Inputs,
 }
 
-// Whether an input ended well.
-fn is_ended(end: FeedEnd) -> bool
-    ensures { result ≡ ended_well end }
-{
-    match end {
-        FeedEnd::Ended => true,
-        FeedEnd::Failed { .. } => false,
-        FeedEnd::Refused { .. } => false,
-        FeedEnd::OutOfMemory => false,
-    }
-}
-
-// Whether it did with a batch.
+// Whether the input ended well with a batch.
 fn has_ended(end: BatchEnd) -> bool
     ensures { result ≡ the_end end }
 {
@@ -66,25 +53,13 @@ fn has_ended(end: BatchEnd) -> bool
     }
 }
 
-// Whether memory ran out while an input was read.
-fn lacks_memory(end: FeedEnd) -> bool
-    ensures { (result ≡ false) ↔ HadMemory (BatchEnd.End end) }
-{
-    match end {
-        FeedEnd::Ended => false,
-        FeedEnd::Failed { .. } => false,
-        FeedEnd::Refused { .. } => false,
-        FeedEnd::OutOfMemory => true,
-    }
-}
-
-// Whether it did with a batch.
-fn ran_out(end: BatchEnd) -> bool
+// Whether memory ran out while a batch was read.
+fn lacks_memory(end: BatchEnd) -> bool
     ensures { (result ≡ false) ↔ HadMemory end }
 {
     match end {
         BatchEnd::More => false,
-        BatchEnd::End(end) => lacks_memory(end),
+        BatchEnd::End(end) => ran_out(end),
     }
 }
 
@@ -94,7 +69,7 @@ pub fn read_on<S: Source>(feed: &mut Feed, input: &mut S) -> Result<Batch, Alloc
         → IfOk result (λ b. HasBatch plan first b.end b.inputs (S.told input.new) (fed feed.new) past lines) }
 {
     let end = feed.read_batch(input, BATCH);
-    if ran_out(end) {
+    if lacks_memory(end) {
         return Err(AllocError);
     }
     let inputs = feed.take_inputs(has_ended(end))?;

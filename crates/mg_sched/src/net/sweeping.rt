@@ -1,5 +1,5 @@
 //! How a net comes to rest.
-ghost use Rattle.std.specs.Prelude.{◌≡◌, ◌<◌, ◌+◌, ◌≤◌, ◌^◌, List, length, IfSome, IfNone, IfOk, false};
+ghost use Rattle.std.specs.Prelude.{◌≡◌, ◌<◌, ◌+◌, ◌≤◌, ◌^◌, List, length, IfOk, false};
 ghost use Rattle.mg_value.specs.Payload.{Plain};
 ghost use Rattle.mg_value.specs.Prefix.{StreamPrefix};
 ghost use Rattle.mg_calc.specs.Meaning.{weight};
@@ -12,7 +12,7 @@ ghost use Rattle.mg_sched.specs.Taking.{taken_out};
 ghost use Rattle.mg_sched.specs.Reports.{claimed_in};
 ghost use Rattle.mg_sched.specs.Sweeps.{Becomes};
 ghost use Rattle.mg_sched.specs.Code.Agendas.{IsAgendaOf};
-ghost use Rattle.mg_sched.specs.Code.Left.{Goes, Steps, HasWork, HasNoWork, HasShelf, HasNoShelf, WorksRest, RestsAt, EdgesRest, NodesRest};
+ghost use Rattle.mg_sched.specs.Code.Left.{Goes, Steps, EdgesRest, NodesRest};
 
 use super::Net;
 use crate::agenda::Agenda;
@@ -337,96 +337,8 @@ impl<C: Calculator> Net<C> {
         Ok(did)
     }
 
-    // Claims a node's next work, and performs and commits what is claimed; only where there is nothing of that, raises the node's
-    // outputs. Tells whether something was done.
-    pub(super) fn work<G: Gate>(&mut self, node: u32, gate: &G) -> Result<bool, AllocError>
-        requires running { IsRunning self.old }
-        requires stands { StandsForSome self.old }
-        requires there { node < length self.old.plan.nodes }
-        ensures becomes { Becomes self.old self.new }
-        ensures goes { IfOk result (λ did. Goes did self.old self.new) }
-        ensures rest { IfOk result (λ did. did ≡ false → RestsAt self.new node) }
-    {
-        let worked = self.work_on(node, gate)?;
-        if worked {
-            return Ok(true);
-        }
-        let raised = self.step(Event::Advance { node }, gate)?;
-        Ok(raised)
-    }
-
-    // Claims a node's next work, and performs and commits what is claimed. Tells whether something was done.
-    fn work_on<G: Gate>(&mut self, node: u32, gate: &G) -> Result<bool, AllocError>
-        requires running { IsRunning self.old }
-        requires stands { StandsForSome self.old }
-        requires there { node < length self.old.plan.nodes }
-        ensures becomes { Becomes self.old self.new }
-        ensures goes { IfOk result (λ did. Goes did self.old self.new) }
-        ensures rest { IfOk result (λ did. did ≡ false → WorksRest self.new node) }
-    {
-        let claimed = self.step(Event::Claim { node }, gate)?;
-        let performed = self.perform_all(node, gate)?;
-        let committed = self.commit_all(node, gate)?;
-        Ok(claimed | performed | committed)
-    }
-
-    // Performs a node's works that are claimed. Tells whether there was one.
-    fn perform_all<G: Gate>(&mut self, node: u32, gate: &G) -> Result<bool, AllocError>
-        requires running { IsRunning self.old }
-        requires stands { StandsForSome self.old }
-        requires there { node < length self.old.plan.nodes }
-        ensures becomes { Becomes self.old self.new }
-        ensures goes { IfOk result (λ did. Goes did self.old self.new) }
-        ensures none { IfOk result (λ did. did ≡ false → HasNoWork self.new node) }
-    {
-        let mut did = false;
-        'works: while let Some(number) = self.first_claimed(node) {
-            let _ = self.step(Event::Perform { node, number }, gate)?;
-            did = true;
-        }
-        Ok(did)
-    }
-
-    // The number of the first work of a node that is claimed and not performed.
-    fn first_claimed(&self, node: u32) -> Option<u64>
-        requires there { node < length self.now.plan.nodes }
-        requires stands { StandsForSome self.now }
-        ensures some { IfSome result (λ number. HasWork self.now node number) }
-        ensures none { IfNone result (HasNoWork self.now node) }
-    {
-        self.desks[node as usize].first()
-    }
-
-    // Commits a node's works that are performed. Tells whether there was one.
-    fn commit_all<G: Gate>(&mut self, node: u32, gate: &G) -> Result<bool, AllocError>
-        requires running { IsRunning self.old }
-        requires stands { StandsForSome self.old }
-        requires there { node < length self.old.plan.nodes }
-        ensures becomes { Becomes self.old self.new }
-        ensures goes { IfOk result (λ did. Goes did self.old self.new) }
-        ensures none { IfOk result (λ did. did ≡ false → HasNoShelf self.new node) }
-    {
-        let mut did = false;
-        'works: while let Some(number) = self.first_performed(node) {
-            let _ = self.step(Event::Commit { node, number }, gate)?;
-            did = true;
-        }
-        Ok(did)
-    }
-
-    // The number of the first work of a node that is performed and not committed.
-    fn first_performed(&self, node: u32) -> Option<u64>
-        requires there { node < length self.now.plan.nodes }
-        requires running { IsRunning self.now }
-        requires stands { StandsForSome self.now }
-        ensures some { IfSome result (λ number. HasShelf self.now node number) }
-        ensures none { IfNone result (HasNoShelf self.now node) }
-    {
-        self.engines[node as usize].shelved()
-    }
-
     // Makes a step. Tells whether it did something.
-    fn step<G: Gate>(&mut self, event: Event, gate: &G) -> Result<bool, AllocError>
+    pub(super) fn step<G: Gate>(&mut self, event: Event, gate: &G) -> Result<bool, AllocError>
         requires event { IsEventOf self.old event }
         requires running { IsRunning self.old }
         requires stands { StandsForSome self.old }
