@@ -1,0 +1,20 @@
+"""What the tools beside it share. It stands on the standard library alone, and asks `mg` itself only where a tool says that it runs it.
+
+    textform         the text form of graph files, each field with its place
+    graph, schema    graph files, their expansion, and the fields that they may have
+    kinds            the kinds of calculators: ports, options, offsets
+    packets          packet lines and timestamps
+    notes            the notes of `mg`, read from their lines
+    near             names near a misspelled one
+    explain          notes explained: explain_files, explain_graph and explain_run by what they are about
+    explain_all      what is wrong behind the first refusal; flat, an expanded graph that can be changed
+    csvlines         packet lines of tables
+    recordings       what recordings hold, parts of them, differences of outputs
+    dot              text for Graphviz
+    layout, picture  a graph as SVG without Graphviz
+    timelines        streams over time as SVG
+    runs, pages      a run with the streams inside it, and one HTML file of it (page.html)
+    porting          what goes out of a graph of MediaPipe's
+
+Only what a graph says is read here; whether it can be run, `mg` decides.
+"""

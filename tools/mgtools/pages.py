@@ -1,0 +1,72 @@
+"""One HTML file about a run: the graph's picture with its counts, the streams over time, and the notes explained."""
+from __future__ import annotations
+
+import html
+import json
+import pathlib
+import re
+from typing import Any
+
+from .explain import Explainer
+from .graph import Graph, Node, in_order
+from .kinds import offset_of
+from .notes import Report
+from .packets import read_bound, show_time
+from .picture import Picture
+from .timelines import Row, waiting
+
+MEANINGS = {0: "all went well", 1: "a file couldn't be loaded", 2: "the words are no command", 3: "the graph was refused", 4: "a line wasn't good",
+            5: "a calculator failed", 6: "a stream never closed", 7: "the input couldn't be read", 8: "the output couldn't be written",
+            9: "there wasn't memory enough"}
+
+
+def time_data(time: int) -> Any:
+    """A time for the page: a number where the browser holds it exactly, and a text otherwise."""
+    return time if abs(time) < 2**53 else show_time(time)
+
+
+def exact(value: Any) -> Any:
+    """A value as the text that is shown of it, cut where it is long."""
+    text = json.dumps(value, ensure_ascii=False)
+    return text if len(text) <= 400 else text[:398] + ".."
+
+
+def row_data(row: Row, report: Report) -> dict[str, Any]:
+    bound = read_bound(report.bounds[row.name]) if row.name in report.bounds else row.bound
+    return {"name": row.name, "kind": row.kind, "count": report.packets.get(row.name, row.count), "bound": show_time(bound),
+            "told": [time_data(time) for time in row.told], "packets": [[time_data(time), exact(value)] for time, value in row.packets]}
+
+
+def node_data(node: Node) -> dict[str, Any]:
+    """What the page needs to tell which input set made a packet: the set of an output at t stands at t less the offset."""
+    return {"number": node.number, "label": node.label, "calculator": node.calculator, "place": node.place, "offset": offset_of(node) or 0,
+            "inputs": [[port.label, port.name] for port in in_order(node.inputs)], "outputs": [port.name for port in node.outputs]}
+
+
+def notes_html(explainer: Explainer, notes: list[str]) -> str:
+    """The notes with what they mean; those of the report are in the picture."""
+    said = []
+    for line, note, sentences in explainer.all(notes):
+        if note and note.form in ("sets", "ends"):
+            continue
+        items = "".join(f"<li>{html.escape(sentence)}</li>" for sentence in sentences)
+        said.append(f"<div class=note><code>{html.escape(line)}</code><ul>{items}</ul></div>")
+    return "".join(said) or "<p class=quiet>no notes: nothing went wrong</p>"
+
+
+def page(title: str, graph: Graph, rows: list[Row], report: Report, explainer: Explainer, notes: list[str], status: int | None, cut_at: int) -> str:
+    """The whole page."""
+    data = {"rows": [row_data(row, report) for row in rows], "nodes": [node_data(node) for node in graph.nodes]}
+    template = (pathlib.Path(__file__).parent / "page.html").read_text()
+    is_cut = any(row.count > len(row.packets) > 0 for row in rows)
+    parts = {
+        "TITLE": html.escape(title),
+        "STATUS": "" if status is None else f'<span class="status {"good" if status == 0 else "bad"}">status {status}: {MEANINGS.get(status, "unknown")}</span>',
+        "COUNTS": f"{len(graph.nodes)} nodes, {len(graph.streams())} streams, {sum(row.count for row in rows if row.kind == 'in')} packets in",
+        "GRAPH": Picture(graph, report).svg(),
+        "NOTES": notes_html(explainer, notes),
+        "WAITS": "".join(f"<p class=waits>{html.escape(line)}</p>" for line in waiting(graph, report)),
+        "CUT": f"<p class=quiet>the first {cut_at} packets of each stream are shown</p>" if is_cut else "",
+        "DATA": json.dumps(data, ensure_ascii=False, separators=(",", ":")).replace("</", "<\\/"),
+    }
+    return re.sub("@([A-Z]+)@", lambda found: parts[found[1]], template)
