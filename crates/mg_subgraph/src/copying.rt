@@ -16,6 +16,21 @@ pub struct PortLists {
     pub output_sides: PortMap,
 }
 
+/// Two lists of ports.
+#[derive(Debug, Drop)]
+struct TwoLists {
+    first: PortMap,
+    second: PortMap,
+}
+
+fn two_of(alloc: Global, first: &PortMap, second: &PortMap) -> Result<TwoLists, AllocError>
+    ensures { IfOk result (λ two. two ≡ record { first = first.now; second = second.now }) }
+{
+    let first = first.try_clone(alloc)?;
+    let second = second.try_clone(alloc)?;
+    Ok(TwoLists { first, second })
+}
+
 /// Second copies of lists of ports.
 pub fn lists_of(
     alloc: Global,
@@ -26,11 +41,13 @@ pub fn lists_of(
 ) -> Result<PortLists, AllocError>
     ensures { IfOk result (λ lists. lists ≡ record { inputs = inputs.now; outputs = outputs.now; input_sides = input_sides.now; output_sides = output_sides.now }) }
 {
+    let ends = two_of(alloc, inputs, outputs)?;
+    let sides = two_of(alloc, input_sides, output_sides)?;
     Ok(PortLists {
-        inputs: inputs.try_clone(alloc)?,
-        outputs: outputs.try_clone(alloc)?,
-        input_sides: input_sides.try_clone(alloc)?,
-        output_sides: output_sides.try_clone(alloc)?,
+        inputs: ends.first,
+        outputs: ends.second,
+        input_sides: sides.first,
+        output_sides: sides.second,
     })
 }
 

@@ -44,47 +44,31 @@ pub fn packet_at(alloc: Global, text: &str) -> Result<Packet, Fail> {
     packet_with(alloc, at, number)
 }
 
-/// The timestamp and the number of a packet, as `packet_of` reads them. The number of a payload that is none is the least one.
-pub fn show_packet(alloc: Global, packet: &Packet) -> Result<String, Fail> {
-    let at = text_of(alloc, packet.at)?;
-    Ok(format!(in alloc; "{} {}", at.as_str(), number_of(packet))?)
-}
-
-/// The number and the timestamp of a packet, as `packet_at` reads them.
+/// The number and the timestamp of a packet, as `packet_at` reads them. The number of a payload that is none is the least one.
 pub fn show_packet_at(alloc: Global, packet: &Packet) -> Result<String, Fail> {
     let at = text_of(alloc, packet.at)?;
     Ok(format!(in alloc; "{}@{}", number_of(packet), at.as_str())?)
 }
 
-// What stands at a port: a packet's number, alone or with its timestamp, or `-`.
-fn show_place(alloc: Global, place: Option<&Packet>, timed: bool) -> Result<String, Fail> {
+// The packet that stands at a port, or `-`.
+fn show_place(alloc: Global, place: Option<&Packet>) -> Result<String, Fail> {
     match place {
         None => Ok(String::from_str(alloc, "-")?),
-        Some(packet) if timed => show_packet_at(alloc, packet),
-        Some(packet) => Ok(format!(in alloc; "{}", number_of(packet))?),
+        Some(packet) => show_packet_at(alloc, packet),
     }
-}
-
-fn show_places(alloc: Global, set: &InputSet, timed: bool) -> Result<String, Fail> {
-    let mut shown = String::new(alloc);
-    for port in 0..set.len() {
-        if port > 0 {
-            shown.push_str(" ")?;
-        }
-        shown.push_str(show_place(alloc, set.get(port), timed)?.as_str())?;
-    }
-    Ok(shown)
-}
-
-/// The numbers at the ports of a set, with blanks between them. A port without a packet shows as `-`.
-pub fn show_set(alloc: Global, set: &InputSet) -> Result<String, Fail> {
-    show_places(alloc, set, false)
 }
 
 /// The packets at the ports of a set, as `show_packet_at` writes them, with blanks between them. A port without a packet shows
 /// as `-`.
 pub fn show_set_at(alloc: Global, set: &InputSet) -> Result<String, Fail> {
-    show_places(alloc, set, true)
+    let mut shown = String::new(alloc);
+    for port in 0..set.len() {
+        if port > 0 {
+            shown.push_str(" ")?;
+        }
+        shown.push_str(show_place(alloc, set.get(port))?.as_str())?;
+    }
+    Ok(shown)
 }
 
 fn number_of(packet: &Packet) -> i64 {

@@ -1,9 +1,0 @@
-use Rattle.std.proofs.Common.{refl}
-use Rattle.mg_cell_calls.specs.Cell.{job_of}
-use Rattle.mg_cell_calls.proofs.Making.{solved}
-use Rattle.mg_cell_calls.proofs.cell.intake_of.Goals as goal
-
-pub returns-clause-lawful : goal.returns-clause-lawful
-returns-clause-lawful c =
-    let s = solved c.args.plan.now c.args.inputs.now c.requires.job in
-    c.in_ok-new.ensures.lawful (job_of c.args.plan.now c.args.inputs.now) s.0 refl s.1

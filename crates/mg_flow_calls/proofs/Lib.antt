@@ -1,2 +1,0 @@
-pub mod QueueCounts
-pub mod LeftOfMain

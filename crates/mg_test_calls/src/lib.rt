@@ -1,0 +1,15 @@
+//! The tests of single calls of what a graph is read and written with, a module for each crate that is tried: vectors from outside,
+//! texts that are printed, and real files. What a row of mg_rows runs has no test here. There is nothing else here, so that no other
+//! crate is proved a second time with its tests.
+#![tactic(auto)]
+
+#[cfg(test)]
+mod edge;
+#[cfg(test)]
+mod names;
+#[cfg(test)]
+mod payload;
+#[cfg(test)]
+mod text;
+#[cfg(test)]
+mod time;

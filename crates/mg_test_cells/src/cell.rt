@@ -1,0 +1,144 @@
+//! The cell of a plan's first node, and how it is made.
+ghost use Rattle.std.specs.Prelude.{◌≡◌, ◌<◌, ◌≤◌, length, slice_get, Some, None, IfOk, OnOk, [], true};
+ghost use Rattle.mg_calc.specs.Shape.{IsOuter, ParametersFit, IsShapeOf};
+ghost use Rattle.mg_calc.specs.Plan.{IsValid, InputsFit};
+ghost use Rattle.mg_calc.specs.Equations.{IsJob};
+ghost use Rattle.mg_calc.specs.declared.plan_node.PlanNode.{PlanNode};
+ghost use Rattle.mg_node.specs.Fresh.{fresh_engine};
+ghost use Rattle.mg_node.specs.Lawful.{LawfulEngine, LawfulIntake, of_node};
+ghost use Rattle.mg_test_cells.specs.Cell.{IsCell, KeepsAll, job_of, held_of};
+
+use mg_calc::{GivenList, Inputs, Law, OuterShape, Plan, PlanNode, TryClone};
+use mg_node::{Engine, Intake};
+use mg_plans::do_fit;
+use mg_route::{Builtin, Holder, LawBox};
+use std::alloc::Global;
+use std::test::Fail;
+
+/// The first node of a plan: what waits there, and what works there; and the intake of the collector, which reads its outputs.
+#[derive(Drop)]
+pub(crate) struct Cell {
+    pub(crate) plan: Plan,
+    pub(crate) inputs: Inputs,
+    pub(crate) engine: Engine<LawBox>,
+    pub(crate) intake: Intake,
+    pub(crate) sink: Intake,
+}
+
+// Whether a calculator of a law may be handed in.
+fn is_outer(law: &Law) -> bool
+    ensures { result ≡ true → IsOuter law.now }
+{
+    match law {
+        Law::Count { .. } => false,
+        Law::SideOnce { .. } => false,
+        Law::Constants => false,
+        Law::Loopback => false,
+        _ => true,
+    }
+}
+
+// A box of the law of a node.
+fn box_of(alloc: Global, node: &PlanNode) -> Result<LawBox, Fail>
+    requires ranges { ParametersFit node.now.law }
+    requires of_law { IsShapeOf node.now.law node.now.shape }
+    ensures { IfOk result (λ b. b ≡ record { law = node.now.law; shape = node.now.shape; state = []; log = None }) }
+{
+    if !is_outer(&node.law) {
+        return Err(Fail::from("no calculator that is handed in has this law"));
+    }
+    let outer = OuterShape {
+        shape: node.shape.try_clone(alloc)?,
+        law: node.law.try_clone(alloc)?,
+    };
+    Ok(LawBox::new(alloc, outer, false)?)
+}
+
+// A calculator of a node: a box where one is handed in, which tells no log.
+fn calculator_of(alloc: Global, node: &PlanNode) -> Result<Holder<LawBox>, Fail>
+    requires ranges { ParametersFit node.now.law }
+    requires of_law { IsShapeOf node.now.law node.now.shape }
+    ensures { IfOk result (λ h. h ≡ held_of node.now) }
+{
+    if node.box_number.is_some() {
+        return Ok(Holder::outer(box_of(alloc, node)?));
+    }
+    Ok(Holder::own(Builtin::new(alloc, &node.law, &node.shape)?))
+}
+
+// A calculator of a plan's first node.
+fn holder_of(alloc: Global, plan: &Plan) -> Result<Holder<LawBox>, Fail>
+    requires { IsValid plan.now }
+    ensures told { IfOk result (λ h. (node : PlanNode) → slice_get plan.now.nodes 0 ≡ Some node → h ≡ held_of node) }
+    ensures there { OnOk result (0 < length plan.now.nodes) }
+{
+    let node = plan.nodes.get(0).ok_or("no node")?;
+    calculator_of(alloc, node)
+}
+
+// The engine of a plan's first node, which isn't begun. The node has no side packets.
+fn unbegun(alloc: Global, plan: &Plan) -> Result<Engine<LawBox>, Fail>
+    requires { IsValid plan.now }
+    ensures fresh { IfOk result (λ e. (node : PlanNode) → slice_get plan.now.nodes 0 ≡ Some node → (node.sides ≡ []) × (e ≡ fresh_engine node 0 (held_of node))) }
+    ensures there { OnOk result (0 < length plan.now.nodes) }
+{
+    let holder = holder_of(alloc, plan)?;
+    let node = plan.nodes.get(0).ok_or("no node")?;
+    if !node.sides.is_empty() {
+        return Err(Fail::from("a node with side packets"));
+    }
+    match Engine::new(alloc, plan, 0, holder) {
+        Ok(engine) => Ok(engine),
+        Err(_) => Err(Fail::from("no memory")),
+    }
+}
+
+// No side packets.
+fn no_sides(alloc: Global) -> Result<GivenList, Fail>
+    ensures { IfOk result (λ sides. sides ≡ []) }
+{
+    Ok(GivenList::from_vec(Vec::new(alloc))?)
+}
+
+// The engine of a plan's first node, which is begun.
+fn engine_of(alloc: Global, plan: &Plan, inputs: &Inputs) -> Result<Engine<LawBox>, Fail>
+    requires { IsJob (record { plan = plan.now; inputs = inputs.now }) }
+    ensures lawful { IfOk result (λ e. LawfulEngine (job_of plan.now inputs.now) (of_node 0) e) }
+    ensures none { IfOk result (λ e. e.claimed ≡ 0) }
+    ensures keeps { IfOk result (λ e. KeepsAll e) }
+{
+    let mut engine = unbegun(alloc, plan)?;
+    let sides = no_sides(alloc)?;
+    engine.begin(&sides)?;
+    Ok(engine)
+}
+
+// The intake of a consumer, to which nothing came.
+fn intake_of(alloc: Global, plan: &Plan, inputs: &Inputs, consumer: u32) -> Result<Intake, Fail>
+    requires job { IsJob (record { plan = plan.now; inputs = inputs.now }) }
+    requires consumer { consumer ≤ length plan.now.nodes }
+    ensures lawful { IfOk result (λ i. LawfulIntake (job_of plan.now inputs.now) consumer i) }
+    ensures none { IfOk result (λ i. i.claimed ≡ 0) }
+{
+    Ok(Intake::new(alloc, plan, consumer)?)
+}
+
+/// The cell of a plan's first node, which is begun, and to which nothing came.
+pub(crate) fn cell_of(alloc: Global, plan: Plan, inputs: Inputs) -> Result<Cell, Fail>
+    requires { IsValid plan }
+    ensures { IfOk result (λ c. IsCell c.plan c.inputs c.engine c.intake c.sink) }
+{
+    if !do_fit(&plan, &inputs) {
+        return Err(Fail::from("inputs don't fit"));
+    }
+    let engine = engine_of(alloc, &plan, &inputs)?;
+    let intake = intake_of(alloc, &plan, &inputs, 0)?;
+    let sink = intake_of(alloc, &plan, &inputs, plan.nodes.len())?;
+    Ok(Cell {
+        plan,
+        inputs,
+        engine,
+        intake,
+        sink,
+    })
+}

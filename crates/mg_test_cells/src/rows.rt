@@ -1,0 +1,118 @@
+//! Tables of cells: a row is a call, and after `=` what it has to answer.
+//!
+//! - `deliver PORT MOST` brings packets of a graph input to a port, and `out PORT MOST` packets of the outputs to a port of the
+//!   collector: how many came, and whether the bound behind them rose.
+//! - `work` claims a work and performs it; `leave` claims one and commits it as unrun; `shelve` claims one and puts it back as it is:
+//!   its number and its phase, or why there is none.
+//! - `commit NUMBER` commits what was performed: how many sets or calls were laid.
+//! - `advance` raises the outputs: whether one moved.
+//! - `take` takes a set of the collector: each packet as its number, `@` and its timestamp.
+//! - `laid` tells how many sets or calls were laid; `output NUMBER` how many packets an output has, and its bound; `held` how many wait at
+//!   all ports and all outputs; `fault` the node's fault.
+ghost use Rattle.std.specs.Prelude.{OnOk};
+ghost use Rattle.mg_test_cells.specs.Cell.{IsCell};
+
+use crate::cell::Cell;
+use crate::shown::{show_delivered, show_fault};
+use crate::sink::take_out;
+use crate::streams::{deliver, deliver_out};
+use crate::works::{advance, commit, commit_unrun, shelve_unrun, work};
+use mg_tables::{show_set_at, text_of};
+use std::alloc::Global;
+use std::process::Abort;
+use std::test::Fail;
+
+// How many packets an output has, and its bound.
+fn show_output(alloc: Global, cell: &Cell, output: u32) -> Result<String, Fail> {
+    if output >= cell.engine.outputs() {
+        return Err(Fail::from("no such output"));
+    }
+    let bound = text_of(alloc, cell.engine.bound(output))?;
+    let count = cell.engine.count(output);
+    Ok(format!(in alloc; "{count} {}", bound.as_str())?)
+}
+
+// What a call that asks answers.
+fn asked(alloc: Global, cell: &Cell, name: &str, words: &str) -> Result<String, Fail> {
+    match name {
+        "laid" => Ok(format!(in alloc; "{}", cell.engine.laid())?),
+        "fault" => show_fault(alloc, cell.engine.fault()),
+        "output" => show_output(alloc, cell, words.parse::<u32>()?),
+        "held" => Ok(format!(in alloc; "{} {}", cell.intake.held(), cell.engine.held())?),
+        _ => Err(Fail::from("no such call")),
+    }
+}
+
+// What is delivered.
+fn delivered(alloc: Global, cell: &mut Cell, out: bool, words: &str) -> Result<String, Fail>
+    requires { IsCell cell.old.plan cell.old.inputs cell.old.engine cell.old.intake cell.old.sink }
+    ensures { OnOk result (IsCell cell.new.plan cell.new.inputs cell.new.engine cell.new.intake cell.new.sink) }
+{
+    let (port, most) = words.split_once(' ').ok_or("no number of packets")?;
+    let port = port.parse::<u32>()?;
+    let most = most.parse::<u32>()?;
+    let delivered = if out {
+        deliver_out(cell, port, most)?
+    } else {
+        deliver(alloc, cell, port, most)?
+    };
+    show_delivered(alloc, delivered)
+}
+
+// What a commit lays.
+fn committed(alloc: Global, cell: &mut Cell, words: &str) -> Result<String, Fail>
+    requires { IsCell cell.old.plan cell.old.inputs cell.old.engine cell.old.intake cell.old.sink }
+    ensures { OnOk result (IsCell cell.new.plan cell.new.inputs cell.new.engine cell.new.intake cell.new.sink) }
+{
+    match commit(cell, words.parse::<u64>()?)? {
+        Some(laid) => Ok(format!(in alloc; "{laid}")?),
+        None => Ok(String::from_str(alloc, "no such work")?),
+    }
+}
+
+// What the collector's next set is.
+fn taken(alloc: Global, cell: &mut Cell) -> Result<String, Fail>
+    requires { IsCell cell.old.plan cell.old.inputs cell.old.engine cell.old.intake cell.old.sink }
+    ensures { OnOk result (IsCell cell.new.plan cell.new.inputs cell.new.engine cell.new.intake cell.new.sink) }
+{
+    match take_out(alloc, cell)? {
+        Some(set) => show_set_at(alloc, &set),
+        None => Ok(String::from_str(alloc, "nothing")?),
+    }
+}
+
+// What a row's call answers.
+fn answer(alloc: Global, cell: &mut Cell, call: &str) -> Result<String, Fail>
+    requires { IsCell cell.old.plan cell.old.inputs cell.old.engine cell.old.intake cell.old.sink }
+    ensures { OnOk result (IsCell cell.new.plan cell.new.inputs cell.new.engine cell.new.intake cell.new.sink) }
+{
+    let (name, words) = call.split_once(' ').unwrap_or((call, ""));
+    match name {
+        "deliver" => delivered(alloc, cell, false, words),
+        "out" => delivered(alloc, cell, true, words),
+        "work" => work(alloc, cell),
+        "leave" => commit_unrun(alloc, cell),
+        "shelve" => shelve_unrun(alloc, cell),
+        "commit" => committed(alloc, cell, words),
+        "take" => taken(alloc, cell),
+        "advance" => Ok(format!(in alloc; "{}", advance(cell))?),
+        _ => asked(alloc, cell, name, words),
+    }
+}
+
+/// Makes the call of each row, and compares what it answers with what the row wants.
+pub(crate) fn assert_rows(
+    rt: &impl Abort,
+    alloc: Global,
+    cell: &mut Cell,
+    rows: &str,
+) -> Result<(), Fail>
+    requires { IsCell cell.old.plan cell.old.inputs cell.old.engine cell.old.intake cell.old.sink }
+{
+    for row in rows.split('\n') {
+        let (call, wanted) = row.split_once('=').ok_or("no `=`")?;
+        let answer = answer(alloc, cell, call)?;
+        assert!(rt; answer.as_str() == wanted, "{row}: {answer}");
+    }
+    Ok(())
+}

@@ -1,0 +1,62 @@
+//! Calculators whose emissions are written down.
+ghost use Rattle.std.specs.Prelude.{◌≡◌, length, IfOk};
+ghost use Rattle.mg_calc.specs.Shape.{BoundsAreTimes};
+ghost use Rattle.mg_check.specs.Check.{IsOuterShape};
+
+use mg_calc::{Emission, Laid, Law, OuterShape, one_output};
+use mg_plans::{port, shape_of};
+use mg_tables::packet_at;
+use mg_value::{BlockList, Kind, PacketList};
+use std::alloc::Global;
+use std::test::Fail;
+
+// Packets as numbers, `@` and timestamps, with blanks between them, or `-`.
+fn packets_of(alloc: Global, text: &str) -> Result<PacketList, Fail> {
+    let mut packets = Vec::new(alloc);
+    if text != "-" {
+        for packet in text.split(' ') {
+            packets.push(packet_at(alloc, packet)?)?;
+        }
+    }
+    Ok(BlockList::from_vec(packets)?)
+}
+
+// An emission at one output.
+fn emission_of(alloc: Global, text: &str) -> Result<Emission, Fail>
+    ensures one { IfOk result (λ e. length e ≡ 1) }
+    ensures times { IfOk result (λ e. BoundsAreTimes e) }
+{
+    let packets = packets_of(alloc, text)?;
+    Ok(one_output(
+        alloc,
+        Laid {
+            packets,
+            bound: None,
+        },
+    )?)
+}
+
+/// One that emits at its one output what is written down: in Open, at its first set, and in Close.
+pub(crate) fn scripted(
+    alloc: Global,
+    offset: Option<i64>,
+    first: &str,
+    step: &str,
+    last: &str,
+) -> Result<OuterShape, Fail>
+    ensures { IfOk result IsOuterShape }
+{
+    let inputs = port(alloc, Kind::Any)?;
+    let shape = shape_of(alloc, "Scripted", inputs, Kind::Any, offset, false)?;
+    let first = emission_of(alloc, first)?;
+    let step = emission_of(alloc, step)?;
+    let last = emission_of(alloc, last)?;
+    let steps = BlockList::from_vec(vec![in alloc; step]?)?;
+    let law = Law::Scripted {
+        offset,
+        first,
+        steps,
+        last,
+    };
+    Ok(OuterShape { shape, law })
+}

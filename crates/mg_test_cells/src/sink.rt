@@ -1,0 +1,20 @@
+//! What comes out of a cell: the sets of the collector.
+ghost use Rattle.std.specs.Prelude.{OnOk};
+ghost use Rattle.mg_test_cells.specs.Cell.{IsCell};
+
+use crate::cell::Cell;
+use mg_value::InputSet;
+use std::alloc::Global;
+use std::test::Fail;
+
+/// The next set of the collector, if there is one.
+pub(crate) fn take_out(alloc: Global, cell: &mut Cell) -> Result<Option<InputSet>, Fail>
+    requires { IsCell cell.old.plan cell.old.inputs cell.old.engine cell.old.intake cell.old.sink }
+    ensures { OnOk result (IsCell cell.new.plan cell.new.inputs cell.new.engine cell.new.intake cell.new.sink) }
+{
+    let mut set = InputSet::new(alloc, cell.sink.ports())?;
+    if cell.sink.claim(&mut set) {
+        return Ok(Some(set));
+    }
+    Ok(None)
+}

@@ -1,0 +1,166 @@
+//! Works of a cell. What is claimed is performed and stands in the window until it is committed, or goes back unrun.
+ghost use Rattle.std.specs.Prelude.{IfOk, IfSome, OnOk};
+ghost use Rattle.mg_node.specs.Views.{EngineView};
+ghost use Rattle.mg_node.specs.Job.{LoggedJob};
+ghost use Rattle.mg_node.specs.Lawful.{LawfulWork, LawfulOutcome};
+ghost use Rattle.mg_node.specs.Running.{SomeJobHas};
+ghost use Rattle.mg_node.specs.Shelves.{IsOut};
+ghost use Rattle.mg_test_cells.specs.Cell.{IsCell, job_of};
+
+use crate::cell::Cell;
+use crate::shown::{show_idle, show_work};
+use mg_edge::StillGate;
+use mg_node::{Claimed, Outcome, Work, perform};
+use mg_route::LawBox;
+use std::alloc::Global;
+use std::test::Fail;
+
+/// Why a claim gave no work.
+#[derive(Clone, Copy, Debug, PartialEq, Eq)]
+pub(crate) enum Idle {
+    Answered,
+    NotReady,
+    InFlightFull,
+    Draining,
+    Ended,
+    OutOfMemory,
+}
+
+// Claims the next work, or tells why there is none.
+fn claim_work(cell: &mut Cell) -> Result<Work<LawBox>, Idle>
+    requires { IsCell cell.old.plan cell.old.inputs cell.old.engine cell.old.intake cell.old.sink }
+    ensures cell { IsCell cell.new.plan cell.new.inputs cell.new.engine cell.new.intake cell.new.sink }
+    ensures lawful { IfOk result (λ w. LawfulWork (job_of cell.new.plan cell.new.inputs) w) }
+    ensures out { IfOk result (λ w. IsOut cell.new.engine w) }
+{
+    match cell.engine.claim(&mut cell.intake) {
+        Claimed::Work(work) => Ok(work),
+        Claimed::Answered => Err(Idle::Answered),
+        Claimed::NotReady => Err(Idle::NotReady),
+        Claimed::InFlightFull => Err(Idle::InFlightFull),
+        Claimed::Draining => Err(Idle::Draining),
+        Claimed::Ended => Err(Idle::Ended),
+        Claimed::OutOfMemory => Err(Idle::OutOfMemory),
+    }
+}
+
+// Performs a work.
+fn performed(alloc: Global, work: Work<LawBox>) -> Result<Outcome<LawBox>, Fail>
+    requires { SomeJobHas work }
+    ensures lawful { IfOk result (λ o. (job : LoggedJob) → LawfulWork job work → LawfulOutcome job o) }
+    ensures out { IfOk result (λ o. (engine : EngineView) → IsOut engine work → IsOut engine o.work) }
+{
+    let Ok(performed) = perform(alloc, work, &StillGate) else {
+        return Err(Fail::from("no memory"));
+    };
+    Ok(Outcome::ran(performed))
+}
+
+// Puts a work that is out back into its window, not committed.
+fn put_back(cell: &mut Cell, outcome: Outcome<LawBox>)
+    requires cell { IsCell cell.old.plan cell.old.inputs cell.old.engine cell.old.intake cell.old.sink }
+    requires out { IsOut cell.old.engine outcome.work }
+    requires lawful { LawfulOutcome (job_of cell.old.plan cell.old.inputs) outcome }
+    ensures { IsCell cell.new.plan cell.new.inputs cell.new.engine cell.new.intake cell.new.sink }
+{
+    cell.engine.shelve(outcome);
+}
+
+// Commits a work that is out, and tells how many sets or calls were laid.
+fn commit_outcome(cell: &mut Cell, outcome: Outcome<LawBox>) -> Result<u32, Fail>
+    requires cell { IsCell cell.old.plan cell.old.inputs cell.old.engine cell.old.intake cell.old.sink }
+    requires out { IsOut cell.old.engine outcome.work }
+    requires lawful { LawfulOutcome (job_of cell.old.plan cell.old.inputs) outcome }
+    ensures { OnOk result (IsCell cell.new.plan cell.new.inputs cell.new.engine cell.new.intake cell.new.sink) }
+{
+    let Ok(laid) = cell.engine.commit(outcome) else {
+        return Err(Fail::from("no memory"));
+    };
+    Ok(laid)
+}
+
+// A work that wasn't run.
+fn unrun(work: Work<LawBox>) -> Outcome<LawBox>
+    ensures lawful { (job : LoggedJob) → LawfulWork job work → LawfulOutcome job result }
+    ensures out { (engine : EngineView) → IsOut engine work → IsOut engine result.work }
+{
+    Outcome::unrun(work)
+}
+
+/// Claims the next work, performs it, and puts it back into its window, not committed.
+pub(crate) fn work(alloc: Global, cell: &mut Cell) -> Result<String, Fail>
+    requires { IsCell cell.old.plan cell.old.inputs cell.old.engine cell.old.intake cell.old.sink }
+    ensures { OnOk result (IsCell cell.new.plan cell.new.inputs cell.new.engine cell.new.intake cell.new.sink) }
+{
+    let work = match claim_work(cell) {
+        Ok(work) => work,
+        Err(idle) => return show_idle(alloc, idle),
+    };
+    let shown = show_work(alloc, work.number(), work.phase())?;
+    let outcome = performed(alloc, work)?;
+    put_back(cell, outcome);
+    Ok(shown)
+}
+
+/// Claims the next work, and puts it back into its window, unrun.
+pub(crate) fn shelve_unrun(alloc: Global, cell: &mut Cell) -> Result<String, Fail>
+    requires { IsCell cell.old.plan cell.old.inputs cell.old.engine cell.old.intake cell.old.sink }
+    ensures { OnOk result (IsCell cell.new.plan cell.new.inputs cell.new.engine cell.new.intake cell.new.sink) }
+{
+    let work = match claim_work(cell) {
+        Ok(work) => work,
+        Err(idle) => return show_idle(alloc, idle),
+    };
+    let shown = show_work(alloc, work.number(), work.phase())?;
+    put_back(cell, unrun(work));
+    Ok(shown)
+}
+
+/// Claims the next work, and commits it as unrun, by which nothing is laid.
+pub(crate) fn commit_unrun(alloc: Global, cell: &mut Cell) -> Result<String, Fail>
+    requires { IsCell cell.old.plan cell.old.inputs cell.old.engine cell.old.intake cell.old.sink }
+    ensures { OnOk result (IsCell cell.new.plan cell.new.inputs cell.new.engine cell.new.intake cell.new.sink) }
+{
+    let work = match claim_work(cell) {
+        Ok(work) => work,
+        Err(idle) => return show_idle(alloc, idle),
+    };
+    let shown = show_work(alloc, work.number(), work.phase())?;
+    if commit_outcome(cell, unrun(work))? != 0 {
+        return Err(Fail::from("something was laid"));
+    }
+    Ok(shown)
+}
+
+// Takes what was performed, and isn't committed, out of its window.
+fn taken(cell: &mut Cell, number: u64) -> Option<Outcome<LawBox>>
+    requires { IsCell cell.old.plan cell.old.inputs cell.old.engine cell.old.intake cell.old.sink }
+    ensures cell { IsCell cell.new.plan cell.new.inputs cell.new.engine cell.new.intake cell.new.sink }
+    ensures lawful { IfSome result (λ o. LawfulOutcome (job_of cell.new.plan cell.new.inputs) o) }
+    ensures out { IfSome result (λ o. IsOut cell.new.engine o.work) }
+{
+    match cell.engine.unshelve(number) {
+        Some(performed) => Some(Outcome::ran(performed)),
+        None => None,
+    }
+}
+
+/// Commits the work of a number, which was performed, and tells how many sets or calls were laid. None where there is no such work.
+pub(crate) fn commit(cell: &mut Cell, number: u64) -> Result<Option<u32>, Fail>
+    requires { IsCell cell.old.plan cell.old.inputs cell.old.engine cell.old.intake cell.old.sink }
+    ensures { OnOk result (IsCell cell.new.plan cell.new.inputs cell.new.engine cell.new.intake cell.new.sink) }
+{
+    let Some(outcome) = taken(cell, number) else {
+        return Ok(None);
+    };
+    let laid = commit_outcome(cell, outcome)?;
+    Ok(Some(laid))
+}
+
+/// Raises the outputs by what waits.
+pub(crate) fn advance(cell: &mut Cell) -> bool
+    requires { IsCell cell.old.plan cell.old.inputs cell.old.engine cell.old.intake cell.old.sink }
+    ensures { IsCell cell.new.plan cell.new.inputs cell.new.engine cell.new.intake cell.new.sink }
+{
+    cell.engine.advance(&cell.intake)
+}

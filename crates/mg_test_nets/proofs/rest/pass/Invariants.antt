@@ -1,0 +1,5 @@
+use Rattle.mg_test_nets.specs.Driven.{IsDriven}
+use Rattle.mg_test_nets.proofs.rest.pass.Given as goal
+
+abbrev pub invariant-loop-number : goal.invariant-loop-number
+invariant-loop-number l = IsDriven l.driver.plan l.driver.inputs l.driver.net

@@ -1,0 +1,37 @@
+//! The tests of nets: the cells of a whole graph, joined by its edges, driven at random to rest, by sweeps, and line by line as
+//! its input comes.
+//! There is nothing else here, so that no other crate is proved a second time with its tests.
+#![tactic(auto)]
+
+#[cfg(test)]
+mod boxes;
+#[cfg(test)]
+mod cases;
+#[cfg(test)]
+mod chance;
+#[cfg(test)]
+mod driver;
+#[cfg(test)]
+mod ending;
+#[cfg(test)]
+mod events;
+#[cfg(test)]
+mod graphs;
+#[cfg(test)]
+mod lines;
+#[cfg(test)]
+mod orders;
+#[cfg(test)]
+mod pieces;
+#[cfg(test)]
+mod plans;
+#[cfg(test)]
+mod rest;
+#[cfg(test)]
+mod seeds;
+#[cfg(test)]
+mod shown;
+#[cfg(test)]
+mod solutions;
+#[cfg(test)]
+mod sweeps;

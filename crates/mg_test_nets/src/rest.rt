@@ -1,0 +1,86 @@
+//! Nets that are driven until nothing is left to do.
+ghost use Rattle.mg_test_nets.specs.Driven.{IsDriven};
+
+use crate::driver::{Driver, act, held, take_out, trim};
+use crate::ending::told;
+use crate::events::{event_at, event_count};
+use mg_calc::Effect;
+use mg_tables::show_set_at;
+use std::alloc::Global;
+use std::test::Fail;
+
+/// Makes the step of a number, and tells whether it did something.
+pub(crate) fn step(driver: &mut Driver, number: u32) -> Result<bool, Fail>
+    requires { IsDriven driver.old.plan driver.old.inputs driver.old.net }
+    ensures { IsDriven driver.new.plan driver.new.inputs driver.new.net }
+{
+    let event = event_at(&driver.plan, number);
+    match act(driver, event)? {
+        Effect::Did => Ok(true),
+        Effect::Idle => Ok(false),
+        Effect::OutOfMemory => Err(Fail::from("no memory")),
+    }
+}
+
+// Makes each step once, and tells whether one did something.
+fn pass(driver: &mut Driver, count: u32) -> Result<bool, Fail>
+    requires { IsDriven driver.old.plan driver.old.inputs driver.old.net }
+    ensures { IsDriven driver.new.plan driver.new.inputs driver.new.net }
+{
+    let mut did = false;
+    for number in 0..count {
+        did |= step(driver, number)?;
+    }
+    Ok(did)
+}
+
+/// Makes steps until none does anything.
+pub(crate) fn settle(driver: &mut Driver) -> Result<(), Fail>
+    requires { IsDriven driver.old.plan driver.old.inputs driver.old.net }
+    ensures { IsDriven driver.new.plan driver.new.inputs driver.new.net }
+{
+    let count = event_count(&driver.plan);
+    for _ in 0..1000u32 {
+        if !pass(driver, count)? {
+            return Ok(());
+        }
+    }
+    Err(Fail::from("there is always something to do"))
+}
+
+/// Makes each step once, and tells whether none did anything.
+pub(crate) fn is_at_rest(driver: &mut Driver) -> Result<bool, Fail>
+    requires { IsDriven driver.old.plan driver.old.inputs driver.old.net }
+    ensures { IsDriven driver.new.plan driver.new.inputs driver.new.net }
+{
+    let count = event_count(&driver.plan);
+    let did = pass(driver, count)?;
+    Ok(!did)
+}
+
+/// All sets of the outputs that are there, a blank behind each.
+pub(crate) fn all_taken(alloc: Global, driver: &mut Driver) -> Result<String, Fail>
+    requires { IsDriven driver.old.plan driver.old.inputs driver.old.net }
+    ensures { IsDriven driver.new.plan driver.new.inputs driver.new.net }
+{
+    let mut shown = String::new(alloc);
+    for _ in 0..1000u32 {
+        let Some(set) = take_out(alloc, driver)? else {
+            return Ok(shown);
+        };
+        write!(shown, "{} ", show_set_at(alloc, &set)?)?;
+    }
+    Err(Fail::from("there is always a set"))
+}
+
+/// What comes out of a net at rest; and then, once all that can be is given up, how many packets are in it, and how far it has come.
+pub(crate) fn come_out(alloc: Global, driver: &mut Driver) -> Result<String, Fail>
+    requires { IsDriven driver.old.plan driver.old.inputs driver.old.net }
+    ensures { IsDriven driver.new.plan driver.new.inputs driver.new.net }
+{
+    let sets = all_taken(alloc, driver)?;
+    trim(driver);
+    let told = told(alloc, driver)?;
+    let held = held(driver);
+    Ok(format!(in alloc; "{}| {held} | {}", sets.as_str(), told.as_str())?)
+}

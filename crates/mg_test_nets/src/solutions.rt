@@ -1,0 +1,69 @@
+//! What the plain program computes of a graph, as a net at rest shows it.
+ghost use Rattle.mg_calc.specs.Plan.{IsValid};
+
+use crate::plans::plan_of;
+use crate::shown::{show_packets, show_report};
+use mg_calc::Plan;
+use mg_equations::{Streams, solve};
+use mg_plans::{do_fit, inputs_of};
+use mg_sched::{Report, StreamEnd, StreamEndList};
+use mg_value::{BlockList, PrefixList};
+use std::alloc::Global;
+use std::test::Fail;
+
+// The solution over packet lines.
+fn solution_of(alloc: Global, plan: &Plan, lines: &str) -> Result<Streams, Fail>
+    requires { IsValid plan.now }
+{
+    let inputs = inputs_of(alloc, plan, lines, true)?;
+    if !do_fit(plan, &inputs) {
+        return Err(Fail::from("inputs don't fit"));
+    }
+    Ok(solve(alloc, plan, &inputs)?)
+}
+
+// How far streams have come.
+fn ends_of(alloc: Global, prefixes: &PrefixList) -> Result<StreamEndList, Fail> {
+    let mut ends = Vec::new(alloc);
+    for prefix in prefixes.as_slice() {
+        ends.push(StreamEnd {
+            packets: u64::from(prefix.packets.len()),
+            bound: prefix.bound,
+        })?;
+    }
+    Ok(BlockList::from_vec(ends)?)
+}
+
+// The packets of the graph's first output, a blank behind each.
+fn show_output(alloc: Global, plan: &Plan, prefixes: &PrefixList) -> Result<String, Fail> {
+    let stream = plan.outputs.as_slice().first().ok_or("no output")?;
+    let prefix = prefixes
+        .as_slice()
+        .get(*stream as usize)
+        .ok_or("no such stream")?;
+    show_packets(alloc, prefix.packets.as_slice())
+}
+
+// What a net tells that has come to the solution.
+fn show_solution(alloc: Global, streams: Streams) -> Result<String, Fail> {
+    let Streams {
+        prefixes,
+        sets,
+        faults,
+    } = streams;
+    let report = Report {
+        sets,
+        streams: ends_of(alloc, &prefixes)?,
+        faults,
+    };
+    show_report(alloc, &report)
+}
+
+/// What comes out of a graph with one output, of which no packet waits in vain.
+pub(crate) fn solved(alloc: Global, graph: &str, lines: &str) -> Result<String, Fail> {
+    let plan = plan_of(alloc, graph)?;
+    let streams = solution_of(alloc, &plan, lines)?;
+    let sets = show_output(alloc, &plan, &streams.prefixes)?;
+    let told = show_solution(alloc, streams)?;
+    Ok(format!(in alloc; "{}| 0 | {}", sets.as_str(), told.as_str())?)
+}
