@@ -1,21 +1,23 @@
 -- All bounds that a law emits are times.
-use Rattle.std.proofs.Common.{◌≡◌, ◌==◌, ℕ, ℤ, ◌+◌, ◌+ℤ◌, ◌*ℤ◌, All, pos, ◌≤◌, Bool, true, false, nat_le, List, [], ◌∷◌, map, take, Option, Some, None, is_some, Ok, Err, IfSome, option_map, unwrap_or, slice_get, refl, subst, arith, if◌then◌else◌}
+use Rattle.std.proofs.Common.{◌≡◌, ◌==◌, ℕ, ℤ, ◌+◌, ◌+ℤ◌, ◌*ℤ◌, All, pos, ◌≤◌, Bool, true, false, nat_le, List, [], ◌∷◌, map, take, Option, Some, None, is_some, Ok, Err, IfSome, option_map, unwrap_or, slice_get, length, ◌^◌, ◌-◌, Result, refl, subst, arith, if◌then◌else◌}
 use Rattle.std.specs.List.{list_any}
 use Rattle.std.proofs.lemmas.Bool.Decides.{nat_tests}
 use Rattle.std.proofs.lemmas.List.Elements.{recursion_from_All}
 use Rattle.mg_time.specs.Time.{done, pre_stream, next, raw_of, one_over_post_stream, place_of}
-use Rattle.mg_value.specs.Plain.{Plain, int, flag, text, items, entries}
+use Rattle.mg_value.specs.Plain.{Plain, int, flag, text, items, entries, items_of}
 use Rattle.mg_value.specs.Prefix.{Stamped}
 use Rattle.mg_value.specs.Settled.{selected}
 use Rattle.mg_calc.specs.declared.emission.Laid.{Laid}
 use Rattle.mg_calc.specs.declared.law.Law.{Law}
-use Rattle.mg_calc.specs.declared.law.Law.TheVariants.{Pass, Gate, Mux, Cloner, Merge, Thin, Sum, Map, Filter, Running, Shift, Count, SideOnce, Constants, Loopback, Tally, Scripted}
+use Rattle.mg_calc.specs.declared.law.Law.TheVariants.{Pass, Gate, Mux, Cloner, Merge, Thin, Sum, Map, Filter, Running, Shift, Count, SideOnce, Constants, Loopback, Tally, Scripted, BeginLoop, EndLoop, FirstCome, Limiter}
+use Rattle.mg_calc.specs.declared.cause.Cause.{Cause}
 use Rattle.mg_calc.specs.declared.cause.Cause.TheVariants.{Overflow, WrongKind}
 use Rattle.mg_calc.specs.Answer.{Answer, laid, emission_of}
-use Rattle.mg_calc.specs.Values.{place_at, fits, number_of, total, is_in_range, time_of, moved_time}
-use Rattle.mg_calc.specs.State.{state_of, number_in, count_in, time_kept, next_valid, kept_at}
+use Rattle.mg_calc.specs.Values.{place_at, fits, number_of, total, is_in_range, time_of, moved_time, items_in, iterable_port}
+use Rattle.mg_calc.specs.State.{state_of, number_in, count_in, time_kept, next_valid, kept_at, kept_list}
 use Rattle.mg_calc.specs.Kinds.{has_wrong_kind}
 use Rattle.mg_calc.specs.Routing.{is_open, chosen, copy_at, renewed_places, first_packet, valid_after, thinned}
+use Rattle.mg_calc.specs.Batch.{inner_time, last_inner, batch, begun_batch, with_item, gathered}
 use Rattle.mg_calc.specs.Own.{emits_number, emits_at, with_packet, mapped, filtered, is_kept, scripted}
 use Rattle.mg_calc.specs.Law.{opening, rule, step, call, finish, keeps_side}
 use Rattle.mg_calc.specs.Shape.{ParametersFit, BoundsAreTimes}
@@ -127,6 +129,24 @@ step_times steps state h = by_step (slice_get steps (count_in state)) (λ emissi
     by_step None k = tt
     by_step (Some emission) k = k emission refl
 
+-- loops over lists: the inner times go up to Max
+batch_times : (clone : Bool) (c last t : ℕ) (list : List Plain) (cloned : Option (Stamped Plain)) → inner_time (last + 1) ≤ done → TimesByRecursion (batch clone c last t list cloned)
+batch_times true c last t list cloned le = (le, (le, (le, tt)))
+batch_times false c last t list cloned le = (le, (le, tt))
+
+begun_times : (clone : Bool) (c t : ℕ) (list : List Plain) (cloned : Option (Stamped Plain)) → Times (begun_batch clone c t list cloned)
+begun_times clone c t list cloned = by_test (nat_le (last_inner c (length list) + 1) (2 ^ 63 - 4)) refl
+  where
+    by_test : (b : Bool) → nat_le (last_inner c (length list) + 1) (2 ^ 63 - 4) ≡ b
+        → Times (if b then Ok (state_of (pos (last_inner c (length list) + 1)), batch clone c (last_inner c (length list)) t list cloned) else Err Overflow)
+    by_test true e = batch_times clone c (last_inner c (length list)) t list cloned (grind (arith, nat_tests, e))
+    by_test false e = tt
+
+gathered_times : (end : Option (Stamped Plain)) (list : Result (List Plain) Cause) → Times (gathered end list)
+gathered_times end (Err cause) = tt
+gathered_times None (Ok list) = tt
+gathered_times (Some end) (Ok list) = emission_times (Some (record { at = place_of (number_of end.value); value = items (items_of list) }) ∷ [])
+
 rule_times : (law : Law) (state : List Plain) (t : ℕ) (set : List (Option (Stamped Plain))) → ParametersFit law → Times (rule law state t set)
 rule_times Pass state t set fit = emission_times set
 rule_times (Gate lanes disallow empty_as_allow) state t set fit =
@@ -148,6 +168,12 @@ rule_times (Count count start apart) state t set fit = tt
 rule_times (SideOnce at) state t set fit = tt
 rule_times Constants state t set fit = tt
 rule_times Loopback state t set fit = tt
+rule_times (BeginLoop clone) state t set fit =
+    option_times (λ p. begun_batch clone (count_in state) t (items_in p.value) (place_at set 0)) (place_at set (iterable_port clone)) (Ok (state, []))
+    (λ p. begun_times clone (count_in state) t (items_in p.value) (place_at set 0)) tt
+rule_times EndLoop state t set fit = gathered_times (place_at set 0) (with_item (kept_list state) (place_at set 1))
+rule_times (FirstCome lanes) state t set fit = tt
+rule_times (Limiter most) state t set fit = tt
 
 opening_times : (law : Law) (sides : List (Option Plain)) → ParametersFit law → Times (opening law sides)
 opening_times (SideOnce at) sides fit = by_side (unwrap_or (slice_get sides 0) None)

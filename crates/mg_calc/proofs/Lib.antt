@@ -19,5 +19,7 @@ pub mod KindLemmas
 pub mod NumberLemmas
 pub mod StateForms
 pub mod StateLemmas
+pub mod StateLists
 pub mod Counting
+pub mod FreeNodes
 pub mod ValidJob

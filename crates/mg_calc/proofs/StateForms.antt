@@ -1,29 +1,33 @@
 -- The states that calculators keep are of their laws' forms.
-use Rattle.std.proofs.Common.{◌≡◌, ◌==◌, ℕ, ◌+◌, ◌-◌, ◌^◌, ◌<◌, ◌≤◌, min, ℤ, pos, negsuc, ◌+ℤ◌, Bool, true, false, List, [], ◌∷◌, ◌++◌, map, take, length, replicate, get_or, All, Option, Some, None, Ok, IfOk, option_map, unwrap_or, slice_get, inl, inr, ◌⊎◌, codes, lit≤, refl, ◌∙◌, ap, arith, if◌then◌else◌, nat_le}
+use Rattle.std.proofs.Common.{◌≡◌, ◌==◌, ℕ, ◌+◌, ◌-◌, ◌^◌, ◌<◌, ◌≤◌, min, ℤ, pos, negsuc, ◌+ℤ◌, Bool, true, false, List, [], ◌∷◌, ◌++◌, map, take, length, replicate, get_or, All, Option, Some, None, Result, Ok, Err, IfOk, subst, sym, option_map, unwrap_or, slice_get, inl, inr, ◌⊎◌, codes, lit≤, refl, ◌∙◌, ap, arith, if◌then◌else◌, nat_le}
 use Rattle.std.specs.List.{zip}
 use Rattle.std.proofs.lemmas.Int.{ints}
 use Rattle.std.proofs.lemmas.Bool.Decides.{nat_tests, eqb_tells}
 use Rattle.std.proofs.lemmas.List.{length-take-le, length-map, length-append}
-use Rattle.std.proofs.lemmas.List.Elements.{All-map}
+use Rattle.std.proofs.lemmas.List.Elements.{All-map, All-nil, All-cons, All-append}
 use Rattle.std.proofs.lemmas.List.FromFn.{length-map-range_with_len}
 use Rattle.std.proofs.lemmas.Grind.{common_steps}
 use Rattle.std.proofs.lemmas.Slice.Zip.{length-zip}
 use Rattle.std.proofs.lemmas.Option.{slice_get_cases}
 use Rattle.mg_time.specs.Time.{raw_of, place_of, pre_stream, one_over_post_stream}
-use Rattle.mg_value.specs.Plain.{Plain, int}
+use Rattle.mg_value.specs.Plain.{Plain, int, depth}
 use Rattle.mg_value.specs.Prefix.{Stamped}
 use Rattle.mg_value.specs.Settled.{selected}
 use Rattle.mg_calc.specs.declared.law.Law.{Law}
-use Rattle.mg_calc.specs.declared.law.Law.TheVariants.{Pass, Gate, Mux, Cloner, Merge, Thin, Sum, Map, Filter, Running, Shift, Count, SideOnce, Constants, Loopback, Tally, Scripted}
+use Rattle.mg_calc.specs.declared.law.Law.TheVariants.{Pass, Gate, Mux, Cloner, Merge, Thin, Sum, Map, Filter, Running, Shift, Count, SideOnce, Constants, Loopback, Tally, Scripted, BeginLoop, EndLoop, FirstCome, Limiter}
 use Rattle.mg_calc.specs.declared.shape.Shape.{Shape}
 use Rattle.mg_calc.specs.declared.port_kind.PortKind.{PortKind}
 use Rattle.mg_calc.specs.declared.emission.Laid.{Laid}
+use Rattle.mg_calc.specs.declared.cause.Cause.{Cause}
+use Rattle.mg_calc.specs.declared.cause.Cause.TheVariants.{TooDeep}
 use Rattle.mg_calc.specs.Answer.{Answer, emission_of}
-use Rattle.mg_calc.specs.Values.{place_at, number_of, total, fits, time_of, is_in_range, stored, kept_in}
-use Rattle.mg_calc.specs.State.{IsStateOf, IsNumber, CountsTo, ArePlaces, state_of, number_in, count_in, time_kept, next_valid, places_in}
+use Rattle.mg_calc.specs.Values.{place_at, number_of, total, fits, time_of, is_in_range, stored, kept_in, items_in, iterable_port}
+use Rattle.mg_calc.specs.State.{IsStateOf, IsNumber, CountsTo, ArePlaces, state_of, number_in, count_in, time_kept, next_valid, places_in, kept_list, full_places, AreItems}
 use Rattle.mg_calc.specs.Kinds.{has_wrong_kind}
 use Rattle.mg_calc.specs.Routing.{is_open, renewed, renewed_places, valid_after, chosen, thinned}
+use Rattle.mg_calc.specs.Batch.{last_inner, begun_batch, with_item, gathered}
 use Rattle.mg_calc.specs.Own.{mapped, emits_number, emits_at}
+use Rattle.mg_calc.proofs.StateLists.{kept-full_places}
 use Rattle.mg_calc.specs.Law.{rule, step}
 use Rattle.mg_value.specs.declared.kind.Kind.TheVariants.{Any}
 use Rattle.mg_calc.specs.Shape.{IsShapeOf, FitsInputs, untagged, tagged}
@@ -142,6 +146,29 @@ steps_on : (offset : Option ℤ) (first : List Laid) (steps : List (List Laid)) 
 steps_on offset first steps last state None e good = good
 steps_on offset first steps last state (Some emission) e good = omega (arith, within steps (count_in state) emission e)
 
+-- BeginLoop: the next inner time goes on up to Max
+begins : (clone : Bool) (c t : ℕ) (list : List Plain) (cloned : Option (Stamped Plain)) → Keeps (IsStateOf (BeginLoop clone)) (begun_batch clone c t list cloned)
+begins clone c t list cloned =
+    by_test (IsStateOf (BeginLoop clone)) (nat_le (last_inner c (length list) + 1) (2 ^ 63 - 4)) _ _ (λ e. grind (arith, nat_tests, e)) tt
+
+-- EndLoop: the items are kept in full places
+are_items : (list : List Plain) → All (λ v. depth v < 16) list → AreItems (full_places list)
+are_items list all = (ap full_places (sym (kept-full_places list)), subst (All (λ v. depth v < 16)) (sym (kept-full_places list)) all)
+
+keeps_list : (end : Option (Stamped Plain)) (list : Result (List Plain) Cause) → IfOk list (λ vs. All (λ v. depth v < 16) vs) → Keeps AreItems (gathered end list)
+keeps_list end (Err cause) all = tt
+keeps_list None (Ok list) all = are_items list all
+keeps_list (Some end) (Ok list) all = are_items [] (All-nil (λ v. depth v < 16))
+
+items_stay : (list : List Plain) (item : Option (Stamped Plain)) → All (λ v. depth v < 16) list → IfOk (with_item list item) (λ vs. All (λ v. depth v < 16) vs)
+items_stay list None all = all
+items_stay list (Some p) all = by_depth (nat_le 16 (depth p.value)) refl
+  where
+    by_depth : (b : Bool) → nat_le 16 (depth p.value) ≡ b → IfOk (if b then Err TooDeep else Ok (list ++ p.value ∷ [])) (λ vs. All (λ v. depth v < 16) vs)
+    by_depth true e = tt
+    by_depth false e =
+        All-append (λ v. depth v < 16) list (p.value ∷ []) all (All-cons (λ v. depth v < 16) p.value [] (grind (arith, nat_tests, e)) (All-nil (λ v. depth v < 16)))
+
 -- each law's rule
 follows : (law : Law) (shape : Shape) (state : List Plain) (t : ℕ) (set : List (Option (Stamped Plain))) → IsShapeOf law shape → FitsInputs shape set
     → IsStateOf law state → Keeps (IsStateOf law) (rule law state t set)
@@ -170,6 +197,13 @@ follows Constants shape state t set of_law places good = good
 follows Loopback shape state t set of_law places good = good
 follows Tally shape state t set of_law places good =
     let count = number_in state +ℤ pos 1 in emits (IsStateOf Tally) (state_of count) t count (counts state good)
+follows (BeginLoop clone) shape state t set of_law places good =
+    by_place (IsStateOf (BeginLoop clone)) (place_at set (iterable_port clone)) _ _
+    (λ p. begins clone (count_in state) t (items_in p.value) (place_at set 0)) good
+follows EndLoop shape state t set of_law places good =
+    keeps_list (place_at set 0) (with_item (kept_list state) (place_at set 1)) (items_stay (kept_list state) (place_at set 1) good.1)
+follows (FirstCome lanes) shape state t set of_law places good = good
+follows (Limiter most) shape state t set of_law places good = good
 follows (Scripted offset first steps last) shape state t set of_law places good = steps_on offset first steps last state _ refl good
 
 pub stepped : (law : Law) (shape : Shape) (state : List Plain) (t : ℕ) (set : List (Option (Stamped Plain))) → IsShapeOf law shape → FitsInputs shape set

@@ -13,7 +13,7 @@ use Rattle.mg_calc.specs.declared.law.Law.TheVariants.{Sum, Loopback}
 use Rattle.mg_calc.specs.declared.plan.Plan.{Plan}
 use Rattle.mg_calc.specs.declared.plan_node.PlanNode.{PlanNode}
 use Rattle.mg_calc.specs.declared.plan_stream.Producer.TheVariants.{Input, Node}
-use Rattle.mg_calc.specs.Shape.{ParametersFit, IsShapeOf, tagged, untagged}
+use Rattle.mg_calc.specs.Shape.{ParametersFit, IsServed, IsShapeOf, tagged, untagged}
 use Rattle.mg_calc.specs.Plan.{IsValid, AreInRange, HasNumbers, FlightFits, MayHavePolicy, HasEachOnce, StandsBefore, LeadsForward, EndsAtLoop}
 use Rattle.mg_calc.specs.Equations.{IsJob}
 
@@ -122,6 +122,7 @@ valid = record {
   order = each_once;
   forward = all (λ e. e.back ≡ false → LeadsForward plan e) plan.edges ((λ e. absurd cc), ((λ e. tt), ((λ e. tt), ((λ e. in_order), ((λ e. past_order), tt)))));
   back = all (λ e. e.back ≡ true → EndsAtLoop plan e) plan.edges ((λ e. (refl, refl)), ((λ e. absurd cc), ((λ e. absurd cc), ((λ e. absurd cc), ((λ e. absurd cc), tt)))));
+  laws = all (λ node. IsServed node.law) plan.nodes (tt, (tt, tt));
 }
 
 pub a_job : IsJob (record { plan = plan; inputs = inputs })

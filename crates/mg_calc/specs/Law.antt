@@ -5,13 +5,14 @@ use Rattle.std.specs.Prelude.{ℕ, pos, ◌+ℤ◌, ◌*ℤ◌, List, [], ◌∷
 use Rattle.mg_value.specs.Plain.{Plain, int}
 use Rattle.mg_value.specs.Prefix.{Stamped}
 use Rattle.mg_calc.specs.declared.law.Law.{Law}
-use Rattle.mg_calc.specs.declared.law.Law.TheVariants.{Pass, Gate, Mux, Cloner, Merge, Thin, Sum, Map, Filter, Running, Shift, Count, SideOnce, Constants, Loopback, Tally, Scripted}
+use Rattle.mg_calc.specs.declared.law.Law.TheVariants.{Pass, Gate, Mux, Cloner, Merge, Thin, Sum, Map, Filter, Running, Shift, Count, SideOnce, Constants, Loopback, Tally, Scripted, BeginLoop, EndLoop, FirstCome, Limiter}
 use Rattle.mg_calc.specs.declared.cause.Cause.TheVariants.{WrongKind, NoSide}
 use Rattle.mg_calc.specs.Answer.{Answer, emission_of}
 use Rattle.mg_calc.specs.Values.{time_of, stored}
 use Rattle.mg_calc.specs.State.{kept_at}
 use Rattle.mg_calc.specs.Kinds.{has_wrong_kind}
 use Rattle.mg_calc.specs.Routing.{pass, gate, mux, cloner, merge, thin, copy_at}
+use Rattle.mg_calc.specs.Batch.{begin_loop, end_loop}
 use Rattle.mg_calc.specs.Own.{sum_law, map_law, filter_law, running, shifted, tally, scripted, emits_at}
 
 -- the state that keeps a side packet, or NoSide where it is missing
@@ -44,6 +45,10 @@ rule (Count count start apart) state t set = Ok (state, [])
 rule (SideOnce at) state t set = Ok (state, [])
 rule Constants state t set = Ok (state, [])
 rule Loopback state t set = Ok (state, [])
+rule (BeginLoop clone) state t set = begin_loop clone state t set
+rule EndLoop state t set = end_loop state set
+rule (FirstCome lanes) state t set = Ok (state, [])
+rule (Limiter most) state t set = Ok (state, [])
 
 -- Process: WrongKind where a packet isn't of its port's kind, and otherwise the law's rule
 abbrev pub step : Law → List Plain → ℕ → List (Option (Stamped Plain)) → Answer

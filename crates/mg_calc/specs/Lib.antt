@@ -1,4 +1,5 @@
 pub mod Answer
+pub mod Batch
 pub mod Code
 pub mod Equations
 pub mod Given

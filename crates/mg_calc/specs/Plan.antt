@@ -1,7 +1,7 @@
 -- Plans. Streams are numbered: the graph inputs in order, and then the outputs of each node, by node and by port. Edges are numbered
 -- by their consumers and then by port; after the nodes comes one more consumer, the collector, whose ports are the graph's outputs
 -- and whose number is the number of nodes.
-use Rattle.std.specs.Prelude.{◌≡◌, ◌≢◌, ℕ, pos, ◌<◌, ◌≤◌, true, false, List, ◌++◌, map, length, filter, All, AllPairs, Contains, Option, Some, None, IfSome, IsSome, IsSomeAnd, unwrap_or, slice_get, ⊤, ◌==◌}
+use Rattle.std.specs.Prelude.{◌≡◌, ◌≢◌, ℕ, pos, ◌<◌, ◌≤◌, ◌⊎◌, true, false, List, ◌++◌, map, length, filter, All, AllPairs, Contains, Option, Some, None, IfSome, IsSome, IsSomeAnd, unwrap_or, slice_get, ⊤, ◌==◌}
 use Rattle.std.specs.List.{range_with_len, enumerate_from, flat_map, filter_map}
 use Rattle.std.specs.Option.{option_and_then}
 use Rattle.mg_value.specs.Plain.{Plain}
@@ -19,7 +19,7 @@ use Rattle.mg_calc.specs.declared.edge.Edge.{Edge}
 use Rattle.mg_calc.specs.declared.plan.Plan.{Plan}
 use Rattle.mg_calc.specs.declared.inputs.Inputs.{Inputs}
 use Rattle.mg_calc.specs.Side.{PlainSideValue, given_at, fixed}
-use Rattle.mg_calc.specs.Shape.{ParametersFit, IsShapeOf}
+use Rattle.mg_calc.specs.Shape.{ParametersFit, IsShapeOf, IsServed, IsLimiter}
 
 -- the numbers from 0 on, so many
 abbrev pub numbers : ℕ → List ℕ
@@ -137,8 +137,12 @@ LeadsForward plan e = IfSome (writer_of plan e) (λ writer. StandsBefore plan.or
 abbrev pub EndsAtLoop : Plan → Edge → Type 0
 EndsAtLoop plan e = (e.port ≡ 0) × IsSomeAnd (slice_get plan.nodes e.node) (λ node. node.law ≡ Loopback)
 
--- a plan is valid
-pub record IsValid (plan : Plan) : Type 0 where
+-- an edge ends at FINISHED of a limiter, which is its second input
+abbrev pub EndsAtFinished : Plan → Edge → Type 0
+EndsAtFinished plan e = (e.port ≡ 1) × IsSomeAnd (slice_get plan.nodes e.node) (λ node. IsLimiter node.law)
+
+-- a plan holds together, where its nodes have laws of some, and back edges end at some places
+pub record HoldsTogether (Allows : Law → Type 0) (MayBeBack : Plan → Edge → Type 0) (plan : Plan) : Type 0 where
   -- its numbers are in their ranges
   pub ranges : AreInRange plan
   -- streams are numbered: first the graph inputs, and then the outputs of each node
@@ -162,8 +166,22 @@ pub record IsValid (plan : Plan) : Type 0 where
   -- the order has each node once, and each edge that isn't back leads forward in it
   pub order : HasEachOnce (length plan.nodes) plan.order
   pub forward : All (λ e. e.back ≡ false → LeadsForward plan e) plan.edges
-  -- a back edge stands only at LOOP of a loopback
-  pub back : All (λ e. e.back ≡ true → EndsAtLoop plan e) plan.edges
+  -- a back edge ends where it may
+  pub back : All (λ e. e.back ≡ true → MayBeBack plan e) plan.edges
+  -- each node has a law that is allowed
+  pub laws : All (λ node. Allows node.law) plan.nodes
+
+-- a plan has no free node
+abbrev pub HasNoFree : Plan → Type 0
+HasNoFree plan = All (λ node. IsServed node.law) plan.nodes
+
+-- a plan is valid: it has no free node, and a back edge stands only at LOOP of a loopback
+abbrev pub IsValid : Plan → Type 0
+IsValid plan = HoldsTogether IsServed EndsAtLoop plan
+
+-- a plan is valid, but may have free nodes: a back edge may stand at FINISHED of a limiter too
+abbrev pub IsValidWithFree : Plan → Type 0
+IsValidWithFree plan = HoldsTogether (λ law. ⊤) (λ p e. EndsAtLoop p e ⊎ EndsAtFinished p e) plan
 
 -- What is handed in beside a plan.
 

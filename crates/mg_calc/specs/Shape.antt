@@ -8,9 +8,9 @@ use Rattle.std.specs.Cmp.Lexicographic.{slice_cmp}
 use Rattle.std.specs.declared.cmp.Ordering.{Ordering}
 use Rattle.mg_time.specs.Time.{pre_stream, post_stream, done, place_of}
 use Rattle.mg_value.specs.declared.kind.Kind.{Kind}
-use Rattle.mg_value.specs.declared.kind.Kind.TheVariants.{Any, Flag, Int}
+use Rattle.mg_value.specs.declared.kind.Kind.TheVariants.{Any, Flag, Int, Items}
 use Rattle.mg_calc.specs.declared.law.Law.{Law}
-use Rattle.mg_calc.specs.declared.law.Law.TheVariants.{Pass, Gate, Mux, Cloner, Merge, Thin, Sum, Map, Filter, Running, Shift, Count, SideOnce, Constants, Loopback, Tally, Scripted}
+use Rattle.mg_calc.specs.declared.law.Law.TheVariants.{Pass, Gate, Mux, Cloner, Merge, Thin, Sum, Map, Filter, Running, Shift, Count, SideOnce, Constants, Loopback, Tally, Scripted, BeginLoop, EndLoop, FirstCome, Limiter}
 use Rattle.mg_calc.specs.declared.emission.Laid.{Laid}
 use Rattle.mg_calc.specs.declared.port_kind.PortKind.{PortKind}
 use Rattle.mg_calc.specs.declared.shape.Shape.{Shape}
@@ -39,13 +39,33 @@ IsRouting (Merge lanes) = ⊤
 IsRouting (Thin period) = ⊤
 IsRouting _ = ⊥
 
+-- the laws of loops over lists
+abbrev pub IsBatch : Law → Type 0
+IsBatch (BeginLoop clone) = ⊤
+IsBatch EndLoop = ⊤
+IsBatch _ = ⊥
+
+-- The laws of free nodes take packets as they arrive, and no set is shown to them. Whatever asks for a law that is served leaves
+-- them out: the calls of calculators, the calculators that are handed in, and plans that have a meaning by equations. The table of
+-- laws is total, and has for them that nothing is emitted.
+abbrev pub IsServed : Law → Type 0
+IsServed (FirstCome lanes) = ⊥
+IsServed (Limiter most) = ⊥
+IsServed _ = ⊤
+
+-- the law of a limiter
+abbrev pub IsLimiter : Law → Type 0
+IsLimiter (Limiter most) = ⊤
+IsLimiter _ = ⊥
+
 -- the sources that are called
 abbrev pub IsSource : Law → Type 0
 IsSource (Count count start apart) = ⊤
 IsSource (SideOnce at) = ⊤
 IsSource _ = ⊥
 
--- a calculator that is handed in may have any law but those of sources, Constants and Loopback
+-- the laws that are shown sets: all but those of sources, Constants and Loopback. A calculator that is handed in may have any of
+-- these that is served.
 abbrev pub IsOuter : Law → Type 0
 IsOuter (Count count start apart) = ⊥
 IsOuter (SideOnce at) = ⊥
@@ -79,6 +99,8 @@ ParametersFit (Sum lanes) = IsLanes lanes
 ParametersFit (Thin period) = pos 1 ≤ℤ period
 ParametersFit (Count count start apart) = (count ≤ 1000000) × IsTrue (is_in_range (place_of start)) × (pos 1 ≤ℤ apart)
 ParametersFit (SideOnce at) = (at ≡ pre_stream) ⊎ (at ≡ place_of (pos 0)) ⊎ (at ≡ post_stream)
+ParametersFit (FirstCome lanes) = IsLanes lanes
+ParametersFit (Limiter most) = (1 ≤ most) × (most ≤ 2147483647)
 ParametersFit (Scripted offset first steps last) = BoundsAreTimes first × All BoundsAreTimes steps × BoundsAreTimes last
 ParametersFit _ = ⊤
 
@@ -113,6 +135,10 @@ pub record AreAnyInputs (ps : List PortKind) : Type 0 where
 abbrev pub control_tag : Bool → List ℕ
 control_tag disallow = if disallow then codes "DISALLOW" else codes "ALLOW"
 
+-- the port of a loop whose packets are copied to each item, where it has one
+abbrev pub clone_ports : Bool → List PortKind
+clone_ports clone = if clone then tagged (codes "CLONE") Any else []
+
 -- the output of SideOnce, which says when it emits: at PreStream, at 0 or at PostStream
 abbrev pub HasTimeTag : ℕ → List PortKind → Type 0
 HasTimeTag at ps =
@@ -139,6 +165,10 @@ HasInputs Constants ps = ps ≡ []
 HasInputs Loopback ps = ps ≡ tagged (codes "LOOP") Any ++ tagged (codes "MAIN") Any
 HasInputs Tally ps = ps ≡ untagged 1 Any
 HasInputs (Scripted offset first steps last) ps = AreAnyInputs ps
+HasInputs (BeginLoop clone) ps = ps ≡ clone_ports clone ++ tagged (codes "ITERABLE") Items
+HasInputs EndLoop ps = ps ≡ tagged (codes "BATCH_END") Int ++ tagged (codes "ITEM") Any
+HasInputs (FirstCome lanes) ps = ps ≡ untagged lanes Any
+HasInputs (Limiter most) ps = ps ≡ untagged 1 Any ++ tagged (codes "FINISHED") Any
 
 -- written emissions have an entry for each output
 pub record AreEmissions (outputs : ℕ) (first : List Laid) (steps : List (List Laid)) (last : List Laid) : Type 0 where
@@ -165,6 +195,10 @@ HasOutputs Constants inputs ps = ps ≡ []
 HasOutputs Loopback inputs ps = ps ≡ tagged (codes "PREV_LOOP") Any
 HasOutputs Tally inputs ps = ps ≡ untagged 1 Int
 HasOutputs (Scripted offset first steps last) inputs ps = ArePorts ps × AreEmissions (length ps) first steps last
+HasOutputs (BeginLoop clone) inputs ps = ps ≡ tagged (codes "BATCH_END") Int ++ (clone_ports clone ++ tagged (codes "ITEM") Any)
+HasOutputs EndLoop inputs ps = ps ≡ tagged (codes "ITERABLE") Items
+HasOutputs (FirstCome lanes) inputs ps = ps ≡ untagged 1 Any
+HasOutputs (Limiter most) inputs ps = ps ≡ untagged 1 Any
 
 -- the side packets that a law takes; those of Scripted are of any tags
 abbrev pub HasSides : Law → List PortKind → Type 0
@@ -181,6 +215,10 @@ offset_of (Count count start apart) = None
 offset_of (SideOnce at) = None
 offset_of Constants = None
 offset_of Loopback = None
+offset_of (BeginLoop clone) = None
+offset_of EndLoop = None
+offset_of (FirstCome lanes) = None
+offset_of (Limiter most) = None
 offset_of (Scripted offset first steps last) = offset
 offset_of _ = Some (pos 0)
 

@@ -1,11 +1,12 @@
 -- What a calculator keeps between its calls, as a list of payloads. The empty list is the state of one that has seen nothing.
-use Rattle.std.specs.Prelude.{◌≡◌, ℕ, ℤ, pos, negsuc, ◌-◌, ◌≤◌, ◌^◌, List, [], ◌∷◌, ◌++◌, map, take, length, replicate, All, Option, Some, None, slice_get, unwrap_or, IsTrue, ⊤, ◌==◌, if◌then◌else◌}
+use Rattle.std.specs.Prelude.{◌≡◌, ℕ, ℤ, pos, negsuc, ◌-◌, ◌<◌, ◌≤◌, ◌^◌, List, [], ◌∷◌, ◌++◌, map, take, length, replicate, All, Option, Some, None, slice_get, unwrap_or, IsTrue, ⊤, ◌==◌, if◌then◌else◌}
+use Rattle.std.specs.List.{filter_map}
 use Rattle.std.specs.Option.{option_and_then}
 use Rattle.mg_time.specs.Time.{raw_of, place_of, pre_stream, one_over_post_stream}
-use Rattle.mg_value.specs.Plain.{Plain, int}
+use Rattle.mg_value.specs.Plain.{Plain, int, depth}
 use Rattle.mg_calc.specs.Values.{fits, time_of, stored, kept_in}
 use Rattle.mg_calc.specs.declared.law.Law.{Law}
-use Rattle.mg_calc.specs.declared.law.Law.TheVariants.{Cloner, Thin, Running, SideOnce, Tally, Scripted}
+use Rattle.mg_calc.specs.declared.law.Law.TheVariants.{Cloner, Thin, Running, SideOnce, Tally, Scripted, BeginLoop, EndLoop}
 
 -- the state of one number
 abbrev pub state_of : ℤ → List Plain
@@ -38,6 +39,14 @@ kept_at state i = option_and_then kept_in (slice_get state i)
 abbrev pub places_in : ℕ → List Plain → List (Option Plain)
 places_in lanes state = take lanes (map kept_in state ++ replicate lanes None)
 
+-- the payloads that a state keeps at its places, in order
+abbrev pub kept_list : List Plain → List Plain
+kept_list state = filter_map kept_in state
+
+-- the state that keeps a list of payloads, each in a place of its own
+abbrev pub full_places : List Plain → List Plain
+full_places list = map (λ v. stored (Some v)) list
+
 -- The form of a state.
 
 -- a state of one number that passes a test, or the empty one
@@ -61,6 +70,10 @@ abbrev pub IsFullPlace : List Plain → Type 0
 IsFullPlace (p ∷ []) = (v : Plain) × (p ≡ stored (Some v))
 IsFullPlace _ = ⊥
 
+-- a state of full places, whose payloads may be items of a list
+abbrev pub AreItems : List Plain → Type 0
+AreItems state = (state ≡ full_places (kept_list state)) × All (λ v. depth v < 16) (kept_list state)
+
 -- a state is of the form that its law gives it, or empty; a source's is empty but for that of SideOnce, which keeps its payload
 abbrev pub IsStateOf : Law → List Plain → Type 0
 IsStateOf (Cloner lanes) state = ArePlaces lanes state
@@ -69,4 +82,6 @@ IsStateOf Running state = IsNumber (λ n. IsTrue (fits n)) state
 IsStateOf (SideOnce at) state = IsFullPlace state
 IsStateOf Tally state = IsNumber (CountsTo (2 ^ 63 - 1)) state
 IsStateOf (Scripted offset first steps last) state = IsNumber (CountsTo (length steps)) state
+IsStateOf (BeginLoop clone) state = IsNumber (CountsTo (2 ^ 63 - 4)) state
+IsStateOf EndLoop state = AreItems state
 IsStateOf _ state = state ≡ []

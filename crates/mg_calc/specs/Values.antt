@@ -1,8 +1,8 @@
 -- Numbers, times and places that the laws speak of.
-use Rattle.std.specs.Prelude.{map, ℕ, ℤ, pos, negsuc, ◌+ℤ◌, ◌^◌, Bool, ◌&&◌, nat_lt, nat_le, List, Option, Some, None, option_map, slice_get, unwrap_or, if◌then◌else◌}
+use Rattle.std.specs.Prelude.{map, [], ◌∷◌, ℕ, ℤ, pos, negsuc, ◌+ℤ◌, ◌^◌, Bool, ◌&&◌, nat_lt, nat_le, List, Option, Some, None, option_map, slice_get, unwrap_or, if◌then◌else◌}
 use Rattle.std.specs.List.{fold}
 use Rattle.mg_time.specs.Time.{raw_of, place_of, least, greatest}
-use Rattle.mg_value.specs.Plain.{Plain, int, items, no_items, item}
+use Rattle.mg_value.specs.Plain.{Plain, Items, int, items, no_items, item}
 use Rattle.mg_value.specs.Prefix.{Stamped}
 
 -- what a set has at a port: a packet, or none, also where there is no such port
@@ -48,3 +48,16 @@ stored (Some p) = items (item p no_items)
 abbrev pub kept_in : Plain → Option Plain
 kept_in (items (item p no_items)) = Some p
 kept_in _ = None
+
+-- the payloads of a list; none where a payload is no list
+abbrev pub listed : Items → List Plain
+listed no_items = []
+listed (item p ps) = p ∷ listed ps
+
+abbrev pub items_in : Plain → List Plain
+items_in (items is) = listed is
+items_in _ = []
+
+-- the input of BeginLoop that takes the lists: its last, behind the one whose packets are copied, where it has that
+abbrev pub iterable_port : Bool → ℕ
+iterable_port clone = if clone then 1 else 0

@@ -1,7 +1,7 @@
 ghost use Rattle.std.specs.Prelude.{◌≡◌, OnErr};
 ghost use Rattle.mg_calc.specs.Answer.{GivesEmission};
 ghost use Rattle.mg_calc.specs.Law.{opening, step, finish as closing};
-ghost use Rattle.mg_calc.specs.Shape.{ParametersFit, IsOuter, IsShapeOf, FitsInputs};
+ghost use Rattle.mg_calc.specs.Shape.{ParametersFit, IsOuter, IsServed, IsShapeOf, FitsInputs};
 ghost use Rattle.mg_calc.specs.Told.{CalculatorTold, Logs, shown_calls};
 
 use crate::{CalcFault, Call, CallList, Emission, GivenList, Law, Shape};
@@ -26,6 +26,7 @@ pub trait Calculator: Drop {
     fn law(&self) -> &Law
         ensures law { result.now ≡ (told self.now).law }
         ensures outer { IsOuter result.now }
+        ensures served { IsServed result.now }
         ensures ranges { ParametersFit result.now };
 
     /// Opens it, before all sets, with its side packets.

@@ -24,6 +24,8 @@ pub enum Cause {
     BelowOffset = 8,
     /// A node with an offset emits in Close.
     EmitsInClose = 9,
+    /// A list that is gathered would be too deep.
+    TooDeep = 10,
 }
 
 /// Why a call of a calculator gives no emission.

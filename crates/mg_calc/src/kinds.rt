@@ -18,6 +18,14 @@ pub fn input_kind(law: &Law, port: u32) -> Kind
             }
         }
         Law::Mux { lanes } => { if port == *lanes { Kind::Int } else { Kind::Any } }
+        Law::BeginLoop { clone } => {
+            if port == u32::from(*clone) {
+                Kind::Items
+            } else {
+                Kind::Any
+            }
+        }
+        Law::EndLoop => { if port == 0 { Kind::Int } else { Kind::Any } }
         Law::Sum { .. } | Law::Map { .. } | Law::Filter { .. } | Law::Running => Kind::Int,
         _ => Kind::Any,
     }

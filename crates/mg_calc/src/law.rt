@@ -92,4 +92,18 @@ pub enum Law {
         steps: EmissionList,
         last: Emission,
     },
+    /// The items of a list go on one by one, at inner times of their own. Where `clone` is set, so do copies of the packet of CLONE.
+    BeginLoop {
+        clone: bool,
+    },
+    /// Items are gathered into a list, until the end of a batch tells the time at which it goes on.
+    EndLoop,
+    /// Packets go on as they arrive, where their order allows it. A free node: no set is shown to it.
+    FirstCome {
+        lanes: u32,
+    },
+    /// At most so many packets are on their way at once, and others are dropped. A free node: no set is shown to it.
+    Limiter {
+        most: u32,
+    },
 }

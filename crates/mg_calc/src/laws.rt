@@ -10,6 +10,7 @@ ghost use Rattle.mg_calc.specs.declared.plan.Plan.{Plan};
 ghost use Rattle.mg_value.specs.Settled.{IsBelowBounds};
 ghost use Rattle.mg_calc.specs.declared.plan_node.PlanNode.{PlanNode};
 ghost use Rattle.mg_calc.specs.Shape.{IsOuter};
+ghost use Rattle.mg_calc.specs.Plan.{IsValid, IsValidWithFree, HasNoFree};
 ghost use Rattle.mg_calc.specs.Equations.{Job, IsJob, stream_of, inputs_of, outcome_of, next_round, round, MeetsEquations, IsSolution};
 ghost use Rattle.mg_calc.specs.Meaning.{faults, stalled, count_of, counts, shown_sets, last_call, log_of, weight};
 ghost use Rattle.mg_calc.specs.Reaching.{MayDepend};
@@ -83,4 +84,10 @@ pub fn faults_and_stalls_are_told()
     ensures stalled { (streams : List (StreamPrefix Plain)) → (stalled streams ≡ []) ↔ All (λ s. s.bound ≡ done) streams }
     ensures counts { (job : Job) (streams : List (StreamPrefix Plain)) → length (counts job streams) ≡ length job.plan.nodes }
     ensures weight { (job : Job) (streams : List (StreamPrefix Plain)) → All (λ node. count_of job streams node < weight job streams) job.plan.nodes }
+{}
+
+/// A plan is valid exactly where it is valid as one that may have free nodes, and has none.
+pub fn free_nodes_alone_keep_a_plan_from_being_valid()
+    ensures without { (plan : Plan) → IsValidWithFree plan → HasNoFree plan → IsValid plan }
+    ensures with_none { (plan : Plan) → IsValid plan → IsValidWithFree plan × HasNoFree plan }
 {}

@@ -1,7 +1,7 @@
 ghost use Rattle.std.specs.Prelude.{◌≡◌, ◌<◌, ◌^◌, pos, neg_ℤ, ◌+ℤ◌, ◌*ℤ◌, ◌≤ℤ◌};
 ghost use Rattle.mg_calc.specs.Answer.{Gives, GivesEmission};
 ghost use Rattle.mg_calc.specs.Law.{opening, call as its_call};
-ghost use Rattle.mg_calc.specs.Shape.{IsSource, calls_of};
+ghost use Rattle.mg_calc.specs.Shape.{IsServed, IsSource, calls_of};
 ghost use Rattle.mg_calc.specs.Values.{time_of};
 
 use crate::{
@@ -19,6 +19,7 @@ pub fn own_begin(
     law: &Law,
     sides: &GivenList,
 ) -> Result<(State, Emission), CalcFault>
+    requires { IsServed law.now }
     ensures { Gives result (opening law.now sides.now) }
 {
     match law {

@@ -1,9 +1,10 @@
-ghost use Rattle.std.specs.Prelude.{◌≡◌, ◌↔◌, map, option_map, [], IsTrue, IfOk};
+ghost use Rattle.std.specs.Prelude.{◌≡◌, ◌↔◌, ◌∷◌, ◌++◌, map, option_map, option_copied, slice_get, [], true, IsTrue, IfOk, OnErr};
+ghost use Rattle.std.specs.Option.{option_to_list};
 ghost use Rattle.std.specs.Arc.{arc_value};
 ghost use Rattle.mg_value.specs.Payload.{plain};
 ghost use Rattle.mg_calc.specs.Given.{given};
 ghost use Rattle.mg_calc.specs.Values.{stored};
-ghost use Rattle.mg_calc.specs.State.{state_of, number_in, count_in, time_kept as its_time, next_valid as its_next_valid, kept_at};
+ghost use Rattle.mg_calc.specs.State.{state_of, number_in, count_in, time_kept as its_time, next_valid as its_next_valid, kept_at, kept_list, full_places};
 
 use mg_time::Timestamp;
 use mg_value::Payload;
@@ -12,7 +13,8 @@ use std::marker::Model;
 use std::sync::Arc;
 
 /// What a calculator keeps between its calls. Contracts see a list of plain payloads: none, one number, or places each of
-/// which is a list of one payload or an empty one. Payloads are shared, and a number takes no memory.
+/// which is a list of one payload or an empty one. Payloads are shared, and a number takes no memory. A list that is
+/// gathered is kept as places that are all full, and grows in place.
 #[derive(Debug)]
 pub struct State {
     kept: Kept,
@@ -23,6 +25,7 @@ enum Kept {
     Nothing,
     Number(i64),
     Places(Vec<Option<Arc<Payload>>>),
+    Full(Vec<Arc<Payload>>),
 }
 
 impl Model for State {
@@ -84,6 +87,7 @@ impl State {
             Kept::Number(number) => *number,
             Kept::Nothing => 0,
             Kept::Places(_) => 0,
+            Kept::Full(_) => 0,
         }
     }
 
@@ -96,6 +100,7 @@ impl State {
             Kept::Number(_) => 0,
             Kept::Nothing => 0,
             Kept::Places(_) => 0,
+            Kept::Full(_) => 0,
         }
     }
 
@@ -107,6 +112,7 @@ impl State {
             Kept::Number(number) => time_kept(*number),
             Kept::Nothing => Timestamp::PRE_STREAM,
             Kept::Places(_) => Timestamp::PRE_STREAM,
+            Kept::Full(_) => Timestamp::PRE_STREAM,
         }
     }
 
@@ -116,6 +122,7 @@ impl State {
     {
         match &self.kept {
             Kept::Places(places) => places.get(i as usize)?.as_ref(),
+            Kept::Full(list) => nth(list, i as usize),
             Kept::Nothing => None,
             Kept::Number(_) => None,
         }
@@ -129,8 +136,64 @@ impl State {
             Kept::Nothing => Ok(State::empty()),
             Kept::Number(number) => Ok(State::of_number(*number)),
             Kept::Places(places) => Ok(State::of_places(shared(alloc, places)?)),
+            Kept::Full(list) => Ok(State {
+                kept: Kept::Full(all_shared(alloc, list)?),
+            }),
         }
     }
+
+    /// The payloads that it keeps at its places, in order.
+    pub fn list(&self, alloc: Global) -> Result<Vec<Arc<Payload>>, AllocError>
+        ensures { IfOk result (λ list. map (λ p. plain (arc_value p)) list.items ≡ kept_list self.now) }
+    {
+        match &self.kept {
+            Kept::Places(places) => full_ones(alloc, places),
+            Kept::Full(list) => all_shared(alloc, list),
+            Kept::Nothing => Ok(Vec::new(alloc)),
+            Kept::Number(_) => Ok(Vec::new(alloc)),
+        }
+    }
+
+    /// Keeps the payloads of its full places alone.
+    pub fn fill(&mut self, alloc: Global) -> Result<(), AllocError>
+        ensures full { IfOk result (λ _. self.new ≡ full_places (kept_list self.old)) }
+        ensures same { OnErr result (self.new ≡ self.old) }
+    {
+        if self.is_full() {
+            return Ok(());
+        }
+        let list = self.list(alloc)?;
+        self.kept = Kept::Full(list);
+        Ok(())
+    }
+
+    /// Keeps a further payload behind those of its full places.
+    pub fn push(&mut self, alloc: Global, payload: Arc<Payload>) -> Result<(), AllocError>
+        ensures more { IfOk result (λ _. self.new ≡ full_places (kept_list self.old ++ plain (arc_value payload) ∷ [])) }
+        ensures same { OnErr result (self.new ≡ self.old) }
+    {
+        if let Kept::Full(list) = &mut self.kept {
+            return put(list, payload);
+        }
+        let mut list = self.list(alloc)?;
+        list.push(payload)?;
+        self.kept = Kept::Full(list);
+        Ok(())
+    }
+
+    // Whether all of its places are known to be full.
+    fn is_full(&self) -> bool
+        ensures { result ≡ true → self.now ≡ full_places (kept_list self.now) }
+    {
+        matches!(&self.kept, Kept::Full(_))
+    }
+}
+
+// The payload at a place of a list.
+fn nth(list: &[Arc<Payload>], i: usize) -> Option<&Arc<Payload>>
+    ensures { option_copied result ≡ slice_get list.now i }
+{
+    list.get(i)
 }
 
 fn share(place: &Option<Arc<Payload>>) -> Result<Option<Arc<Payload>>, AllocError>
@@ -153,6 +216,49 @@ fn shared(
         copies.push(share(place)?)?;
     }
     Ok(copies)
+}
+
+fn all_shared(alloc: Global, list: &[Arc<Payload>]) -> Result<Vec<Arc<Payload>>, AllocError>
+    ensures { IfOk result (λ copies. map (λ p. plain (arc_value p)) copies.items ≡ map (λ p. plain (arc_value p)) list.now) }
+{
+    let mut copies = Vec::with_capacity(alloc, list.len())?;
+    for payload in list {
+        copies.push(Arc::try_clone(payload)?)?;
+    }
+    Ok(copies)
+}
+
+// The payloads of the places that are full.
+fn full_ones(
+    alloc: Global,
+    places: &[Option<Arc<Payload>>],
+) -> Result<Vec<Arc<Payload>>, AllocError>
+    ensures { IfOk result (λ list. map (λ p. plain (arc_value p)) list.items ≡ kept_list (map (λ place. stored (given place)) places.now)) }
+{
+    let mut list = Vec::new(alloc);
+    for place in places {
+        put_full(&mut list, place)?;
+    }
+    Ok(list)
+}
+
+// Puts a payload behind a list, which stays as it is where there is no memory.
+fn put(list: &mut Vec<Arc<Payload>>, payload: Arc<Payload>) -> Result<(), AllocError>
+    ensures more { IfOk result (λ _. map (λ p. plain (arc_value p)) list.new.items ≡ map (λ p. plain (arc_value p)) list.old.items ++ plain (arc_value payload) ∷ []) }
+    ensures same { OnErr result (list.new.items ≡ list.old.items) }
+{
+    list.push(payload)?;
+    Ok(())
+}
+
+// Puts the payload of a place behind a list, if it is full.
+fn put_full(list: &mut Vec<Arc<Payload>>, place: &Option<Arc<Payload>>) -> Result<(), AllocError>
+    ensures { IfOk result (λ _. map (λ p. plain (arc_value p)) list.new.items ≡ map (λ p. plain (arc_value p)) list.old.items ++ option_to_list (given place.now)) }
+{
+    if let Some(payload) = place {
+        list.push(Arc::try_clone(payload)?)?;
+    }
+    Ok(())
 }
 
 /// The time whose number a thinner keeps: PreStream or a time of the range; every other number stands for

@@ -118,6 +118,10 @@ impl TryClone for Law {
                     last,
                 })
             }
+            Law::BeginLoop { clone } => Ok(Law::BeginLoop { clone: *clone }),
+            Law::EndLoop => Ok(Law::EndLoop),
+            Law::FirstCome { lanes } => Ok(Law::FirstCome { lanes: *lanes }),
+            Law::Limiter { most } => Ok(Law::Limiter { most: *most }),
         }
     }
 }

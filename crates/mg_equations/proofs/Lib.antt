@@ -6,3 +6,4 @@ pub mod PortSteps
 pub mod ProgressSteps
 pub mod RoundSteps
 pub mod SolveSteps
+pub mod TakenEmissions

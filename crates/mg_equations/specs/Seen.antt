@@ -1,6 +1,8 @@
 -- What contracts see of an outcome.
-use Rattle.std.specs.Prelude.{◌≡◌, ℕ, List, [], ◌∷◌, ◌++◌, Option, option_map, slice_index_or}
-use Rattle.mg_calc.specs.Outcome.{Outcome as PlainOutcome, Failure as PlainFailure, failed}
+use Rattle.std.specs.Prelude.{◌≡◌, ℕ, ℤ, Result, Ok, Err, List, [], ◌∷◌, ◌++◌, Option, option_map, slice_index_or}
+use Rattle.mg_calc.specs.Outcome.{Outcome as PlainOutcome, Failure as PlainFailure, failed, after_laying}
+use Rattle.mg_calc.specs.Laying.{laid_behind}
+use Rattle.mg_calc.specs.declared.emission.Laid.{Laid}
 use Rattle.mg_value.specs.Payload.{Plain}
 use Rattle.mg_value.specs.Prefix.{Stamped, StreamPrefix, empty_prefix}
 use Rattle.mg_calc.specs.declared.cause.CalcFault.{CalcFault}
@@ -33,3 +35,8 @@ with_answers outcome packets bound taken = record outcome {
 abbrev pub Fails : CalcFault → Phase → PlainOutcome → PlainOutcome → Type 0
 Fails (Fault cause) phase before now = now ≡ failed phase cause before
 Fails OutOfMemory phase before now = ⊥
+
+-- the answer to a call of a calculator that has kept its new state itself is taken: its emission is laid, or the node has failed
+abbrev pub TakesEmission : Option ℤ → Phase → Result (List Laid) CalcFault → PlainOutcome → PlainOutcome → Type 0
+TakesEmission offset phase (Ok emission) before now = now ≡ after_laying phase before (laid_behind offset phase before.outputs emission)
+TakesEmission offset phase (Err fault) before now = Fails fault phase before now

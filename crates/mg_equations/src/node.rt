@@ -1,7 +1,7 @@
 //! What a node has come to before its first round, by its law.
 ghost use Rattle.std.specs.Prelude.{◌≡◌, length, IfOk};
 ghost use Rattle.mg_calc.specs.Outcome.{source_outcome as the_source_outcome};
-ghost use Rattle.mg_calc.specs.Shape.{calls_of};
+ghost use Rattle.mg_calc.specs.Shape.{IsServed, calls_of};
 ghost use Rattle.mg_equations.specs.Seen.{seen};
 ghost use Rattle.mg_equations.specs.Begun.{begun_by};
 
@@ -11,6 +11,7 @@ use std::alloc::{AllocError, Global};
 
 /// What becomes of a source, which is called a number of times.
 fn source_outcome(alloc: Global, node: &PlanNode, sides: &GivenList) -> Result<Outcome, AllocError>
+    requires { IsServed node.now.law }
     ensures { IfOk result (λ outcome. seen outcome ≡ the_source_outcome node.now.law (calls_of node.now.law) (length node.now.outputs) sides.now) }
 {
     let mut outcome = Outcome::opened(alloc, &node.law, None, node.outputs.len(), sides)?;
@@ -40,6 +41,7 @@ pub fn begun(
     inputs: &Inputs,
     node: &PlanNode,
 ) -> Result<Outcome, AllocError>
+    requires { IsServed node.now.law }
     ensures { IfOk result (λ outcome. seen outcome ≡ begun_by node.now.law (record { plan = plan.now; inputs = inputs.now }) node.now) }
 {
     let sides = node_sides(alloc, plan, &inputs.sides, node)?;

@@ -3,14 +3,15 @@
 ghost use Rattle.std.specs.Prelude.{◌≡◌, ◌<◌, ◌^◌, ◌+◌, replicate, map, length, None, OnOk, IfOk};
 ghost use Rattle.mg_value.specs.Prefix.{empty_prefix, closed};
 ghost use Rattle.mg_calc.specs.Answer.{Answer, Gives, GivesEmission};
-ghost use Rattle.mg_calc.specs.Shape.{IsOuter, IsSource, calls_of};
+ghost use Rattle.mg_calc.specs.Shape.{IsServed, IsBatch, IsOuter, IsSource, calls_of};
 ghost use Rattle.mg_calc.specs.Law.{step};
 ghost use Rattle.mg_calc.specs.Laying.{laid_behind, all_raised};
 ghost use Rattle.mg_calc.specs.Outcome.{unopened, opened as the_opened, after_laying, after_call, shown, called, finished, ended, with_last_call};
-ghost use Rattle.mg_equations.specs.Seen.{seen, with_outputs, with_answers, Fails};
+ghost use Rattle.mg_equations.specs.Seen.{seen, with_outputs, with_answers, Fails, TakesEmission};
 
 use crate::laying::{close_all, emission_fault, lay_all, raise_all};
 use crate::output::Output;
+use mg_batch::batch_step_in;
 use mg_calc::{
     CalcFault, Cause, Emission, GivenList, Law, Phase, State, own_begin, own_step, source_step,
 };
@@ -56,7 +57,9 @@ fn outer_step(
     at: Timestamp,
     set: &InputSet,
 ) -> Result<(State, Emission), CalcFault>
-    requires { IsOuter law.now }
+    requires shown { IsOuter law.now }
+    requires served { IsServed law.now }
+    requires plain { IsBatch law.now → ⊥ }
     ensures { Gives result (step law.now state.now at set.now) }
 {
     match law {
@@ -91,6 +94,7 @@ impl Outcome {
         outputs: u32,
         sides: &GivenList,
     ) -> Result<Outcome, AllocError>
+        requires { IsServed law.now }
         ensures { IfOk result (λ outcome. seen outcome ≡ the_opened law.now offset outputs sides.now) }
     {
         let mut outcome = Outcome::before_open(alloc, outputs)?;
@@ -107,6 +111,7 @@ impl Outcome {
         timed: &TimedSet,
     ) -> Result<(), AllocError>
         requires law { IsOuter law.now }
+        requires served { IsServed law.now }
         requires room { self.old.taken + 1 < 2 ^ 64 }
         ensures { OnOk result (seen self.new ≡ shown law.now offset (seen self.old) timed.now) }
     {
@@ -115,8 +120,17 @@ impl Outcome {
         }
         self.raise(offset, timed.at);
         self.taken += 1;
-        let answer = outer_step(alloc, law, &self.state, timed.at, &timed.set);
-        self.take(offset, &Phase::Process(timed.at), answer)
+        let phase = Phase::Process(timed.at);
+        match law {
+            Law::BeginLoop { .. } | Law::EndLoop => {
+                let answer = batch_step_in(alloc, law, &mut self.state, timed.at, &timed.set);
+                self.take_emission(offset, &phase, answer)
+            }
+            _ => {
+                let answer = outer_step(alloc, law, &self.state, timed.at, &timed.set);
+                self.take(offset, &phase, answer)
+            }
+        }
     }
 
     /// Shows it that no more sets come below a time: its outputs are raised, and where it is the end of all times, it is
@@ -213,6 +227,21 @@ impl Outcome {
                 self.state = state;
                 self.lay(offset, phase, &emission)
             }
+            Err(fault) => self.fail(phase, fault),
+        }
+    }
+
+    // Takes the answer to a call of a calculator that has kept its new state itself.
+    fn take_emission(
+        &mut self,
+        offset: Option<i64>,
+        phase: &Phase,
+        answer: Result<Emission, CalcFault>,
+    ) -> Result<(), AllocError>
+        ensures { OnOk result (TakesEmission offset phase.now answer (seen self.old) (seen self.new)) }
+    {
+        match answer {
+            Ok(emission) => self.lay(offset, phase, &emission),
             Err(fault) => self.fail(phase, fault),
         }
     }

@@ -5,7 +5,7 @@ ghost use Rattle.mg_time.specs.Time.{pre_stream, done};
 ghost use Rattle.mg_value.specs.Prefix.{IsPrefix};
 ghost use Rattle.mg_value.specs.Settled.{settled_sets, port_of, inputs_of as inputs_at};
 ghost use Rattle.mg_value.specs.Left.{without_first, gone_of};
-ghost use Rattle.mg_calc.specs.Shape.{IsOuter, IsShapeOf};
+ghost use Rattle.mg_calc.specs.Shape.{IsServed, IsOuter, IsShapeOf};
 ghost use Rattle.mg_calc.specs.Plan.{HasNumbers};
 ghost use Rattle.mg_calc.specs.Outcome.{shown};
 ghost use Rattle.mg_equations.specs.Seen.{seen};
@@ -55,6 +55,7 @@ impl Progress {
         requires known { All (λ i. i < length streams.now) node.now.inputs }
         requires ports { HasNumbers node.now }
         requires shape { IsShapeOf node.now.law node.now.shape }
+        requires served { IsServed node.now.law }
         requires can { CanGoOn node.now (inputs_at streams.now node.now.inputs) self.old }
         ensures { OnOk result (GoesOn node.now.law node.now (inputs_at streams.now node.now.inputs) self.old self.new) }
     {
@@ -71,6 +72,7 @@ impl Progress {
     // Shows it the further settled sets. Where those before reached the end of all times, there is none.
     fn show(&mut self, alloc: Global, node: &PlanNode, streams: &[Output]) -> Result<(), AllocError>
         requires law { IsOuter node.now.law }
+        requires served { IsServed node.now.law }
         requires streams { All IsPrefix streams.now }
         requires known { All (λ i. i < length streams.now) node.now.inputs }
         requires within { AreWithin self.old.read.items (inputs_at streams.now node.now.inputs) }
@@ -150,6 +152,7 @@ fn show_all(
     sets: &[TimedSet],
 ) -> Result<(), AllocError>
     requires law { IsOuter node.now.law }
+    requires served { IsServed node.now.law }
     requires room { outcome.old.taken + length sets.now < 2 ^ 64 }
     ensures { OnOk result (seen outcome.new ≡ fold (shown node.now.law node.now.shape.offset) (seen outcome.old) sets.now) }
 {

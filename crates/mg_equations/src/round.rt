@@ -7,7 +7,7 @@ ghost use Rattle.mg_value.specs.Settled.{inputs_of as inputs_at};
 ghost use Rattle.mg_calc.specs.declared.plan_node.PlanNode.{PlanNode as Node};
 ghost use Rattle.mg_calc.specs.Equations.{IsJob};
 ghost use Rattle.mg_calc.specs.Plan.{IsValid, HasNumbers};
-ghost use Rattle.mg_calc.specs.Shape.{IsShapeOf};
+ghost use Rattle.mg_calc.specs.Shape.{IsServed, IsShapeOf};
 ghost use Rattle.mg_equations.specs.declared.progress.Progress.{Progress as Kept};
 ghost use Rattle.mg_equations.specs.Changes.{changes};
 ghost use Rattle.mg_equations.specs.Progress.{HasCome, HaveCome, CanGoOn, GoesOnIf, AllGoOn, outcomes, reads_change};
@@ -50,6 +50,7 @@ fn first(
     requires known { All (λ i. i < length streams.now) node.now.inputs }
     requires ports { HasNumbers node.now }
     requires shape { IsShapeOf node.now.law node.now.shape }
+    requires served { IsServed node.now.law }
     ensures { IfOk result (HasCome (record { plan = plan.now; inputs = inputs.now }) streams.now node.now) }
 {
     let mut progress = Progress::begun(alloc, node, begun(alloc, plan, inputs, node)?)?;
@@ -136,6 +137,7 @@ fn go_on_if(
     requires changed { length changed.now ≡ length streams.now }
     requires ports { HasNumbers node.now }
     requires shape { IsShapeOf node.now.law node.now.shape }
+    requires served { IsServed node.now.law }
     requires can { CanGoOn node.now (inputs_at streams.now node.now.inputs) progress.old }
     ensures { OnOk result (GoesOnIf (reads_change changed.now node.now) node.now streams.now progress.old progress.new) }
 {

@@ -1,41 +1,16 @@
--- A law may cross threads, and so may what holds one. The search over all of a law's variants wants what its emissions are first,
--- and a struct asks it of a field, which is another term than the row of the field's type.
+-- What holds a law may cross threads, and so may a holder of a calculator that may. A struct asks it of a field, which is another term
+-- than the row of the field's type; and a type with a model asks it of its inside.
+use denote.RattleType.{RattleType}
 use denote.Param.Send.{IsSend, sendable}
-use Rattle.std.proofs.Crossing.{crosses}
-use Rattle.mg_time.proofs.timestamp.Timestamp.TheSendSync.{the_send as timestamp}
-use Rattle.mg_value.proofs.payload_list.PayloadList.TheLaws.TheKnot.{crosses as knot}
-use Rattle.mg_value.specs.contracts.packet.Packet as Packet
-use Rattle.mg_value.specs.contracts.block_list.BlockList as BlockList
-use Rattle.mg_value.specs.contracts.input_set.InputSet as InputSet
-use Rattle.mg_calc.specs.contracts.emission.Laid as Laid
-use Rattle.mg_calc.specs.contracts.law.Law as Law
-use Rattle.mg_calc.specs.contracts.call.Call as Call
-use Rattle.mg_calc.specs.contracts.state.State as State
+use Rattle.mg_calc.specs.declared.calculator.Calculator.{Ghosts}
 use Rattle.mg_calc.proofs.shape.Shape.TheSendSync.{the_field_send as shape}
+use Rattle.mg_batch.proofs.Sent.{law, state, call_log}
 use Rattle.mg_route.specs.contracts.builtin.Builtin as Builtin
 use Rattle.mg_route.specs.contracts.builtin.Builtin.TheInside as Inside
+use Rattle.mg_route.specs.contracts.holder.Held as Held
+use Rattle.mg_route.specs.contracts.holder.Holder as Holder
+use Rattle.mg_route.specs.contracts.holder.Holder.TheInside as HolderInside
 use Rattle.mg_route.specs.contracts.law_box.LawBox as LawBox
-
-packet : IsSend Packet.the_row
-packet = search (sendable, crosses, knot, timestamp) depth 40 fits 20000
-
-packets : IsSend (BlockList.the_row Packet.the_row)
-packets = search (packet, sendable, crosses) depth 20
-
-laid : IsSend Laid.the_row
-laid = search (packets, timestamp, sendable, crosses) depth 20
-
-emission : IsSend (BlockList.the_row Laid.the_row)
-emission = search (laid, sendable, crosses) depth 20
-
-emissions : IsSend (BlockList.the_row (BlockList.the_row Laid.the_row))
-emissions = search (emission, sendable, crosses) depth 20
-
-pub law : IsSend (Law.the_field).row
-law = search (emission, emissions, timestamp, sendable) depth 60 fits 50000
-
-state : IsSend (State.the_field).row
-state = search (sendable, crosses, knot) depth 40 fits 20000
 
 inside : IsSend Inside.the_row
 inside = search (law, shape, state, sendable) depth 60 fits 20000
@@ -43,14 +18,18 @@ inside = search (law, shape, state, sendable) depth 60 fits 20000
 pub builtin : IsSend Builtin.the_row
 builtin = search (inside, sendable) depth 20 fits 20000
 
-set : IsSend InputSet.the_row
-set = search (packet, sendable, crosses) depth 20 fits 20000
-
-call : IsSend Call.the_row
-call = search (set, timestamp, sendable) depth 20 fits 20000
-
-calls : IsSend (BlockList.the_row Call.the_row)
-calls = search (call, sendable, crosses) depth 20
-
 pub law_box : IsSend LawBox.the_row
-law_box = search (builtin, calls, sendable) depth 20 fits 20000
+law_box = search (builtin, call_log, sendable) depth 20 fits 20000
+
+module _ (C : RattleType) (g : Ghosts C.Denot) (s : IsSend C) where
+  held : IsSend (Held.the_field C).row
+  held = search (builtin, s, sendable) depth 40 fits 20000
+
+  holder_inside : IsSend (HolderInside.the_row C g)
+  holder_inside = search (held, sendable) depth 40 fits 20000
+
+  pub holder : IsSend (Holder.the_row C g)
+  holder = search (holder_inside, sendable) depth 40 fits 20000
+
+  pub holder_field : IsSend (Holder.the_field C g).row
+  holder_field = search (holder_inside, sendable) depth 40 fits 20000

@@ -1,6 +1,5 @@
 pub mod Held
 pub mod HolderView
-pub mod Logged
 pub mod Places
 pub mod Reasons
 -- What the prover wants of the types beside their meaning. No meaning rests on it.

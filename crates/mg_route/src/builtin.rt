@@ -1,9 +1,10 @@
 ghost use Rattle.std.specs.Prelude.{◌≡◌, ◌<◌, [], None, IfOk, OnErr, Ok};
 ghost use Rattle.mg_calc.specs.Answer.{Gives, GivesEmission, Answer};
 ghost use Rattle.mg_calc.specs.Law.{opening, step as its_step, call as its_call, finish as closing};
-ghost use Rattle.mg_calc.specs.Shape.{ParametersFit, IsShapeOf, IsOuter, IsSource, calls_of};
+ghost use Rattle.mg_calc.specs.Shape.{ParametersFit, IsShapeOf, IsServed, IsOuter, IsSource, calls_of};
 
 use crate::route::route_step;
+use mg_batch::batch_step;
 use mg_calc::{
     CalcFault, Emission, GivenList, Law, Shape, State, TryClone, no_emission, own_begin, own_step,
     source_step,
@@ -25,7 +26,7 @@ impl Model for Builtin {
     ghost use Rattle.std.specs.Prelude.{None};
     ghost use Rattle.mg_calc.specs.Told.{CalculatorTold};
     ghost use Rattle.mg_calc.specs.ToldCodes.{told_code};
-    ghost use Rattle.mg_calc.specs.Shape.{ParametersFit, IsShapeOf};
+    ghost use Rattle.mg_calc.specs.Shape.{ParametersFit, IsShapeOf, IsServed};
 
     ghost Value = { CalculatorTold };
 
@@ -33,7 +34,7 @@ impl Model for Builtin {
 
     ghost view = { λ b. record { law = b.law; shape = b.shape; state = b.state; log = None } };
 
-    ghost invariant = { λ b. ParametersFit b.law × IsShapeOf b.law b.shape };
+    ghost invariant = { λ b. ParametersFit b.law × IsShapeOf b.law b.shape × IsServed b.law };
 }
 
 impl Builtin {
@@ -41,6 +42,7 @@ impl Builtin {
     pub fn new(alloc: Global, law: &Law, shape: &Shape) -> Result<Builtin, AllocError>
         requires ranges { ParametersFit law.now }
         requires of_law { IsShapeOf law.now shape.now }
+        requires served { IsServed law.now }
         ensures { IfOk result (λ b. b ≡ record { law = law.now; shape = shape.now; state = []; log = None }) }
     {
         Ok(Builtin {
@@ -54,6 +56,7 @@ impl Builtin {
     pub fn law(&self) -> &Law
         ensures law { result.now ≡ self.now.law }
         ensures ranges { ParametersFit result.now }
+        ensures served { IsServed result.now }
     {
         &self.law
     }
@@ -144,7 +147,8 @@ fn outer_step(
     at: Timestamp,
     set: &InputSet,
 ) -> Result<(State, Emission), CalcFault>
-    requires { IsOuter law.now }
+    requires shown { IsOuter law.now }
+    requires served { IsServed law.now }
     ensures { Gives result (its_step law.now state.now at set.now) }
 {
     match law {
@@ -154,6 +158,7 @@ fn outer_step(
         | Law::Cloner { .. }
         | Law::Merge { .. }
         | Law::Thin { .. } => route_step(alloc, law, state, at, set),
+        Law::BeginLoop { .. } | Law::EndLoop => batch_step(alloc, law, state, at, set),
         _ => own_step(alloc, law, state, at, set),
     }
 }

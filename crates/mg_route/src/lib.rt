@@ -8,7 +8,6 @@ mod emissions;
 mod holder;
 mod law_box;
 mod laying;
-mod log;
 mod route;
 mod thin;
 

@@ -1,0 +1,11 @@
+pub mod Within
+pub mod InnerTimes
+pub mod Sent
+pub mod Runs
+pub mod SetsOf
+pub mod InnerRuns
+pub mod BeginRuns
+pub mod EndRuns
+pub mod Gathering
+pub mod LoopStreams
+pub mod LoopLaw

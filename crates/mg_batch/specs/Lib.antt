@@ -1,0 +1,4 @@
+pub mod Code
+pub mod Logged
+pub mod Loop
+pub mod Loops

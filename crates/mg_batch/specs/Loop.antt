@@ -1,0 +1,66 @@
+-- Loops over lists in a graph: a node that begins the loop, nodes inside it one after the other, and a node that ends it.
+use Rattle.std.specs.Prelude.{◌≡◌, ℕ, Bool, List, [], ◌∷◌, ◌++◌, filter_map, All, Option, Some, None, slice_get, if◌then◌else◌, ⊤}
+use Rattle.std.specs.Option.{option_and_then}
+use Rattle.mg_time.specs.Time.{done}
+use Rattle.mg_value.specs.Plain.{Plain, int, items, items_of}
+use Rattle.mg_value.specs.Prefix.{Stamped, StreamPrefix}
+use Rattle.mg_calc.specs.declared.law.Law.{Law}
+use Rattle.mg_calc.specs.declared.law.Law.TheVariants.{Pass, Map, Filter, BeginLoop, EndLoop}
+use Rattle.mg_calc.specs.declared.plan.Plan.{Plan}
+use Rattle.mg_calc.specs.declared.plan_node.PlanNode.{PlanNode}
+use Rattle.mg_calc.specs.Values.{number_of, items_in, iterable_port}
+use Rattle.mg_calc.specs.Own.{mapped, is_kept}
+use Rattle.mg_calc.specs.Equations.{Job, stream_of, outcome_of}
+
+-- the laws that may stand inside a loop: Pass, Map and Filter
+abbrev pub IsInner : Law → Type 0
+IsInner Pass = ⊤
+IsInner (Map op operand) = ⊤
+IsInner (Filter keep raises) = ⊤
+IsInner _ = ⊥
+
+-- what such a law makes of a payload, if it keeps it
+abbrev pub image : Law → Plain → Option Plain
+image Pass v = Some v
+image (Map op operand) v = Some (int (mapped op operand (number_of v)))
+image (Filter keep raises) v = if is_kept keep (number_of v) then Some v else None
+image _ v = None
+
+-- what nodes make of it, one after the other
+abbrev pub images : List PlanNode → Plain → Option Plain
+images [] v = Some v
+images (node ∷ nodes) v = option_and_then (images nodes) (image node.law v)
+
+-- what a loop makes of a list: the list of the images, at the list's own time
+abbrev pub list_of_images : List PlanNode → Stamped Plain → Stamped Plain
+list_of_images nodes p = record { at = p.at; value = items (items_of (filter_map (images nodes) (items_in p.value))) }
+
+-- nodes of laws that may stand inside a loop lead from one stream to another: each reads one stream and writes one, which the next reads
+abbrev pub Leads : List PlanNode → ℕ → ℕ → Type 0
+Leads [] from to = from ≡ to
+Leads (node ∷ nodes) from to = IsInner node.law × (node.inputs ≡ from ∷ []) × (out : ℕ) × (node.outputs ≡ out ∷ []) × Leads nodes out to
+
+-- a node is of a plan
+abbrev pub IsOf : Plan → PlanNode → Type 0
+IsOf plan node = (number : ℕ) × (slice_get plan.nodes number ≡ Some node)
+
+-- a loop over the lists of a stream, whose lists come out on another: a BeginLoop reads the lists; nodes lead from its ITEM, the last of
+-- its outputs, to the ITEM of an EndLoop; and this reads its BATCH_END, the first of its outputs
+pub record IsLoop (plan : Plan) (clone : Bool) (lists : ℕ) (begin : PlanNode) (inner : List PlanNode) (end : PlanNode) (out : ℕ) : Type 0 where
+  pub items : ℕ
+  pub images : ℕ
+  pub batches : ℕ
+  pub begin_law : begin.law ≡ BeginLoop clone
+  pub end_law : end.law ≡ EndLoop
+  pub reads : slice_get begin.inputs (iterable_port clone) ≡ Some lists
+  pub tells : slice_get begin.outputs 0 ≡ Some batches
+  pub gives : slice_get begin.outputs (if clone then 2 else 1) ≡ Some items
+  pub inside : Leads inner items images
+  pub ends : end.inputs ≡ batches ∷ images ∷ []
+  pub comes : end.outputs ≡ out ∷ []
+  pub nodes : All (IsOf plan) (begin ∷ end ∷ inner)
+
+-- none of some nodes fails, and none of their streams is stalled: the premise of what is said of a loop
+pub record RunThrough (job : Job) (streams : List (StreamPrefix Plain)) (nodes : List PlanNode) : Type 0 where
+  pub faultless : All (λ node. (outcome_of job streams node).fault ≡ None) nodes
+  pub ended : All (λ node. All (λ s. (stream_of streams s).bound ≡ done) (node.inputs ++ node.outputs)) nodes

@@ -1,0 +1,37 @@
+-- The calculators of loops over lists that the program hands in.
+use Rattle.std.specs.Prelude.{Bool, [], ◌++◌, None, codes, false, if◌then◌else◌}
+use Rattle.mg_value.specs.declared.kind.Kind.TheVariants.{Any, Int, Items}
+use Rattle.mg_calc.specs.declared.law.Law.TheVariants.{BeginLoop, EndLoop}
+use Rattle.mg_calc.specs.declared.shape.Shape.{Shape}
+use Rattle.mg_calc.specs.Shape.{tagged, clone_ports}
+use Rattle.mg_calc.specs.Told.{CalculatorTold}
+use Rattle.mg_batch.specs.Logged.{told_log}
+
+-- a BeginLoopCalculator, and with CLONE a BeginLoopCloneCalculator
+abbrev pub begin_shape : Bool → Shape
+begin_shape clone = record {
+  name = if clone then codes "BeginLoopCloneCalculator" else codes "BeginLoopCalculator";
+  inputs = clone_ports clone ++ tagged (codes "ITERABLE") Items;
+  outputs = tagged (codes "BATCH_END") Int ++ (clone_ports clone ++ tagged (codes "ITEM") Any);
+  sides = [];
+  offset = None;
+  stateless = false;
+}
+
+-- an EndLoopCalculator
+abbrev pub end_shape : Shape
+end_shape = record {
+  name = codes "EndLoopCalculator";
+  inputs = tagged (codes "BATCH_END") Int ++ tagged (codes "ITEM") Any;
+  outputs = tagged (codes "ITERABLE") Items;
+  sides = [];
+  offset = None;
+  stateless = false;
+}
+
+-- what a new one tells: it hasn't been opened, and where it is telling its log is empty
+abbrev pub new_begin : Bool → Bool → CalculatorTold
+new_begin clone telling = record { law = BeginLoop clone; shape = begin_shape clone; state = []; log = told_log telling [] }
+
+abbrev pub new_end : Bool → CalculatorTold
+new_end telling = record { law = EndLoop; shape = end_shape; state = []; log = told_log telling [] }

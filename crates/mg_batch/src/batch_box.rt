@@ -1,0 +1,110 @@
+ghost use Rattle.std.specs.Prelude.{◌≡◌, [], IfOk};
+ghost use Rattle.mg_calc.specs.Shape.{IsBatch, IsShapeOf};
+ghost use Rattle.mg_calc.specs.Told.{CalculatorTold};
+ghost use Rattle.mg_batch.specs.Logged.{told_log};
+
+use crate::call_log::CallLog;
+use crate::step::batch_step_in;
+use mg_calc::{
+    CalcFault, Calculator, Call, CallList, Emission, GivenList, Law, OuterShape, Shape, State,
+    no_emission, own_begin,
+};
+use mg_time::Timestamp;
+use mg_value::InputSet;
+use std::alloc::{AllocError, Global};
+use std::marker::Model;
+
+/// A calculator of a law of loops over lists that can be handed in. Where it is telling, it keeps a log of its calls, whose sets
+/// share the payloads of those that it was shown.
+#[derive(Drop)]
+pub struct BatchBox {
+    law: Law,
+    shape: Shape,
+    state: State,
+    log: CallLog,
+}
+
+impl Model for BatchBox {
+    ghost use Rattle.mg_calc.specs.Told.{CalculatorTold};
+    ghost use Rattle.mg_calc.specs.ToldCodes.{told_code};
+    ghost use Rattle.mg_calc.specs.Shape.{IsBatch, IsShapeOf};
+
+    ghost Value = { CalculatorTold };
+
+    ghost coded = { told_code };
+
+    ghost view = { λ b. record { law = b.law; shape = b.shape; state = b.state; log = b.log } };
+
+    ghost invariant = { λ b. IsBatch b.law × IsShapeOf b.law b.shape };
+}
+
+impl BatchBox {
+    /// One of a law and a shape, before it is opened.
+    pub fn new(alloc: Global, outer: OuterShape, telling: bool) -> Result<BatchBox, AllocError>
+        requires batch { IsBatch outer.law }
+        requires of_law { IsShapeOf outer.law outer.shape }
+        ensures { IfOk result (λ b. b ≡ record { law = outer.law; shape = outer.shape; state = []; log = told_log telling [] }) }
+    {
+        let OuterShape { shape, law } = outer;
+        Ok(BatchBox {
+            law,
+            shape,
+            state: State::empty(),
+            log: CallLog::new(alloc, telling),
+        })
+    }
+}
+
+impl Calculator for BatchBox {
+    ghost told = { λ b. b };
+
+    fn shape(&self) -> &Shape {
+        &self.shape
+    }
+
+    fn law(&self) -> &Law {
+        &self.law
+    }
+
+    fn begin(&mut self, alloc: Global, sides: &GivenList) -> Result<Emission, CalcFault> {
+        match own_begin(alloc, &self.law, sides) {
+            Ok((state, emission)) => {
+                self.log.note(alloc, Call::Begun)?;
+                self.state = state;
+                Ok(emission)
+            }
+            Err(CalcFault::Fault(cause)) => {
+                self.log.note(alloc, Call::Begun)?;
+                Err(CalcFault::Fault(cause))
+            }
+            Err(CalcFault::OutOfMemory) => Err(CalcFault::OutOfMemory),
+        }
+    }
+
+    fn process(
+        &mut self,
+        alloc: Global,
+        at: Timestamp,
+        set: &InputSet,
+    ) -> Result<Emission, CalcFault> {
+        self.log.note_set(alloc, at, set)?;
+        match batch_step_in(alloc, &self.law, &mut self.state, at, set) {
+            Ok(emission) => Ok(emission),
+            Err(CalcFault::Fault(cause)) => Err(CalcFault::Fault(cause)),
+            Err(CalcFault::OutOfMemory) => {
+                self.log.take_back(alloc);
+                Err(CalcFault::OutOfMemory)
+            }
+        }
+    }
+
+    fn finish(&mut self, alloc: Global) -> Result<Emission, CalcFault> {
+        let emission = no_emission(alloc)?;
+        self.log.note(alloc, Call::Finished)?;
+        Ok(emission)
+    }
+
+    fn log(&self) -> &CallList {
+        self.log.calls()
+    }
+}

@@ -1,0 +1,204 @@
+//! The items of a list go on one by one, each at an inner time (after MediaPipe's BeginLoopCalculator).
+ghost use Rattle.std.specs.Prelude.{◌≡◌, ◌+◌, ◌-◌, ◌≤◌, ◌^◌, ◌∷◌, [], ℕ, length, map, Some, option_copied, nat_le, false, IfOk, OnErr, IfSome, IsNone};
+ghost use Rattle.mg_time.specs.Time.{raw_of};
+ghost use Rattle.mg_value.specs.Payload.{plain, int};
+ghost use Rattle.mg_calc.specs.Answer.{GivesEmission};
+ghost use Rattle.mg_calc.specs.Values.{items_in as its_items, iterable_port as the_iterable_port};
+ghost use Rattle.mg_calc.specs.Batch.{inner_time as the_inner_time, at_inner_times, last_inner, laid_up_to as the_laid, copies as the_copies, begin_loop as the_begin_loop};
+ghost use Rattle.mg_batch.specs.Code.Emitted.{clone_laid, loop_emission};
+
+use crate::copying::copied;
+use mg_calc::{CalcFault, Cause, Emission, Laid, State, no_emission};
+use mg_time::Timestamp;
+use mg_value::{BlockList, InputSet, Packet, Payload};
+use std::alloc::{AllocError, Global};
+use std::sync::Arc;
+
+/// The greatest number of an inner time: that of `Timestamp::MAX`.
+const LAST: u64 = 9223372036854775804;
+
+// The inner times of a list: the number of the first, and that behind the last.
+#[derive(Drop)]
+struct Span {
+    first: u64,
+    next: u64,
+}
+
+/// The rule of BeginLoop at a set: what it emits, and its new state. A fault, and want of memory, change nothing.
+pub fn begin_loop(
+    alloc: Global,
+    clone: bool,
+    state: &mut State,
+    at: Timestamp,
+    set: &InputSet,
+) -> Result<Emission, CalcFault>
+    ensures answer { GivesEmission result state.new (the_begin_loop clone state.old at set.now) }
+    ensures kept { OnErr result (state.new ≡ state.old) }
+{
+    let Some(packet) = set.get(iterable_port(clone)) else {
+        return Ok(no_emission(alloc)?);
+    };
+    let items = items_in(&packet.payload);
+    let first = state.count();
+    let Some(next) = next_inner(first, items.len()) else {
+        return Err(CalcFault::Fault(Cause::Overflow));
+    };
+    let span = Span { first, next };
+    let cloned = copies_laid(alloc, clone, &span, items.len(), set.get(0))?;
+    let emission = batch(alloc, &span, at, items, cloned)?;
+    *state = State::of_number(next as i64);
+    Ok(emission)
+}
+
+fn iterable_port(clone: bool) -> u32
+    ensures { result ≡ the_iterable_port clone }
+{
+    if clone { 1 } else { 0 }
+}
+
+// The items of a list; none where a payload is no list.
+fn items_in(payload: &Payload) -> &[Payload]
+    ensures { map plain result.now ≡ its_items (plain payload.now) }
+{
+    match payload {
+        Payload::Items(list) => list.as_slice(),
+        _ => &[],
+    }
+}
+
+// The number of the inner time behind a list of so many items that begins at one, if there is one.
+fn next_inner(first: u64, count: usize) -> Option<u64>
+    ensures some { IfSome result (λ next. (next ≡ last_inner first count + 1) × (next ≤ 2 ^ 63 - 4)) }
+    ensures none { IsNone result → nat_le (last_inner first count + 1) (2 ^ 63 - 4) ≡ false }
+{
+    let taken = if count == 0 { 1 } else { count as u64 };
+    let next = first.checked_add(taken)?;
+    if next <= LAST { Some(next) } else { None }
+}
+
+// The inner time of a number.
+fn inner_time(number: u64) -> Timestamp
+    requires { number ≤ 2 ^ 63 - 4 }
+    ensures { result ≡ the_inner_time number }
+{
+    match Timestamp::of_range(number as i64) {
+        Some(at) => at,
+        None => unreachable!(),
+    }
+}
+
+// Copies of payloads as packets, at the inner times from a number on.
+fn stamped(alloc: Global, first: u64, items: &[Payload]) -> Result<Vec<Packet>, AllocError>
+    requires { first + length items.now ≤ 2 ^ 63 - 4 }
+    ensures { IfOk result (λ packets. packets.items ≡ at_inner_times first (map plain items.now)) }
+{
+    let mut packets = Vec::with_capacity(alloc, items.len())?;
+    let mut number = first;
+    for item in items {
+        let payload = Arc::new(alloc, copied(alloc, item)?)?;
+        let at = inner_time(number);
+        packets.push(Packet { at, payload })?;
+        number += 1;
+    }
+    Ok(packets)
+}
+
+// Packets that share a payload, so many, at the inner times from a number on.
+fn copies(
+    alloc: Global,
+    first: u64,
+    count: usize,
+    packet: &Packet,
+) -> Result<Vec<Packet>, AllocError>
+    requires { first + count ≤ 2 ^ 63 - 4 }
+    ensures { IfOk result (λ packets. packets.items ≡ the_copies first count (Some packet.now)) }
+{
+    let mut packets = Vec::with_capacity(alloc, count)?;
+    for i in 0..count {
+        let payload = Arc::try_clone(&packet.payload)?;
+        let at = inner_time(first + i as u64);
+        packets.push(Packet { at, payload })?;
+    }
+    Ok(packets)
+}
+
+// What is laid at an output: packets, and then a raise to the next inner time.
+fn laid_up_to(packets: Vec<Packet>, next: u64) -> Result<Laid, AllocError>
+    requires { next ≤ 2 ^ 63 - 4 }
+    ensures { IfOk result (λ laid. (last : ℕ) → next ≡ last + 1 → laid ≡ the_laid last packets.items) }
+{
+    let packets = BlockList::from_vec(packets)?;
+    Ok(Laid {
+        packets,
+        bound: Some(inner_time(next)),
+    })
+}
+
+// What is laid at CLONE, where it is there.
+fn copies_laid(
+    alloc: Global,
+    clone: bool,
+    span: &Span,
+    count: usize,
+    packet: Option<&Packet>,
+) -> Result<Option<Laid>, AllocError>
+    requires span { span.now.next ≡ last_inner span.now.first count + 1 }
+    requires last { span.now.next ≤ 2 ^ 63 - 4 }
+    ensures { IfOk result (λ laid. laid ≡ clone_laid clone (last_inner span.now.first count) (the_copies span.now.first count (option_copied packet.entry))) }
+{
+    if clone {
+        let packets = cloned(alloc, span.first, count, packet)?;
+        return Ok(Some(laid_up_to(packets, span.next)?));
+    }
+    Ok(None)
+}
+
+// Packets that share the payload of CLONE, if it has one.
+fn cloned(
+    alloc: Global,
+    first: u64,
+    count: usize,
+    packet: Option<&Packet>,
+) -> Result<Vec<Packet>, AllocError>
+    requires { first + count ≤ 2 ^ 63 - 4 }
+    ensures { IfOk result (λ packets. packets.items ≡ the_copies first count (option_copied packet.entry)) }
+{
+    match packet {
+        Some(packet) => copies(alloc, first, count, packet),
+        None => Ok(Vec::new(alloc)),
+    }
+}
+
+// The end of a batch that began with a list at a time, at the last inner time of the list.
+fn end_laid(alloc: Global, at: Timestamp, next: u64) -> Result<Laid, AllocError>
+    requires some { 1 ≤ next }
+    requires last { next ≤ 2 ^ 63 - 4 }
+    ensures { IfOk result (λ laid. (last : ℕ) → next ≡ last + 1 → laid ≡ the_laid last (record { at = the_inner_time last; value = int (raw_of at) } ∷ [])) }
+{
+    let payload = Arc::new(alloc, Payload::Int(at.raw()))?;
+    let end = Packet {
+        at: inner_time(next - 1),
+        payload,
+    };
+    Laid::new(alloc, Some(end), Some(inner_time(next)))
+}
+
+// The emission for a list at a time, with what is laid at CLONE.
+fn batch(
+    alloc: Global,
+    span: &Span,
+    at: Timestamp,
+    items: &[Payload],
+    cloned: Option<Laid>,
+) -> Result<Emission, AllocError>
+    requires span { span.now.next ≡ last_inner span.now.first (length items.now) + 1 }
+    requires last { span.now.next ≤ 2 ^ 63 - 4 }
+    ensures { IfOk result (λ emission. emission ≡ loop_emission span.now.first (last_inner span.now.first (length items.now)) at (map plain items.now) cloned) }
+{
+    let end = end_laid(alloc, at, span.next)?;
+    let items = laid_up_to(stamped(alloc, span.first, items)?, span.next)?;
+    match cloned {
+        Some(cloned) => Ok(BlockList::from_vec(vec![in alloc; end, cloned, items]?)?),
+        None => Ok(BlockList::from_vec(vec![in alloc; end, items]?)?),
+    }
+}

@@ -1,0 +1,130 @@
+//! Items are gathered into a list, which goes on at the time that the end of a batch tells (after MediaPipe's
+//! EndLoopCalculator).
+ghost use Rattle.std.specs.Prelude.{◌≡◌, ◌≤ℤ◌, map, ◌∷◌, [], Some, nat_le, option_copied, unwrap_or, option_map, false, IfOk, OnErr};
+ghost use Rattle.mg_time.specs.Time.{place_of, raw_of, least, greatest};
+ghost use Rattle.mg_value.specs.Plain.{items, items_of, depth};
+ghost use Rattle.mg_value.specs.Payload.{plain};
+ghost use Rattle.mg_calc.specs.Answer.{GivesEmission, emission_of};
+ghost use Rattle.mg_calc.specs.State.{kept_list, full_places};
+ghost use Rattle.mg_calc.specs.Batch.{end_loop as the_end_loop};
+ghost use Rattle.mg_batch.specs.Code.Gathered.{with_more};
+
+use crate::copying::{all_copied, copied};
+use crate::nesting::nests;
+use mg_calc::{CalcFault, Cause, Emission, State, no_emission, number_of_packet, one_packet};
+use mg_time::Timestamp;
+use mg_value::{InputSet, Packet, Payload, PayloadList};
+use std::alloc::{AllocError, Global};
+use std::sync::Arc;
+
+/// How deep lists and records may nest in an item.
+const DEEPEST: u32 = 15;
+
+/// The rule of EndLoop at a set: what it emits, and its new state. A fault, and want of memory, change nothing.
+pub fn end_loop(alloc: Global, state: &mut State, set: &InputSet) -> Result<Emission, CalcFault>
+    ensures answer { GivesEmission result state.new (the_end_loop state.old set.now) }
+    ensures kept { OnErr result (state.new ≡ state.old) }
+{
+    let item = set.get(1);
+    if is_too_deep(item) {
+        return Err(CalcFault::Fault(Cause::TooDeep));
+    }
+    let Some(end) = set.get(0) else {
+        let emission = no_emission(alloc)?;
+        keep(alloc, state, item)?;
+        return Ok(emission);
+    };
+    let emission = gathered(alloc, state, item, time_of(number_of_packet(end)))?;
+    *state = State::empty();
+    Ok(emission)
+}
+
+// Whether a list with the item of a packet would be deeper than a payload may be.
+fn is_too_deep(item: Option<&Packet>) -> bool
+    ensures { result ≡ unwrap_or (option_map (λ p. nat_le 16 (depth p.value)) (option_copied item.entry)) false }
+{
+    match item {
+        Some(packet) => nests(&packet.payload, DEEPEST + 1),
+        None => false,
+    }
+}
+
+// Keeps the list so far, with a further item, if there is one.
+fn keep(alloc: Global, state: &mut State, item: Option<&Packet>) -> Result<(), AllocError>
+    ensures more { IfOk result (λ _. state.new ≡ full_places (with_more (kept_list state.old) (option_copied item.entry))) }
+    ensures same { OnErr result (state.new ≡ state.old) }
+{
+    match item {
+        Some(packet) => {
+            let payload = Arc::try_clone(&packet.payload)?;
+            state.push(alloc, payload)
+        }
+        None => state.fill(alloc),
+    }
+}
+
+// The list so far, with a further item, if there is one, as a packet at a time.
+fn gathered(
+    alloc: Global,
+    state: &State,
+    item: Option<&Packet>,
+    at: Timestamp,
+) -> Result<Emission, AllocError>
+    ensures { IfOk result (λ emission. emission ≡ emission_of (Some (record { at = at; value = items (items_of (with_more (kept_list state.now) (option_copied item.entry))) }) ∷ [])) }
+{
+    let payload = list_of(alloc, state, item)?;
+    let payload = Arc::new(alloc, payload)?;
+    one_packet(alloc, Packet { at, payload })
+}
+
+fn list_of(alloc: Global, state: &State, item: Option<&Packet>) -> Result<Payload, AllocError>
+    ensures { IfOk result (λ p. plain p ≡ items (items_of (with_more (kept_list state.now) (option_copied item.entry)))) }
+{
+    let list = state.list(alloc)?;
+    let mut payloads = all_copied(alloc, list.as_slice())?;
+    put(alloc, &mut payloads, item)?;
+    Ok(Payload::Items(PayloadList::from_vec(payloads)?))
+}
+
+// Puts the item of a packet behind payloads, if there is one.
+fn put(alloc: Global, payloads: &mut Vec<Payload>, item: Option<&Packet>) -> Result<(), AllocError>
+    ensures { IfOk result (λ _. map plain payloads.new.items ≡ with_more (map plain payloads.old.items) (option_copied item.entry)) }
+{
+    if let Some(packet) = item {
+        payloads.push(copied(alloc, &packet.payload)?)?;
+    }
+    Ok(())
+}
+
+// The timestamp with a number, of the range or not.
+fn time_of(number: i64) -> Timestamp
+    ensures { result ≡ place_of number }
+{
+    match Timestamp::of_range(number) {
+        Some(at) => at,
+        None => special_time(number),
+    }
+}
+
+// The timestamp with a number that isn't of the range.
+fn special_time(number: i64) -> Timestamp
+    requires { ¬ ((raw_of least ≤ℤ number) × (number ≤ℤ raw_of greatest)) }
+    ensures { result ≡ place_of number }
+{
+    if number == Timestamp::UNSET.raw() {
+        return Timestamp::UNSET;
+    }
+    if number == Timestamp::UNSTARTED.raw() {
+        return Timestamp::UNSTARTED;
+    }
+    if number == Timestamp::PRE_STREAM.raw() {
+        return Timestamp::PRE_STREAM;
+    }
+    if number == Timestamp::POST_STREAM.raw() {
+        return Timestamp::POST_STREAM;
+    }
+    if number == Timestamp::ONE_OVER_POST_STREAM.raw() {
+        return Timestamp::ONE_OVER_POST_STREAM;
+    }
+    Timestamp::DONE
+}

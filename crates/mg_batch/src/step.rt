@@ -1,0 +1,53 @@
+//! The laws of loops over lists, by law.
+ghost use Rattle.std.specs.Prelude.{◌≡◌, OnErr};
+ghost use Rattle.mg_calc.specs.Answer.{Gives, GivesEmission};
+ghost use Rattle.mg_calc.specs.Law.{step};
+ghost use Rattle.mg_calc.specs.Shape.{IsBatch};
+
+use crate::begin_loop::begin_loop;
+use crate::end_loop::end_loop;
+use mg_calc::{CalcFault, Cause, Emission, Law, State, has_wrong_kind};
+use mg_time::Timestamp;
+use mg_value::InputSet;
+use std::alloc::Global;
+
+/// What a calculator of a law of loops over lists gives at a set: its new state and its emission, or its cause.
+///
+/// The new state shares the payloads that the old one keeps, one by one. Who holds the state alone takes `batch_step_in`.
+pub fn batch_step(
+    alloc: Global,
+    law: &Law,
+    state: &State,
+    at: Timestamp,
+    set: &InputSet,
+) -> Result<(State, Emission), CalcFault>
+    requires { IsBatch law.now }
+    ensures { Gives result (step law.now state.now at set.now) }
+{
+    let mut kept = state.try_clone(alloc)?;
+    let emission = batch_step_in(alloc, law, &mut kept, at, set)?;
+    Ok((kept, emission))
+}
+
+/// The same, in place: what it costs grows with the set and with what is emitted, and not with what is kept. A fault, and want of
+/// memory, change nothing.
+pub fn batch_step_in(
+    alloc: Global,
+    law: &Law,
+    state: &mut State,
+    at: Timestamp,
+    set: &InputSet,
+) -> Result<Emission, CalcFault>
+    requires { IsBatch law.now }
+    ensures answer { GivesEmission result state.new (step law.now state.old at set.now) }
+    ensures kept { OnErr result (state.new ≡ state.old) }
+{
+    if has_wrong_kind(law, set) {
+        return Err(CalcFault::Fault(Cause::WrongKind));
+    }
+    match law {
+        Law::BeginLoop { clone } => begin_loop(alloc, *clone, state, at, set),
+        Law::EndLoop => end_loop(alloc, state, set),
+        _ => unreachable!(),
+    }
+}
