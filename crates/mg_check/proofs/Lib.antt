@@ -6,6 +6,7 @@ pub mod MetKinds
 pub mod Numbering
 mod OrderExamples
 pub mod OrderFacts
+pub mod LargestCycle
 pub mod SoundKinds
 pub mod SoundDrafts
 pub mod Boxes

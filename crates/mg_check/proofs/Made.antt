@@ -1,5 +1,5 @@
 -- A plan by its parts.
-use Rattle.std.proofs.Common.{ℕ, ℤ, ◌≡◌, List, [], ◌∷◌, ◌++◌, false, length, map, refl, ap, ◌∙◌, zip}
+use Rattle.std.proofs.Common.{None, ℕ, ℤ, ◌≡◌, List, [], ◌∷◌, ◌++◌, length, map, refl, ap, ◌∙◌, zip}
 use Rattle.mg_config.specs.Config.{GraphView}
 use Rattle.mg_subgraph.specs.Refusals.{port_names}
 use Rattle.mg_value.specs.declared.kind.Kind.{Kind}
@@ -34,12 +34,12 @@ shown_streams graph ds made names mets items ws written is named is_items met is
     ∙ (ap (streams_of (stream_names graph ds) (map met_of (stream_meetings graph ds))) (is_written ∙ writes)
     ∙ met_streams (stream_names graph ds) (stream_meetings graph ds) (writers graph ds))))
 
-pub all_edges_made : (graph : GraphView) (ds : List DraftView) (new old : List Edge) (names : List (List ℕ)) (count : ℕ) → new ≡ old ++ edges_into names count false (port_names graph.outputs) → old ≡ node_edges names 0 ds → names ≡ stream_names graph ds
+pub all_edges_made : (graph : GraphView) (ds : List DraftView) (new old : List Edge) (names : List (List ℕ)) (count : ℕ) → new ≡ old ++ edges_into names count None (port_names graph.outputs) → old ≡ node_edges names 0 ds → names ≡ stream_names graph ds
     → count ≡ length ds → new ≡ edges graph ds
 all_edges_made graph ds new old names count put made named counted =
-    put ∙ (ap (λ l. l ++ edges_into names count false (port_names graph.outputs)) made
-    ∙ (ap (λ l. node_edges l 0 ds ++ edges_into l count false (port_names graph.outputs)) named
-    ∙ ap (λ n. node_edges (stream_names graph ds) 0 ds ++ edges_into (stream_names graph ds) n false (port_names graph.outputs)) counted))
+    put ∙ (ap (λ l. l ++ edges_into names count None (port_names graph.outputs)) made
+    ∙ (ap (λ l. node_edges l 0 ds ++ edges_into l count None (port_names graph.outputs)) named
+    ∙ ap (λ n. node_edges (stream_names graph ds) 0 ds ++ edges_into (stream_names graph ds) n None (port_names graph.outputs)) counted))
 
 pub plan_made : (graph : GraphView) (ds : List DraftView) (nodes : List PlanNode) (streams : List PlanStream) (edges : List Edge) (order inputs outputs : List ℕ) (sides : List PlainSide) (limit : ℤ) (workers : ℕ)
     → nodes ≡ plan_nodes (stream_names graph ds) (side_names graph ds) (length graph.inputs) ds → streams ≡ plan_streams graph ds → edges ≡ joining.edges graph ds → order ≡ joining.order graph ds → inputs ≡ numbers (length graph.inputs)

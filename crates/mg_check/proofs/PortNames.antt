@@ -11,7 +11,7 @@ use Rattle.mg_calc.specs.declared.shape.Shape.{Shape}
 use Rattle.mg_kinds.specs.Laws.{SettingsView, names_of}
 use Rattle.mg_kinds.specs.declared.ports.Ports.{Ports}
 use Rattle.mg_subgraph.proofs.Indexed.{place_found, place_none}
-use Rattle.mg_check.specs.Drafts.{DraftView, name_at, label_of, flight_of, box_of, is_at_loop, draft_with}
+use Rattle.mg_check.specs.Drafts.{DraftView, name_at, label_of, flight_of, box_of, may_be_back, back_of, draft_with}
 use Rattle.mg_check.specs.Code.Judged.{AreTexts}
 use Rattle.mg_check.specs.declared.node_kind.NodeKind.{NodeKind}
 use Rattle.mg_check.specs.declared.port_texts.PortTexts.{PortTexts}
@@ -36,7 +36,7 @@ text_lost given p tag place same known lost =
     cc
 
 -- a draft of these parts
-abbrev pub the_draft : SettingsView → Policy → Shape → PortTexts → List ℕ → ℕ → Option ℕ → Bool → Bool → DraftView
+abbrev pub the_draft : SettingsView → Policy → Shape → PortTexts → List ℕ → ℕ → Option ℕ → Option ℕ → Bool → DraftView
 the_draft settings policy shape texts label flight box_number back misplaced = record {
   label = label;
   law = settings.law;
@@ -53,9 +53,9 @@ the_draft settings policy shape texts label flight box_number back misplaced = r
   misplaced = misplaced;
 }
 
-pub draft_made : (node : NodeView) (kind : NodeKind) (ports : Ports) (settings : SettingsView) (policy : Policy) (shape : Shape) (texts : PortTexts) (label : List ℕ) (flight : ℕ) (box_number : Option ℕ) (back misplaced : Bool)
+pub draft_made : (node : NodeView) (kind : NodeKind) (ports : Ports) (settings : SettingsView) (policy : Policy) (shape : Shape) (texts : PortTexts) (label : List ℕ) (flight : ℕ) (box_number back : Option ℕ) (misplaced : Bool)
     → label ≡ label_of node → AreTexts texts node ports → flight ≡ flight_of (box_of kind) shape.stateless node.max_in_flight → box_number ≡ box_of kind
-    → back ≡ list_any (is_at_loop settings.law) node.back_marks → misplaced ≡ list_any (λ mark. not (is_at_loop settings.law mark)) node.back_marks
+    → back ≡ back_of settings.law node.back_marks → misplaced ≡ list_any (λ mark. not (may_be_back settings.law mark)) node.back_marks
     → the_draft settings policy shape texts label flight box_number back misplaced ≡ draft_with node kind ports settings policy shape
 draft_made node kind ports settings policy shape texts label flight box_number back misplaced e_label e_texts e_flight e_box e_back e_misplaced = λ t.
     record {

@@ -10,7 +10,7 @@ use Rattle.mg_value.specs.declared.policy.Policy.{Policy}
 use Rattle.mg_value.specs.declared.policy.Policy.TheVariants.{Default}
 use Rattle.mg_config.specs.declared.mark.Mark.{Mark}
 use Rattle.mg_calc.specs.declared.law.Law.{Law}
-use Rattle.mg_calc.specs.declared.law.Law.TheVariants.{Loopback, Mux}
+use Rattle.mg_calc.specs.declared.law.Law.TheVariants.{Loopback, Mux, FirstCome, Limiter}
 use Rattle.mg_calc.specs.declared.shape.Shape.{Shape}
 use Rattle.mg_calc.specs.declared.shape.OuterShape.{OuterShape}
 use Rattle.mg_calc.specs.Plan.{MayHavePolicy}
@@ -22,9 +22,9 @@ use Rattle.mg_kinds.specs.declared.ports.Ports.{Ports}
 use Rattle.mg_kinds.proofs.Made.{made_by, mapped_by}
 use Rattle.mg_check.specs.Check.{IsOuterShape}
 use Rattle.mg_check.specs.Choosing.{Chosen}
-use Rattle.mg_check.specs.Drafts.{DraftView, draft_of, draft_with, flight_of, up_to_64, is_loopback, is_at_loop, name_at, box_of}
-use Rattle.mg_check.specs.Fitting.{node_ports, node_settings, node_shape, policy_of, own_policy, mux_policy}
-use Rattle.mg_check.specs.Code.Sound.{HasNames, HasFlight, IsSound, FitsDraft}
+use Rattle.mg_check.specs.Drafts.{DraftView, draft_of, draft_with, flight_of, up_to_64, may_be_back, back_port, back_of, name_at, box_of}
+use Rattle.mg_check.specs.Fitting.{node_ports, node_settings, node_shape, policy_of, own_policy, default_policy, mux_policy, immediate_policy}
+use Rattle.mg_check.specs.Code.Sound.{HasNames, HasFlight, IsBackPort, IsSound, FitsDraft}
 use Rattle.mg_check.proofs.SoundKinds.{LooksSo, suits}
 
 -- What a draft is made of.
@@ -95,26 +95,42 @@ flight_stateful None false most is = refl
 flight_stateful (Some n) stateless most is = refl
 
 -- The policy that a law may have.
-may_have : (rule : Law) (policy : Policy) (a b c : Bool)
-    → (if a then Some (own_policy rule) else (if b then Some Default else (if c then mux_policy rule else None))) ≡ Some policy → MayHavePolicy rule policy
-may_have (Mux lanes) policy a b c e = tt
-may_have rule policy true b c e = sym (same_Some Default policy e)
-may_have rule policy false true c e = sym (same_Some Default policy e)
-may_have rule policy false false true e = absurd (none-some policy e)
-may_have rule policy false false false e = absurd (none-some policy e)
+may_have : (rule : Law) (policy : Policy) (a b c d : Bool)
+    → (if a then Some (own_policy rule) else (if b then default_policy rule else (if c then mux_policy rule else (if d then immediate_policy rule else None)))) ≡ Some policy → MayHavePolicy rule policy
+may_have (Mux lanes) policy a b c d e = tt
+may_have (FirstCome lanes) policy true b c d e = sym (same_Some Default policy e)
+may_have (FirstCome lanes) policy false true c d e = sym (same_Some Default policy e)
+may_have (FirstCome lanes) policy false false true d e = absurd (none-some policy e)
+may_have (FirstCome lanes) policy false false false true e = sym (same_Some Default policy e)
+may_have (FirstCome lanes) policy false false false false e = absurd (none-some policy e)
+may_have (Limiter most) policy true b c d e = sym (same_Some Default policy e)
+may_have (Limiter most) policy false true c d e = absurd (none-some policy e)
+may_have (Limiter most) policy false false true d e = absurd (none-some policy e)
+may_have (Limiter most) policy false false false true e = sym (same_Some Default policy e)
+may_have (Limiter most) policy false false false false e = absurd (none-some policy e)
+may_have rule policy true b c d e = sym (same_Some Default policy e)
+may_have rule policy false true c d e = sym (same_Some Default policy e)
+may_have rule policy false false true d e = absurd (none-some policy e)
+may_have rule policy false false false true e = absurd (none-some policy e)
+may_have rule policy false false false false e = absurd (none-some policy e)
 
--- Only LOOP of a loopback is back.
-from_loopback : (rule : Law) → is_loopback rule ≡ true → rule ≡ Loopback
-from_loopback Loopback e = refl
-from_loopback rule e = absurd (true≢false (sym e))
+-- What may be back: LOOP of a loopback and FINISHED of a limiter.
+back_marked : (rule : Law) (mark : Mark) → may_be_back rule mark ≡ true → IsBackPort rule (back_port rule)
+back_marked Loopback mark e = inl (refl, refl)
+back_marked (Limiter most) mark e = inr (refl, tt)
+back_marked rule mark e = absurd (true≢false (sym e))
 
-back_loopback : (rule : Law) (marks : List Mark) → list_any (is_at_loop rule) marks ≡ true → rule ≡ Loopback
-back_loopback rule [] e = absurd (true≢false (sym e))
-back_loopback rule (mark ∷ marks) e =
-    elim (or_cases (is_at_loop rule mark) (list_any (is_at_loop rule) marks) e) [
-      | inl here ↦ from_loopback rule (and_parts (is_loopback rule) (bytes_eq mark.tag (tag_text Loop)) (and_parts (is_loopback rule && bytes_eq mark.tag (tag_text Loop)) (mark.index == 0) here).0).0
-      | inr later ↦ back_loopback rule marks later
-    ]
+back_any : (rule : Law) (marks : List Mark) → list_any (may_be_back rule) marks ≡ true → IsBackPort rule (back_port rule)
+back_any rule [] e = absurd (true≢false (sym e))
+back_any rule (mark ∷ marks) e =
+    elim (or_cases (may_be_back rule mark) (list_any (may_be_back rule) marks) e) [ inl here ↦ back_marked rule mark here | inr later ↦ back_any rule marks later ]
+
+back_sound : (rule : Law) (marks : List Mark) → IfSome (back_of rule marks) (IsBackPort rule)
+back_sound rule marks = by (list_any (may_be_back rule) marks) refl
+  where
+    by : (t : Bool) → list_any (may_be_back rule) marks ≡ t → IfSome (if t then Some (back_port rule) else None) (IsBackPort rule)
+    by true is = back_any rule marks is
+    by false is = tt
 
 -- Each draft.
 record HoldsOf (outers : List OuterShape) (d : DraftView) : Type 0 where
@@ -151,8 +167,9 @@ draft_holds outers c d all e =
       parameters = h.parameters;
       shape = h.shape_of;
       flight = flight;
-      policy = may_have m.settings.law m.policy (bytes_eq c.node.handler []) (bytes_eq c.node.handler (codes "DefaultInputStreamHandler")) (bytes_eq c.node.handler (codes "MuxInputStreamHandler")) m.asked;
-      back = back_loopback m.settings.law c.node.back_marks;
+      policy = may_have m.settings.law m.policy (bytes_eq c.node.handler []) (bytes_eq c.node.handler (codes "DefaultInputStreamHandler")) (bytes_eq c.node.handler (codes "MuxInputStreamHandler"))
+          (bytes_eq c.node.handler (codes "ImmediateInputStreamHandler")) m.asked;
+      back = back_sound m.settings.law c.node.back_marks;
     } in
     let holds : HoldsOf outers made = record { sound = sound; fits = fits_draft outers made (box_of c.kind) h.outer } in
     subst (HoldsOf outers) m.is holds

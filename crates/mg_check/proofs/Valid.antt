@@ -1,12 +1,14 @@
 -- The plan of drafts that aren't refused is valid.
-use Rattle.std.proofs.Common.{◌≤◌, ◌≡◌, List, All, Option, None, Some, Ok, length, refl, ◌∙◌, subst, arith}
+use Rattle.std.proofs.Common.{◌≤◌, ◌≡◌, List, [], ◌∷◌, All, Option, None, Some, Ok, length, refl, ◌∙◌, subst, arith}
+use Rattle.std.specs.Prelude.{⊤}
 use Rattle.std.specs.List.{AllByRecursion}
-use Rattle.std.proofs.lemmas.List.Elements.{recursion_from_All}
+use Rattle.std.proofs.lemmas.List.Elements.{All-from_recursion, recursion_from_All}
 use Rattle.mg_config.specs.Config.{GraphView}
 use Rattle.mg_subgraph.proofs.Joins.{none_left, none_right}
 use Rattle.mg_calc.specs.declared.shape.OuterShape.{OuterShape}
 use Rattle.mg_calc.specs.declared.plan.Plan.{Plan}
-use Rattle.mg_calc.specs.Plan.{IsValid, OutersFit}
+use Rattle.mg_calc.specs.declared.plan_node.PlanNode.{PlanNode}
+use Rattle.mg_calc.specs.Plan.{IsValidWithFree, OutersFit}
 use Rattle.mg_check.specs.Drafts.{DraftView, drafts, node_refusal}
 use Rattle.mg_check.specs.Joining.{stream_names, side_names, join_refusal}
 use Rattle.mg_check.specs.Planning.{plan_of}
@@ -22,7 +24,11 @@ use Rattle.mg_check.proofs.ValidNodes.{HasOuter, valid_ports, valid_parameters, 
 use Rattle.mg_check.proofs.ValidRanges.{are_joined, valid_ranges}
 use Rattle.mg_check.proofs.ValidOrder.{valid_order, valid_forward}
 
-pub joined_is_valid : (outers : List OuterShape) (graph : GraphView) (ds : List DraftView) → AreSound outers ds → length ds ≤ 4096 → join_refusal graph ds ≡ None → IsValid (plan_of graph ds)
+any_laws : (nodes : List PlanNode) → AllByRecursion (λ node. ⊤) nodes
+any_laws [] = tt
+any_laws (node ∷ nodes) = (tt, any_laws nodes)
+
+pub joined_is_valid : (outers : List OuterShape) (graph : GraphView) (ds : List DraftView) → AreSound outers ds → length ds ≤ 4096 → join_refusal graph ds ≡ None → IsValidWithFree (plan_of graph ds)
 joined_is_valid outers graph ds known short none =
     let sound : AllByRecursion IsSound ds = recursion_from_All IsSound ds known.each in
     let named : AllByRecursion HasNames ds = all_so IsSound HasNames ds (λ d s. s.names) sound in
@@ -42,6 +48,7 @@ joined_is_valid outers graph ds known short none =
       order = valid_order graph ds together.none_wait;
       forward = valid_forward graph ds named;
       back = valid_back graph ds sound;
+      laws = All-from_recursion (λ (node : PlanNode). ⊤) (plan_of graph ds).nodes (any_laws (plan_of graph ds).nodes);
     }
 
 -- the calculators that are handed in fit it
@@ -51,7 +58,7 @@ joined_fits outers graph ds known = outers_fit outers graph ds (recursion_from_A
 -- A graph that isn't refused has a valid plan, and the calculators that are handed in fit it.
 
 pub plan_is_valid : (outers : List OuterShape) (graph : GraphView) → All IsOuterShape outers → length graph.nodes ≤ 4096 → refusal outers graph ≡ None
-    → IsValid (plan_of graph (drafts outers graph.nodes)) × OutersFit (plan_of graph (drafts outers graph.nodes)) outers
+    → IsValidWithFree (plan_of graph (drafts outers graph.nodes)) × OutersFit (plan_of graph (drafts outers graph.nodes)) outers
 plan_is_valid outers graph shaped few none =
     let ds = drafts outers graph.nodes in
     let known = drafts-are-sound outers graph.nodes shaped in
@@ -59,13 +66,13 @@ plan_is_valid outers graph shaped few none =
     (joined_is_valid outers graph ds known short (none_right (node_refusal outers graph.nodes) (join_refusal graph ds) none), joined_fits outers graph ds known)
 
 -- and so has one that is given
-pub checked_is_valid : (outers : List OuterShape) (graph : GraphView) (plan : Plan) → All IsOuterShape outers → length graph.nodes ≤ 4096 → check_of outers graph ≡ Ok plan → IsValid plan × OutersFit plan outers
+pub checked_is_valid : (outers : List OuterShape) (graph : GraphView) (plan : Plan) → All IsOuterShape outers → length graph.nodes ≤ 4096 → check_of outers graph ≡ Ok plan → IsValidWithFree plan × OutersFit plan outers
 checked_is_valid outers graph plan shaped few given = by (refusal outers graph) refl given
   where
-    by : (o : Option CheckFault) → refusal outers graph ≡ o → check_by o (plan_of graph (drafts outers graph.nodes)) ≡ Ok plan → IsValid plan × OutersFit plan outers
+    by : (o : Option CheckFault) → refusal outers graph ≡ o → check_by o (plan_of graph (drafts outers graph.nodes)) ≡ Ok plan → IsValidWithFree plan × OutersFit plan outers
     by None none given =
         let same : plan_of graph (drafts outers graph.nodes) ≡ plan = cc in
-        subst (λ p. IsValid p × OutersFit p outers) same (plan_is_valid outers graph shaped few none)
+        subst (λ p. IsValidWithFree p × OutersFit p outers) same (plan_is_valid outers graph shaped few none)
     by (Some fault) none given = cc
 
 -- with a node for each node

@@ -1,8 +1,8 @@
 -- The edges of a plan: what they join, and which of them are back.
-use Rattle.std.proofs.Common.{ℕ, zero, suc, ◌+◌, ◌≡◌, List, [], ◌∷◌, ◌++◌, All, Bool, true, false, ◌&&◌, ◌==◌, Some, length, map, refl, sym, ap, ◌∙◌, subst}
+use Rattle.std.proofs.Common.{ℕ, zero, suc, ◌+◌, ◌≡◌, List, [], ◌∷◌, ◌++◌, All, true, Option, None, Some, IfSome, inl, inr, ◌⊎◌, length, map, refl, sym, ap, ◌∙◌, subst}
 use Rattle.std.specs.Prelude.{slice_get, IsSomeAnd}
 use Rattle.std.specs.List.{AllByRecursion, enumerate_from, flat_map}
-use Rattle.std.proofs.lemmas.Bool.{false≢true, and_parts, eqb-true}
+use Rattle.std.proofs.lemmas.Bool.{false≢true, eqb-true}
 use Rattle.std.proofs.lemmas.List.{map-append}
 use Rattle.std.proofs.lemmas.List.Elements.{All-from_recursion}
 use Rattle.std.proofs.lemmas.Option.{same_Some}
@@ -11,23 +11,24 @@ use Rattle.mg_subgraph.specs.Refusals.{port_names}
 use Rattle.mg_calc.specs.declared.edge.Edge.{Edge}
 use Rattle.mg_calc.specs.declared.law.Law.TheVariants.{Loopback}
 use Rattle.mg_calc.specs.declared.plan_node.PlanNode.{PlanNode}
-use Rattle.mg_calc.specs.Plan.{Ends, ends_of, ends_at, all_ends, EndsAtLoop}
+use Rattle.mg_calc.specs.Plan.{Ends, ends_of, ends_at, all_ends, EndsAtLoop, EndsAtFinished}
+use Rattle.mg_calc.specs.Shape.{IsLimiter}
 use Rattle.mg_check.specs.Drafts.{DraftView}
 use Rattle.mg_check.specs.Names.{number_in}
-use Rattle.mg_check.specs.Joining.{stream_names, side_names, edges_into, node_edges, edges}
+use Rattle.mg_check.specs.Joining.{stream_names, side_names, is_back_at, edges_into, node_edges, edges}
 use Rattle.mg_check.specs.Planning.{plan_node, plan_nodes, plan_of}
-use Rattle.mg_check.specs.Code.Sound.{IsSound}
+use Rattle.mg_check.specs.Code.Sound.{IsBackPort, IsSound}
 use Rattle.mg_calc.proofs.Earlier.{at_place}
 use Rattle.mg_check.proofs.ValidLists.{joined, pieces}
 
 -- the edge into a port, and what it joins
-abbrev pub edge_to : List (List ℕ) → ℕ → Bool → ℕ × List ℕ → Edge
-edge_to names node back e = record { stream = number_in names e.1; node = node; port = e.0; back = back && (e.0 == 0) }
+abbrev pub edge_to : List (List ℕ) → ℕ → Option ℕ → ℕ × List ℕ → Edge
+edge_to names node back e = record { stream = number_in names e.1; node = node; port = e.0; back = is_back_at back e.0 }
 
 abbrev end_at : ℕ → ℕ × ℕ → Ends
 end_at node e = record { stream = e.1; node = node; port = e.0 }
 
-ends_from : (names : List (List ℕ)) (node : ℕ) (back : Bool) (n : ℕ) (inputs : List (List ℕ))
+ends_from : (names : List (List ℕ)) (node : ℕ) (back : Option ℕ) (n : ℕ) (inputs : List (List ℕ))
     → map ends_of (map (edge_to names node back) (enumerate_from n inputs)) ≡ map (end_at node) (enumerate_from n (map (number_in names) inputs))
 ends_from names node back n [] = refl
 ends_from names node back n (x ∷ xs) = ap (λ l. end_at node (n, number_in names x) ∷ l) (ends_from names node back (n + 1) xs)
@@ -55,9 +56,9 @@ valid_edges graph ds =
     let names = stream_names graph ds in
     let sides = side_names graph ds in
     let nodes = plan_nodes names sides (length graph.inputs) ds in
-    map-append ends_of (node_edges graph ds) (edges_into names (length ds) false (port_names graph.outputs))
-    ∙ (ap (λ l. l ++ map ends_of (edges_into names (length ds) false (port_names graph.outputs))) (node_ends names sides 0 (length graph.inputs) ds)
-    ∙ (ap (λ l. flat_map at_node (enumerate_from 0 nodes) ++ l) (ends_from names (length ds) false 0 (port_names graph.outputs))
+    map-append ends_of (node_edges graph ds) (edges_into names (length ds) None (port_names graph.outputs))
+    ∙ (ap (λ l. l ++ map ends_of (edges_into names (length ds) None (port_names graph.outputs))) (node_ends names sides 0 (length graph.inputs) ds)
+    ∙ (ap (λ l. flat_map at_node (enumerate_from 0 nodes) ++ l) (ends_from names (length ds) None 0 (port_names graph.outputs))
     ∙ ap (λ k. flat_map at_node (enumerate_from 0 nodes) ++ ends_at k (map (number_in names) (port_names graph.outputs))) (sym (nodes_long names sides (length graph.inputs) ds))))
 
 -- the plan's node of a draft
@@ -67,7 +68,7 @@ node_of streams sides first (e ∷ ds) zero d here = (first, ap (λ x. Some (pla
 node_of streams sides first (e ∷ ds) (suc k) d here = node_of streams sides (first + length e.outputs) ds k d here
 
 -- what holds of each edge into a consumer
-pub edges_each : (P : Edge → Type 0) (names : List (List ℕ)) (node : ℕ) (back : Bool) (inputs : List (List ℕ)) → ((port : ℕ) (name : List ℕ) → P (edge_to names node back (port, name)))
+pub edges_each : (P : Edge → Type 0) (names : List (List ℕ)) (node : ℕ) (back : Option ℕ) (inputs : List (List ℕ)) → ((port : ℕ) (name : List ℕ) → P (edge_to names node back (port, name)))
     → AllByRecursion P (edges_into names node back inputs)
 edges_each P names node back inputs each = from 0 inputs
   where
@@ -75,19 +76,28 @@ edges_each P names node back inputs each = from 0 inputs
     from n [] = tt
     from n (x ∷ xs) = (each n x, from (n + 1) xs)
 
--- a back edge ends at LOOP
-loops : (graph : GraphView) (ds : List DraftView) (k : ℕ) (d : DraftView) (port : ℕ) → IsSound d → slice_get ds k ≡ Some d → (d.back && (port == 0)) ≡ true
-    → (port ≡ 0) × IsSomeAnd (slice_get (plan_of graph ds).nodes k) (λ node. node.law ≡ Loopback)
-loops graph ds k d port sound here marked =
-    let parts = and_parts d.back (port == 0) marked in
-    let node = node_of (stream_names graph ds) (side_names graph ds) (length graph.inputs) ds k d here in
-    (eqb-true port 0 parts.1, subst (λ o. IsSomeAnd o (λ n. n.law ≡ Loopback)) (sym node.1) (sound.back parts.0))
+-- a back edge ends at LOOP, or at FINISHED of a limiter
+abbrev pub MayEnd : GraphView → List DraftView → Edge → Type 0
+MayEnd graph ds e = EndsAtLoop (plan_of graph ds) e ⊎ EndsAtFinished (plan_of graph ds) e
 
-pub valid_back : (graph : GraphView) (ds : List DraftView) → AllByRecursion IsSound ds → All (λ e. e.back ≡ true → EndsAtLoop (plan_of graph ds) e) (plan_of graph ds).edges
+back_is : (d : DraftView) (back : Option ℕ) (port : ℕ) → IfSome back (IsBackPort d.law) → is_back_at back port ≡ true → IsBackPort d.law port
+back_is d None port known marked = absurd (false≢true marked)
+back_is d (Some back) port known marked = subst (IsBackPort d.law) (eqb-true back port marked) known
+
+ends_back : (graph : GraphView) (ds : List DraftView) (k : ℕ) (d : DraftView) (port : ℕ) (name : List ℕ) → IsSound d → slice_get ds k ≡ Some d → is_back_at d.back port ≡ true
+    → MayEnd graph ds (edge_to (stream_names graph ds) k d.back (port, name))
+ends_back graph ds k d port name sound here marked =
+    let node = node_of (stream_names graph ds) (side_names graph ds) (length graph.inputs) ds k d here in
+    elim (back_is d d.back port sound.back marked) [
+      | inl (at, law) ↦ inl (at, subst (λ o. IsSomeAnd o (λ n. n.law ≡ Loopback)) (sym node.1) law)
+      | inr (at, law) ↦ inr (at, subst (λ o. IsSomeAnd o (λ n. IsLimiter n.law)) (sym node.1) law)
+    ]
+
+pub valid_back : (graph : GraphView) (ds : List DraftView) → AllByRecursion IsSound ds → All (λ e. e.back ≡ true → MayEnd graph ds e) (plan_of graph ds).edges
 valid_back graph ds sound =
     let names = stream_names graph ds in
-    let P : Edge → Type 0 = λ e. e.back ≡ true → EndsAtLoop (plan_of graph ds) e in
+    let P : Edge → Type 0 = λ e. e.back ≡ true → MayEnd graph ds e in
     All-from_recursion P (edges graph ds)
-    (joined P (node_edges graph ds) (edges_into names (length ds) false (port_names graph.outputs))
-    (pieces P (into_node names) ds (λ k d here. edges_each P names k d.back d.inputs (λ port name marked. loops graph ds k d port (at_place IsSound ds k d sound here) here marked)))
-    (edges_each P names (length ds) false (port_names graph.outputs) (λ port name marked. absurd (false≢true marked))))
+    (joined P (node_edges graph ds) (edges_into names (length ds) None (port_names graph.outputs))
+    (pieces P (into_node names) ds (λ k d here. edges_each P names k d.back d.inputs (λ port name marked. ends_back graph ds k d port name (at_place IsSound ds k d sound here) here marked)))
+    (edges_each P names (length ds) None (port_names graph.outputs) (λ port name marked. absurd (false≢true marked))))

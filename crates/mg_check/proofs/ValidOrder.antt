@@ -159,7 +159,7 @@ writer_below : (graph : GraphView) (ds : List DraftView) (e : Edge) → IfSome (
 writer_below graph ds e = if_given writing_node (λ n. n < length ds) (slice_get (writers graph ds) e.stream) (place_if (λ p. IfSome (writing_node p) (λ n. n < length ds)) (writers graph ds) e.stream (writers_below graph ds))
 
 -- the edges of the nodes lead to nodes that read something
-edges_if : (P : Edge → Type 0) (names : List (List ℕ)) (node : ℕ) (back : Bool) (inputs : List (List ℕ)) → ((length inputs == 0) ≡ false → (port : ℕ) (name : List ℕ) → P (edge_to names node back (port, name)))
+edges_if : (P : Edge → Type 0) (names : List (List ℕ)) (node : ℕ) (back : Option ℕ) (inputs : List (List ℕ)) → ((length inputs == 0) ≡ false → (port : ℕ) (name : List ℕ) → P (edge_to names node back (port, name)))
     → AllByRecursion P (edges_into names node back inputs)
 edges_if P names node back [] each = tt
 edges_if P names node back (x ∷ xs) each =
@@ -192,6 +192,11 @@ pub links_between : (graph : GraphView) (ds : List DraftView) → All (IsBetween
 links_between graph ds =
     All-from_recursion (IsBetween (length ds)) (links graph ds)
     (all_so (IsSoundLink ds) (IsBetween (length ds)) (links graph ds) (λ link sound. record { from = sound.from; to = sound.to.there }) (links_sound graph ds))
+
+pub links_unfed : (graph : GraphView) (ds : List DraftView) → All (λ link. is_among (sources ds) link.to ≡ false) (links graph ds)
+links_unfed graph ds =
+    let P : Link → Type 0 = λ link. is_among (sources ds) link.to ≡ false in
+    All-from_recursion P (links graph ds) (all_so (IsSoundLink ds) P (links graph ds) (λ link sound. sound.to.fed) (links_sound graph ds))
 
 -- Fields of a valid plan.
 
@@ -239,8 +244,8 @@ valid_forward graph ds named =
     let leads : (e : Edge) → IfSome (writer_among ws e) (λ w. StandsBefore (order graph ds) w e.node) → LeadsForward (plan_of graph ds) e =
     λ e known. subst (λ o. IfSome o (λ w. StandsBefore (order graph ds) w e.node)) (sym (writer_same graph ds e named)) known in
     All-from_recursion P (edges graph ds)
-    (joined P (node_edges graph ds) (edges_into names (length ds) false (port_names graph.outputs))
+    (joined P (node_edges graph ds) (edges_into names (length ds) None (port_names graph.outputs))
     (all_so (λ e. IfSome (link_of ws e) Before) P (node_edges graph ds) (λ e known ahead. leads e (if_link ws e Before ahead known)) (given_all Before (link_of ws) (node_edges graph ds) (links_forward graph ds)))
-    (edges_each P names (length ds) false (port_names graph.outputs)
-    (λ port name ahead. leads (edge_to names (length ds) false (port, name))
-    (if_any (λ w. StandsBefore (order graph ds) w (length ds)) (writer_among ws (edge_to names (length ds) false (port, name))) (λ w. past_all (order graph ds) (length ds) w (below_all ds graph))))))
+    (edges_each P names (length ds) None (port_names graph.outputs)
+    (λ port name ahead. leads (edge_to names (length ds) None (port, name))
+    (if_any (λ w. StandsBefore (order graph ds) w (length ds)) (writer_among ws (edge_to names (length ds) None (port, name))) (λ w. past_all (order graph ds) (length ds) w (below_all ds graph))))))

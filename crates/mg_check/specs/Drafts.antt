@@ -10,12 +10,13 @@ use Rattle.mg_names.specs.declared.port.Port.{Port}
 use Rattle.mg_config.specs.Config.{NodeView}
 use Rattle.mg_config.specs.declared.mark.Mark.{Mark}
 use Rattle.mg_calc.specs.declared.law.Law.{Law}
-use Rattle.mg_calc.specs.declared.law.Law.TheVariants.{Loopback}
+use Rattle.mg_calc.specs.declared.law.Law.TheVariants.{Loopback, Limiter}
 use Rattle.mg_calc.specs.declared.port_kind.PortKind.{PortKind}
 use Rattle.mg_calc.specs.declared.shape.Shape.{Shape}
 use Rattle.mg_calc.specs.declared.shape.OuterShape.{OuterShape}
 use Rattle.mg_kinds.specs.Tags.{tag_text}
-use Rattle.mg_kinds.specs.declared.tag.Tag.TheVariants.{Loop}
+use Rattle.mg_kinds.specs.declared.tag.Tag.{Tag}
+use Rattle.mg_kinds.specs.declared.tag.Tag.TheVariants.{Loop, Finished}
 use Rattle.mg_kinds.specs.Laws.{SettingsView}
 use Rattle.mg_kinds.specs.PortOrder.{in_order}
 use Rattle.mg_kinds.specs.declared.ports.Ports.{Ports}
@@ -41,8 +42,8 @@ pub record DraftView : Type 0 where
   pub in_flight : ℕ
   pub box_number : Option ℕ
   pub policy : Policy
-  -- whether LOOP is marked as a back edge, and whether another input is, or one that isn't there
-  pub back : Bool
+  -- the port that is marked as a back edge where that may be, and whether another input is marked, or one that isn't there
+  pub back : Option ℕ
   pub misplaced : Bool
 
 -- the name at a port, and the names at ports
@@ -68,13 +69,23 @@ abbrev pub box_of : NodeKind → Option ℕ
 box_of (BuiltIn kind) = None
 box_of (Outer number) = Some number
 
--- a mark is that of LOOP of a loopback
-abbrev pub is_loopback : Law → Bool
-is_loopback Loopback = true
-is_loopback rule = false
+-- a mark is that of a tag's only input
+abbrev pub is_at_tag : Tag → Mark → Bool
+is_at_tag tag mark = bytes_eq mark.tag (tag_text tag) && (mark.index == 0)
 
-abbrev pub is_at_loop : Law → Mark → Bool
-is_at_loop rule mark = is_loopback rule && bytes_eq mark.tag (tag_text Loop) && (mark.index == 0)
+-- a mark may stand at LOOP of a loopback, its first port, and at FINISHED of a limiter, its second
+abbrev pub may_be_back : Law → Mark → Bool
+may_be_back Loopback mark = is_at_tag Loop mark
+may_be_back (Limiter most) mark = is_at_tag Finished mark
+may_be_back rule mark = false
+
+abbrev pub back_port : Law → ℕ
+back_port (Limiter most) = 1
+back_port rule = 0
+
+-- the port that is marked as a back edge, where that may be
+abbrev pub back_of : Law → List Mark → Option ℕ
+back_of rule marks = if list_any (may_be_back rule) marks then Some (back_port rule) else None
 
 -- the draft of a node of these ports, settings and policy, that looks so
 abbrev pub draft_with : NodeView → NodeKind → Ports → SettingsView → Policy → Shape → DraftView
@@ -90,8 +101,8 @@ draft_with node kind ports settings policy shape = record {
   in_flight = flight_of (box_of kind) shape.stateless node.max_in_flight;
   box_number = box_of kind;
   policy = policy;
-  back = list_any (is_at_loop settings.law) node.back_marks;
-  misplaced = list_any (λ mark. not (is_at_loop settings.law mark)) node.back_marks;
+  back = back_of settings.law node.back_marks;
+  misplaced = list_any (λ mark. not (may_be_back settings.law mark)) node.back_marks;
 }
 
 -- that of a node, if nothing is wrong with it

@@ -16,12 +16,14 @@ use Rattle.mg_kinds.specs.declared.ports.Ports.{Ports}
 use Rattle.mg_check.specs.declared.node_kind.NodeKind.{NodeKind}
 use Rattle.mg_check.specs.declared.node_kind.NodeKind.TheVariants.{BuiltIn, Outer}
 
--- a calculator that is handed in may have any law but those of sources, Constants and Loopback
+-- a calculator that is handed in may have any law but those of sources, Constants, Loopback and free nodes
 abbrev pub may_be_outer : Law → Bool
 may_be_outer (law.Count count start apart) = false
 may_be_outer (law.SideOnce at) = false
 may_be_outer law.Constants = false
 may_be_outer law.Loopback = false
+may_be_outer (law.FirstCome lanes) = false
+may_be_outer (law.Limiter most) = false
 may_be_outer rule = true
 
 -- a node has just the ports of a calculator that is handed in, which may have its law, and writes no side packet
@@ -59,11 +61,23 @@ abbrev pub mux_policy : Law → Option Policy
 mux_policy (law.Mux lanes) = Some Mux
 mux_policy rule = None
 
+-- what a limiter takes doesn't wait for other inputs
+abbrev pub default_policy : Law → Option Policy
+default_policy (law.Limiter most) = None
+default_policy rule = Some Default
+
+-- packets are taken as they come by free nodes alone
+abbrev pub immediate_policy : Law → Option Policy
+immediate_policy (law.FirstCome lanes) = Some Default
+immediate_policy (law.Limiter most) = Some Default
+immediate_policy rule = None
+
 abbrev pub policy_of : Law → List ℕ → Option Policy
 policy_of rule handler =
     if bytes_eq handler [] then Some (own_policy rule)
-    else (if bytes_eq handler (codes "DefaultInputStreamHandler") then Some Default
-    else (if bytes_eq handler (codes "MuxInputStreamHandler") then mux_policy rule else None))
+    else (if bytes_eq handler (codes "DefaultInputStreamHandler") then default_policy rule
+    else (if bytes_eq handler (codes "MuxInputStreamHandler") then mux_policy rule
+    else (if bytes_eq handler (codes "ImmediateInputStreamHandler") then immediate_policy rule else None)))
 
 -- what a node's calculator looks like
 abbrev pub node_shape : List OuterShape → NodeView → NodeKind → Ports → Law → Option Shape

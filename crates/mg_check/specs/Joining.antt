@@ -51,17 +51,22 @@ side_missing graph ds = option_map SideMissing (first_missing (side_names graph 
 
 -- Edges.
 
--- the edges into a consumer, at whose ports these names stand; one at the first port may be back
-abbrev pub edges_into : List (List ℕ) → ℕ → Bool → List (List ℕ) → List Edge
+-- whether the edge into a port is back, where perhaps that into some port is
+abbrev pub is_back_at : Option ℕ → ℕ → Bool
+is_back_at None port = false
+is_back_at (Some back) port = back == port
+
+-- the edges into a consumer, at whose ports these names stand; that into one port may be back
+abbrev pub edges_into : List (List ℕ) → ℕ → Option ℕ → List (List ℕ) → List Edge
 edges_into names node back inputs =
-    map (λ e. record { stream = number_in names e.1; node = node; port = e.0; back = back && (e.0 == 0) }) (enumerate_from 0 inputs)
+    map (λ e. record { stream = number_in names e.1; node = node; port = e.0; back = is_back_at back e.0 }) (enumerate_from 0 inputs)
 
 -- those into nodes, and those into the collector, which comes after them
 abbrev pub node_edges : GraphView → List DraftView → List Edge
 node_edges graph ds = flat_map (λ e. edges_into (stream_names graph ds) e.0 e.1.back e.1.inputs) (enumerate_from 0 ds)
 
 abbrev pub edges : GraphView → List DraftView → List Edge
-edges graph ds = node_edges graph ds ++ edges_into (stream_names graph ds) (length ds) false (port_names graph.outputs)
+edges graph ds = node_edges graph ds ++ edges_into (stream_names graph ds) (length ds) None (port_names graph.outputs)
 
 -- Kinds.
 

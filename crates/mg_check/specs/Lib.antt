@@ -5,6 +5,7 @@ pub mod DraftView
 pub mod Names
 pub mod Meeting
 pub mod Order
+pub mod Cycle
 pub mod Joining
 pub mod Planning
 pub mod Check

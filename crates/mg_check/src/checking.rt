@@ -1,6 +1,6 @@
 ghost use Rattle.std.specs.Prelude.{◌≡◌, ◌≢◌, ◌≤◌, Ok, Err, IfOk, IfErr, All, length};
 ghost use Rattle.mg_config.specs.Config.{graph_view};
-ghost use Rattle.mg_calc.specs.Plan.{IsValid, OutersFit};
+ghost use Rattle.mg_calc.specs.Plan.{IsValidWithFree, OutersFit};
 ghost use Rattle.mg_check.specs.Check.{check_of, IsOuterShape};
 
 use crate::drafting::drafts_of;
@@ -21,8 +21,8 @@ pub fn check(alloc: Global, config: &GraphConfig, outers: &[OuterShape]) -> Resu
     ensures ok { IfOk result (λ plan. check_of outers.now (graph_view config.now) ≡ Ok plan) }
     ensures err { IfErr result (λ fault. fault ≢ CheckFault.OutOfMemory → check_of outers.now (graph_view config.now) ≡ Err fault) }
 
-    // A plan can be run, with the calculators that were handed in.
-    ensures valid { IfOk result IsValid }
+    // A plan is valid, but may have free nodes, and the calculators that were handed in fit it.
+    ensures valid { IfOk result IsValidWithFree }
     ensures fit { IfOk result (λ plan. OutersFit plan outers.now) }
 {
     let drafts = drafts_of(alloc, config.nodes.as_slice(), outers)?;

@@ -18,8 +18,8 @@ pub struct Draft<'a> {
     pub in_flight: u32,
     pub box_number: Option<u32>,
     pub policy: Policy,
-    /// Whether LOOP is marked as a back edge.
-    pub back: bool,
-    /// Whether another input is, or one that the node hasn't.
+    /// The port that is marked as a back edge, where that may be.
+    pub back: Option<u32>,
+    /// Whether another input is marked, or one that the node hasn't.
     pub misplaced: bool,
 }

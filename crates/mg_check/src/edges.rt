@@ -1,4 +1,4 @@
-ghost use Rattle.std.specs.Prelude.{◌≡◌, ◌<◌, ◌^◌, ◌++◌, false, IfOk, OnOk, length};
+ghost use Rattle.std.specs.Prelude.{◌≡◌, ◌<◌, ◌^◌, ◌++◌, None, IfOk, OnOk, length};
 ghost use Rattle.std.specs.List.{flat_map, enumerate_from};
 ghost use Rattle.mg_config.specs.Config.{graph_view};
 ghost use Rattle.mg_kinds.specs.Laws.{names_of};
@@ -15,14 +15,24 @@ use mg_calc::Edge;
 use mg_names::PortMap;
 use std::alloc::{AllocError, Global};
 
-fn edge_into(streams: &Names, node: u32, back: bool, port: u32, text: &str) -> Edge
+// Whether the edge into a port is back.
+fn is_back_at(back: Option<u32>, port: u32) -> bool
+    ensures { result ≡ joining.is_back_at back port }
+{
+    match back {
+        Some(back) => back == port,
+        None => false,
+    }
+}
+
+fn edge_into(streams: &Names, node: u32, back: Option<u32>, port: u32, text: &str) -> Edge
     ensures { result ≡ edge_at streams.now node back (port, text.now) }
 {
     Edge {
         stream: streams.number(text),
         node,
         port,
-        back: back && port == 0,
+        back: is_back_at(back, port),
     }
 }
 
@@ -30,7 +40,7 @@ fn add_edges(
     out: &mut Vec<Edge>,
     streams: &Names,
     node: u32,
-    back: bool,
+    back: Option<u32>,
     inputs: &[&str],
 ) -> Result<(), AllocError>
     ensures { OnOk result (out.new.items ≡ out.old.items ++ joining.edges_into streams.now node back (names_of inputs.now)) }
@@ -72,8 +82,8 @@ pub(crate) fn add_collector(
     node: u32,
     outputs: &PortMap,
 ) -> Result<(), AllocError>
-    ensures { OnOk result (edges.new.items ≡ edges.old.items ++ joining.edges_into streams.now node false (port_names outputs.now)) }
+    ensures { OnOk result (edges.new.items ≡ edges.old.items ++ joining.edges_into streams.now node None (port_names outputs.now)) }
 {
     let texts = port_texts(alloc, outputs)?;
-    add_edges(edges, streams, node, false, texts.as_slice())
+    add_edges(edges, streams, node, None, texts.as_slice())
 }

@@ -45,7 +45,7 @@ pub enum CheckFault {
     /// Two ports of different kinds meet at a stream.
     #[error("two kinds meet at the stream {}", .name.as_str())]
     KindClash { name: MgText },
-    /// A back edge stands elsewhere than at LOOP of a loopback.
+    /// A back edge stands elsewhere than at LOOP of a loopback or FINISHED of a limiter.
     #[error("node {node} has a back edge that isn't a loopback's")]
     BackEdgeMisplaced { node: u32 },
     /// Nodes wait for each other.

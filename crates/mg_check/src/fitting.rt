@@ -20,6 +20,8 @@ fn may_be_outer(law: &Law) -> bool
         Law::SideOnce { .. } => false,
         Law::Constants => false,
         Law::Loopback => false,
+        Law::FirstCome { .. } => false,
+        Law::Limiter { .. } => false,
         _ => true,
     }
 }
@@ -125,6 +127,25 @@ fn mux_policy(law: &Law) -> Option<Policy>
     }
 }
 
+fn default_policy(law: &Law) -> Option<Policy>
+    ensures { result ≡ rules.default_policy law.now }
+{
+    match law {
+        Law::Limiter { .. } => None,
+        _ => Some(Policy::Default),
+    }
+}
+
+fn immediate_policy(law: &Law) -> Option<Policy>
+    ensures { result ≡ rules.immediate_policy law.now }
+{
+    match law {
+        Law::FirstCome { .. } => Some(Policy::Default),
+        Law::Limiter { .. } => Some(Policy::Default),
+        _ => None,
+    }
+}
+
 /// The input policy of a node of a law, or none where it may not have the one that it asks for.
 pub fn policy_of(law: &Law, handler: &[u8]) -> Option<Policy>
     ensures { result ≡ rules.policy_of law.now handler.now }
@@ -132,9 +153,11 @@ pub fn policy_of(law: &Law, handler: &[u8]) -> Option<Policy>
     if is(handler, b"") {
         Some(own_policy(law))
     } else if is(handler, b"DefaultInputStreamHandler") {
-        Some(Policy::Default)
+        default_policy(law)
     } else if is(handler, b"MuxInputStreamHandler") {
         mux_policy(law)
+    } else if is(handler, b"ImmediateInputStreamHandler") {
+        immediate_policy(law)
     } else {
         None
     }

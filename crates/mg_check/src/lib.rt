@@ -1,5 +1,5 @@
 //! Validation of a configuration: its plan, by which it can be run, or its first refusal. `check` answers to `check_of`
-//! of `specs/Check.antt`; the plan is valid by `IsValid` of mg_calc.
+//! of `specs/Check.antt`; the plan is valid by `IsValidWithFree` of mg_calc.
 #![tactic(auto)]
 
 mod checking;
@@ -14,6 +14,7 @@ mod gathering;
 mod groups;
 mod joint;
 mod judging;
+pub mod laws;
 mod linking;
 mod marks;
 mod meeting;

@@ -1,5 +1,6 @@
 //! The draft of one node, or what is wrong with it.
-ghost use Rattle.std.specs.Prelude.{◌≡◌, IfOk, not, option_map};
+ghost use Rattle.std.specs.Prelude.{◌≡◌, ◌==◌, ◌&&◌, IfOk, not, option_map};
+ghost use Rattle.std.specs.Str.{bytes_eq};
 ghost use Rattle.std.specs.List.{list_any};
 ghost use Rattle.mg_config.specs.Config.{node_view};
 ghost use Rattle.mg_kinds.specs.SettingsView.{settings_view};
@@ -72,31 +73,51 @@ fn box_of(kind: NodeKind) -> Option<u32>
     }
 }
 
-fn is_loopback(law: &Law) -> bool
-    ensures { result ≡ rules.is_loopback law.now }
+fn is_at_tag(word: &[u8], mark: &Mark) -> bool
+    ensures { result ≡ (bytes_eq mark.now.tag word.now && (mark.now.index == 0)) }
+{
+    is(mark.tag.as_bytes(), word) && mark.index == 0
+}
+
+fn may_be_back(law: &Law, mark: &Mark) -> bool
+    ensures { result ≡ rules.may_be_back law.now mark.now }
 {
     match law {
-        Law::Loopback => true,
+        Law::Loopback => is_at_tag(b"LOOP", mark),
+        Law::Limiter { .. } => is_at_tag(b"FINISHED", mark),
         _ => false,
     }
 }
 
-fn is_at_loop(law: &Law, mark: &Mark) -> bool
-    ensures { result ≡ rules.is_at_loop law.now mark.now }
+fn back_port(law: &Law) -> u32
+    ensures { result ≡ rules.back_port law.now }
 {
-    is_loopback(law) && is(mark.tag.as_bytes(), b"LOOP") && mark.index == 0
+    match law {
+        Law::Limiter { .. } => 1,
+        _ => 0,
+    }
 }
 
 fn is_back(law: &Law, marks: &[Mark]) -> bool
-    ensures { result ≡ list_any (rules.is_at_loop law.now) marks.now }
+    ensures { result ≡ list_any (rules.may_be_back law.now) marks.now }
 {
-    marks.iter().any(|mark| is_at_loop(law, mark))
+    marks.iter().any(|mark| may_be_back(law, mark))
+}
+
+fn back_of(law: &Law, marks: &[Mark]) -> Option<u32>
+    ensures { result ≡ rules.back_of law.now marks.now }
+{
+    if is_back(law, marks) {
+        Some(back_port(law))
+    } else {
+        None
+    }
 }
 
 fn is_misplaced(law: &Law, marks: &[Mark]) -> bool
-    ensures { result ≡ list_any (λ mark. not (rules.is_at_loop law.now mark)) marks.now }
+    ensures { result ≡ list_any (λ mark. not (rules.may_be_back law.now mark)) marks.now }
 {
-    marks.iter().any(|mark| !is_at_loop(law, mark))
+    marks.iter().any(|mark| !may_be_back(law, mark))
 }
 
 fn drafted<'a>(
@@ -117,7 +138,7 @@ fn drafted<'a>(
     };
     let box_number = box_of(kind);
     let in_flight = flight_of(box_number, shape.stateless, node.max_in_flight);
-    let back = is_back(&settings.law, node.back_marks.as_slice());
+    let back = back_of(&settings.law, node.back_marks.as_slice());
     let misplaced = is_misplaced(&settings.law, node.back_marks.as_slice());
     Ok(Some(Draft {
         label,

@@ -1,6 +1,6 @@
 -- A node whose ports and options fit a built-in calculator has a law with parameters in their ranges, and its law's shape; and it has a
 -- constant for each side packet that it writes.
-use Rattle.std.proofs.Common.{◌≡◌, ◌≢◌, ℕ, zero, suc, ◌≤◌, List, [], ◌∷◌, ◌++◌, length, map, Bool, true, false, not, ◌&&◌, ◌==◌, ℤ, pos, Option, None, Some, option_map, if◌then◌else◌, refl, sym, ap, subst, ◌∙◌, arith, inl, inr, ◌⊎◌, append-nil, eqb-true, codes}
+use Rattle.std.proofs.Common.{bytes_eq, ◌≡◌, ◌≢◌, ℕ, zero, suc, ◌≤◌, List, [], ◌∷◌, ◌++◌, length, map, Bool, true, false, not, ◌&&◌, ◌==◌, ℤ, pos, Option, None, Some, option_map, if◌then◌else◌, refl, sym, ap, subst, ◌∙◌, arith, inl, inr, ◌⊎◌, append-nil, eqb-true, codes}
 use Rattle.std.specs.Prelude.{option_and_then}
 use Rattle.std.proofs.lemmas.Bool.{and_parts, true≢false, eqb-false}
 use Rattle.std.proofs.lemmas.List.{length-map}
@@ -21,17 +21,17 @@ use Rattle.mg_kinds.specs.PortOrder.{in_order}
 use Rattle.mg_kinds.specs.Options.{options_in, set_to}
 use Rattle.mg_kinds.specs.Values.{required, payload_in, payloads_in, call_count, operation_in, keep_in}
 use Rattle.mg_kinds.specs.Rows.{lanes_of, disallows, moment_of, inputs_of, outputs_of, sides_of, side_outputs_of, side_ports, rowed_ports, passed_ports, kind_ports, is_empty}
-use Rattle.mg_kinds.specs.Laws.{SettingsView, law_with, constants_with, settings_with, are_options, kind_settings, shape_with, time_of, gate_law, thinner_law, thins, map_law, filter_law, shift_law, counting_law, truth_or_false, positive_or_one, timestamp_or_zero, number}
+use Rattle.mg_kinds.specs.Laws.{SettingsView, law_with, constants_with, settings_with, are_options, kind_settings, shape_with, time_of, gate_law, thinner_law, thins, map_law, filter_law, shift_law, counting_law, limiter_law, merge_law, flight_or_one, truth_or_false, positive_or_one, timestamp_or_zero, number}
 use Rattle.mg_kinds.specs.Tags.{tag_text}
 use Rattle.mg_kinds.specs.declared.ports.Ports.{Ports}
 use Rattle.mg_kinds.specs.declared.tag.Tag.{Tag}
 use Rattle.mg_kinds.specs.declared.tag.Tag.TheVariants.{Allow, Disallow, AtPreStream, AtZero, AtPostStream}
 use Rattle.mg_kinds.specs.declared.kind.CalculatorKind.{CalculatorKind}
-use Rattle.mg_kinds.specs.declared.kind.CalculatorKind.TheVariants.{PassThrough, Gate, Mux, Cloner, Merge, Thinner, Sum, Map, Filter, Running, Shift, Counting, SideToStream, Constants, Loopback}
+use Rattle.mg_kinds.specs.declared.kind.CalculatorKind.TheVariants.{PassThrough, Gate, Mux, Cloner, Merge, Thinner, Sum, Map, Filter, Running, Shift, Counting, SideToStream, Constants, Loopback, FlowLimiter}
 use Rattle.mg_kinds.proofs.InOrder.{in_order-ascends, in_order-any, in_order-some, in_order-none}
 use Rattle.mg_kinds.proofs.InRow.{fits-row, one-tag}
 use Rattle.mg_kinds.proofs.Made.{made_by, mapped_by}
-use Rattle.mg_kinds.proofs.InRange.{positive-least, timestamp-in-range, calls-most}
+use Rattle.mg_kinds.proofs.InRange.{positive-least, timestamp-in-range, calls-most, flight-in-range}
 
 -- Ports.
 
@@ -168,6 +168,19 @@ suits_counting node options name ps rule h e =
       shaped name ps (law.Count count.0 start.0 made.0) h.inputs h.outputs h.sides,
     )
 
+suits_limiter : (node : NodeView) (options : List Entry) (name : List ℕ) (ps : Ports) (rule : Law) → IsRowed FlowLimiter node ps → limiter_law options ≡ Some rule → Suits name ps rule
+suits_limiter node options name ps rule h e =
+    let made = mapped_by law.Limiter (flight_or_one (codes "max_in_flight") options) rule e in
+    subst (Suits name ps) made.2 (flight-in-range (codes "max_in_flight") options made.0 made.1, shaped name ps (law.Limiter made.0) h.inputs h.outputs h.sides)
+
+-- a MergeCalculator has the same ports with either handler
+suits_merge : (node : NodeView) (name : List ℕ) (ps : Ports) → IsRowed Merge node ps → Suits name ps (merge_law node)
+suits_merge node name ps h = by (bytes_eq node.handler (codes "ImmediateInputStreamHandler"))
+  where
+    by : (t : Bool) → Suits name ps (if t then law.FirstCome (lanes_of Merge node) else law.Merge (lanes_of Merge node))
+    by true = ((h.some, h.most), shaped name ps (law.FirstCome (lanes_of Merge node)) (h.inputs ∙ append-nil (untagged (lanes_of Merge node) Any)) h.outputs h.sides)
+    by false = ((h.some, h.most), shaped name ps (law.Merge (lanes_of Merge node)) (h.inputs ∙ append-nil (untagged (lanes_of Merge node) Any)) h.outputs h.sides)
+
 -- the time of SideOnce goes with its output's tag
 moment_suits : (moment : Tag) (name : List ℕ) (ps : Ports) → (moment ≡ AtPreStream) ⊎ (moment ≡ AtZero) ⊎ (moment ≡ AtPostStream)
     → ps.inputs ≡ [] → ps.outputs ≡ ports (tag_text moment) 1 Any → ps.sides ≡ untagged 1 Any → Suits name ps (law.SideOnce (time_of moment))
@@ -196,10 +209,7 @@ suits_rowed Cloner node options name ps rule fit e other =
     let h = is_rowed Cloner node ps fit in
     subst (Suits name ps) (same_Some (law.Cloner (lanes_of Cloner node)) rule e)
     ((h.some, h.most), shaped name ps (law.Cloner (lanes_of Cloner node)) h.inputs (h.outputs ∙ append-nil (untagged (lanes_of Cloner node) Any)) h.sides)
-suits_rowed Merge node options name ps rule fit e other =
-    let h = is_rowed Merge node ps fit in
-    subst (Suits name ps) (same_Some (law.Merge (lanes_of Merge node)) rule e)
-    ((h.some, h.most), shaped name ps (law.Merge (lanes_of Merge node)) (h.inputs ∙ append-nil (untagged (lanes_of Merge node) Any)) h.outputs h.sides)
+suits_rowed Merge node options name ps rule fit e other = subst (Suits name ps) (same_Some (merge_law node) rule e) (suits_merge node name ps (is_rowed Merge node ps fit))
 suits_rowed Thinner node options name ps rule fit e other = suits_thinner node options name ps rule (is_rowed Thinner node ps fit) e
 suits_rowed Sum node options name ps rule fit e other =
     let h = is_rowed Sum node ps fit in
@@ -210,6 +220,7 @@ suits_rowed Filter node options name ps rule fit e other = suits_filter node opt
 suits_rowed Running node options name ps rule fit e other =
     let h = is_rowed Running node ps fit in
     subst (Suits name ps) (same_Some law.Running rule e) (tt, shaped name ps law.Running h.inputs h.outputs h.sides)
+suits_rowed FlowLimiter node options name ps rule fit e other = suits_limiter node options name ps rule (is_rowed FlowLimiter node ps fit) e
 suits_rowed Shift node options name ps rule fit e other = suits_shift node options name ps rule (is_rowed Shift node ps fit) e
 suits_rowed Counting node options name ps rule fit e other = suits_counting node options name ps rule (is_rowed Counting node ps fit) e
 suits_rowed SideToStream node options name ps rule fit e other =

@@ -1,16 +1,17 @@
 -- Options that are read are in their ranges.
-use Rattle.std.proofs.Common.{◌≡◌, ℕ, suc, ◌+◌, ◌-◌, ◌^◌, ◌≤◌, List, true, ◌&&◌, nat_le, ℤ, pos, negsuc, ◌≤ℤ◌, int_le, Option, None, Some, refl, subst, arith, leb-true, le-leb}
+use Rattle.std.proofs.Common.{◌≡◌, ℕ, suc, ◌+◌, ◌-◌, ◌^◌, ◌≤◌, List, true, ◌&&◌, nat_le, ℤ, pos, negsuc, ◌≤ℤ◌, int_le, Option, None, Some, refl, sym, subst, arith, leb-true, le-leb}
 use Rattle.std.specs.Int.Signed.{le_z_yes}
 use Rattle.std.proofs.lemmas.Bool.{and_parts, and_from}
 use Rattle.std.proofs.lemmas.Float.{T_from_true}
 use Rattle.std.proofs.lemmas.Option.{cond_some, same_Some}
+use Rattle.std.proofs.lemmas.Bool.{true≢false}
 use Rattle.mg_text.specs.View.{Value, Entry}
 use Rattle.mg_time.specs.Time.{raw_of, place_of, least, greatest}
 use Rattle.mg_config.specs.Values.{long_number_in_value}
 use Rattle.mg_calc.specs.Values.{is_in_range}
 use Rattle.mg_kinds.specs.Options.{set_to}
-use Rattle.mg_kinds.specs.Values.{or_absent, between, number_between, highest, positive, timestamp_number, most_calls, natural, call_count}
-use Rattle.mg_kinds.specs.Laws.{positive_or_one, timestamp_or_zero}
+use Rattle.mg_kinds.specs.Values.{or_absent, between, number_between, highest, positive, timestamp_number, most_calls, natural, call_count, most_in_flight, flight_limit}
+use Rattle.mg_kinds.specs.Laws.{positive_or_one, timestamp_or_zero, flight_or_one}
 use Rattle.mg_kinds.proofs.Made.{made_by, mapped_by}
 
 record IsBetween (low high n : ℤ) : Type 0 where
@@ -55,3 +56,20 @@ calls-most value count e =
     let made = mapped_by natural (number_between (pos 0) most_calls value) count e in
     let h = is_between (pos 0) most_calls value made.0 made.1 in
     subst (λ c. c ≤ 1000000) made.2 (natural_most made.0 1000000 h.upto)
+
+natural_least : (n : ℤ) → int_le (pos 1) n ≡ true → 1 ≤ natural n
+natural_least (pos n) h = leb-true 1 n h
+natural_least (negsuc n) h = absurd (true≢false (sym h))
+
+flight_within : (value : Value) (most : ℕ) → flight_limit value ≡ Some most → (1 ≤ most) × (most ≤ 2147483647)
+flight_within value most e =
+    let made = mapped_by natural (number_between (pos 1) most_in_flight value) most e in
+    let h = is_between (pos 1) most_in_flight value made.0 made.1 in
+    subst (λ c. (1 ≤ c) × (c ≤ 2147483647)) made.2 (natural_least made.0 h.from, natural_most made.0 2147483647 h.upto)
+
+pub flight-in-range : (name : List ℕ) (options : List Entry) (most : ℕ) → flight_or_one name options ≡ Some most → (1 ≤ most) × (most ≤ 2147483647)
+flight-in-range name options most e = by (set_to name options) e
+  where
+    by : (value : Option Value) → or_absent 1 flight_limit value ≡ Some most → (1 ≤ most) × (most ≤ 2147483647)
+    by None is = subst (λ m. (1 ≤ m) × (m ≤ 2147483647)) (same_Some 1 most is) (omega arith, omega arith)
+    by (Some value) is = flight_within value most is

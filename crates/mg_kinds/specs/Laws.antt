@@ -1,6 +1,7 @@
 -- The law of each built-in calculator, by its ports and its options.
 use Rattle.std.specs.Borrow.{Bor}
 use Rattle.std.specs.Prelude.{ℕ, List, [], ◌∷◌, Bool, false, ◌==◌, ℤ, pos, ◌&&◌, Option, None, Some, option_map, option_and_then, if◌then◌else◌, codes, length, map}
+use Rattle.std.specs.Str.{bytes_eq}
 use Rattle.mg_text.specs.View.{Entry}
 use Rattle.mg_time.specs.Time.{pre_stream, post_stream, place_of}
 use Rattle.mg_value.specs.Plain.{Plain}
@@ -12,10 +13,10 @@ use Rattle.mg_calc.specs.declared.shape.Shape.{Shape}
 use Rattle.mg_calc.specs.Shape.{offset_of, is_stateless}
 use Rattle.mg_kinds.specs.declared.ports.Ports.{Ports}
 use Rattle.mg_kinds.specs.Options.{options_in, are_known, are_once, set_to}
-use Rattle.mg_kinds.specs.Values.{or_absent, required, positive, timestamp_number, call_count, operation_in, keep_in, is_absent_or, is_asynchronous, payloads_in}
+use Rattle.mg_kinds.specs.Values.{or_absent, required, positive, timestamp_number, call_count, flight_limit, operation_in, keep_in, is_absent_or, is_asynchronous, payloads_in}
 use Rattle.mg_kinds.specs.Rows.{lanes_of, disallows, moment_of}
 use Rattle.mg_kinds.specs.declared.kind.CalculatorKind.{CalculatorKind}
-use Rattle.mg_kinds.specs.declared.kind.CalculatorKind.TheVariants.{PassThrough, Gate, Mux, Cloner, Merge, Thinner, Sum, Map, Filter, Running, Shift, Counting, SideToStream, Constants, Loopback}
+use Rattle.mg_kinds.specs.declared.kind.CalculatorKind.TheVariants.{PassThrough, Gate, Mux, Cloner, Merge, Thinner, Sum, Map, Filter, Running, Shift, Counting, SideToStream, Constants, Loopback, FlowLimiter}
 use Rattle.mg_kinds.specs.declared.tag.Tag.{Tag}
 use Rattle.mg_kinds.specs.declared.tag.Tag.TheVariants.{AtPreStream, AtZero}
 
@@ -30,6 +31,7 @@ single_options Thinner = codes "thinner_type" ∷ codes "period" ∷ []
 single_options Map = codes "op" ∷ codes "operand" ∷ []
 single_options Filter = codes "keep" ∷ codes "raise_bound" ∷ []
 single_options Shift = codes "offset" ∷ []
+single_options FlowLimiter = codes "max_in_flight" ∷ []
 single_options Counting = codes "count" ∷ codes "start" ∷ codes "step" ∷ []
 single_options kind = []
 
@@ -91,13 +93,24 @@ counting_law options =
     (timestamp_or_zero (codes "start") options))
     (required call_count (set_to (codes "count") options))
 
+abbrev pub flight_or_one : List ℕ → List Entry → Option ℕ
+flight_or_one name options = or_absent 1 flight_limit (set_to name options)
+
+abbrev pub limiter_law : List Entry → Option Law
+limiter_law options = option_map law.Limiter (flight_or_one (codes "max_in_flight") options)
+
+-- a MergeCalculator whose handler takes packets as they come (MediaPipe, ImmediateInputStreamHandler) is a free node
+abbrev pub merge_law : NodeView → Law
+merge_law node =
+    if bytes_eq node.handler (codes "ImmediateInputStreamHandler") then law.FirstCome (lanes_of Merge node) else law.Merge (lanes_of Merge node)
+
 -- a calculator's law, if its options set it
 abbrev pub law_with : CalculatorKind → NodeView → List Entry → Option Law
 law_with PassThrough node options = Some law.Pass
 law_with Gate node options = gate_law node options
 law_with Mux node options = Some (law.Mux (lanes_of Mux node))
 law_with Cloner node options = Some (law.Cloner (lanes_of Cloner node))
-law_with Merge node options = Some (law.Merge (lanes_of Merge node))
+law_with Merge node options = Some (merge_law node)
 law_with Thinner node options = thinner_law options
 law_with Sum node options = Some (law.Sum (lanes_of Sum node))
 law_with Map node options = map_law options
@@ -108,6 +121,7 @@ law_with Counting node options = counting_law options
 law_with SideToStream node options = Some (law.SideOnce (time_of (moment_of node)))
 law_with Constants node options = Some law.Constants
 law_with Loopback node options = Some law.Loopback
+law_with FlowLimiter node options = limiter_law options
 
 -- the side packets that a ConstantSidePacketCalculator writes: as many as its ports, each set by an option
 abbrev pub constants_with : CalculatorKind → NodeView → List Entry → Option (List Plain)

@@ -4,7 +4,7 @@ use Rattle.std.specs.Prelude.{ℕ, List, [], ◌∷◌, Option, None, Some, if�
 use Rattle.std.specs.Option.{option_or}
 use Rattle.std.specs.Str.{bytes_eq}
 use Rattle.mg_kinds.specs.declared.kind.CalculatorKind.{CalculatorKind}
-use Rattle.mg_kinds.specs.declared.kind.CalculatorKind.TheVariants.{PassThrough, Gate, Mux, Cloner, Merge, Thinner, Sum, Map, Filter, Running, Shift, Counting, SideToStream, Constants, Loopback}
+use Rattle.mg_kinds.specs.declared.kind.CalculatorKind.TheVariants.{PassThrough, Gate, Mux, Cloner, Merge, Thinner, Sum, Map, Filter, Running, Shift, Counting, SideToStream, Constants, Loopback, FlowLimiter}
 
 pub record NameRow : Type 0 where
   pub name : List ℕ
@@ -17,7 +17,8 @@ row name kind = record { name = name; kind = kind }
 abbrev pub passing : List NameRow
 passing = row (codes "PassThroughCalculator") PassThrough ∷ row (codes "GateCalculator") Gate ∷ row (codes "MuxCalculator") Mux
     ∷ row (codes "PacketClonerCalculator") Cloner ∷ row (codes "MergeCalculator") Merge ∷ row (codes "PacketThinnerCalculator") Thinner
-    ∷ row (codes "TimestampShiftCalculator") Shift ∷ row (codes "PreviousLoopbackCalculator") Loopback ∷ []
+    ∷ row (codes "TimestampShiftCalculator") Shift ∷ row (codes "PreviousLoopbackCalculator") Loopback
+    ∷ row (codes "FlowLimiterCalculator") FlowLimiter ∷ []
 
 -- those that work with numbers
 abbrev pub reckoning : List NameRow

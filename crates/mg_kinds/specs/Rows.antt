@@ -9,9 +9,9 @@ use Rattle.mg_kinds.specs.Ports.{has_just, fitting}
 use Rattle.mg_kinds.specs.PortOrder.{in_order}
 use Rattle.mg_kinds.specs.Tags.{tag_text}
 use Rattle.mg_kinds.specs.declared.kind.CalculatorKind.{CalculatorKind}
-use Rattle.mg_kinds.specs.declared.kind.CalculatorKind.TheVariants.{PassThrough, Gate, Mux, Cloner, Merge, Thinner, Sum, Map, Filter, Running, Shift, Counting, SideToStream, Constants, Loopback}
+use Rattle.mg_kinds.specs.declared.kind.CalculatorKind.TheVariants.{PassThrough, Gate, Mux, Cloner, Merge, Thinner, Sum, Map, Filter, Running, Shift, Counting, SideToStream, Constants, Loopback, FlowLimiter}
 use Rattle.mg_kinds.specs.declared.tag.Tag.{Tag}
-use Rattle.mg_kinds.specs.declared.tag.Tag.TheVariants.{Untagged, Allow, Disallow, Input, Select, Output, Tick, Loop, Main, PrevLoop, Packet, AtPreStream, AtZero, AtPostStream}
+use Rattle.mg_kinds.specs.declared.tag.Tag.TheVariants.{Untagged, Allow, Disallow, Input, Select, Output, Tick, Loop, Main, Finished, PrevLoop, Packet, AtPreStream, AtZero, AtPostStream}
 use Rattle.mg_kinds.specs.declared.row.Row.{Row}
 use Rattle.mg_kinds.specs.declared.ports.Ports.{Ports}
 use Rattle.mg_calc.specs.declared.port_kind.PortKind.{PortKind}
@@ -70,6 +70,7 @@ inputs_of Counting node = no_ports
 inputs_of SideToStream node = no_ports
 inputs_of Constants node = no_ports
 inputs_of Loopback node = many_and Loop Any 1 Main Any
+inputs_of FlowLimiter node = many_and Untagged Any 1 Finished Any
 
 abbrev pub outputs_of : CalculatorKind → NodeView → Row
 outputs_of PassThrough node = no_ports
@@ -87,6 +88,7 @@ outputs_of Counting node = one Untagged Int
 outputs_of SideToStream node = one (moment_of node) Any
 outputs_of Constants node = no_ports
 outputs_of Loopback node = one PrevLoop Any
+outputs_of FlowLimiter node = one Untagged Any
 
 abbrev pub sides_of : CalculatorKind → Row
 sides_of SideToStream = one Untagged Any

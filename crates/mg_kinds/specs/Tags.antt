@@ -1,7 +1,7 @@
 -- The tags of the ports of built-in calculators.
 use Rattle.std.specs.Prelude.{ℕ, List, [], codes}
 use Rattle.mg_kinds.specs.declared.tag.Tag.{Tag}
-use Rattle.mg_kinds.specs.declared.tag.Tag.TheVariants.{Untagged, Allow, Disallow, Input, Select, Output, Tick, Loop, Main, PrevLoop, Packet, AtPreStream, AtZero, AtPostStream}
+use Rattle.mg_kinds.specs.declared.tag.Tag.TheVariants.{Untagged, Allow, Disallow, Input, Select, Output, Tick, Loop, Main, Finished, PrevLoop, Packet, AtPreStream, AtZero, AtPostStream}
 
 abbrev pub tag_text : Tag → List ℕ
 tag_text Untagged = []
@@ -13,6 +13,7 @@ tag_text Output = codes "OUTPUT"
 tag_text Tick = codes "TICK"
 tag_text Loop = codes "LOOP"
 tag_text Main = codes "MAIN"
+tag_text Finished = codes "FINISHED"
 tag_text PrevLoop = codes "PREV_LOOP"
 tag_text Packet = codes "PACKET"
 tag_text AtPreStream = codes "AT_PRESTREAM"

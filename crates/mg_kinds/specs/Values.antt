@@ -47,6 +47,13 @@ natural (negsuc n) = 0
 abbrev pub call_count : Value → Option ℕ
 call_count value = option_map natural (number_between (pos 0) most_calls value)
 
+-- how many packets of a limiter may be in flight
+abbrev pub most_in_flight : ℤ
+most_in_flight = pos 2147483647
+
+abbrev pub flight_limit : Value → Option ℕ
+flight_limit value = option_map natural (number_between (pos 1) most_in_flight value)
+
 -- a word
 abbrev pub word_in : Value → List ℕ
 word_in (simple word bytes) = bytes

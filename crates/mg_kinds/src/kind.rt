@@ -36,6 +36,8 @@ pub enum CalculatorKind {
     Constants,
     /// PreviousLoopbackCalculator
     Loopback,
+    /// FlowLimiterCalculator
+    FlowLimiter,
 }
 
 fn passing(name: &[u8]) -> Option<CalculatorKind>
@@ -57,6 +59,8 @@ fn passing(name: &[u8]) -> Option<CalculatorKind>
         Some(CalculatorKind::Shift)
     } else if is(name, b"PreviousLoopbackCalculator") {
         Some(CalculatorKind::Loopback)
+    } else if is(name, b"FlowLimiterCalculator") {
+        Some(CalculatorKind::FlowLimiter)
     } else {
         None
     }

@@ -9,8 +9,9 @@ use crate::options::set_to;
 use crate::rows::{disallows, lanes_of, moment_of};
 use crate::tag::Tag;
 use crate::value::{
-    call_count, is_asynchronous, keep_in, operation_in, positive, timestamp_number,
+    call_count, flight_limit, is_asynchronous, keep_in, operation_in, positive, timestamp_number,
 };
+use crate::word::is;
 use mg_calc::Law;
 use mg_config::{NodeConfig, long_number_in_value, truth_in_value};
 use mg_text::Field;
@@ -122,6 +123,33 @@ fn counting_law(options: &[&Field]) -> Option<Law>
     Some(Law::Count { count, start, step })
 }
 
+fn flight_or_one(name: &str, options: &[&Field]) -> Option<u32>
+    ensures { result ≡ laws.flight_or_one name.now (fields_of options.now) }
+{
+    match set_to(name, options) {
+        None => Some(1),
+        Some(value) => flight_limit(value),
+    }
+}
+
+fn limiter_law(options: &[&Field]) -> Option<Law>
+    ensures { result ≡ laws.limiter_law (fields_of options.now) }
+{
+    let most = flight_or_one("max_in_flight", options)?;
+    Some(Law::Limiter { most })
+}
+
+fn merge_law(node: &NodeConfig) -> Law
+    ensures { result ≡ laws.merge_law (node_view node.now) }
+{
+    let lanes = lanes_of(CalculatorKind::Merge, node);
+    if is(node.handler.as_bytes(), b"ImmediateInputStreamHandler") {
+        Law::FirstCome { lanes }
+    } else {
+        Law::Merge { lanes }
+    }
+}
+
 /// A calculator's law, if its options set it.
 pub fn law_with(kind: CalculatorKind, node: &NodeConfig, options: &[&Field]) -> Option<Law>
     ensures { result ≡ laws.law_with kind (node_view node.now) (fields_of options.now) }
@@ -132,7 +160,7 @@ pub fn law_with(kind: CalculatorKind, node: &NodeConfig, options: &[&Field]) -> 
         CalculatorKind::Gate => gate_law(node, options),
         CalculatorKind::Mux => Some(Law::Mux { lanes }),
         CalculatorKind::Cloner => Some(Law::Cloner { lanes }),
-        CalculatorKind::Merge => Some(Law::Merge { lanes }),
+        CalculatorKind::Merge => Some(merge_law(node)),
         CalculatorKind::Thinner => thinner_law(options),
         CalculatorKind::Sum => Some(Law::Sum { lanes }),
         CalculatorKind::Map => map_law(options),
@@ -145,5 +173,6 @@ pub fn law_with(kind: CalculatorKind, node: &NodeConfig, options: &[&Field]) -> 
         }),
         CalculatorKind::Constants => Some(Law::Constants),
         CalculatorKind::Loopback => Some(Law::Loopback),
+        CalculatorKind::FlowLimiter => limiter_law(options),
     }
 }

@@ -107,6 +107,9 @@ pub fn inputs_of(kind: CalculatorKind, node: &NodeConfig) -> Row
         CalculatorKind::Mux => many_and(Tag::Input, Kind::Any, lanes, Tag::Select, Kind::Int),
         CalculatorKind::Cloner => many_and(Tag::Untagged, Kind::Any, lanes, Tag::Tick, Kind::Any),
         CalculatorKind::Loopback => many_and(Tag::Loop, Kind::Any, 1, Tag::Main, Kind::Any),
+        CalculatorKind::FlowLimiter => {
+            many_and(Tag::Untagged, Kind::Any, 1, Tag::Finished, Kind::Any)
+        }
         CalculatorKind::Merge | CalculatorKind::Thinner | CalculatorKind::Shift => {
             many(Tag::Untagged, Kind::Any, lanes)
         }
@@ -132,9 +135,10 @@ pub fn outputs_of(kind: CalculatorKind, node: &NodeConfig) -> Row
         CalculatorKind::Mux => many(Tag::Output, Kind::Any, 1),
         CalculatorKind::Loopback => many(Tag::PrevLoop, Kind::Any, 1),
         CalculatorKind::SideToStream => many(moment_of(node), Kind::Any, 1),
-        CalculatorKind::Merge | CalculatorKind::Thinner | CalculatorKind::Shift => {
-            many(Tag::Untagged, Kind::Any, 1)
-        }
+        CalculatorKind::Merge
+        | CalculatorKind::Thinner
+        | CalculatorKind::Shift
+        | CalculatorKind::FlowLimiter => many(Tag::Untagged, Kind::Any, 1),
         CalculatorKind::Sum
         | CalculatorKind::Map
         | CalculatorKind::Filter

@@ -35,6 +35,7 @@ fn single_options(kind: CalculatorKind) -> &'static [&'static str]
         CalculatorKind::Map => &["op", "operand"],
         CalculatorKind::Filter => &["keep", "raise_bound"],
         CalculatorKind::Shift => &["offset"],
+        CalculatorKind::FlowLimiter => &["max_in_flight"],
         CalculatorKind::Counting => &["count", "start", "step"],
         _ => &[],
     }

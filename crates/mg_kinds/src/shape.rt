@@ -35,7 +35,11 @@ fn offset_of(law: &Law) -> Option<i64>
         | Law::Count { .. }
         | Law::SideOnce { .. }
         | Law::Constants
-        | Law::Loopback => None,
+        | Law::Loopback
+        | Law::BeginLoop { .. }
+        | Law::EndLoop
+        | Law::FirstCome { .. }
+        | Law::Limiter { .. } => None,
         _ => Some(0),
     }
 }

@@ -37,6 +37,14 @@ pub fn call_count(value: &TreeValue) -> Option<u32>
     Some(n as u32)
 }
 
+/// How many packets of a limiter may be in flight.
+pub fn flight_limit(value: &TreeValue) -> Option<u32>
+    ensures { result ≡ values.flight_limit (value_view value.now) }
+{
+    let n = number_between(1, 2_147_483_647, value)?;
+    Some(n as u32)
+}
+
 fn word_in(value: &TreeValue) -> &[u8]
     ensures { result.now ≡ values.word_in (value_view value.now) }
 {

@@ -1,8 +1,9 @@
 -- What holds of the drafts of nodes that aren't refused.
-use Rattle.std.specs.Prelude.{◌≡◌, ◌≢◌, ◌≤◌, true, false, List, length, filter_map, All, AllPairs, IfSome, IsSome, IsSomeAnd, slice_get}
+use Rattle.std.specs.Prelude.{◌≡◌, ◌≢◌, ◌≤◌, ◌⊎◌, ℕ, false, List, length, filter_map, All, AllPairs, IfSome, IsSome, IsSomeAnd, slice_get}
+use Rattle.mg_calc.specs.declared.law.Law.{Law}
 use Rattle.mg_calc.specs.declared.law.Law.TheVariants.{Loopback}
 use Rattle.mg_calc.specs.declared.shape.OuterShape.{OuterShape}
-use Rattle.mg_calc.specs.Shape.{ParametersFit, IsShapeOf}
+use Rattle.mg_calc.specs.Shape.{ParametersFit, IsShapeOf, IsLimiter}
 use Rattle.mg_calc.specs.Plan.{MayHavePolicy}
 use Rattle.mg_check.specs.Drafts.{DraftView}
 
@@ -20,15 +21,18 @@ pub record HasFlight (d : DraftView) : Type 0 where
   pub boxed : IsSome d.box_number → d.in_flight ≡ 1
   pub stateful : d.shape.stateless ≡ false → d.in_flight ≡ 1
 
--- its law has parameters in their ranges, its shape is its law's, and it has a policy that its law may have; only an input of a loopback
--- is back
+-- only LOOP of a loopback, its first port, and FINISHED of a limiter, its second, may be back
+abbrev pub IsBackPort : Law → ℕ → Type 0
+IsBackPort rule port = ((port ≡ 0) × (rule ≡ Loopback)) ⊎ ((port ≡ 1) × IsLimiter rule)
+
+-- its law has parameters in their ranges, its shape is its law's, and it has a policy that its law may have; what is back may be
 pub record IsSound (d : DraftView) : Type 0 where
   pub names : HasNames d
   pub parameters : ParametersFit d.law
   pub shape : IsShapeOf d.law d.shape
   pub flight : HasFlight d
   pub policy : MayHavePolicy d.law d.policy
-  pub back : d.back ≡ true → d.law ≡ Loopback
+  pub back : IfSome d.back (IsBackPort d.law)
 
 -- a calculator that is handed in has its law and shape
 pub record FitsDraft (d : DraftView) (outer : OuterShape) : Type 0 where

@@ -3,7 +3,7 @@ use Rattle.std.specs.Prelude.{option_map}
 use Rattle.std.specs.List.{list_any}
 use Rattle.mg_config.specs.Config.{node_view}
 use Rattle.mg_kinds.specs.SettingsView.{settings_view}
-use Rattle.mg_check.specs.Drafts.{draft_with, flight_of, is_at_loop}
+use Rattle.mg_check.specs.Drafts.{draft_with, flight_of, may_be_back, back_of}
 use Rattle.mg_check.proofs.PortNames.{draft_made}
 use mir.Val.{SFits}
 use mir.Syntax.{w32}
@@ -18,10 +18,10 @@ returns c =
     let settings = settings_view c.args.settings in
     let fits : SFits w32 node.max_in_flight = search rules in
     ap Some
-    (draft_made (node_view node) c.args.kind c.args.ports settings c.args.policy shape c.in_ok-texts.texts c.in_ok-label.label c.flight_of-in_flight.result c.box_of-box_number.result c.is_back-back.result c.is_misplaced-misplaced.result
+    (draft_made (node_view node) c.args.kind c.args.ports settings c.args.policy shape c.in_ok-texts.texts c.in_ok-label.label c.flight_of-in_flight.result c.box_of-box_number.result c.back_of-back.result c.is_misplaced-misplaced.result
     c.in_ok-label.ensures c.in_ok-texts.ensures
     (c.flight_of-in_flight.ensures ∙ ap (λ most. flight_of c.box_of-box_number.result shape.stateless most) (to_z-of_z w32 node.max_in_flight fits) ∙ ap (λ b. flight_of b shape.stateless node.max_in_flight) c.box_of-box_number.ensures)
     c.box_of-box_number.ensures
-    (c.is_back-back.ensures ∙ ap (list_any (is_at_loop law)) c.as_slice.ensures)
-    (c.is_misplaced-misplaced.ensures ∙ ap (list_any (λ mark. not (is_at_loop law mark))) c.as_slice-2.ensures))
+    (c.back_of-back.ensures ∙ ap (back_of law) c.as_slice.ensures)
+    (c.is_misplaced-misplaced.ensures ∙ ap (list_any (λ mark. not (may_be_back law mark))) c.as_slice-2.ensures))
     ∙ ap (option_map (draft_with (node_view node) c.args.kind c.args.ports settings c.args.policy)) (sym c.in-Some.is ∙ c.in_ok-shape.ensures)

@@ -1,0 +1,18 @@
+//! Laws of the definitions: each function does nothing, and its contract is the law.
+ghost use Rattle.std.specs.Prelude.{◌≡◌, ℕ, List, [], Some, None};
+ghost use Rattle.mg_config.specs.Config.{GraphView};
+ghost use Rattle.mg_check.specs.Cycle.{FeedsItself, IsLargestCycle};
+ghost use Rattle.mg_check.specs.Drafts.{DraftView};
+ghost use Rattle.mg_check.specs.Joining.{links, cycle, cycle_of};
+ghost use Rattle.mg_check.specs.declared.fault.CheckFault.TheVariants.{Cycle};
+
+/// A graph has a cycle exactly where some nodes each read, by an edge that isn't back, what one of them writes, and a
+/// refused cycle names the largest set of such nodes, in the order of their numbers (MediaPipe, Graphs: a graph is
+/// acyclic but for its back edges).
+pub fn a_cycle_is_the_largest_set()
+    ensures named { (graph : GraphView) (ds : List DraftView) (ns : List ℕ) → cycle graph ds ≡ Some (Cycle ns) → IsLargestCycle (links graph ds) ns }
+    ensures none { (graph : GraphView) (ds : List DraftView) → cycle graph ds ≡ None → (ns : List ℕ) → FeedsItself (links graph ds) ns → ns ≡ [] }
+
+    // There is one such set, so the refusal is that of any set that is the largest.
+    ensures only { (graph : GraphView) (ds : List DraftView) (ns : List ℕ) → IsLargestCycle (links graph ds) ns → cycle graph ds ≡ cycle_of ns }
+{}

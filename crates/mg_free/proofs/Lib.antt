@@ -1,0 +1,3 @@
+pub mod Arriving
+pub mod Logging
+pub mod Counting

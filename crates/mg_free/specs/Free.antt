@@ -1,0 +1,74 @@
+-- The law of free nodes, after the page Real-time Streams of the MediaPipe framework. What such a node lays depends on the
+-- order in which packets arrive at it, so it has no equation: it takes arrivals one by one, each a port and a packet.
+use Rattle.std.specs.Prelude.{◌≡◌, ℕ, ◌+◌, ◌-◌, ◌≤◌, ◌<◌, Bool, not, ◌&&◌, ◌==◌, nat_lt, nat_le, length, if◌then◌else◌}
+use Rattle.mg_time.specs.Time.{post_stream, IsAllowed, next}
+use Rattle.mg_value.specs.Payload.{Plain}
+use Rattle.mg_value.specs.Prefix.{Stamped, StreamPrefix, empty_prefix, appended, raised}
+use Rattle.mg_free.specs.declared.law.FreeLaw.{FreeLaw}
+use Rattle.mg_free.specs.declared.law.FreeLaw.TheVariants.{FirstCome, Limiter}
+
+-- an arrival
+pub record Arrival (X : Type 0) : Type 0 where
+  pub port : ℕ
+  pub packet : Stamped X
+
+-- what a free node has come to: what is known of its output, and how many packets are in flight
+pub record Flow (X : Type 0) : Type 0 where
+  pub output : StreamPrefix X
+  pub in_flight : ℕ
+
+-- at first the output is empty, and nothing is in flight
+abbrev pub begun : {X : Type 0} → Flow X
+begun = record { output = empty_prefix; in_flight = 0 }
+
+-- how many ports a law has; those of Limiter are the stream that is limited, and FINISHED
+abbrev pub ports_of : FreeLaw → ℕ
+ports_of (FirstCome lanes) = lanes
+ports_of (Limiter most) = 2
+
+-- a packet can still be laid on an output: it isn't below the bound, and at PostStream it is the first of all
+abbrev pub can_follow : {X : Type 0} → StreamPrefix X → ℕ → Bool
+can_follow output at = nat_le output.bound at && not ((at == post_stream) && nat_lt 0 (length output.packets))
+
+-- whether an arrival is laid: by FirstCome where it can still be; by Limiter where it comes on the first port, and fewer are in
+-- flight than may be
+abbrev pub is_laid : {X : Type 0} → FreeLaw → Flow X → Arrival X → Bool
+is_laid (FirstCome lanes) flow arrival = can_follow flow.output arrival.packet.at
+is_laid (Limiter most) flow arrival = (arrival.port == 0) && nat_lt flow.in_flight most
+
+-- once a packet is laid, Limiter has one more in flight
+abbrev pub risen : FreeLaw → ℕ → ℕ
+risen (FirstCome lanes) count = count
+risen (Limiter most) count = count + 1
+
+abbrev pub with_laid : {X : Type 0} → FreeLaw → Flow X → Stamped X → Flow X
+with_laid law flow packet = record { output = appended flow.output packet; in_flight = risen law flow.in_flight }
+
+-- what isn't laid: FirstCome drops it; Limiter drops a packet of the first port, below whose successor nothing more comes then,
+-- and a packet on FINISHED leaves one less in flight, where one is
+abbrev pub without_laid : {X : Type 0} → FreeLaw → Flow X → Arrival X → Flow X
+without_laid (FirstCome lanes) flow arrival = flow
+without_laid (Limiter most) flow arrival =
+    if arrival.port == 0
+    then record { output = raised flow.output (next arrival.packet.at); in_flight = flow.in_flight }
+    else record { output = flow.output; in_flight = flow.in_flight - 1 }
+
+-- The free law: what becomes of a free node by an arrival.
+abbrev pub arrived : {X : Type 0} → FreeLaw → Flow X → Arrival X → Flow X
+arrived law flow arrival = if is_laid law flow arrival then with_laid law flow arrival.packet else without_laid law flow arrival
+
+-- an arrival may come: the node has the port, a packet may carry the time, and on the first port of Limiter, whose packets come in
+-- order, the output doesn't stand in its way
+abbrev pub IsInTime : {X : Type 0} → FreeLaw → Flow X → Arrival X → Type 0
+IsInTime (FirstCome lanes) flow arrival = Unit {0}
+IsInTime (Limiter most) flow arrival = arrival.port ≡ 0 → (flow.output.bound ≤ arrival.packet.at) × (arrival.packet.at ≡ post_stream → length flow.output.packets ≡ 0)
+
+pub record MayArrive {X : Type 0} (law : FreeLaw) (flow : Flow X) (arrival : Arrival X) : Type 0 where
+  pub port : arrival.port < ports_of law
+  pub allowed : IsAllowed arrival.packet.at
+  pub in_time : IsInTime law flow arrival
+
+-- a free node with its law
+pub record FreeStanding : Type 0 where
+  pub law : FreeLaw
+  pub flow : Flow Plain

@@ -1,0 +1,7 @@
+pub mod Code
+pub mod Free
+pub mod Logs
+pub mod Core
+pub mod Rounds
+-- What the prover wants of the types beside their meaning. No meaning rests on it.
+pub mod Codes

@@ -1,0 +1,44 @@
+-- Logs: the arrivals of a free node, in order. What a free node lays is a function of its log.
+use Rattle.std.specs.Prelude.{◌≡◌, ℕ, ◌<◌, ◌==◌, Bool, List, [], ◌∷◌, map, filter, take, length, All, if◌then◌else◌}
+use Rattle.std.specs.List.{fold, list_all}
+use Rattle.mg_time.specs.Time.{done}
+use Rattle.mg_value.specs.Prefix.{Stamped, StreamPrefix, closed}
+use Rattle.mg_value.specs.Settled.{port_of}
+use Rattle.mg_free.specs.declared.law.FreeLaw.{FreeLaw}
+use Rattle.mg_free.specs.declared.law.FreeLaw.TheVariants.{FirstCome, Limiter}
+use Rattle.mg_free.specs.Free.{Arrival, Flow, begun, arrived, MayArrive}
+
+-- what a free node has come to by a log
+abbrev pub flow_of : {X : Type 0} → FreeLaw → List (Arrival X) → Flow X
+flow_of law log = fold (arrived law) begun log
+
+-- each arrival of a log may come once those before it have
+abbrev pub MayAllArrive : {X : Type 0} → FreeLaw → Flow X → List (Arrival X) → Type 0
+MayAllArrive law flow [] = Unit {0}
+MayAllArrive law flow (arrival ∷ log) = MayArrive law flow arrival × MayAllArrive law (arrived law flow arrival) log
+
+-- the packets that arrived at a port
+abbrev pub arrived_at : {X : Type 0} → ℕ → List (Arrival X) → List (Stamped X)
+arrived_at port log = map (λ a. a.packet) (filter (λ a. a.port == port) log)
+
+-- a log is lawful so far at input streams, one for each port: at each port the first packets of its stream have arrived, in order
+pub record IsLawfulSoFar {X : Type 0} (inputs : List (StreamPrefix X)) (log : List (Arrival X)) : Type 0 where
+  pub ports : All (λ a. a.port < length inputs) log
+  pub first : (port : ℕ) → port < length inputs → arrived_at port log ≡ take (length (arrived_at port log)) (port_of inputs port).packets
+
+-- a log is lawful: at each port all packets of its stream have arrived, in order
+pub record IsLawful {X : Type 0} (inputs : List (StreamPrefix X)) (log : List (Arrival X)) : Type 0 where
+  pub ports : All (λ a. a.port < length inputs) log
+  pub all : (port : ℕ) → port < length inputs → arrived_at port log ≡ (port_of inputs port).packets
+
+-- the input streams after whose ends the output ends: that of each port, and for Limiter that of the first
+abbrev pub ending : {X : Type 0} → FreeLaw → List (StreamPrefix X) → List (StreamPrefix X)
+ending (FirstCome lanes) inputs = inputs
+ending (Limiter most) inputs = take 1 inputs
+
+abbrev pub has_ended : {X : Type 0} → FreeLaw → List (StreamPrefix X) → Bool
+has_ended law inputs = list_all (λ s. s.bound == done) (ending law inputs)
+
+-- the output of a free node at whose ports all has arrived
+abbrev pub output_of : {X : Type 0} → FreeLaw → List (StreamPrefix X) → List (Arrival X) → StreamPrefix X
+output_of law inputs log = if has_ended law inputs then closed (flow_of law log).output else (flow_of law log).output

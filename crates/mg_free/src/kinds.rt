@@ -1,0 +1,39 @@
+ghost use Rattle.std.specs.Prelude.{◌≡◌, IfNone};
+ghost use Rattle.mg_calc.specs.Plan.{IsValid, IsValidWithFree};
+ghost use Rattle.mg_free.specs.Core.{free_law_of, is_free as the_free, first_free as the_first};
+
+use crate::FreeLaw;
+use mg_calc::{Law, Plan, PlanNode};
+
+/// The free law of a law, where its nodes are free.
+pub fn free_law(law: &Law) -> Option<FreeLaw>
+    ensures { result ≡ free_law_of law.now }
+{
+    match law {
+        Law::FirstCome { lanes } => Some(FreeLaw::FirstCome { lanes: *lanes }),
+        Law::Limiter { most } => Some(FreeLaw::Limiter { most: *most }),
+        _ => None,
+    }
+}
+
+// Whether a node is free.
+fn is_free(node: &PlanNode) -> bool
+    ensures { result ≡ the_free node.now }
+{
+    free_law(&node.law).is_some()
+}
+
+/// The number of a plan's first free node, where it has one. A plan that has none is as good as any other valid one: it can be
+/// run and solved as it is.
+pub fn first_free(plan: &Plan) -> Option<u32>
+    ensures first { result ≡ the_first plan.now }
+    ensures valid { IsValidWithFree plan.now → IfNone result (IsValid plan.now) }
+{
+    let nodes = plan.nodes.as_slice();
+    for number in 0..plan.nodes.len() {
+        if is_free(&nodes[number as usize]) {
+            return Some(number);
+        }
+    }
+    None
+}
