@@ -24,11 +24,17 @@ use Rattle.mg_node.specs.Ports.{port_queue, with_port, with_room}
 use Rattle.mg_node.specs.Delivery.{missing, with_packets, delivered, Delivers, AreOfOne}
 use Rattle.mg_node.specs.IntakeStanding.{HasGrown, IntakeGrows}
 use Rattle.mg_node.proofs.Arriving.{Came, came_packets, came_delivered, came_room}
-use Rattle.mg_node.proofs.Growing.{grown_by_itself}
+use Rattle.mg_node.proofs.Growing.{grown_by_itself, grown_further}
 use Rattle.mg_node.proofs.FrontGrows.{one_stands}
 
 pub intake_same : (i now : IntakeView) → now ≡ i → IntakeGrows i now
 intake_same i now is = subst (λ (v : IntakeView). IntakeGrows i v) (sym is) (record { claimed = omega arith; ports = (λ port. grown_by_itself _) })
+
+pub intake_further : (i j k : IntakeView) → IntakeGrows i j → IntakeGrows j k → IntakeGrows i k
+intake_further i j k one two = record {
+  claimed = (let a = one.claimed in let b = two.claimed in omega (arith, a, b));
+  ports = (λ port. grown_further _ _ _ (one.ports port) (two.ports port));
+}
 
 -- Deliveries.
 

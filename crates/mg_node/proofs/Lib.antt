@@ -1,3 +1,4 @@
+pub mod Sent
 pub mod Horizons
 pub mod PortSteps
 pub mod Delivering
@@ -68,6 +69,7 @@ pub mod Extending
 pub mod FewWait
 pub mod Frames
 pub mod StaysOut
+pub mod KeptOut
 pub mod SmallNumbers
 pub mod FirstShelf
 pub mod LaidAndCame

@@ -10,7 +10,7 @@ use Rattle.mg_value.proofs.Lemmas.{sets-places}
 use Rattle.mg_calc.specs.declared.cause.Cause.{Cause}
 use Rattle.mg_calc.specs.declared.emission.Laid.{Laid}
 use Rattle.mg_calc.specs.declared.law.Law.{Law}
-use Rattle.mg_calc.specs.declared.law.Law.TheVariants.{Cloner, Thin, Running, Count, SideOnce, Constants, Loopback, Tally, Scripted}
+use Rattle.mg_calc.specs.declared.law.Law.TheVariants.{Cloner, Thin, Running, Count, SideOnce, Constants, Loopback, Tally, Scripted, BeginLoop, EndLoop}
 use Rattle.mg_calc.specs.declared.node_fault.Phase.{Phase}
 use Rattle.mg_calc.specs.declared.node_fault.Phase.TheVariants.{Open, Process}
 use Rattle.mg_calc.specs.declared.plan_node.PlanNode.{PlanNode}
@@ -36,6 +36,8 @@ form_empty Running state is h = absurd cc
 form_empty (SideOnce at) state is h = absurd cc
 form_empty Tally state is h = absurd cc
 form_empty (Scripted offset first steps last) state is h = absurd cc
+form_empty (BeginLoop clone) state is h = absurd cc
+form_empty EndLoop state is h = absurd cc
 form_empty law state is h = h
 
 empty_form : (law : Law) (state : List Plain) → is_stateless law ≡ true → state ≡ [] → IsStateOf law state
@@ -45,6 +47,8 @@ empty_form Running state is h = absurd cc
 empty_form (SideOnce at) state is h = absurd cc
 empty_form Tally state is h = absurd cc
 empty_form (Scripted offset first steps last) state is h = absurd cc
+empty_form (BeginLoop clone) state is h = absurd cc
+empty_form EndLoop state is h = absurd cc
 empty_form law state is h = h
 
 opens_empty : (law : Law) (sides : List (Option Plain)) (given : List Plain × List Laid) → is_stateless law ≡ true → opening law sides ≡ Ok given → given.0 ≡ []

@@ -13,6 +13,7 @@ use Rattle.mg_node.specs.Job.{LoggedJob, IsTask, count_of_all}
 use Rattle.mg_node.specs.Lawful.{of_node, is_close, StandsAt, IsEngineOf, LawfulEngine}
 use Rattle.mg_node.specs.Claims.{TakesUnrun, Hands}
 use Rattle.mg_node.specs.Shelves.{IsOut, back, shelved, performed_of, shelf_at, Unshelves}
+use Rattle.mg_node.specs.Out.{IsMissing, GoesOut, ComesBack}
 use Rattle.mg_node.specs.Windows.{ready_of}
 use Rattle.mg_node.specs.Commits.{Front, counted, answer_laid, has_stopped, with_ready, front_laid, committed_entry, window_with, front_of, Commits}
 use Rattle.mg_node.proofs.Handing.{none_number}
@@ -21,26 +22,6 @@ use Rattle.mg_node.proofs.Shelving.{found_at}
 use Rattle.mg_node.proofs.TaskLogs.{task_most}
 use Rattle.mg_node.proofs.WorksOut.{result_numbered, result_out}
 use Rattle.mg_node.proofs.Frames.{get_other, put_there, get_first, get_push, get_drop}
-
--- the entry of a number has no outcome
-pub record IsMissing (engine : EngineView) (number : ℕ) : Type 0 where
-  pub place : ℕ
-  pub number_is : number ≡ engine.laid + place
-  pub entry : EntryView
-  pub there : slice_get engine.window place ≡ Some entry
-  pub missing : entry.outcome ≡ None
-
--- one more work is out
-pub record GoesOut (before now : EngineView) (work : WorkView) : Type 0 where
-  pub out : IsOut now work
-  pub apart : (other : WorkView) → IsOut before other → other.number ≢ work.number
-  pub stays : (other : WorkView) → IsOut before other → IsOut now other
-  pub only : (place : ℕ) (entry : EntryView) → slice_get now.window place ≡ Some entry → entry.outcome ≡ None → (work.number ≡ now.laid + place) ⊎ IsMissing before (now.laid + place)
-
--- the work of a number is out no more
-pub record ComesBack (before now : EngineView) (number : ℕ) : Type 0 where
-  pub stays : (other : WorkView) → IsOut before other → other.number ≢ number → IsOut now other
-  pub only : (place : ℕ) (entry : EntryView) → slice_get now.window place ≡ Some entry → entry.outcome ≡ None → IsMissing before (now.laid + place) × (now.laid + place ≢ number)
 
 no_outcome : (e : EntryView) (o : OutcomeView) → e.outcome ≡ None → e.outcome ≡ Some o → ⊥
 no_outcome e o none some = none-some o (sym none ∙ some)

@@ -27,3 +27,4 @@ pub mod Had
 pub mod Codes
 pub mod Code
 pub mod Shelves
+pub mod Out

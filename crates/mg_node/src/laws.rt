@@ -15,17 +15,21 @@ ghost use Rattle.mg_calc.specs.Meaning.{count_of, fault_of};
 ghost use Rattle.mg_node.specs.Ports.{ports_in, port_queue, next_time, first_waiting};
 ghost use Rattle.mg_node.specs.Views.{IntakeView, WorkView, PerformedView, OutcomeView, EngineView};
 ghost use Rattle.mg_node.specs.Job.{LoggedJob, Solves, ports_of, streams_at};
-ghost use Rattle.mg_node.specs.Lawful.{Owner, of_node, of_input, StandForAll, LawfulEngine, LawfulIntake, LawfulWork, LawfulPerformed, LawfulOutcome, Agree};
+ghost use Rattle.mg_node.specs.Lawful.{Owner, of_node, of_input, StandForAll, LawfulEngine, LawfulIntake, LawfulWork, LawfulPerformed, LawfulOutcome, Agree, AreCell};
 ghost use Rattle.mg_node.specs.Begun.{LawfulUnbegun, SomeUnbegun};
 ghost use Rattle.mg_node.specs.Known.{IsKnown, IsKnownInput};
 ghost use Rattle.mg_node.specs.Leaving.{NoneOut, HasCalculator, HasHanded, handed_told, first_handed};
 ghost use Rattle.mg_node.specs.WindingUp.{WindsUp};
 ghost use Rattle.mg_node.specs.Had.{HadCalls, HadFront};
 ghost use Rattle.mg_node.specs.Batches.{Grows};
-ghost use Rattle.mg_node.specs.IntakeStanding.{Stays};
+ghost use Rattle.mg_node.specs.IntakeStanding.{Stays, IntakeGrows};
 ghost use Rattle.mg_node.specs.Standing.{EngineGrows};
 ghost use Rattle.mg_node.specs.Commits.{SomeJobHasEngine, Commits};
-ghost use Rattle.mg_node.specs.Claims.{first_unrun, TakesAnswer};
+ghost use Rattle.mg_node.specs.Claims.{first_unrun, TakesAnswer, Claims};
+ghost use Rattle.mg_node.specs.declared.claimed.Claimed.{Claimed};
+ghost use Rattle.mg_node.specs.declared.waits.Waits.{Waits};
+ghost use Rattle.mg_node.specs.Advances.{advanced};
+ghost use Rattle.mg_node.specs.Out.{GoesOut, ComesBack, KeepsOut, PutsOut, KeepsSetUp};
 ghost use Rattle.mg_node.specs.Windows.{has_ended, starts_ready};
 ghost use Rattle.mg_node.specs.Resting.{IsResting, HasCome, HasCarried};
 ghost use Rattle.mg_node.specs.Carried.{HasLaid, HasReached};
@@ -125,6 +129,51 @@ pub fn claims_are_counted()
 pub fn outputs_only_rise()
     ensures grows { (outcome : OutcomeView) (laid : ℕ) (before now : EngineView) → SomeJobHasEngine before → Commits outcome laid before now → EngineGrows before now }
     ensures same { (outcome : OutcomeView) (laid : ℕ) (before now : EngineView) → Commits outcome laid before now → length now.outputs ≡ length before.outputs }
+{}
+
+/// What a claim answers and leaves tells which works are out then, that the engine stays as it was set up, and that at each port as many
+/// packets are counted as before; and both standings grow.
+pub fn claims_put_works_out()
+    ensures out { (result : Claimed ℕ) (engine engine_now : EngineView) (intake intake_now : IntakeView) → AreCell engine intake
+        → Claims result engine engine_now intake intake_now → PutsOut result engine engine_now }
+    ensures set_up { (result : Claimed ℕ) (engine engine_now : EngineView) (intake intake_now : IntakeView)
+        → Claims result engine engine_now intake intake_now → KeepsSetUp engine engine_now }
+    ensures ports { (result : Claimed ℕ) (engine engine_now : EngineView) (intake intake_now : IntakeView)
+        → Claims result engine engine_now intake intake_now → (port : ℕ) → Stays (port_queue intake.waits port) (port_queue intake_now.waits port) }
+    ensures engine_grows { (result : Claimed ℕ) (engine engine_now : EngineView) (intake intake_now : IntakeView) → AreCell engine intake
+        → Claims result engine engine_now intake intake_now → EngineGrows engine engine_now }
+    ensures intake_grows { (result : Claimed ℕ) (engine engine_now : EngineView) (intake intake_now : IntakeView) → AreCell engine intake
+        → Claims result engine engine_now intake intake_now → IntakeGrows intake intake_now }
+{}
+
+/// A work that is committed, or shelved, is out no more; one that is found in its window and taken is out again. All others that were out
+/// stay so, and the engine stays as it was set up.
+pub fn works_come_back_one_by_one()
+    ensures committed { (outcome : OutcomeView) (laid : ℕ) (before now : EngineView) → IsOut before outcome.work → SomeJobHasEngine before
+        → Commits outcome laid before now → ComesBack before now outcome.work.number }
+    ensures committed_set_up { (outcome : OutcomeView) (laid : ℕ) (before now : EngineView) → Commits outcome laid before now → KeepsSetUp before now }
+    ensures shelved { (engine : EngineView) (outcome : OutcomeView) → IsOut engine outcome.work → ComesBack engine (shelved engine outcome) outcome.work.number }
+    ensures shelved_set_up { (engine : EngineView) (outcome : OutcomeView) → KeepsSetUp engine (shelved engine outcome) }
+    ensures shelved_grows { (engine : EngineView) (outcome : OutcomeView) → EngineGrows engine (shelved engine outcome) }
+    ensures taken { (job : LoggedJob) (owner number : ℕ) (engine engine_now : EngineView) (p : PerformedView) → LawfulEngine job (of_node owner) engine
+        → shelf_at engine number ≡ Some p → Unshelves (Some p) engine engine_now number → GoesOut engine engine_now p.work }
+    ensures taken_set_up { (found : Option PerformedView) (number : ℕ) (engine engine_now : EngineView) → Unshelves found engine engine_now number → KeepsSetUp engine engine_now }
+    ensures taken_grows { (found : Option PerformedView) (number : ℕ) (engine engine_now : EngineView) → Unshelves found engine engine_now number → EngineGrows engine engine_now }
+{}
+
+/// An advance leaves out the works that were, and the engine as it was set up; and its standing grows.
+pub fn advances_leave_works_out()
+    ensures out { (engine : EngineView) (waits : Waits) → KeepsOut engine (advanced engine waits) }
+    ensures set_up { (engine : EngineView) (waits : Waits) → KeepsSetUp engine (advanced engine waits) }
+    ensures grows { (engine : EngineView) (waits : Waits) → EngineGrows engine (advanced engine waits) }
+{}
+
+/// A standing that grew, and then grew again, has grown; and each has grown to itself.
+pub fn standings_grow_on()
+    ensures engine { (first second third : EngineView) → EngineGrows first second → EngineGrows second third → EngineGrows first third }
+    ensures intake { (first second third : IntakeView) → IntakeGrows first second → IntakeGrows second third → IntakeGrows first third }
+    ensures same_engine { (engine : EngineView) → EngineGrows engine engine }
+    ensures same_intake { (intake : IntakeView) → IntakeGrows intake intake }
 {}
 
 /// An answer of a loopback leaves as many packets counted at both ports as before, and the same bounds.

@@ -2,7 +2,7 @@
 ghost use Rattle.std.specs.Prelude.{◌≡◌, ◌<◌, ◌≤◌, map, length, replicate, [], IfOk, slice_index_or, vec_len, vec_capacity};
 ghost use Rattle.std.specs.VecDeque.{deque_len, deque_capacity};
 ghost use Rattle.mg_stream.specs.Pool.{backlog_of, empty_backlog};
-ghost use Rattle.mg_calc.specs.Shape.{ParametersFit, IsShapeOf};
+ghost use Rattle.mg_calc.specs.Shape.{ParametersFit, IsShapeOf, IsServed};
 ghost use Rattle.mg_node.specs.Job.{role_of as role_by};
 ghost use Rattle.mg_node.specs.Fresh.{own_told, bench_of};
 
@@ -52,6 +52,7 @@ pub(crate) fn empty_outputs(alloc: Global, count: u32) -> Result<Vec<Queue>, All
 fn own_bench<C: Calculator>(alloc: Global, node: &PlanNode) -> Result<Bench<C>, AllocError>
     requires ranges { ParametersFit node.now.law }
     requires of_law { IsShapeOf node.now.law node.now.shape }
+    requires served { IsServed node.now.law }
     ensures { IfOk result (λ b. b ≡ bench_of node.now (own_told node.now)) }
 {
     let builtin = Builtin::new(alloc, &node.law, &node.shape)?;
@@ -70,6 +71,7 @@ pub(crate) fn own_benches<C: Calculator>(
 ) -> Result<Vec<Bench<C>>, AllocError>
     requires ranges { ParametersFit node.now.law }
     requires of_law { IsShapeOf node.now.law node.now.shape }
+    requires served { IsServed node.now.law }
     ensures items { IfOk result (λ v. v.items ≡ replicate count (bench_of node.now (own_told node.now))) }
     ensures len { IfOk result (λ v. vec_len v ≡ count) }
     ensures room { IfOk result (λ v. count < vec_capacity v) }

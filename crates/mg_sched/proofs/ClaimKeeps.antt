@@ -33,7 +33,8 @@ use Rattle.mg_sched.specs.StandsFor.{IsCell, HasWorks, IsNetOf, StandsFor, IsRun
 use Rattle.mg_sched.specs.Acts.{TakesWork, ClaimsBy, ClaimsNext, Claimed as ClaimedAt}
 use Rattle.mg_sched.proofs.Finding.{cell_at, found}
 use Rattle.mg_sched.proofs.PlanEdges.{ports_of_node}
-use Rattle.mg_node.proofs.StaysOut.{GoesOut, unrun_goes, further_goes}
+use Rattle.mg_node.specs.Out.{GoesOut}
+use Rattle.mg_node.proofs.StaysOut.{unrun_goes, further_goes}
 use Rattle.mg_sched.proofs.DeskRoom.{works_fit, window_fits}
 use Rattle.mg_sched.proofs.Works.{works_more, works_none}
 use Rattle.mg_sched.proofs.Changed.{CellStep, cell_stands}

@@ -66,3 +66,6 @@ pub mod LeftPerform
 pub mod LeftCommit
 pub mod LeftClaim
 pub mod LeftIn
+pub mod ComingApart
+pub mod PuttingTogether
+pub mod EdgesInPlace

@@ -70,7 +70,7 @@ noted_get (x ∷ qs) (suc i) n (suc number) q h =
     let r = noted_get qs i n number q h in
     record { old = r.old; at = r.at; counts = r.counts; same = λ other. r.same (λ e. other (omega (arith, e))); told = λ e. r.told (omega (arith, e)) }
 
-record AreNoted (qs : List Queue) (first : ℕ) (ns : List ℕ) (number : ℕ) (q : Queue) : Type 0 where
+pub record AreNoted (qs : List Queue) (first : ℕ) (ns : List ℕ) (number : ℕ) (q : Queue) : Type 0 where
   pub old : Queue
   pub at : slice_get qs number ≡ Some old
   pub counts : q.counts ≡ old.counts
@@ -83,7 +83,7 @@ told_next qs first n ns number q r b zero m at e =
     r.same (λ port k there f. omega (arith, e, f)) ∙ b.told (omega (arith, e)) ∙ same_Some n m at
 told_next qs first n ns number q r b (suc port) m at e = r.told port m at (omega (arith, e))
 
-all_noted_get : (ns : List ℕ) (qs : List Queue) (first number : ℕ) (q : Queue) → slice_get (all_noted qs first ns) number ≡ Some q → AreNoted qs first ns number q
+pub all_noted_get : (ns : List ℕ) (qs : List Queue) (first number : ℕ) (q : Queue) → slice_get (all_noted qs first ns) number ≡ Some q → AreNoted qs first ns number q
 all_noted_get [] qs first number q h = record { old = q; at = h; counts = refl; same = λ none. refl; told = λ port n at. absurd (none-some n at) }
 all_noted_get (n ∷ ns) qs first number q h =
     let r = all_noted_get ns (noted qs first n) (first + 1) number q h in
@@ -174,13 +174,13 @@ cell_knows net node engine engine_now intake desk_now within h at_engine at_inta
       (λ here. k.counts engine (omega (arith, here, within)) (ap (slice_get net.engines) here ∙ at_engine) ∙ ap not (sym ended));
 }
 
-stopped_other : (node : ℕ) (q : Queue) → q.node ≢ node → stopped node q ≡ q
+pub stopped_other : (node : ℕ) (q : Queue) → q.node ≢ node → stopped node q ≡ q
 stopped_other node q other = ap (λ (b : Bool). (let x : Queue = if b then record q { counts = false } else q in x)) (ne_eqb q.node node other)
 
-stopped_own : (node : ℕ) (q : Queue) → q.node ≡ node → stopped node q ≡ record q { counts = false }
+pub stopped_own : (node : ℕ) (q : Queue) → q.node ≡ node → stopped node q ≡ record q { counts = false }
 stopped_own node q own = ap (λ (b : Bool). (let x : Queue = if b then record q { counts = false } else q in x)) (eq-eqb q.node node own)
 
-stopped_waiting : (node : ℕ) (q : Queue) → (stopped node q).waiting ≡ q.waiting
+pub stopped_waiting : (node : ℕ) (q : Queue) → (stopped node q).waiting ≡ q.waiting
 stopped_waiting node q = by_test (q.node == node)
   where
     by_test : (b : Bool) → (let x : Queue = if b then record q { counts = false } else q in x).waiting ≡ q.waiting
@@ -188,7 +188,7 @@ stopped_waiting node q = by_test (q.node == node)
     by_test false = refl
 
 -- the queue of an edge has its consumer
-queue_node : (plan : Plan) (t : QueueLimits) (number : ℕ) (e : Edge) (q : Queue) → IsOf plan t → slice_get plan.edges number ≡ Some e → slice_get t.queues number ≡ Some q → q.node ≡ e.node
+pub queue_node : (plan : Plan) (t : QueueLimits) (number : ℕ) (e : Edge) (q : Queue) → IsOf plan t → slice_get plan.edges number ≡ Some e → slice_get t.queues number ≡ Some q → q.node ≡ e.node
 queue_node plan t number e q of at_e at_q =
     same_Some q.node e.node
     (sym (get_map (λ (x : Queue). x.node) t.queues number q at_q) ∙ ap (λ (ns : List ℕ). slice_get ns number) of.queues ∙ get_map (λ (x : Edge). x.node) plan.edges number e at_e)

@@ -17,7 +17,8 @@ use Rattle.mg_sched.specs.StandsFor.{IsNetOf, StandsFor, IsRunning}
 use Rattle.mg_sched.specs.Acts.{PerformedBy, Performs, Performed}
 use Rattle.mg_sched.proofs.Finding.{cell_at, found}
 use Rattle.mg_sched.proofs.Middles.{all_middle}
-use Rattle.mg_node.proofs.StaysOut.{ComesBack, shelved_back}
+use Rattle.mg_node.specs.Out.{ComesBack}
+use Rattle.mg_node.proofs.StaysOut.{shelved_back}
 use Rattle.mg_sched.proofs.Works.{works_fewer}
 use Rattle.mg_sched.proofs.Changed.{CellStep, cell_stands}
 use Rattle.mg_sched.proofs.LimitsKnow.{cell_knows}

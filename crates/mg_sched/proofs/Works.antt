@@ -11,7 +11,7 @@ use Rattle.mg_node.specs.Shelves.{IsOut}
 use Rattle.mg_sched.specs.Views.{DeskView}
 use Rattle.mg_sched.specs.StandsFor.{HasWorks}
 use Rattle.mg_sched.proofs.Middles.{all_middle, any_middle, any_first, pairs_middle, pairs_with, all_both}
-use Rattle.mg_node.proofs.StaysOut.{IsMissing, GoesOut, ComesBack}
+use Rattle.mg_node.specs.Out.{IsMissing, GoesOut, ComesBack}
 
 -- a work that is missing in the window lies on the desk
 missing_there : (job : LoggedJob) (engine : EngineView) (desk : DeskView) (number : ℕ) → HasWorks job engine desk → IsMissing engine number → Any (λ w. w.number ≡ number) desk.works

@@ -7,3 +7,4 @@ pub mod Longer
 pub mod Outputs
 pub mod Agendas
 pub mod Left
+pub mod Telling

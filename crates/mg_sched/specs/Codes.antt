@@ -1,4 +1,4 @@
--- How the logic stores a desk, an agenda and a net.
+-- How the logic stores a desk, an agenda, a net, and what stays of one.
 use Rattle.std.specs.Prelude.{ℕ, Bool, List, Option, refl}
 use Rattle.std.specs.Coded.{Coded, code_by, coded×, coded_ℕ, coded_bool, coded_list, coded_option}
 use Rattle.mg_value.specs.Payload.{Plain}
@@ -12,6 +12,7 @@ use Rattle.mg_throttle.specs.declared.queue.Queue.{Queue}
 use Rattle.mg_throttle.specs.contracts.queue.Queue as queue
 use Rattle.mg_throttle.specs.Throttle.{QueueLimits}
 use Rattle.mg_sched.specs.Views.{DeskView, NetView}
+use Rattle.mg_sched.specs.ComesApart.{RestView}
 use Rattle.mg_sched.specs.Code.Agendas.{AgendaView}
 
 abbrev pub desk_code : Coded DeskView
@@ -25,6 +26,12 @@ abbrev pub limits_code : Coded QueueLimits
 limits_code =
     code_by (List Queue × (List (List Bool) × ℕ)) (coded× (coded_list queue.the_row.coded) (coded× (coded_list (coded_list coded_bool)) coded_ℕ))
     (λ t. (t.queues, (t.reached, t.feeders))) (λ p. record { queues = p.0; reached = p.1.0; feeders = p.1.1 }) (λ _. refl)
+
+abbrev pub rest_code : Coded RestView
+rest_code =
+    code_by (List (Option Plain) × (List DeskView × (QueueLimits × List (Option CalculatorTold))))
+    (coded× (coded_list (coded_option plain_code)) (coded× (coded_list desk_code) (coded× limits_code (coded_list (coded_option told_code)))))
+    (λ r. (r.given, (r.desks, (r.limits, r.spare)))) (λ p. record { given = p.0; desks = p.1.0; limits = p.1.1.0; spare = p.1.1.1 }) (λ _. refl)
 
 abbrev pub net_code : Coded NetView
 net_code =

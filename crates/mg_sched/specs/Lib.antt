@@ -12,6 +12,7 @@ pub mod GivesBack
 pub mod WindsUp
 pub mod AtRest
 pub mod Sweeps
+pub mod ComesApart
 -- What the prover wants of the types beside their meaning. No meaning rests on it.
 pub mod Codes
 pub mod Code

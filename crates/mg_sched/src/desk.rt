@@ -99,6 +99,15 @@ impl<C: Calculator> Desk<C> {
         Some((place, self.works.remove(place)))
     }
 
+    /// Takes the last work, if there is one.
+    pub(crate) fn take_last(&mut self) -> Option<Work<C>>
+        ensures taken { IfSome result (λ w. self.old.works ≡ self.new.works ++ w ∷ []) }
+        ensures room { self.new.room ≡ self.old.room }
+        ensures none { IfNone result ((self.old.works ≡ []) × (self.new ≡ self.old)) }
+    {
+        self.works.pop()
+    }
+
     /// Lays a work where it lay.
     pub(crate) fn put_back(&mut self, place: usize, work: Work<C>)
         requires room { length self.old.works < self.old.room }

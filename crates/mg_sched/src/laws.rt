@@ -27,6 +27,8 @@ ghost use Rattle.mg_sched.specs.Taking.{collector_of, taken_out, TakesOut, settl
 ghost use Rattle.mg_sched.specs.WindsUp.{WindsUpNet};
 ghost use Rattle.mg_sched.specs.GivesBack.{given_back, StoodFor};
 ghost use Rattle.mg_sched.specs.Reports.{claimed_in, stream_end, report_of};
+ghost use Rattle.mg_sched.specs.ComesApart.{PartsView, ArePartsOf, IsInPlace};
+ghost use Rattle.mg_calc.specs.declared.edge.Edge.{Edge};
 
 /// A net that can go no further has the solution, in whatever order its steps were made: what is laid at each output is the solution's
 /// stream in whole, and so is what came at each port of a node or of the collector; of each node as many sets, calls or answers are
@@ -72,6 +74,12 @@ pub fn what_rests_reports_the_solution()
         → StandsFor job net → IsRunning net → IsAtRest net → Solves job solution → (report_of net).faults ≡ faults job.job solution }
     ensures streams { (job : LoggedJob) (net : NetView) (solution : List (StreamPrefix Plain))
         → StandsFor job net → IsRunning net → IsAtRest net → Solves job solution → (report_of net).streams ≡ map stream_end solution }
+{}
+
+/// Each edge of the parts of one net leads from an engine that has its stream to the port of that stream, and no other leads there.
+pub fn edges_of_parts_are_in_place()
+    ensures { (job : LoggedJob) (parts : PartsView) (number : ℕ) (e : Edge) → ArePartsOf job parts → slice_get parts.plan.edges number ≡ Some e
+        → IsInPlace parts number e }
 {}
 
 /// No step touches the calculators that no node uses, begins a node, or takes a set from the collector.

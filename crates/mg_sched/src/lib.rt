@@ -7,10 +7,12 @@ mod boxes;
 mod desk;
 pub mod laws;
 mod net;
+mod net_parts;
 mod parts;
 mod report;
 mod sources;
 mod tables;
 
-pub use net::Net;
+pub use net::{IndexedPlan, Net, NetRest};
+pub use net_parts::NetParts;
 pub use report::{CountList, Report, StreamEnd, StreamEndList};

@@ -3,8 +3,10 @@ mod beginning;
 mod carrying;
 mod claiming;
 mod extending;
+mod joining;
 mod leaving;
 mod making;
+mod parting;
 mod reporting;
 mod sweeping;
 mod taking;
@@ -41,6 +43,71 @@ pub struct Net<C: Calculator> {
     boxes: Vec<C>,
     begun: u32,
     wound: u32,
+}
+
+/// A plan with the tables that nets look up: a net's, while its parts are elsewhere.
+#[derive(Drop)]
+pub struct IndexedPlan {
+    plan: Plan,
+    first_edges: Vec<u32>,
+    own_feeders: Vec<Option<u32>>,
+    got: Vec<u64>,
+}
+
+impl Model for IndexedPlan {
+    ghost use Rattle.std.specs.Prelude.{◌≡◌, length, vec_len};
+    ghost use Rattle.mg_calc.specs.declared.plan.Plan.{Plan as PlanView};
+    ghost use Rattle.mg_calc.specs.ToldCodes.{plan_code};
+    ghost use Rattle.mg_sched.specs.Code.Tables.{AreTables};
+
+    ghost Value = { PlanView };
+
+    ghost coded = { plan_code };
+
+    ghost view = { λ p. p.plan };
+
+    ghost invariant = { λ p. AreTables p.plan p.first_edges.items p.own_feeders.items × (vec_len p.got ≡ length p.plan.streams) };
+}
+
+impl IndexedPlan {
+    ghost use Rattle.std.specs.Prelude.{◌≡◌};
+
+    /// The plan.
+    pub fn plan(&self) -> &Plan
+        ensures { result.now ≡ self.now }
+    {
+        &self.plan
+    }
+}
+
+/// What stays of a net when its plan, its engines and its intakes are away.
+#[derive(Drop)]
+pub struct NetRest<C: Calculator> {
+    alloc: Global,
+    given: GivenList,
+    desks: Vec<Desk<C>>,
+    limits: Limits,
+    spare: Vec<Option<C>>,
+    boxes: Vec<C>,
+}
+
+impl<C: Calculator> Model for NetRest<C> {
+    ghost use Rattle.std.specs.Prelude.{◌≡◌, ◌≤◌, map, option_map, vec_len, vec_capacity};
+    ghost use Rattle.mg_sched.specs.ComesApart.{RestView};
+    ghost use Rattle.mg_sched.specs.Codes.{rest_code};
+
+    ghost Value = { RestView };
+
+    ghost coded = { rest_code };
+
+    ghost view = { λ r. record {
+      given = r.given;
+      desks = r.desks.items;
+      limits = r.limits;
+      spare = map (option_map C.told) r.spare.items;
+    } };
+
+    ghost invariant = { λ r. (vec_len r.boxes ≡ 0) × (vec_len r.spare ≤ vec_capacity r.boxes) };
 }
 
 impl<C: Calculator> Model for Net<C> {

@@ -4,6 +4,7 @@ ghost use Rattle.mg_node.specs.Job.{LoggedJob};
 ghost use Rattle.mg_node.specs.Lawful.{LawfulEngine, LawfulIntake, of_node, Agree, AreCell};
 ghost use Rattle.mg_node.specs.Standing.{EngineGrows};
 ghost use Rattle.mg_node.specs.Advances.{advance_bound, advanced, is_advanced};
+ghost use Rattle.mg_node.specs.Out.{KeepsOut, KeepsSetUp};
 
 use super::Engine;
 use crate::Intake;
@@ -21,6 +22,10 @@ impl<C: Calculator> Engine<C> {
         requires cell { AreCell self.old intake.now }
         ensures advanced { self.new ≡ advanced self.old intake.now.waits }
         ensures moved { result ≡ is_advanced self.old intake.now.waits }
+
+        // The same works are out, and the engine stays as it was set up.
+        ensures out { KeepsOut self.old self.new }
+        ensures set_up { KeepsSetUp self.old self.new }
 
         // Its standing only grows.
         ensures grows { EngineGrows self.old self.new }

@@ -4,8 +4,10 @@ ghost use Rattle.mg_node.specs.Views.{IntakeView};
 ghost use Rattle.mg_node.specs.Job.{LoggedJob};
 ghost use Rattle.mg_node.specs.Lawful.{of_node, Agree, LawfulEngine, LawfulIntake, AreCell};
 ghost use Rattle.mg_node.specs.Claims.{LawfulClaim, GivesOut, MayClaim, IsOver, Hands, Claims};
-ghost use Rattle.mg_node.specs.IntakeStanding.{IntakeGrows};
+ghost use Rattle.mg_node.specs.IntakeStanding.{Stays, IntakeGrows};
 ghost use Rattle.mg_node.specs.Standing.{EngineGrows};
+ghost use Rattle.mg_node.specs.Ports.{port_queue};
+ghost use Rattle.mg_node.specs.Out.{PutsOut, KeepsSetUp};
 ghost use Rattle.mg_node.specs.declared.role.Role as Role;
 
 use super::Engine;
@@ -25,6 +27,13 @@ impl<C: Calculator> Engine<C> {
         requires cell { AreCell self.old intake.old }
         ensures claims { Claims result self.old self.new intake.old intake.new }
         ensures out { GivesOut result self.new }
+
+        // A work that is handed out is one more that is out, and all others that were out stay so.
+        ensures puts_out { PutsOut result self.old self.new }
+
+        // The engine stays as it was set up, and at each port as many packets are counted as before.
+        ensures set_up { KeepsSetUp self.old self.new }
+        ensures ports { (port : ℕ) → Stays (port_queue intake.old.waits port) (port_queue intake.new.waits port) }
 
         // The standing of both only grows.
         ensures grows { EngineGrows self.old self.new }

@@ -1,10 +1,11 @@
 //! How works are committed: what was performed is laid in the order of the sets, whatever the order in which it comes back.
-ghost use Rattle.std.specs.Prelude.{◌≡◌, ℕ, ◌<◌, ◌≤◌, ◌+◌, ◌-◌, ◌^◌, IfOk, IfErr, OnErr, IsSomeAnd, is_some, true, false, None, Some, option_and_then, slice_get, slice_set};
+ghost use Rattle.std.specs.Prelude.{◌≡◌, ℕ, ◌<◌, ◌≤◌, ◌+◌, ◌-◌, ◌^◌, IfOk, IfErr, OnOk, OnErr, IsSomeAnd, is_some, true, false, None, Some, option_and_then, slice_get, slice_set};
 ghost use Rattle.mg_node.specs.Job.{LoggedJob};
 ghost use Rattle.mg_node.specs.Lawful.{of_node, LawfulEngine, LawfulOutcome};
 ghost use Rattle.mg_node.specs.Shelves.{IsOut};
 ghost use Rattle.mg_node.specs.Commits.{SomeJobHasEngine, Commits, window_with};
 ghost use Rattle.mg_node.specs.Standing.{EngineGrows};
+ghost use Rattle.mg_node.specs.Out.{ComesBack, KeepsSetUp};
 ghost use Rattle.mg_node.specs.Code.FrontLaying.{counted_in, HasWhole, LaysFront};
 
 use super::Engine;
@@ -25,6 +26,12 @@ impl<C: Calculator> Engine<C> {
         ensures commits { IfOk result (λ n. Commits outcome n self.old self.new) }
         ensures returned { IfErr result (λ o. o ≡ outcome) }
         ensures unchanged { OnErr result (self.new ≡ self.old) }
+
+        // The work is out no more, and all others that were out stay so, whatever is laid.
+        ensures comes_back { OnOk result (ComesBack self.old self.new outcome.work.number) }
+
+        // The engine stays as it was set up.
+        ensures set_up { KeepsSetUp self.old self.new }
 
         // Its standing only grows.
         ensures grows { EngineGrows self.old self.new }

@@ -4,6 +4,7 @@ ghost use Rattle.mg_node.specs.Job.{LoggedJob};
 ghost use Rattle.mg_node.specs.Lawful.{of_node, LawfulEngine, LawfulOutcome, LawfulPerformed};
 ghost use Rattle.mg_node.specs.Standing.{EngineGrows};
 ghost use Rattle.mg_node.specs.Commits.{SomeJobHasEngine};
+ghost use Rattle.mg_node.specs.Out.{GoesOut, ComesBack, KeepsSetUp};
 ghost use Rattle.mg_node.specs.Shelves.{IsOut, shelved, shelf_at, Unshelves};
 
 use super::Engine;
@@ -16,6 +17,12 @@ impl<C: Calculator> Engine<C> {
     pub fn shelve(&mut self, outcome: Outcome<C>)
         requires out { IsOut self.old outcome.work }
         ensures shelved { self.new ≡ shelved self.old outcome }
+
+        // The work is out no more, and all others that were out stay so.
+        ensures comes_back { ComesBack self.old self.new outcome.work.number }
+
+        // The engine stays as it was set up.
+        ensures set_up { KeepsSetUp self.old self.new }
 
         // Its standing only grows.
         ensures grows { EngineGrows self.old self.new }
@@ -36,6 +43,12 @@ impl<C: Calculator> Engine<C> {
         // Of a lawful engine, what is found is the work of that number, and it is out.
         ensures numbered { (job : LoggedJob) (owner : ℕ) → LawfulEngine job (of_node owner) self.old → IfSome result (λ p. p.work.number ≡ number) }
         ensures out { (job : LoggedJob) (owner : ℕ) → LawfulEngine job (of_node owner) self.old → IfSome result (λ p. IsOut self.new p.work) }
+
+        // It is one more that is out, and all others that were out stay so.
+        ensures goes_out { (job : LoggedJob) (owner : ℕ) → LawfulEngine job (of_node owner) self.old → IfSome result (λ p. GoesOut self.old self.new p.work) }
+
+        // The engine stays as it was set up.
+        ensures set_up { KeepsSetUp self.old self.new }
 
         // Its standing only grows.
         ensures grows { EngineGrows self.old self.new }

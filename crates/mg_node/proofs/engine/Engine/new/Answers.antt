@@ -2,7 +2,7 @@ use Rattle.std.proofs.Common.{◌≡◌, Some, slice_get, subst, refl, arith}
 use Rattle.mg_calc.specs.declared.plan.Plan.{Plan}
 use Rattle.mg_calc.specs.declared.plan_node.PlanNode.{PlanNode}
 use Rattle.mg_calc.specs.Plan.{FlightFits}
-use Rattle.mg_calc.specs.Shape.{IsShapeOf}
+use Rattle.mg_calc.specs.Shape.{IsShapeOf, IsServed}
 use Rattle.mg_node.proofs.Performing.{of_node}
 use Rattle.mg_node.proofs.Making.{read_at, benches_made, engine_made, some_same, fresh_unbegun}
 use Rattle.mg_node.proofs.engine.Engine.new.Goals as goal
@@ -11,6 +11,11 @@ pub own_benches-requires-clause-of_law : goal.own_benches-requires-clause-of_law
 own_benches-requires-clause-of_law g c =
     let there : slice_get c.args.plan.now.nodes c.args.node ≡ Some c.index-as_slice-node.result = read_at _ _ _ _ c.as_slice.ensures c.requires.node c.index-as_slice-node.is in
     of_node (λ (n : PlanNode). IsShapeOf n.law n.shape) _ c.args.node _ c.requires.valid.shapes there
+
+pub own_benches-requires-clause-served : goal.own_benches-requires-clause-served
+own_benches-requires-clause-served g c =
+    let there : slice_get c.args.plan.now.nodes c.args.node ≡ Some c.index-as_slice-node.result = read_at _ _ _ _ c.as_slice.ensures c.requires.node c.index-as_slice-node.is in
+    of_node (λ (n : PlanNode). IsServed n.law) _ c.args.node _ c.requires.valid.laws there
 
 pub invariant_of-result : goal.invariant_of-result
 invariant_of-result g c =

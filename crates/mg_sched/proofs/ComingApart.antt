@@ -1,0 +1,291 @@
+-- A net comes apart: works come back from desks into their windows, and then its parts are those of one net.
+use Rattle.std.proofs.Common.{◌≡◌, ◌≢◌, ℕ, ◌+◌, ◌<◌, true, not, List, [], ◌∷◌, ◌++◌, length, length-set, set, get_or, All, Option, Some, None, is_some, slice_get, inl, inr, ap, sym, refl, subst, ◌∙◌, arith, append_assoc, append-nil}
+use Rattle.std.specs.Prelude.{AllPairs}
+use Rattle.std.proofs.lemmas.Bool.{cases_eq}
+use Rattle.std.proofs.lemmas.Option.{slice_get_within, slice_get-get_or}
+use Rattle.mg_calc.specs.declared.plan.Plan.{Plan}
+use Rattle.mg_node.specs.Views.{IntakeView, WorkView, OutcomeView, EngineView}
+use Rattle.mg_node.specs.Job.{LoggedJob}
+use Rattle.mg_node.specs.Ports.{port_queue}
+use Rattle.mg_node.specs.Outputs.{laid_at}
+use Rattle.mg_node.specs.Lawful.{LawfulWork}
+use Rattle.mg_node.specs.Leaving.{NoneOut}
+use Rattle.mg_node.specs.Shelves.{IsOut, shelved}
+use Rattle.mg_node.specs.Windows.{has_ended}
+use Rattle.mg_node.specs.Out.{ComesBack}
+use Rattle.mg_node.proofs.Frames.{get_other}
+use Rattle.mg_node.proofs.Growing.{grown_by_itself}
+use Rattle.mg_node.proofs.Knowing.{engine_known}
+use Rattle.mg_node.proofs.Making.{some_same}
+use Rattle.mg_node.proofs.Outcomes.{unrun_outcome}
+use Rattle.mg_node.proofs.Shelving.{shelved_lawful}
+use Rattle.mg_node.proofs.StaysOut.{shelved_back}
+use Rattle.mg_sched.specs.Views.{DeskView, NetView}
+use Rattle.mg_sched.specs.Places.{with_engine, with_desk}
+use Rattle.mg_sched.specs.StandsFor.{HasWorks, IsCell, IsNetOf, StandsFor, StandsForSome, IsRunning}
+use Rattle.mg_sched.specs.ComesApart.{parts_in, unrun_of, all_shelved, PutsBack, HasComeApart, ArePartsOf}
+use Rattle.mg_sched.specs.Code.Telling.{PutsBackAt}
+use Rattle.mg_sched.proofs.Carrying.{intake_of}
+use Rattle.mg_sched.proofs.CellForms.{engine_and_desk, stays_so}
+use Rattle.mg_sched.proofs.Changed.{CellStep, cell_stands}
+use Rattle.mg_sched.proofs.Finding.{cell_at, found, put_here, engine_read, desk_read}
+use Rattle.mg_sched.proofs.LimitsKnow.{cell_knows}
+use Rattle.mg_sched.proofs.Middles.{all_middle, pairs_middle, pairs_with, all_both}
+use Rattle.mg_sched.proofs.Works.{works_fewer}
+
+-- Works come back from one desk, the last one first.
+
+pub shelved_last : (engine : EngineView) (works : List WorkView) (work : WorkView) → all_shelved engine (works ++ work ∷ []) ≡ all_shelved (shelved engine (unrun_of work)) works
+shelved_last engine [] work = refl
+shelved_last engine (w ∷ ws) work = ap (λ (e : EngineView). shelved e (unrun_of w)) (shelved_last engine ws work)
+
+-- some of the works have come back, and the others are out
+pub record BackSoFar (start engine : EngineView) (on desk : DeskView) : Type 0 where
+  pub same : all_shelved engine desk.works ≡ all_shelved start on.works
+  pub room : desk.room ≡ on.room
+  pub out : All (IsOut engine) desk.works
+  pub apart : AllPairs (λ (a b : WorkView). a.number ≢ b.number) desk.works
+
+not_turned : (a b : WorkView) → a.number ≢ b.number → b.number ≢ a.number
+not_turned a b other = λ e. other (sym e)
+
+pub last_out : (engine : EngineView) (front works : List WorkView) (work : WorkView) → works ≡ front ++ work ∷ [] → All (IsOut engine) works → IsOut engine work
+last_out engine front works work is out = (all_middle (IsOut engine) front [] work (subst (All (IsOut engine)) is out)).1
+
+pub one_more_back : (start engine engine_now : EngineView) (on desk desk_now : DeskView) (work : WorkView) → BackSoFar start engine on desk → desk.works ≡ desk_now.works ++ work ∷ [] → desk_now.room ≡ desk.room
+    → engine_now ≡ shelved engine (unrun_of work) → ComesBack engine engine_now work.number → BackSoFar start engine_now on desk_now
+one_more_back start engine engine_now on desk desk_now work h works room now back =
+    let front = desk_now.works in
+    let all = all_middle (IsOut engine) front [] work (subst (All (IsOut engine)) works h.out) in
+    let pairs = subst (AllPairs (λ (a b : WorkView). a.number ≢ b.number)) works h.apart in
+    let others = pairs_with (λ (a b : WorkView). a.number ≢ b.number) not_turned front [] work pairs in
+    record {
+      same = ap (λ (e : EngineView). all_shelved e front) now ∙ sym (shelved_last engine front work) ∙ ap (all_shelved engine) (sym works) ∙ h.same;
+      room = room ∙ h.room;
+      out = subst (All (IsOut engine_now)) (append-nil front) (all_both (IsOut engine) (λ (w : WorkView). w.number ≢ work.number) (IsOut engine_now) (front ++ []) back.stays all.0 others);
+      apart = subst (AllPairs (λ (a b : WorkView). a.number ≢ b.number)) (append-nil front) (pairs_middle (λ (a b : WorkView). a.number ≢ b.number) not_turned front [] work pairs).0;
+    }
+
+pub all_back : (start engine : EngineView) (on desk : DeskView) → BackSoFar start engine on desk → desk.works ≡ [] → (engine ≡ all_shelved start on.works) × (desk ≡ record on { works = [] })
+all_back start engine on desk h none = (
+  ap (all_shelved engine) (sym none) ∙ h.same,
+  λ i. record { room = h.room i; works = none i },
+)
+
+-- A cell whose works come back stays one.
+
+one_back : (job : LoggedJob) (node : ℕ) (engine mid : EngineView) (intake : IntakeView) (desk : DeskView) (front : List WorkView) (work : WorkView) → CellStep job node engine mid intake intake (record desk { works = front ++ work ∷ [] })
+    → CellStep job node engine (shelved mid (unrun_of work)) intake intake (record desk { works = front })
+one_back job node engine mid intake desk front work s =
+    let o = unrun_of work in
+    let on : DeskView = record desk { works = front ++ work ∷ [] } in
+    let works = s.cell.works in
+    let out = (all_middle (IsOut mid) front [] work works.out).1 in
+    let lawful = (all_middle (LawfulWork job) front [] work works.lawful).1 in
+    let fewer = works_fewer job mid (shelved mid o) on front [] work refl (shelved_back mid o out) refl works in
+    record {
+      cell = record {
+        lawful_engine = shelved_lawful job node mid o out s.cell.lawful_engine (unrun_outcome job work o refl lawful);
+        lawful_intake = s.cell.lawful_intake;
+        agree = s.cell.agree;
+        works = subst (λ (ws : List WorkView). HasWorks job (shelved mid o) (record desk { works = ws })) (append-nil front) fewer;
+      };
+      first = s.first;
+      outputs = s.outputs;
+      gone = s.gone;
+      ports = s.ports;
+    }
+
+back_step : (job : LoggedJob) (node : ℕ) (engine : EngineView) (intake : IntakeView) (desk : DeskView) (back front : List WorkView) → IsCell job true node engine intake (record desk { works = front ++ back })
+    → CellStep job node engine (all_shelved engine back) intake intake (record desk { works = front })
+back_step job node engine intake desk [] front cell = record {
+  cell = subst (λ (ws : List WorkView). IsCell job true node engine intake (record desk { works = ws })) (append-nil front) cell;
+  first = refl;
+  outputs = λ output. grown_by_itself (laid_at engine output);
+  gone = λ output. omega arith;
+  ports = λ port. stays_so (port_queue intake.waits port);
+}
+back_step job node engine intake desk (work ∷ back) front cell =
+    one_back job node engine (all_shelved engine back) intake desk front work
+    (back_step job node engine intake desk back (front ++ work ∷ []) (subst (λ (ws : List WorkView). IsCell job true node engine intake (record desk { works = ws })) (sym (append_assoc front (work ∷ []) back)) cell))
+
+back_ended : (engine : EngineView) (works : List WorkView) → has_ended (all_shelved engine works) ≡ has_ended engine
+back_ended engine [] = refl
+back_ended engine (work ∷ works) = back_ended engine works
+
+pub back_stands : (job : LoggedJob) (node : ℕ) (before now : NetView) → node < length before.plan.nodes → IsRunning before → StandsFor job before → PutsBackAt node before now → StandsFor job now
+unfolding StandsFor
+back_stands job node before now within running h p =
+    let long = h.intakes in
+    let intake = found before.intakes node (omega (arith, within, long)) in
+    let cell = cell_at job before node p.engine intake.0 p.desk h running within p.at intake.1 p.on in
+    let engine_now = all_shelved p.engine p.desk.works in
+    let desk_now : DeskView = record p.desk { works = [] } in
+    let step = back_step job node p.engine intake.0 p.desk p.desk.works [] cell in
+    subst (λ (v : NetView). IsNetOf job v) (engine_and_desk before node engine_now intake.0 desk_now intake.1 ∙ sym p.now_is)
+    (cell_stands job before node p.engine engine_now intake.0 intake.0 desk_now before.limits h running within p.at intake.1 step
+    (cell_knows before node p.engine engine_now intake.0 desk_now within h.limits p.at intake.1 (back_ended p.engine p.desk.works)))
+
+-- what a node comes to, read of a net as it is kept
+pub puts_back_at : (shown net : NetView) (node : ℕ) (engine engine_now : EngineView) (desk desk_now : DeskView) → shown ≡ net → StandsForSome net → node < length net.plan.nodes → engine ≡ get_or shown.engines node engine → desk ≡ get_or shown.desks node desk
+    → engine_now ≡ all_shelved engine desk.works → desk_now ≡ record desk { works = [] } → PutsBackAt node net (with_desk (with_engine shown node engine_now) node desk_now)
+puts_back_at shown net node engine engine_now desk desk_now is h less value lies now empty = record {
+  engine = engine;
+  at = engine_read shown net node engine is h less value;
+  desk = desk;
+  on = desk_read shown net node desk is h less lies;
+  now_is = ap (λ (e : EngineView). with_desk (with_engine shown node e) node desk_now) now
+      ∙ ap (λ (d : DeskView). with_desk (with_engine shown node (all_shelved engine desk.works)) node d) empty
+      ∙ ap (λ (v : NetView). with_desk (with_engine v node (all_shelved engine desk.works)) node (record desk { works = [] })) is;
+}
+
+-- Works come back from all desks, one after the other.
+
+pub record BackTo (before now : NetView) (count : ℕ) : Type 0 where
+  pub puts_back : PutsBack count before.engines now.engines before.desks now.desks
+  pub others : now ≡ record before { engines = now.engines; desks = now.desks }
+  pub stands : (job : LoggedJob) → StandsFor job before → StandsFor job now
+
+pub back_none : (net : NetView) → BackTo net net 0
+back_none net = record {
+  puts_back = record {
+    engine_count = refl;
+    desk_count = refl;
+    shelves = λ node engine desk less at on. absurd (omega (arith, less));
+    empties = λ node desk less on. absurd (omega (arith, less));
+    others = λ place le. refl;
+    other_desks = λ place le. refl;
+  };
+  others = refl;
+  stands = λ job h. h;
+}
+
+lists_more : (count : ℕ) (engines now : List EngineView) (desks desks_now : List DeskView) (engine : EngineView) (desk : DeskView) → PutsBack count engines now desks desks_now → slice_get now count ≡ Some engine → slice_get desks_now count ≡ Some desk
+    → PutsBack (count + 1) engines (set now count (all_shelved engine desk.works)) desks (set desks_now count (record desk { works = [] }))
+lists_more count engines now desks desks_now engine desk h there on_it =
+    let engine_now = all_shelved engine desk.works in
+    let desk_now : DeskView = record desk { works = [] } in
+    let old_engine : slice_get engines count ≡ Some engine = sym (h.others count (omega arith)) ∙ there in
+    let old_desk : slice_get desks count ≡ Some desk = sym (h.other_desks count (omega arith)) ∙ on_it in
+    record {
+      engine_count = length-set now count engine_now ∙ h.engine_count;
+      desk_count = length-set desks_now count desk_now ∙ h.desk_count;
+      shelves = λ node e d less at on. elim (cases_eq node count) [
+        | inl here ↦
+            (let e_is : engine ≡ e = some_same (slice_get engines count) engine e old_engine (ap (slice_get engines) (sym here) ∙ at) in
+            let d_is : desk ≡ d = some_same (slice_get desks count) desk d old_desk (ap (slice_get desks) (sym here) ∙ on) in
+            ap (slice_get (set now count engine_now)) here ∙ put_here now count engine_now (slice_get_within now count engine there)
+            ∙ ap (λ (x : EngineView). Some (all_shelved x desk.works)) e_is ∙ ap (λ (x : DeskView). Some (all_shelved e x.works)) d_is)
+        | inr other ↦ get_other now count node engine_now other ∙ h.shelves node e d (omega (arith, less, other)) at on
+      ];
+      empties = λ node d less on. elim (cases_eq node count) [
+        | inl here ↦
+            (let d_is : desk ≡ d = some_same (slice_get desks count) desk d old_desk (ap (slice_get desks) (sym here) ∙ on) in
+            ap (slice_get (set desks_now count desk_now)) here ∙ put_here desks_now count desk_now (slice_get_within desks_now count desk on_it) ∙ ap (λ (x : DeskView). (let y : Option DeskView = Some (record x { works = [] }) in y)) d_is)
+        | inr other ↦ get_other desks_now count node desk_now other ∙ h.empties node d (omega (arith, less, other)) on
+      ];
+      others = λ place le. get_other now count place engine_now (λ s. omega (arith, s, le)) ∙ h.others place (omega (arith, le));
+      other_desks = λ place le. get_other desks_now count place desk_now (λ s. omega (arith, s, le)) ∙ h.other_desks place (omega (arith, le));
+    }
+
+pub back_runs : (before now : NetView) (count : ℕ) → BackTo before now count → IsRunning before → IsRunning now
+back_runs before now count b running = ap (λ (v : NetView). v.begun) b.others ∙ running ∙ sym (ap (λ (v : NetView). length v.plan.nodes) b.others)
+
+pub back_some : (before now : NetView) (count : ℕ) → BackTo before now count → StandsForSome before → StandsForSome now
+back_some before now count b h = record { job = h.job; stands = b.stands h.job h.stands }
+
+pub back_there : (before now : NetView) (count node : ℕ) → BackTo before now count → node < length before.plan.nodes → node < length now.plan.nodes
+back_there before now count node b less = (let same = ap (λ (v : NetView). length v.plan.nodes) b.others in omega (arith, less, same))
+
+-- a net with other engines and desks is told by these
+told_by_parts : (mid after : NetView) (engines : List EngineView) (desks : List DeskView) → after ≡ record mid { engines = engines; desks = desks } → after ≡ record mid { engines = after.engines; desks = after.desks }
+told_by_parts mid after engines desks is =
+    is ∙ (λ i. record mid { engines = sym (ap (λ (v : NetView). v.engines) is) i; desks = sym (ap (λ (v : NetView). v.desks) is) i })
+
+pub back_more : (before now next : NetView) (node : ℕ) → BackTo before now node → node < length before.plan.nodes → IsRunning before → PutsBackAt node now next → BackTo before next (node + 1)
+back_more before now next node b less running p =
+    let engines : next.engines ≡ set now.engines node (all_shelved p.engine p.desk.works) = ap (λ (v : NetView). v.engines) p.now_is in
+    let desks : next.desks ≡ set now.desks node (record p.desk { works = [] }) = ap (λ (v : NetView). v.desks) p.now_is in
+    record {
+      puts_back = subst (λ (es : List EngineView). PutsBack (node + 1) before.engines es before.desks next.desks) (sym engines)
+          (subst (λ (ds : List DeskView). PutsBack (node + 1) before.engines (set now.engines node (all_shelved p.engine p.desk.works)) before.desks ds) (sym desks)
+          (lists_more node before.engines now.engines before.desks now.desks p.engine p.desk b.puts_back p.at p.on));
+      others = told_by_parts now next _ _ p.now_is ∙ ap (λ (v : NetView). (let x : NetView = record v { engines = next.engines; desks = next.desks } in x)) b.others;
+      stands = λ job h. back_stands job node now next (back_there before now node node b less) (back_runs before now node b running) (b.stands job h) p;
+    }
+
+pub back_end : (before now : NetView) (count last : ℕ) → BackTo before now count → count ≡ last → BackTo before now last
+back_end before now count last b is = subst (λ (n : ℕ). BackTo before now n) is b
+
+pub has_come_apart : (before after shown : NetView) → shown ≡ after → PutsBack (length before.plan.nodes) before.engines after.engines before.desks after.desks → after ≡ record before { engines = after.engines; desks = after.desks }
+    → HasComeApart before (parts_in shown)
+has_come_apart before after shown is puts_back others = subst (λ (v : NetView). HasComeApart before (parts_in v)) (sym is) (record { puts_back = puts_back; others = ap parts_in others })
+
+-- The parts of a net on whose desks nothing lies are those of one net.
+
+is_there : (o : Option OutcomeView) → (o ≡ None → ⊥) → is_some o ≡ true
+is_there None not_none = absurd (not_none refl)
+is_there (Some x) not_none = refl
+
+nothing_on : (job : LoggedJob) (engine : EngineView) (desk : DeskView) → HasWorks job engine desk → desk.works ≡ [] → NoneOut engine
+nothing_on job engine desk h none = λ k d less.
+    let entry = get_or engine.window k d in
+    is_there entry.outcome (λ missing.
+    let any = h.complete k entry (slice_get-get_or engine.window k d less) missing in
+    let within = any.2 in
+    absurd (omega (arith, within, ap (λ (ws : List WorkView). length ws) none)))
+
+pub parts_of_net : (job : LoggedJob) (before now : NetView) → IsRunning before → BackTo before now (length before.plan.nodes) → StandsFor job before → ArePartsOf job (parts_in now)
+unfolding StandsFor
+parts_of_net job before now running b stands =
+    let h : StandsFor job now = b.stands job stands in
+    let runs = back_runs before now (length before.plan.nodes) b running in
+    let nodes = ap (λ (v : NetView). length v.plan.nodes) b.others in
+    let intakes = h.intakes in
+    let desks = h.desks in
+    let desks_before = b.puts_back.desk_count in
+    let empty : (node : ℕ) (desk : DeskView) → node < length now.plan.nodes → slice_get now.desks node ≡ Some desk → desk.works ≡ [] = λ node desk less on.
+    let old = found before.desks node (omega (arith, less, desks, desks_before)) in
+    ap (λ (d : DeskView). d.works) (some_same (slice_get now.desks node) desk (record old.0 { works = [] }) on (b.puts_back.empties node old.0 (omega (arith, less, nodes)) old.1)) in
+    record {
+      is_job = h.is_job;
+      plan = h.plan;
+      engine_count = h.engines;
+      intake_count = h.intakes;
+      engines = λ node engine less at.
+          let i = found now.intakes node (omega (arith, less, intakes)) in
+          let d = found now.desks node (omega (arith, less, desks)) in
+          (cell_at job now node engine i.0 d.0 h runs less at i.1 d.1).lawful_engine;
+      inputs = h.inputs;
+      intakes = λ consumer intake at. let within = slice_get_within now.intakes consumer intake at in intake_of job now consumer intake h (omega (arith, within, intakes)) at;
+      agree = λ node engine intake less at to.
+          let d = found now.desks node (omega (arith, less, desks)) in
+          (cell_at job now node engine intake d.0 h runs less at to d.1).agree;
+      none_out = λ node engine less at.
+          let i = found now.intakes node (omega (arith, less, intakes)) in
+          let d = found now.desks node (omega (arith, less, desks)) in
+          nothing_on job engine d.0 (cell_at job now node engine i.0 d.0 h runs less at i.1 d.1).works (empty node d.0 less d.1);
+      edges = h.edges;
+      rest = record {
+        given = h.given;
+        desks = h.desks;
+        empty = λ node desk planned on at.
+            let less = slice_get_within now.plan.nodes node planned at in
+            let engines = h.engines in
+            let e = found now.engines node (omega (arith, less, engines)) in
+            let i = found now.intakes node (omega (arith, less, intakes)) in
+            let cell = cell_at job now node e.0 i.0 desk h runs less e.1 i.1 on in
+            let known = engine_known job node e.0 planned cell.lawful_engine (subst (λ (plan : Plan). slice_get plan.nodes node ≡ Some planned) h.plan at) in
+            let room = cell.works.room ∙ known.set_up.in_flight in
+            let none = empty node desk less on in
+            λ k. record { room = room k; works = none k };
+        limits = h.limits.of_plan;
+        counts = λ number e q engine at_e at_q low at going. (h.limits.queues number e q at_e at_q).counts engine low at ∙ ap not going;
+        spare = h.spare;
+      };
+    }
+
+pub parts_come_apart : (job : LoggedJob) (before after shown : NetView) → shown ≡ after → IsRunning before → PutsBack (length before.plan.nodes) before.engines after.engines before.desks after.desks
+    → after ≡ record before { engines = after.engines; desks = after.desks } → ((other : LoggedJob) → StandsFor other before → StandsFor other after) → StandsFor job before → ArePartsOf job (parts_in shown)
+parts_come_apart job before after shown is running puts_back others stands h =
+    subst (λ (v : NetView). ArePartsOf job (parts_in v)) (sym is) (parts_of_net job before after running (record { puts_back = puts_back; others = others; stands = stands }) h)

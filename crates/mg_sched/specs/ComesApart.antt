@@ -1,0 +1,139 @@
+-- A net comes apart, into its engines and intakes by their places, its plan, and what stays of it; and it is put together of them again.
+use Rattle.std.specs.Prelude.{◌≡◌, ℕ, ◌+◌, ◌<◌, ◌≤◌, true, false, List, [], ◌∷◌, length, Option, Some, None, slice_get}
+use Rattle.mg_value.specs.Payload.{Plain}
+use Rattle.mg_calc.specs.declared.edge.Edge.{Edge}
+use Rattle.mg_calc.specs.declared.plan.Plan.{Plan}
+use Rattle.mg_calc.specs.declared.plan_node.PlanNode.{PlanNode}
+use Rattle.mg_calc.specs.Told.{CalculatorTold}
+use Rattle.mg_calc.specs.Equations.{IsJob}
+use Rattle.mg_node.specs.Views.{IntakeView, WorkView, OutcomeView, EngineView}
+use Rattle.mg_node.specs.Job.{LoggedJob, ports_of}
+use Rattle.mg_node.specs.Lawful.{of_node, of_input, LawfulIntake, LawfulEngine, Agree}
+use Rattle.mg_node.specs.Leading.{HasStream}
+use Rattle.mg_node.specs.Leaving.{NoneOut}
+use Rattle.mg_node.specs.Shelves.{shelved}
+use Rattle.mg_node.specs.Windows.{has_ended}
+use Rattle.mg_throttle.specs.declared.queue.Queue.{Queue}
+use Rattle.mg_throttle.specs.Throttle.{QueueLimits, IsOf}
+use Rattle.mg_sched.specs.Views.{DeskView, NetView}
+use Rattle.mg_sched.specs.Places.{source_of, with_limits}
+use Rattle.mg_sched.specs.StandsFor.{IsJoined, KnowsLimits, HasSpare}
+
+-- what stays of a net whose plan and parts are away: the side packets that are handed in, its desks, its limits, and the places of the
+-- calculators that were handed in
+pub record RestView : Type 0 where
+  pub given : List (Option Plain)
+  pub desks : List DeskView
+  pub limits : QueueLimits
+  pub spare : List (Option CalculatorTold)
+
+-- what a net comes apart into
+pub record PartsView : Type 0 where
+  pub plan : Plan
+  -- the engines of the nodes, and after them those of the graph inputs; the intakes of the nodes, and after them the collector's
+  pub engines : List EngineView
+  pub intakes : List IntakeView
+  pub rest : RestView
+
+abbrev pub parts_in : NetView → PartsView
+parts_in net = record {
+  plan = net.plan;
+  engines = net.engines;
+  intakes = net.intakes;
+  rest = record { given = net.given; desks = net.desks; limits = net.limits; spare = net.spare };
+}
+
+-- Works that lie on desks come back.
+
+abbrev pub unrun_of : WorkView → OutcomeView
+unrun_of work = record { work = work; answer = None }
+
+-- an engine in whose window works stand again, as unrun
+abbrev pub all_shelved : EngineView → List WorkView → EngineView
+all_shelved engine [] = engine
+all_shelved engine (work ∷ works) = shelved (all_shelved engine works) (unrun_of work)
+
+-- the works on the desks of the first nodes, a number of them, stand in their windows again, and these desks are empty; all else is
+-- what it was
+pub record PutsBack (count : ℕ) (engines engines_now : List EngineView) (desks desks_now : List DeskView) : Type 0 where
+  pub engine_count : length engines_now ≡ length engines
+  pub desk_count : length desks_now ≡ length desks
+  pub shelves : (node : ℕ) (engine : EngineView) (desk : DeskView) → node < count → slice_get engines node ≡ Some engine → slice_get desks node ≡ Some desk
+      → slice_get engines_now node ≡ Some (all_shelved engine desk.works)
+  pub empties : (node : ℕ) (desk : DeskView) → node < count → slice_get desks node ≡ Some desk → slice_get desks_now node ≡ Some (record desk { works = [] })
+  pub others : (place : ℕ) → count ≤ place → slice_get engines_now place ≡ slice_get engines place
+  pub other_desks : (place : ℕ) → count ≤ place → slice_get desks_now place ≡ slice_get desks place
+
+-- a net has come apart: the works on its desks stand in their windows again, and nothing else has changed
+pub record HasComeApart (net : NetView) (parts : PartsView) : Type 0 where
+  pub puts_back : PutsBack (length net.plan.nodes) net.engines parts.engines net.desks parts.rest.desks
+  pub others : parts ≡ parts_in (record net { engines = parts.engines; desks = parts.rest.desks })
+
+-- Parts that are of one net.
+
+-- what stays of a net is that of a job, of its plan and of these engines: there is a desk for each node, with room for its works, on
+-- which nothing lies; the limits are those of the plan; and the queues of a node that goes on count
+pub record IsRestOf (job : LoggedJob) (plan : Plan) (engines : List EngineView) (rest : RestView) : Type 0 where
+  pub given : rest.given ≡ job.job.inputs.sides
+  pub desks : length rest.desks ≡ length plan.nodes
+  pub empty : (node : ℕ) (desk : DeskView) (planned : PlanNode) → slice_get rest.desks node ≡ Some desk → slice_get plan.nodes node ≡ Some planned
+      → desk ≡ record { room = planned.in_flight; works = [] }
+  pub limits : IsOf plan rest.limits
+  pub counts : (number : ℕ) (e : Edge) (q : Queue) (engine : EngineView) → slice_get plan.edges number ≡ Some e → slice_get rest.limits.queues number ≡ Some q
+      → e.node < length plan.nodes → slice_get engines e.node ≡ Some engine → has_ended engine ≡ false → q.counts ≡ true
+  pub spare : HasSpare job rest.spare
+
+-- parts are those of one net for a job: there is one at each place, each is lawful, the engine and the intake of a node agree, no work
+-- is out, and at each edge no more came to the port than was laid at the output, which keeps what hasn't come
+pub record ArePartsOf (job : LoggedJob) (parts : PartsView) : Type 0 where
+  pub is_job : IsJob job.job
+  pub plan : parts.plan ≡ job.job.plan
+  pub engine_count : length parts.engines ≡ length parts.plan.nodes + length parts.plan.inputs
+  pub intake_count : length parts.intakes ≡ length parts.plan.nodes + 1
+  pub engines : (node : ℕ) (engine : EngineView) → node < length parts.plan.nodes → slice_get parts.engines node ≡ Some engine → LawfulEngine job (of_node node) engine
+  pub inputs : (input : ℕ) (engine : EngineView) → slice_get parts.engines (length parts.plan.nodes + input) ≡ Some engine → LawfulEngine job (of_input input) engine
+  pub intakes : (consumer : ℕ) (intake : IntakeView) → slice_get parts.intakes consumer ≡ Some intake → LawfulIntake job consumer intake
+  pub agree : (node : ℕ) (engine : EngineView) (intake : IntakeView) → node < length parts.plan.nodes → slice_get parts.engines node ≡ Some engine → slice_get parts.intakes node ≡ Some intake
+      → Agree engine intake
+  pub none_out : (node : ℕ) (engine : EngineView) → node < length parts.plan.nodes → slice_get parts.engines node ≡ Some engine → NoneOut engine
+  pub edges : (e : Edge) (number place : ℕ) (engine : EngineView) (intake : IntakeView) → slice_get parts.plan.edges number ≡ Some e → source_of parts.plan e ≡ Some place
+      → slice_get parts.engines place ≡ Some engine → slice_get parts.intakes e.node ≡ Some intake → IsJoined engine e intake
+  pub rest : IsRestOf job parts.plan parts.engines parts.rest
+
+-- there is a job for which parts are those of one net
+pub record AreParts (parts : PartsView) : Type 0 where
+  pub job : LoggedJob
+  pub parts_of : ArePartsOf job parts
+
+-- an edge is in its place: it leads from an engine that has its stream to the port of that stream, and no other edge leads there
+pub record IsInPlace (parts : PartsView) (number : ℕ) (e : Edge) : Type 0 where
+  pub place : ℕ
+  pub from : source_of parts.plan e ≡ Some place
+  pub engine : EngineView
+  pub at : slice_get parts.engines place ≡ Some engine
+  pub leaves : HasStream engine e
+  pub intake : IntakeView
+  pub to : slice_get parts.intakes e.node ≡ Some intake
+  pub port : slice_get (ports_of parts.plan e.node) e.port ≡ Some e.stream
+  pub alone : (other : ℕ) (x : Edge) → slice_get parts.plan.edges other ≡ Some x → x.node ≡ e.node → x.port ≡ e.port → other ≡ number
+
+-- Put together.
+
+-- the net that has these parts: every node counts as begun, and none as wound up
+abbrev pub net_of : PartsView → NetView
+net_of parts = record {
+  plan = parts.plan;
+  given = parts.rest.given;
+  engines = parts.engines;
+  intakes = parts.intakes;
+  desks = parts.rest.desks;
+  limits = parts.rest.limits;
+  spare = parts.rest.spare;
+  begun = length parts.plan.nodes;
+  wound = 0;
+}
+
+-- a net that was put together of parts: it has these, and its limits know what waits
+pub record IsPutTogether (parts : PartsView) (net : NetView) : Type 0 where
+  pub made : net ≡ with_limits (net_of parts) net.limits
+  pub knows : KnowsLimits net

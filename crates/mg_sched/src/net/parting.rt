@@ -1,0 +1,99 @@
+//! How a net comes apart.
+ghost use Rattle.std.specs.Prelude.{◌≡◌, ◌≢◌, ◌<◌, [], length, All, AllPairs};
+ghost use Rattle.mg_node.specs.Job.{LoggedJob};
+ghost use Rattle.mg_node.specs.Shelves.{IsOut};
+ghost use Rattle.mg_sched.specs.StandsFor.{StandsFor, StandsForSome, IsRunning};
+ghost use Rattle.mg_sched.specs.ComesApart.{all_shelved, PutsBack, HasComeApart, ArePartsOf};
+ghost use Rattle.mg_sched.specs.Code.Telling.{PutsBackAt};
+
+use super::{IndexedPlan, Net, NetRest};
+use crate::desk::Desk;
+use crate::net_parts::NetParts;
+use mg_calc::Calculator;
+use mg_node::{Engine, Outcome};
+
+// Puts all works that lie on a desk back into the window of their engine, as they are.
+fn put_back<C: Calculator>(engine: &mut Engine<C>, desk: &mut Desk<C>)
+    requires out { All (IsOut engine.old) desk.old.works }
+    requires apart { AllPairs (λ a b. a.number ≢ b.number) desk.old.works }
+    ensures engine { engine.new ≡ all_shelved engine.old desk.old.works }
+    ensures desk { desk.new ≡ record desk.old { works = [] } }
+{
+    while let Some(work) = desk.take_last() {
+        engine.shelve(Outcome::unrun(work));
+    }
+}
+
+impl<C: Calculator> Net<C> {
+    /// Takes a net apart: the works that lie on desks stand in their windows again, as they are, and each part comes out. Nothing is
+    /// copied, and no memory is taken. What the net stood for the parts are of, and the net is put together of them again.
+    pub fn apart(self) -> NetParts<C>
+        requires running { IsRunning self }
+        requires stands { StandsForSome self }
+        ensures apart { HasComeApart self (record { plan = result.plan; engines = result.engines.items; intakes = result.intakes.items; rest = result.rest }) }
+
+        // For every job for which the net stands, the parts are those of one net.
+        ensures parts { (job : LoggedJob) → StandsFor job self
+            → ArePartsOf job (record { plan = result.plan; engines = result.engines.items; intakes = result.intakes.items; rest = result.rest }) }
+    {
+        let mut net = self;
+        net.put_back_all();
+        let Net {
+            alloc,
+            plan,
+            given,
+            engines,
+            intakes,
+            desks,
+            limits,
+            first_edges,
+            own_feeders,
+            got,
+            spare,
+            boxes,
+            ..
+        } = net;
+        NetParts {
+            plan: IndexedPlan {
+                plan,
+                first_edges,
+                own_feeders,
+                got,
+            },
+            engines,
+            intakes,
+            rest: NetRest {
+                alloc,
+                given,
+                desks,
+                limits,
+                spare,
+                boxes,
+            },
+        }
+    }
+
+    // Puts all works that lie on desks back into their windows.
+    fn put_back_all(&mut self)
+        requires running { IsRunning self.old }
+        requires stands { StandsForSome self.old }
+        ensures puts_back { PutsBack (length self.old.plan.nodes) self.old.engines self.new.engines self.old.desks self.new.desks }
+        ensures others { self.new ≡ record self.old { engines = self.new.engines; desks = self.new.desks } }
+        ensures stands { (job : LoggedJob) → StandsFor job self.old → StandsFor job self.new }
+    {
+        for node in 0..self.plan.nodes.len() {
+            self.put_back_at(node);
+        }
+    }
+
+    // Puts the works of a node back into its window.
+    fn put_back_at(&mut self, node: u32)
+        requires there { node < length self.old.plan.nodes }
+        requires running { IsRunning self.old }
+        requires stands { StandsForSome self.old }
+        ensures { PutsBackAt node self.old self.new }
+    {
+        let place = node as usize;
+        put_back(&mut self.engines[place], &mut self.desks[place]);
+    }
+}
