@@ -1,0 +1,117 @@
+-- A turn is given back in one of three ways.
+use Rattle.std.proofs.Common.{◌≡◌, ◌≢◌, ◌<◌, ◌+◌, ◌*◌, ℕ, refl, [], ◌∷◌, ◌++◌, List, length, ap, ◌∙◌, sym, subst, inl, inr, arith, Option, Some, None}
+use Rattle.atomic_table.specs.Table.{rest}
+use Rattle.mg_node.specs.Views.{WorkView}
+use Rattle.mg_turns.specs.Parts.{PartView, FrameView, PartGrows, Follows, JoinedParts}
+use Rattle.mg_turns.specs.Turns.{Turn}
+use Rattle.mg_turns.specs.Rule.{word_of}
+use Rattle.mg_turns.specs.Code.Plays.{Sat, turn, turning, left, Found, Like, Joins, Back, Alike, HasTurn, Returns, Kind, note_or, noted, gave, claimed_view, laid_view, Gives, GivesPlainly, GivesClaim, GivesLaid, GivesBrought, Took, Taken}
+use Rattle.mg_turns.specs.declared.view.View.{View}
+use Rattle.mg_turns.proofs.Keeps.{alike_same}
+use Rattle.mg_turns.proofs.Links.{part_or}
+
+abbrev pub head_or : PartView → List (ℕ × Option PartView) → PartView
+head_or p [] = p
+head_or p (x ∷ xs) = part_or p x.1
+
+pub has_turn_of : (m : Sat) (word : ℕ) (p : PartView) (t : Turn) (ts : List Turn) → Gives m word p t ts → HasTurn m.0 word p
+has_turn_of m word p t ts g = (t, ts, g.turns, g.word_is, g.grows)
+
+abbrev Ok : Sat → ℕ → PartView → View → Type 0
+Ok m word p w = Returns m.0 word p w × Kind m.0 word p w
+
+note_is : (m : Sat) (word : ℕ) (p : PartView) (t : Turn) (ts : List Turn) → Gives m word p t ts → note_or p m.0.turns ≡ t.note
+note_is m word p t ts g = ap (note_or p) g.turns
+
+pub plain_ok : (m : Sat) (word : ℕ) (p : PartView) → GivesPlainly m word p → Ok m word p (gave m.0 word p)
+plain_ok m word p g = (
+  (alike_same (left m.0.turns), refl, refl, refl),
+  inl (refl, refl, subst (λ (x : PartView). Like x p) (sym (note_is m word p g.0 g.1 g.2)) g.3, subst (λ (x : PartView). Joins x p) (sym (note_is m word p g.0 g.1 g.2)) g.4),
+)
+
+pub claim_ok : (m : Sat) (n : ℕ) (p f : PartView) (has : Option WorkView) → GivesClaim m n p f has → Ok m (2 * n) p (claimed_view m.0 n p f has)
+claim_ok m n p f has g =
+    let u : Turn = g.u in let v : View = m.0 in
+    let less : left v.turns ≡ u ∷ [] = ap left g.gives.turns in
+    let fits : Alike (noted f (u ∷ [])) (u ∷ []) = (refl, refl, g.grew, tt) in (
+      (subst (λ (l : List Turn). Alike (noted f l) l) (sym less) fits, refl, refl, refl),
+      inr (inr (inl (record {
+        n = n;
+        within = g.within;
+        node = refl;
+        t = record { word = u.word; tally = u.tally; note = f };
+        u = u;
+        now = ap (noted f) less;
+        before = less;
+        at_u = g.node;
+        at_t = g.node;
+        agree = g.agree;
+        outs = g.outs;
+        joins = g.joins;
+        joins_there = subst (λ (x : PartView). Joins x p) (sym (note_is m (2 * n) p g.t (g.u ∷ []) g.gives)) g.joins_there;
+      }))),
+    )
+
+pub laid_ok : (m : Sat) (word : ℕ) (p : PartView) → GivesLaid m word p → Ok m word p (laid_view m.0 word p)
+laid_ok m word p g =
+    let v : View = m.0 in
+    let less : left v.turns ≡ [] = ap left g.gives.turns in (
+      (subst (λ (l : List Turn). Alike l l) (sym less) tt, refl, refl, refl),
+      inr (inl (record {
+        it = g.w;
+        node = g.node;
+        within = g.within;
+        none = ap (λ (l : List Turn). length l) less;
+        had = g.had;
+        has = refl;
+        back = subst (λ (x : PartView). Back x p g.w) (sym (note_is m word p g.t [] g.gives)) g.back;
+        joins = subst (λ (x : PartView). Joins x p) (sym (note_is m word p g.t [] g.gives)) g.joins;
+      })),
+    )
+
+pub brought_ok : (m : Sat) (word : ℕ) (p : PartView) → GivesBrought m word p → Ok m word p (gave m.0 word p)
+brought_ok m word p g =
+    let less : left m.0.turns ≡ g.u ∷ [] = ap left g.gives.turns in
+    let same = note_is m word p g.t (g.u ∷ []) g.gives in (
+      (alike_same (left m.0.turns), refl, refl, refl),
+      inr (inr (inr (record {
+        k = g.k;
+        e = g.e;
+        there = g.there;
+        node = g.node;
+        u = g.u;
+        now = less;
+        before = less;
+        at_u = g.at_u;
+        same = refl;
+        like = subst (λ (x : PartView). Like x p) (sym same) g.like;
+        joined = g.joined;
+        others = λ l x r ne at node old. g.others l x r ne at node (subst (λ (y : PartView). JoinedParts r x y) same old);
+      }))),
+    )
+
+-- the part that came out is the part that the step told of
+took_is : (m n : Sat) (i r : ℕ) (p : PartView) (t : Took m i r n) → n.1 ≡ (i, Some p) ∷ rest n.1 → t.0 ≡ p
+took_is m n i r p t out = ap (head_or t.0) (sym (ap (λ (s : Sat). s.1) t.1) ∙ out)
+
+pub taken_of : (m n o : Sat) (i r : ℕ) (p : PartView) → Took m i r n → n.1 ≡ (i, Some p) ∷ rest n.1 → o ≡ (n.0, (i, None) ∷ rest n.1) → Taken m i p o
+taken_of m n o i r p t out e = let same = took_is m n i r p t out in
+    subst (λ (q : PartView). Taken m i q o) same (e ∙ ap (λ (s : Sat). (s.0, (i, None) ∷ rest s.1)) t.1, t.2)
+
+-- and the word that the step found is that part's
+pub word_found : (m n : Sat) (i r : ℕ) (p : PartView) → Took m i r n → n.1 ≡ (i, Some p) ∷ rest n.1 → r ≡ word_of m.0.key i p
+word_found m n i r p t out = t.3 ∙ ap (word_of m.0.key i) (took_is m n i r p t out)
+
+-- the same, at the word that the call computes
+module _ (m : Sat) (n : ℕ) (p f : PartView) (has : Option WorkView) (word : ℕ) (is : word ≡ 2 * n) (g : GivesClaim m n p f has) where
+  pub claim_turn : HasTurn m.0 word p
+  claim_turn = subst (λ (w : ℕ). HasTurn m.0 w p) (sym is) (has_turn_of m (2 * n) p g.t (g.u ∷ []) g.gives)
+
+  pub claim_slot : m.1 ≡ (word, None) ∷ rest m.1
+  claim_slot = subst (λ (w : ℕ). m.1 ≡ (w, None) ∷ rest m.1) (sym is) g.gives.slot
+
+  pub claim_follows : Follows m.0.key word p
+  claim_follows = subst (λ (w : ℕ). Follows m.0.key w p) (sym is) g.gives.follows
+
+  pub claim_all : Ok m word p (claimed_view m.0 n p f has)
+  claim_all = subst (λ (w : ℕ). Ok m w p (claimed_view m.0 n p f has)) (sym is) (claim_ok m n p f has g)

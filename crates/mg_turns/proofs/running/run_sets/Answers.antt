@@ -1,0 +1,14 @@
+use Rattle.std.proofs.Common.{rules}
+use Rattle.mg_turns.proofs.Rounds.{cell_again, steps_further, one_more_round}
+use Rattle.mg_turns.proofs.running.run_sets.Goals as goal
+
+pub loop-done-preserved : goal.loop-done-preserved
+loop-done-preserved g c =
+    let v = c.loop-done.invariant in let s = c.run_set.ensures.steps in
+    let r = one_more_round c.loop-done.done v.laid c.args.engine.now c.loop-done.engine c.run_set.new.engine c.args.intake.now c.loop-done.intake c.run_set.new.intake v.rounds (search rules) in
+    record {
+      cell = cell_again c.loop-done.engine c.run_set.new.engine c.loop-done.intake c.run_set.new.intake v.cell s;
+      steps = steps_further c.args.engine.now c.loop-done.engine c.run_set.new.engine c.args.intake.now c.loop-done.intake c.run_set.new.intake v.steps s;
+      laid = r.0;
+      rounds = r.1;
+    }

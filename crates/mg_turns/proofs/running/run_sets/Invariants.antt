@@ -1,0 +1,13 @@
+use Rattle.std.proofs.Common.{ℕ}
+use Rattle.mg_node.specs.Lawful.{AreCell}
+use Rattle.mg_turns.specs.Rounds.{Rounds}
+use Rattle.mg_turns.specs.Code.Running.{CellSteps}
+use Rattle.mg_turns.proofs.running.run_sets.Given as goal
+
+abbrev pub invariant-loop-done : goal.invariant-loop-done
+invariant-loop-done g l = record {
+  cell : AreCell l.engine l.intake;
+  steps : CellSteps l.fn.engine l.engine l.fn.intake l.intake;
+  laid : ℕ;
+  rounds : Rounds l.done laid l.fn.engine l.engine l.fn.intake l.intake;
+}

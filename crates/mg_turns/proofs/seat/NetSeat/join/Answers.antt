@@ -1,0 +1,7 @@
+use Rattle.std.proofs.Common.{rules, arith, ap, length}
+use Rattle.mg_turns.proofs.Ends.{joins, nil}
+use Rattle.mg_turns.proofs.seat.NetSeat.join.Goals as goal
+
+pub join_seat-requires : goal.join_seat-requires
+join_seat-requires g c = let me = c.args.other.idle in
+    (search rules, search rules, nil _ me.2, search rules, joins _ _ _ c.args.self.now.seat.me.0 c.args.other.seat.me.0 c.args.self.now.idle.0 me.1 c.requires.work)

@@ -1,0 +1,5 @@
+use Rattle.mg_turns.specs.Code.Plays.{gave}
+use Rattle.mg_turns.proofs.shared.SharedNet.give_plain.Given as goal
+
+abbrev pub ghosts-give_back : goal.ghosts-give_back
+ghosts-give_back g a = record { after = gave a.seat.now.me.0 a.word a.held.part }

@@ -1,0 +1,141 @@
+-- What the calls of a shared net say, by what the seat knew before and knows after.
+use Rattle.std.specs.Prelude.{◌≡◌, ℕ, ◌+◌, ◌*◌, ◌<◌, ◌≤◌, ◌⊎◌, ⊤, Bool, Option, None, Some}
+use Rattle.mg_calc.specs.declared.calculator.Calculator.{Ghosts}
+use Rattle.mg_calc.specs.declared.edge.Edge.{Edge}
+use Rattle.mg_calc.specs.declared.plan.Plan.{Plan}
+use Rattle.mg_node.specs.Views.{IntakeView, WorkView, OutcomeView, EngineView}
+use Rattle.mg_node.specs.Job.{LoggedJob}
+use Rattle.mg_node.specs.declared.claimed.Claimed.{Claimed}
+use Rattle.mg_node.specs.declared.delivered.Delivered.{Delivered}
+use Rattle.mg_node.specs.Claims.{Claims, IsLawfulWork}
+use Rattle.mg_node.specs.Commits.{Commits}
+use Rattle.mg_node.specs.Shelves.{shelved}
+use Rattle.mg_node.specs.Advances.{advanced, is_advanced}
+use Rattle.mg_node.specs.Delivery.{Delivers}
+use Rattle.mg_node.specs.Leading.{output_at}
+use Rattle.mg_turns.specs.Parts.{FrameView, an_engine, an_intake, source_at}
+use Rattle.mg_turns.specs.Sights.{Finds, FindsCell, Missed, MissedOne, left_one, left_two, cell_left, has_after}
+use Rattle.mg_turns.specs.Rounds.{Rounds, Stops}
+use Rattle.mg_turns.specs.declared.view.View.{View}
+use Rattle.mg_turns.specs.declared.shared.SharedNet.{SharedNet}
+use Rattle.mg_turns.specs.declared.seat.NetSeat.{NetSeat}
+use Rattle.mg_turns.specs.declared.tried.Tried.{Tried}
+use Rattle.mg_turns.specs.declared.tried.Tried.TheVariants.{Done, Busy}
+use Rattle.mg_turns.specs.declared.tried.TriedCommit.{TriedCommit}
+use Rattle.mg_turns.specs.declared.tried.TriedCommit.TheVariants.{Laid, Busy as CommitBusy, OutOfMemory}
+use Rattle.mg_turns.specs.declared.tried.TriedShelf.{TriedShelf}
+use Rattle.mg_turns.specs.declared.tried.TriedShelf.TheVariants.{Shelved as Put, Busy as ShelfBusy}
+
+-- the plan and the parts from which a net was shared
+abbrev pub key_of : {X : Type 0} → SharedNet X → FrameView
+key_of net = net.table.shared.key.value
+
+-- what a seat knows
+abbrev pub view_of : {X : Type 0} {g : Ghosts X} → NetSeat X g → View
+view_of s = s.seat.me.0
+
+-- a seat is of a net
+abbrev pub IsSeatOf : {X : Type 0} {g : Ghosts X} → SharedNet X → NetSeat X g → Type 0
+IsSeatOf net s = (s.seat.table_id ≡ net.table.shared.table_id) × (s.seat.me.0.key ≡ key_of net)
+
+-- a claim of the cell that was found: the seat then has the work that it gave
+pub record HasClaimed {X : Type 0} (result : Claimed X) (node : ℕ) (v w : View) : Type 0 where
+  pub engine : EngineView
+  pub engine_now : EngineView
+  pub intake : IntakeView
+  pub intake_now : IntakeView
+  pub found : FindsCell v node engine intake
+  pub claims : Claims result engine engine_now intake intake_now
+  pub left : w ≡ cell_left v node engine_now intake_now (has_after result v.work)
+
+abbrev pub TriesClaim : {X : Type 0} → Tried (Claimed X) → ℕ → View → View → Type 0
+TriesClaim (Done result) node v w = HasClaimed result node v w
+TriesClaim (Busy word) node v w = Missed (2 * node + 1) (2 * node) word v w
+
+-- a work that is handed out is lawful
+abbrev pub IsLawfulTry : {X : Type 0} → LoggedJob → Tried (Claimed X) → Type 0
+IsLawfulTry job (Done result) = IsLawfulWork job result
+IsLawfulTry job (Busy word) = ⊤
+
+-- the outputs of the cell that was found are raised as far as what waits tells
+pub record HasRaised (result : Bool) (node : ℕ) (v w : View) : Type 0 where
+  pub engine : EngineView
+  pub intake : IntakeView
+  pub found : FindsCell v node engine intake
+  pub moved : result ≡ is_advanced engine intake.waits
+  pub left : w ≡ cell_left v node (advanced engine intake.waits) intake v.work
+
+abbrev pub TriesRaise : Tried Bool → ℕ → View → View → Type 0
+TriesRaise (Done result) node v w = HasRaised result node v w
+TriesRaise (Busy word) node v w = Missed (2 * node + 1) (2 * node) word v w
+
+-- so many rounds of the cell that was found, and no more work where that are fewer than were asked for
+pub record HasRun (done most node : ℕ) (v w : View) : Type 0 where
+  pub engine : EngineView
+  pub engine_then : EngineView
+  pub engine_now : EngineView
+  pub intake : IntakeView
+  pub intake_then : IntakeView
+  pub intake_now : IntakeView
+  pub laid : ℕ
+  pub found : FindsCell v node engine intake
+  pub rounds : Rounds done laid engine engine_then intake intake_then
+  pub within : done ≤ most
+  pub end : ((done ≡ most) × (engine_now ≡ engine_then) × (intake_now ≡ intake_then)) ⊎ ((done < most) × Stops engine_then engine_now intake_then intake_now)
+  pub left : w ≡ cell_left v node engine_now intake_now v.work
+
+abbrev pub TriesRun : Tried ℕ → ℕ → ℕ → View → View → Type 0
+TriesRun (Done done) most node v w = HasRun done most node v w
+TriesRun (Busy word) most node v w = Missed (2 * node + 1) (2 * node) word v w
+
+-- a delivery along an edge, from the engine to the intake that were found
+pub record HasBrought (result : Delivered) (source : ℕ) (edge : Edge) (v w : View) : Type 0 where
+  pub engine : EngineView
+  pub intake : IntakeView
+  pub intake_now : IntakeView
+  pub engine_found : Finds v source (an_engine engine)
+  pub intake_found : Finds v (2 * edge.node) (an_intake intake)
+  pub moved : Delivers result (output_at engine edge) edge.port 256 intake.waits intake_now.waits
+  pub claimed : intake_now.claimed ≡ intake.claimed
+  pub left : w ≡ left_two v source (an_engine engine) (2 * edge.node) (an_intake intake_now) v.work
+
+abbrev pub TriesAppend : Tried Delivered → Plan → Edge → View → View → Type 0
+TriesAppend (Done result) plan edge v w = HasBrought result (source_at plan edge) edge v w
+TriesAppend (Busy word) plan edge v w = Missed (source_at plan edge) (2 * edge.node) word v w
+
+-- the work that a seat has is this one, whatever its calculator has done
+pub record HasOutcome (has : Option WorkView) (work : WorkView) : Type 0 where
+  pub it : WorkView
+  pub there : has ≡ Some it
+  pub node : it.node ≡ work.node
+  pub number : it.number ≡ work.number
+  pub phase : it.phase ≡ work.phase
+
+-- the seat's work is back in the engine that was found
+pub record HasCommitted (laid : ℕ) (outcome : OutcomeView) (v w : View) : Type 0 where
+  pub engine : EngineView
+  pub engine_now : EngineView
+  pub found : Finds v (2 * outcome.work.node + 1) (an_engine engine)
+  pub commits : Commits outcome laid engine engine_now
+  pub left : w ≡ left_one v (2 * outcome.work.node + 1) (an_engine engine_now) None
+
+-- there was no memory, and the engine is as it was found
+pub record FoundNone (outcome : OutcomeView) (v w : View) : Type 0 where
+  pub engine : EngineView
+  pub found : Finds v (2 * outcome.work.node + 1) (an_engine engine)
+  pub left : w ≡ left_one v (2 * outcome.work.node + 1) (an_engine engine) v.work
+
+abbrev pub TriesCommit : {X : Type 0} → TriedCommit X → OutcomeView → View → View → Type 0
+TriesCommit (Laid n) outcome v w = HasCommitted n outcome v w
+TriesCommit (CommitBusy word o) outcome v w = MissedOne (2 * outcome.work.node + 1) word v w × (o ≡ outcome)
+TriesCommit (OutOfMemory o) outcome v w = FoundNone outcome v w × (o ≡ outcome)
+
+-- the seat's work stands in its window again
+pub record HasShelved (outcome : OutcomeView) (v w : View) : Type 0 where
+  pub engine : EngineView
+  pub found : Finds v (2 * outcome.work.node + 1) (an_engine engine)
+  pub left : w ≡ left_one v (2 * outcome.work.node + 1) (an_engine (shelved engine outcome)) None
+
+abbrev pub TriesShelve : {X : Type 0} → TriedShelf X → OutcomeView → View → View → Type 0
+TriesShelve Put outcome v w = HasShelved outcome v w
+TriesShelve (ShelfBusy word o) outcome v w = MissedOne (2 * outcome.work.node + 1) word v w × (o ≡ outcome)

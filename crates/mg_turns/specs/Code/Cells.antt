@@ -1,0 +1,18 @@
+-- Both parts of a node that are out of their slots.
+use Rattle.std.specs.Prelude.{◌≡◌, ℕ, ◌+◌, ◌*◌, ◌<◌, ◌∷◌, None, Some}
+use Rattle.mg_node.specs.Views.{IntakeView, EngineView}
+use Rattle.mg_turns.specs.Parts.{FrameView, an_engine, an_intake, nodes_in, AgreeParts, Follows}
+use Rattle.mg_turns.specs.Rule.{word_of}
+use Rattle.mg_turns.specs.Sights.{FindsCell}
+use Rattle.mg_turns.specs.Code.Plays.{Sat, turn, turning}
+
+-- a seat without turns took those of a node's engine and intake, with their parts
+pub record TakesCell (key : FrameView) (m : Sat) (node : ℕ) (e : EngineView) (engine_word laid : ℕ) (i : IntakeView) (intake_word : ℕ) (n : Sat) : Type 0 where
+  pub found : FindsCell m.0 node e i
+  pub within : node < nodes_in key
+  pub engine : Follows key (2 * node + 1) (an_engine e)
+  pub intake : Follows key (2 * node) (an_intake i)
+  pub then : n ≡ (turning m.0 (turn m.0.key (2 * node) (an_intake i) ∷ turn m.0.key (2 * node + 1) (an_engine e) ∷ m.0.turns), (2 * node, None) ∷ (2 * node + 1, None) ∷ m.1)
+  pub engine_word_is : engine_word ≡ word_of m.0.key (2 * node + 1) (an_engine e)
+  pub intake_word_is : intake_word ≡ word_of m.0.key (2 * node) (an_intake i)
+  pub laid_is : laid ≡ e.laid

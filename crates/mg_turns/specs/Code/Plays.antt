@@ -1,0 +1,266 @@
+-- What each step tells: of the step, the seat before, the number found and the seat after.
+use Rattle.std.specs.Prelude.{◌≡◌, ◌≢◌, ◌⊎◌, ◌++◌, ℕ, [], ◌+◌, ◌-◌, ◌*◌, length, None, ◌/◌, ◌%◌, ◌<◌, ◌≤◌, ◌∷◌, List, Option, Some, slice_index, slice_get}
+use mathlib.Core.Option.{some}
+use lib.ListN.{get_elem?}
+use Rattle.atomic_table.specs.Table.{Me, Step, rest}
+use Rattle.mg_node.specs.Views.{IntakeView, WorkView, EngineView}
+use Rattle.mg_turns.specs.Parts.{PartView, FrameView, blank_frame, nodes_in, tally_since, an_engine, an_intake, PartGrows, Follows, AgreeParts, IsOutIn, IsMissingIn, source_at, JoinedParts}
+use Rattle.mg_calc.specs.declared.edge.Edge.{Edge}
+use Rattle.mg_turns.specs.Turns.{Turn, Sight}
+use Rattle.mg_turns.specs.Rule.{view, doubled, word_of, Sights}
+use Rattle.mg_turns.specs.Sights.{Missed}
+use Rattle.mg_turns.specs.declared.view.View.{View}
+
+abbrev pub Sat : Type 0
+Sat = Me (Option PartView) View
+
+abbrev pub Play : Type 1
+Play = Step (Option PartView) → Sat → ℕ → Sat → Type 0
+
+abbrev pub turning : View → List Turn → View
+turning v turns = view v.key v.portion v.misses v.splits v.missed turns v.work v.seen
+
+abbrev pub left : List Turn → List Turn
+left [] = []
+left (t ∷ ts) = ts
+
+-- one more miss, of this word
+abbrev pub missing : View → ℕ → View
+missing v word = view v.key v.portion (v.misses + 1) v.splits (Some word) v.turns v.work v.seen
+
+abbrev pub turn : FrameView → ℕ → PartView → Turn
+turn key word p = record { word = word; tally = word_of key word p / 2; note = p }
+
+-- what is known of a part p, whose turn is taken: it came of the one that was shared, it is no less than what the seat saw, it agrees
+-- with the engine whose turn the seat has, and the seat's work is out of it
+pub record Found (word : ℕ) (p : PartView) (v : View) : Type 0 where
+  pub follows : Follows v.key word p
+  pub sights : Sights word p v.seen
+  pub agree : (n j : ℕ) (t : Turn) → word ≡ 2 * n → n < nodes_in v.key → get_elem? v.turns j ≡ some t → t.word ≡ 2 * n + 1 → AgreeParts t.note p
+  pub out : (w : WorkView) → v.work ≡ Some w → 2 * w.node + 1 ≡ word → IsOutIn p w
+  pub joined : (k j : ℕ) (e : Edge) (t : Turn) → slice_get v.key.plan.edges k ≡ Some e → word ≡ 2 * e.node → get_elem? v.turns j ≡ some t → t.word ≡ source_at v.key.plan e → JoinedParts t.note e p
+
+-- the seat has the turn of the word, and its part
+abbrev pub Took : Sat → ℕ → ℕ → Sat → Type 0
+Took m word r n = (p : PartView) × (n ≡ (turning m.0 (turn m.0.key word p ∷ m.0.turns), (word, Some p) ∷ m.1)) × Found word p m.0 × (r ≡ word_of m.0.key word p)
+
+-- the turn of a free word is taken, and a held one is missed
+abbrev pub tried : Play
+tried st m r n = (r % 2 ≡ 0 → Took m st.word r n) × (r % 2 ≡ 1 → n ≡ (missing m.0 st.word, m.1))
+
+-- the same turns, whose notes may have grown
+abbrev pub Alike : List Turn → List Turn → Type 0
+Alike [] [] = Unit {0}
+Alike (t ∷ ts) (u ∷ us) = (t.word ≡ u.word) × (t.tally ≡ u.tally) × PartGrows u.note t.note × Alike ts us
+Alike _ _ = ⊥
+
+-- between parts nothing was claimed or laid: what agreed with one agrees with the other, and the same works are out
+pub record Like (q p : PartView) : Type 0 where
+  pub agree : (r : PartView) → AgreeParts q r → AgreeParts p r
+  pub agree_there : (r : PartView) → AgreeParts r q → AgreeParts r p
+  pub out : (x : WorkView) → IsOutIn q x → IsOutIn p x
+  pub only : (k : ℕ) → IsMissingIn p k → IsMissingIn q k
+
+-- what was joined to one part is joined to the other
+pub record Joins (q p : PartView) : Type 0 where
+  pub from : (e : Edge) (r : PartView) → JoinedParts q e r → JoinedParts p e r
+  pub to : (e : Edge) (r : PartView) → JoinedParts r e q → JoinedParts r e p
+
+-- a work came back: all others stay out
+pub record Back (q p : PartView) (w : WorkView) : Type 0 where
+  pub agree : (r : PartView) → AgreeParts q r → AgreeParts p r
+  pub out : (x : WorkView) → IsOutIn q x → x.number ≢ w.number → IsOutIn p x
+  pub only : (k : ℕ) → IsMissingIn p k → IsMissingIn q k × (k ≢ w.number)
+
+-- a work goes out: it is apart from all others, and they stay out
+pub record Goes (q p : PartView) (w : WorkView) : Type 0 where
+  pub it : IsOutIn p w
+  pub apart : (x : WorkView) → IsOutIn q x → x.number ≢ w.number
+  pub out : (x : WorkView) → IsOutIn q x → IsOutIn p x
+  pub only : (k : ℕ) → IsMissingIn p k → (w.number ≡ k) ⊎ IsMissingIn q k
+
+-- the turn that was taken last is given back with the part p, and the view is then w
+abbrev pub Returns : View → ℕ → PartView → View → Type 0
+Returns v word p w =
+    Alike w.turns (left v.turns) × (w.key ≡ v.key) × (w.portion ≡ v.portion) × (w.seen ≡ record { word = word; part = p } ∷ v.seen)
+
+abbrev pub note_or : PartView → List Turn → PartView
+note_or d [] = d
+note_or d (t ∷ ts) = t.note
+
+-- nothing was claimed or laid
+abbrev pub Plainly : View → ℕ → PartView → View → Type 0
+Plainly v word p w = (w.turns ≡ left v.turns) × (w.work ≡ v.work) × Like (note_or p v.turns) p × Joins (note_or p v.turns) p
+
+-- the work that the seat had came back to its engine, which was the seat's only turn
+pub record Lays (v : View) (word : ℕ) (p : PartView) (w : View) : Type 0 where
+  pub it : WorkView
+  pub node : word ≡ 2 * it.node + 1
+  pub within : it.node < nodes_in v.key
+  pub none : length w.turns ≡ 0
+  pub had : v.work ≡ Some it
+  pub has : w.work ≡ None
+  pub back : Back (note_or p v.turns) p it
+  pub joins : Joins (note_or p v.turns) p
+
+-- the same works are out, or one more, which the seat then has
+abbrev pub Outs : ℕ → PartView → PartView → Option WorkView → Option WorkView → Type 0
+Outs n q p had has = ((has ≡ had) × ((x : WorkView) → IsOutIn q x → IsOutIn p x) × ((k : ℕ) → IsMissingIn p k → IsMissingIn q k))
+    ⊎ ((x : WorkView) × (had ≡ None) × (has ≡ Some x) × (x.node ≡ n) × Goes q p x)
+
+-- the intake of a node comes back, and the note of the engine, whose turn the seat has, is then what became of it
+pub record Claims (v : View) (word : ℕ) (p : PartView) (w : View) : Type 0 where
+  pub n : ℕ
+  pub within : n < nodes_in v.key
+  pub node : word ≡ 2 * n
+  pub t : Turn
+  pub u : Turn
+  pub now : w.turns ≡ t ∷ []
+  pub before : left v.turns ≡ u ∷ []
+  pub at_u : u.word ≡ 2 * n + 1
+  pub at_t : t.word ≡ 2 * n + 1
+  pub agree : AgreeParts t.note p
+  pub outs : Outs n u.note t.note v.work w.work
+  pub joins : Joins u.note t.note
+  pub joins_there : Joins (note_or p v.turns) p
+
+-- the intake to which an edge leads comes back, and more came along the edge: no more than was laid at the engine, whose turn the
+-- seat has; the other ports have what they had
+pub record Brings (v : View) (word : ℕ) (p : PartView) (w : View) : Type 0 where
+  pub k : ℕ
+  pub e : Edge
+  pub there : slice_get v.key.plan.edges k ≡ Some e
+  pub node : word ≡ 2 * e.node
+  pub u : Turn
+  pub now : w.turns ≡ u ∷ []
+  pub before : left v.turns ≡ u ∷ []
+  pub at_u : u.word ≡ source_at v.key.plan e
+  pub same : w.work ≡ v.work
+  pub like : Like (note_or p v.turns) p
+  pub joined : JoinedParts u.note e p
+  pub others : (l : ℕ) (x : Edge) (r : PartView) → l ≢ k → slice_get v.key.plan.edges l ≡ Some x → x.node ≡ e.node → JoinedParts r x (note_or p v.turns) → JoinedParts r x p
+
+-- one of the four
+abbrev pub Kind : View → ℕ → PartView → View → Type 0
+Kind v word p w = Plainly v word p w ⊎ (Lays v word p w ⊎ (Claims v word p w ⊎ Brings v word p w))
+
+abbrev pub saw : View → ℕ → PartView → List Sight
+saw v word p = record { word = word; part = p } ∷ v.seen
+
+-- the view of a seat that gave back the turn of this word, with the part p
+abbrev pub gave : View → ℕ → PartView → View
+gave v word p = view v.key v.portion v.misses v.splits v.missed (left v.turns) v.work (saw v word p)
+
+-- the seat took this slot last, with a part of which P holds
+abbrev pub Holds : Sat → ℕ → (PartView → Type 0) → Type 0
+Holds m word P = (p : PartView) × (m.1 ≡ (word, Some p) ∷ rest m.1) × P p
+
+-- the seat took this turn last, and the part p is no less than its note
+abbrev pub HasTurn : View → ℕ → PartView → Type 0
+HasTurn v word p = (t : Turn) × (ts : List Turn) × (v.turns ≡ t ∷ ts) × (t.word ≡ word) × PartGrows t.note p
+
+-- n of the portion is handed over
+abbrev pub kept_after : ℕ → View → View
+kept_after n v = view v.key (v.portion - n) v.misses (v.splits + 1) v.missed v.turns v.work v.seen
+
+abbrev pub handed : ℕ → View → View
+handed n v = view v.key n 0 0 None [] None v.seen
+
+abbrev pub either_work : Option WorkView → Option WorkView → Option WorkView
+either_work None b = b
+either_work (Some a) b = Some a
+
+abbrev pub joined : View → View → View
+joined v w = view v.key (v.portion + w.portion) v.misses v.splits v.missed v.turns (either_work v.work w.work) (v.seen ++ w.seen)
+
+abbrev pub spent_view : View
+spent_view = view blank_frame 0 0 0 None [] None []
+
+-- between two calls a seat has a portion, and neither a turn nor a part
+abbrev pub Idle : Sat → Type 0
+Idle m = (0 < m.0.portion) × (length m.0.turns ≡ 0) × (length m.1 ≡ 0)
+
+-- the seat has the turn of the word, and its part p is out of the slot
+abbrev pub Taken : Sat → ℕ → PartView → Sat → Type 0
+Taken m word p n = (n ≡ (turning m.0 (turn m.0.key word p ∷ m.0.turns), (word, None) ∷ m.1)) × Found word p m.0
+
+-- the seat took the turn t last, and may give it back with the part p
+pub record Gives (m : Sat) (word : ℕ) (p : PartView) (t : Turn) (ts : List Turn) : Type 0 where
+  pub slot : m.1 ≡ (word, None) ∷ rest m.1
+  pub turns : m.0.turns ≡ t ∷ ts
+  pub word_is : t.word ≡ word
+  pub grows : PartGrows t.note p
+  pub follows : Follows m.0.key word p
+
+-- where nothing was claimed or laid
+abbrev pub GivesPlainly : Sat → ℕ → PartView → Type 0
+GivesPlainly m word p = (t : Turn) × (ts : List Turn) × Gives m word p t ts × Like t.note p × Joins t.note p
+
+-- where the intake of the node n comes back, and its engine became f; the seat has then this work
+pub record GivesClaim (m : Sat) (n : ℕ) (p f : PartView) (has : Option WorkView) : Type 0 where
+  pub t : Turn
+  pub u : Turn
+  pub gives : Gives m (2 * n) p t (u ∷ [])
+  pub within : n < nodes_in m.0.key
+  pub node : u.word ≡ 2 * n + 1
+  pub grew : PartGrows u.note f
+  pub agree : AgreeParts f p
+  pub outs : Outs n u.note f m.0.work has
+  pub joins : Joins u.note f
+  pub joins_there : Joins t.note p
+
+-- where more came along an edge to the intake
+pub record GivesBrought (m : Sat) (word : ℕ) (p : PartView) : Type 0 where
+  pub k : ℕ
+  pub e : Edge
+  pub there : slice_get m.0.key.plan.edges k ≡ Some e
+  pub node : word ≡ 2 * e.node
+  pub t : Turn
+  pub u : Turn
+  pub gives : Gives m word p t (u ∷ [])
+  pub at_u : u.word ≡ source_at m.0.key.plan e
+  pub like : Like t.note p
+  pub joined : JoinedParts u.note e p
+  pub others : (l : ℕ) (x : Edge) (r : PartView) → l ≢ k → slice_get m.0.key.plan.edges l ≡ Some x → x.node ≡ e.node → JoinedParts r x t.note → JoinedParts r x p
+
+-- where the seat's work came back to the engine, whose word this is
+pub record GivesLaid (m : Sat) (word : ℕ) (p : PartView) : Type 0 where
+  pub w : WorkView
+  pub node : word ≡ 2 * w.node + 1
+  pub t : Turn
+  pub gives : Gives m word p t []
+  pub within : w.node < nodes_in m.0.key
+  pub had : m.0.work ≡ Some w
+  pub back : Back t.note p w
+  pub joins : Joins t.note p
+
+-- the first turn, with another note
+abbrev pub noted : PartView → List Turn → List Turn
+noted f [] = []
+noted f (t ∷ ts) = record { word = t.word; tally = t.tally; note = f } ∷ ts
+
+abbrev pub claimed_view : View → ℕ → PartView → PartView → Option WorkView → View
+claimed_view v n p f has = view v.key v.portion v.misses v.splits v.missed (noted f (left v.turns)) has (saw v (2 * n) p)
+
+abbrev pub laid_view : View → ℕ → PartView → View
+laid_view v word p = view v.key v.portion v.misses v.splits v.missed (left v.turns) None (saw v word p)
+
+-- the seat took two turns, and what their words were
+abbrev pub TakenPair : Sat → ℕ → PartView → ℕ → ℕ → PartView → ℕ → Sat → Type 0
+TakenPair m first p r second q s n = (o : Sat) × Taken m first p o × Taken o second q n × (r ≡ word_of m.0.key first p) × (s ≡ word_of m.0.key second q)
+
+-- or it missed one of them, and has no turn
+abbrev pub MissedPair : Sat → ℕ → ℕ → ℕ → Sat → Type 0
+MissedPair m first second word n = Missed first second word m.0 n.0 × (n.1 ≡ m.1)
+
+-- what is known of the words of a cell that is out: the engine's had this tally when so many sets were laid
+pub record CellWords (key : FrameView) (node : ℕ) (e : EngineView) (engine_word laid : ℕ) (i : IntakeView) (intake_word : ℕ) : Type 0 where
+  pub tally : ℕ
+  pub found : engine_word ≡ doubled tally
+  pub more : laid ≤ e.laid
+  pub now : tally + (e.laid - laid) ≡ tally_since key (2 * node + 1) (an_engine e)
+  pub intake : intake_word ≡ word_of key (2 * node) (an_intake i)
+
+-- the intake of a node and then its engine are given back
+abbrev pub cell_given : View → ℕ → PartView → PartView → Option WorkView → View
+cell_given v n f k has = gave (claimed_view v n k f has) (2 * n + 1) f

@@ -1,0 +1,63 @@
+-- Sets that are worked on while the turns of both parts of a node are held: as if they were claimed, performed and committed one after
+-- the other.
+use Rattle.std.specs.Prelude.{◌≡◌, ◌≢◌, ◌<◌, ◌≤◌, ◌⊎◌, ℕ, map}
+use Rattle.mg_value.specs.Payload.{Plain}
+use Rattle.mg_stream.specs.Pool.{Backlog}
+use Rattle.mg_node.specs.Views.{IntakeView, WorkView, PerformedView, OutcomeView, EngineView}
+use Rattle.mg_node.specs.Job.{LoggedJob}
+use Rattle.mg_node.specs.Lawful.{of_node, LawfulEngine, LawfulIntake, Agree}
+use Rattle.mg_node.specs.IntakeStanding.{Stays, IntakeGrows}
+use Rattle.mg_node.specs.Standing.{EngineGrows}
+use Rattle.mg_node.specs.Ports.{port_queue}
+use Rattle.mg_node.specs.Shelves.{IsOut, shelved, outcome_of}
+use Rattle.mg_node.specs.Running.{IsPerformed}
+use Rattle.mg_node.specs.Commits.{Commits}
+use Rattle.mg_turns.specs.Rounds.{Round, Rounds, IsOutcomeOf, Stops}
+use Rattle.mg_turns.specs.Parts.{IsMissingAt}
+
+-- a work of a number came back to its engine, laid or as it is; what it was lawful by
+pub record Returned (e f : EngineView) (number : ℕ) (Good : LoggedJob → Type 0) : Type 0 where
+  pub out : (x : WorkView) → IsOut e x → x.number ≢ number → IsOut f x
+  pub only : (n : ℕ) → IsMissingAt f n → IsMissingAt e n × (n ≢ number)
+  pub role : f.role ≡ e.role
+  pub claimed : f.claimed ≡ e.claimed
+  pub first : f.first ≡ e.first
+  pub gone : map (λ (b : Backlog Plain). b.gone) f.outputs ≡ map (λ (b : Backlog Plain). b.gone) e.outputs
+  pub grows : EngineGrows e f
+  pub lawful : (job : LoggedJob) (owner : ℕ) → LawfulEngine job (of_node owner) e → Good job → LawfulEngine job (of_node owner) f
+
+-- a cell is lawful for a job
+pub record IsCellOf (job : LoggedJob) (owner : ℕ) (e : EngineView) (i : IntakeView) : Type 0 where
+  pub engine : LawfulEngine job (of_node owner) e
+  pub intake : LawfulIntake job owner i
+  pub agree : Agree e i
+
+-- what some sets leave of a cell: the works that were out are out, and no other
+pub record CellSteps (e f : EngineView) (i k : IntakeView) : Type 0 where
+  pub out : (x : WorkView) → IsOut e x → IsOut f x
+  pub only : (n : ℕ) → IsMissingAt f n → IsMissingAt e n
+  pub first : f.first ≡ e.first
+  pub gone : map (λ (b : Backlog Plain). b.gone) f.outputs ≡ map (λ (b : Backlog Plain). b.gone) e.outputs
+  pub grows : EngineGrows e f
+  pub intake_grows : IntakeGrows i k
+  pub ports : (port : ℕ) → Stays (port_queue i.waits port) (port_queue k.waits port)
+  pub lawful : (job : LoggedJob) (owner : ℕ) → IsCellOf job owner e i → IsCellOf job owner f k
+
+-- a work was performed and committed
+abbrev pub IsDone : WorkView → EngineView → EngineView → Type 0
+IsDone work e f = (p : PerformedView) × (n : ℕ) × IsPerformed work p × Commits (outcome_of p) n e f
+
+-- or it found no memory, and stands in its window
+abbrev pub IsPutBack : WorkView → EngineView → EngineView → Type 0
+IsPutBack work e f = (o : OutcomeView) × IsOutcomeOf work o × (f ≡ shelved e o)
+
+abbrev pub SomeRound : EngineView → EngineView → IntakeView → IntakeView → Type 0
+SomeRound e f i k = (laid : ℕ) × Round laid e f i k
+
+-- so many rounds, and why no more
+abbrev pub Ran : ℕ → ℕ → EngineView → EngineView → IntakeView → IntakeView → Type 0
+Ran done most e f i k = (m : EngineView) × (l : IntakeView) × (laid : ℕ) × Rounds done laid e m i l × (done ≤ most)
+    × (((done ≡ most) × (f ≡ m) × (k ≡ l)) ⊎ ((done < most) × Stops m f l k))
+
+abbrev pub IsCommitted : OutcomeView → EngineView → EngineView → Type 0
+IsCommitted outcome e f = (n : ℕ) × Commits outcome n e f

@@ -1,0 +1,10 @@
+pub mod Words
+pub mod Parts
+pub mod Turns
+pub mod Sums
+pub mod Rule
+pub mod Sights
+pub mod Rounds
+pub mod Calls
+pub mod Ends
+pub mod Code

@@ -1,0 +1,207 @@
+-- Parts of a net as they lie in the slots of a table, and the frame from which they were shared.
+use Rattle.std.specs.Prelude.{◌≡◌, ◌≢◌, ℕ, zero, suc, pos, ◌+◌, ◌-◌, ◌*◌, ◌/◌, ◌<◌, ◌≤◌, map, List, [], length, Option, Some, None, slice_index_or, slice_index, slice_get, option_map, refl}
+use Rattle.std.specs.Coded.{Coded, code_by, coded×, coded_ℕ, coded_list, coded_option}
+use Rattle.mg_value.specs.Payload.{Plain}
+use Rattle.mg_stream.specs.Pool.{Backlog}
+use Rattle.mg_stream.specs.Queue.{count_of}
+use Rattle.mg_calc.specs.declared.plan.Plan.{Plan}
+use Rattle.mg_calc.specs.declared.edge.Edge.{Edge}
+use Rattle.mg_calc.specs.declared.plan_stream.Producer.{Producer}
+use Rattle.mg_calc.specs.declared.plan_stream.Producer.TheVariants.{Input, Node}
+use Rattle.mg_calc.specs.ToldCodes.{plan_code}
+use Rattle.mg_node.specs.Views.{IntakeView, WorkView, EntryView, EngineView}
+use Rattle.mg_node.specs.Codes.{intake_code, engine_code}
+use Rattle.mg_node.specs.Job.{LoggedJob, ports_of}
+use Rattle.mg_node.specs.Lawful.{Owner, of_node, of_input, LawfulEngine, LawfulIntake, Agree}
+use Rattle.mg_node.specs.declared.waits.Waits.{Waits}
+use Rattle.mg_turns.specs.Words.{Whose, intake_of, engine_of, word_at, whose}
+use Rattle.mg_node.specs.IntakeStanding.{HasGrown, IntakeGrows}
+use Rattle.mg_node.specs.Ports.{port_queue}
+use Rattle.mg_node.specs.Leading.{output_at}
+use Rattle.mg_node.specs.Standing.{EngineGrows}
+use Rattle.mg_node.specs.Shelves.{IsOut}
+
+-- a part: an engine or an intake
+pub record PartView : Type 0 where
+  pub engine : Option EngineView
+  pub intake : Option IntakeView
+
+abbrev pub part_code : Coded PartView
+part_code = code_by (Option EngineView × Option IntakeView) (coded× (coded_option engine_code) (coded_option intake_code)) (λ p. (p.engine, p.intake)) (λ p. record { engine = p.0; intake = p.1 }) (λ _. refl)
+
+-- a plan and the parts of its net, each at the place of its word
+pub record FrameView : Type 0 where
+  pub plan : Plan
+  pub parts : List PartView
+
+abbrev pub frame_code : Coded FrameView
+frame_code = code_by (Plan × List PartView) (coded× plan_code (coded_list part_code)) (λ f. (f.plan, f.parts)) (λ p. record { plan = p.0; parts = p.1 }) (λ _. refl)
+
+abbrev pub blank_part : PartView
+blank_part = record { engine = None; intake = None }
+
+abbrev pub blank_plan : Plan
+blank_plan = record { nodes = []; streams = []; edges = []; order = []; inputs = []; outputs = []; sides = []; limit = pos 0; workers = 0 }
+
+abbrev pub blank_frame : FrameView
+blank_frame = record { plan = blank_plan; parts = [] }
+
+abbrev pub at : FrameView → ℕ → PartView
+at key i = slice_index_or key.parts i blank_part
+
+abbrev pub nodes_in : FrameView → ℕ
+nodes_in key = length key.plan.nodes
+
+-- whose part lies at a word
+abbrev pub owner_in : FrameView → ℕ → Whose
+owner_in key word = whose (nodes_in key) word
+
+-- how many packets came to an intake, on so many ports; those that are gone are counted
+abbrev pub came_to : Waits → ℕ → ℕ
+came_to waits zero = 0
+came_to waits (suc n) = came_to waits n + count_of (port_queue waits n)
+
+-- how many sets, calls or answers an engine laid, or how many packets came to an intake with so many ports
+abbrev pub tally_by : ℕ → Option EngineView → Option IntakeView → ℕ
+tally_by ports (Some e) i = e.laid
+tally_by ports None (Some i) = came_to i.waits ports
+tally_by ports None None = 0
+
+-- how many ports the intake of a word has
+abbrev pub ports_by : FrameView → Whose → ℕ
+ports_by key (intake_of consumer) = length (ports_of key.plan consumer)
+ports_by key (engine_of owner) = 0
+
+abbrev pub tally_of : FrameView → ℕ → PartView → ℕ
+tally_of key word p = tally_by (ports_by key (owner_in key word)) p.engine p.intake
+
+-- the tally of a part: of an intake how many packets came to it, on all ports together, since it was shared; and of an engine how
+-- many sets, calls or answers it laid since then
+abbrev pub tally_since : FrameView → ℕ → PartView → ℕ
+tally_since key word p = tally_of key word p - tally_of key word (at key word)
+
+-- one thing grew to another, or neither is there
+abbrev pub Grown : {X : Type 0} → (X → X → Type 0) → Option X → Option X → Type 0
+Grown R None None = Unit {0}
+Grown R (Some x) (Some y) = R x y
+Grown R None (Some y) = ⊥
+Grown R (Some x) None = ⊥
+
+-- the standing of a part only grows, number by number
+pub record PartGrows (p q : PartView) : Type 0 where
+  pub engine : Grown EngineGrows p.engine q.engine
+  pub intake : Grown IntakeGrows p.intake q.intake
+
+-- a part is lawful for a job, as that of its owner
+abbrev pub LawfulPart : LoggedJob → Whose → PartView → Type 0
+LawfulPart job (intake_of consumer) p = (i : IntakeView) → p.intake ≡ Some i → LawfulIntake job consumer i
+LawfulPart job (engine_of owner) p = (e : EngineView) → p.engine ≡ Some e → LawfulEngine job owner e
+
+-- the parts of a frame are lawful for a job
+pub record Fits (job : LoggedJob) (key : FrameView) : Type 0 where
+  pub plan : job.job.plan ≡ key.plan
+  pub parts : (word : ℕ) → word < length key.parts → LawfulPart job (owner_in key word) (at key word)
+
+-- there is a job for which they are
+pub record FitsSome (key : FrameView) : Type 0 where
+  pub job : LoggedJob
+  pub fits : Fits job key
+
+-- an engine has given up as many packets at each output as another
+abbrev pub gone_by : Option EngineView → List ℕ
+gone_by None = []
+gone_by (Some e) = map (λ (b : Backlog Plain). b.gone) e.outputs
+
+abbrev pub gone_in : PartView → List ℕ
+gone_in p = gone_by p.engine
+
+abbrev pub an_engine : EngineView → PartView
+an_engine e = record { engine = Some e; intake = None }
+
+abbrev pub an_intake : IntakeView → PartView
+an_intake i = record { engine = None; intake = Some i }
+
+-- a part is of the kind of its owner
+abbrev pub IsKind : Whose → PartView → Type 0
+IsKind (intake_of consumer) p = (i : IntakeView) × (p ≡ an_intake i)
+IsKind (engine_of owner) p = (e : EngineView) × (p ≡ an_engine e)
+
+-- the number of the first output's stream
+abbrev pub first_by : Option EngineView → ℕ
+first_by None = 0
+first_by (Some e) = e.first
+
+abbrev pub first_in : PartView → ℕ
+first_in p = first_by p.engine
+
+-- how many packets came to a port
+abbrev pub count_by : Option IntakeView → ℕ → ℕ
+count_by None port = 0
+count_by (Some i) port = count_of (port_queue i.waits port)
+
+abbrev pub count_in : PartView → ℕ → ℕ
+count_in p port = count_by p.intake port
+
+-- how many sets were claimed of an intake
+abbrev pub claimed_by : Option IntakeView → ℕ
+claimed_by None = 0
+claimed_by (Some i) = i.claimed
+
+-- a part came of the one that was shared at this word: it is of its kind and lawful for each job for which all that was shared is, its
+-- standing grew, and it gave up no packet. Of the collector's intake, whose word is behind those of the nodes, nothing was claimed.
+pub record Follows (key : FrameView) (word : ℕ) (p : PartView) : Type 0 where
+  pub kind : IsKind (owner_in key word) p
+  pub lawful : (job : LoggedJob) → Fits job key → LawfulPart job (owner_in key word) p
+  pub grows : PartGrows (at key word) p
+  pub gave_up : gone_in p ≡ gone_in (at key word)
+  pub first : first_in p ≡ first_in (at key word)
+  pub collector : word ≡ 2 * nodes_in key → claimed_by p.intake ≡ claimed_by (at key word).intake
+
+-- an engine and an intake agree
+abbrev pub AgreeParts : PartView → PartView → Type 0
+AgreeParts p q = (e : EngineView) (i : IntakeView) → p.engine ≡ Some e → q.intake ≡ Some i → Agree e i
+
+-- a work is out of an engine
+abbrev pub IsOutIn : PartView → WorkView → Type 0
+IsOutIn p w = (e : EngineView) × (p.engine ≡ Some e) × IsOut e w
+
+-- the entry of a number has no outcome
+pub record IsMissingAt (e : EngineView) (number : ℕ) : Type 0 where
+  pub place : ℕ
+  pub number_is : number ≡ e.laid + place
+  pub entry : EntryView
+  pub there : slice_get e.window place ≡ Some entry
+  pub missing : entry.outcome ≡ None
+
+abbrev pub IsMissingIn : PartView → ℕ → Type 0
+IsMissingIn p number = (e : EngineView) × (p.engine ≡ Some e) × IsMissingAt e number
+
+-- whose engine writes a stream
+abbrev pub writer_by : Option Producer → Owner
+writer_by None = of_input 0
+writer_by (Some (Input n)) = of_input n
+writer_by (Some (Node n port)) = of_node n
+
+-- the word of the engine from which an edge leads
+abbrev pub source_at : Plan → Edge → ℕ
+source_at plan e = word_at (length plan.nodes) (engine_of (writer_by (option_map (λ s. s.producer) (slice_get plan.streams e.stream))))
+
+-- a word is that of an engine of the frame
+pub record IsSource (key : FrameView) (word : ℕ) : Type 0 where
+  pub owner : Owner
+  pub is : owner_in key word ≡ engine_of owner
+  pub within : word < length key.parts
+
+-- no more came to the port of an edge than was laid at its output
+abbrev pub JoinedParts : PartView → Edge → PartView → Type 0
+JoinedParts p e q = (g : EngineView) (i : IntakeView) → p.engine ≡ Some g → q.intake ≡ Some i → HasGrown (port_queue i.waits e.port) (output_at g e)
+
+-- what the rule wants of the plan: edges lead from engines to intakes, and no two to one port; and an engine still keeps the first
+-- packet that a port hasn't got
+pub record EdgesFit (key : FrameView) : Type 0 where
+  pub sources : (k : ℕ) (e : Edge) → slice_get key.plan.edges k ≡ Some e → IsSource key (source_at key.plan e)
+  pub consumers : (k : ℕ) (e : Edge) → slice_get key.plan.edges k ≡ Some e → e.node ≤ nodes_in key
+  pub ports : (k : ℕ) (e : Edge) → slice_get key.plan.edges k ≡ Some e → slice_get (ports_of key.plan e.node) e.port ≡ Some e.stream
+  pub leaves : (k : ℕ) (e : Edge) → slice_get key.plan.edges k ≡ Some e → (first_in (at key (source_at key.plan e)) ≤ e.stream) × (e.stream < first_in (at key (source_at key.plan e)) + length (gone_in (at key (source_at key.plan e))))
+  pub kept : (k : ℕ) (e : Edge) → slice_get key.plan.edges k ≡ Some e → slice_index (gone_in (at key (source_at key.plan e))) (e.stream - first_in (at key (source_at key.plan e))) ≤ count_in (at key (2 * e.node)) e.port
+  pub apart : (k l : ℕ) (e x : Edge) → k ≢ l → slice_get key.plan.edges k ≡ Some e → slice_get key.plan.edges l ≡ Some x → e.node ≡ x.node → e.port ≢ x.port

@@ -1,0 +1,54 @@
+-- Sets of a node that are worked on one after the other, while both turns of the node are held.
+use Rattle.std.specs.Prelude.{◌≡◌, ℕ, zero, suc, ◌+◌, ◌⊎◌, None}
+use Rattle.mg_node.specs.Views.{IntakeView, WorkView, PerformedView, OutcomeView, EngineView}
+use Rattle.mg_node.specs.declared.claimed.Claimed.TheVariants.{Work, Answered, NotReady, InFlightFull, Draining, Ended, OutOfMemory}
+use Rattle.mg_node.specs.Running.{IsPerformed}
+use Rattle.mg_node.specs.Shelves.{shelved, outcome_of}
+use Rattle.mg_node.specs.Claims.{Claims}
+use Rattle.mg_node.specs.Commits.{Commits}
+
+-- a work is claimed, performed and committed, so many sets are laid with it
+pub record Works (laid : ℕ) (engine now : EngineView) (intake intake_now : IntakeView) : Type 0 where
+  pub work : WorkView
+  pub claimed : EngineView
+  pub performed : PerformedView
+  pub claims : Claims {C = Unit {0}} (Work work) engine claimed intake intake_now
+  pub performs : IsPerformed work performed
+  pub commits : Commits (outcome_of performed) laid claimed now
+
+-- one round: a work, or an answer of a loopback, which is laid at once
+abbrev pub Round : ℕ → EngineView → EngineView → IntakeView → IntakeView → Type 0
+Round laid engine now intake intake_now =
+    Works laid engine now intake intake_now ⊎ ((laid ≡ 1) × Claims {C = Unit {0}} Answered engine now intake intake_now)
+
+-- so many rounds one after the other, and so many sets that they laid
+abbrev pub Rounds : ℕ → ℕ → EngineView → EngineView → IntakeView → IntakeView → Type 0
+Rounds zero laid engine now intake intake_now = (laid ≡ 0) × (now ≡ engine) × (intake_now ≡ intake)
+Rounds (suc n) laid engine now intake intake_now =
+    (before : ℕ) × (more : ℕ) × (e : EngineView) × (i : IntakeView) × (laid ≡ before + more) × Rounds n before engine e intake i × Round more e now i intake_now
+
+-- what comes of a work without a commit: it wasn't run, or it was performed
+abbrev pub IsOutcomeOf : WorkView → OutcomeView → Type 0
+IsOutcomeOf work outcome = (outcome ≡ record { work = work; answer = None }) ⊎ ((p : PerformedView) × IsPerformed work p × (outcome ≡ outcome_of p))
+
+-- a work is claimed and finds no memory, so it stands in its window again
+pub record FindsNone (engine now : EngineView) (intake intake_now : IntakeView) : Type 0 where
+  pub work : WorkView
+  pub claimed : EngineView
+  pub outcome : OutcomeView
+  pub claims : Claims {C = Unit {0}} (Work work) engine claimed intake intake_now
+  pub of : IsOutcomeOf work outcome
+  pub shelves : now ≡ shelved claimed outcome
+
+-- a claim gives nothing, and nothing has changed
+abbrev pub GivesNone : EngineView → EngineView → IntakeView → IntakeView → Type 0
+GivesNone engine now intake intake_now =
+    Claims {C = Unit {0}} NotReady engine now intake intake_now
+    ⊎ (Claims {C = Unit {0}} InFlightFull engine now intake intake_now
+    ⊎ (Claims {C = Unit {0}} Draining engine now intake intake_now
+    ⊎ (Claims {C = Unit {0}} Ended engine now intake intake_now
+    ⊎ Claims {C = Unit {0}} OutOfMemory engine now intake intake_now)))
+
+-- why rounds end
+abbrev pub Stops : EngineView → EngineView → IntakeView → IntakeView → Type 0
+Stops engine now intake intake_now = GivesNone engine now intake intake_now ⊎ FindsNone engine now intake intake_now

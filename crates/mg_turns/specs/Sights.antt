@@ -1,0 +1,53 @@
+-- What a seat knows of the words before a call and after it.
+use Rattle.std.specs.Prelude.{◌≡◌, ℕ, ◌+◌, ◌*◌, ◌⊎◌, ◌∷◌, Option, None, Some}
+use Rattle.mg_node.specs.Views.{IntakeView, WorkView, EngineView}
+use Rattle.mg_node.specs.Lawful.{Agree}
+use Rattle.mg_node.specs.declared.claimed.Claimed.{Claimed}
+use Rattle.mg_node.specs.declared.claimed.Claimed.TheVariants.{Work}
+use Rattle.mg_turns.specs.Parts.{PartView, an_engine, an_intake, Follows}
+use Rattle.mg_turns.specs.Turns.{Sight}
+use Rattle.mg_turns.specs.Rule.{view, Sights}
+use Rattle.mg_turns.specs.declared.view.View.{View}
+
+-- a part that a call found at a word: it came of the one that was shared there, and it is no less than any sight that the seat had
+pub record Finds (v : View) (word : ℕ) (p : PartView) : Type 0 where
+  pub follows : Follows v.key word p
+  pub sights : Sights word p v.seen
+
+-- a sight of a word
+abbrev pub sight : ℕ → PartView → Sight
+sight word p = record { word = word; part = p }
+
+-- the seat knows one word more as held: it counts one more miss, and names the word. A part that it had by then is back as it was
+-- found, and the seat has a sight of it.
+abbrev pub Missed : ℕ → ℕ → ℕ → View → View → Type 0
+Missed first second word v w =
+    ((word ≡ first) × (w ≡ view v.key v.portion (v.misses + 1) v.splits (Some first) v.turns v.work v.seen))
+    ⊎ ((word ≡ second) × (p : PartView) × Finds v first p × (w ≡ view v.key v.portion (v.misses + 1) v.splits (Some second) v.turns v.work (sight first p ∷ v.seen)))
+
+-- the seat left the part of one word, and has this work
+abbrev pub left_one : View → ℕ → PartView → Option WorkView → View
+left_one v word p work = view v.key v.portion v.misses v.splits v.missed v.turns work (sight word p ∷ v.seen)
+
+-- the seat left the parts of two words
+abbrev pub left_two : View → ℕ → PartView → ℕ → PartView → Option WorkView → View
+left_two v word p other q work = view v.key v.portion v.misses v.splits v.missed v.turns work (sight word p ∷ sight other q ∷ v.seen)
+
+-- the engine and the intake of a node, as a call found them
+pub record FindsCell (v : View) (node : ℕ) (engine : EngineView) (intake : IntakeView) : Type 0 where
+  pub engine_found : Finds v (2 * node + 1) (an_engine engine)
+  pub intake_found : Finds v (2 * node) (an_intake intake)
+  pub agree : Agree engine intake
+
+-- and as it left them
+abbrev pub cell_left : View → ℕ → EngineView → IntakeView → Option WorkView → View
+cell_left v node engine intake work = left_two v (2 * node + 1) (an_engine engine) (2 * node) (an_intake intake) work
+
+-- the turn of one word was missed
+abbrev pub MissedOne : ℕ → ℕ → View → View → Type 0
+MissedOne only word v w = (word ≡ only) × (w ≡ view v.key v.portion (v.misses + 1) v.splits (Some only) v.turns v.work v.seen)
+
+-- the work that a seat has after a claim: the one that it gave, or the one before
+abbrev pub has_after : {X : Type 0} → Claimed X → Option WorkView → Option WorkView
+has_after (Work w) had = Some w
+has_after _ had = had

@@ -1,0 +1,32 @@
+use crate::Part;
+use mg_calc::{Calculator, Plan};
+use std::marker::Model;
+
+/// A plan and the parts of its net, each at the place of its word: with n nodes, the intake of node i at 2i and its engine at 2i + 1,
+/// the collector's intake at 2n, and the engine of graph input j at 2n + 1 + j.
+#[derive(Drop)]
+pub struct Frame<C: Calculator> {
+    pub(crate) plan: Plan,
+    pub(crate) parts: Vec<Part<C>>,
+}
+
+impl<C: Calculator> Model for Frame<C> {
+    ghost use Rattle.mg_turns.specs.Parts.{FrameView, frame_code};
+
+    ghost Value = { FrameView };
+
+    ghost coded = { frame_code };
+
+    ghost view = { λ f. record { plan = f.plan; parts = f.parts.items } };
+}
+
+impl<C: Calculator> Frame<C> {
+    ghost use Rattle.std.specs.Prelude.{◌≡◌};
+
+    /// The frame of a plan and its parts.
+    pub fn new(plan: Plan, parts: Vec<Part<C>>) -> Frame<C>
+        ensures { result ≡ record { plan = plan; parts = parts.items } }
+    {
+        Frame { plan, parts }
+    }
+}

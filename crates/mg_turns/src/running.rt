@@ -1,0 +1,94 @@
+//! Sets that are worked on while both turns of a node are held.
+ghost use Rattle.std.specs.Prelude.{◌≡◌, MatchBool};
+ghost use Rattle.mg_node.specs.Job.{LoggedJob};
+ghost use Rattle.mg_node.specs.Lawful.{AreCell, LawfulWork, LawfulOutcome};
+ghost use Rattle.mg_node.specs.Running.{SomeJobHas};
+ghost use Rattle.mg_node.specs.Shelves.{IsOut, shelved};
+ghost use Rattle.mg_node.specs.Commits.{SomeJobHasEngine};
+ghost use Rattle.mg_turns.specs.Rounds.{Stops};
+ghost use Rattle.mg_turns.specs.Code.Running.{Returned, CellSteps, IsCommitted, IsDone, IsPutBack, SomeRound, Ran};
+
+use mg_calc::Calculator;
+use mg_edge::Gate;
+use mg_node::{Claimed, Engine, Intake, Outcome, Work, perform};
+use std::alloc::Global;
+
+/// Commits a work, or puts it back into its window where there is no memory. It tells whether the work is committed.
+fn take_in<C: Calculator>(engine: &mut Engine<C>, outcome: Outcome<C>) -> bool
+    requires out { IsOut engine.old outcome.work }
+    requires lawful { SomeJobHasEngine engine.old }
+    ensures returned { Returned engine.old engine.new outcome.work.number (λ job. LawfulOutcome job outcome) }
+    ensures came { MatchBool result (IsCommitted outcome engine.old engine.new) (engine.new ≡ shelved engine.old outcome) }
+{
+    match engine.commit(outcome) {
+        Ok(_) => true,
+        Err(outcome) => {
+            engine.shelve(outcome);
+            false
+        }
+    }
+}
+
+/// Performs a work, and commits it. It tells whether the work is committed.
+fn run_work<C: Calculator, G: Gate>(
+    alloc: Global,
+    engine: &mut Engine<C>,
+    work: Work<C>,
+    gate: &G,
+) -> bool
+    requires out { IsOut engine.old work }
+    requires some { SomeJobHas work }
+    requires lawful { SomeJobHasEngine engine.old }
+    ensures returned { Returned engine.old engine.new work.number (λ job. LawfulWork job work) }
+    ensures came { MatchBool result (IsDone work engine.old engine.new) (IsPutBack work engine.old engine.new) }
+{
+    match perform(alloc, work, gate) {
+        Ok(performed) => take_in(engine, Outcome::ran(performed)),
+        Err(work) => {
+            engine.shelve(Outcome::unrun(work));
+            false
+        }
+    }
+}
+
+/// Works on the next set of a cell, and tells whether there was one that is committed.
+fn run_set<C: Calculator, G: Gate>(
+    alloc: Global,
+    engine: &mut Engine<C>,
+    intake: &mut Intake,
+    gate: &G,
+) -> bool
+    requires { AreCell engine.old intake.old }
+    ensures steps { CellSteps engine.old engine.new intake.old intake.new }
+    ensures ran { MatchBool result (SomeRound engine.old engine.new intake.old intake.new) (Stops engine.old engine.new intake.old intake.new) }
+{
+    match engine.claim(intake) {
+        Claimed::Work(work) => run_work(alloc, engine, work, gate),
+        Claimed::Answered => true,
+        Claimed::NotReady
+        | Claimed::InFlightFull
+        | Claimed::Draining
+        | Claimed::Ended
+        | Claimed::OutOfMemory => false,
+    }
+}
+
+/// Works on at most so many sets of a cell, and tells how many.
+pub(crate) fn run_sets<C: Calculator, G: Gate>(
+    alloc: Global,
+    engine: &mut Engine<C>,
+    intake: &mut Intake,
+    most: u32,
+    gate: &G,
+) -> u32
+    requires { AreCell engine.old intake.old }
+    ensures steps { CellSteps engine.old engine.new intake.old intake.new }
+    ensures ran { Ran result most engine.old engine.new intake.old intake.new }
+{
+    for done in 0..most {
+        if !run_set(alloc, engine, intake, gate) {
+            return done;
+        }
+    }
+    most
+}

@@ -1,0 +1,108 @@
+ghost use Rattle.std.specs.Prelude.{◌≡◌, ◌<◌, ◌≤◌, ◌*◌, ◌^◌, IfOk, length, None};
+ghost use Rattle.mg_turns.specs.Parts.{nodes_in};
+
+mod appending;
+mod claiming;
+mod committing;
+mod turning;
+
+use crate::room::Room;
+use crate::rule::{Key, Law};
+use crate::seat::NetSeat;
+use crate::view::View;
+use crate::{Frame, Part};
+use atomic_table::{Refused, Table};
+use mg_calc::Calculator;
+use std::alloc::{AllocError, Global};
+use std::snapshot::Snapshot;
+
+/// A net that threads share. Each of its parts has a word, which says whether a seat has the part's turn, and a slot.
+#[derive(Drop)]
+pub struct SharedNet<C: Calculator> {
+    pub(crate) table: Table<Option<Part<C>>, View, Key<C>, Law, Global>,
+    nodes: u32,
+    size: usize,
+    // For the parts that come back.
+    room: Room<Part<C>>,
+    ghost roomy: { room.table.shared.key ≡ size },
+    ghost sized: { (table.shared.table_id.words ≡ size) × (table.shared.table_id.slots ≡ size) × (size ≤ 2 ^ 32) },
+    ghost framed: { (nodes_in table.shared.key.value ≡ nodes) × (length table.shared.key.value.parts ≡ size) × (2 * nodes < size) },
+}
+
+impl<C: Calculator> SharedNet<C> {
+    ghost use Rattle.mg_turns.specs.Rule.{first_view, Ready};
+    ghost use Rattle.mg_turns.specs.Ends.{Unshared};
+    ghost use Rattle.mg_turns.specs.Calls.{key_of, view_of, IsSeatOf};
+
+    /// How many nodes there are.
+    pub fn nodes(&self) -> u32
+        ensures { result ≡ nodes_in (key_of self.now) }
+    {
+        self.nodes
+    }
+
+    /// Shares the parts of a frame. The seat has the whole portion, 2^32.
+    pub fn share(alloc: Global, frame: Frame<C>) -> Result<(SharedNet<C>, NetSeat<C>), AllocError>
+        requires ready { Ready frame }
+        requires few { length frame.parts ≤ 2 ^ 32 }
+        ensures seat { IfOk result (λ r. IsSeatOf r.0 r.1 × (view_of r.1 ≡ first_view frame)) }
+        ensures key { IfOk result (λ r. key_of r.0 ≡ frame) }
+    {
+        let key = Snapshot::of(&frame);
+        let Frame { plan, parts } = frame;
+        let nodes = plan.nodes.len();
+        let size = parts.len();
+        let mut words = Vec::with_capacity(alloc, size)?;
+        for _ in 0..size {
+            words.push_reserved(0);
+        }
+        let mut slots = Vec::with_capacity(alloc, size)?;
+        for part in parts {
+            slots.push(Some(part))?;
+        }
+        let room = Room::new(alloc, size)?;
+        let (table, seat) = match Table::new(alloc, &words, slots, &key) {
+            Ok(made) => made,
+            Err(Refused { slots: _ }) => return Err(AllocError),
+        };
+        Ok((
+            SharedNet {
+                table,
+                nodes,
+                size,
+                room,
+            },
+            NetSeat {
+                seat,
+                portion: 1 << 32,
+                misses: 0,
+            },
+        ))
+    }
+
+    /// Gives back the parts, each at the place of its word. Every other seat was joined into this one, and it has no work.
+    pub fn unshare(self, seat: NetSeat<C>) -> Vec<Part<C>>
+        requires of { IsSeatOf self seat }
+        requires whole { (view_of seat).portion ≡ 2 ^ 32 }
+        requires free { (view_of seat).work ≡ None }
+        ensures { Unshared (key_of self) (view_of seat) result.items }
+    {
+        let SharedNet {
+            table,
+            size,
+            room,
+            ..
+        } = self;
+        let NetSeat { seat, .. } = seat;
+        let mut parts = room.open();
+        let mut closed = table.close_with(seat);
+        for i in 0..size {
+            match closed.take(i) {
+                Some(part) => parts.push_reserved(part),
+                None => unreachable!(),
+            }
+        }
+        closed.free();
+        parts
+    }
+}

@@ -1,0 +1,210 @@
+//! How turns are taken, and how they are given back with their parts.
+ghost use Rattle.std.specs.Prelude.{◌≡◌, ◌≢◌, ◌<◌, ◌≤◌, ◌+◌, ◌*◌, ◌-◌, ◌%◌, ◌∷◌, MatchOption, MatchResult, IfSome, None, Some, length};
+ghost use Rattle.atomic_table.specs.Table.{rest};
+ghost use Rattle.mg_turns.specs.Parts.{Follows, an_engine, an_intake};
+ghost use Rattle.mg_turns.specs.Rule.{word_of, has_turn};
+ghost use Rattle.mg_turns.specs.Sights.{has_after};
+ghost use Rattle.mg_turns.specs.Code.Plays.{Took, Holds, HasTurn, Returns, Kind, Taken, GivesPlainly, GivesClaim, GivesLaid, GivesBrought, gave, claimed_view, laid_view, missing, TakenPair, MissedPair, CellWords, cell_given};
+
+use super::SharedNet;
+use crate::Part;
+use crate::held::{Held, HeldCell, Pair, counted};
+use crate::rule::{After, Give, Try};
+use crate::seat::Seat;
+use mg_calc::Calculator;
+use mg_node::Claimed;
+use std::marker::Brand;
+
+impl<C: Calculator> SharedNet<C> {
+    // Takes the turn of a word, or counts a miss. It tells what the word was.
+    fn try_turn(&self, seat: &mut Seat<C>, word: u32) -> u64
+        requires { (seat.old.table_id ≡ self.now.table.shared.table_id) × (word < self.now.size) × (0 < seat.old.me.0.portion) × (has_turn word seat.old.me.0 ≡ 0) }
+        ensures id { seat.new.table_id ≡ seat.old.table_id }
+        ensures taken { result % 2 ≡ 0 → Took seat.old.me word result seat.new.me }
+        ensures missed { result % 2 ≡ 1 → seat.new.me ≡ (missing seat.old.me.0 word, seat.old.me.1) }
+    {
+        self.table.shared.fetch_or::<Try>(seat, word as usize, 1)
+    }
+
+    // Takes the part out of the slot of the turn that was taken last.
+    fn part_out(&self, seat: &mut Seat<C>, word: u32) -> Part<C>
+        requires id { seat.old.table_id ≡ self.now.table.shared.table_id }
+        requires held { Holds seat.old.me word (λ _. Unit {0}) }
+        ensures id { seat.new.table_id ≡ seat.old.table_id }
+        ensures part { seat.old.me.1 ≡ (word, Some result) ∷ rest seat.old.me.1 }
+        ensures out { seat.new.me ≡ (seat.old.me.0, (word, None) ∷ rest seat.old.me.1) }
+    {
+        match self.table.shared.exchange(seat, word as usize, None) {
+            Some(part) => part,
+            None => unreachable!(),
+        }
+    }
+
+    // Takes the turn of a word and its part, or counts a miss.
+    pub(super) fn take(&self, seat: &mut Seat<C>, word: u32) -> Option<Held<C>>
+        requires { (seat.old.table_id ≡ self.now.table.shared.table_id) × (word < self.now.size) × (0 < seat.old.me.0.portion) × (has_turn word seat.old.me.0 ≡ 0) }
+        ensures id { seat.new.table_id ≡ seat.old.table_id }
+        ensures taken { MatchOption result (seat.new.me ≡ (missing seat.old.me.0 word, seat.old.me.1)) (λ h. Taken seat.old.me word h.part seat.new.me) }
+        ensures word { IfSome result (λ h. h.word ≡ word_of seat.old.me.0.key word h.part) }
+    {
+        let found = self.try_turn(seat, word);
+        if found % 2 == 0 {
+            Some(Held {
+                part: self.part_out(seat, word),
+                word: found,
+            })
+        } else {
+            None
+        }
+    }
+
+    // Takes the turns of an engine and an intake, in this order, with their parts. Where the second is missed, the first is given back.
+    pub(super) fn take_pair(
+        &self,
+        seat: &mut Seat<C>,
+        engine: u32,
+        intake: u32,
+    ) -> Result<Pair<C>, u32>
+        requires id { (seat.old.table_id ≡ self.now.table.shared.table_id) × (engine < self.now.size) × (intake < self.now.size) × (engine ≢ intake) }
+        requires idle { (0 < seat.old.me.0.portion) × (length seat.old.me.0.turns ≡ 0) }
+        ensures id { seat.new.table_id ≡ seat.old.table_id }
+        ensures taken { MatchResult result (λ p. TakenPair seat.old.me engine p.engine.part p.engine.word intake p.intake.part p.intake.word seat.new.me) (λ word. MissedPair seat.old.me engine intake word seat.new.me) }
+    {
+        let Some(first) = self.take(seat, engine) else {
+            return Err(engine);
+        };
+        let Some(second) = self.take(seat, intake) else {
+            self.give_plain(seat, engine, first);
+            return Err(intake);
+        };
+        Ok(Pair {
+            engine: first,
+            intake: second,
+        })
+    }
+
+    // Gives back the turn that was taken last, and the part. The view is then the one that the call picks.
+    fn give_back<N: After>(&self, seat: &mut Seat<C>, word: u32, held: Held<C>)
+        requires id { (seat.old.table_id ≡ self.now.table.shared.table_id) × (word < self.now.size) }
+        requires out { seat.old.me.1 ≡ (word, None) ∷ rest seat.old.me.1 }
+        requires word { held.word ≡ word_of seat.old.me.0.key word held.part }
+        requires turn { HasTurn seat.old.me.0 word held.part }
+        requires part { Follows seat.old.me.0.key word held.part }
+        requires after { Returns seat.old.me.0 word held.part N.after × Kind seat.old.me.0 word held.part N.after }
+        ensures id { seat.new.table_id ≡ seat.old.table_id }
+        ensures after { seat.new.me ≡ (N.after, rest seat.old.me.1) }
+    {
+        let Held { part, word: new } = held;
+        drop(self.table.shared.exchange(seat, word as usize, Some(part)));
+        self.table.shared.store::<Give<N>>(seat, word as usize, new)
+    }
+
+    // Gives a part back of which nothing was claimed or laid.
+    pub(super) fn give_plain(&self, seat: &mut Seat<C>, word: u32, held: Held<C>)
+        requires id { (seat.old.table_id ≡ self.now.table.shared.table_id) × (word < self.now.size) }
+        requires word { held.word ≡ word_of seat.old.me.0.key word held.part }
+        requires gives { GivesPlainly seat.old.me word held.part }
+        ensures id { seat.new.table_id ≡ seat.old.table_id }
+        ensures gave { seat.new.me ≡ (gave seat.old.me.0 word held.part, rest seat.old.me.1) }
+    {
+        self.give_back::<Brand>(seat, word, held);
+    }
+
+    // Gives an engine back to which the seat's work came back.
+    pub(super) fn give_laid(&self, seat: &mut Seat<C>, word: u32, held: Held<C>)
+        requires id { (seat.old.table_id ≡ self.now.table.shared.table_id) × (word < self.now.size) }
+        requires word { held.word ≡ word_of seat.old.me.0.key word held.part }
+        requires gives { GivesLaid seat.old.me word held.part }
+        ensures id { seat.new.table_id ≡ seat.old.table_id }
+        ensures gave { seat.new.me ≡ (laid_view seat.old.me.0 word held.part, rest seat.old.me.1) }
+    {
+        self.give_back::<Brand>(seat, word, held);
+    }
+
+    // Gives an intake back to which more came.
+    pub(super) fn give_brought(&self, seat: &mut Seat<C>, word: u32, held: Held<C>)
+        requires id { (seat.old.table_id ≡ self.now.table.shared.table_id) × (word < self.now.size) }
+        requires word { held.word ≡ word_of seat.old.me.0.key word held.part }
+        requires gives { GivesBrought seat.old.me word held.part }
+        ensures id { seat.new.table_id ≡ seat.old.table_id }
+        ensures gave { seat.new.me ≡ (gave seat.old.me.0 word held.part, rest seat.old.me.1) }
+    {
+        self.give_back::<Brand>(seat, word, held);
+    }
+
+    // Gives an intake back; the seat's note of the engine is then what became of it.
+    fn give_noting<N: After>(
+        &self,
+        seat: &mut Seat<C>,
+        word: u32,
+        held: Held<C>,
+        _node: u32,
+        _engine: &Part<C>,
+        _claimed: &Claimed<C>,
+    )
+        requires id { (seat.old.table_id ≡ self.now.table.shared.table_id) × (word < self.now.size) }
+        requires out { seat.old.me.1 ≡ (word, None) ∷ rest seat.old.me.1 }
+        requires word { held.word ≡ word_of seat.old.me.0.key word held.part }
+        requires turn { HasTurn seat.old.me.0 word held.part }
+        requires part { Follows seat.old.me.0.key word held.part }
+        requires after { Returns seat.old.me.0 word held.part N.after × Kind seat.old.me.0 word held.part N.after }
+        ensures id { seat.new.table_id ≡ seat.old.table_id }
+        ensures after { seat.new.me ≡ (N.after, rest seat.old.me.1) }
+    {
+        self.give_back::<N>(seat, word, held);
+    }
+
+    fn give_claim(
+        &self,
+        seat: &mut Seat<C>,
+        node: u32,
+        held: Held<C>,
+        engine: &Part<C>,
+        claimed: &Claimed<C>,
+    )
+        requires id { (seat.old.table_id ≡ self.now.table.shared.table_id) × (node < self.now.nodes) }
+        requires word { held.word ≡ word_of seat.old.me.0.key (2 * node) held.part }
+        requires gives { GivesClaim seat.old.me node held.part engine.now (has_after claimed.now seat.old.me.0.work) }
+        ensures id { seat.new.table_id ≡ seat.old.table_id }
+        ensures gave { seat.new.me ≡ (claimed_view seat.old.me.0 node held.part engine.now (has_after claimed.now seat.old.me.0.work), rest seat.old.me.1) }
+    {
+        self.give_noting::<Brand>(seat, 2 * node, held, node, engine, claimed);
+    }
+
+    // Gives the intake and then the engine of a node back. The seat has then the work that was claimed, if there is one.
+    pub(super) fn give_cell(
+        &self,
+        seat: &mut Seat<C>,
+        node: u32,
+        cell: HeldCell<C>,
+        claimed: &Claimed<C>,
+    )
+        requires id { (seat.old.table_id ≡ self.now.table.shared.table_id) × (node < self.now.nodes) }
+        requires words { CellWords seat.old.me.0.key node cell.engine.value cell.engine_word cell.laid cell.intake.value cell.intake_word }
+        requires gives { GivesClaim seat.old.me node (an_intake cell.intake.value) (an_engine cell.engine.value) (has_after claimed.now seat.old.me.0.work) }
+        requires slots { rest seat.old.me.1 ≡ (2 * node + 1, None) ∷ rest (rest seat.old.me.1) }
+        requires follows { Follows seat.old.me.0.key (2 * node + 1) (an_engine cell.engine.value) }
+        ensures id { seat.new.table_id ≡ seat.old.table_id }
+        ensures gave { seat.new.me ≡ (cell_given seat.old.me.0 node (an_engine cell.engine.value) (an_intake cell.intake.value) (has_after claimed.now seat.old.me.0.work), rest (rest seat.old.me.1)) }
+    {
+        let HeldCell {
+            engine,
+            intake,
+            engine_word,
+            intake_word,
+            laid,
+        } = cell;
+        let engine_word = counted(engine_word, engine.laid() - laid);
+        let engine = Part::of_engine(engine);
+        let intake = Held {
+            part: Part::of_intake(intake),
+            word: intake_word,
+        };
+        self.give_claim(seat, node, intake, &engine, claimed);
+        let engine = Held {
+            part: engine,
+            word: engine_word,
+        };
+        self.give_plain(seat, 2 * node + 1, engine);
+    }
+}
