@@ -21,16 +21,17 @@ use Rattle.mg_answer.specs.Text.{output_of}
 use Rattle.mg_answer.specs.Told.{status_of}
 use Rattle.mg_answer.specs.Answer.{Read, Form, Telling, by_lines, output_in, Answer, ended_input, inputs_by, job_of, answer_of, IsAnswer, AnswersEnded}
 use Rattle.mg_answer.specs.Devices.{Device, device, RunDevices, run_devices, TookFront, HasRisen, Unrisen, NoneFailed}
-use Rattle.mg_answer.specs.Ran.{CameAs, CameTo, Meets, RanAll, RanShort, TookSome, Ran, IsAnswered, IsOneOf}
+use Rattle.mg_answer.specs.Status.{IsOneOf}
+use Rattle.mg_answer.specs.Ran.{CameAs, CameTo, RanAll, RanShort, TookSome, Ran, IsAnswered}
 use Rattle.mg_answer.specs.Put.{TextView, HasPut}
-use Rattle.mg_answer.specs.Wrote.{WroteAll, WroteShort, WroteBy, Wrote}
+use Rattle.mg_answer.specs.Wrote.{Meets, MetShort, WroteBy, Wrote}
 use Rattle.mg_answer.specs.Code.Answered.{WroteSome}
 use Rattle.mg_answer.specs.Code.Bounds.{open_numbers, end_bounds}
 use Rattle.mg_answer.specs.Code.Said.{all_notes}
 use Rattle.mg_answer.specs.declared.outcomes.Outcomes.{Outcomes}
 use Rattle.mg_answer.specs.Code.Gathered.{Gathered}
-use Rattle.mg_answer.specs.declared.run_status.RunStatus.{RunStatus}
-use Rattle.mg_answer.specs.declared.run_status.RunStatus.TheVariants.{Good, LineRefused, NodeFault, Stalled, ReadFault, WriteFault, OutOfMemory}
+use Rattle.mg_answer.specs.declared.status.Status.{Status}
+use Rattle.mg_answer.specs.declared.status.Status.TheVariants.{Good, StoreFault, Usage, GraphRefused, LineRefused, NodeFault, Stalled, ReadFault, WriteFault, OutOfMemory}
 use Rattle.mg_answer.proofs.Writing.{front-sent, put-sent}
 use Rattle.mg_answer.proofs.Telling.{open-stalled, bounds-told}
 
@@ -51,9 +52,9 @@ is-answer report plan inputs end read streams is ended solution = record {
   is = ap (λ (i : Inputs). answer_of (by_lines report) (plain_job plan i) end streams) is ∙ ap (λ (e : FeedEnd). answer_of (by_lines report) (job_of plan read) e streams) ended;
 }
 
-ran-all : (report : Bool) (plan : Plan) (input : Device SourceTold) (end : FeedEnd) (inputs : Inputs) (status : RunStatus) (output notes : Device SinkTold) (streams : List (StreamPrefix Plain))
+ran-all : (report : Bool) (plan : Plan) (input : Device SourceTold) (end : FeedEnd) (inputs : Inputs) (status : Status) (output notes : Device SinkTold) (streams : List (StreamPrefix Plain))
     → Gathered (inputs_of plan) input end inputs → IsSolution (plain_job plan inputs) streams
-    → WroteAll (told report plan inputs end streams) status output notes → RanAll report plan status (run_devices input output notes)
+    → Meets (told report plan inputs end streams) status output notes → RanAll report plan status (run_devices input output notes)
 ran-all report plan input end inputs status output notes streams gathered solution wrote = record {
   read = gathered.read;
   input = gathered.came;
@@ -64,7 +65,7 @@ ran-all report plan input end inputs status output notes streams gathered soluti
 
 ran-short : (report : Bool) (plan : Plan) (input : Device SourceTold) (end : FeedEnd) (inputs : Inputs) (output notes : Device SinkTold) (streams : List (StreamPrefix Plain))
     → Gathered (inputs_of plan) input end inputs → IsSolution (plain_job plan inputs) streams
-    → WroteShort (told report plan inputs end streams) output notes → RanShort report plan (run_devices input output notes)
+    → MetShort (told report plan inputs end streams) output notes → RanShort report plan (run_devices input output notes)
 ran-short report plan input end inputs output notes streams gathered solution wrote = record {
   read = gathered.read;
   input = gathered.came;
@@ -83,11 +84,14 @@ took-some plan input end inputs output notes streams gathered solution front = r
   front = front;
 }
 
-ran-by : (report : Bool) (plan : Plan) (input : Device SourceTold) (end : FeedEnd) (inputs : Inputs) (status : RunStatus) (output notes : Device SinkTold) (streams : List (StreamPrefix Plain))
+ran-by : (report : Bool) (plan : Plan) (input : Device SourceTold) (end : FeedEnd) (inputs : Inputs) (status : Status) (output notes : Device SinkTold) (streams : List (StreamPrefix Plain))
     → Gathered (inputs_of plan) input end inputs → IsSolution (plain_job plan inputs) streams
     → WroteBy status (told report plan inputs end streams) output notes → Ran report plan status (run_devices input output notes)
 ran-by report plan input end inputs Good output notes streams gathered solution by = ran-all report plan input end inputs Good output notes streams gathered solution by
 ran-by report plan input end inputs LineRefused output notes streams gathered solution by = ran-all report plan input end inputs LineRefused output notes streams gathered solution by
+ran-by report plan input end inputs StoreFault output notes streams gathered solution by = ran-all report plan input end inputs StoreFault output notes streams gathered solution by
+ran-by report plan input end inputs Usage output notes streams gathered solution by = ran-all report plan input end inputs Usage output notes streams gathered solution by
+ran-by report plan input end inputs GraphRefused output notes streams gathered solution by = ran-all report plan input end inputs GraphRefused output notes streams gathered solution by
 ran-by report plan input end inputs NodeFault output notes streams gathered solution by = ran-all report plan input end inputs NodeFault output notes streams gathered solution by
 ran-by report plan input end inputs Stalled output notes streams gathered solution by = ran-all report plan input end inputs Stalled output notes streams gathered solution by
 ran-by report plan input end inputs ReadFault output notes streams gathered solution by = ran-all report plan input end inputs ReadFault output notes streams gathered solution by
@@ -95,7 +99,7 @@ ran-by report plan input end inputs WriteFault output notes streams gathered sol
 ran-by report plan input end inputs OutOfMemory output notes streams gathered solution by =
     inr (took-some plan input end inputs output notes streams gathered solution (front-sent true output.before output.now (output_of plan streams) by.text))
 
-pub ran-wrote : (report : Bool) (plan : Plan) (input : Device SourceTold) (end : FeedEnd) (inputs : Inputs) (status : RunStatus) (output notes : Device SinkTold)
+pub ran-wrote : (report : Bool) (plan : Plan) (input : Device SourceTold) (end : FeedEnd) (inputs : Inputs) (status : Status) (output notes : Device SinkTold)
     → Gathered (inputs_of plan) input end inputs → Wrote (by_lines report) (plain_job plan inputs) end status output notes → Ran report plan status (run_devices input output notes)
 ran-wrote report plan input end inputs status output notes gathered wrote = ran-by report plan input end inputs status output notes wrote.streams gathered wrote.solution wrote.by
 
@@ -106,7 +110,7 @@ ran-out report plan input end inputs output notes gathered (inr wrote) = inr (to
 
 -- What was written --
 
-wrote-all : (end : FeedEnd) (fs : List Fault) (ns : List ℕ) (answer : Answer) (output notes : Device SinkTold) → WroteAll answer (status_of end fs ns) output notes
+wrote-all : (end : FeedEnd) (fs : List Fault) (ns : List ℕ) (answer : Answer) (output notes : Device SinkTold) → Meets answer (status_of end fs ns) output notes
     → WroteBy (status_of end fs ns) answer output notes
 wrote-all Ended [] [] answer output notes wrote = wrote
 wrote-all Ended [] (n ∷ ns) answer output notes wrote = wrote
@@ -115,24 +119,24 @@ wrote-all (Failed lines) fs ns answer output notes wrote = wrote
 wrote-all (Refused line cause) fs ns answer output notes wrote = wrote
 wrote-all no_lines fs ns answer output notes wrote = wrote
 
-wrote-by : (end : FeedEnd) (fs : List Fault) (ns : List ℕ) (answer : Answer) (status : RunStatus) (written noted : Bool) (output notes : Device SinkTold)
+wrote-by : (end : FeedEnd) (fs : List Fault) (ns : List ℕ) (answer : Answer) (status : Status) (written noted : Bool) (output notes : Device SinkTold)
     → status ≡ status_of end fs ns → answer.status ≡ status_of end fs ns → Sent written output.before output.now answer.output → Sent noted notes.before notes.now answer.notes
     → WroteBy (if written && noted then status else WriteFault) answer output notes
 wrote-by end fs ns answer status true true output notes is told text noted =
-    subst (λ (s : RunStatus). WroteBy s answer output notes) (sym is) (wrote-all end fs ns answer output notes (record { text = text; noted = noted; told = sym told }))
+    subst (λ (s : Status). WroteBy s answer output notes) (sym is) (wrote-all end fs ns answer output notes (record { text = text; noted = noted; told = sym told }))
 wrote-by end fs ns answer status true false output notes is told text noted =
     record { rose = inr noted.rose; front = front-sent true output.before output.now answer.output text; whole = inr text }
 wrote-by end fs ns answer status false noted' output notes is told text noted =
     record { rose = inl text.rose; front = front-sent false output.before output.now answer.output text; whole = inl text.rose }
 
-wrote : (telling : Telling) (job : Job) (end : FeedEnd) (streams : List (StreamPrefix Plain)) (status result : RunStatus) (written noted : Bool) (output notes : Device SinkTold)
+wrote : (telling : Telling) (job : Job) (end : FeedEnd) (streams : List (StreamPrefix Plain)) (status result : Status) (written noted : Bool) (output notes : Device SinkTold)
     → IsSolution job streams → status ≡ status_of end (faults job streams) (stalled streams) → Sent written output.before output.now (answer_of telling job end streams).output
     → Sent noted notes.before notes.now (answer_of telling job end streams).notes → result ≡ (if written && noted then status else WriteFault)
     → Wrote telling job end result output notes
 wrote telling job end streams status result written noted output notes solution is text notes_text result_is = record {
   streams = streams;
   solution = solution;
-  by = subst (λ (s : RunStatus). WroteBy s (answer_of telling job end streams) output notes) (sym result_is)
+  by = subst (λ (s : Status). WroteBy s (answer_of telling job end streams) output notes) (sym result_is)
       (wrote-by end (faults job streams) (stalled streams) (answer_of telling job end streams) status written noted output notes is refl text notes_text);
 }
 
@@ -145,7 +149,7 @@ said-of plan end outcomes report form job streams plan_is tells =
     λ i. notes_by (sym plan_is i) end (tells.faults i) (bounds i) (numbers i) ++ asked_report report (report_by (sym plan_is i) (tells.sets i) (tells.ends i))
 
 -- the same, where the text was put, and the outcomes tell the rest
-pub wrote-told : (plan : Plan) (end : FeedEnd) (outcomes : Outcomes) (report : Bool) (view view' : TextView) (status result : RunStatus) (written noted : Bool) (bytes said : List ℕ)
+pub wrote-told : (plan : Plan) (end : FeedEnd) (outcomes : Outcomes) (report : Bool) (view view' : TextView) (status result : Status) (written noted : Bool) (bytes said : List ℕ)
     (before now notes_before notes_now : SinkTold) → ((first : SinkTold) (text : List ℕ) → HasPut first before view text → HasPut first now view' text)
     → (view'.failed ≡ false → view'.kept ≡ []) → written ≡ not view'.failed → status ≡ status_of end outcomes.faults (open_numbers outcomes.ends.items)
     → said ≡ all_notes plan end outcomes report → bytes ≡ said → Sent noted notes_before notes_now bytes → result ≡ (if written && noted then status else WriteFault)
@@ -172,26 +176,29 @@ wrote-front job streams output solution front = inr (record { streams = streams;
 -- What follows --
 
 -- the status of an answer is told by how the input ended
-told-by : (report : Bool) (plan : Plan) (status : RunStatus) (all : RunDevices) (ran : RanAll report plan status all)
+told-by : (report : Bool) (plan : Plan) (status : Status) (all : RunDevices) (ran : RanAll report plan status all)
     → (fs : List Fault) × (ns : List ℕ) × (status ≡ status_of ran.read.end fs ns)
 told-by report plan status all ran =
     (faults (job_of plan ran.read) ran.is.streams, stalled ran.is.streams, ran.met.told ∙ ap (λ (a : Answer). a.status) ran.is.is)
 
 -- the input was read, unless memory ran out
-pub ran-read : (report : Bool) (plan : Plan) (status : RunStatus) (all : RunDevices) → Ran report plan status all → status ≢ OutOfMemory → (read : Read) × CameTo (inputs_of plan) all.input read
+pub ran-read : (report : Bool) (plan : Plan) (status : Status) (all : RunDevices) → Ran report plan status all → status ≢ OutOfMemory → (read : Read) × CameTo (inputs_of plan) all.input read
 ran-read report plan Good all ran some = (ran.read, ran.input)
 ran-read report plan LineRefused all ran some = (ran.read, ran.input)
+ran-read report plan StoreFault all ran some = (ran.read, ran.input)
+ran-read report plan Usage all ran some = (ran.read, ran.input)
+ran-read report plan GraphRefused all ran some = (ran.read, ran.input)
 ran-read report plan NodeFault all ran some = (ran.read, ran.input)
 ran-read report plan Stalled all ran some = (ran.read, ran.input)
 ran-read report plan ReadFault all ran some = (ran.read, ran.input)
 ran-read report plan WriteFault all ran some = (ran.read, ran.input)
 ran-read report plan OutOfMemory all ran some = absurd (some refl)
 
-abbrev pub ended_statuses : List RunStatus
+abbrev pub ended_statuses : List Status
 ended_statuses = Good ∷ NodeFault ∷ Stalled ∷ []
 
 -- a status of a run whose input ended comes of no other end
-end-by : (end : FeedEnd) (status : RunStatus) (fs : List Fault) (ns : List ℕ) (graph : GraphInputs) (input : Device SourceTold) (came : List ℕ) (read : Read)
+end-by : (end : FeedEnd) (status : Status) (fs : List Fault) (ns : List ℕ) (graph : GraphInputs) (input : Device SourceTold) (came : List ℕ) (read : Read)
     → status ≡ status_of end fs ns → IsOneOf status ended_statuses → CameAs end graph input came read → EndCame input.before input.now
 end-by Ended status fs ns graph input came read is one by = by.0
 end-by (Failed lines) status fs ns graph input came read is (inl e) by = cc
@@ -204,12 +211,12 @@ end-by (Refused line cause) status fs ns graph input came read is (inr (inr (inl
 end-by (Refused line cause) status fs ns graph input came read is (inr (inr (inr e))) by = absurd e
 end-by no_lines status fs ns graph input came read is one by = absurd by
 
-all-ended : (report : Bool) (plan : Plan) (status : RunStatus) (all : RunDevices) → RanAll report plan status all → IsOneOf status ended_statuses → EndCame all.input.before all.input.now
+all-ended : (report : Bool) (plan : Plan) (status : Status) (all : RunDevices) → RanAll report plan status all → IsOneOf status ended_statuses → EndCame all.input.before all.input.now
 all-ended report plan status all ran one =
     let told = told-by report plan status all ran in
     end-by ran.read.end status told.0 told.1 (inputs_of plan) all.input ran.input.came ran.read told.2 one ran.input.by
 
-no-one : (status : RunStatus) → (status ≡ WriteFault) ⊎ (status ≡ OutOfMemory) → IsOneOf status ended_statuses → ⊥
+no-one : (status : Status) → (status ≡ WriteFault) ⊎ (status ≡ OutOfMemory) → IsOneOf status ended_statuses → ⊥
 no-one status (inl e) (inl f) = cc
 no-one status (inl e) (inr (inl f)) = cc
 no-one status (inl e) (inr (inr (inl f))) = cc
@@ -219,9 +226,12 @@ no-one status (inr e) (inr (inl f)) = cc
 no-one status (inr e) (inr (inr (inl f))) = cc
 no-one status (inr e) (inr (inr (inr f))) = f
 
-pub ran-ended : (report : Bool) (plan : Plan) (status : RunStatus) (all : RunDevices) → Ran report plan status all → IsOneOf status ended_statuses → EndCame all.input.before all.input.now
+pub ran-ended : (report : Bool) (plan : Plan) (status : Status) (all : RunDevices) → Ran report plan status all → IsOneOf status ended_statuses → EndCame all.input.before all.input.now
 ran-ended report plan Good all ran one = all-ended report plan Good all ran one
 ran-ended report plan LineRefused all ran one = all-ended report plan LineRefused all ran one
+ran-ended report plan StoreFault all ran one = all-ended report plan StoreFault all ran one
+ran-ended report plan Usage all ran one = all-ended report plan Usage all ran one
+ran-ended report plan GraphRefused all ran one = all-ended report plan GraphRefused all ran one
 ran-ended report plan NodeFault all ran one = all-ended report plan NodeFault all ran one
 ran-ended report plan Stalled all ran one = all-ended report plan Stalled all ran one
 ran-ended report plan ReadFault all ran one = all-ended report plan ReadFault all ran one
@@ -239,24 +249,27 @@ one-unrisen a b more un = absurd (omega (arith, more, un.0, un.1))
 pub rose-unrisen : (a b : ℕ) → Rose a b → Unrisen a b → ⊥
 rose-unrisen a b rose un = absurd (omega (arith, rose, un.0, un.1))
 
-abbrev pub read_statuses : List RunStatus
+abbrev pub read_statuses : List Status
 read_statuses = ReadFault ∷ WriteFault ∷ OutOfMemory ∷ []
 
-failed-by : (end : FeedEnd) (status : RunStatus) (fs : List Fault) (ns : List ℕ) (before now : SourceTold) (graph : GraphInputs) (input : Device SourceTold) (came : List ℕ) (read : Read)
+failed-by : (end : FeedEnd) (status : Status) (fs : List Fault) (ns : List ℕ) (before now : SourceTold) (graph : GraphInputs) (input : Device SourceTold) (came : List ℕ) (read : Read)
     → status ≡ status_of end fs ns → FailedBy end before now → CameAs end graph input came read → HasRisen before.faults now.faults → IsOneOf status read_statuses
 failed-by Ended status fs ns before now graph input came read is un by risen = absurd (steady-risen before.faults now.faults un.steady risen)
 failed-by (Failed lines) status fs ns before now graph input came read is un by risen = inl is
 failed-by (Refused line cause) status fs ns before now graph input came read is un by risen = absurd (steady-risen before.faults now.faults un.steady risen)
 failed-by no_lines status fs ns before now graph input came read is un by risen = absurd by
 
-all-risen : (report : Bool) (plan : Plan) (status : RunStatus) (all : RunDevices) → RanAll report plan status all → HasRisen all.input.before.faults all.input.now.faults → IsOneOf status read_statuses
+all-risen : (report : Bool) (plan : Plan) (status : Status) (all : RunDevices) → RanAll report plan status all → HasRisen all.input.before.faults all.input.now.faults → IsOneOf status read_statuses
 all-risen report plan status all ran risen =
     let told = told-by report plan status all ran in
     failed-by ran.read.end status told.0 told.1 all.input.before all.input.now (inputs_of plan) all.input ran.input.came ran.read told.2 ran.input.faults ran.input.by risen
 
-pub read-risen : (report : Bool) (plan : Plan) (status : RunStatus) (all : RunDevices) → Ran report plan status all → HasRisen all.input.before.faults all.input.now.faults → IsOneOf status read_statuses
+pub read-risen : (report : Bool) (plan : Plan) (status : Status) (all : RunDevices) → Ran report plan status all → HasRisen all.input.before.faults all.input.now.faults → IsOneOf status read_statuses
 read-risen report plan Good all ran risen = all-risen report plan Good all ran risen
 read-risen report plan LineRefused all ran risen = all-risen report plan LineRefused all ran risen
+read-risen report plan StoreFault all ran risen = all-risen report plan StoreFault all ran risen
+read-risen report plan Usage all ran risen = all-risen report plan Usage all ran risen
+read-risen report plan GraphRefused all ran risen = all-risen report plan GraphRefused all ran risen
 read-risen report plan NodeFault all ran risen = all-risen report plan NodeFault all ran risen
 read-risen report plan Stalled all ran risen = all-risen report plan Stalled all ran risen
 read-risen report plan ReadFault all ran risen = all-risen report plan ReadFault all ran risen
@@ -266,13 +279,16 @@ read-risen report plan OutOfMemory all ran risen = inr (inr (inl refl))
 abbrev pub WriteRisen : RunDevices → Type 0
 WriteRisen all = HasRisen all.output.before.faults all.output.now.faults ⊎ HasRisen all.notes.before.faults all.notes.now.faults
 
-write-steady : (report : Bool) (plan : Plan) (status : RunStatus) (all : RunDevices) → RanAll report plan status all → WriteRisen all → ⊥
+write-steady : (report : Bool) (plan : Plan) (status : Status) (all : RunDevices) → RanAll report plan status all → WriteRisen all → ⊥
 write-steady report plan status all ran (inl risen) = steady-risen _ _ ran.met.text.steady risen
 write-steady report plan status all ran (inr risen) = steady-risen _ _ ran.met.noted.steady risen
 
-pub write-risen : (report : Bool) (plan : Plan) (status : RunStatus) (all : RunDevices) → Ran report plan status all → WriteRisen all → IsOneOf status (WriteFault ∷ OutOfMemory ∷ [])
+pub write-risen : (report : Bool) (plan : Plan) (status : Status) (all : RunDevices) → Ran report plan status all → WriteRisen all → IsOneOf status (WriteFault ∷ OutOfMemory ∷ [])
 write-risen report plan Good all ran risen = absurd (write-steady report plan Good all ran risen)
 write-risen report plan LineRefused all ran risen = absurd (write-steady report plan LineRefused all ran risen)
+write-risen report plan StoreFault all ran risen = absurd (write-steady report plan StoreFault all ran risen)
+write-risen report plan Usage all ran risen = absurd (write-steady report plan Usage all ran risen)
+write-risen report plan GraphRefused all ran risen = absurd (write-steady report plan GraphRefused all ran risen)
 write-risen report plan NodeFault all ran risen = absurd (write-steady report plan NodeFault all ran risen)
 write-risen report plan Stalled all ran risen = absurd (write-steady report plan Stalled all ran risen)
 write-risen report plan ReadFault all ran risen = absurd (write-steady report plan ReadFault all ran risen)
@@ -303,10 +319,10 @@ whole-read graph input read bytes came is un =
     let gave : Gave (Some bytes) input.now.left came.came = subst (λ (o : Option (List ℕ)). Gave o input.now.left came.came) is came.gave in
     whole-by read.end graph input came.came bytes gave.0 read is gave.1 gave.2 came.by came.faults un
 
-all-answered : (report : Bool) (plan : Plan) (status : RunStatus) (all : RunDevices) → RanAll report plan status all → NoneFailed all → IsAnswered report plan status all
+all-answered : (report : Bool) (plan : Plan) (status : Status) (all : RunDevices) → RanAll report plan status all → NoneFailed all → IsAnswered report plan status all
 all-answered report plan status all ran none = by all.input.before.left refl
   where
-    by : (o : Option (List ℕ)) → all.input.before.left ≡ o → IfSome o (λ bytes. (answer : Answer) × AnswersEnded report plan bytes answer × Meets answer status all)
+    by : (o : Option (List ℕ)) → all.input.before.left ≡ o → IfSome o (λ bytes. (answer : Answer) × AnswersEnded report plan bytes answer × Meets answer status all.output all.notes)
     by None is = tt
     by (Some bytes) is = (
       ran.answer,
@@ -321,9 +337,12 @@ short-failed report plan all ran none = by ran.short.rose
     by (inl rose) = rose-unrisen _ _ rose none.output
     by (inr rose) = rose-unrisen _ _ rose none.notes
 
-pub ran-answered : (report : Bool) (plan : Plan) (status : RunStatus) (all : RunDevices) → Ran report plan status all → NoneFailed all → status ≢ OutOfMemory → IsAnswered report plan status all
+pub ran-answered : (report : Bool) (plan : Plan) (status : Status) (all : RunDevices) → Ran report plan status all → NoneFailed all → status ≢ OutOfMemory → IsAnswered report plan status all
 ran-answered report plan Good all ran none some = all-answered report plan Good all ran none
 ran-answered report plan LineRefused all ran none some = all-answered report plan LineRefused all ran none
+ran-answered report plan StoreFault all ran none some = all-answered report plan StoreFault all ran none
+ran-answered report plan Usage all ran none some = all-answered report plan Usage all ran none
+ran-answered report plan GraphRefused all ran none some = all-answered report plan GraphRefused all ran none
 ran-answered report plan NodeFault all ran none some = all-answered report plan NodeFault all ran none
 ran-answered report plan Stalled all ran none some = all-answered report plan Stalled all ran none
 ran-answered report plan ReadFault all ran none some = all-answered report plan ReadFault all ran none

@@ -13,10 +13,11 @@ use Rattle.mg_feed.specs.declared.feed_end.FeedEnd.TheVariants.{Ended}
 use Rattle.mg_answer.specs.Summary.{summary_of}
 use Rattle.mg_answer.specs.Answer.{Answer, by_summary, generated_job, answer_of, AnswersGenerated}
 use Rattle.mg_answer.specs.Devices.{RunDevices, Unrisen}
-use Rattle.mg_answer.specs.Wrote.{WroteAll, WroteShort, Wrote}
-use Rattle.mg_answer.specs.Ran.{Meets, GeneratedAll, GeneratedShort, RanGenerated, IsOneOf}
-use Rattle.mg_answer.specs.declared.run_status.RunStatus.{RunStatus}
-use Rattle.mg_answer.specs.declared.run_status.RunStatus.TheVariants.{Good, LineRefused, NodeFault, Stalled, ReadFault, WriteFault, OutOfMemory}
+use Rattle.mg_answer.specs.Wrote.{Meets, MetShort, Wrote}
+use Rattle.mg_answer.specs.Status.{IsOneOf}
+use Rattle.mg_answer.specs.Ran.{GeneratedAll, GeneratedShort, RanGenerated}
+use Rattle.mg_answer.specs.declared.status.Status.{Status}
+use Rattle.mg_answer.specs.declared.status.Status.TheVariants.{Good, StoreFault, Usage, GraphRefused, LineRefused, NodeFault, Stalled, ReadFault, WriteFault, OutOfMemory}
 use Rattle.mg_answer.proofs.Writing.{front-sent}
 use Rattle.mg_answer.proofs.Answering.{WriteRisen, steady-risen, rose-unrisen}
 use Rattle.mg_answer.proofs.OneAnswer.{answer-of}
@@ -28,28 +29,31 @@ answer-generated report plan number is = answer-of (by_summary report) (generate
 
 -- What was written --
 
-abbrev Written : Bool → Plan → ℕ → RunStatus → RunDevices → Type 0
+abbrev Written : Bool → Plan → ℕ → Status → RunDevices → Type 0
 Written report plan number status all = Wrote (by_summary report) (generated_job plan number) Ended status all.output all.notes
 
-wrote-answer : (report : Bool) (plan : Plan) (number : ℕ) (status : RunStatus) (all : RunDevices) → (wrote : Written report plan number status all)
-    → WroteAll (answer_of (by_summary report) (generated_job plan number) Ended wrote.streams) status all.output all.notes → GeneratedAll report plan number status all
+wrote-answer : (report : Bool) (plan : Plan) (number : ℕ) (status : Status) (all : RunDevices) → (wrote : Written report plan number status all)
+    → Meets (answer_of (by_summary report) (generated_job plan number) Ended wrote.streams) status all.output all.notes → GeneratedAll report plan number status all
 wrote-answer report plan number status all wrote by = record {
   answer = answer_of (by_summary report) (generated_job plan number) Ended wrote.streams;
   is = record { streams = wrote.streams; solution = wrote.solution; is = refl };
   met = record { text = by.text; noted = by.noted; told = by.told };
 }
 
-wrote-short : (report : Bool) (plan : Plan) (number : ℕ) (status : RunStatus) (all : RunDevices) → (wrote : Written report plan number status all)
-    → WroteShort (answer_of (by_summary report) (generated_job plan number) Ended wrote.streams) all.output all.notes → GeneratedShort report plan number all
+wrote-short : (report : Bool) (plan : Plan) (number : ℕ) (status : Status) (all : RunDevices) → (wrote : Written report plan number status all)
+    → MetShort (answer_of (by_summary report) (generated_job plan number) Ended wrote.streams) all.output all.notes → GeneratedShort report plan number all
 wrote-short report plan number status all wrote by = record {
   answer = answer_of (by_summary report) (generated_job plan number) Ended wrote.streams;
   is = record { streams = wrote.streams; solution = wrote.solution; is = refl };
   short = record { rose = by.rose; front = by.front; whole = by.whole };
 }
 
-pub generated-ran : (report : Bool) (plan : Plan) (number : ℕ) (status : RunStatus) (all : RunDevices) → Written report plan number status all → RanGenerated report plan number status all
+pub generated-ran : (report : Bool) (plan : Plan) (number : ℕ) (status : Status) (all : RunDevices) → Written report plan number status all → RanGenerated report plan number status all
 generated-ran report plan number Good all wrote = wrote-answer report plan number Good all wrote wrote.by
 generated-ran report plan number LineRefused all wrote = wrote-answer report plan number LineRefused all wrote wrote.by
+generated-ran report plan number StoreFault all wrote = wrote-answer report plan number StoreFault all wrote wrote.by
+generated-ran report plan number Usage all wrote = wrote-answer report plan number Usage all wrote wrote.by
+generated-ran report plan number GraphRefused all wrote = wrote-answer report plan number GraphRefused all wrote wrote.by
 generated-ran report plan number NodeFault all wrote = wrote-answer report plan number NodeFault all wrote wrote.by
 generated-ran report plan number Stalled all wrote = wrote-answer report plan number Stalled all wrote wrote.by
 generated-ran report plan number ReadFault all wrote = wrote-answer report plan number ReadFault all wrote wrote.by
@@ -62,10 +66,10 @@ generated-ran report plan number OutOfMemory all wrote = record {
 
 -- What follows --
 
-abbrev pub MetGenerated : Bool → Plan → ℕ → RunStatus → RunDevices → Type 0
-MetGenerated report plan number status all = (answer : Answer) × AnswersGenerated report plan number answer × Meets answer status all
+abbrev pub MetGenerated : Bool → Plan → ℕ → Status → RunDevices → Type 0
+MetGenerated report plan number status all = (answer : Answer) × AnswersGenerated report plan number answer × Meets answer status all.output all.notes
 
-all-met : (report : Bool) (plan : Plan) (number : ℕ) (status : RunStatus) (all : RunDevices) → GeneratedAll report plan number status all → MetGenerated report plan number status all
+all-met : (report : Bool) (plan : Plan) (number : ℕ) (status : Status) (all : RunDevices) → GeneratedAll report plan number status all → MetGenerated report plan number status all
 all-met report plan number status all ran = (ran.answer, ran.is, ran.met)
 
 short-failed : (report : Bool) (plan : Plan) (number : ℕ) (all : RunDevices) → GeneratedShort report plan number all
@@ -76,24 +80,30 @@ short-failed report plan number all ran output notes = by ran.short.rose
     by (inl rose) = rose-unrisen _ _ rose output
     by (inr rose) = rose-unrisen _ _ rose notes
 
-pub generated-answered : (report : Bool) (plan : Plan) (number : ℕ) (status : RunStatus) (all : RunDevices) → RanGenerated report plan number status all
+pub generated-answered : (report : Bool) (plan : Plan) (number : ℕ) (status : Status) (all : RunDevices) → RanGenerated report plan number status all
     → Unrisen all.output.before.faults all.output.now.faults → Unrisen all.notes.before.faults all.notes.now.faults → status ≢ OutOfMemory → MetGenerated report plan number status all
 generated-answered report plan number Good all ran output notes some = all-met report plan number Good all ran
 generated-answered report plan number LineRefused all ran output notes some = all-met report plan number LineRefused all ran
+generated-answered report plan number StoreFault all ran output notes some = all-met report plan number StoreFault all ran
+generated-answered report plan number Usage all ran output notes some = all-met report plan number Usage all ran
+generated-answered report plan number GraphRefused all ran output notes some = all-met report plan number GraphRefused all ran
 generated-answered report plan number NodeFault all ran output notes some = all-met report plan number NodeFault all ran
 generated-answered report plan number Stalled all ran output notes some = all-met report plan number Stalled all ran
 generated-answered report plan number ReadFault all ran output notes some = all-met report plan number ReadFault all ran
 generated-answered report plan number WriteFault all ran output notes some = absurd (short-failed report plan number all ran output notes)
 generated-answered report plan number OutOfMemory all ran output notes some = absurd (some refl)
 
-write-steady : (report : Bool) (plan : Plan) (number : ℕ) (status : RunStatus) (all : RunDevices) → GeneratedAll report plan number status all → WriteRisen all → ⊥
+write-steady : (report : Bool) (plan : Plan) (number : ℕ) (status : Status) (all : RunDevices) → GeneratedAll report plan number status all → WriteRisen all → ⊥
 write-steady report plan number status all ran (inl risen) = steady-risen _ _ ran.met.text.steady risen
 write-steady report plan number status all ran (inr risen) = steady-risen _ _ ran.met.noted.steady risen
 
-pub generated-risen : (report : Bool) (plan : Plan) (number : ℕ) (status : RunStatus) (all : RunDevices) → RanGenerated report plan number status all → WriteRisen all
+pub generated-risen : (report : Bool) (plan : Plan) (number : ℕ) (status : Status) (all : RunDevices) → RanGenerated report plan number status all → WriteRisen all
     → IsOneOf status (WriteFault ∷ OutOfMemory ∷ [])
 generated-risen report plan number Good all ran risen = absurd (write-steady report plan number Good all ran risen)
 generated-risen report plan number LineRefused all ran risen = absurd (write-steady report plan number LineRefused all ran risen)
+generated-risen report plan number StoreFault all ran risen = absurd (write-steady report plan number StoreFault all ran risen)
+generated-risen report plan number Usage all ran risen = absurd (write-steady report plan number Usage all ran risen)
+generated-risen report plan number GraphRefused all ran risen = absurd (write-steady report plan number GraphRefused all ran risen)
 generated-risen report plan number NodeFault all ran risen = absurd (write-steady report plan number NodeFault all ran risen)
 generated-risen report plan number Stalled all ran risen = absurd (write-steady report plan number Stalled all ran risen)
 generated-risen report plan number ReadFault all ran risen = absurd (write-steady report plan number ReadFault all ran risen)

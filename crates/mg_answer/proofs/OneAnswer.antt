@@ -12,7 +12,7 @@ use Rattle.mg_feed.specs.declared.feed_end.FeedEnd.TheVariants.{Ended}
 use Rattle.mg_answer.specs.Told.{status_of}
 use Rattle.mg_answer.specs.Notes.{notes_by, bounds_of}
 use Rattle.mg_answer.specs.Report.{report_of, asked_report}
-use Rattle.mg_answer.specs.declared.run_status.RunStatus.TheVariants.{Good}
+use Rattle.mg_answer.specs.declared.status.Status.TheVariants.{Good}
 use Rattle.mg_calc.proofs.FirstRound.{a_solution}
 use Rattle.mg_calc.proofs.Solutions.{one_solution}
 use Rattle.mg_calc.proofs.Jobs.{any_state, job_known}

@@ -19,7 +19,7 @@ use Rattle.mg_answer.specs.Summary.{summary_of}
 use Rattle.mg_answer.specs.Report.{report_of, asked_report}
 use Rattle.mg_answer.specs.Told.{status_of}
 use Rattle.mg_answer.specs.Notes.{notes_of}
-use Rattle.mg_answer.specs.declared.run_status.RunStatus.{RunStatus}
+use Rattle.mg_answer.specs.declared.status.Status.{Status}
 
 -- The input --
 
@@ -96,7 +96,7 @@ output_in totals plan streams = summary_of plan streams
 pub record Answer : Type 0 where
   pub output : List ℕ
   pub notes : List ℕ
-  pub status : RunStatus
+  pub status : Status
 
 -- the answer that the streams of a job make, whose input ended so
 abbrev pub answer_of : Telling → Job → FeedEnd → List (StreamPrefix Plain) → Answer

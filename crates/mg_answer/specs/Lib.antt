@@ -1,5 +1,6 @@
 pub mod Shown
 pub mod Text
+pub mod Status
 pub mod Told
 pub mod Summary
 pub mod Report
@@ -7,6 +8,7 @@ pub mod Outcomes
 pub mod Notes
 pub mod Answer
 pub mod Devices
+pub mod Held
 pub mod Put
 pub mod Wrote
 pub mod Ran

@@ -21,8 +21,8 @@ use Rattle.mg_feed.specs.declared.feed_end.FeedEnd.TheVariants.{Ended, Failed, R
 use Rattle.mg_answer.specs.Shown.{shown}
 use Rattle.mg_answer.specs.Text.{name_of}
 use Rattle.mg_answer.specs.Told.{status_of}
-use Rattle.mg_answer.specs.declared.run_status.RunStatus.{RunStatus}
-use Rattle.mg_answer.specs.declared.run_status.RunStatus.TheVariants as runs
+use Rattle.mg_answer.specs.declared.status.Status.{Status}
+use Rattle.mg_answer.specs.declared.status.Status.TheVariants as runs
 
 -- The input --
 
@@ -76,6 +76,7 @@ cause_name causes.NotAscending = codes "NotAscending"
 cause_name causes.NotAlone = codes "NotAlone"
 cause_name causes.BelowOffset = codes "BelowOffset"
 cause_name causes.EmitsInClose = codes "EmitsInClose"
+cause_name causes.TooDeep = codes "TooDeep"
 
 -- when a node failed
 abbrev pub phase_text : Phase → List ℕ
@@ -107,8 +108,11 @@ stall_note plan bounds number =
     codes "stalled: " ++ shown (name_of plan number) ++ codes " " ++ time_text (slice_index_or bounds number pre_stream) ++ codes "\n"
 
 -- the streams of these numbers are noted at one status alone
-abbrev pub stall_notes : RunStatus → Plan → List ℕ → List ℕ → List ℕ
+abbrev pub stall_notes : Status → Plan → List ℕ → List ℕ → List ℕ
 stall_notes runs.Good plan bounds stalled = []
+stall_notes runs.StoreFault plan bounds stalled = []
+stall_notes runs.Usage plan bounds stalled = []
+stall_notes runs.GraphRefused plan bounds stalled = []
 stall_notes runs.LineRefused plan bounds stalled = []
 stall_notes runs.NodeFault plan bounds stalled = []
 stall_notes runs.Stalled plan bounds stalled = flat_map (stall_note plan bounds) stalled

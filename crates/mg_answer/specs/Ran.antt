@@ -1,6 +1,6 @@
 -- What a run came to, by its status.
 use Rattle.std.specs.Prelude.{◌≡◌, ℕ, ◌⊎◌, ◌++◌, List, [], ◌∷◌, Bool, true, false, IfSome}
-use Rattle.mg_edge.specs.Edge.{SourceTold, Rose}
+use Rattle.mg_edge.specs.Edge.{SourceTold}
 use Rattle.mg_edge.specs.Runs.{Gave}
 use Rattle.mg_calc.specs.declared.plan.Plan.{Plan}
 use Rattle.mg_feed.specs.Graph.{GraphInputs, inputs_of}
@@ -15,8 +15,9 @@ use Rattle.mg_answer.specs.Text.{output_of}
 use Rattle.mg_answer.specs.Summary.{summary_of}
 use Rattle.mg_answer.specs.Answer.{Read, Answer, ended_input, cut_input, job_of, generated_job, IsAnswer, AnswersEnded, AnswersGenerated}
 use Rattle.mg_answer.specs.Devices.{Device, RunDevices, Untouched, TookFront, TookText}
-use Rattle.mg_answer.specs.declared.run_status.RunStatus.{RunStatus}
-use Rattle.mg_answer.specs.declared.run_status.RunStatus.TheVariants.{WriteFault, OutOfMemory}
+use Rattle.mg_answer.specs.Wrote.{Meets, MetShort}
+use Rattle.mg_answer.specs.declared.status.Status.{Status}
+use Rattle.mg_answer.specs.declared.status.Status.TheVariants.{WriteFault, OutOfMemory}
 
 -- The input --
 
@@ -40,25 +41,13 @@ pub record CameTo (graph : GraphInputs) (input : Device SourceTold) (read : Read
 
 -- The run --
 
--- The output and the notes took an answer's texts, and the status is the answer's.
-pub record Meets (answer : Answer) (status : RunStatus) (devices : RunDevices) : Type 0 where
-  pub text : TookText devices.output answer.output
-  pub noted : TookText devices.notes answer.notes
-  pub told : status ≡ answer.status
-
 -- The run met the answer over what its input came to.
-pub record RanAll (report : Bool) (plan : Plan) (status : RunStatus) (devices : RunDevices) : Type 0 where
+pub record RanAll (report : Bool) (plan : Plan) (status : Status) (devices : RunDevices) : Type 0 where
   pub read : Read
   pub input : CameTo (inputs_of plan) devices.input read
   pub answer : Answer
   pub is : IsAnswer report plan read answer
-  pub met : Meets answer status devices
-
--- A write failed, after all was told. Where none to the output did, it took all of the answer's text.
-pub record MetShort (answer : Answer) (devices : RunDevices) : Type 0 where
-  pub rose : Rose devices.output.before.faults devices.output.now.faults ⊎ Rose devices.notes.before.faults devices.notes.now.faults
-  pub front : TookFront devices.output answer.output
-  pub whole : Rose devices.output.before.faults devices.output.now.faults ⊎ TookText devices.output answer.output
+  pub met : Meets answer status devices.output devices.notes
 
 -- A write failed, after the input was read.
 pub record RanShort (report : Bool) (plan : Plan) (devices : RunDevices) : Type 0 where
@@ -66,7 +55,7 @@ pub record RanShort (report : Bool) (plan : Plan) (devices : RunDevices) : Type 
   pub input : CameTo (inputs_of plan) devices.input read
   pub answer : Answer
   pub is : IsAnswer report plan read answer
-  pub short : MetShort answer devices
+  pub short : MetShort answer devices.output devices.notes
 
 -- The output took a front of the answer's text over what the input came to.
 pub record TookSome (plan : Plan) (devices : RunDevices) : Type 0 where
@@ -81,7 +70,7 @@ abbrev pub RanOut : Plan → RunDevices → Type 0
 RanOut plan devices = Untouched devices.output ⊎ TookSome plan devices
 
 -- A run ended with this status.
-abbrev pub Ran : Bool → Plan → RunStatus → RunDevices → Type 0
+abbrev pub Ran : Bool → Plan → Status → RunDevices → Type 0
 Ran report plan WriteFault devices = RanShort report plan devices
 Ran report plan OutOfMemory devices = RanOut plan devices
 Ran report plan status devices = RanAll report plan status devices
@@ -94,29 +83,29 @@ RanShortOf plan devices =
     → IsSolution (job_of plan (ended_input (inputs_of plan) bytes)) streams → TookFront devices.output (output_of plan streams))
 
 -- A run that writes as it goes ended with this status.
-abbrev pub RanOn : Bool → Plan → RunStatus → RunDevices → Type 0
+abbrev pub RanOn : Bool → Plan → Status → RunDevices → Type 0
 RanOn report plan WriteFault devices = RanShort report plan devices
 RanOn report plan OutOfMemory devices = RanShortOf plan devices
 RanOn report plan status devices = RanAll report plan status devices
 
 -- Where the input tells its bytes, the run met the answer over an input that ends after them.
-abbrev pub IsAnswered : Bool → Plan → RunStatus → RunDevices → Type 0
+abbrev pub IsAnswered : Bool → Plan → Status → RunDevices → Type 0
 IsAnswered report plan status devices =
-    IfSome devices.input.before.left (λ bytes. (answer : Answer) × AnswersEnded report plan bytes answer × Meets answer status devices)
+    IfSome devices.input.before.left (λ bytes. (answer : Answer) × AnswersEnded report plan bytes answer × Meets answer status devices.output devices.notes)
 
 -- A run over packets that are made --
 
 -- It met the answer over these.
-pub record GeneratedAll (report : Bool) (plan : Plan) (number : ℕ) (status : RunStatus) (devices : RunDevices) : Type 0 where
+pub record GeneratedAll (report : Bool) (plan : Plan) (number : ℕ) (status : Status) (devices : RunDevices) : Type 0 where
   pub answer : Answer
   pub is : AnswersGenerated report plan number answer
-  pub met : Meets answer status devices
+  pub met : Meets answer status devices.output devices.notes
 
 -- A write failed.
 pub record GeneratedShort (report : Bool) (plan : Plan) (number : ℕ) (devices : RunDevices) : Type 0 where
   pub answer : Answer
   pub is : AnswersGenerated report plan number answer
-  pub short : MetShort answer devices
+  pub short : MetShort answer devices.output devices.notes
 
 -- Memory ran out: the output took a front of the summary.
 pub record GeneratedSome (plan : Plan) (number : ℕ) (devices : RunDevices) : Type 0 where
@@ -125,12 +114,7 @@ pub record GeneratedSome (plan : Plan) (number : ℕ) (devices : RunDevices) : T
   pub front : TookFront devices.output (summary_of plan streams)
 
 -- A run over so many packets that are made ended with this status.
-abbrev pub RanGenerated : Bool → Plan → ℕ → RunStatus → RunDevices → Type 0
+abbrev pub RanGenerated : Bool → Plan → ℕ → Status → RunDevices → Type 0
 RanGenerated report plan number WriteFault devices = GeneratedShort report plan number devices
 RanGenerated report plan number OutOfMemory devices = GeneratedSome plan number devices
 RanGenerated report plan number status devices = GeneratedAll report plan number status devices
-
--- a status is one of these
-abbrev pub IsOneOf : RunStatus → List RunStatus → Type 0
-IsOneOf status [] = ⊥
-IsOneOf status (s ∷ ss) = (status ≡ s) ⊎ IsOneOf status ss

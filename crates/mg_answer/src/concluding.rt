@@ -16,88 +16,85 @@ ghost use Rattle.mg_answer.specs.Code.Said.{all_notes};
 use crate::notes::{put_end, put_faults, put_stalled};
 use crate::report::put_asked;
 use crate::told::{stalled_of, status_of};
-use crate::{Outcomes, OutputText, RunStatus};
-use mg_calc::Plan;
+use crate::{Outcomes, OutputText, Run, Status};
 use mg_edge::Sink;
 use mg_feed::{FeedEnd, put_all};
-use std::alloc::{AllocError, Global};
+use std::alloc::AllocError;
 
 /// Ends a run whose sets are all put: writes the rest of the output text and then the notes, with the report behind them where
 /// it is asked for, and answers the status. The notes are told of how the input ended and of what came of the nodes and streams.
 ///
 /// Where a write of the text has failed, or that of the rest does, the notes are written all the same.
 pub fn conclude<K: Sink, E: Sink>(
-    alloc: Global,
-    plan: &Plan,
+    run: &Run<'_>,
     end: FeedEnd,
     outcomes: &Outcomes,
-    report: bool,
     mut text: OutputText,
     output: &mut K,
     notes: &mut E,
-) -> Result<RunStatus, AllocError>
+) -> Result<Status, AllocError>
     requires few { length outcomes.now.ends.items < 2 ^ 32 }
-    requires many { length outcomes.now.ends.items ≡ length plan.now.streams }
-    requires sets { length outcomes.now.sets ≡ length plan.now.nodes }
-    requires nodes { All (λ fault. fault.node < length plan.now.nodes) outcomes.now.faults }
+    requires many { length outcomes.now.ends.items ≡ length run.now.plan.now.streams }
+    requires sets { length outcomes.now.sets ≡ length run.now.plan.now.nodes }
+    requires nodes { All (λ fault. fault.node < length run.now.plan.now.nodes) outcomes.now.faults }
 
     // Of whatever job of the plan the outcomes are, and of whose solution the text, in either form: its answer was written.
     ensures wrote { IfOk result (λ status. (form : Form) (job : Job) (streams : List (StreamPrefix Plain)) (first : SinkTold)
-        → job.plan ≡ plan.now → IsSolution job streams → TellsOf job streams outcomes.now
-        → HasPut first (K.told output.old) text (output_in form plan.now streams)
-        → Wrote (record { form = form; report = report }) job end status (device first (K.told output.new)) (device (E.told notes.old) (E.told notes.new))) }
+        → job.plan ≡ run.now.plan.now → IsSolution job streams → TellsOf job streams outcomes.now
+        → HasPut first (K.told output.old) text (output_in form run.now.plan.now streams)
+        → Wrote (record { form = form; report = run.now.report }) job end status (device first (K.told output.new)) (device (E.told notes.old) (E.told notes.new))) }
 
     // Memory ran out: a front of the text was taken.
     ensures front { OnErr result ((first : SinkTold) (whole : List ℕ) → HasPut first (K.told output.old) text whole
         → TookFront (device first (K.told output.new)) whole) }
 {
     text.flush(output);
-    let told = tell(alloc, plan, end, outcomes, report)?;
+    let told = tell(run, end, outcomes)?;
     let noted = put_all(notes, &told.notes);
     Ok(written_status(told.status, !text.has_failed(), noted))
 }
 
 // The status, unless a write failed.
-fn written_status(status: RunStatus, written: bool, noted: bool) -> RunStatus
-    ensures { result ≡ (if written && noted then status else RunStatus.WriteFault) }
+fn written_status(status: Status, written: bool, noted: bool) -> Status
+    ensures { result ≡ (if written && noted then status else Status.WriteFault) }
 {
     if written && noted {
         status
     } else {
-        RunStatus::WriteFault
+        Status::WriteFault
     }
 }
 
 // What is told of a solution.
 #[derive(Drop)]
 struct Told {
-    status: RunStatus,
+    status: Status,
     notes: Vec<u8>,
 }
 
 // The status and the notes of a run whose input ended so.
-fn tell(
-    alloc: Global,
-    plan: &Plan,
-    end: FeedEnd,
-    outcomes: &Outcomes,
-    report: bool,
-) -> Result<Told, AllocError>
+fn tell(run: &Run<'_>, end: FeedEnd, outcomes: &Outcomes) -> Result<Told, AllocError>
     requires few { length outcomes.now.ends.items < 2 ^ 32 }
-    requires many { length outcomes.now.ends.items ≡ length plan.now.streams }
-    requires sets { length outcomes.now.sets ≡ length plan.now.nodes }
-    requires nodes { All (λ fault. fault.node < length plan.now.nodes) outcomes.now.faults }
+    requires many { length outcomes.now.ends.items ≡ length run.now.plan.now.streams }
+    requires sets { length outcomes.now.sets ≡ length run.now.plan.now.nodes }
+    requires nodes { All (λ fault. fault.node < length run.now.plan.now.nodes) outcomes.now.faults }
     ensures status { IfOk result (λ told. told.status ≡ the_status end outcomes.now.faults (open_numbers outcomes.now.ends.items)) }
-    ensures notes { IfOk result (λ told. told.notes.items ≡ all_notes plan.now end outcomes.now report) }
+    ensures notes { IfOk result (λ told. told.notes.items ≡ all_notes run.now.plan.now end outcomes.now run.now.report) }
 {
     let faults = outcomes.faults.as_slice();
     let ends = outcomes.ends.as_slice();
-    let stalled = stalled_of(alloc, ends)?;
+    let stalled = stalled_of(run.alloc, ends)?;
     let status = status_of(end, faults, &stalled);
-    let mut notes = Vec::new(alloc);
+    let mut notes = Vec::new(run.alloc);
     put_end(&mut notes, end)?;
-    put_faults(&mut notes, plan, faults)?;
-    put_stalled(&mut notes, status, plan, ends, &stalled)?;
-    put_asked(&mut notes, report, plan, outcomes.sets.as_slice(), ends)?;
+    put_faults(&mut notes, run.plan, faults)?;
+    put_stalled(&mut notes, status, run.plan, ends, &stalled)?;
+    put_asked(
+        &mut notes,
+        run.report,
+        run.plan,
+        outcomes.sets.as_slice(),
+        ends,
+    )?;
     Ok(Told { status, notes })
 }

@@ -24,10 +24,11 @@ ghost use Rattle.mg_answer.specs.Report.{report_of, asked_report};
 ghost use Rattle.mg_answer.specs.Answer.{Read, Telling, by_lines, by_summary, Answer, ended_input, inputs_by, job_of, generated_inputs, generated_job, IsAnswerOf, AnswersEnded, AnswersCut, AnswersGenerated};
 ghost use Rattle.mg_answer.specs.Devices.{Device, device, RunDevices, HasRisen, Unrisen, NoneFailed, IsFront, TookFront};
 ghost use Rattle.mg_answer.specs.Put.{TextView, nothing_put, HasPut};
-ghost use Rattle.mg_answer.specs.Wrote.{Wrote};
-ghost use Rattle.mg_answer.specs.Ran.{CameTo, Meets, RanOn, RanGenerated, IsAnswered, IsOneOf};
-ghost use Rattle.mg_answer.specs.declared.run_status.RunStatus.{RunStatus};
-ghost use Rattle.mg_answer.specs.declared.run_status.RunStatus.TheVariants.{Good, NodeFault, Stalled, ReadFault, WriteFault, OutOfMemory};
+ghost use Rattle.mg_answer.specs.Wrote.{Wrote, Meets};
+ghost use Rattle.mg_answer.specs.Status.{IsOneOf};
+ghost use Rattle.mg_answer.specs.Ran.{CameTo, RanOn, RanGenerated, IsAnswered};
+ghost use Rattle.mg_answer.specs.declared.status.Status.{Status};
+ghost use Rattle.mg_answer.specs.declared.status.Status.TheVariants.{Good, NodeFault, Stalled, ReadFault, WriteFault, OutOfMemory};
 
 /// What good lines give the graph of a valid plan fits the plan: a prefix for each input, by the rule of streams, and a
 /// place for each side packet.
@@ -76,15 +77,15 @@ pub fn the_front_of_the_text()
 /// end, its first line that isn't good, or its first fault, and where no device failed the run met the answer; where it went
 /// well, or a node failed or a stream never closed, the input's end was met. No fault of a device hides behind another status.
 pub fn runs_that_write_as_they_go()
-    ensures read { (report : Bool) (plan : Plan) (status : RunStatus) (devices : RunDevices) → RanOn report plan status devices → status ≢ OutOfMemory
+    ensures read { (report : Bool) (plan : Plan) (status : Status) (devices : RunDevices) → RanOn report plan status devices → status ≢ OutOfMemory
         → (read : Read) × CameTo (inputs_of plan) devices.input read }
-    ensures ended { (report : Bool) (plan : Plan) (status : RunStatus) (devices : RunDevices) → RanOn report plan status devices → IsOneOf status (Good ∷ NodeFault ∷ Stalled ∷ [])
+    ensures ended { (report : Bool) (plan : Plan) (status : Status) (devices : RunDevices) → RanOn report plan status devices → IsOneOf status (Good ∷ NodeFault ∷ Stalled ∷ [])
         → EndCame devices.input.before devices.input.now }
-    ensures answered { (report : Bool) (plan : Plan) (status : RunStatus) (devices : RunDevices) → RanOn report plan status devices → NoneFailed devices → status ≢ OutOfMemory
+    ensures answered { (report : Bool) (plan : Plan) (status : Status) (devices : RunDevices) → RanOn report plan status devices → NoneFailed devices → status ≢ OutOfMemory
         → IsAnswered report plan status devices }
-    ensures read_rose { (report : Bool) (plan : Plan) (status : RunStatus) (devices : RunDevices) → RanOn report plan status devices
+    ensures read_rose { (report : Bool) (plan : Plan) (status : Status) (devices : RunDevices) → RanOn report plan status devices
         → HasRisen devices.input.before.faults devices.input.now.faults → IsOneOf status (ReadFault ∷ WriteFault ∷ OutOfMemory ∷ []) }
-    ensures write_rose { (report : Bool) (plan : Plan) (status : RunStatus) (devices : RunDevices) → RanOn report plan status devices
+    ensures write_rose { (report : Bool) (plan : Plan) (status : Status) (devices : RunDevices) → RanOn report plan status devices
         → HasRisen devices.output.before.faults devices.output.now.faults ⊎ HasRisen devices.notes.before.faults devices.notes.now.faults
         → IsOneOf status (WriteFault ∷ OutOfMemory ∷ []) }
 {}
@@ -92,10 +93,10 @@ pub fn runs_that_write_as_they_go()
 /// What follows where a run over packets that are made ended with a status: unless memory ran out, it met the answer where neither
 /// the output nor the notes failed, and no fault of them hides behind another status.
 pub fn runs_over_generated_packets()
-    ensures answered { (report : Bool) (plan : Plan) (number : ℕ) (status : RunStatus) (devices : RunDevices) → RanGenerated report plan number status devices
+    ensures answered { (report : Bool) (plan : Plan) (number : ℕ) (status : Status) (devices : RunDevices) → RanGenerated report plan number status devices
         → Unrisen devices.output.before.faults devices.output.now.faults → Unrisen devices.notes.before.faults devices.notes.now.faults → status ≢ OutOfMemory
-        → (answer : Answer) × AnswersGenerated report plan number answer × Meets answer status devices }
-    ensures write_rose { (report : Bool) (plan : Plan) (number : ℕ) (status : RunStatus) (devices : RunDevices) → RanGenerated report plan number status devices
+        → (answer : Answer) × AnswersGenerated report plan number answer × Meets answer status devices.output devices.notes }
+    ensures write_rose { (report : Bool) (plan : Plan) (number : ℕ) (status : Status) (devices : RunDevices) → RanGenerated report plan number status devices
         → HasRisen devices.output.before.faults devices.output.now.faults ⊎ HasRisen devices.notes.before.faults devices.notes.now.faults
         → IsOneOf status (WriteFault ∷ OutOfMemory ∷ []) }
 {}
@@ -103,9 +104,9 @@ pub fn runs_over_generated_packets()
 /// Where the input came to something and the answer over it was written, a run that writes as it goes ended so; and where that
 /// over packets that are made was, a run over these did.
 pub fn what_is_written_ran()
-    ensures read { (report : Bool) (plan : Plan) (read : Read) (devices : RunDevices) (status : RunStatus) → CameTo (inputs_of plan) devices.input read
+    ensures read { (report : Bool) (plan : Plan) (read : Read) (devices : RunDevices) (status : Status) → CameTo (inputs_of plan) devices.input read
         → Wrote (by_lines report) (job_of plan read) read.end status devices.output devices.notes → RanOn report plan status devices }
-    ensures generated { (report : Bool) (plan : Plan) (number : ℕ) (devices : RunDevices) (status : RunStatus)
+    ensures generated { (report : Bool) (plan : Plan) (number : ℕ) (devices : RunDevices) (status : Status)
         → Wrote (by_summary report) (generated_job plan number) ends.Ended status devices.output devices.notes → RanGenerated report plan number status devices }
 {}
 

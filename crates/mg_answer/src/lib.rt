@@ -6,6 +6,7 @@
 #![tactic(auto)]
 
 mod concluding;
+mod devices;
 pub mod laws;
 mod notes;
 mod outcomes;
@@ -13,20 +14,23 @@ mod output_summary;
 mod output_text;
 mod pieces;
 mod report;
-mod run_status;
+mod run;
 mod set_lines;
 mod shown;
 mod solving;
+mod status;
 mod told;
 mod total;
 mod total_lines;
 mod words;
 
 pub use concluding::conclude;
+pub use devices::Devices;
 pub use outcomes::{Outcomes, StreamEnd};
 pub use output_summary::OutputSummary;
 pub use output_text::OutputText;
-pub use run_status::RunStatus;
+pub use run::Run;
 pub use shown::put_shown;
 pub use solving::solve_input;
+pub use status::Status;
 pub use told::{is_ended, ran_out};

@@ -9,7 +9,7 @@ use crate::pieces::{label_at, put, put_number, put_time};
 use crate::set_lines::stream_name;
 use crate::shown::put_shown;
 use crate::words::{cause_name, line_refusal};
-use crate::{RunStatus, StreamEnd};
+use crate::{Status, StreamEnd};
 use mg_calc::{NodeFault, Phase, Plan};
 use mg_feed::{FeedEnd, LineFault};
 use mg_time::Timestamp;
@@ -103,7 +103,7 @@ fn put_phase(text: &mut Vec<u8>, phase: Phase) -> Result<(), AllocError>
 /// Puts the notes of stalled streams at a text's end, where the status asks for them.
 pub fn put_stalled(
     text: &mut Vec<u8>,
-    status: RunStatus,
+    status: Status,
     plan: &Plan,
     ends: &[StreamEnd],
     stalled: &[u32],
@@ -112,7 +112,7 @@ pub fn put_stalled(
     requires many { length ends.now ≡ length plan.now.streams }
     ensures { OnOk result (text.new.items ≡ text.old.items ++ notes.stall_notes status plan.now (end_bounds ends.now) stalled.now) }
 {
-    if status != RunStatus::Stalled {
+    if status != Status::Stalled {
         return Ok(());
     }
     for number in stalled {

@@ -10,15 +10,17 @@ ghost use Rattle.mg_answer.specs.Text.{sets_text, output_of};
 ghost use Rattle.mg_answer.specs.Report.{end_of};
 ghost use Rattle.mg_answer.specs.Put.{nothing_put, HasPut};
 ghost use Rattle.mg_answer.specs.Wrote.{Wrote};
-ghost use Rattle.mg_answer.specs.Devices.{device, run_devices, HasRisen, NoneFailed, TookFront};
-ghost use Rattle.mg_answer.specs.Ran.{Ran, CameTo, IsAnswered, IsOneOf};
+ghost use Rattle.mg_answer.specs.Devices.{device, HasRisen, NoneFailed, TookFront};
+ghost use Rattle.mg_answer.specs.Held.{told_by, SameDevices};
+ghost use Rattle.mg_answer.specs.Status.{IsOneOf};
+ghost use Rattle.mg_answer.specs.Ran.{Ran, CameTo, IsAnswered};
 ghost use Rattle.mg_answer.specs.Code.Answered.{WroteSome};
 ghost use Rattle.mg_feed.specs.Graph.{inputs_of};
 ghost use Rattle.mg_answer.specs.Answer.{Read, by_lines};
 
 use crate::concluding::conclude;
 use crate::told::{is_ended, ran_out};
-use crate::{Outcomes, OutputText, RunStatus, StreamEnd};
+use crate::{Devices, Outcomes, OutputText, Run, Status, StreamEnd};
 use mg_calc::{Inputs, Plan};
 use mg_edge::{Sink, Source};
 use mg_equations::solve;
@@ -32,82 +34,70 @@ use std::alloc::{AllocError, Global};
 ///
 /// Once a write to the output has failed nothing more is written to it; the notes are written all the same.
 pub fn solve_input<S: Source, K: Sink, E: Sink>(
-    alloc: Global,
-    plan: &Plan,
-    report: bool,
-    input: &mut S,
-    output: &mut K,
-    notes: &mut E,
-) -> RunStatus
-    requires { IsValid plan.now }
+    run: &Run<'_>,
+    devices: &mut Devices<'_, '_, '_, S, K, E>,
+) -> Status
+    requires { IsValid run.now.plan.now }
     // What each status means: the answer's, unless a write failed or memory ran out.
-    ensures ran { Ran report plan.now result (run_devices (device (S.told input.old) (S.told input.new))
-        (device (K.told output.old) (K.told output.new)) (device (E.told notes.old) (E.told notes.new))) }
+    ensures ran { Ran run.now.report run.now.plan.now result (told_by S.told K.told E.told devices.old devices.new) }
 
     // Unless memory ran out, the input was read to its end, its first line that isn't good, or its first fault.
-    ensures read { result ≢ RunStatus.OutOfMemory → (read : Read) × CameTo (inputs_of plan.now) (device (S.told input.old) (S.told input.new)) read }
+    ensures read { result ≢ Status.OutOfMemory → (read : Read) × CameTo (inputs_of run.now.plan.now) (told_by S.told K.told E.told devices.old devices.new).input read }
 
     // A run that went well, or in which a node failed or a stream never closed, met the input's end.
-    ensures ended { IsOneOf result (RunStatus.Good ∷ RunStatus.NodeFault ∷ RunStatus.Stalled ∷ []) → EndCame (S.told input.old) (S.told input.new) }
+    ensures ended { IsOneOf result (Status.Good ∷ Status.NodeFault ∷ Status.Stalled ∷ []) → EndCame (S.told devices.old.input.now) (S.told devices.new.input.now) }
 
     // No device failed and memory was had: the output's text, the notes and the status are those of the answer to the
     // input's bytes.
-    ensures answered { let all = run_devices (device (S.told input.old) (S.told input.new))
-        (device (K.told output.old) (K.told output.new)) (device (E.told notes.old) (E.told notes.new)) in
-        NoneFailed all → result ≢ RunStatus.OutOfMemory → IsAnswered report plan.now result all }
+    ensures answered { NoneFailed (told_by S.told K.told E.told devices.old devices.new) → result ≢ Status.OutOfMemory
+        → IsAnswered run.now.report run.now.plan.now result (told_by S.told K.told E.told devices.old devices.new) }
 
     // No fault of a device hides behind another status.
-    ensures read_rose { HasRisen (S.told input.old).faults (S.told input.new).faults
-        → IsOneOf result (RunStatus.ReadFault ∷ RunStatus.WriteFault ∷ RunStatus.OutOfMemory ∷ []) }
-    ensures write_rose { HasRisen (K.told output.old).faults (K.told output.new).faults ⊎ HasRisen (E.told notes.old).faults (E.told notes.new).faults
-        → IsOneOf result (RunStatus.WriteFault ∷ RunStatus.OutOfMemory ∷ []) }
+    ensures read_rose { HasRisen (S.told devices.old.input.now).faults (S.told devices.new.input.now).faults
+        → IsOneOf result (Status.ReadFault ∷ Status.WriteFault ∷ Status.OutOfMemory ∷ []) }
+    ensures write_rose { HasRisen (K.told devices.old.output.now).faults (K.told devices.new.output.now).faults
+        ⊎ HasRisen (E.told devices.old.notes.now).faults (E.told devices.new.notes.now).faults
+        → IsOneOf result (Status.WriteFault ∷ Status.OutOfMemory ∷ []) }
+    ensures same { SameDevices devices.old devices.new }
 {
-    solve_whole(alloc, plan, report, input, output, notes)
+    solve_whole(run, devices)
 }
 
 // Makes a feed for the plan, and goes on with it.
 fn solve_whole<S: Source, K: Sink, E: Sink>(
-    alloc: Global,
-    plan: &Plan,
-    report: bool,
-    input: &mut S,
-    output: &mut K,
-    notes: &mut E,
-) -> RunStatus
-    requires { IsValid plan.now }
-    ensures { Ran report plan.now result (run_devices (device (S.told input.old) (S.told input.new))
-        (device (K.told output.old) (K.told output.new)) (device (E.told notes.old) (E.told notes.new))) }
+    run: &Run<'_>,
+    devices: &mut Devices<'_, '_, '_, S, K, E>,
+) -> Status
+    requires { IsValid run.now.plan.now }
+    ensures ran { Ran run.now.report run.now.plan.now result (told_by S.told K.told E.told devices.old devices.new) }
+    ensures same { SameDevices devices.old devices.new }
 {
-    match Feed::new(alloc, plan) {
-        Ok(feed) => solve_feed(alloc, plan, report, feed, input, output, notes),
-        Err(_) => RunStatus::OutOfMemory,
+    match Feed::new(run.alloc, run.plan) {
+        Ok(feed) => solve_feed(run, feed, devices),
+        Err(_) => Status::OutOfMemory,
     }
 }
 
 // Reads the input into a feed, and answers.
 fn solve_feed<S: Source, K: Sink, E: Sink>(
-    alloc: Global,
-    plan: &Plan,
-    report: bool,
+    run: &Run<'_>,
     feed: Feed,
-    input: &mut S,
-    output: &mut K,
-    notes: &mut E,
-) -> RunStatus
-    requires plan { IsValid plan.now }
-    requires graph { (seen feed).graph ≡ inputs_of plan.now }
-    requires stands { Stands [] (nothing_taken (inputs_of plan.now)) (seen feed) }
+    devices: &mut Devices<'_, '_, '_, S, K, E>,
+) -> Status
+    requires plan { IsValid run.now.plan.now }
+    requires graph { (seen feed).graph ≡ inputs_of run.now.plan.now }
+    requires stands { Stands [] (nothing_taken (inputs_of run.now.plan.now)) (seen feed) }
     requires unread { (fed feed).read ≡ record { kept = []; ended = false } }
-    ensures { Ran report plan.now result (run_devices (device (S.told input.old) (S.told input.new))
-        (device (K.told output.old) (K.told output.new)) (device (E.told notes.old) (E.told notes.new))) }
+    ensures ran { Ran run.now.report run.now.plan.now result (told_by S.told K.told E.told devices.old devices.new) }
+    ensures same { SameDevices devices.old devices.new }
 {
-    let (end, inputs) = read_inputs(feed, input);
+    let (end, inputs) = read_inputs(feed, devices.input);
     if ran_out(end) {
-        return RunStatus::OutOfMemory;
+        return Status::OutOfMemory;
     }
-    match answer(alloc, plan, report, &inputs, end, output, notes) {
+    match answer(run, &inputs, end, devices.output, devices.notes) {
         Ok(status) => status,
-        Err(_) => RunStatus::OutOfMemory,
+        Err(_) => Status::OutOfMemory,
     }
 }
 
@@ -124,29 +114,27 @@ fn read_inputs<S: Source>(mut feed: Feed, input: &mut S) -> (FeedEnd, Inputs)
 
 // Solves a job whose input ended so, and writes its answer.
 fn answer<K: Sink, E: Sink>(
-    alloc: Global,
-    plan: &Plan,
-    report: bool,
+    run: &Run<'_>,
     inputs: &Inputs,
     end: FeedEnd,
     output: &mut K,
     notes: &mut E,
-) -> Result<RunStatus, AllocError>
-    requires plan { IsValid plan.now }
-    requires inputs { InputsFit plan.now inputs.now }
+) -> Result<Status, AllocError>
+    requires plan { IsValid run.now.plan.now }
+    requires inputs { InputsFit run.now.plan.now inputs.now }
     ensures { MatchResult result
-        (λ status. Wrote (by_lines report) (record { plan = plan.now; inputs = inputs.now }) end status (device (K.told output.old) (K.told output.new)) (device (E.told notes.old) (E.told notes.new)))
-        (λ _. WroteSome (record { plan = plan.now; inputs = inputs.now }) (device (K.told output.old) (K.told output.new))) }
+        (λ status. Wrote (by_lines run.now.report) (record { plan = run.now.plan.now; inputs = inputs.now }) end status (device (K.told output.old) (K.told output.new)) (device (E.told notes.old) (E.told notes.new)))
+        (λ _. WroteSome (record { plan = run.now.plan.now; inputs = inputs.now }) (device (K.told output.old) (K.told output.new))) }
 {
-    let solved = solve(alloc, plan, inputs)?;
-    let ends = ends_of(alloc, solved.prefixes.as_slice())?;
-    let text = write_output(alloc, plan, &solved.prefixes, output)?;
+    let solved = solve(run.alloc, run.plan, inputs)?;
+    let ends = ends_of(run.alloc, solved.prefixes.as_slice())?;
+    let text = write_output(run.alloc, run.plan, &solved.prefixes, output)?;
     let outcomes = Outcomes {
         faults: solved.faults,
         sets: solved.sets,
         ends,
     };
-    let status = conclude(alloc, plan, end, &outcomes, report, text, output, notes)?;
+    let status = conclude(run, end, &outcomes, text, output, notes)?;
     Ok(status)
 }
 

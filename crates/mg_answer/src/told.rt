@@ -4,7 +4,7 @@ ghost use Rattle.mg_answer.specs.Answer.{is_ended};
 ghost use Rattle.mg_answer.specs.Told.{status_of};
 ghost use Rattle.mg_answer.specs.Code.Bounds.{open_numbers};
 
-use crate::{RunStatus, StreamEnd};
+use crate::{Status, StreamEnd};
 use mg_calc::NodeFault;
 use mg_feed::FeedEnd;
 use mg_time::Timestamp;
@@ -25,16 +25,16 @@ pub fn stalled_of(alloc: Global, ends: &[StreamEnd]) -> Result<Vec<u32>, AllocEr
 }
 
 /// The status of a run whose input ended so, by the faults and the stalled streams.
-pub fn status_of(end: FeedEnd, faults: &[NodeFault], stalled: &[u32]) -> RunStatus
+pub fn status_of(end: FeedEnd, faults: &[NodeFault], stalled: &[u32]) -> Status
     ensures { result ≡ status_of end faults.now stalled.now }
 {
     match end {
-        FeedEnd::Failed { .. } => RunStatus::ReadFault,
-        FeedEnd::Refused { .. } => RunStatus::LineRefused,
-        FeedEnd::OutOfMemory => RunStatus::OutOfMemory,
-        FeedEnd::Ended if !faults.is_empty() => RunStatus::NodeFault,
-        FeedEnd::Ended if !stalled.is_empty() => RunStatus::Stalled,
-        FeedEnd::Ended => RunStatus::Good,
+        FeedEnd::Failed { .. } => Status::ReadFault,
+        FeedEnd::Refused { .. } => Status::LineRefused,
+        FeedEnd::OutOfMemory => Status::OutOfMemory,
+        FeedEnd::Ended if !faults.is_empty() => Status::NodeFault,
+        FeedEnd::Ended if !stalled.is_empty() => Status::Stalled,
+        FeedEnd::Ended => Status::Good,
     }
 }
 

@@ -55,5 +55,6 @@ pub fn cause_name(cause: Cause) -> &'static str
         Cause::NotAlone => "NotAlone",
         Cause::BelowOffset => "BelowOffset",
         Cause::EmitsInClose => "EmitsInClose",
+        Cause::TooDeep => "TooDeep",
     }
 }

@@ -2,6 +2,7 @@
 //! All that it does is `mg_run::run_words`, whose contract says what that is.
 #![tactic(auto)]
 
+use mg_batch::{begin_loop_box, end_loop_box};
 use mg_calc::Calculator;
 use mg_edge::{FolderStore, ReaderSource, StillGate, WriterSink};
 use mg_run::{Status, run_words, tally_box};
@@ -11,8 +12,14 @@ use std::env;
 use std::io::ErrorKind;
 use std::process::ExitCode;
 
-/// How many boxes are handed in.
-const BOXES: usize = 4;
+/// How many boxes of each kind are handed in.
+const TALLIES: usize = 4;
+
+const BEGIN_LOOPS: usize = 4;
+
+const BEGIN_CLONE_LOOPS: usize = 2;
+
+const END_LOOPS: usize = 6;
 
 fn main(rt: HostRuntime) -> ExitCode {
     let status = status_of(&rt).unwrap_or(Status::OutOfMemory);
@@ -44,9 +51,18 @@ fn words(rt: &HostRuntime) -> Result<Vec<MgText>, AllocError> {
 fn call(rt: &HostRuntime, words: &[MgText]) -> Result<Status, AllocError> {
     let alloc = rt.alloc();
     let mut boxes = Vec::new(alloc);
-    for _ in 0..BOXES {
+    for _ in 0..TALLIES {
         let tally: Box<dyn Calculator + Send> = Box::new(alloc, tally_box(alloc, false)?)?;
         boxes.push(tally)?;
+    }
+    for number in 0..BEGIN_LOOPS + BEGIN_CLONE_LOOPS {
+        let begin = begin_loop_box(alloc, number >= BEGIN_LOOPS, false)?;
+        let begin: Box<dyn Calculator + Send> = Box::new(alloc, begin)?;
+        boxes.push(begin)?;
+    }
+    for _ in 0..END_LOOPS {
+        let end: Box<dyn Calculator + Send> = Box::new(alloc, end_loop_box(alloc, false)?)?;
+        boxes.push(end)?;
     }
     let Ok(files) = rt.clone() else {
         return Err(AllocError);

@@ -4,6 +4,7 @@ use crate::choice::Choice;
 use crate::member::{list, number, numbers};
 use crate::text::{Texts, bytes_of};
 use anyhow::{Result, bail};
+use mg_batch::{begin_loop_box, end_loop_box};
 use mg_calc::Calculator;
 use mg_edge::{MemorySink, MemorySource, MemoryStore, StillGate};
 use mg_run::{run_words, tally_box};
@@ -14,7 +15,7 @@ use std::alloc::{AllocError, Global};
 // The room of a sink where a case gives none: more than most texts take.
 const ROOM: u64 = 1 << 20;
 
-// How many boxes a call is handed.
+// How many boxes that count a call is handed, beside one of each end of a loop.
 const BOXES: usize = 4;
 
 /// The names of what is counted: by the devices, and of the boxes.
@@ -66,6 +67,10 @@ pub fn make_call(alloc: Global, texts: &Texts, case: &Value, choice: Choice) -> 
         let tally: Box<dyn Calculator + Send> = Box::new(alloc, tally_box(alloc, true)?)?;
         boxes.push(tally)?;
     }
+    let begin: Box<dyn Calculator + Send> = Box::new(alloc, begin_loop_box(alloc, false, true)?)?;
+    boxes.push(begin)?;
+    let end: Box<dyn Calculator + Send> = Box::new(alloc, end_loop_box(alloc, true)?)?;
+    boxes.push(end)?;
     let status = run_words(
         alloc,
         &words,

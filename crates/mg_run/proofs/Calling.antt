@@ -1,5 +1,5 @@
 -- What a call came to.
-use Rattle.std.proofs.Common.{◌≡◌, ◌≢◌, ℕ, List, [], Bool, true, false, Option, None, Some, IfSome, ◌⊎◌, inl, inr, refl, ap, ◌∙◌, subst, arith}
+use Rattle.std.proofs.Common.{◌≡◌, ◌≢◌, ℕ, List, [], ◌∷◌, Bool, true, false, Option, None, Some, IfSome, ◌⊎◌, inl, inr, refl, ap, ◌∙◌, subst, arith}
 use Rattle.mg_edge.specs.Edge.{SourceTold, SinkTold, StoreTold, Rose, one_more}
 use Rattle.mg_calc.specs.Told.{CalculatorTold}
 use Rattle.mg_run.specs.Boxes.{RunLeaves, GeneratedLeaves}
@@ -10,22 +10,25 @@ use Rattle.mg_run.specs.Task.{Task}
 use Rattle.mg_run.specs.Files.{Files, AreFiles}
 use Rattle.mg_run.specs.Loads.{AreLoaded, LoadedAll, loads_of}
 use Rattle.mg_calc.specs.declared.plan.Plan.{Plan}
-use Rattle.mg_answer.specs.Answer as runs
+use Rattle.mg_answer.specs.Answer as answers
+use Rattle.mg_answer.specs.Told.{status_of}
+use Rattle.mg_calc.specs.Meaning.{faults, stalled}
+use Rattle.mg_calc.specs.declared.node_fault.NodeFault.{NodeFault as Fault}
+use Rattle.mg_feed.specs.declared.feed_end.FeedEnd.{FeedEnd}
+use Rattle.mg_feed.specs.declared.feed_end.FeedEnd.TheVariants.{Ended, Failed, Refused, OutOfMemory as no_lines}
 use Rattle.mg_answer.specs.Text.{output_of}
 use Rattle.mg_answer.specs.Devices as running_devices
 use Rattle.mg_answer.specs.Ran as running
-use Rattle.mg_answer.specs.declared.run_status.RunStatus.{RunStatus}
-use Rattle.mg_answer.specs.declared.run_status.RunStatus.TheVariants as ended
 use Rattle.mg_answer.proofs.Answering.{ran-answered}
 use Rattle.mg_answer.proofs.RunningOn.{on-answered}
 use Rattle.mg_answer.proofs.Generating.{generated-answered}
-use Rattle.mg_run.specs.Answer.{Answer, Job, refuse, show, run_plan, solve, generate, job_of, answer_from, IsRunAnswer, IsGeneratedAnswer}
-use Rattle.mg_run.specs.Status.{status_from}
+use Rattle.mg_run.specs.Answer.{Answer, Job, refuse, show, run_plan, solve, generate, job_of}
 use Rattle.mg_run.specs.Devices.{Device, device, Devices, devices, run_of, Untouched, Unrisen, NoneFailed, TookFront, TookText, TookPart, Noted}
-use Rattle.mg_run.specs.Call.{Meets, WasShown, Did, IsJob, CallDid, Short, ShortRun, ShortGenerated, CallShort, Called, MetAnswer, IsAnswered}
+use Rattle.mg_answer.specs.Wrote.{Meets}
+use Rattle.mg_run.specs.Call.{WasShown, Did, IsJob, CallDid, Short, ShortRun, ShortGenerated, CallShort, Called, MetAnswer, IsAnswered}
 use Rattle.mg_feed.specs.Sent.{Sent}
-use Rattle.mg_run.specs.declared.status.Status.{Status}
-use Rattle.mg_run.specs.declared.status.Status.TheVariants.{Good, StoreFault, Usage, GraphRefused, LineRefused, NodeFault, Stalled, ReadFault, WriteFault, OutOfMemory}
+use Rattle.mg_answer.specs.declared.status.Status.{Status}
+use Rattle.mg_answer.specs.declared.status.Status.TheVariants.{Good, StoreFault, Usage, GraphRefused, LineRefused, NodeFault, Stalled, ReadFault, WriteFault, OutOfMemory}
 
 -- a call that fails, after others that don't
 rose-after : (a b c : ℕ) → b ≡ a → c ≡ one_more b → Rose a c
@@ -74,48 +77,42 @@ not-shown text status all not_good not_failed shown = by shown.written
     by (inl good) = not_good good.0
     by (inr failed) = not_failed failed.0
 
--- no run ends so
-no-store : (run : RunStatus) → StoreFault ≢ status_from run
-no-store ended.Good e = cc
-no-store ended.LineRefused e = cc
-no-store ended.NodeFault e = cc
-no-store ended.Stalled e = cc
-no-store ended.ReadFault e = cc
-no-store ended.WriteFault e = cc
-no-store ended.OutOfMemory e = cc
+-- no run ends so: its status is one that is told of an input, or a write failed, or memory ran out
+no-status : (status : Status) (end : FeedEnd) (fs : List Fault) (ns : List ℕ) → (status ≡ StoreFault) ⊎ (status ≡ Usage) → status ≡ status_of end fs ns → ⊥
+no-status status Ended [] [] (inl store) is = cc
+no-status status Ended [] (n ∷ ns) (inl store) is = cc
+no-status status Ended (f ∷ fs) ns (inl store) is = cc
+no-status status (Failed lines) fs ns (inl store) is = cc
+no-status status (Refused line cause) fs ns (inl store) is = cc
+no-status status no_lines fs ns (inl store) is = cc
+no-status status Ended [] [] (inr usage) is = cc
+no-status status Ended [] (n ∷ ns) (inr usage) is = cc
+no-status status Ended (f ∷ fs) ns (inr usage) is = cc
+no-status status (Failed lines) fs ns (inr usage) is = cc
+no-status status (Refused line cause) fs ns (inr usage) is = cc
+no-status status no_lines fs ns (inr usage) is = cc
 
-no-usage : (run : RunStatus) → Usage ≢ status_from run
-no-usage ended.Good e = cc
-no-usage ended.LineRefused e = cc
-no-usage ended.NodeFault e = cc
-no-usage ended.Stalled e = cc
-no-usage ended.ReadFault e = cc
-no-usage ended.WriteFault e = cc
-no-usage ended.OutOfMemory e = cc
+not-ran : (report : Bool) (plan : Plan) (status : Status) (all : running_devices.RunDevices) → (status ≡ StoreFault) ⊎ (status ≡ Usage) → running.RanAll report plan status all → ⊥
+not-ran report plan status all other ran =
+    no-status status ran.read.end (faults (answers.job_of plan ran.read) ran.is.streams) (stalled ran.is.streams) other (ran.met.told ∙ ap (λ (a : Answer). a.status) ran.is.is)
 
--- a run for whose want of memory the call has its status
-no-memory : (run : RunStatus) → OutOfMemory ≡ status_from run → run ≡ ended.OutOfMemory
-no-memory ended.Good e = cc
-no-memory ended.LineRefused e = cc
-no-memory ended.NodeFault e = cc
-no-memory ended.Stalled e = cc
-no-memory ended.ReadFault e = cc
-no-memory ended.WriteFault e = cc
-no-memory ended.OutOfMemory e = refl
+not-generated : (report : Bool) (plan : Plan) (number : ℕ) (status : Status) (all : running_devices.RunDevices) → (status ≡ StoreFault) ⊎ (status ≡ Usage) → running.GeneratedAll report plan number status all → ⊥
+not-generated report plan number status all other ran =
+    no-status status Ended (faults (answers.generated_job plan number) ran.is.streams) (stalled ran.is.streams) other (ran.met.told ∙ ap (λ (a : Answer). a.status) ran.is.is)
 
 did-store : (job : Job) (all : Devices) → Did job StoreFault all → ⊥
 did-store (refuse note) all did = let e = did.ended in cc
 did-store (show text) all did = not-shown text StoreFault all (λ e. cc) (λ e. cc) did
-did-store (run_plan report plan) all did = no-store did.run_status did.told
-did-store (solve report plan) all did = no-store did.run_status did.told
-did-store (generate report number plan) all did = no-store did.run_status did.told
+did-store (run_plan report plan) all did = not-ran report plan StoreFault (run_of all) (inl refl) did.ran
+did-store (solve report plan) all did = not-ran report plan StoreFault (run_of all) (inl refl) did.ran
+did-store (generate report number plan) all did = not-generated report plan number StoreFault (run_of all) (inl refl) did.ran
 
 did-usage : (job : Job) (all : Devices) → Did job Usage all → ⊥
 did-usage (refuse note) all did = let e = did.ended in cc
 did-usage (show text) all did = not-shown text Usage all (λ e. cc) (λ e. cc) did
-did-usage (run_plan report plan) all did = no-usage did.run_status did.told
-did-usage (solve report plan) all did = no-usage did.run_status did.told
-did-usage (generate report number plan) all did = no-usage did.run_status did.told
+did-usage (run_plan report plan) all did = not-ran report plan Usage (run_of all) (inr refl) did.ran
+did-usage (solve report plan) all did = not-ran report plan Usage (run_of all) (inr refl) did.ran
+did-usage (generate report number plan) all did = not-generated report plan number Usage (run_of all) (inr refl) did.ran
 
 did-short : (job : Job) (all : Devices) → Did job OutOfMemory all → Short job all
 did-short (refuse note) all did = let e = did.ended in absurd (differ e)
@@ -123,10 +120,9 @@ did-short (refuse note) all did = let e = did.ended in absurd (differ e)
     differ : OutOfMemory ≡ GraphRefused → ⊥
     differ e = cc
 did-short (show text) all did = absurd (not-shown text OutOfMemory all (λ e. cc) (λ e. cc) did)
-did-short (run_plan report plan) all did = subst (λ (run : RunStatus). running.RanOn report plan run (run_of all)) (no-memory did.run_status did.told) did.ran
-did-short (solve report plan) all did = subst (λ (run : RunStatus). running.Ran report plan run (run_of all)) (no-memory did.run_status did.told) did.ran
-did-short (generate report number plan) all did =
-    inr (subst (λ (run : RunStatus). running.RanGenerated report plan number run (run_of all)) (no-memory did.run_status did.told) did.ran)
+did-short (run_plan report plan) all did = did.ran
+did-short (solve report plan) all did = did.ran
+did-short (generate report number plan) all did = inr did.ran
 
 -- what is left of the calculators that are handed in
 short-boxes : (job : Job) (task : Task) (contents : List (List ℕ)) (all : Devices) → LoadedAll task.files contents all.store → IsJob task contents job → Did job OutOfMemory all
@@ -140,7 +136,7 @@ short-boxes (run_plan report plan) task contents all loaded due did = inr (inl (
   report = report;
   plan = plan;
   due = due;
-  left = subst (λ (run : RunStatus). RunLeaves plan run all.input all.boxes) (no-memory did.run_status did.told) did.left;
+  left = did.left;
 }))
 short-boxes (generate report number plan) task contents all loaded due did = inr (inr (record {
   contents = contents;
@@ -149,7 +145,7 @@ short-boxes (generate report number plan) task contents all loaded due did = inr
   number = number;
   plan = plan;
   due = due;
-  left = subst (λ (run : RunStatus). GeneratedLeaves plan number run all.boxes) (no-memory did.run_status did.told) did.left;
+  left = did.left;
 }))
 
 call-short : (job : Job) (task : Task) (contents : List (List ℕ)) (all : Devices) → AreLoaded all.store.before.content task.files contents → IsJob task contents job
@@ -193,29 +189,12 @@ refuse_answer note = record { output = []; notes = note; status = GraphRefused }
 abbrev show_answer : List ℕ → Answer
 show_answer text = record { output = text; notes = []; status = Good }
 
-shown-answer : (text : List ℕ) (status : Status) (all : Devices) → WasShown text status all → NoneFailed all → Meets (show_answer text) status all
+shown-answer : (text : List ℕ) (status : Status) (all : Devices) → WasShown text status all → NoneFailed all → Meets (show_answer text) status all.output all.notes
 shown-answer text status all shown none = by shown.written
   where
-    by : ((status ≡ Good) × TookText all.output text) ⊎ ((status ≡ WriteFault) × TookPart all.output text) → Meets (show_answer text) status all
-    by (inl good) = record { text = good.1; noted = took-nothing all.notes shown.unnoted; ended = good.0 }
+    by : ((status ≡ Good) × TookText all.output text) ⊎ ((status ≡ WriteFault) × TookPart all.output text) → Meets (show_answer text) status all.output all.notes
+    by (inl good) = record { text = good.1; noted = took-nothing all.notes shown.unnoted; told = good.0 }
     by (inr failed) = absurd (unrisen-rose all.output.before.faults all.output.now.faults none.output failed.1.rose)
-
-run-meets : (status : Status) (run : RunStatus) (all : Devices) (answer : runs.Answer) → status ≡ status_from run → running.Meets answer run (run_of all) → Meets (answer_from answer) status all
-run-meets status run all answer told met = record { text = met.text; noted = met.noted; ended = told ∙ ap status_from met.told }
-
-graph-meets : (report : Bool) (plan : Plan) (status : Status) (run : RunStatus) (input : Option (List ℕ)) (all : Devices) → status ≡ status_from run
-    → IfSome input (λ read. (answer : runs.Answer) × runs.AnswersEnded report plan read answer × running.Meets answer run (run_of all))
-    → IfSome input (λ read. (given : Answer) × IsRunAnswer report plan read given × Meets given status all)
-graph-meets report plan status run None all told meets = tt
-graph-meets report plan status run (Some read) all told (answer, is, met) = (answer_from answer, (answer, is, refl), run-meets status run all answer told met)
-
-made-meets : (report : Bool) (number : ℕ) (plan : Plan) (status : Status) (run : RunStatus) (all : Devices) → status ≡ status_from run
-    → (answer : runs.Answer) × runs.AnswersGenerated report plan number answer × running.Meets answer run (run_of all)
-    → (given : Answer) × IsGeneratedAnswer report plan number given × Meets given status all
-made-meets report number plan status run all told (answer, is, met) = (answer_from answer, (answer, is, refl), run-meets status run all answer told met)
-
-some-run : (status : Status) (run : RunStatus) → status ≡ status_from run → status ≢ OutOfMemory → run ≢ ended.OutOfMemory
-some-run status run told some = λ is. some (told ∙ ap status_from is)
 
 none-run : (all : Devices) → NoneFailed all → running_devices.NoneFailed (run_of all)
 none-run all none = record { input = none.input; output = none.output; notes = none.notes }
@@ -224,19 +203,16 @@ did-answer : (job : Job) (status : Status) (all : Devices) → Did job status al
     → IfSome all.input.before.left (λ read. MetAnswer job read status all)
 did-answer (refuse note) status all did none some =
     if-any all.input.before.left (λ r. MetAnswer (refuse note) r status all)
-    (λ r. (refuse_answer note, refl, record { text = took-nothing all.output did.unwritten; noted = took-noted all.notes note none.notes did.noted; ended = did.ended }))
+    (λ r. (refuse_answer note, refl, record { text = took-nothing all.output did.unwritten; noted = took-noted all.notes note none.notes did.noted; told = did.ended }))
 did-answer (show text) status all did none some =
     if-any all.input.before.left (λ r. MetAnswer (show text) r status all) (λ r. (show_answer text, refl, shown-answer text status all did none))
 did-answer (run_plan report plan) status all did none some =
-    graph-meets report plan status did.run_status all.input.before.left all did.told
-    (on-answered report plan did.run_status (run_of all) did.ran (none-run all none) (some-run status did.run_status did.told some))
+    on-answered report plan status (run_of all) did.ran (none-run all none) some
 did-answer (solve report plan) status all did none some =
-    graph-meets report plan status did.run_status all.input.before.left all did.told
-    (ran-answered report plan did.run_status (run_of all) did.ran (none-run all none) (some-run status did.run_status did.told some))
+    ran-answered report plan status (run_of all) did.ran (none-run all none) some
 did-answer (generate report number plan) status all did none some =
     if-any all.input.before.left (λ r. MetAnswer (generate report number plan) r status all)
-    (λ r. made-meets report number plan status did.run_status all did.told
-    (generated-answered report plan number did.run_status (run_of all) did.ran none.output none.notes (some-run status did.run_status did.told some)))
+    (λ r. generated-answered report plan number status (run_of all) did.ran none.output none.notes some)
 
 -- The answer of the job is that of the files' bytes and the input's.
 job-answered : (task : Task) (contents : List (List ℕ)) (status : Status) (job : Job) (input : Option (List ℕ)) (all : Devices) → IsJob task contents job

@@ -1,5 +1,5 @@
 -- What a call came to, by what its words ask for.
-use Rattle.std.proofs.Common.{◌≡◌, ◌≢◌, ◌↔◌, ◌⊎◌, inl, inr, refl, sym, ap, ◌∙◌, subst, ℕ, Bool, true, false, List, [], ◌∷◌, map, length, Result, Ok, Err, IfSome}
+use Rattle.std.proofs.Common.{codes, Option, None, Some, ◌≡◌, ◌≢◌, ◌↔◌, ◌⊎◌, inl, inr, refl, sym, ap, ◌∙◌, subst, ℕ, Bool, true, false, List, [], ◌∷◌, map, length, Result, Ok, Err, IfSome}
 use Rattle.std.proofs.lemmas.Bool.{false≢true}
 use Rattle.mg_subgraph.proofs.Steps.{length-map}
 use Rattle.mg_config.specs.Config.{GraphView}
@@ -13,17 +13,17 @@ use Rattle.mg_calc.specs.declared.shape.OuterShape.{OuterShape}
 use Rattle.mg_calc.specs.Told.{CalculatorTold}
 use Rattle.mg_run.specs.Task.{Task, task}
 use Rattle.mg_run.specs.Files.{Files, graphs, no_graphs}
-use Rattle.mg_run.specs.Answer.{Job, refuse, show, run_plan, solve, generate, solve_job, check_job, verb_job, expanded_job, files_job}
+use Rattle.mg_run.specs.Answer.{Job, refuse, show, run_plan, solve, generate, solve_job, check_job, verb_job, expanded_job, files_job, free_refusal, unless_refused}
 use Rattle.mg_run.specs.Words.{Asked, asks_usage, asks_text, asks_command, command_by}
-use Rattle.mg_run.specs.Devices.{device, Devices, devices, Untouched, HasEnded, HasRisen, NoneFailed, TookText, TookPart, Noted}
+use Rattle.mg_run.specs.Devices.{Device, device, Devices, devices, Untouched, HasEnded, HasRisen, NoneFailed, TookText, TookPart, Noted}
 use Rattle.mg_run.specs.Notes.{usage_note}
 use Rattle.mg_run.specs.Call.{WasUsage, WasTold, Did, IsJob, CallDid, ShortRun, ShortGenerated, Came, Called, IsAnswered, IsOneOf}
-use Rattle.mg_run.specs.Command.{reads_input, calls_boxes}
+use Rattle.mg_run.specs.Command.{Command, reads_input, calls_boxes}
 use Rattle.mg_run.specs.declared.words.Order.{Order}
 use Rattle.mg_run.specs.declared.words.Verb.{Verb}
 use Rattle.mg_run.specs.declared.words.Verb.TheVariants.{Run, Solve, Check, Expand, Generate}
-use Rattle.mg_run.specs.declared.status.Status.{Status}
-use Rattle.mg_run.specs.declared.status.Status.TheVariants.{Good, StoreFault, Usage, GraphRefused, LineRefused, NodeFault, Stalled, ReadFault, WriteFault, OutOfMemory}
+use Rattle.mg_answer.specs.declared.status.Status.{Status}
+use Rattle.mg_answer.specs.declared.status.Status.TheVariants.{Good, StoreFault, Usage, GraphRefused, LineRefused, NodeFault, Stalled, ReadFault, WriteFault, OutOfMemory}
 use Rattle.mg_feed.specs.Sent.{Sent}
 use Rattle.mg_run.proofs.Calling.{noted-from, short-nothing, answered-from}
 use Rattle.mg_run.proofs.Ending.{ended_statuses, called-ended}
@@ -192,7 +192,11 @@ check-no-run (Ok plan) runs = runs
 check-no-run (Err fault) runs = runs
 
 solve-no-run : (report : Bool) (checked : Result Plan CheckFault) → IsRun (solve_job report checked) → ⊥
-solve-no-run report (Ok plan) runs = runs
+solve-no-run report (Ok plan) runs = by (free_refusal (codes "solve") plan) runs
+  where
+    by : (note : Option (List ℕ)) → IsRun (unless_refused note (solve report plan)) → ⊥
+    by None runs = runs
+    by (Some note) runs = runs
 solve-no-run report (Err fault) runs = runs
 
 verb-no-run : (verb : Verb) (order : Order) (outers : List OuterShape) (g : GraphView) → calls_boxes verb ≡ false → IsRun (verb_job verb order outers g) → ⊥
@@ -246,3 +250,14 @@ pub came-uncalled : (outers : List OuterShape) (asked : Asked) (status : Status)
 came-uncalled outers asks_usage status all came = tt
 came-uncalled outers (asks_text text) status all came = tt
 came-uncalled outers (asks_command command) status all came = λ is. called-uncalled status (task command outers) all is came
+
+-- The devices apart: what each tells is what those told that were held together.
+pub came_apart : (outers : List OuterShape) (asked : Asked) (status : Status) (store : Device StoreTold) (ib ia : SourceTold) (ob oa nb na : SinkTold) (boxes : Device (List CalculatorTold)) (i : SourceTold) (o n : SinkTold) → i ≡ ia → o ≡ oa → n ≡ na
+    → Came outers asked status (devices store (device ib ia) (device ob oa) (device nb na) boxes) → Came outers asked status (devices store (device ib i) (device ob o) (device nb n) boxes)
+came_apart outers asked status store ib ia ob oa nb na boxes i o n same_i same_o same_n came =
+    subst (λ (s : SourceTold). Came outers asked status (devices store (device ib s) (device ob o) (device nb n) boxes)) (sym same_i)
+    (subst (λ (k : SinkTold). Came outers asked status (devices store (device ib ia) (device ob k) (device nb n) boxes)) (sym same_o)
+    (subst (λ (e : SinkTold). Came outers asked status (devices store (device ib ia) (device ob oa) (device nb e) boxes)) (sym same_n) came))
+
+pub unread_apart : (command : Option Command) (ib ia i : SourceTold) → i ≡ ia → IfSome command (λ c. reads_input c.order.verb ≡ false → Untouched (device ib ia)) → IfSome command (λ c. reads_input c.order.verb ≡ false → Untouched (device ib i))
+unread_apart command ib ia i same unread = subst (λ (s : SourceTold). IfSome command (λ c. reads_input c.order.verb ≡ false → Untouched (device ib s))) (sym same) unread

@@ -1,5 +1,5 @@
 -- Who reads the input, and that it met its end.
-use Rattle.std.proofs.Common.{◌≡◌, ℕ, List, [], ◌∷◌, true, false, Bool, Result, Ok, Err, ◌⊎◌, inl, inr, refl, sym, subst, arith}
+use Rattle.std.proofs.Common.{codes, Option, None, Some, ◌≡◌, ℕ, List, [], ◌∷◌, true, false, Bool, Result, Ok, Err, ◌⊎◌, inl, inr, refl, sym, subst, arith}
 use Rattle.std.proofs.lemmas.Bool.{false≢true}
 use Rattle.mg_edge.specs.Edge.{SourceTold}
 use Rattle.mg_feed.specs.Ran.{EndCame}
@@ -11,23 +11,20 @@ use Rattle.mg_check.specs.declared.fault.CheckFault.{CheckFault}
 use Rattle.mg_subgraph.specs.Expansion.{expansion_of}
 use Rattle.mg_subgraph.specs.declared.fault.ExpandFault.{ExpandFault}
 use Rattle.mg_answer.specs.Ran as running
-use Rattle.mg_answer.specs.declared.run_status.RunStatus.{RunStatus}
-use Rattle.mg_answer.specs.declared.run_status.RunStatus.TheVariants as ended
 use Rattle.mg_answer.proofs.Answering.{ran-ended}
 use Rattle.mg_answer.proofs.RunningOn.{on-ended}
 use Rattle.mg_run.specs.Command.{reads_input}
 use Rattle.mg_run.specs.Task.{Task}
 use Rattle.mg_run.specs.Files.{Files, graphs, no_graphs}
-use Rattle.mg_run.specs.Status.{status_from}
-use Rattle.mg_run.specs.Answer.{Job, refuse, show, run_plan, solve, generate, run_job, solve_job, check_job, generate_job, verb_job, expanded_job, files_job}
+use Rattle.mg_run.specs.Answer.{Job, refuse, show, run_plan, solve, generate, run_job, solve_job, check_job, generate_job, verb_job, expanded_job, files_job, free_refusal, unless_refused, with_limit}
 use Rattle.mg_run.specs.Devices.{Device, Devices, run_of, Untouched, HasEnded}
 use Rattle.mg_run.specs.Call.{Did, IsJob, CallDid, Called, IsOneOf}
 use Rattle.mg_run.specs.Code.Job.{MayRead}
 use Rattle.mg_run.specs.declared.words.Order.{Order}
 use Rattle.mg_run.specs.declared.words.Verb.{Verb}
 use Rattle.mg_run.specs.declared.words.Verb.TheVariants.{Run, Solve, Check, Expand, Generate}
-use Rattle.mg_run.specs.declared.status.Status.{Status}
-use Rattle.mg_run.specs.declared.status.Status.TheVariants.{Good, StoreFault, Usage, GraphRefused, LineRefused, NodeFault, Stalled, ReadFault, WriteFault, OutOfMemory}
+use Rattle.mg_answer.specs.declared.status.Status.{Status}
+use Rattle.mg_answer.specs.declared.status.Status.TheVariants.{Good, StoreFault, Usage, GraphRefused, LineRefused, NodeFault, Stalled, ReadFault, WriteFault, OutOfMemory}
 
 -- A check, an expansion and a run over packets that are made don't read it.
 check-unread : (checked : Result Plan CheckFault) → MayRead (check_job checked) → ⊥
@@ -35,7 +32,11 @@ check-unread (Ok plan) may = may
 check-unread (Err fault) may = may
 
 generate-unread : (order : Order) (checked : Result Plan CheckFault) → MayRead (generate_job order checked) → ⊥
-generate-unread order (Ok plan) may = may
+generate-unread order (Ok plan) may = by (free_refusal (codes "generate") plan) may
+  where
+    by : (note : Option (List ℕ)) → MayRead (unless_refused note (generate order.report order.number (with_limit order.limit plan))) → ⊥
+    by None may = may
+    by (Some note) may = may
 generate-unread order (Err fault) may = may
 
 graph-unread : (verb : Verb) (order : Order) (outers : List OuterShape) (g : GraphView) → reads_input verb ≡ false → MayRead (verb_job verb order outers g) → ⊥
@@ -68,11 +69,19 @@ NeedsNone (solve report plan) = ⊥
 NeedsNone (generate report number plan) = Unit {0}
 
 run-reads : (order : Order) (checked : Result Plan CheckFault) → NeedsNone (run_job order checked) → ⊥
-run-reads order (Ok plan) none = none
+run-reads order (Ok plan) none = by (free_refusal (codes "run") plan) none
+  where
+    by : (note : Option (List ℕ)) → NeedsNone (unless_refused note (run_plan order.report (with_limit order.limit plan))) → ⊥
+    by None none = none
+    by (Some note) none = none
 run-reads order (Err fault) none = none
 
 solve-reads : (report : Bool) (checked : Result Plan CheckFault) → NeedsNone (solve_job report checked) → ⊥
-solve-reads report (Ok plan) none = none
+solve-reads report (Ok plan) none = by (free_refusal (codes "solve") plan) none
+  where
+    by : (note : Option (List ℕ)) → NeedsNone (unless_refused note (solve report plan)) → ⊥
+    by None none = none
+    by (Some note) none = none
 solve-reads report (Err fault) none = none
 
 graph-reads : (verb : Verb) (order : Order) (outers : List OuterShape) (g : GraphView) → reads_input verb ≡ true → NeedsNone (verb_job verb order outers g) → ⊥
@@ -105,39 +114,11 @@ refused-ended status is (inr (inl e)) = cc
 refused-ended status is (inr (inr (inl e))) = cc
 refused-ended status is (inr (inr (inr e))) = e
 
-line-ended : (status : Status) → status ≡ LineRefused → IsOneOf status ended_statuses → ⊥
-line-ended status is (inl e) = cc
-line-ended status is (inr (inl e)) = cc
-line-ended status is (inr (inr (inl e))) = cc
-line-ended status is (inr (inr (inr e))) = e
-
-read-ended : (status : Status) → status ≡ ReadFault → IsOneOf status ended_statuses → ⊥
-read-ended status is (inl e) = cc
-read-ended status is (inr (inl e)) = cc
-read-ended status is (inr (inr (inl e))) = cc
-read-ended status is (inr (inr (inr e))) = e
-
-write-ended : (status : Status) → status ≡ WriteFault → IsOneOf status ended_statuses → ⊥
-write-ended status is (inl e) = cc
-write-ended status is (inr (inl e)) = cc
-write-ended status is (inr (inr (inl e))) = cc
-write-ended status is (inr (inr (inr e))) = e
-
 short-ended : (status : Status) → status ≡ OutOfMemory → IsOneOf status ended_statuses → ⊥
 short-ended status is (inl e) = cc
 short-ended status is (inr (inl e)) = cc
 short-ended status is (inr (inr (inl e))) = cc
 short-ended status is (inr (inr (inr e))) = e
-
--- the status of a call as that of the run
-run-status : (status : Status) (run : RunStatus) → status ≡ status_from run → IsOneOf status ended_statuses → running.IsOneOf run (ended.Good ∷ ended.NodeFault ∷ ended.Stalled ∷ [])
-run-status status ended.Good told one = inl refl
-run-status status ended.LineRefused told one = absurd (line-ended status told one)
-run-status status ended.NodeFault told one = inr (inl refl)
-run-status status ended.Stalled told one = inr (inr (inl refl))
-run-status status ended.ReadFault told one = absurd (read-ended status told one)
-run-status status ended.WriteFault told one = absurd (write-ended status told one)
-run-status status ended.OutOfMemory told one = absurd (short-ended status told one)
 
 end-came : (input : Device SourceTold) → EndCame input.before input.now → HasEnded input
 end-came input came = record { rose = let more = came.rose in omega (arith, more); none = came.none }
@@ -147,9 +128,9 @@ did-ended : (task : Task) (contents : List (List ℕ)) (job : Job) (status : Sta
 did-ended task contents (refuse note) status all due did reads one = absurd (refused-ended status did.ended one)
 did-ended task contents (show text) status all due did reads one = absurd (due-reads task contents (show text) due reads tt)
 did-ended task contents (run_plan report plan) status all due did reads one =
-    end-came all.input (on-ended report plan did.run_status (run_of all) did.ran (run-status status did.run_status did.told one))
+    end-came all.input (on-ended report plan status (run_of all) did.ran one)
 did-ended task contents (solve report plan) status all due did reads one =
-    end-came all.input (ran-ended report plan did.run_status (run_of all) did.ran (run-status status did.run_status did.told one))
+    end-came all.input (ran-ended report plan status (run_of all) did.ran one)
 did-ended task contents (generate report number plan) status all due did reads one = absurd (due-reads task contents (generate report number plan) due reads tt)
 
 call-ended : (status : Status) (task : Task) (all : Devices) → CallDid status task all → reads_input task.order.verb ≡ true → IsOneOf status ended_statuses → HasEnded all.input

@@ -15,13 +15,3 @@ pub mod Getters
 pub mod Coming
 pub mod Handing
 pub mod LimitedPlans
-pub mod BatchesRead
-pub mod GoingOn
-pub mod PuttingSets
-pub mod FrontsWritten
-pub mod Driving
-pub mod BoxesBack
-pub mod Reported
-pub mod RunsEnd
-pub mod Summing
-pub mod FrontsBack

@@ -29,4 +29,5 @@ limit_valid limit plan some valid = record {
   order = valid.order;
   forward = valid.forward;
   back = valid.back;
+  laws = valid.laws;
 }

@@ -3,17 +3,14 @@ use Rattle.std.proofs.Common.{◌≡◌, ℕ, List, [], ◌∷◌, ◌⊎◌, in
 use Rattle.mg_edge.specs.Edge.{SourceTold, SinkTold}
 use Rattle.mg_run.specs.Task.{Task}
 use Rattle.mg_answer.specs.Ran as running
-use Rattle.mg_answer.specs.declared.run_status.RunStatus.{RunStatus}
-use Rattle.mg_answer.specs.declared.run_status.RunStatus.TheVariants as ended
 use Rattle.mg_answer.proofs.Answering.{read-risen as run-read-risen, write-risen as run-write-risen}
 use Rattle.mg_answer.proofs.RunningOn.{on-read-risen as run-on-read, on-write-risen as run-on-write}
 use Rattle.mg_answer.proofs.Generating.{generated-risen}
 use Rattle.mg_run.specs.Answer.{Job, refuse, show, run_plan, solve, generate}
-use Rattle.mg_run.specs.Status.{status_from}
 use Rattle.mg_run.specs.Devices.{Device, Devices, run_of, Untouched, HasRisen, TookText, TookPart}
 use Rattle.mg_run.specs.Call.{WasShown, Did, Called, IsOneOf}
-use Rattle.mg_run.specs.declared.status.Status.{Status}
-use Rattle.mg_run.specs.declared.status.Status.TheVariants.{Good, StoreFault, Usage, GraphRefused, LineRefused, NodeFault, Stalled, ReadFault, WriteFault, OutOfMemory}
+use Rattle.mg_answer.specs.declared.status.Status.{Status}
+use Rattle.mg_answer.specs.declared.status.Status.TheVariants.{Good, StoreFault, Usage, GraphRefused, LineRefused, NodeFault, Stalled, ReadFault, WriteFault, OutOfMemory}
 
 pub risen-steady : (a b : ℕ) → HasRisen a b → b ≡ a → ⊥
 risen-steady a b risen steady = absurd (omega (arith, steady, risen))
@@ -41,18 +38,11 @@ store-risen OutOfMemory task all called risen = inr (inl refl)
 abbrev read_statuses : List Status
 read_statuses = ReadFault ∷ WriteFault ∷ OutOfMemory ∷ []
 
--- the status of a run as that of the call
-read-status : (status : Status) (run : RunStatus) → status ≡ status_from run → running.IsOneOf run (ended.ReadFault ∷ ended.WriteFault ∷ ended.OutOfMemory ∷ []) → IsOneOf status read_statuses
-read-status status run told (inl is) = inl (told ∙ ap status_from is)
-read-status status run told (inr (inl is)) = inr (inl (told ∙ ap status_from is))
-read-status status run told (inr (inr (inl is))) = inr (inr (inl (told ∙ ap status_from is)))
-read-status status run told (inr (inr (inr is))) = absurd is
-
 read-did : (job : Job) (status : Status) (all : Devices) → Did job status all → HasRisen all.input.before.faults all.input.now.faults → IsOneOf status read_statuses
 read-did (refuse note) status all did risen = absurd (risen-unread all.input risen did.unread)
 read-did (show text) status all did risen = absurd (risen-unread all.input risen did.unread)
-read-did (run_plan report plan) status all did risen = read-status status did.run_status did.told (run-on-read report plan did.run_status (run_of all) did.ran risen)
-read-did (solve report plan) status all did risen = read-status status did.run_status did.told (run-read-risen report plan did.run_status (run_of all) did.ran risen)
+read-did (run_plan report plan) status all did risen = run-on-read report plan status (run_of all) did.ran risen
+read-did (solve report plan) status all did risen = run-read-risen report plan status (run_of all) did.ran risen
 read-did (generate report number plan) status all did risen = absurd (risen-unread all.input risen did.unread)
 
 pub read-risen : (status : Status) (task : Task) (all : Devices) → Called status task all → HasRisen all.input.before.faults all.input.now.faults → IsOneOf status read_statuses
@@ -86,18 +76,16 @@ write-shown text status all shown risen = by shown.written risen
     by (inl good) (inl risen) = absurd (risen-steady _ _ risen good.1.steady)
     by (inl good) (inr risen) = absurd (risen-unwritten all.notes risen shown.unnoted)
 
-write-status : (status : Status) (run : RunStatus) → status ≡ status_from run → running.IsOneOf run (ended.WriteFault ∷ ended.OutOfMemory ∷ []) → IsOneOf status write_statuses
-write-status status run told (inl is) = inr (inr (inl (told ∙ ap status_from is)))
-write-status status run told (inr (inl is)) = inr (inr (inr (inl (told ∙ ap status_from is))))
-write-status status run told (inr (inr is)) = absurd is
+write-status : (status : Status) → IsOneOf status (WriteFault ∷ OutOfMemory ∷ []) → IsOneOf status write_statuses
+write-status status one = inr (inr one)
 
 write-did : (job : Job) (status : Status) (all : Devices) → Did job status all → EitherRisen all → IsOneOf status write_statuses
 write-did (refuse note) status all did risen = inr (inl did.ended)
 write-did (show text) status all did risen = write-shown text status all did risen
-write-did (run_plan report plan) status all did risen = write-status status did.run_status did.told (run-on-write report plan did.run_status (run_of all) did.ran risen)
-write-did (solve report plan) status all did risen = write-status status did.run_status did.told (run-write-risen report plan did.run_status (run_of all) did.ran risen)
+write-did (run_plan report plan) status all did risen = write-status status (run-on-write report plan status (run_of all) did.ran risen)
+write-did (solve report plan) status all did risen = write-status status (run-write-risen report plan status (run_of all) did.ran risen)
 write-did (generate report number plan) status all did risen =
-    write-status status did.run_status did.told (generated-risen report plan number did.run_status (run_of all) did.ran risen)
+    write-status status (generated-risen report plan number status (run_of all) did.ran risen)
 
 pub write-risen : (status : Status) (task : Task) (all : Devices) → Called status task all → EitherRisen all → IsOneOf status write_statuses
 write-risen Good task all called risen = write-did called.job Good all called.did risen

@@ -1,6 +1,6 @@
 -- What the program answers: the output text, the notes and the status, by the command, by what its files are, and by the
 -- input's bytes. There is one answer (`src/laws.rt`).
-use Rattle.std.specs.Prelude.{◌≡◌, ℕ, ℤ, pos, negsuc, Bool, ◌==◌, List, [], ◌∷◌, Option, None, Some, Result, Ok, Err, if◌then◌else◌}
+use Rattle.std.specs.Prelude.{◌≡◌, ℕ, ℤ, pos, negsuc, Bool, ◌==◌, List, [], ◌∷◌, codes, Option, None, Some, option_map, Result, Ok, Err, if◌then◌else◌}
 use Rattle.mg_text.specs.Canonical.{canonical}
 use Rattle.mg_config.specs.Config.{GraphView}
 use Rattle.mg_config.specs.Written.{tree_of}
@@ -13,14 +13,14 @@ use Rattle.mg_subgraph.specs.Expansion.{expansion_of}
 use Rattle.mg_subgraph.specs.declared.fault.ExpandFault.{ExpandFault}
 use Rattle.mg_run.specs.Files.{Files, graphs, no_graphs}
 use Rattle.mg_run.specs.CheckNotes.{check_note, check_text}
-use Rattle.mg_answer.specs.Answer as runs
-use Rattle.mg_run.specs.Notes.{expand_note}
+use Rattle.mg_answer.specs.Answer.{AnswersEnded, AnswersGenerated}
+pub use Rattle.mg_answer.specs.Answer.{Answer}
+use Rattle.mg_free.specs.Core.{first_free}
+use Rattle.mg_run.specs.Notes.{expand_note, free_note}
 use Rattle.mg_run.specs.declared.words.Order.{Order}
 use Rattle.mg_run.specs.declared.words.Verb.{Verb}
 use Rattle.mg_run.specs.declared.words.Verb.TheVariants.{Run, Solve, Check, Expand, Generate}
-use Rattle.mg_run.specs.Status.{status_from}
-use Rattle.mg_run.specs.declared.status.Status.{Status}
-use Rattle.mg_run.specs.declared.status.Status.TheVariants.{Good, GraphRefused}
+use Rattle.mg_answer.specs.declared.status.Status.TheVariants.{Good, GraphRefused}
 
 -- The graphs --
 
@@ -39,13 +39,22 @@ pub data Job : Type 0 where
   solve : Bool → Plan → Job
   generate : Bool → ℕ → Plan → Job
 
--- A graph that is checked has a text that is written, or it is refused; one that is run or solved is checked before.
+-- A graph that is checked has a text that is written, or it is refused; one that is run or solved is checked before,
+-- and has no free nodes.
 abbrev pub check_job : Result Plan CheckFault → Job
 check_job (Ok plan) = show (check_text plan)
 check_job (Err fault) = refuse (check_note fault)
 
+-- the note that a graph has free nodes, if it has some: it is refused then
+abbrev pub free_refusal : List ℕ → Plan → Option (List ℕ)
+free_refusal verb plan = option_map (free_note verb) (first_free plan)
+
+abbrev pub unless_refused : Option (List ℕ) → Job → Job
+unless_refused None job = job
+unless_refused (Some note) job = refuse note
+
 abbrev pub solve_job : Bool → Result Plan CheckFault → Job
-solve_job report (Ok plan) = solve report plan
+solve_job report (Ok plan) = unless_refused (free_refusal (codes "solve") plan) (solve report plan)
 solve_job report (Err fault) = refuse (check_note fault)
 
 -- the limit that the words ask for; 0 asks for the plan's own
@@ -59,11 +68,11 @@ with_limit None plan = plan
 with_limit (Some limit) plan = record plan { limit = limit_or limit plan.limit }
 
 abbrev pub run_job : Order → Result Plan CheckFault → Job
-run_job order (Ok plan) = run_plan order.report (with_limit order.limit plan)
+run_job order (Ok plan) = unless_refused (free_refusal (codes "run") plan) (run_plan order.report (with_limit order.limit plan))
 run_job order (Err fault) = refuse (check_note fault)
 
 abbrev pub generate_job : Order → Result Plan CheckFault → Job
-generate_job order (Ok plan) = generate order.report order.number (with_limit order.limit plan)
+generate_job order (Ok plan) = unless_refused (free_refusal (codes "generate") plan) (generate order.report order.number (with_limit order.limit plan))
 generate_job order (Err fault) = refuse (check_note fault)
 
 abbrev pub verb_job : Verb → Order → List OuterShape → GraphView → Job
@@ -94,28 +103,11 @@ job_of task files = files_job task.order task.outers files
 
 -- The answers --
 
-pub record Answer : Type 0 where
-  pub output : List ℕ
-  pub notes : List ℕ
-  pub status : Status
-
--- what a run of a graph answers, as an answer of the program
-abbrev pub answer_from : runs.Answer → Answer
-answer_from given = record { output = given.output; notes = given.notes; status = status_from given.status }
-
--- what a run of the graph of a plan answers over an input that ends after these bytes, with a report or without
-abbrev pub IsRunAnswer : Bool → Plan → List ℕ → Answer → Type 0
-IsRunAnswer report plan input given = (of_run : runs.Answer) × runs.AnswersEnded report plan input of_run × (given ≡ answer_from of_run)
-
--- and over so many packets that are made
-abbrev pub IsGeneratedAnswer : Bool → Plan → ℕ → Answer → Type 0
-IsGeneratedAnswer report plan number given = (of_run : runs.Answer) × runs.AnswersGenerated report plan number of_run × (given ≡ answer_from of_run)
-
 -- An answer is that of a job where an input of these bytes ends well. To run a graph and to solve it is to answer the same. Where packets
 -- are made no input matters.
 abbrev pub IsAnswerOf : Job → List ℕ → Answer → Type 0
 IsAnswerOf (refuse note) input given = given ≡ record { output = []; notes = note; status = GraphRefused }
 IsAnswerOf (show text) input given = given ≡ record { output = text; notes = []; status = Good }
-IsAnswerOf (run_plan report plan) input given = IsRunAnswer report plan input given
-IsAnswerOf (solve report plan) input given = IsRunAnswer report plan input given
-IsAnswerOf (generate report number plan) input given = IsGeneratedAnswer report plan number given
+IsAnswerOf (run_plan report plan) input given = AnswersEnded report plan input given
+IsAnswerOf (solve report plan) input given = AnswersEnded report plan input given
+IsAnswerOf (generate report number plan) input given = AnswersGenerated report plan number given

@@ -1,5 +1,5 @@
 -- What a call came to, by its status.
-use Rattle.std.specs.Prelude.{◌≡◌, ℕ, ◌⊎◌, Bool, List, [], ◌∷◌, IfSome}
+use Rattle.std.specs.Prelude.{◌≡◌, ℕ, ◌⊎◌, Bool, List, [], IfSome}
 use Rattle.mg_calc.specs.declared.plan.Plan.{Plan}
 use Rattle.mg_calc.specs.declared.shape.OuterShape.{OuterShape}
 use Rattle.mg_run.specs.Task.{Task, task}
@@ -8,20 +8,13 @@ use Rattle.mg_run.specs.Files.{Files, AreFiles}
 use Rattle.mg_run.specs.Loads.{LoadedAll, FailedAt, loads_of}
 use Rattle.mg_run.specs.Notes.{usage_note, store_note}
 use Rattle.mg_answer.specs.Ran as runs
-use Rattle.mg_answer.specs.declared.run_status.RunStatus.{RunStatus}
-use Rattle.mg_answer.specs.declared.run_status.RunStatus.TheVariants.{OutOfMemory as no_memory}
+use Rattle.mg_answer.specs.Wrote.{Meets}
 use Rattle.mg_run.specs.Boxes.{RunLeaves, GeneratedLeaves}
 use Rattle.mg_run.specs.Answer.{Answer, Job, refuse, show, run_plan, solve, generate, job_of, IsAnswerOf}
 use Rattle.mg_run.specs.Devices.{Devices, run_of, Untouched, TookFront, TookText, TookPart, Noted}
-use Rattle.mg_run.specs.Status.{status_from}
-use Rattle.mg_run.specs.declared.status.Status.{Status}
-use Rattle.mg_run.specs.declared.status.Status.TheVariants.{Good, StoreFault, Usage, GraphRefused, WriteFault, OutOfMemory}
-
--- The output and the notes took an answer's texts, and the status is the answer's.
-pub record Meets (given : Answer) (status : Status) (devices : Devices) : Type 0 where
-  pub text : TookText devices.output given.output
-  pub noted : TookText devices.notes given.notes
-  pub ended : status ≡ given.status
+pub use Rattle.mg_answer.specs.Status.{IsOneOf}
+use Rattle.mg_answer.specs.declared.status.Status.{Status}
+use Rattle.mg_answer.specs.declared.status.Status.TheVariants.{Good, StoreFault, Usage, GraphRefused, WriteFault, OutOfMemory}
 
 -- What became of it --
 
@@ -70,28 +63,21 @@ pub record WasShown (text : List ℕ) (status : Status) (devices : Devices) : Ty
 
 -- A run --
 
--- The graph of this plan was run over the input, and written as its outputs settled; the call has the run's status. What each status of
--- a run means is said in mg_answer.
+-- The graph of this plan was run over the input, and written as its outputs settled. What each status of a run means is said in mg_answer.
 pub record RanGraph (report : Bool) (plan : Plan) (status : Status) (devices : Devices) : Type 0 where
-  pub run_status : RunStatus
-  pub told : status ≡ status_from run_status
-  pub ran : runs.RanOn report plan run_status (run_of devices)
-  pub left : RunLeaves plan run_status devices.input devices.boxes
+  pub ran : runs.RanOn report plan status (run_of devices)
+  pub left : RunLeaves plan status devices.input devices.boxes
 
 -- The graph of this plan was solved.
 pub record SolvedGraph (report : Bool) (plan : Plan) (status : Status) (devices : Devices) : Type 0 where
-  pub run_status : RunStatus
-  pub told : status ≡ status_from run_status
-  pub ran : runs.Ran report plan run_status (run_of devices)
+  pub ran : runs.Ran report plan status (run_of devices)
   pub uncalled : Untouched devices.boxes
 
 -- The graph of this plan was run over so many packets that are made, and a summary of its outputs was written. The input was left as it
 -- was.
 pub record GeneratedGraph (report : Bool) (number : ℕ) (plan : Plan) (status : Status) (devices : Devices) : Type 0 where
-  pub run_status : RunStatus
-  pub told : status ≡ status_from run_status
-  pub ran : runs.RanGenerated report plan number run_status (run_of devices)
-  pub left : GeneratedLeaves plan number run_status devices.boxes
+  pub ran : runs.RanGenerated report plan number status (run_of devices)
+  pub left : GeneratedLeaves plan number status devices.boxes
   pub unread : Untouched devices.input
 
 -- A call --
@@ -130,7 +116,7 @@ pub record ShortRun (task : Task) (devices : Devices) : Type 0 where
   pub report : Bool
   pub plan : Plan
   pub due : IsJob task contents (run_plan report plan)
-  pub left : RunLeaves plan no_memory devices.input devices.boxes
+  pub left : RunLeaves plan OutOfMemory devices.input devices.boxes
 
 -- So it is where the graph was run over packets that are made.
 pub record ShortGenerated (task : Task) (devices : Devices) : Type 0 where
@@ -140,7 +126,7 @@ pub record ShortGenerated (task : Task) (devices : Devices) : Type 0 where
   pub number : ℕ
   pub plan : Plan
   pub due : IsJob task contents (generate report number plan)
-  pub left : GeneratedLeaves plan number no_memory devices.boxes
+  pub left : GeneratedLeaves plan number OutOfMemory devices.boxes
 
 -- Memory ran out. Where the store tells the files' bytes, the output took a front of what is due; and no calculator that is handed in
 -- had a call, unless a graph was run.
@@ -164,15 +150,10 @@ Came outers (asks_command command) status devices = Called status (task command 
 
 -- The call met the answer of a job over an input that ends after these bytes.
 abbrev pub MetAnswer : Job → List ℕ → Status → Devices → Type 0
-MetAnswer job read status devices = (given : Answer) × IsAnswerOf job read given × Meets given status devices
+MetAnswer job read status devices = (given : Answer) × IsAnswerOf job read given × Meets given status devices.output devices.notes
 
 -- Where the devices tell the files' bytes and the input's, the call met the answer to them.
 abbrev pub IsAnswered : Status → Task → Devices → Type 0
 IsAnswered status task devices =
     IfSome (loads_of devices.store.before.content task.files) (λ contents. IfSome devices.input.before.left (λ read.
     (files : Files) × AreFiles task.files contents files × MetAnswer (job_of task files) read status devices))
-
--- a status is one of these
-abbrev pub IsOneOf : Status → List Status → Type 0
-IsOneOf status [] = ⊥
-IsOneOf status (s ∷ ss) = (status ≡ s) ⊎ IsOneOf status ss

@@ -2,5 +2,3 @@
 pub mod Asked
 pub mod Job
 pub mod Reads
-pub mod Running
-pub mod Generating

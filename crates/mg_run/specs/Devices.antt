@@ -1,9 +1,12 @@
 -- The devices of a call, with the calculators that are handed in, and what the call did to each: what each told of itself before the
 -- call, and tells now. What holds of the devices of a run too is said in mg_answer.
-use Rattle.std.specs.Prelude.{◌≡◌, ℕ, ◌⊎◌, List, [], Some, IfSome}
+use Rattle.std.specs.Prelude.{◌≡◌, ℕ, ◌⊎◌, List, [], map, Some, IfSome}
+use Rattle.std.specs.Global.{Vec}
 use Rattle.mg_calc.specs.Told.{CalculatorTold}
 use Rattle.mg_edge.specs.Edge.{SourceTold, SinkTold, StoreTold, Rose}
 use Rattle.mg_feed.specs.Sent.{SentPart}
+use Rattle.mg_answer.specs.declared.devices.Devices.{Devices as Held}
+pub use Rattle.mg_answer.specs.Held.{told_by, SameDevices}
 pub use Rattle.mg_answer.specs.Devices.{Device, device, Untouched, HasRisen, Unrisen, IsFront, TookFront, TookText, RunDevices, run_devices}
 
 pub record Devices : Type 0 where
@@ -19,6 +22,23 @@ devices store input output notes boxes = record { store = store; input = input; 
 -- the devices of a run
 abbrev pub run_of : Devices → RunDevices
 run_of all = run_devices all.input all.output all.notes
+
+-- the devices of a call, of which some are those of a run
+abbrev pub with_run : Device StoreTold → RunDevices → Device (List CalculatorTold) → Devices
+with_run store run boxes = devices store run.input run.output run.notes boxes
+
+-- what all of them tell, before a call and after it
+abbrev pub told_at : {T S K E C : Type 0} → (T → StoreTold) → (S → SourceTold) → (K → SinkTold) → (E → SinkTold) → (C → CalculatorTold)
+    → T → T → Held S K E → Held S K E → Vec C → Vec C → Devices
+told_at t s k e c store store_now held held_now boxes boxes_now =
+    with_run (device (t store) (t store_now)) (told_by s k e held held_now) (device (map c boxes.items) (map c boxes_now.items))
+
+-- what they tell where each is by itself
+abbrev pub told_apart : {T S K E C : Type 0} → (T → StoreTold) → (S → SourceTold) → (K → SinkTold) → (E → SinkTold) → (C → CalculatorTold)
+    → T → T → S → S → K → K → E → E → Vec C → Vec C → Devices
+told_apart t s k e c store store_now input input_now output output_now notes notes_now boxes boxes_now =
+    devices (device (t store) (t store_now)) (device (s input) (s input_now)) (device (k output) (k output_now)) (device (e notes) (e notes_now))
+    (device (map c boxes.items) (map c boxes_now.items))
 
 -- Faults --
 

@@ -4,7 +4,6 @@ pub mod Command
 pub mod Task
 pub mod Help
 pub mod Words
-pub mod Status
 pub mod File
 pub mod Notes
 pub mod CheckNotes

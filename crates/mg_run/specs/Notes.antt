@@ -62,3 +62,7 @@ expand_refusal expansions.OutOfMemory = []
 
 abbrev pub expand_note : ExpandFault → List ℕ
 expand_note fault = codes "refused: expand " ++ expand_refusal fault ++ codes "\n"
+
+-- A graph that has free nodes isn't run or solved so far: it is refused with the first of them
+abbrev pub free_note : List ℕ → ℕ → List ℕ
+free_note verb node = codes "refused: " ++ verb ++ codes " FreeNode " ++ decimal node ++ codes "\n"

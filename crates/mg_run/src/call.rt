@@ -4,21 +4,21 @@ ghost use Rattle.mg_run.specs.Command.{command, reads_input, calls_boxes};
 ghost use Rattle.mg_run.specs.Boxes.{outers_told, MayBeHandedIn};
 ghost use Rattle.mg_run.specs.Task.{task};
 ghost use Rattle.mg_run.specs.Words.{asks_usage, asks_text, asked_of, command_by, command_of};
-ghost use Rattle.mg_run.specs.Devices.{Device, device, devices, Untouched, HasEnded, HasRisen, NoneFailed, TookText, TookPart};
+ghost use Rattle.mg_run.specs.Devices.{Device, device, with_run, told_at, told_apart, told_by, SameDevices, Untouched, HasEnded, HasRisen, NoneFailed, TookText, TookPart};
 ghost use Rattle.mg_run.specs.Call.{WasUsage, WasTold, Came, Called, Did, IsAnswered, IsOneOf};
 ghost use Rattle.mg_run.specs.Code.Asked.{asked_view};
 ghost use Rattle.mg_run.specs.Code.Job.{job_view, MayRead, CanBeDone};
 ghost use Rattle.mg_edge.specs.Edge.{StoreTold};
 
-use crate::Status;
 use crate::fault::Fault;
-use crate::graph::{generate_graph, run_graph, solve_graph};
 use crate::help::{help_text, version_text};
 use crate::job::{Job, job_of};
 use crate::load::load_all;
 use crate::outers::outers_of;
 use crate::words::{Asked, Order, USAGE, asked_of};
+use mg_answer::{Devices, Run, Status, solve_input};
 use mg_calc::{Calculator, OuterShape};
+use mg_drive::{run_lines, run_made};
 use mg_edge::{Gate, Sink, Source, Store};
 use mg_feed::put_all;
 use mg_value::MgText;
@@ -37,30 +37,25 @@ pub fn run_words<S: Source, K: Sink, E: Sink, T: Store, G: Gate>(
 ) -> Status
     // The words are judged first, and no device matters to it.
     ensures usage { result ≢ Status.OutOfMemory → (result ≡ Status.Usage) ↔ (asked_of words.now ≡ asks_usage) }
-    ensures usage_note { asked_of words.now ≡ asks_usage → WasUsage result (devices
-        (device (T.told store.old) (T.told store.new)) (device (S.told input.old) (S.told input.new))
-        (device (K.told output.old) (K.told output.new)) (device (E.told notes.old) (E.told notes.new))
-        (device (map (λ b. (Calculator-box b).told b.value) boxes.old.items) (map (λ b. (Calculator-box b).told b.value) boxes.new.items))) }
+    ensures usage_note { asked_of words.now ≡ asks_usage → WasUsage result (told_apart T.told S.told K.told E.told (λ b. (Calculator-box b).told b.value)
+        store.old store.new input.old input.new output.old output.new notes.old notes.new boxes.old boxes.new) }
 
     // The help and the version are texts that are written.
-    ensures told { (text : List ℕ) → asked_of words.now ≡ asks_text text → WasTold text result (devices
-        (device (T.told store.old) (T.told store.new)) (device (S.told input.old) (S.told input.new))
-        (device (K.told output.old) (K.told output.new)) (device (E.told notes.old) (E.told notes.new))
-        (device (map (λ b. (Calculator-box b).told b.value) boxes.old.items) (map (λ b. (Calculator-box b).told b.value) boxes.new.items))) }
+    ensures told { (text : List ℕ) → asked_of words.now ≡ asks_text text → WasTold text result (told_apart T.told S.told K.told E.told (λ b. (Calculator-box b).told b.value)
+        store.old store.new input.old input.new output.old output.new notes.old notes.new boxes.old boxes.new) }
 
     // What each other status means.
-    ensures called { IfSome (command_of words.now) (λ command. Called result (task command (outers_told (map (λ b. (Calculator-box b).told b.value) boxes.old.items))) (devices
-        (device (T.told store.old) (T.told store.new)) (device (S.told input.old) (S.told input.new))
-        (device (K.told output.old) (K.told output.new)) (device (E.told notes.old) (E.told notes.new))
-        (device (map (λ b. (Calculator-box b).told b.value) boxes.old.items) (map (λ b. (Calculator-box b).told b.value) boxes.new.items)))) }
+    ensures called { IfSome (command_of words.now) (λ command. Called result (task command (outers_told (map (λ b. (Calculator-box b).told b.value) boxes.old.items))) (told_apart T.told S.told K.told E.told (λ b. (Calculator-box b).told b.value)
+        store.old store.new input.old input.new output.old output.new notes.old notes.new boxes.old boxes.new)) }
 
     // No device failed and memory was had: the output's text, the notes and the status are those of the answer to
     // the files' bytes and the input's.
-    ensures answered { IfSome (command_of words.now) (λ command. let all = devices
-        (device (T.told store.old) (T.told store.new)) (device (S.told input.old) (S.told input.new))
-        (device (K.told output.old) (K.told output.new)) (device (E.told notes.old) (E.told notes.new))
-        (device (map (λ b. (Calculator-box b).told b.value) boxes.old.items) (map (λ b. (Calculator-box b).told b.value) boxes.new.items)) in
-        NoneFailed all → result ≢ Status.OutOfMemory → IsAnswered result (task command (outers_told (map (λ b. (Calculator-box b).told b.value) boxes.old.items))) all) }
+    ensures answered { IfSome (command_of words.now) (λ command.
+        NoneFailed (told_apart T.told S.told K.told E.told (λ b. (Calculator-box b).told b.value)
+        store.old store.new input.old input.new output.old output.new notes.old notes.new boxes.old boxes.new)
+        → result ≢ Status.OutOfMemory
+        → IsAnswered result (task command (outers_told (map (λ b. (Calculator-box b).told b.value) boxes.old.items))) (told_apart T.told S.told K.told E.told (λ b. (Calculator-box b).told b.value)
+        store.old store.new input.old input.new output.old output.new notes.old notes.new boxes.old boxes.new)) }
 
     // A `check`, an `expand` and a `generate` leave the input as it was.
     ensures unread { IfSome (command_of words.now) (λ command. reads_input command.order.verb ≡ false
@@ -83,7 +78,12 @@ pub fn run_words<S: Source, K: Sink, E: Sink, T: Store, G: Gate>(
     ensures uncalled { IfSome (command_of words.now) (λ command. calls_boxes command.order.verb ≡ false
         → map (λ b. (Calculator-box b).told b.value) boxes.new.items ≡ map (λ b. (Calculator-box b).told b.value) boxes.old.items) }
 {
-    do_words(alloc, words, gate, boxes, store, input, output, notes)
+    let mut devices = Devices {
+        input,
+        output,
+        notes,
+    };
+    do_words(alloc, words, gate, boxes, store, &mut devices)
 }
 
 // Judges the words, and does what they ask for.
@@ -93,19 +93,15 @@ fn do_words<G: Gate, C: Calculator, S: Source, K: Sink, E: Sink, T: Store>(
     gate: &G,
     boxes: &mut Vec<C>,
     store: &mut T,
-    input: &mut S,
-    output: &mut K,
-    notes: &mut E,
+    devices: &mut Devices<'_, '_, '_, S, K, E>,
 ) -> Status
-    ensures came { Came (outers_told (map C.told boxes.old.items)) (asked_of words.now) result (devices
-        (device (T.told store.old) (T.told store.new)) (device (S.told input.old) (S.told input.new))
-        (device (K.told output.old) (K.told output.new)) (device (E.told notes.old) (E.told notes.new))
-        (device (map C.told boxes.old.items) (map C.told boxes.new.items))) }
-    ensures unread { IfSome (command_of words.now) (λ command. reads_input command.order.verb ≡ false
-        → Untouched (device (S.told input.old) (S.told input.new))) }
+    ensures came { Came (outers_told (map C.told boxes.old.items)) (asked_of words.now) result
+        (told_at T.told S.told K.told E.told C.told store.old store.new devices.old devices.new boxes.old boxes.new) }
+    ensures unread { IfSome (command_of words.now) (λ command. reads_input command.order.verb ≡ false → Untouched (told_by S.told K.told E.told devices.old devices.new).input) }
+    ensures same { SameDevices devices.old devices.new }
 {
     match asked_of(alloc, words) {
-        Ok(asked) => do_asked(alloc, asked, gate, boxes, store, input, output, notes),
+        Ok(asked) => do_asked(alloc, asked, gate, boxes, store, devices),
         Err(_) => Status::OutOfMemory,
     }
 }
@@ -116,25 +112,25 @@ fn do_asked<G: Gate, C: Calculator, S: Source, K: Sink, E: Sink, T: Store>(
     gate: &G,
     boxes: &mut Vec<C>,
     store: &mut T,
-    input: &mut S,
-    output: &mut K,
-    notes: &mut E,
+    devices: &mut Devices<'_, '_, '_, S, K, E>,
 ) -> Status
-    ensures came { Came (outers_told (map C.told boxes.old.items)) (asked_view asked) result (devices
-        (device (T.told store.old) (T.told store.new)) (device (S.told input.old) (S.told input.new))
-        (device (K.told output.old) (K.told output.new)) (device (E.told notes.old) (E.told notes.new))
-        (device (map C.told boxes.old.items) (map C.told boxes.new.items))) }
-    ensures unread { IfSome (command_by (asked_view asked)) (λ command. reads_input command.order.verb ≡ false
-        → Untouched (device (S.told input.old) (S.told input.new))) }
+    ensures came { Came (outers_told (map C.told boxes.old.items)) (asked_view asked) result
+        (told_at T.told S.told K.told E.told C.told store.old store.new devices.old devices.new boxes.old boxes.new) }
+    ensures unread { IfSome (command_by (asked_view asked)) (λ command. reads_input command.order.verb ≡ false → Untouched (told_by S.told K.told E.told devices.old devices.new).input) }
+    ensures same { SameDevices devices.old devices.new }
 {
     match asked {
-        Asked::Command(order, files) => do_command(
-            alloc, order, &files, gate, boxes, store, input, output, notes,
-        ),
-        Asked::Help => told(output, help_text()),
-        Asked::Version => told(output, version_text()),
+        Asked::Command(order, files) => {
+            let ordered = Ordered {
+                order,
+                files: &files,
+            };
+            do_command(alloc, &ordered, gate, boxes, store, devices)
+        }
+        Asked::Help => told(devices.output, help_text()),
+        Asked::Version => told(devices.output, version_text()),
         Asked::Usage => {
-            let _ = put_all(notes, USAGE);
+            let _ = put_all(devices.notes, USAGE);
             Status::Usage
         }
     }
@@ -152,61 +148,72 @@ fn told<K: Sink>(output: &mut K, text: &[u8]) -> Status
     }
 }
 
+// A command: what is done, and the names of its files.
+#[derive(Clone, Copy)]
+struct Ordered<'a> {
+    order: Order,
+    files: &'a [MgText],
+}
+
 // Does what a command says, with these calculators at hand.
 fn do_command<G: Gate, C: Calculator, S: Source, K: Sink, E: Sink, T: Store>(
     alloc: Global,
-    order: Order,
-    files: &[MgText],
+    ordered: &Ordered<'_>,
     gate: &G,
     boxes: &mut Vec<C>,
     store: &mut T,
-    input: &mut S,
-    output: &mut K,
-    notes: &mut E,
+    devices: &mut Devices<'_, '_, '_, S, K, E>,
 ) -> Status
-    ensures called { Called result (task (command order files.now) (outers_told (map C.told boxes.old.items))) (devices
-        (device (T.told store.old) (T.told store.new)) (device (S.told input.old) (S.told input.new))
-        (device (K.told output.old) (K.told output.new)) (device (E.told notes.old) (E.told notes.new))
-        (device (map C.told boxes.old.items) (map C.told boxes.new.items))) }
-    ensures unread { reads_input order.verb ≡ false → Untouched (device (S.told input.old) (S.told input.new)) }
+    ensures called { Called result (task (command ordered.now.order ordered.now.files.now) (outers_told (map C.told boxes.old.items)))
+        (told_at T.told S.told K.told E.told C.told store.old store.new devices.old devices.new boxes.old boxes.new) }
+    ensures unread { reads_input ordered.now.order.verb ≡ false → Untouched (told_by S.told K.told E.told devices.old devices.new).input }
+    ensures same { SameDevices devices.old devices.new }
 {
     match outers_of(alloc, boxes.as_slice()) {
-        Ok(outers) => serve(
-            alloc, order, files, &outers, gate, boxes, store, input, output, notes,
-        ),
+        Ok(outers) => {
+            let duty = Duty {
+                order: ordered.order,
+                files: ordered.files,
+                outers: &outers,
+            };
+            serve(alloc, &duty, gate, boxes, store, devices)
+        }
         Err(_) => Status::OutOfMemory,
     }
+}
+
+// A command, and what is known of the calculators that are handed in.
+#[derive(Clone, Copy)]
+struct Duty<'a> {
+    order: Order,
+    files: &'a [MgText],
+    outers: &'a [OuterShape],
 }
 
 // Loads all files, and does what the verb has to do with them.
 fn serve<G: Gate, C: Calculator, S: Source, K: Sink, E: Sink, T: Store>(
     alloc: Global,
-    order: Order,
-    files: &[MgText],
-    outers: &[OuterShape],
+    duty: &Duty<'_>,
     gate: &G,
     boxes: &mut Vec<C>,
     store: &mut T,
-    input: &mut S,
-    output: &mut K,
-    notes: &mut E,
+    devices: &mut Devices<'_, '_, '_, S, K, E>,
 ) -> Status
-    requires outers { All IsOuterShape outers.now }
-    requires lawful { All MayBeHandedIn outers.now }
-    requires told { outers.now ≡ outers_told (map C.told boxes.old.items) }
-    ensures called { Called result (task (command order files.now) outers.now) (devices
-        (device (T.told store.old) (T.told store.new)) (device (S.told input.old) (S.told input.new))
-        (device (K.told output.old) (K.told output.new)) (device (E.told notes.old) (E.told notes.new))
-        (device (map C.told boxes.old.items) (map C.told boxes.new.items))) }
-    ensures unread { reads_input order.verb ≡ false → Untouched (device (S.told input.old) (S.told input.new)) }
+    requires outers { All IsOuterShape duty.now.outers.now }
+    requires lawful { All MayBeHandedIn duty.now.outers.now }
+    requires told { duty.now.outers.now ≡ outers_told (map C.told boxes.old.items) }
+    ensures called { Called result (task (command duty.now.order duty.now.files.now) duty.now.outers.now)
+        (told_at T.told S.told K.told E.told C.told store.old store.new devices.old devices.new boxes.old boxes.new) }
+    ensures unread { reads_input duty.now.order.verb ≡ false → Untouched (told_by S.told K.told E.told devices.old devices.new).input }
+    ensures same { SameDevices devices.old devices.new }
 {
-    match load_all(alloc, store, files) {
-        Ok(contents) => match job_of(alloc, order, outers, files, contents) {
-            Ok(job) => do_job(alloc, job, gate, boxes, input, output, notes),
+    match load_all(alloc, store, duty.files) {
+        Ok(contents) => match job_of(alloc, duty.order, duty.outers, duty.files, contents) {
+            Ok(job) => do_job(alloc, job, gate, boxes, devices),
             Err(_) => Status::OutOfMemory,
         },
         Err(Fault::Noted(note)) => {
-            let _ = put_all(notes, &note);
+            let _ = put_all(devices.notes, &note);
             Status::StoreFault
         }
         Err(Fault::OutOfMemory) => Status::OutOfMemory,
@@ -218,37 +225,55 @@ fn do_job<G: Gate, C: Calculator, S: Source, K: Sink, E: Sink>(
     job: Job,
     gate: &G,
     boxes: &mut Vec<C>,
-    input: &mut S,
-    output: &mut K,
-    notes: &mut E,
+    devices: &mut Devices<'_, '_, '_, S, K, E>,
 ) -> Status
     requires can { CanBeDone (outers_told (map C.told boxes.old.items)) (job_view job) }
     requires lawful { All MayBeHandedIn (outers_told (map C.told boxes.old.items)) }
-    ensures did { (store : Device StoreTold) → Did (job_view job) result (devices store
-        (device (S.told input.old) (S.told input.new)) (device (K.told output.old) (K.told output.new)) (device (E.told notes.old) (E.told notes.new))
-        (device (map C.told boxes.old.items) (map C.told boxes.new.items))) }
-    ensures unread { MayRead (job_view job) ⊎ Untouched (device (S.told input.old) (S.told input.new)) }
+    ensures did { (store : Device StoreTold) → Did (job_view job) result
+        (with_run store (told_by S.told K.told E.told devices.old devices.new) (device (map C.told boxes.old.items) (map C.told boxes.new.items))) }
+    ensures unread { MayRead (job_view job) ⊎ Untouched (told_by S.told K.told E.told devices.old devices.new).input }
+    ensures same { SameDevices devices.old devices.new }
 {
     match job {
         Job::Refuse(note) => {
-            let _ = put_all(notes, &note);
+            let _ = put_all(devices.notes, &note);
             Status::GraphRefused
         }
         Job::Show(text) => {
-            if put_all(output, &text) {
+            if put_all(devices.output, &text) {
                 Status::Good
             } else {
                 Status::WriteFault
             }
         }
-        Job::Run(report, plan) => run_graph(
-            alloc, &plan, report, gate, boxes, input, output, notes,
+        Job::Run(report, plan) => run_lines(
+            &Run {
+                alloc,
+                plan: &plan,
+                report,
+            },
+            gate,
+            boxes,
+            devices,
         ),
-        Job::Solve(report, plan) => {
-            solve_graph(alloc, &plan, report, boxes, input, output, notes)
-        }
-        Job::Generate(report, number, plan) => generate_graph(
-            alloc, &plan, number, report, gate, boxes, output, notes,
+        Job::Solve(report, plan) => solve_input(
+            &Run {
+                alloc,
+                plan: &plan,
+                report,
+            },
+            devices,
+        ),
+        Job::Generate(report, number, plan) => run_made(
+            &Run {
+                alloc,
+                plan: &plan,
+                report,
+            },
+            number,
+            gate,
+            boxes,
+            devices,
         ),
     }
 }

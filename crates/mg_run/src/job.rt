@@ -16,6 +16,7 @@ ghost use Rattle.mg_run.specs.Call.{IsJob};
 use crate::check_note::{check_note, check_text};
 use crate::fault::Fault;
 use crate::files::graphs_of;
+use crate::free_note::free_note;
 use crate::note::expand_note;
 use crate::words::{Order, Verb};
 use mg_calc::{OuterShape, Plan};
@@ -137,7 +138,7 @@ fn graph_job(
     }
 }
 
-// A graph that has a plan is solved, and any other is refused.
+// A graph that has a plan without free nodes is solved, and any other is refused.
 fn solve_job(
     alloc: Global,
     report: bool,
@@ -150,7 +151,10 @@ fn solve_job(
     ensures valid { IfOk result (λ job. CanBeDone outers.now (job_view job)) }
 {
     match check(alloc, graph, outers) {
-        Ok(plan) => Ok(Job::Solve(report, plan)),
+        Ok(plan) => match free_note(alloc, b"solve", &plan)? {
+            Some(note) => Ok(Job::Refuse(note)),
+            None => Ok(Job::Solve(report, plan)),
+        },
         Err(fault) => Ok(Job::Refuse(check_note(alloc, &fault)?)),
     }
 }
@@ -168,7 +172,7 @@ fn check_job(alloc: Global, outers: &[OuterShape], graph: &GraphConfig) -> Resul
     }
 }
 
-// A graph that has a plan is run, with the limit of queues that is asked for, and any other is refused.
+// A graph that has a plan without free nodes is run, with the limit of queues that is asked for, and any other is refused.
 fn run_job(
     alloc: Global,
     order: Order,
@@ -181,7 +185,10 @@ fn run_job(
     ensures valid { IfOk result (λ job. CanBeDone outers.now (job_view job)) }
 {
     match check(alloc, graph, outers) {
-        Ok(plan) => Ok(Job::Run(order.report, limited(order.limit, plan))),
+        Ok(plan) => match free_note(alloc, b"run", &plan)? {
+            Some(note) => Ok(Job::Refuse(note)),
+            None => Ok(Job::Run(order.report, limited(order.limit, plan))),
+        },
         Err(fault) => Ok(Job::Refuse(check_note(alloc, &fault)?)),
     }
 }
@@ -199,10 +206,13 @@ fn generate_job(
     ensures valid { IfOk result (λ job. CanBeDone outers.now (job_view job)) }
 {
     match check(alloc, graph, outers) {
-        Ok(plan) => {
-            let plan = limited(order.limit, plan);
-            Ok(Job::Generate(order.report, order.number, plan))
-        }
+        Ok(plan) => match free_note(alloc, b"generate", &plan)? {
+            Some(note) => Ok(Job::Refuse(note)),
+            None => {
+                let plan = limited(order.limit, plan);
+                Ok(Job::Generate(order.report, order.number, plan))
+            }
+        },
         Err(fault) => Ok(Job::Refuse(check_note(alloc, &fault)?)),
     }
 }

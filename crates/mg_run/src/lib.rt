@@ -2,15 +2,12 @@
 //! Answers to the definitions of `specs/Answer.antt`.
 #![tactic(auto)]
 
-mod batches;
 mod call;
 mod check_note;
 mod command_line;
 mod fault;
 mod files;
-mod finishing;
-mod generating;
-mod graph;
+mod free_note;
 mod help;
 mod job;
 pub mod laws;
@@ -19,12 +16,10 @@ mod load;
 mod note;
 mod options;
 mod outers;
-mod running;
-mod status;
 mod tally;
 mod words;
 
 pub use call::run_words;
-pub use status::Status;
+pub use mg_answer::Status;
 pub use tally::tally_box;
 pub use words::{Order, Verb};

@@ -8,21 +8,21 @@ use Rattle.mg_answer.proofs.solving.solve_feed.Goals as goal
 
 pub answer-requires-clause-inputs : goal.answer-requires-clause-inputs
 answer-requires-clause-inputs g c =
-    let input = device (g.S.Source.told c.args.input.now) (g.S.Source.told c.read_inputs-end.new.input) in
+    let input = device (g.S.Source.told c.args.devices.now.input.now) (g.S.Source.told c.read_inputs-end.new.input) in
     let gathered = subst (λ (graph : GraphInputs). Gathered graph input c.read_inputs-end.result.0 c.read_inputs-end.result.1) c.requires.graph
     (c.read_inputs-end.ensures (c.ran_out.ensures.0 c.if-ran_out.false)) in
-    inputs-fit c.args.plan.now gathered.read c.read_inputs-end.result.1 c.requires.plan gathered.good gathered.given
+    inputs-fit c.args.run.now.plan.now gathered.read c.read_inputs-end.result.1 c.requires.plan gathered.good gathered.given
 
-pub returns-in-Ok : goal.returns-in-Ok
-returns-in-Ok g c =
-    let input = device (g.S.Source.told c.args.input.now) (g.S.Source.told c.read_inputs-end.new.input) in
+pub returns-in-Ok-clause-ran : goal.returns-in-Ok-clause-ran
+returns-in-Ok-clause-ran g c =
+    let input = device (g.S.Source.told c.args.devices.now.input.now) (g.S.Source.told c.read_inputs-end.new.input) in
     let gathered = subst (λ (graph : GraphInputs). Gathered graph input c.read_inputs-end.result.0 c.read_inputs-end.result.1) c.requires.graph
     (c.read_inputs-end.ensures (c.ran_out.ensures.0 c.if-ran_out.false)) in
-    ran-wrote c.args.report c.args.plan.now input c.read_inputs-end.result.0 c.read_inputs-end.result.1 c.in-Ok.status _ _ gathered c.in-Ok.ensures
+    ran-wrote c.args.run.now.report c.args.run.now.plan.now input c.read_inputs-end.result.0 c.read_inputs-end.result.1 c.in-Ok.status _ _ gathered c.in-Ok.ensures
 
-pub returns : goal.returns
-returns g c =
-    let input = device (g.S.Source.told c.args.input.now) (g.S.Source.told c.read_inputs-end.new.input) in
+pub returns-clause-ran : goal.returns-clause-ran
+returns-clause-ran g c =
+    let input = device (g.S.Source.told c.args.devices.now.input.now) (g.S.Source.told c.read_inputs-end.new.input) in
     let gathered = subst (λ (graph : GraphInputs). Gathered graph input c.read_inputs-end.result.0 c.read_inputs-end.result.1) c.requires.graph
     (c.read_inputs-end.ensures (c.ran_out.ensures.0 c.if-ran_out.false)) in
-    ran-out c.args.report c.args.plan.now input c.read_inputs-end.result.0 c.read_inputs-end.result.1 _ _ gathered c.in-Err.ensures
+    ran-out c.args.run.now.report c.args.run.now.plan.now input c.read_inputs-end.result.0 c.read_inputs-end.result.1 _ _ gathered c.in-Err.ensures

@@ -15,31 +15,31 @@ use Rattle.mg_run.proofs.call.serve.Goals as goal
 pub job_of-requires : goal.job_of-requires
 job_of-requires g c = record {
   each = sym (length-map (λ v. v.items) c.in-Ok.contents.items)
-      ∙ loaded-count (g.T.Store.told c.args.store.now).content c.args.files.now (contents_of c.in-Ok.contents.items) c.in-Ok.ensures.all.given;
+      ∙ loaded-count (g.T.Store.told c.args.store.now).content c.args.duty.now.files.now (contents_of c.in-Ok.contents.items) c.in-Ok.ensures.all.given;
   outers = c.requires.outers;
 }
 
 pub returns-in-Ok-job_of-clause-called : goal.returns-in-Ok-job_of-clause-called
 returns-in-Ok-job_of-clause-called g c =
-    called-did (job_view c.in-Ok-job_of.job) c.do_job.result (task (command c.args.order c.args.files.now) c.args.outers.now) (contents_of c.in-Ok.contents.items) _
+    called-did (job_view c.in-Ok-job_of.job) c.do_job.result (task (command c.args.duty.now.order c.args.duty.now.files.now) c.args.duty.now.outers.now) (contents_of c.in-Ok.contents.items) _
     c.in-Ok.ensures.all c.in-Ok-job_of.ensures.due (c.do_job.ensures.did _)
 
 pub returns-in-Ok-job_of-clause-unread : goal.returns-in-Ok-job_of-clause-unread
 returns-in-Ok-job_of-clause-unread g c =
-    unread-by (task (command c.args.order c.args.files.now) c.args.outers.now) (contents_of c.in-Ok.contents.items) (job_view c.in-Ok-job_of.job)
-    (device (g.S.Source.told c.args.input.now) (g.S.Source.told c.do_job.new.input)) c.in-Ok-job_of.ensures.due c.do_job.ensures.unread
+    unread-by (task (command c.args.duty.now.order c.args.duty.now.files.now) c.args.duty.now.outers.now) (contents_of c.in-Ok.contents.items) (job_view c.in-Ok-job_of.job)
+    (device (g.S.Source.told c.args.devices.now.input.now) (g.S.Source.told c.do_job.new.devices.input.now)) c.in-Ok-job_of.ensures.due c.do_job.ensures.unread
 
 pub returns-in-Err-clause-called : goal.returns-in-Err-clause-called
 returns-in-Err-clause-called g c =
-    short-nothing (task (command c.args.order c.args.files.now) c.args.outers.now) (device (g.T.Store.told c.args.store.now) (g.T.Store.told c.load_all.new.store))
-    (device (g.S.Source.told c.args.input.now) (g.S.Source.told c.args.input.now)) (g.K.Sink.told c.args.output.now)
-    (device (g.E.Sink.told c.args.notes.now) (g.E.Sink.told c.args.notes.now)) (map g.C.Calculator.told c.args.boxes.now.items)
+    short-nothing (task (command c.args.duty.now.order c.args.duty.now.files.now) c.args.duty.now.outers.now) (device (g.T.Store.told c.args.store.now) (g.T.Store.told c.load_all.new.store))
+    (device (g.S.Source.told c.args.devices.now.input.now) (g.S.Source.told c.args.devices.now.input.now)) (g.K.Sink.told c.args.devices.now.output.now)
+    (device (g.E.Sink.told c.args.devices.now.notes.now) (g.E.Sink.told c.args.devices.now.notes.now)) (map g.C.Calculator.told c.args.boxes.now.items)
 
 pub returns-in-Err-OutOfMemory-clause-called : goal.returns-in-Err-OutOfMemory-clause-called
 returns-in-Err-OutOfMemory-clause-called g c =
-    short-nothing (task (command c.args.order c.args.files.now) c.args.outers.now) (device (g.T.Store.told c.args.store.now) (g.T.Store.told c.load_all.new.store))
-    (device (g.S.Source.told c.args.input.now) (g.S.Source.told c.args.input.now)) (g.K.Sink.told c.args.output.now)
-    (device (g.E.Sink.told c.args.notes.now) (g.E.Sink.told c.args.notes.now)) (map g.C.Calculator.told c.args.boxes.now.items)
+    short-nothing (task (command c.args.duty.now.order c.args.duty.now.files.now) c.args.duty.now.outers.now) (device (g.T.Store.told c.args.store.now) (g.T.Store.told c.load_all.new.store))
+    (device (g.S.Source.told c.args.devices.now.input.now) (g.S.Source.told c.args.devices.now.input.now)) (g.K.Sink.told c.args.devices.now.output.now)
+    (device (g.E.Sink.told c.args.devices.now.notes.now) (g.E.Sink.told c.args.devices.now.notes.now)) (map g.C.Calculator.told c.args.boxes.now.items)
 
 pub do_job-requires : goal.do_job-requires
 do_job-requires g c = record {

@@ -1,0 +1,47 @@
+ghost use Rattle.std.specs.Prelude.{◌≡◌};
+ghost use Rattle.mg_answer.specs.Status.{number_of};
+
+/// How a call of the program ended. A run ends with any but the three that come before one.
+#[derive(Clone, Copy, Debug, PartialEq, Eq)]
+pub enum Status {
+    /// All went well.
+    Good,
+    /// A file couldn't be loaded.
+    StoreFault,
+    /// The words are no command.
+    Usage,
+    /// A graph file was refused.
+    GraphRefused,
+    /// A line of the input wasn't good. The lines before it count.
+    LineRefused,
+    /// A calculator failed.
+    NodeFault,
+    /// The input ended, and a stream never closed.
+    Stalled,
+    /// The input couldn't be read to its end. The lines that were whole before count.
+    ReadFault,
+    /// The output or the notes couldn't be written.
+    WriteFault,
+    /// There wasn't memory enough.
+    OutOfMemory,
+}
+
+impl Status {
+    /// The number that the program exits with.
+    pub fn number(self) -> u8
+        ensures { result ≡ number_of self }
+    {
+        match self {
+            Status::Good => 0,
+            Status::StoreFault => 1,
+            Status::Usage => 2,
+            Status::GraphRefused => 3,
+            Status::LineRefused => 4,
+            Status::NodeFault => 5,
+            Status::Stalled => 6,
+            Status::ReadFault => 7,
+            Status::WriteFault => 8,
+            Status::OutOfMemory => 9,
+        }
+    }
+}

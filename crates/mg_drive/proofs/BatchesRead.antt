@@ -1,0 +1,128 @@
+-- What a feed has read, batch by batch.
+use Rattle.std.proofs.Common.{◌≡◌, ◌<◌, ◌≤◌, ℕ, zero, suc, List, [], ◌∷◌, ◌++◌, length, map, replicate, Bool, false, Option, Some, None, refl, sym, ap, ◌∙◌, subst, arith, length-append}
+use Rattle.mg_edge.specs.Edge.{SourceTold}
+use Rattle.mg_edge.specs.Runs.{Gave}
+use Rattle.mg_value.specs.Payload.{Plain}
+use Rattle.mg_value.specs.Prefix.{Stamped, StreamPrefix, empty_prefix}
+use Rattle.mg_calc.specs.declared.inputs.Inputs.{Inputs}
+use Rattle.mg_calc.specs.declared.plan.Plan.{Plan}
+use Rattle.mg_feed.specs.Graph.{GraphInputs, inputs_of}
+use Rattle.mg_feed.specs.Accepted.{State, given_by, most_lines}
+use Rattle.mg_feed.specs.Given.{ended_streams}
+use Rattle.mg_feed.specs.Stands.{Stands, nothing_taken, taken_with, packets_of}
+use Rattle.mg_feed.specs.Fed.{Fed, Reading}
+use Rattle.mg_feed.specs.Ran.{MetEnd, Unfailed}
+use Rattle.mg_feed.specs.Batch.{EndsAs, Fills, naming, HasReadBatch, BatchEndsAs, BatchFailedBy}
+use Rattle.mg_feed.specs.declared.feed_end.BatchEnd.{BatchEnd}
+use Rattle.mg_feed.specs.declared.feed_end.BatchEnd.TheVariants.{More, End}
+use Rattle.mg_feed.proofs.Coming.{came-nothing, came-taken}
+use Rattle.mg_feed.proofs.Moving.{gave-then, met-then, unfailed-same, unfailed-then, failed-by, naming-few}
+use Rattle.mg_feed.proofs.Holding.{given-untaken}
+use Rattle.mg_feed.proofs.Growing.{naming-names}
+use Rattle.mg_feed.proofs.Joining.{taken-all}
+use Rattle.mg_drive.specs.Batches.{IsMore}
+use Rattle.mg_drive.specs.Code.Lines.{has_ended, inputs_at, HadMemory, ReadsAs, IsRead, HasBatch, LinesGave}
+
+-- The first moment --
+
+none_of : (n : ℕ) → map (λ (s : StreamPrefix Plain). s.packets) (replicate n empty_prefix) ≡ replicate n []
+none_of zero = refl
+none_of (suc n) = ap (λ l. [] ∷ l) (none_of n)
+
+-- no lines give no packets
+none_given : (graph : GraphInputs) → packets_of (given_by graph []).streams ≡ nothing_taken graph
+none_given graph = none_of (length graph.kinds)
+
+gave_none : (left : Option (List ℕ)) → Gave left left []
+gave_none None = tt
+gave_none (Some bytes) = (bytes, refl, refl)
+
+-- a feed that is new has read nothing
+pub nothing_read : (plan : Plan) (first : SourceTold) (fed : Fed) → fed.view.graph ≡ inputs_of plan → Stands [] (nothing_taken (inputs_of plan)) fed.view
+    → fed.read ≡ record { kept = []; ended = false } → IsRead plan first More first fed [] []
+nothing_read plan first fed graph stands unread = record {
+  graph = graph;
+  gave = gave_none first.left;
+  came = came-nothing [] (packets_of (given_by (inputs_of plan) []).streams) fed unread
+      (subst (λ (gone : List (List (Stamped Plain))). Stands [] gone fed.view) (sym (none_given (inputs_of plan))) stands);
+  met = subst (λ (r : Reading). MetEnd false r.ended first first) (sym unread) refl;
+  so = unfailed-same first;
+}
+
+-- A batch --
+
+reads_on : (end : BatchEnd) (plan : Plan) (first before now : SourceTold) (mid fed : Fed) (graph : GraphInputs) (past came : List ℕ) (lines taken : List (List ℕ)) → HadMemory end
+    → graph ≡ inputs_of plan → fed.read ≡ mid.read → Gave first.left before.left past → Unfailed first before → BatchFailedBy end before now
+    → BatchEndsAs end graph [] (past ++ came) (lines ++ taken) mid.read.ended → ReadsAs end plan first now fed (past ++ came) (lines ++ taken)
+reads_on More plan first before now mid fed graph past came lines taken some is same gave unfailed failed ends = unfailed-then first before now unfailed failed
+reads_on (End end) plan first before now mid fed graph past came lines taken some is same gave unfailed failed ends = (
+  some,
+  subst (λ (r : Reading). EndsAs end (inputs_of plan) [] (past ++ came) (lines ++ taken) r.ended) (sym same)
+      (subst (λ (g : GraphInputs). EndsAs end g [] (past ++ came) (lines ++ taken) mid.read.ended) is ends),
+  failed-by end first before now past gave unfailed failed,
+)
+
+-- a batch that may have more behind it has lines
+fills_some : (end : BatchEnd) (most : ℕ) (taken : List (List ℕ)) → 0 < most → Fills end most taken → IsMore end → 0 < naming taken
+fills_some More most taken some fills more = subst (λ (n : ℕ). 0 < n) (sym fills.0) some
+fills_some (End end) most taken some fills more = absurd more
+
+pub batch_read : (plan : Plan) (first before now : SourceTold) (most : ℕ) (end : BatchEnd) (old mid new : Fed) (inputs : Inputs) (b : Bool) (past : List ℕ) (lines : List (List ℕ))
+    → 0 < most → HadMemory end → IsRead plan first More before old past lines
+    → HasReadBatch most end before now old mid → MetEnd old.read.ended mid.read.ended before now → BatchFailedBy end before now → mid.view.lines ≤ most_lines → mid.view.graph ≡ old.view.graph
+    → b ≡ has_ended end → inputs.streams ≡ ended_streams b mid.view.given.streams → inputs.sides ≡ mid.view.given.sides → inputs.ended ≡ b
+    → ((ls : List (List ℕ)) (gone : List (List (Stamped Plain))) → Stands ls gone mid.view → Stands ls (taken_with gone mid.view.given.streams) new.view)
+    → new.view.graph ≡ mid.view.graph → new.read ≡ mid.read → HasBatch plan first end inputs now new past lines
+batch_read plan first before now most end old mid new inputs b past lines some had was read met failed few mid_graph is_b streams sides ended takes new_graph new_read =
+    let both = read.accepted [] past lines (packets_of (given_by (inputs_of plan) lines).streams) was.came in
+    let came = both.0 in
+    let graph : mid.view.graph ≡ inputs_of plan = mid_graph ∙ was.graph in
+    let all = lines ++ read.taken in
+    let taken_is : taken_with (packets_of (given_by (inputs_of plan) lines).streams) mid.view.given.streams ≡ packets_of (given_by (inputs_of plan) all).streams =
+    taken-all all (packets_of (given_by (inputs_of plan) lines).streams) mid.view came.stands ∙ ap (λ (g : GraphInputs). packets_of (given_by g all).streams) graph in
+    let naming_some = fills_some end most read.taken some read.filled in
+    record {
+      came = read.came;
+      more = read.taken;
+      is_read = record {
+        graph = new_graph ∙ graph;
+        gave = gave-then first.left before.left now.left past read.came was.gave read.gave;
+        came = came-taken [] (past ++ read.came) all (packets_of (given_by (inputs_of plan) lines).streams) (packets_of (given_by (inputs_of plan) all).streams) mid new came new_read
+            (subst (λ (gone : List (List (Stamped Plain))). Stands all gone new.view) taken_is (takes all (packets_of (given_by (inputs_of plan) lines).streams) came.stands));
+        met = subst (λ (r : Reading). MetEnd false r.ended first now) (sym new_read) (met-then false old.read.ended mid.read.ended first before now past was.gave was.met met);
+        so = reads_on end plan first before now mid new old.view.graph past read.came lines read.taken had was.graph new_read was.gave was.so failed both.1;
+      };
+      view = mid.view;
+      graph = graph;
+      stands = came.stands;
+      streams = streams ∙ ap (λ c. ended_streams c mid.view.given.streams) is_b;
+      sides = sides;
+      ended = ended ∙ is_b;
+      longer = λ more. let few_named = naming-few read.taken in let some_named = naming_some more in omega (arith, length-append lines read.taken, few_named, some_named);
+      named = λ more. naming-names (inputs_of plan) lines read.taken (naming_some more);
+      few = subst (λ (n : ℕ). n ≤ most_lines) came.stands.number few;
+    }
+
+-- The first batch --
+
+inputs_from : (inputs : Inputs) (ss : List (StreamPrefix Plain)) (sides : List (Option Plain)) (ended : Bool) → inputs.streams ≡ ss → inputs.sides ≡ sides → inputs.ended ≡ ended
+    → inputs ≡ record { streams = ss; sides = sides; ended = ended }
+inputs_from inputs ss sides ended a b c = λ i. record { streams = a i; sides = b i; ended = c i }
+
+-- what the first batch hands on is all that its lines gave
+pub first_read : (plan : Plan) (first : SourceTold) (end : BatchEnd) (inputs : Inputs) (now : SourceTold) (fed : Fed) → HasBatch plan first end inputs now fed [] [] → LinesGave fed plan first now end inputs
+first_read plan first end inputs now fed batch =
+    let graph = inputs_of plan in
+    let stands : Stands batch.more (nothing_taken batch.view.graph) batch.view = subst (λ (g : GraphInputs). Stands batch.more (nothing_taken g) batch.view) (sym batch.graph)
+    (subst (λ (gone : List (List (Stamped Plain))). Stands batch.more gone batch.view) (none_given graph) batch.stands) in
+    let given : batch.view.given ≡ given_by graph batch.more = given-untaken batch.more batch.view stands ∙ ap (λ (g : GraphInputs). given_by g batch.more) batch.graph in
+    record {
+      past = batch.came;
+      lines = batch.more;
+      is_read = batch.is_read;
+      inputs_are = inputs_from inputs _ _ _
+          (batch.streams ∙ ap (λ (s : State). ended_streams (has_ended end) s.streams) given)
+          (batch.sides ∙ ap (λ (s : State). s.sides) given)
+          batch.ended;
+      named = batch.named;
+    }

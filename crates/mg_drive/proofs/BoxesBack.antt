@@ -1,0 +1,168 @@
+-- What a run leaves of the calculators that were handed in.
+use Rattle.std.proofs.Common.{◌≡◌, ◌<◌, inl, inr, ℕ, Bool, List, ◌++◌, length, map, All, Option, Some, None, IfSome, IsSomeAnd, Result, Ok, Err, IfOk, OnErr, slice_get, unwrap_or, option_map, option_and_then, refl, sym, ap, ◌∙◌, subst, arith}
+use Rattle.std.proofs.lemmas.List.{length-map}
+use Rattle.std.proofs.lemmas.Option.{slice_get_cases, slice_get-map}
+use Rattle.mg_edge.specs.Edge.{SourceTold}
+use Rattle.mg_calc.specs.declared.call.Call.{Call}
+use Rattle.mg_calc.specs.declared.inputs.Inputs.{Inputs}
+use Rattle.mg_calc.specs.declared.plan.Plan.{Plan}
+use Rattle.mg_calc.specs.declared.plan_node.PlanNode.{PlanNode}
+use Rattle.mg_calc.specs.Shape.{IsOuter}
+use Rattle.mg_calc.specs.Told.{CalculatorTold}
+use Rattle.mg_calc.specs.Meaning.{log_of}
+use Rattle.mg_answer.specs.Devices.{Device, device, run_devices}
+use Rattle.mg_node.specs.Job.{LoggedJob, first_log}
+use Rattle.mg_sched.specs.Views.{NetView}
+use Rattle.mg_sched.specs.Made.{job_of as made_job, FitsNew, BoxesFit, IsMade}
+use Rattle.mg_sched.specs.GivesBack.{given_back}
+use Rattle.mg_sched.proofs.PlanEdges.{all_at}
+use Rattle.mg_sched.proofs.HadBack.{count_back as as_many_back, unused_is_back, unused_lies}
+use Rattle.mg_answer.specs.Answer.{Form}
+use Rattle.mg_answer.specs.declared.status.Status.{Status}
+use Rattle.mg_edge.specs.Edge.{SinkTold}
+use Rattle.mg_drive.specs.Leaves.{HadCallsOf}
+use Rattle.mg_drive.specs.Nets.{Keeps}
+use Rattle.mg_drive.specs.Batches.{logged}
+use Rattle.mg_drive.specs.Code.Running.{Giving, Telling, Start, job_with, IsShort}
+use Rattle.mg_drive.specs.Code.Ending.{HadAllOf, CameBack, StoodWith, HasEnded, HasRun, WasShort}
+use Rattle.mg_drive.proofs.Jobs.{plan_stood}
+use Rattle.mg_drive.proofs.RunsEnd.{start_of}
+
+abbrev pub logs_of : List CalculatorTold → List (Option (List Call))
+logs_of boxes = map (λ b. b.log) boxes
+
+-- One that no node uses --
+
+-- it comes back as it lay
+lay_there : (plan : Plan) (inputs : Inputs) (boxes : List CalculatorTold) (made now : NetView) (place : ℕ) → IsMade plan inputs boxes made → Keeps made now → StoodWith (logs_of boxes) now
+    → place < length boxes → All (λ node. ¬ (node.box_number ≡ Some place)) plan.nodes → slice_get (given_back now) place ≡ slice_get boxes place
+lay_there plan inputs boxes made now place is keeps stood less none =
+    let job = made_job plan inputs boxes in
+    let there = unused_lies job made place is.stands (let count = length-map boxes (λ (b : CalculatorTold). b.log) in omega (arith, count, less))
+    (subst (λ (p : Plan). All (λ node. ¬ (node.box_number ≡ Some place)) p.nodes) (sym (plan_stood job made is.stands)) none) in
+    let lies : slice_get now.spare place ≡ Some (Some there.0) = ap (λ (l : List (Option CalculatorTold)). slice_get l place) keeps.spare ∙ there.1 in
+    unused_is_back stood.job now place there.0 stood.stood lies ∙ sym (is.unused place there.0 there.1)
+
+count_back : (boxes : List CalculatorTold) (now : NetView) → StoodWith (logs_of boxes) now → length (given_back now) ≡ length boxes
+count_back boxes now stood = as_many_back stood.job now stood.stood ∙ ap length stood.logs_are ∙ length-map boxes (λ (b : CalculatorTold). b.log)
+
+-- All --
+
+-- of a net that was made, ran and gave back what it had
+pub came_back : (plan : Plan) (inputs : Inputs) (boxes : List CalculatorTold) (made now : NetView) → IsMade plan inputs boxes made → Keeps made now → StoodWith (logs_of boxes) now
+    → CameBack plan boxes (given_back now)
+came_back plan inputs boxes made now is keeps stood = record {
+  count = count_back boxes now stood;
+  unused = λ place none. elim (slice_get_cases boxes place).1 [
+    | inl within ↦ lay_there plan inputs boxes made now place is keeps stood within.1 none
+    | inr past ↦ elim (slice_get_cases (given_back now) place).1 [
+      | inl there ↦ absurd (let count = count_back boxes now stood in let less = there.1 in let far = past.0 in omega (arith, count, less, far))
+      | inr none_there ↦ none_there.1 ∙ sym past.1
+    ]
+  ];
+}
+
+-- One that a node uses --
+
+abbrev FitsAt : List CalculatorTold → PlanNode → Type 0
+FitsAt boxes node = IfSome node.box_number (λ number. IsSomeAnd (slice_get boxes number) (FitsNew node))
+
+found_in : (node : PlanNode) (o : Option CalculatorTold) → IsSomeAnd o (FitsNew node) → (told : CalculatorTold) × (o ≡ Some told) × FitsNew node told
+found_in node None is = absurd is
+found_in node (Some told) is = (told, refl, is)
+
+-- the one that was handed in for it
+pub box_at : (plan : Plan) (boxes : List CalculatorTold) (number place : ℕ) (node : PlanNode) → BoxesFit plan boxes → slice_get plan.nodes number ≡ Some node → node.box_number ≡ Some place
+    → (told : CalculatorTold) × (slice_get boxes place ≡ Some told) × FitsNew node told
+box_at plan boxes number place node fit there has =
+    found_in node (slice_get boxes place)
+    (subst (λ (o : Option ℕ). IfSome o (λ n. IsSomeAnd (slice_get boxes n) (FitsNew node))) has (all_at (FitsAt boxes) plan.nodes number node there fit))
+
+-- its log was that of the job
+pub log_was : (job : LoggedJob) (boxes : List CalculatorTold) (place : ℕ) (node : PlanNode) (told : CalculatorTold) → job.logs ≡ logs_of boxes → node.box_number ≡ Some place → slice_get boxes place ≡ Some told
+    → first_log job node ≡ told.log
+log_was job boxes place node told logs has there =
+    ap (λ (o : Option ℕ). option_and_then (λ number. unwrap_or (slice_get job.logs number) None) o) has
+    ∙ ap (λ (ls : List (Option (List Call))). unwrap_or (slice_get ls place) None) logs
+    ∙ ap (λ (o : Option (Option (List Call))). unwrap_or o None) (slice_get-map (λ (b : CalculatorTold). b.log) boxes place ∙ ap (option_map (λ (b : CalculatorTold). b.log)) there)
+
+-- each that a node uses had its calls
+all_had : (job : LoggedJob) (boxes : List CalculatorTold) (net : NetView) → BoxesFit job.job.plan boxes → job.logs ≡ logs_of boxes → HadAllOf job net → HadCallsOf job.job (device boxes (given_back net))
+all_had job boxes net fit logs had = record {
+  streams = had.streams;
+  solution = had.solution;
+  each = λ number place node there has.
+      let box = box_at job.job.plan boxes number place node fit there has in
+      let outer : IsOuter node.law = subst IsOuter box.2.fits.same_law box.2.outer in
+      let back = had.each number place node there has outer in
+      record {
+        before = box.0;
+        now = back.told;
+        was = box.1;
+        is = back.there;
+        holds = record {
+          log = back.had.log ∙ ap (option_map (λ (calls : List Call). calls ++ log_of job.job had.streams node)) (log_was job boxes place node box.0 logs has box.1);
+          state = back.had.state;
+          law = back.had.fits.same_law ∙ sym box.2.fits.same_law;
+          shape = back.had.fits.same_shape ∙ sym box.2.fits.same_shape;
+        };
+      };
+}
+
+-- by what came back
+pub all_had_now : (job : LoggedJob) (boxes now : List CalculatorTold) (net : NetView) → BoxesFit job.job.plan boxes → job.logs ≡ logs_of boxes → now ≡ given_back net → HadAllOf job net → HadCallsOf job.job (device boxes now)
+all_had_now job boxes now net fit logs is had = subst (λ (bs : List CalculatorTold). HadCallsOf job.job (device boxes bs)) (sym is) (all_had job boxes net fit logs had)
+
+pub came_back_then : (plan : Plan) (inputs : Inputs) (boxes handed now : List CalculatorTold) (made net : NetView) → handed ≡ boxes → IsMade plan inputs handed made → Keeps made net → StoodWith (logs_of boxes) net
+    → now ≡ given_back net → CameBack plan boxes now
+came_back_then plan inputs boxes handed now made net same is keeps stood back =
+    subst (λ (bs : List CalculatorTold). CameBack plan boxes bs) (sym back)
+    (came_back plan inputs boxes made net (subst (λ (bs : List CalculatorTold). IsMade plan inputs bs made) same is) keeps stood)
+
+-- what isn't called comes back as it was
+pub same_back : (plan : Plan) (boxes now : List CalculatorTold) → now ≡ boxes → CameBack plan boxes now
+same_back plan boxes now same = record { count = ap length same; unused = λ place none. ap (λ (l : List CalculatorTold). slice_get l place) same }
+
+-- Runs --
+
+-- whatever a run came to
+pub either : {X E P : Type 0} (r : Result X E) → IfOk r (λ x. P) → OnErr r P → P
+either (Ok x) one other = one
+either (Err e) one other = other
+
+pub stood_ended : {B : Type 0} (gives : Giving B) (form : Form) (report : Bool) (start : Start B) (status : Status) (source : SourceTold) (sink : SinkTold) (notes : Device SinkTold) (net : NetView) → HasEnded gives form report start status source sink notes net
+    → StoodWith start.logs net
+stood_ended {B} gives form report start status source sink notes net h = record { job = job_with start h.inputs; stood = h.stood; logs_are = refl }
+
+pub stood_short : {B T : Type 0} (gives : Giving B) (has_told : Telling T) (form : Form) (start : Start B) (source : SourceTold) (sink : SinkTold) (net : NetView) → IsShort gives has_told form start source sink net → StoodWith start.logs net
+stood_short {B} {T} gives has_told form start source sink net h = record { job = job_with start h.inputs; stood = h.stood; logs_are = refl }
+
+-- a net that has ended was run
+pub run_ended : {B : Type 0} (gives : Giving B) (form : Form) (report : Bool) (plan : Plan) (boxes now : List CalculatorTold) (began : B) (source later : SourceTold) (first sink : SinkTold) (notes : Device SinkTold) (status : Status) (net : NetView) → BoxesFit plan boxes
+    → now ≡ given_back net → HasEnded gives form report (start_of plan boxes source first began) status later sink notes net
+    → HasRun gives form report began plan status (run_devices (device source later) (device first sink) notes) (device boxes now)
+run_ended {B} gives form report plan boxes now began source later first sink notes status net fit back h = record {
+  batches = h.batches;
+  end = h.end;
+  inputs = h.inputs;
+  given = h.given;
+  wrote = h.wrote;
+  had = all_had_now (logged plan h.inputs (logs_of boxes)) boxes now net fit refl back h.had;
+}
+
+-- or was short of memory
+pub run_short : {B T : Type 0} (gives : Giving B) (has_told : Telling T) (form : Form) (plan : Plan) (boxes now : List CalculatorTold) (began : B) (source later : SourceTold) (first sink : SinkTold) (notes : Device SinkTold) (net : NetView)
+    → now ≡ given_back net → IsShort gives has_told form (start_of plan boxes source first began) later sink net
+    → WasShort gives has_told form began plan (run_devices (device source later) (device first sink) notes) (device boxes now)
+run_short {B} {T} gives has_told form plan boxes now began source later first sink notes net back h = record {
+  batches = h.batches;
+  end = h.end;
+  at = h.at;
+  inputs = h.inputs;
+  given = h.given;
+  last = h.last;
+  net = net;
+  stood = h.stood;
+  back = back;
+  front = h.front;
+}

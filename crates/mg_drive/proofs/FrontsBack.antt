@@ -1,0 +1,144 @@
+-- What a run leaves of the calculators that were handed in where memory ran out: a front of their calls.
+use Rattle.std.proofs.Common.{◌≡◌, ◌⊎◌, inl, inr, ℕ, suc, List, [], ◌∷◌, ◌++◌, length, map, append-nil, Bool, true, false, Option, Some, None, slice_get, option_map, if◌then◌else◌, refl, sym, ap, ◌∙◌, subst}
+use Rattle.std.proofs.Math.Seq.{take-length}
+use Rattle.mg_value.specs.Payload.{Plain}
+use Rattle.mg_value.specs.Prefix.{StreamPrefix}
+use Rattle.mg_calc.specs.declared.call.Call.{Call}
+use Rattle.mg_calc.specs.declared.call.Call.TheVariants.{Begun, Shown, Finished}
+use Rattle.mg_calc.specs.declared.cause.Cause.{Cause}
+use Rattle.mg_calc.specs.declared.node_fault.Phase.{Phase}
+use Rattle.mg_calc.specs.declared.node_fault.Phase.TheVariants.{Open, Call as SourceCall, Process, Close}
+use Rattle.mg_calc.specs.declared.plan.Plan.{Plan}
+use Rattle.mg_calc.specs.declared.plan_node.PlanNode.{PlanNode}
+use Rattle.mg_calc.specs.Shape.{IsOuter}
+use Rattle.mg_calc.specs.Told.{CalculatorTold}
+use Rattle.mg_calc.specs.Outcome.{Failure}
+use Rattle.mg_calc.specs.Equations.{Job, IsJob, outcome_of}
+use Rattle.mg_calc.specs.Meaning.{shown_sets, last_call, log_of}
+use Rattle.mg_answer.specs.Devices.{Device, device}
+use Rattle.mg_node.specs.Job.{LoggedJob, Solves}
+use Rattle.mg_node.specs.Batches.{Grows}
+use Rattle.mg_sched.specs.Views.{NetView}
+use Rattle.mg_sched.specs.Made.{BoxesFit}
+use Rattle.mg_sched.specs.GivesBack.{given_back, StoodFor}
+use Rattle.mg_sched.proofs.CountedBack.{knows_back}
+use Rattle.mg_sched.proofs.FrontsBack.{front_back}
+use Rattle.mg_sched.proofs.Solved.{solved}
+use Rattle.mg_drive.specs.Leaves.{first_calls, HadAFront, IsAt, HadCallsOf, HadFronts}
+use Rattle.mg_drive.proofs.BoxesBack.{logs_of, box_at, log_was}
+
+-- Calculators of a net --
+
+-- one comes back with a front of its calls
+one_front : (boxes : List CalculatorTold) (job later : LoggedJob) (net : NetView) (streams : List (StreamPrefix Plain)) (number place : ℕ) (node : PlanNode) → BoxesFit later.job.plan boxes → later.logs ≡ logs_of boxes → StoodFor job net
+    → (later ≡ job) ⊎ Grows job later → net.plan ≡ later.job.plan → Solves later streams → slice_get later.job.plan.nodes number ≡ Some node → node.box_number ≡ Some place → IsAt place (HadAFront later.job streams node) (device boxes (given_back net))
+one_front boxes job later net streams number place node fit logs stood more plan_is solves there has =
+    let box = box_at later.job.plan boxes number place node fit there has in
+    let outer : IsOuter node.law = subst IsOuter box.2.fits.same_law box.2.outer in
+    let back = front_back job later net streams number place node stood more solves (ap (λ (p : Plan). slice_get p.nodes number) plan_is ∙ there) has outer in
+    record {
+      before = box.0;
+      now = back.0;
+      was = box.1;
+      is = back.1;
+      holds = record {
+        count = back.2.count;
+        close = back.2.close;
+        log = back.2.log ∙ ap (option_map (λ (calls : List Call). calls ++ first_calls later.job streams node back.2.count back.2.close)) (log_was later boxes place node box.0 logs has box.1);
+        law = back.2.fits.same_law ∙ sym box.2.fits.same_law;
+        shape = back.2.fits.same_shape ∙ sym box.2.fits.same_shape;
+      };
+    }
+
+-- and so does each, in the solution of a job that the net's is or that goes on from it
+pub all_fronts : (boxes : List CalculatorTold) (job later : LoggedJob) (net : NetView) → BoxesFit later.job.plan boxes → later.logs ≡ logs_of boxes → StoodFor job net → job.job.plan ≡ later.job.plan → (later ≡ job) ⊎ Grows job later
+    → IsJob later.job → HadFronts later.job (device boxes (given_back net))
+all_fronts boxes job later net fit logs stood same more is =
+    let found = solved later is in
+    record {
+      streams = found.0;
+      solution = found.1.solution;
+      each = λ number place node there has. one_front boxes job later net found.0 number place node fit logs stood more ((knows_back job net stood).plan ∙ same) found.1 there has;
+    }
+
+-- in that of the net's own, by what came back
+pub fronts_now : (boxes now : List CalculatorTold) (job : LoggedJob) (net : NetView) → BoxesFit job.job.plan boxes → job.logs ≡ logs_of boxes → StoodFor job net → IsJob job.job → now ≡ given_back net → HadFronts job.job (device boxes now)
+fronts_now boxes now job net fit logs stood is back =
+    subst (λ (bs : List CalculatorTold). HadFronts job.job (device boxes bs)) (sym back) (all_fronts boxes job job net fit logs stood refl (inl refl) is)
+
+-- Calculators that had none of their calls, or all --
+
+none_more : (log : Option (List Call)) → log ≡ option_map (λ (calls : List Call). calls ++ []) log
+none_more None = refl
+none_more (Some calls) = ap Some (sym (append-nil calls))
+
+-- they had a front of none in any job
+pub none_had : (job : Job) (boxes : List CalculatorTold) → IsJob job → BoxesFit job.plan boxes → HadFronts job (device boxes boxes)
+none_had job boxes is fit =
+    let found = solved (record { job = job; logs = [] }) is in
+    record {
+      streams = found.0;
+      solution = found.1.solution;
+      each = λ number place node there has.
+          (let box = box_at job.plan boxes number place node fit there has in
+          record {
+            before = box.0;
+            now = box.0;
+            was = box.1;
+            is = box.1;
+            holds = record { count = 0; close = false; log = none_more box.0.log; law = refl; shape = refl };
+          });
+    }
+
+-- whether Close is the last of a node's calls
+abbrev closes_at : Phase → Bool
+closes_at Open = false
+closes_at (SourceCall number) = true
+closes_at (Process at) = true
+closes_at Close = true
+
+abbrev closes : Option Failure → Bool
+closes None = true
+closes (Some failure) = closes_at failure.phase
+
+abbrev finish : Bool → List Call
+finish close = if close then Finished ∷ [] else []
+
+last_at : (phase : Phase) (cause : Cause) → last_call (Some (record { phase = phase; cause = cause })) ≡ finish (closes_at phase)
+last_at Open cause = refl
+last_at (SourceCall number) cause = refl
+last_at (Process at) cause = refl
+last_at Close cause = refl
+
+last_is : (fault : Option Failure) → last_call fault ≡ finish (closes fault)
+last_is None = refl
+last_is (Some failure) = last_at failure.phase failure.cause
+
+-- all of a node's calls are a front of them
+all_first : (job : Job) (streams : List (StreamPrefix Plain)) (node : PlanNode) → log_of job streams node ≡ first_calls job streams node (suc (length (map (λ e. Shown e.at e.set) (shown_sets job streams node)))) (closes (outcome_of job streams node).fault)
+all_first job streams node =
+    let shown : List Call = map (λ e. Shown e.at e.set) (shown_sets job streams node) in
+    let fault = (outcome_of job streams node).fault in
+    ap (λ (last : List Call). (Begun ∷ shown) ++ last) (last_is fault) ∙ ap (λ (calls : List Call). calls ++ finish (closes fault)) (sym (take-length (Begun ∷ shown)))
+
+-- so those that had all had a front
+pub all_are_fronts : (job : Job) (boxes : Device (List CalculatorTold)) → HadCallsOf job boxes → HadFronts job boxes
+all_are_fronts job boxes had = record {
+  streams = had.streams;
+  solution = had.solution;
+  each = λ number place node there has.
+      (let at = had.each number place node there has in
+      record {
+        before = at.before;
+        now = at.now;
+        was = at.was;
+        is = at.is;
+        holds = record {
+          count = suc (length (map (λ e. Shown e.at e.set) (shown_sets job had.streams node)));
+          close = closes (outcome_of job had.streams node).fault;
+          log = at.holds.log ∙ ap (λ (more : List Call). option_map (λ (calls : List Call). calls ++ more) at.before.log) (all_first job had.streams node);
+          law = at.holds.law;
+          shape = at.holds.shape;
+        };
+      });
+}

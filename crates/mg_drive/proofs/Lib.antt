@@ -1,0 +1,12 @@
+pub mod Jobs
+pub mod TakingSets
+pub mod Tellings
+pub mod Looping
+pub mod BatchesRead
+pub mod LinesGoOn
+pub mod Reported
+pub mod RunsEnd
+pub mod BoxesBack
+pub mod FrontsBack
+pub mod LinesRan
+pub mod PacketsRan

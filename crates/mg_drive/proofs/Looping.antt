@@ -1,0 +1,230 @@
+-- A net that is driven over batches, step by step.
+use Rattle.std.proofs.Common.{◌≡◌, ◌<◌, ◌+◌, inl, inr, ℕ, List, length, refl, sym, ap, ◌∙◌, subst, arith}
+use Rattle.mg_edge.specs.Edge.{SourceTold, SinkTold}
+use Rattle.mg_value.specs.Payload.{Plain}
+use Rattle.mg_value.specs.Prefix.{StreamPrefix}
+use Rattle.mg_value.specs.Settled.{TimedSet}
+use Rattle.mg_calc.specs.declared.inputs.Inputs.{Inputs}
+use Rattle.mg_calc.specs.declared.plan.Plan.{Plan}
+use Rattle.mg_feed.specs.declared.feed_end.FeedEnd.{FeedEnd}
+use Rattle.mg_feed.specs.declared.feed_end.BatchEnd.{BatchEnd}
+use Rattle.mg_feed.specs.declared.feed_end.BatchEnd.TheVariants.{More, End}
+use Rattle.mg_answer.specs.Answer.{Form}
+use Rattle.mg_node.specs.Job.{LoggedJob, Solves}
+use Rattle.mg_sched.specs.Views.{NetView}
+use Rattle.mg_sched.specs.StandsFor.{StandsFor, StandsForSome, IsRunning}
+use Rattle.mg_sched.specs.AtRest.{IsAtRest}
+use Rattle.mg_sched.specs.Sweeps.{Becomes}
+use Rattle.mg_sched.specs.Begins.{Begins}
+use Rattle.mg_sched.specs.Trims.{Trims}
+use Rattle.mg_sched.specs.Extends.{Extends}
+use Rattle.mg_sched.specs.GivesBack.{StoodFor}
+use Rattle.mg_sched.specs.Taking.{taken_out, settled_outputs, HasAllOutputs, LeavesNodes}
+use Rattle.mg_sched.proofs.Becoming.{becomes_plan, becomes_spare}
+use Rattle.mg_sched.proofs.OutputsTaken.{all_come_at_rest}
+use Rattle.mg_drive.specs.Nets.{Keeps}
+use Rattle.mg_drive.specs.Batches.{IsMore}
+use Rattle.mg_drive.specs.Code.Running.{Giving, Telling, Start, job_with, IsTold, IsToldSome, IsSomeTold, IsUnderWay, IsSomeMore, WentOn, HasRested, IsOver, IsShort}
+use Rattle.mg_drive.proofs.TakingSets.{told_same, told_some}
+use Rattle.mg_drive.proofs.Jobs.{told_of_later}
+
+-- Measure --
+
+-- how many more batches there may be
+abbrev pub batches_left : BatchEnd → ℕ → ℕ
+batches_left More left = left + 1
+batches_left (End end) left = 0
+
+pub fewer_batches : (last next : BatchEnd) (old new : ℕ) → last ≡ More → (IsMore next → new < old) → batches_left next new < batches_left last old
+fewer_batches last More old new is falls = subst (λ (e : BatchEnd). new + 1 < batches_left e old) (sym is) (let less = falls tt in omega (arith, less))
+fewer_batches last (End end) old new is falls = subst (λ (e : BatchEnd). 0 < batches_left e old) (sym is) (omega arith)
+
+-- What is kept --
+
+pub keeps_itself : (net : NetView) → Keeps net net
+keeps_itself net = record { plan = refl; spare = refl }
+
+pub keeps_on : (a b c : NetView) → Keeps a b → Keeps b c → Keeps a c
+keeps_on a b c one two = record { plan = two.plan ∙ one.plan; spare = two.spare ∙ one.spare }
+
+pub begins_keep : (before now : NetView) → Begins before now → Keeps before now
+begins_keep before now b = record { plan = ap (λ (v : NetView). v.plan) b.parts; spare = ap (λ (v : NetView). v.spare) b.parts }
+
+pub begins_taken : (before now : NetView) → Begins before now → taken_out now ≡ taken_out before
+begins_taken before now b = ap taken_out b.parts
+
+pub becomes_keeps : (before now : NetView) → Becomes before now → Keeps before now
+becomes_keeps before now b = record { plan = becomes_plan before now b; spare = becomes_spare before now b }
+
+pub takings_keep : (before now : NetView) → LeavesNodes before now → Keeps before now
+takings_keep before now l = record { plan = ap (λ (v : NetView). v.plan) l; spare = ap (λ (v : NetView). v.spare) l }
+
+pub takings_run : (before now : NetView) → LeavesNodes before now → IsRunning before → IsRunning now
+takings_run before now l running = subst IsRunning (sym l) running
+
+pub trims_keep : (before now : NetView) → Trims before now → Keeps before now
+trims_keep before now t = record { plan = ap (λ (v : NetView). v.plan) t.parts; spare = ap (λ (v : NetView). v.spare) t.parts }
+
+pub trims_run : (before now : NetView) → Trims before now → IsRunning before → IsRunning now
+trims_run before now t running = subst IsRunning (sym t.parts) running
+
+pub trims_taken : (before now : NetView) → Trims before now → taken_out now ≡ taken_out before
+trims_taken before now t = ap taken_out t.parts
+
+pub extends_keep : (inputs : Inputs) (before now : NetView) → Extends inputs before now → Keeps before now
+extends_keep inputs before now e = record { plan = ap (λ (v : NetView). v.plan) e.parts; spare = ap (λ (v : NetView). v.spare) e.parts }
+
+pub extends_run : (inputs : Inputs) (before now : NetView) → Extends inputs before now → IsRunning before → IsRunning now
+extends_run inputs before now e running = subst IsRunning (sym e.parts) running
+
+pub extends_taken : (inputs : Inputs) (before now : NetView) → Extends inputs before now → taken_out now ≡ taken_out before
+extends_taken inputs before now e = ap taken_out e.parts
+
+pub same_keeps : (before now : NetView) → now ≡ before → Keeps before now
+same_keeps before now same = subst (λ (v : NetView). Keeps before v) (sym same) (keeps_itself before)
+
+pub same_runs : (before now : NetView) → now ≡ before → IsRunning before → IsRunning now
+same_runs before now same running = subst IsRunning (sym same) running
+
+-- Sets --
+
+-- a net that came to rest, from which sets were taken then until there was none
+pub rested_at : (job : LoggedJob) (before rested now : NetView) → ((j : LoggedJob) → StandsFor j before → StandsFor j rested) → StandsFor job before → IsRunning rested → IsAtRest rested
+    → LeavesNodes rested now → ((j : LoggedJob) (streams : List (StreamPrefix Plain)) → StandsFor j rested → Solves j streams → HasAllOutputs streams rested
+    → taken_out now ≡ length (settled_outputs now.plan streams)) → HasRested job now
+rested_at job before rested now keeps stands running rests since all = record {
+  rested = rested;
+  stands = keeps job stands;
+  running = running;
+  rests = rests;
+  since = since;
+  all = λ streams solves. all job streams (keeps job stands) solves (all_come_at_rest job streams rested (keeps job stands) running rests solves);
+}
+
+-- Runs --
+
+pub stands_still : (job : LoggedJob) (net : NetView) → StandsFor job net → StoodFor job net
+stands_still job net stands = record { before = net; stands = stands; since = inl refl }
+
+-- what a run has told
+pub run_told : {B T : Type 0} (gives : Giving B) (has_told : Telling T) (start : Start B) (end : BatchEnd) (source : SourceTold) (sink : SinkTold) (batches : B) (telling : T) (net : NetView)
+    → IsUnderWay gives has_told start end source sink batches telling net → IsSomeTold has_told sink net telling
+run_told {B} {T} gives has_told start end source sink batches telling net u = record { job = job_with start u.inputs; first = start.sink; stands = u.stands; is_told = u.is_told }
+
+-- a run is under way still where its net stands still for each job, and as many sets are taken
+pub still_under_way : {B T : Type 0} (gives : Giving B) (has_told : Telling T) (start : Start B) (end : BatchEnd) (source : SourceTold) (sink : SinkTold) (batches : B) (telling : T) (net now : NetView)
+    → ((job : LoggedJob) → StandsFor job net → StandsFor job now) → taken_out now ≡ taken_out net
+    → IsUnderWay gives has_told start end source sink batches telling net → IsUnderWay gives has_told start end source sink batches telling now
+still_under_way {B} {T} gives has_told start end source sink batches telling net now keeps same u = record {
+  inputs = u.inputs;
+  given = u.given;
+  stands = keeps (job_with start u.inputs) u.stands;
+  is_told = told_same has_told (job_with start u.inputs) start.sink sink (taken_out net) (taken_out now) telling same u.is_told;
+}
+
+-- and where more was told
+abbrev pub more_told : {B T : Type 0} (gives : Giving B) (has_told : Telling T) (start : Start B) (end : BatchEnd) (source : SourceTold) (sink later : SinkTold) (batches : B) (telling telling_now : T) (net now : NetView)
+    → ((job : LoggedJob) → StandsFor job net → StandsFor job now)
+    → ((job : LoggedJob) (first : SinkTold) → StandsFor job net → IsTold has_told job.job first sink (taken_out net) telling → IsTold has_told job.job first later (taken_out now) telling_now)
+    → IsUnderWay gives has_told start end source sink batches telling net → IsUnderWay gives has_told start end source later batches telling_now now
+more_told {B} {T} gives has_told start end source sink later batches telling telling_now net now keeps tells u = record {
+  inputs = u.inputs;
+  given = u.given;
+  stands = keeps (job_with start u.inputs) u.stands;
+  is_told = tells (job_with start u.inputs) start.sink u.stands u.is_told;
+}
+
+-- what was told was passed on
+pub passed_on : {B T : Type 0} (gives : Giving B) (has_told : Telling T) (start : Start B) (end : BatchEnd) (source : SourceTold) (sink later : SinkTold) (batches : B) (telling telling_now : T) (net : NetView)
+    → ((plan : Plan) (first : SinkTold) (sets : List (TimedSet Plain)) → has_told telling plan first sink sets → has_told telling_now plan first later sets)
+    → IsUnderWay gives has_told start end source sink batches telling net → IsUnderWay gives has_told start end source later batches telling_now net
+passed_on {B} {T} gives has_told start end source sink later batches telling telling_now net passes u = record {
+  inputs = u.inputs;
+  given = u.given;
+  stands = u.stands;
+  is_told = record { told = λ streams solution. passes start.plan start.sink _ (u.is_told.told streams solution) };
+}
+
+-- there is more behind the batch, and what was told is passed on
+pub flushed : {B T : Type 0} (gives : Giving B) (has_told : Telling T) (start : Start B) (last : BatchEnd) (source : SourceTold) (sink later written : SinkTold) (batches : B) (telling telling_now telling_then : T) (net now : NetView) → last ≡ More
+    → ((job : LoggedJob) → StandsFor job net → StandsFor job now)
+    → ((job : LoggedJob) (first : SinkTold) → StandsFor job net → IsTold has_told job.job first sink (taken_out net) telling → IsTold has_told job.job first later (taken_out now) telling_now)
+    → ((plan : Plan) (first : SinkTold) (sets : List (TimedSet Plain)) → has_told telling_now plan first later sets → has_told telling_then plan first written sets)
+    → IsUnderWay gives has_told start last source sink batches telling net → IsUnderWay gives has_told start More source written batches telling_then now
+flushed {B} {T} gives has_told start last source sink later written batches telling telling_now telling_then net now is keeps tells passes u =
+    passed_on gives has_told start More source later written batches telling_now telling_then now passes
+    (more_told gives has_told start More source sink later batches telling telling_now net now keeps tells
+    (subst (λ (e : BatchEnd). IsUnderWay gives has_told start e source sink batches telling net) is u))
+
+-- the input has ended, and the net has rested
+pub over_at : {B T : Type 0} (gives : Giving B) (has_told : Telling T) (start : Start B) (last : BatchEnd) (end : FeedEnd) (source : SourceTold) (sink later : SinkTold) (batches : B) (telling telling_now : T) (net now : NetView) → last ≡ End end
+    → ((job : LoggedJob) → StandsFor job net → StandsFor job now)
+    → ((job : LoggedJob) (first : SinkTold) → StandsFor job net → IsTold has_told job.job first sink (taken_out net) telling → IsTold has_told job.job first later (taken_out now) telling_now)
+    → ((job : LoggedJob) → StandsFor job net → HasRested job now)
+    → IsUnderWay gives has_told start last source sink batches telling net → IsOver gives has_told start end source later batches telling_now now
+over_at {B} {T} gives has_told start last end source sink later batches telling telling_now net now is keeps tells rests u =
+    let v : IsUnderWay gives has_told start (End end) source sink batches telling net = subst (λ (e : BatchEnd). IsUnderWay gives has_told start e source sink batches telling net) is u in
+    record {
+      under_way = more_told gives has_told start (End end) source sink later batches telling telling_now net now keeps tells v;
+      has_rested = rests (job_with start v.inputs) v.stands;
+    }
+
+-- there is more to read of a run
+pub run_more : {B T : Type 0} (gives : Giving B) (has_told : Telling T) (start : Start B) (source : SourceTold) (sink : SinkTold) (batches : B) (telling : T) (net : NetView)
+    → IsUnderWay gives has_told start More source sink batches telling net → IsSomeMore gives source batches net
+run_more {B} {T} gives has_told start source sink batches telling net u = record { start = start; inputs = u.inputs; given = u.given; stands = u.stands }
+
+-- and was read
+pub went_on : {B T : Type 0} (gives : Giving B) (has_told : Telling T) (start : Start B) (end : BatchEnd) (source later : SourceTold) (sink : SinkTold) (batches batches_now : B) (telling : T) (net now : NetView) → taken_out now ≡ taken_out net
+    → ((inputs : Inputs) → gives start.batches batches start.plan start.source source More inputs → StandsFor (job_with start inputs) net → WentOn gives start end later batches_now inputs now)
+    → IsUnderWay gives has_told start More source sink batches telling net → IsUnderWay gives has_told start end later sink batches_now telling now
+went_on {B} {T} gives has_told start end source later sink batches batches_now telling net now same goes u =
+    let on = goes u.inputs u.given u.stands in
+    record {
+      inputs = on.all;
+      given = on.given;
+      stands = on.stands;
+      is_told = told_of_later has_told (job_with start u.inputs) (job_with start on.all) start.sink sink net now telling u.stands on.grows same u.is_told;
+    }
+
+-- Memory ran out --
+
+-- where some sets were told since
+pub short_told : {B T : Type 0} (gives : Giving B) (has_told : Telling T) (form : Form) (start : Start B) (end : BatchEnd) (source : SourceTold) (sink sink_now : SinkTold) (batches : B) (telling : T) (net now : NetView)
+    → ((job : LoggedJob) → StandsFor job net → StandsFor job now)
+    → ((job : LoggedJob) (first : SinkTold) → StandsFor job net → IsTold has_told job.job first sink (taken_out net) telling → IsToldSome has_told job.job first sink_now)
+    → IsUnderWay gives has_told start end source sink batches telling net → IsShort gives has_told form start source sink_now now
+short_told {B} {T} gives has_told form start end source sink sink_now batches telling net now keeps tells u =
+    let job = job_with start u.inputs in
+    record {
+      batches = batches;
+      end = end;
+      at = source;
+      inputs = u.inputs;
+      given = u.given;
+      last = inr refl;
+      stood = stands_still job now (keeps job u.stands);
+      front = inl (tells job start.sink u.stands u.is_told);
+    }
+
+-- where none was
+pub short_here : {B T : Type 0} (gives : Giving B) (has_told : Telling T) (form : Form) (start : Start B) (end : BatchEnd) (source : SourceTold) (sink : SinkTold) (batches : B) (telling : T) (net now : NetView)
+    → ((job : LoggedJob) → StandsFor job net → StandsFor job now) → IsUnderWay gives has_told start end source sink batches telling net → IsShort gives has_told form start source sink now
+short_here {B} {T} gives has_told form start end source sink batches telling net now keeps u =
+    short_told gives has_told form start end source sink sink batches telling net now keeps (λ job first h t. told_some has_told job first sink (taken_out net) telling t) u
+
+-- and more was read
+pub short_more : {B T : Type 0} (gives : Giving B) (has_told : Telling T) (form : Form) (start : Start B) (source later : SourceTold) (sink : SinkTold) (batches : B) (telling : T) (net now : NetView)
+    → ((job : LoggedJob) → StandsFor job net → StandsFor job now) → IsUnderWay gives has_told start More source sink batches telling net → IsShort gives has_told form start later sink now
+short_more {B} {T} gives has_told form start source later sink batches telling net now keeps u =
+    let job = job_with start u.inputs in
+    record {
+      batches = batches;
+      end = More;
+      at = source;
+      inputs = u.inputs;
+      given = u.given;
+      last = inl tt;
+      stood = stands_still job now (keeps job u.stands);
+      front = inl (told_some has_told job start.sink sink (taken_out net) telling u.is_told);
+    }

@@ -1,0 +1,65 @@
+-- What is told of a net that has come to rest is told of the solution.
+use Rattle.std.proofs.Common.{◌≡◌, ◌<◌, List, [], ◌∷◌, length, map, All, refl, sym, ap, ◌∙◌, subst}
+use Rattle.std.proofs.lemmas.List.{length-map}
+use Rattle.mg_value.specs.Payload.{Plain}
+use Rattle.mg_value.specs.Prefix.{StreamPrefix}
+use Rattle.mg_calc.specs.declared.plan.Plan.{Plan}
+use Rattle.mg_calc.specs.declared.node_fault.NodeFault.{NodeFault}
+use Rattle.mg_calc.specs.Meaning.{faults, count_of}
+use Rattle.mg_calc.proofs.Solutions.{solution_has_each}
+use Rattle.mg_calc.proofs.Jobs.{any_state, job_known}
+use Rattle.mg_answer.specs.Report.{end_of}
+use Rattle.mg_answer.specs.Outcomes.{TellsOf}
+use Rattle.mg_answer.specs.declared.outcomes.Outcomes.{Outcomes}
+use Rattle.mg_answer.specs.declared.outcomes.StreamEnd.{StreamEnd}
+use Rattle.mg_answer.proofs.Telling.{faults-below}
+use Rattle.mg_node.specs.Job.{LoggedJob, Solves}
+use Rattle.mg_sched.specs.declared.report.Report.{Report}
+use Rattle.mg_sched.specs.Views.{NetView}
+use Rattle.mg_sched.specs.Reports.{report_of, stream_end}
+use Rattle.mg_sched.proofs.Solved.{solved}
+use Rattle.mg_sched.proofs.RestingReports.{rests_with_sets, rests_with_all_faults, rests_with_ends}
+use Rattle.mg_drive.specs.Code.Running.{HasRested, SomeRested}
+use Rattle.mg_drive.specs.Code.Ending.{told_end, TellsNet}
+use Rattle.mg_drive.proofs.Jobs.{valid_plan}
+
+-- streams are told alike
+told_ends : (ss : List (StreamPrefix Plain)) → map told_end (map stream_end ss) ≡ map end_of ss
+told_ends [] = refl
+told_ends (s ∷ ss) = ap (λ (l : List StreamEnd). end_of s ∷ l) (told_ends ss)
+
+-- the report is that of the net at rest
+same_report : (job : LoggedJob) (net : NetView) (h : HasRested job net) → report_of net ≡ report_of h.rested
+same_report job net h = ap report_of h.since
+
+-- what is told of the net is told of the solution
+pub tells_at : (job : LoggedJob) (net : NetView) (streams : List (StreamPrefix Plain)) (outcomes : Outcomes) → HasRested job net → Solves job streams → TellsNet net outcomes → TellsOf job.job streams outcomes
+tells_at job net streams outcomes h solves tells =
+    let same = same_report job net h in
+    record {
+      faults = tells.faults ∙ ap (λ (r : Report). r.faults) same ∙ rests_with_all_faults job h.rested streams h.stands h.running h.rests solves;
+      sets = tells.sets ∙ ap (λ (r : Report). r.sets) same ∙ rests_with_sets job h.rested streams h.stands h.running h.rests solves;
+      ends = tells.ends ∙ ap (λ (r : Report). map told_end r.streams) same
+          ∙ ap (map told_end) (rests_with_ends job h.rested streams h.stands h.running h.rests solves) ∙ told_ends streams;
+    }
+
+-- there is an end for each stream of the plan, and a count for each node; and the faults are of its nodes
+pub ends_many : (plan : Plan) (net : NetView) (outcomes : Outcomes) → SomeRested plan net → TellsNet net outcomes → length outcomes.ends.items ≡ length plan.streams
+ends_many plan net outcomes some tells =
+    let found = solved some.job (valid_plan some.job net some.stands) in
+    let told = tells_at some.job net found.0 outcomes some.has_rested found.1 tells in
+    ap length told.ends ∙ length-map found.0 end_of
+    ∙ solution_has_each any_state some.job.job (job_known some.job.job found.1.is_job) found.0 found.1.solution ∙ ap (λ (p : Plan). length p.streams) some.plan_is
+
+pub sets_many : (plan : Plan) (net : NetView) (outcomes : Outcomes) → SomeRested plan net → TellsNet net outcomes → length outcomes.sets ≡ length plan.nodes
+sets_many plan net outcomes some tells =
+    let found = solved some.job (valid_plan some.job net some.stands) in
+    let told = tells_at some.job net found.0 outcomes some.has_rested found.1 tells in
+    ap length told.sets ∙ length-map some.job.job.plan.nodes (count_of some.job.job found.0) ∙ ap (λ (p : Plan). length p.nodes) some.plan_is
+
+pub faults_there : (plan : Plan) (net : NetView) (outcomes : Outcomes) → SomeRested plan net → TellsNet net outcomes → All (λ (fault : NodeFault). fault.node < length plan.nodes) outcomes.faults
+faults_there plan net outcomes some tells =
+    let found = solved some.job (valid_plan some.job net some.stands) in
+    let told = tells_at some.job net found.0 outcomes some.has_rested found.1 tells in
+    subst (λ (fs : List NodeFault). All (λ fault. fault.node < length plan.nodes) fs) (sym told.faults)
+    (subst (λ (p : Plan). All (λ fault. fault.node < length p.nodes) (faults some.job.job found.0)) some.plan_is (faults-below some.job.job found.0))

@@ -1,0 +1,179 @@
+-- How a run begins, and how it ends once its net has come to rest.
+use Rattle.std.proofs.Common.{◌≡◌, ◌⊎◌, inl, inr, ℕ, List, [], length, map, take, Bool, Option, Some, None, slice_get, unwrap_or, option_map, refl, sym, ap, ◌∙◌, subst}
+use Rattle.std.proofs.Math.Seq.{take-length}
+use Rattle.mg_edge.specs.Edge.{SourceTold, SinkTold}
+use Rattle.mg_value.specs.Payload.{Plain}
+use Rattle.mg_value.specs.Prefix.{StreamPrefix}
+use Rattle.mg_value.specs.Settled.{TimedSet}
+use Rattle.mg_calc.specs.declared.inputs.Inputs.{Inputs}
+use Rattle.mg_calc.specs.declared.plan.Plan.{Plan}
+use Rattle.mg_calc.specs.Told.{CalculatorTold}
+use Rattle.mg_calc.specs.Equations.{Job, IsSolution}
+use Rattle.mg_feed.specs.declared.feed_end.FeedEnd.{FeedEnd}
+use Rattle.mg_feed.specs.declared.feed_end.BatchEnd.{BatchEnd}
+use Rattle.mg_feed.specs.declared.feed_end.BatchEnd.TheVariants.{End}
+use Rattle.mg_answer.specs.Text.{output_names, sets_text}
+use Rattle.mg_answer.specs.Summary.{summary_text}
+use Rattle.mg_answer.specs.Answer.{Form, packet_lines, totals, output_in}
+use Rattle.mg_answer.specs.Devices.{Device, device}
+use Rattle.mg_answer.specs.Wrote.{Wrote}
+use Rattle.mg_answer.specs.Put.{TextView, HasPut}
+use Rattle.mg_answer.specs.declared.status.Status.{Status}
+use Rattle.mg_answer.proofs.Writing.{put-front}
+use Rattle.mg_node.specs.Views.{IntakeView}
+use Rattle.mg_node.specs.Job.{LoggedJob, Solves}
+use Rattle.mg_sched.specs.Views.{NetView}
+use Rattle.mg_sched.specs.StandsFor.{StandsFor}
+use Rattle.mg_sched.specs.Made.{IsMade}
+use Rattle.mg_sched.specs.Taking.{collector_of, taken_out, settled_outputs}
+use Rattle.mg_sched.specs.WindsUp.{WindsUpNet}
+use Rattle.mg_sched.specs.GivesBack.{StoodFor}
+use Rattle.mg_sched.proofs.Solved.{solved}
+use Rattle.mg_sched.proofs.HadBack.{used_back}
+use Rattle.mg_sched.proofs.OutputsTaken.{outputs_by_default}
+use Rattle.mg_drive.specs.Batches.{logged}
+use Rattle.mg_drive.specs.Told.{told_in}
+use Rattle.mg_drive.specs.Nets.{Keeps}
+use Rattle.mg_drive.specs.Code.Running.{Giving, Telling, Start, job_with, IsTold, IsUnderWay, HasRested, SomeRested, IsOver, IsShort, FrontIn}
+use Rattle.mg_drive.specs.Code.Ending.{IsWhole, HadAllOf, HasEnded}
+use Rattle.mg_drive.proofs.Jobs.{valid_plan, plan_stood}
+use Rattle.mg_drive.proofs.TakingSets.{told_some}
+use Rattle.mg_drive.proofs.Looping.{keeps_itself}
+
+-- The beginning --
+
+-- nothing was taken out of a net that was made
+none_taken : (net : NetView) (o : Option IntakeView) → collector_of net ≡ o → ((intake : IntakeView) → collector_of net ≡ Some intake → intake.claimed ≡ 0) → unwrap_or (option_map (λ (i : IntakeView). i.claimed) o) 0 ≡ 0
+none_taken net None is fresh = refl
+none_taken net (Some intake) is fresh = fresh intake is
+
+pub none_yet : (plan : Plan) (inputs : Inputs) (boxes : List CalculatorTold) (net : NetView) → IsMade plan inputs boxes net → taken_out net ≡ 0
+none_yet plan inputs boxes net made = none_taken net (collector_of net) refl (λ intake there. (made.fresh (length net.plan.nodes) intake there).claimed)
+
+-- how the run of a plan begins, with these calculators
+abbrev pub start_of : {B : Type 0} → Plan → List CalculatorTold → SourceTold → SinkTold → B → Start B
+start_of plan boxes source sink batches = record { plan = plan; logs = map (λ b. b.log) boxes; source = source; sink = sink; batches = batches }
+
+-- a net that was made of the first batch begins a run, of which nothing is told
+pub begins : {B T : Type 0} (gives : Giving B) (has_told : Telling T) (plan : Plan) (boxes handed : List CalculatorTold) (began batches : B) (telling : T) (first now : SourceTold) (sink : SinkTold) (end : BatchEnd) (inputs : Inputs) (net : NetView)
+    → handed ≡ boxes → IsMade plan inputs handed net → gives began batches plan first now end inputs → ((s : SinkTold) → has_told telling plan s s [])
+    → IsUnderWay gives has_told (start_of plan boxes first sink began) end now sink batches telling net
+begins {B} {T} gives has_told plan boxes handed began batches telling first now sink end inputs net same was given nothing =
+    let made : IsMade plan inputs boxes net = subst (λ (bs : List CalculatorTold). IsMade plan inputs bs net) same was in
+    record {
+      inputs = inputs;
+      given = given;
+      stands = made.stands;
+      is_told = record {
+        told = λ streams solution. subst (λ (n : ℕ). has_told telling plan sink sink (take n (settled_outputs plan streams))) (sym (none_yet plan inputs boxes net made)) (nothing sink);
+      };
+    }
+
+-- The text --
+
+-- all sets were taken
+pub all_taken : (job : LoggedJob) (net : NetView) (streams : List (StreamPrefix Plain)) → StandsFor job net → HasRested job net → Solves job streams → taken_out net ≡ length (settled_outputs job.job.plan streams)
+all_taken job net streams stands h solves = h.all streams solves ∙ ap (λ (p : Plan). length (settled_outputs p streams)) (plan_stood job net stands)
+
+-- in a form, all sets of a job's solution are the text that its streams make
+pub told_whole : (form : Form) (job : LoggedJob) (streams : List (StreamPrefix Plain)) → Solves job streams → told_in form job.job.plan (settled_outputs job.job.plan streams) ≡ output_in form job.job.plan streams
+told_whole packet_lines job streams solves = ap (sets_text (output_names job.job.plan)) (outputs_by_default job streams solves)
+told_whole totals job streams solves = ap (summary_text (output_names job.job.plan)) (outputs_by_default job streams solves)
+
+-- all sets were told, so the text of what was told is whole
+pub whole_told : {T : Type 0} (has_told : Telling T) (form : Form) (job : LoggedJob) (first sink : SinkTold) (net : NetView) (telling : T) (text : TextView) → StandsFor job net → HasRested job net
+    → IsTold has_told job.job first sink (taken_out net) telling
+    → ((plan : Plan) (f now : SinkTold) (sets : List (TimedSet Plain)) → has_told telling plan f now sets → HasPut f now text (told_in form plan sets)) → IsWhole form first sink job.job text
+whole_told {T} has_told form job first sink net telling text stands rested told puts = λ streams solution.
+    let solves : Solves job streams = record { is_job = valid_plan job net stands; solution = solution } in
+    let sets = settled_outputs job.job.plan streams in
+    let all : take (taken_out net) sets ≡ sets = ap (λ (n : ℕ). take n sets) (all_taken job net streams stands rested solves) ∙ take-length sets in
+    subst (λ (t : List ℕ). HasPut first sink text t) (ap (told_in form job.job.plan) all ∙ told_whole form job streams solves) (puts job.job.plan first sink (take (taken_out net) sets) (told.told streams solution))
+
+-- a front of what was put was taken
+pub front_whole : (form : Form) (first sink : SinkTold) (job : Job) (text : TextView) → IsWhole form first sink job text → FrontIn form first sink job
+front_whole form first sink job text whole = λ streams solution. put-front text.failed first sink text.kept (output_in form job.plan streams) (whole streams solution)
+
+-- Calculators --
+
+-- each that a node uses comes back with all its calls
+pub had_of : (job : LoggedJob) (net wound : NetView) → StandsFor job net → HasRested job net → WindsUpNet net wound → wound.wound ≡ length net.plan.nodes → HadAllOf job wound
+had_of job net wound stands h winds all =
+    let found = solved job (valid_plan job net stands) in
+    record {
+      streams = found.0;
+      solution = found.1.solution;
+      each = λ number place node there has outer.
+          let back = used_back job h.rested net wound found.0 number place node h.stands h.running h.rests found.1 h.since winds all
+          (ap (λ (p : Plan). slice_get p.nodes number) (plan_stood job net stands) ∙ there) has outer in
+          record { told = back.0; there = back.1; had = back.2 };
+    }
+
+-- The end --
+
+-- a run that is over has rested for its job
+pub some_rested : {B T : Type 0} (gives : Giving B) (has_told : Telling T) (plan : Plan) (start : Start B) (end : FeedEnd) (source : SourceTold) (sink : SinkTold) (batches : B) (telling : T) (net : NetView) → start.plan ≡ plan
+    → IsOver gives has_told start end source sink batches telling net → SomeRested plan net
+some_rested {B} {T} gives has_told plan start end source sink batches telling net is over =
+    record { job = job_with start over.under_way.inputs; plan_is = is; stands = over.under_way.stands; has_rested = over.has_rested }
+
+-- its answer was written
+pub ended_over : {B T : Type 0} (gives : Giving B) (has_told : Telling T) (form : Form) (report : Bool) (plan : Plan) (start : Start B) (end : FeedEnd) (source : SourceTold) (sink now : SinkTold) (batches : B) (telling : T) (net wound : NetView) (text : TextView) (status : Status)
+    (notes : Device SinkTold) → start.plan ≡ plan
+    → ((p : Plan) (f n : SinkTold) (sets : List (TimedSet Plain)) → has_told telling p f n sets → HasPut f n text (told_in form p sets))
+    → ((fm : Form) (job : LoggedJob) (first : SinkTold) → job.job.plan ≡ plan → StandsFor job net → HasRested job net → IsWhole fm first sink job.job text
+    → Wrote (record { form = fm; report = report }) job.job end status (device first now) notes)
+    → WindsUpNet net wound → wound.wound ≡ length net.plan.nodes
+    → IsOver gives has_told start end source sink batches telling net → HasEnded gives form report start status source now notes wound
+ended_over {B} {T} gives has_told form report plan start end source sink now batches telling net wound text status notes is puts wrote winds all over =
+    let u = over.under_way in
+    let job = job_with start u.inputs in
+    record {
+      batches = batches;
+      end = end;
+      inputs = u.inputs;
+      given = u.given;
+      wrote = wrote form job start.sink is u.stands over.has_rested (whole_told has_told form job start.sink sink net telling text u.stands over.has_rested u.is_told puts);
+      had = had_of job net wound u.stands over.has_rested winds all;
+      stood = record { before = net; stands = u.stands; since = inr winds };
+    }
+
+-- or memory ran out before its text was made
+pub short_over : {B T : Type 0} (gives : Giving B) (has_told : Telling T) (form : Form) (start : Start B) (end : FeedEnd) (source : SourceTold) (sink : SinkTold) (batches : B) (telling : T) (net : NetView)
+    → IsOver gives has_told start end source sink batches telling net → IsShort gives has_told form start source sink net
+short_over {B} {T} gives has_told form start end source sink batches telling net over =
+    let u = over.under_way in
+    let job = job_with start u.inputs in
+    record {
+      batches = batches;
+      end = End end;
+      at = source;
+      inputs = u.inputs;
+      given = u.given;
+      last = inr refl;
+      stood = record { before = net; stands = u.stands; since = inl refl };
+      front = inl (told_some has_told job start.sink sink (taken_out net) telling u.is_told);
+    }
+
+-- or after that
+pub short_end : {B T : Type 0} (gives : Giving B) (has_told : Telling T) (form : Form) (start : Start B) (end : FeedEnd) (source : SourceTold) (sink now : SinkTold) (batches : B) (telling : T) (net later : NetView) (text : TextView)
+    → ((p : Plan) (f n : SinkTold) (sets : List (TimedSet Plain)) → has_told telling p f n sets → HasPut f n text (told_in form p sets))
+    → ((fm : Form) (job : Job) (first : SinkTold) → IsWhole fm first sink job text → FrontIn fm first now job) → (later ≡ net) ⊎ WindsUpNet net later
+    → IsOver gives has_told start end source sink batches telling net → IsShort gives has_told form start source now later
+short_end {B} {T} gives has_told form start end source sink now batches telling net later text puts front since over =
+    let u = over.under_way in
+    let job = job_with start u.inputs in
+    record {
+      batches = batches;
+      end = End end;
+      at = source;
+      inputs = u.inputs;
+      given = u.given;
+      last = inr refl;
+      stood = record { before = net; stands = u.stands; since = since };
+      front = inr (front form job.job start.sink (whole_told has_told form job start.sink sink net telling text u.stands over.has_rested u.is_told puts));
+    }
+
+pub winds_keep : (net now : NetView) → (now ≡ net) ⊎ WindsUpNet net now → Keeps net now
+winds_keep net now (inl same) = record { plan = ap (λ (v : NetView). v.plan) same; spare = ap (λ (v : NetView). v.spare) same }
+winds_keep net now (inr winds) = record { plan = ap (λ (v : NetView). v.plan) winds.parts; spare = ap (λ (v : NetView). v.spare) winds.parts }

@@ -1,0 +1,151 @@
+-- The sets that leave a net.
+use Rattle.std.proofs.Common.{◌≡◌, ◌<◌, ◌≤◌, ◌-◌, ◌^◌, ℕ, zero, suc, List, [], ◌∷◌, ◌++◌, length, take, Bool, true, false, Option, Some, slice_get, refl, sym, ap, ◌∙◌, subst, arith}
+use Rattle.std.specs.Bool.{OnTrue}
+use Rattle.std.proofs.lemmas.List.{length-map, length-take}
+use Rattle.mg_edge.specs.Edge.{SinkTold}
+use Rattle.mg_time.specs.Time.{done}
+use Rattle.mg_value.specs.Payload.{Plain}
+use Rattle.mg_value.specs.Prefix.{Stamped, StreamPrefix, IsPrefix}
+use Rattle.mg_value.specs.Settled.{TimedSet, settled_sets, inputs_of, port_of}
+use Rattle.mg_value.specs.declared.policy.Policy.TheVariants.{Default}
+use Rattle.mg_value.proofs.Lemmas.{all_inputs, sets-places}
+use Rattle.std.proofs.lemmas.List.Elements.{All-from_recursion}
+use Rattle.mg_calc.specs.declared.plan.Plan.{Plan}
+use Rattle.mg_calc.proofs.Solutions.{solution_keeps}
+use Rattle.mg_calc.proofs.Jobs.{any_state, job_known}
+use Rattle.mg_node.specs.Job.{LoggedJob, Solves}
+use Rattle.mg_node.specs.Intakes.{HasSet}
+use Rattle.mg_node.proofs.Claiming.{few_sets}
+use Rattle.mg_sched.specs.Views.{NetView}
+use Rattle.mg_sched.specs.StandsFor.{StandsFor, StandsForSome}
+use Rattle.mg_sched.specs.Taking.{taken_out, settled_outputs, TakesOut}
+use Rattle.mg_sched.proofs.Solved.{solved}
+use Rattle.mg_sched.proofs.PlanEdges.{all_at}
+use Rattle.mg_sched.proofs.OutputsTaken.{one_more_taken, few_taken, outputs_by_default}
+use Rattle.mg_drive.specs.Told.{IsFewTold}
+use Rattle.mg_drive.specs.Code.Running.{Telling, IsTold, IsToldSome, IsSomeTold}
+use Rattle.mg_drive.proofs.Jobs.{valid_plan, plan_stood}
+
+-- Counts --
+
+-- the sets of a solution are few
+few_settled : (job : LoggedJob) (streams : List (StreamPrefix Plain)) → Solves job streams → length (settled_outputs job.job.plan streams) ≤ done
+few_settled job streams solves =
+    let all = All-from_recursion IsPrefix streams (solution_keeps any_state job.job (job_known job.job solves.is_job) streams solves.solution) in
+    subst (λ (l : List (TimedSet Plain)). length l ≤ done) (sym (outputs_by_default job streams solves)) (few_sets Default (inputs_of streams job.job.plan.outputs) (all_inputs streams job.job.plan.outputs all))
+
+-- so as many may be taken
+pub few_are_taken : (job : LoggedJob) (net : NetView) → StandsFor job net → taken_out net ≤ done
+few_are_taken job net stands =
+    let found = solved job (valid_plan job net stands) in
+    let few = few_taken job found.0 net stands found.1 in
+    let most = few_settled job found.0 found.1 in
+    let same : length (settled_outputs net.plan found.0) ≡ length (settled_outputs job.job.plan found.0) = ap (λ (p : Plan). length (settled_outputs p found.0)) (plan_stood job net stands) in
+    omega (arith, few, most, same)
+
+-- and each that is taken leaves fewer to take
+pub fewer_to_take : (set_old set_now : List (Option (Stamped Plain))) (before now : NetView) → StandsForSome now → TakesOut true set_old set_now before now
+    → 2 ^ 65 - taken_out now < 2 ^ 65 - taken_out before
+fewer_to_take set_old set_now before now some takes =
+    let few = few_are_taken some.job now some.stands in
+    let more = one_more_taken set_old set_now before now takes in
+    let small : done < 2 ^ 65 = omega arith in
+    omega (arith, few, more, small)
+
+-- Lists --
+
+-- one more of a list
+pub take_more : {X : Type 0} (xs : List X) (n : ℕ) (x : X) → slice_get xs n ≡ Some x → take (suc n) xs ≡ take n xs ++ x ∷ []
+take_more [] n x is = cc
+take_more {X} (y ∷ xs) zero x is = (let one : y ≡ x = cc in ap (λ (z : X). z ∷ []) one)
+take_more {X} (y ∷ xs) (suc n) x is = ap (λ (l : List X). y ∷ l) (take_more xs n x is)
+
+-- a set that was taken is that of its number in the solution
+pub set_there : (job : LoggedJob) (streams : List (StreamPrefix Plain)) (before : NetView) (set : List (Option (Stamped Plain))) → StandsFor job before
+    → HasSet job streams (length before.plan.nodes) (taken_out before) set → (at : ℕ) × (slice_get (settled_outputs job.job.plan streams) (taken_out before) ≡ Some (record { at = at; set = set }))
+set_there job streams before set stands has =
+    let h : HasSet job streams (length job.job.plan.nodes) (taken_out before) set = subst (λ (p : Plan). HasSet job streams (length p.nodes) (taken_out before) set) (plan_stood job before stands) has in
+    (h.at, h.is)
+
+-- Takings --
+
+-- what was taken, where something was
+pub taken_true : (taken : Bool) (set_old set_now : List (Option (Stamped Plain))) (before now : NetView) → taken ≡ true → TakesOut taken set_old set_now before now → TakesOut true set_old set_now before now
+taken_true taken set_old set_now before now is takes = subst (λ (b : Bool). TakesOut b set_old set_now before now) is takes
+
+-- and where nothing was
+pub taken_false : (taken : Bool) (set_old set_now : List (Option (Stamped Plain))) (before now : NetView) → taken ≡ false → TakesOut taken set_old set_now before now → TakesOut false set_old set_now before now
+taken_false taken set_old set_now before now is takes = subst (λ (b : Bool). TakesOut b set_old set_now before now) is takes
+
+-- the set that was taken is the solution's
+shown_true : (taken : Bool) (P : Type 0) → taken ≡ true → OnTrue taken P → P
+shown_true true P is p = p
+shown_true false P is p = absurd (let no : false ≡ true = is in cc)
+
+pub set_shown : (taken : Bool) (job : LoggedJob) (streams : List (StreamPrefix Plain)) (net : NetView) (set : List (Option (Stamped Plain))) → taken ≡ true
+    → OnTrue taken (HasSet job streams (length net.plan.nodes) (taken_out net) set) → HasSet job streams (length net.plan.nodes) (taken_out net) set
+set_shown taken job streams net set is has = shown_true taken (HasSet job streams (length net.plan.nodes) (taken_out net) set) is has
+
+-- a set has a place for each output
+pub set_places : (job : LoggedJob) (before : NetView) (set : List (Option (Stamped Plain))) → StandsFor job before
+    → ((streams : List (StreamPrefix Plain)) → Solves job streams → HasSet job streams (length before.plan.nodes) (taken_out before) set) → length set ≡ length before.plan.outputs
+set_places job before set stands shows =
+    let found = solved job (valid_plan job before stands) in
+    let at = set_there job found.0 before set stands (shows found.0 found.1) in
+    let there : slice_get (settled_sets Default (inputs_of found.0 job.job.plan.outputs)) (taken_out before) ≡ Some (record { at = at.0; set = set }) =
+    subst (λ (l : List (TimedSet Plain)). slice_get l (taken_out before) ≡ Some (record { at = at.0; set = set })) (outputs_by_default job found.0 found.1) at.1 in
+    all_at (λ (e : TimedSet Plain). length e.set ≡ length (inputs_of found.0 job.job.plan.outputs)) (settled_sets Default (inputs_of found.0 job.job.plan.outputs)) (taken_out before) (record { at = at.0; set = set }) there
+    (sets-places Default (inputs_of found.0 job.job.plan.outputs))
+    ∙ length-map job.job.plan.outputs (port_of found.0) ∙ ap (λ (p : Plan). length p.outputs) (sym (plan_stood job before stands))
+
+-- What is told --
+
+-- a set more was told
+pub told_more : {T : Type 0} (has_told : Telling T) (job : LoggedJob) (first was sink : SinkTold) (before now : NetView) (old new : T) (set_old set : List (Option (Stamped Plain))) → StandsFor job before
+    → IsTold has_told job.job first was (taken_out before) old → TakesOut true set_old set before now
+    → ((streams : List (StreamPrefix Plain)) → Solves job streams → HasSet job streams (length before.plan.nodes) (taken_out before) set)
+    → ((plan : Plan) (f : SinkTold) (sets : List (TimedSet Plain)) (timed : TimedSet Plain) → timed.set ≡ set → has_told old plan f was sets → has_told new plan f sink (sets ++ timed ∷ []))
+    → IsTold has_told job.job first sink (taken_out now) new
+told_more {T} has_told job first was sink before now old new set_old set stands told takes shows tells = record {
+  told = λ streams solution.
+      let all = settled_outputs job.job.plan streams in
+      let at = set_there job streams before set stands (shows streams (record { is_job = valid_plan job before stands; solution = solution })) in
+      let one : TimedSet Plain = record { at = at.0; set = set } in
+      let longer : taken_out now ≡ suc (taken_out before) = (let more = one_more_taken set_old set before now takes in omega (arith, more)) in
+      subst (λ (l : List (TimedSet Plain)). has_told new job.job.plan first sink l) (sym (ap (λ (n : ℕ). take n all) longer ∙ take_more all (taken_out before) one at.1))
+      (tells job.job.plan first (take (taken_out before) all) one refl (told.told streams solution));
+}
+
+-- there is room for it
+pub told_few : {T : Type 0} (has_told : Telling T) (job : LoggedJob) (first was : SinkTold) (before now : NetView) (telling : T) (set_old set : List (Option (Stamped Plain))) → StandsFor job before → StandsFor job now
+    → IsTold has_told job.job first was (taken_out before) telling → TakesOut true set_old set before now → IsFewTold has_told was telling
+told_few {T} has_told job first was before now telling set_old set stands stands_now told takes =
+    let found = solved job (valid_plan job before stands) in
+    let all = settled_outputs job.job.plan found.0 in
+    let short = length-take (taken_out before) all in
+    let few = few_are_taken job now stands_now in
+    let more = one_more_taken set_old set before now takes in
+    record {
+      plan = job.job.plan;
+      first = first;
+      sets = take (taken_out before) all;
+      has = told.told found.0 found.1.solution;
+      few = omega (arith, short, few, more);
+    }
+
+-- as many sets are taken
+pub told_same : {T : Type 0} (has_told : Telling T) (job : LoggedJob) (first sink : SinkTold) (n m : ℕ) (telling : T) → m ≡ n → IsTold has_told job.job first sink n telling → IsTold has_told job.job first sink m telling
+told_same {T} has_told job first sink n m telling same told = subst (λ (k : ℕ). IsTold has_told job.job first sink k telling) (sym same) told
+
+-- a number of them was told
+pub told_some : {T : Type 0} (has_told : Telling T) (job : LoggedJob) (first sink : SinkTold) (taken : ℕ) (telling : T) → IsTold has_told job.job first sink taken telling → IsToldSome has_told job.job first sink
+told_some {T} has_told job first sink taken telling told = record { telling = telling; taken = taken; is_told = told }
+
+-- where nothing was written since
+pub told_some_then : {T : Type 0} (has_told : Telling T) (job : LoggedJob) (first sink now : SinkTold) (taken : ℕ) (telling : T) → now ≡ sink → IsTold has_told job.job first sink taken telling → IsToldSome has_told job.job first now
+told_some_then {T} has_told job first sink now taken telling same told =
+    subst (λ (s : SinkTold). IsToldSome has_told job.job first s) (sym same) (told_some has_told job first sink taken telling told)
+
+-- a net of which something is told stands for a job
+pub told_stands : {T : Type 0} (has_told : Telling T) (sink : SinkTold) (net : NetView) (telling : T) → IsSomeTold has_told sink net telling → StandsForSome net
+told_stands {T} has_told sink net telling some = record { job = some.job; stands = some.stands }

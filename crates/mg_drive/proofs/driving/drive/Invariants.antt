@@ -1,0 +1,20 @@
+-- The run is under way.
+use Rattle.std.proofs.Common.{◌≡◌, length, false}
+use Rattle.mg_sched.specs.StandsFor.{IsRunning}
+use Rattle.mg_drive.specs.Nets.{Keeps}
+use Rattle.mg_drive.specs.Code.Running.{Start, IsUnderWay}
+use Rattle.mg_drive.proofs.Looping.{batches_left}
+use Rattle.mg_drive.proofs.driving.drive.Given as goal
+
+abbrev pub invariant-batches : goal.invariant-batches
+invariant-batches g l = record {
+  places : length l.ends.set ≡ length (g.N.Driven.net l.net).plan.outputs;
+  running : IsRunning (g.N.Driven.net l.net);
+  keeps : Keeps (g.N.Driven.net l.fn.net) (g.N.Driven.net l.net);
+  unread : g.B.Batches.reads ≡ false → g.S.Source.told l.input ≡ g.S.Source.told l.fn.input;
+  under_way : (start : Start g.row.B.Denot) → IsUnderWay g.B.Batches.gives g.T.Telling.has_told start l.fn.first (g.S.Source.told l.fn.input) (g.K.Sink.told l.fn.output) l.fn.ends.batches l.fn.ends.telling (g.N.Driven.net l.fn.net)
+      → IsUnderWay g.B.Batches.gives g.T.Telling.has_told start l.last (g.S.Source.told l.input) (g.K.Sink.told l.output) l.ends.batches l.ends.telling (g.N.Driven.net l.net);
+}
+
+abbrev pub decreases-batches : goal.decreases-batches
+decreases-batches g l = batches_left l.last (g.B.Batches.left l.ends.batches)

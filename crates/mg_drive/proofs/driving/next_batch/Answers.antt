@@ -1,0 +1,64 @@
+use Rattle.std.proofs.Common.{sym, ◌∙◌, subst}
+use Rattle.std.proofs.lemmas.Result.{err_from_is_err_and}
+use Rattle.mg_sched.specs.Views.{NetView}
+use Rattle.mg_sched.specs.StandsFor.{StandsFor}
+use Rattle.mg_drive.specs.Code.Running.{job_with}
+use Rattle.mg_drive.proofs.Jobs.{valid_plan}
+use Rattle.mg_drive.proofs.Looping.{keeps_on}
+use Rattle.mg_drive.proofs.driving.next_batch.Goals as goal
+
+pub trim-requires : goal.trim-requires
+trim-requires g c = record { stands = record { job = job_with c.requires.start c.requires.inputs; stands = c.requires.stands } }
+
+pub extend-requires : goal.extend-requires
+extend-requires g c =
+    let start = c.requires.start in
+    let first = job_with start c.requires.inputs in
+    let valid = (valid_plan first (g.N.Driven.net c.args.net.now) c.requires.stands).plan in
+    let go = c.in_ok-batch.ensures.goes_on start.batches start.plan start.source c.requires.inputs valid c.requires.given in
+    record { may = record { first = first; later = job_with start go.all; stands = c.trim.ensures.stands first c.requires.stands; goes_on = go.goes_on start.logs } }
+
+pub returns-in_err-batch-clause-same : goal.returns-in_err-batch-clause-same
+returns-in_err-batch-clause-same g c =
+    let is = err_from_is_err_and c.from_residual.result c.from_residual.ensures.1 in
+    rw is.1 c.trim.ensures.stands
+
+pub returns-in_err-extend-clause-same : goal.returns-in_err-extend-clause-same
+returns-in_err-extend-clause-same g c =
+    let is = err_from_is_err_and c.from_residual-in_err-extend.result c.from_residual-in_err-extend.ensures.1 in
+    rw is.1 (λ job h. subst (λ (v : NetView). StandsFor job v) (sym c.in_err-extend.ensures.unchanged) (c.trim.ensures.stands job h))
+
+pub returns-in_err-extend-clause-taken : goal.returns-in_err-extend-clause-taken
+returns-in_err-extend-clause-taken g c = c.in_err-extend.ensures.taken ∙ c.trim.ensures.taken
+
+pub returns-in_err-extend-clause-running : goal.returns-in_err-extend-clause-running
+returns-in_err-extend-clause-running g c running = c.in_err-extend.ensures.running (c.trim.ensures.running running)
+
+pub returns-in_err-extend-clause-keeps : goal.returns-in_err-extend-clause-keeps
+returns-in_err-extend-clause-keeps g c =
+    keeps_on (g.N.Driven.net c.args.net.now) (g.N.Driven.net c.trim.new.self) (g.N.Driven.net c.extend.new.self) c.trim.ensures.keeps c.in_err-extend.ensures.keeps
+
+pub returns-clause-goes_on : goal.returns-clause-goes_on
+returns-clause-goes_on g c = λ start inputs given stands.
+    let first = job_with start inputs in
+    let valid = (valid_plan first (g.N.Driven.net c.args.net.now) stands).plan in
+    let go = c.in_ok-batch.ensures.goes_on start.batches start.plan start.source inputs valid given in
+    record {
+      all = go.all;
+      given = go.given;
+      grows = (go.goes_on start.logs).grows;
+      stands = c.in_ok-extend.ensures.stands first (job_with start go.all) (go.goes_on start.logs) (c.trim.ensures.stands first stands);
+    }
+
+pub returns-clause-fewer : goal.returns-clause-fewer
+returns-clause-fewer g c = c.in_ok-batch.ensures.fewer c.requires.start.batches c.requires.start.plan c.requires.start.source c.requires.inputs c.requires.given
+
+pub returns-clause-taken : goal.returns-clause-taken
+returns-clause-taken g c = c.in_ok-extend.ensures.taken ∙ c.trim.ensures.taken
+
+pub returns-clause-running : goal.returns-clause-running
+returns-clause-running g c running = c.in_ok-extend.ensures.running (c.trim.ensures.running running)
+
+pub returns-clause-keeps : goal.returns-clause-keeps
+returns-clause-keeps g c =
+    keeps_on (g.N.Driven.net c.args.net.now) (g.N.Driven.net c.trim.new.self) (g.N.Driven.net c.extend.new.self) c.trim.ensures.keeps c.in_ok-extend.ensures.keeps

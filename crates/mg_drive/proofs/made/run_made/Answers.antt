@@ -1,0 +1,16 @@
+use Rattle.std.proofs.Common.{map}
+use Rattle.mg_answer.specs.Answer.{generated_job}
+use Rattle.mg_answer.specs.Devices.{device}
+use Rattle.mg_drive.proofs.FrontsBack.{all_are_fronts}
+use Rattle.mg_drive.proofs.made.run_made.Goals as goal
+
+pub returns-in-Ok-clause-left : goal.returns-in-Ok-clause-left
+returns-in-Ok-clause-left g c =
+    let back = c.run_whole.ensures.back in
+    let had = c.in-Ok.ensures.used in
+    record {
+      count = back.count;
+      unused = back.unused;
+      used = λ memory. had;
+      short = λ none. all_are_fronts (generated_job c.args.run.now.plan.now c.args.number) (device (map g.C.Calculator.told c.args.boxes.now.items) (map g.C.Calculator.told c.run_whole.new.boxes.items)) had;
+    }

@@ -1,0 +1,5 @@
+-- What the code's own functions say to one another.
+pub mod Running
+pub mod Lines
+pub mod Ending
+pub mod Packets

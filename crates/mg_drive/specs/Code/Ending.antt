@@ -1,0 +1,118 @@
+-- How a run of a net ends, and what it leaves.
+use Rattle.std.specs.Prelude.{◌≡◌, ◌⊎◌, ℕ, Bool, List, map, length, All, Option, Some, slice_get}
+use Rattle.mg_edge.specs.Edge.{SourceTold, SinkTold}
+use Rattle.mg_value.specs.Payload.{Plain}
+use Rattle.mg_value.specs.Prefix.{StreamPrefix}
+use Rattle.mg_calc.specs.declared.call.Call.{Call}
+use Rattle.mg_calc.specs.declared.inputs.Inputs.{Inputs}
+use Rattle.mg_calc.specs.declared.plan.Plan.{Plan}
+use Rattle.mg_calc.specs.declared.plan_node.PlanNode.{PlanNode}
+use Rattle.mg_calc.specs.Shape.{IsOuter}
+use Rattle.mg_calc.specs.Told.{CalculatorTold}
+use Rattle.mg_calc.specs.Equations.{Job, IsSolution}
+use Rattle.mg_feed.specs.declared.feed_end.FeedEnd.{FeedEnd}
+use Rattle.mg_feed.specs.declared.feed_end.BatchEnd.{BatchEnd}
+use Rattle.mg_feed.specs.declared.feed_end.BatchEnd.TheVariants.{End}
+use Rattle.mg_answer.specs.Answer.{Form, output_in}
+use Rattle.mg_answer.specs.Devices.{Device, device, RunDevices, Untouched}
+use Rattle.mg_answer.specs.Put.{TextView, HasPut}
+use Rattle.mg_answer.specs.Wrote.{Wrote}
+use Rattle.mg_answer.specs.declared.outcomes.Outcomes.{Outcomes}
+use Rattle.mg_answer.specs.declared.outcomes.StreamEnd.{StreamEnd}
+use Rattle.mg_answer.specs.declared.status.Status.{Status}
+use Rattle.mg_node.specs.Job.{LoggedJob}
+use Rattle.mg_node.specs.Had.{HadCalls}
+use Rattle.mg_sched.specs.Views.{NetView}
+use Rattle.mg_sched.specs.GivesBack.{StoodFor, given_back}
+use Rattle.mg_sched.specs.Reports.{report_of}
+use Rattle.mg_sched.specs.declared.report.StreamEnd as nets
+use Rattle.mg_drive.specs.Batches.{IsMore, logged}
+use Rattle.mg_drive.specs.Leaves.{HadCallsOf}
+use Rattle.mg_drive.specs.Code.Running.{Giving, Telling, Start, job_with, IsToldSome, FrontIn}
+
+-- all of what a job's solution is told by was put, in a form
+abbrev pub IsWhole : Form → SinkTold → SinkTold → Job → TextView → Type 0
+IsWhole form first sink job text = (streams : List (StreamPrefix Plain)) → IsSolution job streams → HasPut first sink text (output_in form job.plan streams)
+
+-- how far a stream of a net has come, as it is told
+abbrev pub told_end : nets.StreamEnd → StreamEnd
+told_end s = record { packets = s.packets; bound = s.bound }
+
+-- what is told is what a net reports
+pub record TellsNet (net : NetView) (outcomes : Outcomes) : Type 0 where
+  pub faults : outcomes.faults ≡ (report_of net).faults
+  pub sets : outcomes.sets ≡ (report_of net).sets
+  pub ends : outcomes.ends.items ≡ map told_end (report_of net).streams
+
+-- Calculators.
+
+-- the calculator of a node comes back with all the calls that its node has in a solution
+pub record ComesBack (job : LoggedJob) (streams : List (StreamPrefix Plain)) (node : PlanNode) (place : ℕ) (net : NetView) : Type 0 where
+  pub told : CalculatorTold
+  pub there : slice_get (given_back net) place ≡ Some told
+  pub had : HadCalls job streams node told
+
+-- and so does each that a node uses, in a solution of a job
+pub record HadAllOf (job : LoggedJob) (net : NetView) : Type 0 where
+  pub streams : List (StreamPrefix Plain)
+  pub solution : IsSolution job.job streams
+  pub each : (number place : ℕ) (node : PlanNode) → slice_get job.job.plan.nodes number ≡ Some node → node.box_number ≡ Some place → IsOuter node.law
+      → ComesBack job streams node place net
+
+-- the calculators that came back: as many, and those that no node uses as they were
+pub record CameBack (plan : Plan) (before now : List CalculatorTold) : Type 0 where
+  pub count : length now ≡ length before
+  pub unused : (place : ℕ) → All (λ node. ¬ (node.box_number ≡ Some place)) plan.nodes → slice_get now place ≡ slice_get before place
+
+-- a net stood for some job with these logs, or for one that it was wound up for since
+pub record StoodWith (logs : List (Option (List Call))) (net : NetView) : Type 0 where
+  pub job : LoggedJob
+  pub stood : StoodFor job net
+  pub logs_are : job.logs ≡ logs
+
+-- Runs.
+
+-- the devices of a run whose input told this at its beginning
+abbrev pub since : SourceTold → RunDevices → RunDevices
+since source devices = record devices { input = device source devices.input.now }
+
+-- A net was run: the answer of the job of all that was given was written, and its nodes had their calls.
+pub record HasEnded {B : Type 0} (gives : Giving B) (form : Form) (report : Bool) (start : Start B) (status : Status) (source : SourceTold) (sink : SinkTold) (notes : Device SinkTold) (net : NetView) : Type 0 where
+  pub batches : B
+  pub end : FeedEnd
+  pub inputs : Inputs
+  pub given : gives start.batches batches start.plan start.source source (End end) inputs
+  pub wrote : Wrote (record { form = form; report = report }) (job_with start inputs).job end status (device start.sink sink) notes
+  pub had : HadAllOf (job_with start inputs) net
+  pub stood : StoodFor (job_with start inputs) net
+
+-- So it is of a run as a whole, by what the devices tell and the calculators that were handed in.
+pub record HasRun {B : Type 0} (gives : Giving B) (form : Form) (report : Bool) (began : B) (plan : Plan) (status : Status) (devices : RunDevices) (boxes : Device (List CalculatorTold)) : Type 0 where
+  pub batches : B
+  pub end : FeedEnd
+  pub inputs : Inputs
+  pub given : gives began batches plan devices.input.before devices.input.now (End end) inputs
+  pub wrote : Wrote (record { form = form; report = report }) (record { plan = plan; inputs = inputs }) end status devices.output devices.notes
+  pub had : HadCallsOf (record { plan = plan; inputs = inputs }) boxes
+
+-- Memory ran out once there was a net.
+pub record WasShort {B T : Type 0} (gives : Giving B) (has_told : Telling T) (form : Form) (began : B) (plan : Plan) (devices : RunDevices) (boxes : Device (List CalculatorTold)) : Type 0 where
+  pub batches : B
+  pub end : BatchEnd
+  pub at : SourceTold
+  pub inputs : Inputs
+  pub given : gives began batches plan devices.input.before at end inputs
+  pub last : IsMore end ⊎ (at ≡ devices.input.now)
+  pub net : NetView
+  pub stood : StoodFor (logged plan inputs (map (λ b. b.log) boxes.before)) net
+  pub back : boxes.now ≡ given_back net
+  pub front : IsToldSome has_told (record { plan = plan; inputs = inputs }) devices.output.before devices.output.now
+      ⊎ FrontIn form devices.output.before devices.output.now (record { plan = plan; inputs = inputs })
+
+-- nothing had been written or called
+pub record WasNothing (devices : RunDevices) (boxes : Device (List CalculatorTold)) : Type 0 where
+  pub unwritten : Untouched devices.output
+  pub uncalled : Untouched boxes
+
+abbrev pub RanShort : {B T : Type 0} → Giving B → Telling T → Form → B → Plan → RunDevices → Device (List CalculatorTold) → Type 0
+RanShort gives has_told form began plan devices boxes = WasNothing devices boxes ⊎ WasShort gives has_told form began plan devices boxes

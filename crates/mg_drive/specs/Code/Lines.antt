@@ -1,0 +1,83 @@
+-- Batches of lines: what a feed has read, and what its lines gave.
+use Rattle.std.specs.Prelude.{◌≡◌, ◌≢◌, ◌+◌, ◌-◌, ◌<◌, ◌≤◌, ℕ, List, [], ◌++◌, length, Bool, true, false, ⊤}
+use Rattle.mg_edge.specs.Edge.{SourceTold}
+use Rattle.mg_edge.specs.Runs.{Gave}
+use Rattle.mg_calc.specs.declared.inputs.Inputs.{Inputs}
+use Rattle.mg_calc.specs.declared.plan.Plan.{Plan}
+use Rattle.mg_feed.specs.Graph.{GraphInputs, inputs_of}
+use Rattle.mg_feed.specs.Accepted.{given_by, most_lines}
+use Rattle.mg_feed.specs.Given.{ended_streams}
+use Rattle.mg_feed.specs.View.{View}
+use Rattle.mg_feed.specs.Stands.{Stands, nothing_taken, packets_of}
+use Rattle.mg_feed.specs.Fed.{Fed}
+use Rattle.mg_feed.specs.Came.{Came}
+use Rattle.mg_feed.specs.Ran.{MetEnd, Unfailed, FailedBy}
+use Rattle.mg_feed.specs.Batch.{EndsAs}
+use Rattle.mg_feed.specs.declared.feed_end.FeedEnd.TheVariants.{Ended, OutOfMemory}
+use Rattle.mg_feed.specs.declared.feed_end.BatchEnd.{BatchEnd}
+use Rattle.mg_feed.specs.declared.feed_end.BatchEnd.TheVariants.{More, End}
+use Rattle.mg_answer.specs.Answer.{is_ended}
+use Rattle.mg_drive.specs.Batches.{IsMore}
+
+-- whether the input has ended well with a batch, and whether there is more behind it
+abbrev pub has_ended : BatchEnd → Bool
+has_ended More = false
+has_ended (End end) = is_ended end
+
+-- there was memory for a batch
+abbrev pub HadMemory : BatchEnd → Type 0
+HadMemory More = ⊤
+HadMemory (End end) = end ≢ OutOfMemory
+
+-- what lines give a graph, where the input has ended well or not
+abbrev pub inputs_at : GraphInputs → List (List ℕ) → Bool → Inputs
+inputs_at graph lines ended = record { streams = ended_streams ended (given_by graph lines).streams; sides = (given_by graph lines).sides; ended = ended }
+
+-- what is known of all reads, by how the last batch ended: none failed, and there may be more; or the input came to its end
+abbrev pub ReadsAs : BatchEnd → Plan → SourceTold → SourceTold → Fed → List ℕ → List (List ℕ) → Type 0
+ReadsAs More plan first source fed past lines = Unfailed first source
+ReadsAs (End end) plan first source fed past lines =
+    (end ≢ OutOfMemory) × EndsAs end (inputs_of plan) [] past lines fed.read.ended × FailedBy end first source
+
+-- A feed took batches, the last of which ended so: of the bytes that came since a source told `first` it accepted these lines, and
+-- it has handed on all that they gave.
+pub record IsRead (plan : Plan) (first : SourceTold) (end : BatchEnd) (source : SourceTold) (fed : Fed) (past : List ℕ) (lines : List (List ℕ)) : Type 0 where
+  pub graph : fed.view.graph ≡ inputs_of plan
+  pub gave : Gave first.left source.left past
+  pub came : Came [] past lines (packets_of (given_by (inputs_of plan) lines).streams) fed
+  pub met : MetEnd false fed.read.ended first source
+  pub so : ReadsAs end plan first source fed past lines
+
+-- A feed took a batch behind these lines: more of them came. What it hands on is what it then had and had not handed on before.
+pub record HasBatch (plan : Plan) (first : SourceTold) (end : BatchEnd) (inputs : Inputs) (source : SourceTold) (fed : Fed) (past : List ℕ) (lines : List (List ℕ)) : Type 0 where
+  pub came : List ℕ
+  pub more : List (List ℕ)
+  pub is_read : IsRead plan first end source fed (past ++ came) (lines ++ more)
+  pub view : View
+  pub graph : view.graph ≡ inputs_of plan
+  pub stands : Stands (lines ++ more) (packets_of (given_by (inputs_of plan) lines).streams) view
+  pub streams : inputs.streams ≡ ended_streams (has_ended end) view.given.streams
+  pub sides : inputs.sides ≡ view.given.sides
+  pub ended : inputs.ended ≡ has_ended end
+  -- where there is more, a line was taken, and one of the lines names a stream
+  pub longer : IsMore end → length lines < length (lines ++ more)
+  pub named : IsMore end → (given_by (inputs_of plan) (lines ++ more)).named ≡ true
+  pub few : length (lines ++ more) ≤ most_lines
+
+-- A feed that is new for a plan.
+pub record IsNew (fed : Fed) (plan : Plan) : Type 0 where
+  pub graph : fed.view.graph ≡ inputs_of plan
+  pub stands : Stands [] (nothing_taken (inputs_of plan)) fed.view
+  pub unread : fed.read ≡ record { kept = []; ended = false }
+
+-- A feed took batches, and what they hand on is all that the lines gave that it accepted.
+pub record LinesGave (fed : Fed) (plan : Plan) (first source : SourceTold) (end : BatchEnd) (inputs : Inputs) : Type 0 where
+  pub past : List ℕ
+  pub lines : List (List ℕ)
+  pub is_read : IsRead plan first end source fed past lines
+  pub inputs_are : inputs ≡ inputs_at (inputs_of plan) lines (has_ended end)
+  pub named : IsMore end → (given_by (inputs_of plan) lines).named ≡ true
+
+-- how many lines may still come
+abbrev pub lines_left : Fed → ℕ
+lines_left fed = most_lines + 1 - fed.view.lines

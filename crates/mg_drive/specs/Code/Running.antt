@@ -1,0 +1,124 @@
+-- A run of a net over batches, while it is under way.
+use Rattle.std.specs.Prelude.{◌≡◌, ◌⊎◌, ℕ, List, map, length, take, All, Option, Some, slice_get}
+use Rattle.mg_edge.specs.Edge.{SourceTold, SinkTold}
+use Rattle.mg_value.specs.Payload.{Plain}
+use Rattle.mg_value.specs.Prefix.{StreamPrefix}
+use Rattle.mg_value.specs.Settled.{TimedSet}
+use Rattle.mg_calc.specs.declared.call.Call.{Call}
+use Rattle.mg_calc.specs.declared.inputs.Inputs.{Inputs}
+use Rattle.mg_calc.specs.declared.plan.Plan.{Plan}
+use Rattle.mg_calc.specs.Told.{CalculatorTold}
+use Rattle.mg_calc.specs.Equations.{Job, IsSolution}
+use Rattle.mg_feed.specs.declared.feed_end.FeedEnd.{FeedEnd}
+use Rattle.mg_feed.specs.declared.feed_end.BatchEnd.{BatchEnd}
+use Rattle.mg_feed.specs.declared.feed_end.BatchEnd.TheVariants.{More, End}
+use Rattle.mg_answer.specs.Answer.{Form, output_in}
+use Rattle.mg_answer.specs.Devices.{device, TookFront}
+use Rattle.mg_node.specs.Job.{LoggedJob, Solves}
+use Rattle.mg_node.specs.Batches.{Grows}
+use Rattle.mg_sched.specs.Views.{NetView}
+use Rattle.mg_sched.specs.StandsFor.{StandsFor, IsRunning}
+use Rattle.mg_sched.specs.AtRest.{IsAtRest}
+use Rattle.mg_sched.specs.Taking.{taken_out, settled_outputs, LeavesNodes}
+use Rattle.mg_sched.specs.GivesBack.{StoodFor}
+use Rattle.mg_drive.specs.Batches.{IsMore, logged}
+
+-- what batches of a kind give, and what something of a kind was told
+abbrev pub Giving : Type 0 → Type 1
+Giving B = B → B → Plan → SourceTold → SourceTold → BatchEnd → Inputs → Type 0
+
+abbrev pub Telling : Type 0 → Type 1
+Telling T = T → Plan → SinkTold → SinkTold → List (TimedSet Plain) → Type 0
+
+-- how a run began: its plan, the logs of the calculators that were handed in, what the input and the output told, and where its batches
+-- come from
+pub record Start (B : Type 0) : Type 0 where
+  pub plan : Plan
+  pub logs : List (Option (List Call))
+  pub source : SourceTold
+  pub sink : SinkTold
+  pub batches : B
+
+-- the job of what was given so far
+abbrev pub job_with : {B : Type 0} → Start B → Inputs → LoggedJob
+job_with start inputs = logged start.plan inputs start.logs
+
+-- of the sets of a job's solution the first ones were told, a number of them
+pub record IsTold {T : Type 0} (has_told : Telling T) (job : Job) (first sink : SinkTold) (taken : ℕ) (telling : T) : Type 0 where
+  pub told : (streams : List (StreamPrefix Plain)) → IsSolution job streams → has_told telling job.plan first sink (take taken (settled_outputs job.plan streams))
+
+-- some number of them was, in some state of what is told
+pub record IsToldSome {T : Type 0} (has_told : Telling T) (job : Job) (first sink : SinkTold) : Type 0 where
+  pub telling : T
+  pub taken : ℕ
+  pub is_told : IsTold has_told job first sink taken telling
+
+-- what a net's job has settled and was taken out of it was told
+pub record IsSomeTold {T : Type 0} (has_told : Telling T) (sink : SinkTold) (net : NetView) (telling : T) : Type 0 where
+  pub job : LoggedJob
+  pub first : SinkTold
+  pub stands : StandsFor job net
+  pub is_told : IsTold has_told job.job first sink (taken_out net) telling
+
+-- A run over batches, the last of which ended so: its net stands for the job of what they gave.
+pub record IsUnderWay {B T : Type 0} (gives : Giving B) (has_told : Telling T) (start : Start B) (end : BatchEnd) (source : SourceTold) (sink : SinkTold) (batches : B) (telling : T) (net : NetView) : Type 0 where
+  pub inputs : Inputs
+  pub given : gives start.batches batches start.plan start.source source end inputs
+  pub stands : StandsFor (job_with start inputs) net
+  pub is_told : IsTold has_told (job_with start inputs).job start.sink sink (taken_out net) telling
+
+-- there is a run of a plan that is so
+pub record IsSomeRun {B T : Type 0} (gives : Giving B) (has_told : Telling T) (plan : Plan) (end : BatchEnd) (source : SourceTold) (sink : SinkTold) (batches : B) (telling : T) (net : NetView) : Type 0 where
+  pub start : Start B
+  pub plan_is : start.plan ≡ plan
+  pub under_way : IsUnderWay gives has_told start end source sink batches telling net
+
+-- and for a net and its batches alone, where there is more
+pub record IsSomeMore {B : Type 0} (gives : Giving B) (source : SourceTold) (batches : B) (net : NetView) : Type 0 where
+  pub start : Start B
+  pub inputs : Inputs
+  pub given : gives start.batches batches start.plan start.source source More inputs
+  pub stands : StandsFor (job_with start inputs) net
+
+-- A net went on with a batch more.
+pub record WentOn {B : Type 0} (gives : Giving B) (start : Start B) (end : BatchEnd) (source : SourceTold) (batches : B) (inputs : Inputs) (net : NetView) : Type 0 where
+  pub all : Inputs
+  pub given : gives start.batches batches start.plan start.source source end all
+  pub grows : Grows (job_with start inputs) (job_with start all)
+  pub stands : StandsFor (job_with start all) net
+
+-- A net came to rest for a job, and since then sets alone were taken: all of the solution's.
+pub record HasRested (job : LoggedJob) (net : NetView) : Type 0 where
+  pub rested : NetView
+  pub stands : StandsFor job rested
+  pub running : IsRunning rested
+  pub rests : IsAtRest rested
+  pub since : LeavesNodes rested net
+  pub all : (streams : List (StreamPrefix Plain)) → Solves job streams → taken_out net ≡ length (settled_outputs net.plan streams)
+
+-- a net has rested for some job of a plan
+pub record SomeRested (plan : Plan) (net : NetView) : Type 0 where
+  pub job : LoggedJob
+  pub plan_is : job.job.plan ≡ plan
+  pub stands : StandsFor job net
+  pub has_rested : HasRested job net
+
+-- A run whose input has ended so, and whose net has come to rest with it: all sets were told.
+pub record IsOver {B T : Type 0} (gives : Giving B) (has_told : Telling T) (start : Start B) (end : FeedEnd) (source : SourceTold) (sink : SinkTold) (batches : B) (telling : T) (net : NetView) : Type 0 where
+  pub under_way : IsUnderWay gives has_told start (End end) source sink batches telling net
+  pub has_rested : HasRested (job_with start under_way.inputs) net
+
+-- a front of what a job's solution is told by was taken, in a form
+abbrev pub FrontIn : Form → SinkTold → SinkTold → Job → Type 0
+FrontIn form first sink job = (streams : List (StreamPrefix Plain)) → IsSolution job streams → TookFront (device first sink) (output_in form job.plan streams)
+
+-- Memory ran out in a run: after the batch that ended so, or while more was read behind it.
+pub record IsShort {B T : Type 0} (gives : Giving B) (has_told : Telling T) (form : Form) (start : Start B) (source : SourceTold) (sink : SinkTold) (net : NetView) : Type 0 where
+  pub batches : B
+  pub end : BatchEnd
+  pub at : SourceTold
+  pub inputs : Inputs
+  pub given : gives start.batches batches start.plan start.source at end inputs
+  pub last : IsMore end ⊎ (at ≡ source)
+  pub stood : StoodFor (job_with start inputs) net
+  pub front : IsToldSome has_told (job_with start inputs).job start.sink sink ⊎ FrontIn form start.sink sink (job_with start inputs).job

@@ -1,0 +1,94 @@
+-- What a run leaves of the calculators that are handed in.
+use Rattle.std.specs.Prelude.{◌≡◌, ◌≢◌, ◌⊎◌, ℕ, List, ◌∷◌, ◌++◌, map, take, length, All, Bool, [], Some, IfSome, option_map, slice_get, if◌then◌else◌}
+use Rattle.mg_value.specs.Payload.{Plain}
+use Rattle.mg_value.specs.Prefix.{StreamPrefix}
+use Rattle.mg_edge.specs.Edge.{SourceTold}
+use Rattle.mg_calc.specs.declared.call.Call.{Call}
+use Rattle.mg_calc.specs.declared.call.Call.TheVariants.{Begun, Shown, Finished}
+use Rattle.mg_calc.specs.declared.plan.Plan.{Plan}
+use Rattle.mg_calc.specs.declared.plan_node.PlanNode.{PlanNode}
+use Rattle.mg_calc.specs.Equations.{Job, IsSolution, outcome_of}
+use Rattle.mg_calc.specs.Meaning.{shown_sets, log_of}
+use Rattle.mg_calc.specs.Told.{CalculatorTold}
+use Rattle.mg_feed.specs.Graph.{inputs_of}
+use Rattle.mg_answer.specs.Answer.{Read, ended_input, job_of, generated_job}
+use Rattle.mg_answer.specs.Devices.{Device}
+use Rattle.mg_answer.specs.Ran.{CameTo}
+use Rattle.mg_answer.specs.declared.status.Status.{Status}
+use Rattle.mg_answer.specs.declared.status.Status.TheVariants.{OutOfMemory}
+
+-- the first calls of a node's calculator, a number of them: Open, and a Process for each set that the node is shown; and perhaps Close
+-- behind them
+abbrev pub first_calls : Job → List (StreamPrefix Plain) → PlanNode → ℕ → Bool → List Call
+first_calls job streams node count close =
+    take count (Begun ∷ map (λ e. Shown e.at e.set) (shown_sets job streams node)) ++ (if close then Finished ∷ [] else [])
+
+-- A calculator had the calls that its node has in a solution: its log, where it tells one, grew by just these, in their order; and it
+-- keeps what the node comes to.
+pub record HadItsCalls (job : Job) (streams : List (StreamPrefix Plain)) (node : PlanNode) (before now : CalculatorTold) : Type 0 where
+  pub log : now.log ≡ option_map (λ calls. calls ++ log_of job streams node) before.log
+  pub state : now.state ≡ (outcome_of job streams node).state
+  pub law : now.law ≡ before.law
+  pub shape : now.shape ≡ before.shape
+
+-- The calculator at a place, before and now, are as a relation has it.
+pub record IsAt (place : ℕ) (P : CalculatorTold → CalculatorTold → Type 0) (boxes : Device (List CalculatorTold)) : Type 0 where
+  pub before : CalculatorTold
+  pub now : CalculatorTold
+  pub was : slice_get boxes.before place ≡ Some before
+  pub is : slice_get boxes.now place ≡ Some now
+  pub holds : P before now
+
+-- Each calculator that a node uses had its calls, in the solution of a job.
+pub record HadCallsOf (job : Job) (boxes : Device (List CalculatorTold)) : Type 0 where
+  pub streams : List (StreamPrefix Plain)
+  pub solution : IsSolution job streams
+  pub each : (number place : ℕ) (node : PlanNode) → slice_get job.plan.nodes number ≡ Some node → node.box_number ≡ Some place
+      → IsAt place (HadItsCalls job streams node) boxes
+
+-- So it is over what the input came to.
+pub record HadCalls (plan : Plan) (input : Device SourceTold) (boxes : Device (List CalculatorTold)) : Type 0 where
+  pub read : Read
+  pub came : CameTo (inputs_of plan) input read
+  pub had : HadCallsOf (job_of plan read) boxes
+
+-- A calculator had a front of the calls that its node has in a solution: the first of them, a number of them, and perhaps Close behind
+-- them. Its log, where it tells one, grew by just these.
+pub record HadAFront (job : Job) (streams : List (StreamPrefix Plain)) (node : PlanNode) (before now : CalculatorTold) : Type 0 where
+  pub count : ℕ
+  pub close : Bool
+  pub log : now.log ≡ option_map (λ calls. calls ++ first_calls job streams node count close) before.log
+  pub law : now.law ≡ before.law
+  pub shape : now.shape ≡ before.shape
+
+-- Each calculator that a node uses had such a front, in the solution of a job.
+pub record HadFronts (job : Job) (boxes : Device (List CalculatorTold)) : Type 0 where
+  pub streams : List (StreamPrefix Plain)
+  pub solution : IsSolution job streams
+  pub each : (number place : ℕ) (node : PlanNode) → slice_get job.plan.nodes number ≡ Some node → node.box_number ≡ Some place
+      → IsAt place (HadAFront job streams node) boxes
+
+-- The input was read, and so it is over what it came to.
+pub record HadFrontsOfRead (plan : Plan) (input : Device SourceTold) (boxes : Device (List CalculatorTold)) : Type 0 where
+  pub read : Read
+  pub came : CameTo (inputs_of plan) input read
+  pub fronts : HadFronts (job_of plan read) boxes
+
+-- Memory ran out: so it is over what the input came to; or, where the input tells its bytes, over an input that ends after them.
+abbrev pub HadSome : Plan → Device SourceTold → Device (List CalculatorTold) → Type 0
+HadSome plan input boxes = HadFrontsOfRead plan input boxes ⊎ IfSome input.before.left (λ bytes. HadFronts (job_of plan (ended_input (inputs_of plan) bytes)) boxes)
+
+-- All come back in their order. One that no node uses had no call. The others had all of theirs, and where memory ran out a front of
+-- them, perhaps with Close behind it.
+pub record RunLeaves (plan : Plan) (status : Status) (input : Device SourceTold) (boxes : Device (List CalculatorTold)) : Type 0 where
+  pub count : length boxes.now ≡ length boxes.before
+  pub unused : (place : ℕ) → All (λ node. ¬ (node.box_number ≡ Some place)) plan.nodes → slice_get boxes.now place ≡ slice_get boxes.before place
+  pub used : status ≢ OutOfMemory → HadCalls plan input boxes
+  pub short : status ≡ OutOfMemory → HadSome plan input boxes
+
+-- What a run over packets that are made leaves.
+pub record GeneratedLeaves (plan : Plan) (number : ℕ) (status : Status) (boxes : Device (List CalculatorTold)) : Type 0 where
+  pub count : length boxes.now ≡ length boxes.before
+  pub unused : (place : ℕ) → All (λ node. ¬ (node.box_number ≡ Some place)) plan.nodes → slice_get boxes.now place ≡ slice_get boxes.before place
+  pub used : status ≢ OutOfMemory → HadCallsOf (generated_job plan number) boxes
+  pub short : status ≡ OutOfMemory → HadFronts (generated_job plan number) boxes

@@ -1,0 +1,123 @@
+//! The run loop.
+ghost use Rattle.std.specs.Prelude.{◌≡◌, ◌<◌, ℕ, List, length, false, IfOk, OnOk, OnErr};
+ghost use Rattle.mg_edge.specs.Edge.{SinkTold};
+ghost use Rattle.mg_calc.specs.declared.inputs.Inputs.{Inputs as Given};
+ghost use Rattle.mg_calc.specs.declared.plan.Plan.{Plan};
+ghost use Rattle.mg_value.specs.Payload.{Plain};
+ghost use Rattle.mg_value.specs.Prefix.{StreamPrefix};
+ghost use Rattle.mg_node.specs.Job.{LoggedJob, Solves};
+ghost use Rattle.mg_sched.specs.StandsFor.{StandsFor, IsRunning};
+ghost use Rattle.mg_sched.specs.Taking.{taken_out, settled_outputs, HasAllOutputs, LeavesNodes};
+ghost use Rattle.mg_drive.specs.Nets.{Keeps};
+ghost use Rattle.mg_drive.specs.Batches.{IsMore};
+ghost use Rattle.mg_drive.specs.Code.Running.{Start, job_with, IsTold, IsToldSome, IsSomeTold, IsUnderWay, IsSomeRun, IsSomeMore, WentOn, HasRested, IsOver, IsShort};
+
+use crate::{Batches, Driven, Ends, Telling};
+use mg_edge::{Sink, Source};
+use mg_feed::{BatchEnd, FeedEnd};
+use mg_value::InputSet;
+use std::alloc::AllocError;
+
+// Reads the next batch, and goes on with it. What all parts of the net have got is given up before.
+fn next_batch<N: Driven, B: Batches, S: Source>(
+    net: &mut N,
+    batches: &mut B,
+    input: &mut S,
+) -> Result<BatchEnd, AllocError>
+    requires { IsSomeMore B.gives (S.told input.old) batches.old (N.net net.old) }
+    ensures goes_on { IfOk result (λ end. (start : Start B) (inputs : Given) → B.gives start.batches batches.old start.plan start.source (S.told input.old) BatchEnd.More inputs
+        → StandsFor (job_with start inputs) (N.net net.old) → WentOn B.gives start end (S.told input.new) batches.new inputs (N.net net.new)) }
+    ensures fewer { IfOk result (λ end. IsMore end → B.left batches.new < B.left batches.old) }
+    ensures same { OnErr result ((job : LoggedJob) → StandsFor job (N.net net.old) → StandsFor job (N.net net.new)) }
+    ensures taken { taken_out (N.net net.new) ≡ taken_out (N.net net.old) }
+    ensures running { IsRunning (N.net net.old) → IsRunning (N.net net.new) }
+    ensures keeps { Keeps (N.net net.old) (N.net net.new) }
+    ensures unread { B.reads ≡ false → S.told input.new ≡ S.told input.old }
+{
+    net.trim();
+    let batch = batches.next(input)?;
+    net.extend(&batch.inputs)?;
+    Ok(batch.end)
+}
+
+// Takes the sets of the graph's outputs, as many as there are, and tells them.
+fn take_all<N: Driven, T: Telling, K: Sink>(
+    net: &mut N,
+    set: &mut InputSet,
+    telling: &mut T,
+    output: &mut K,
+) -> Result<(), AllocError>
+    requires places { length set.old ≡ length (N.net net.old).plan.outputs }
+    requires told { IsSomeTold T.has_told (K.told output.old) (N.net net.old) telling.old }
+    ensures places { length set.new ≡ length (N.net net.new).plan.outputs }
+    ensures left { LeavesNodes (N.net net.old) (N.net net.new) }
+    ensures stands { (job : LoggedJob) → StandsFor job (N.net net.old) → StandsFor job (N.net net.new) }
+    ensures told { OnOk result ((job : LoggedJob) (first : SinkTold) → StandsFor job (N.net net.old) → IsTold T.has_told job.job first (K.told output.old) (taken_out (N.net net.old)) telling.old
+        → IsTold T.has_told job.job first (K.told output.new) (taken_out (N.net net.new)) telling.new) }
+    ensures front { OnErr result ((job : LoggedJob) (first : SinkTold) → StandsFor job (N.net net.old) → IsTold T.has_told job.job first (K.told output.old) (taken_out (N.net net.old)) telling.old
+        → IsToldSome T.has_told job.job first (K.told output.new)) }
+
+    // Where all outputs had come, they were all taken.
+    ensures all { OnOk result ((job : LoggedJob) (streams : List (StreamPrefix Plain)) → StandsFor job (N.net net.old) → Solves job streams → HasAllOutputs streams (N.net net.old)
+        → taken_out (N.net net.new) ≡ length (settled_outputs (N.net net.new).plan streams)) }
+{
+    'sets: while net.take_out(set) {
+        telling.tell(set, output)?;
+    }
+    Ok(())
+}
+
+// Drives a net to rest, and tells all sets that its outputs then have.
+fn advance<N: Driven, T: Telling, K: Sink>(
+    net: &mut N,
+    set: &mut InputSet,
+    telling: &mut T,
+    output: &mut K,
+) -> Result<(), AllocError>
+    requires places { length set.old ≡ length (N.net net.old).plan.outputs }
+    requires running { IsRunning (N.net net.old) }
+    requires told { IsSomeTold T.has_told (K.told output.old) (N.net net.old) telling.old }
+    ensures places { length set.new ≡ length (N.net net.new).plan.outputs }
+    ensures running { IsRunning (N.net net.new) }
+    ensures keeps { Keeps (N.net net.old) (N.net net.new) }
+    ensures stands { (job : LoggedJob) → StandsFor job (N.net net.old) → StandsFor job (N.net net.new) }
+    ensures told { OnOk result ((job : LoggedJob) (first : SinkTold) → StandsFor job (N.net net.old) → IsTold T.has_told job.job first (K.told output.old) (taken_out (N.net net.old)) telling.old
+        → IsTold T.has_told job.job first (K.told output.new) (taken_out (N.net net.new)) telling.new) }
+    ensures front { OnErr result ((job : LoggedJob) (first : SinkTold) → StandsFor job (N.net net.old) → IsTold T.has_told job.job first (K.told output.old) (taken_out (N.net net.old)) telling.old
+        → IsToldSome T.has_told job.job first (K.told output.new)) }
+    ensures rested { OnOk result ((job : LoggedJob) → StandsFor job (N.net net.old) → HasRested job (N.net net.new)) }
+{
+    net.to_rest()?;
+    take_all(net, set, telling, output)?;
+    Ok(())
+}
+
+/// Begins a net, and drives it over the first batch, which it has, and over all that come behind it. What it answers is how the input
+/// ended; the net is at rest then, and all sets of its outputs are told.
+pub fn drive<N: Driven, B: Batches, T: Telling, S: Source, K: Sink>(
+    net: &mut N,
+    ends: &mut Ends<B, T>,
+    first: BatchEnd,
+    input: &mut S,
+    output: &mut K,
+) -> Result<FeedEnd, AllocError>
+    requires under_way { (plan : Plan) × IsSomeRun B.gives T.has_told plan first (S.told input.old) (K.told output.old) ends.old.batches ends.old.telling (N.net net.old) }
+    requires places { length ends.old.set ≡ length (N.net net.old).plan.outputs }
+    ensures over { IfOk result (λ end. (start : Start B) → IsUnderWay B.gives T.has_told start first (S.told input.old) (K.told output.old) ends.old.batches ends.old.telling (N.net net.old)
+        → IsOver B.gives T.has_told start end (S.told input.new) (K.told output.new) ends.new.batches ends.new.telling (N.net net.new)) }
+    ensures short { OnErr result ((start : Start B) → IsUnderWay B.gives T.has_told start first (S.told input.old) (K.told output.old) ends.old.batches ends.old.telling (N.net net.old)
+        → IsShort B.gives T.has_told T.form start (S.told input.new) (K.told output.new) (N.net net.new)) }
+    ensures keeps { Keeps (N.net net.old) (N.net net.new) }
+    ensures unread { B.reads ≡ false → S.told input.new ≡ S.told input.old }
+{
+    net.begin()?;
+    let mut last = first;
+    'batches: loop {
+        advance(net, &mut ends.set, &mut ends.telling, output)?;
+        match last {
+            BatchEnd::More => ends.telling.pass_on(output),
+            BatchEnd::End(end) => return Ok(end),
+        }
+        last = next_batch(net, &mut ends.batches, input)?;
+    }
+}

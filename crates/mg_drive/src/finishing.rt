@@ -1,0 +1,77 @@
+//! How a run ends once its net has come to rest.
+ghost use Rattle.std.specs.Prelude.{◌≡◌, ◌<◌, ◌^◌, ◌⊎◌, length, map, IfOk, OnOk, OnErr};
+ghost use Rattle.mg_edge.specs.Edge.{SinkTold};
+ghost use Rattle.mg_calc.specs.Equations.{Job};
+ghost use Rattle.mg_node.specs.Job.{LoggedJob};
+ghost use Rattle.mg_answer.specs.Answer.{Form};
+ghost use Rattle.mg_answer.specs.Wrote.{Wrote};
+ghost use Rattle.mg_answer.specs.Devices.{device};
+ghost use Rattle.mg_sched.specs.StandsFor.{StandsFor};
+ghost use Rattle.mg_sched.specs.WindsUp.{WindsUpNet};
+ghost use Rattle.mg_drive.specs.Code.Running.{HasRested, SomeRested, FrontIn};
+ghost use Rattle.mg_drive.specs.Code.Ending.{IsWhole, told_end, TellsNet};
+
+use crate::Driven;
+use mg_answer::{Outcomes, OutputText, Run, Status, StreamEnd, conclude};
+use mg_edge::Sink;
+use mg_feed::FeedEnd;
+use std::alloc::{AllocError, Global};
+
+/// Ends a run whose net has come to rest: the nodes are wound up, and then the rest of the text is written and the notes, with the
+/// report behind them where it is asked for. The text is of either form.
+pub fn finish<N: Driven, K: Sink, E: Sink>(
+    run: &Run<'_>,
+    net: &mut N,
+    end: FeedEnd,
+    text: OutputText,
+    output: &mut K,
+    notes: &mut E,
+) -> Result<Status, AllocError>
+    requires rested { SomeRested run.now.plan.now (N.net net.old) }
+    ensures wrote { IfOk result (λ status. (form : Form) (job : LoggedJob) (first : SinkTold) → job.job.plan ≡ run.now.plan.now → StandsFor job (N.net net.old) → HasRested job (N.net net.old)
+        → IsWhole form first (K.told output.old) job.job text
+        → Wrote (record { form = form; report = run.now.report }) job.job end status (device first (K.told output.new)) (device (E.told notes.old) (E.told notes.new))) }
+    ensures front { OnErr result ((form : Form) (job : Job) (first : SinkTold) → IsWhole form first (K.told output.old) job text → FrontIn form first (K.told output.new) job) }
+    ensures since { (N.net net.new ≡ N.net net.old) ⊎ WindsUpNet (N.net net.old) (N.net net.new) }
+    ensures wound { OnOk result (WindsUpNet (N.net net.old) (N.net net.new) × ((N.net net.new).wound ≡ length (N.net net.old).plan.nodes)) }
+{
+    let outcomes = outcomes_of(run.alloc, net)?;
+    net.wind_up()?;
+    let status = conclude(run, end, &outcomes, text, output, notes)?;
+    Ok(status)
+}
+
+// What is told of a net.
+fn outcomes_of<N: Driven>(alloc: Global, net: &N) -> Result<Outcomes, AllocError>
+    ensures tells { IfOk result (λ outcomes. TellsNet (N.net net.now) outcomes) }
+    ensures few { IfOk result (λ outcomes. length outcomes.ends.items < 2 ^ 32) }
+{
+    let report = net.report(alloc)?;
+    let ends = ends_of(alloc, report.streams.as_slice())?;
+    Ok(Outcomes {
+        faults: report.faults,
+        sets: report.sets,
+        ends,
+    })
+}
+
+// How far streams have come.
+fn ends_of(alloc: Global, streams: &[mg_sched::StreamEnd]) -> Result<Vec<StreamEnd>, AllocError>
+    ensures { IfOk result (λ ends. ends.items ≡ map told_end streams.now) }
+{
+    let mut ends = Vec::with_capacity(alloc, streams.len())?;
+    for stream in streams {
+        ends.push(end_of(stream))?;
+    }
+    Ok(ends)
+}
+
+// How far a stream has come.
+fn end_of(stream: &mg_sched::StreamEnd) -> StreamEnd
+    ensures { result ≡ told_end stream.now }
+{
+    StreamEnd {
+        packets: stream.packets,
+        bound: stream.bound,
+    }
+}

@@ -1,0 +1,28 @@
+//! How a net is driven: over batches that come from somewhere, to rest after each, with the sets of its outputs told as they come,
+//! and wound up at the end. The loop stands once, over three small traits: the net, where batches come from, and what is told.
+//! Answers to the definitions of `specs/Leaves.antt` and, of what is written, to those of mg_answer.
+#![tactic(auto)]
+
+mod batches;
+mod driven;
+mod driving;
+mod ends;
+mod finishing;
+mod lines;
+mod made;
+mod one_thread;
+mod running;
+mod telling;
+mod told_lines;
+mod told_sums;
+
+pub use batches::{Batch, Batches};
+pub use driven::Driven;
+pub use driving::drive;
+pub use ends::Ends;
+pub use finishing::finish;
+pub use lines::run_lines;
+pub use made::{Made, run_made};
+pub use one_thread::OneThread;
+pub use running::{run_batches, run_net};
+pub use telling::Telling;

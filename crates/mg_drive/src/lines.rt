@@ -1,0 +1,133 @@
+//! Runs over packet lines.
+ghost use Rattle.std.specs.Prelude.{◌≡◌, ◌↔◌, true, false, ℕ, List, [], map, IfOk, OnOk, OnErr};
+ghost use Rattle.mg_edge.specs.Edge.{SourceTold};
+ghost use Rattle.mg_calc.specs.declared.plan.Plan.{Plan};
+ghost use Rattle.mg_calc.specs.Plan.{IsValid};
+ghost use Rattle.mg_feed.specs.FeedSeen.{fed};
+ghost use Rattle.mg_answer.specs.Text.{output_names};
+ghost use Rattle.mg_answer.specs.Put.{nothing_put};
+ghost use Rattle.mg_answer.specs.Devices.{device};
+ghost use Rattle.mg_answer.specs.Held.{told_by, SameDevices};
+ghost use Rattle.mg_answer.specs.Ran.{RanOn, RanShortOf};
+ghost use Rattle.mg_sched.specs.Made.{BoxesFit};
+ghost use Rattle.mg_drive.specs.Leaves.{HadCalls, HadSome, RunLeaves};
+ghost use Rattle.mg_drive.specs.Code.Ending.{CameBack};
+ghost use Rattle.mg_drive.specs.Code.Lines.{has_ended as the_end, HadMemory, IsRead, HasBatch, IsNew, LinesGave, lines_left};
+
+use crate::{Batch, Batches, run_batches};
+use mg_answer::{Devices, OutputText, Run, Status, is_ended, ran_out};
+use mg_calc::Calculator;
+use mg_edge::{Gate, Sink, Source};
+use mg_feed::{BatchEnd, Feed};
+use std::alloc::AllocError;
+
+// How many lines that name a stream a batch has.
+const BATCH: u32 = 4096;
+
+// Whether the input ended well with a batch.
+fn has_ended(end: BatchEnd) -> bool
+    ensures { result ≡ the_end end }
+{
+    match end {
+        BatchEnd::More => false,
+        BatchEnd::End(end) => is_ended(end),
+    }
+}
+
+// Whether memory ran out while a batch was read.
+fn lacks_memory(end: BatchEnd) -> bool
+    ensures { (result ≡ false) ↔ HadMemory end }
+{
+    match end {
+        BatchEnd::More => false,
+        BatchEnd::End(end) => ran_out(end),
+    }
+}
+
+// Reads a batch of lines.
+fn read_on<S: Source>(feed: &mut Feed, input: &mut S) -> Result<Batch, AllocError>
+    ensures { (plan : Plan) (first : SourceTold) (past : List ℕ) (lines : List (List ℕ)) → IsRead plan first BatchEnd.More (S.told input.old) (fed feed.old) past lines
+        → IfOk result (λ b. HasBatch plan first b.end b.inputs (S.told input.new) (fed feed.new) past lines) }
+{
+    let end = feed.read_batch(input, BATCH);
+    if lacks_memory(end) {
+        return Err(AllocError);
+    }
+    let inputs = feed.take_inputs(has_ended(end))?;
+    Ok(Batch { end, inputs })
+}
+
+impl Batches for Feed {
+    ghost is_fresh = { λ f plan. IsNew (fed f) plan };
+
+    ghost gives = { λ began f plan first now end inputs. LinesGave (fed f) plan first now end inputs };
+
+    ghost left = { λ f. lines_left (fed f) };
+
+    ghost reads = { true };
+
+    fn next<S: Source>(&mut self, input: &mut S) -> Result<Batch, AllocError> {
+        let batch = read_on(self, input)?;
+        Ok(batch)
+    }
+}
+
+/// Runs the graph of a plan over packet lines, with the calculators that are handed in, and leaves these in their places. It reads
+/// batches of lines, drives a net over them, and writes the sets of its outputs as they come; at the input's end, its first fault or
+/// its first line that isn't good it writes the notes, with the report behind them where it is asked for. Each Process call goes
+/// through the gate.
+///
+/// Once a write to the output has failed nothing more is written to it. The run goes on all the same, and the notes are written.
+pub fn run_lines<G: Gate, C: Calculator, S: Source, K: Sink, E: Sink>(
+    run: &Run<'_>,
+    gate: &G,
+    boxes: &mut Vec<C>,
+    devices: &mut Devices<'_, '_, '_, S, K, E>,
+) -> Status
+    requires valid { IsValid run.now.plan.now }
+    requires boxes { BoxesFit run.now.plan.now (map C.told boxes.old.items) }
+
+    // What each status means: the answer's, unless a write failed or memory ran out.
+    ensures ran { RanOn run.now.report run.now.plan.now result (told_by S.told K.told E.told devices.old devices.new) }
+
+    // What it leaves of the calculators.
+    ensures left { RunLeaves run.now.plan.now result (told_by S.told K.told E.told devices.old devices.new).input (device (map C.told boxes.old.items) (map C.told boxes.new.items)) }
+    ensures same { SameDevices devices.old devices.new }
+{
+    match run_whole(run, gate, boxes, devices) {
+        Ok(status) => status,
+        Err(_) => Status::OutOfMemory,
+    }
+}
+
+// Makes a feed and a text, and runs the graph over the lines.
+fn run_whole<G: Gate, C: Calculator, S: Source, K: Sink, E: Sink>(
+    run: &Run<'_>,
+    gate: &G,
+    boxes: &mut Vec<C>,
+    devices: &mut Devices<'_, '_, '_, S, K, E>,
+) -> Result<Status, AllocError>
+    requires valid { IsValid run.now.plan.now }
+    requires boxes { BoxesFit run.now.plan.now (map C.told boxes.old.items) }
+    ensures ran { IfOk result (λ status. RanOn run.now.report run.now.plan.now status (told_by S.told K.told E.told devices.old devices.new)) }
+    ensures short { OnErr result (RanShortOf run.now.plan.now (told_by S.told K.told E.told devices.old devices.new)) }
+    ensures used { OnOk result (HadCalls run.now.plan.now (told_by S.told K.told E.told devices.old devices.new).input (device (map C.told boxes.old.items) (map C.told boxes.new.items))) }
+    ensures fronts { OnErr result (HadSome run.now.plan.now (told_by S.told K.told E.told devices.old devices.new).input (device (map C.told boxes.old.items) (map C.told boxes.new.items))) }
+    ensures back { CameBack run.now.plan.now (map C.told boxes.old.items) (map C.told boxes.new.items) }
+    ensures same { SameDevices devices.old devices.new }
+{
+    let ends = ends_of(run)?;
+    let status = run_batches(run, gate, boxes, ends.0, ends.1, devices)?;
+    Ok(status)
+}
+
+// A feed and a text for a plan, of which nothing is read or put yet.
+fn ends_of(run: &Run<'_>) -> Result<(Feed, OutputText), AllocError>
+    requires { IsValid run.now.plan.now }
+    ensures feed { IfOk result (λ ends. IsNew (fed ends.0) run.now.plan.now) }
+    ensures text { IfOk result (λ ends. ends.1 ≡ nothing_put (output_names run.now.plan.now)) }
+{
+    let feed = Feed::new(run.alloc, run.plan)?;
+    let text = OutputText::new(run.alloc, run.plan)?;
+    Ok((feed, text))
+}

@@ -1,0 +1,117 @@
+//! Runs over packets that are made.
+ghost use Rattle.std.specs.Prelude.{◌≡◌, [], false, map, Some, IfOk, OnOk, OnErr};
+ghost use Rattle.mg_edge.specs.Edge.{SourceTold};
+ghost use Rattle.mg_calc.specs.Plan.{IsValid};
+ghost use Rattle.mg_answer.specs.Text.{output_names};
+ghost use Rattle.mg_answer.specs.Summary.{HasSummed};
+ghost use Rattle.mg_answer.specs.Answer.{generated_job};
+ghost use Rattle.mg_answer.specs.Devices.{device};
+ghost use Rattle.mg_answer.specs.Held.{told_by, SameDevices};
+ghost use Rattle.mg_answer.specs.Ran.{RanGenerated, GeneratedSome};
+ghost use Rattle.mg_sched.specs.Made.{BoxesFit};
+ghost use Rattle.mg_drive.specs.Leaves.{HadCallsOf, HadFronts, GeneratedLeaves};
+ghost use Rattle.mg_drive.specs.Code.Ending.{CameBack};
+ghost use Rattle.mg_drive.specs.Code.Packets.{AreWaiting, WereGiven};
+
+use crate::{Batch, Batches, run_batches};
+use mg_answer::{Devices, OutputSummary, Run, Status};
+use mg_calc::{Calculator, Inputs};
+use mg_edge::{Gate, Sink, Source};
+use mg_feed::{BatchEnd, FeedEnd, generate};
+use std::alloc::AllocError;
+
+/// Packets that are made before a run, all of which are its one batch.
+#[derive(Drop)]
+pub struct Made {
+    packets: Option<Inputs>,
+}
+
+impl Batches for Made {
+    ghost is_fresh = { λ m plan. AreWaiting m.packets plan };
+
+    ghost gives = { λ began m plan first now end inputs. WereGiven began.packets end inputs };
+
+    ghost left = { λ m. 0 };
+
+    ghost reads = { false };
+
+    fn next<S: Source>(&mut self, input: &mut S) -> Result<Batch, AllocError> {
+        let _ = input;
+        match self.packets.take() {
+            Some(inputs) => Ok(Batch {
+                end: BatchEnd::End(FeedEnd::Ended),
+                inputs,
+            }),
+            None => Err(AllocError),
+        }
+    }
+}
+
+/// Runs the graph of a plan over so many packets that are made, with the calculators that are handed in, and leaves these in their
+/// places. It drives a net over all of them to rest, sums up the sets of its outputs, and writes the summary and then the notes, with
+/// the report behind them where it is asked for. Each Process call goes through the gate. The input is left as it was.
+///
+/// Where a write of the summary fails, the notes are written all the same.
+pub fn run_made<G: Gate, C: Calculator, S: Source, K: Sink, E: Sink>(
+    run: &Run<'_>,
+    number: u32,
+    gate: &G,
+    boxes: &mut Vec<C>,
+    devices: &mut Devices<'_, '_, '_, S, K, E>,
+) -> Status
+    requires valid { IsValid run.now.plan.now }
+    requires boxes { BoxesFit run.now.plan.now (map C.told boxes.old.items) }
+
+    // What each status means: the answer's, unless a write failed or memory ran out. No input has a part in it.
+    ensures ran { RanGenerated run.now.report run.now.plan.now number result (told_by S.told K.told E.told devices.old devices.new) }
+    ensures unread { S.told devices.new.input.now ≡ S.told devices.old.input.now }
+
+    // What it leaves of the calculators.
+    ensures left { GeneratedLeaves run.now.plan.now number result (device (map C.told boxes.old.items) (map C.told boxes.new.items)) }
+    ensures same { SameDevices devices.old devices.new }
+{
+    match run_whole(run, number, gate, boxes, devices) {
+        Ok(status) => status,
+        Err(_) => Status::OutOfMemory,
+    }
+}
+
+// Makes the packets and a summary, and runs the graph over them.
+fn run_whole<G: Gate, C: Calculator, S: Source, K: Sink, E: Sink>(
+    run: &Run<'_>,
+    number: u32,
+    gate: &G,
+    boxes: &mut Vec<C>,
+    devices: &mut Devices<'_, '_, '_, S, K, E>,
+) -> Result<Status, AllocError>
+    requires valid { IsValid run.now.plan.now }
+    requires boxes { BoxesFit run.now.plan.now (map C.told boxes.old.items) }
+    ensures ran { IfOk result (λ status. RanGenerated run.now.report run.now.plan.now number status (told_by S.told K.told E.told devices.old devices.new)) }
+    ensures short { OnErr result (GeneratedSome run.now.plan.now number (told_by S.told K.told E.told devices.old devices.new)) }
+    ensures used { OnOk result (HadCallsOf (generated_job run.now.plan.now number) (device (map C.told boxes.old.items) (map C.told boxes.new.items))) }
+    ensures fronts { OnErr result (HadFronts (generated_job run.now.plan.now number) (device (map C.told boxes.old.items) (map C.told boxes.new.items))) }
+    ensures back { CameBack run.now.plan.now (map C.told boxes.old.items) (map C.told boxes.new.items) }
+    ensures unread { S.told devices.new.input.now ≡ S.told devices.old.input.now }
+    ensures same { SameDevices devices.old devices.new }
+{
+    let ends = ends_of(run, number)?;
+    let status = run_batches(run, gate, boxes, ends.0, ends.1, devices)?;
+    Ok(status)
+}
+
+// The packets for a plan, and a summary of which nothing is told yet.
+fn ends_of(run: &Run<'_>, number: u32) -> Result<(Made, OutputSummary), AllocError>
+    requires { IsValid run.now.plan.now }
+    ensures packets { IfOk result (λ ends. ends.0.packets ≡ Some (generated_job run.now.plan.now number).inputs) }
+    ensures names { IfOk result (λ ends. ends.1.names ≡ output_names run.now.plan.now) }
+    ensures nothing { IfOk result (λ ends. HasSummed ends.1 []) }
+{
+    let inputs = generate(run.alloc, run.plan, number)?;
+    let summary = OutputSummary::new(run.alloc, run.plan)?;
+    Ok((
+        Made {
+            packets: Some(inputs),
+        },
+        summary,
+    ))
+}

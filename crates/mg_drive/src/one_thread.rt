@@ -1,0 +1,49 @@
+use crate::Driven;
+use mg_calc::{Calculator, Inputs};
+use mg_edge::Gate;
+use mg_sched::{Net, Report};
+use mg_value::InputSet;
+use std::alloc::{AllocError, Global};
+
+/// A net whose nodes run on the one thread that drives it, each Process call through a gate.
+pub struct OneThread<'a, C: Calculator, G: Gate> {
+    pub net: Net<C>,
+    pub gate: &'a G,
+}
+
+impl<'a, C: Calculator, G: Gate> Driven for OneThread<'a, C, G> {
+    ghost net = { λ t. t.net };
+
+    fn begin(&mut self) -> Result<(), AllocError> {
+        self.net.begin()?;
+        Ok(())
+    }
+
+    fn to_rest(&mut self) -> Result<(), AllocError> {
+        self.net.sweep(self.gate)?;
+        Ok(())
+    }
+
+    fn extend(&mut self, more: &Inputs) -> Result<(), AllocError> {
+        self.net.extend(more)?;
+        Ok(())
+    }
+
+    fn trim(&mut self) {
+        self.net.trim();
+    }
+
+    fn take_out(&mut self, into: &mut InputSet) -> bool {
+        self.net.take_out(into)
+    }
+
+    fn report(&self, alloc: Global) -> Result<Report, AllocError> {
+        let report = self.net.report(alloc)?;
+        Ok(report)
+    }
+
+    fn wind_up(&mut self) -> Result<(), AllocError> {
+        self.net.wind_up()?;
+        Ok(())
+    }
+}

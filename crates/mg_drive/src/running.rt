@@ -1,0 +1,118 @@
+//! A run of a graph: a net is made of its first batch and driven, and its calculators come back.
+ghost use Rattle.std.specs.Prelude.{◌≡◌, [], false, map, length, List, IfOk, OnErr};
+ghost use Rattle.mg_edge.specs.Edge.{SourceTold, SinkTold};
+ghost use Rattle.mg_calc.specs.Plan.{IsValid};
+ghost use Rattle.mg_calc.specs.Equations.{IsJob};
+ghost use Rattle.mg_calc.specs.Told.{CalculatorTold};
+ghost use Rattle.mg_answer.specs.Devices.{device};
+ghost use Rattle.mg_answer.specs.Held.{told_by, SameDevices};
+ghost use Rattle.mg_sched.specs.Made.{BoxesFit};
+ghost use Rattle.mg_drive.specs.Nets.{Keeps};
+ghost use Rattle.mg_drive.specs.Code.Running.{Start, IsUnderWay, IsSomeRun, IsShort};
+ghost use Rattle.mg_drive.specs.Code.Ending.{CameBack, since, HasEnded, HasRun, RanShort};
+
+use crate::{Batch, Batches, Driven, Ends, OneThread, Telling, drive, finish};
+use mg_answer::{Devices, Run, Status};
+use mg_calc::Calculator;
+use mg_edge::{Gate, Sink, Source};
+use mg_feed::BatchEnd;
+use mg_sched::Net;
+use mg_value::InputSet;
+use std::alloc::AllocError;
+use std::mem;
+
+/// Runs a net that was made over the first batch, and ends the run.
+pub fn run_net<N: Driven, B: Batches, T: Telling, S: Source, K: Sink, E: Sink>(
+    run: &Run<'_>,
+    net: &mut N,
+    ends: Ends<B, T>,
+    first: BatchEnd,
+    devices: &mut Devices<'_, '_, '_, S, K, E>,
+) -> Result<Status, AllocError>
+    requires under_way { IsSomeRun B.gives T.has_told run.now.plan.now first (S.told devices.old.input.now) (K.told devices.old.output.now) ends.batches ends.telling (N.net net.old) }
+    requires places { length ends.set ≡ length (N.net net.old).plan.outputs }
+    ensures ended { IfOk result (λ status. (start : Start B) → start.plan ≡ run.now.plan.now
+        → IsUnderWay B.gives T.has_told start first (S.told devices.old.input.now) (K.told devices.old.output.now) ends.batches ends.telling (N.net net.old)
+        → HasEnded B.gives T.form run.now.report start status (S.told devices.new.input.now) (K.told devices.new.output.now) (told_by S.told K.told E.told devices.old devices.new).notes (N.net net.new)) }
+    ensures short { OnErr result ((start : Start B) → start.plan ≡ run.now.plan.now
+        → IsUnderWay B.gives T.has_told start first (S.told devices.old.input.now) (K.told devices.old.output.now) ends.batches ends.telling (N.net net.old)
+        → IsShort B.gives T.has_told T.form start (S.told devices.new.input.now) (K.told devices.new.output.now) (N.net net.new)) }
+    ensures keeps { Keeps (N.net net.old) (N.net net.new) }
+    ensures unread { B.reads ≡ false → S.told devices.new.input.now ≡ S.told devices.old.input.now }
+    ensures same { SameDevices devices.old devices.new }
+{
+    let mut ends = ends;
+    let end = drive(net, &mut ends, first, devices.input, devices.output)?;
+    let text = ends.telling.into_text(run.alloc)?;
+    let status = finish(run, net, end, text, devices.output, devices.notes)?;
+    Ok(status)
+}
+
+// Makes the net of the first batch, runs it on this thread, and takes the calculators out of it again.
+fn run_made_net<G: Gate, C: Calculator, B: Batches, T: Telling, S: Source, K: Sink, E: Sink>(
+    run: &Run<'_>,
+    gate: &G,
+    boxes: &mut Vec<C>,
+    ends: Ends<B, T>,
+    first: Batch,
+    devices: &mut Devices<'_, '_, '_, S, K, E>,
+) -> Result<Status, AllocError>
+    requires job { IsJob (record { plan = run.now.plan.now; inputs = first.inputs }) }
+    requires boxes { BoxesFit run.now.plan.now (map C.told boxes.old.items) }
+    requires first { (began : B) × ((source : SourceTold) × B.gives began ends.batches run.now.plan.now source (S.told devices.old.input.now) first.end first.inputs) }
+    requires set { length ends.set ≡ length run.now.plan.now.outputs }
+    requires nothing { (sink : SinkTold) → T.has_told ends.telling run.now.plan.now sink sink [] }
+    ensures ran { IfOk result (λ status. (began : B) (source : SourceTold) → B.gives began ends.batches run.now.plan.now source (S.told devices.old.input.now) first.end first.inputs
+        → HasRun B.gives T.form run.now.report began run.now.plan.now status (since source (told_by S.told K.told E.told devices.old devices.new)) (device (map C.told boxes.old.items) (map C.told boxes.new.items))) }
+    ensures short { OnErr result ((began : B) (source : SourceTold) → B.gives began ends.batches run.now.plan.now source (S.told devices.old.input.now) first.end first.inputs
+        → RanShort B.gives T.has_told T.form began run.now.plan.now (since source (told_by S.told K.told E.told devices.old devices.new)) (device (map C.told boxes.old.items) (map C.told boxes.new.items))) }
+    ensures back { CameBack run.now.plan.now (map C.told boxes.old.items) (map C.told boxes.new.items) }
+    ensures unread { B.reads ≡ false → S.told devices.new.input.now ≡ S.told devices.old.input.now }
+    ensures same { SameDevices devices.old devices.new }
+{
+    let handed = mem::replace(boxes, Vec::new(run.alloc));
+    match Net::new(run.alloc, run.plan, &first.inputs, handed) {
+        Ok(net) => {
+            let mut driven = OneThread { net, gate };
+            let ran = run_net(run, &mut driven, ends, first.end, devices);
+            let OneThread { net, gate: _ } = driven;
+            *boxes = net.give_back();
+            ran
+        }
+        Err(back) => {
+            *boxes = back;
+            Err(AllocError)
+        }
+    }
+}
+
+/// Runs the graph of a plan over batches, with the calculators that are handed in, and leaves these in their places. All sets of its
+/// outputs are told, and at the end the notes are written.
+pub fn run_batches<G: Gate, C: Calculator, B: Batches, T: Telling, S: Source, K: Sink, E: Sink>(
+    run: &Run<'_>,
+    gate: &G,
+    boxes: &mut Vec<C>,
+    batches: B,
+    telling: T,
+    devices: &mut Devices<'_, '_, '_, S, K, E>,
+) -> Result<Status, AllocError>
+    requires valid { IsValid run.now.plan.now }
+    requires boxes { BoxesFit run.now.plan.now (map C.told boxes.old.items) }
+    requires fresh { B.is_fresh batches run.now.plan.now }
+    requires nothing { (sink : SinkTold) → T.has_told telling run.now.plan.now sink sink [] }
+    ensures ran { IfOk result (λ status. HasRun B.gives T.form run.now.report batches run.now.plan.now status (told_by S.told K.told E.told devices.old devices.new) (device (map C.told boxes.old.items) (map C.told boxes.new.items))) }
+    ensures short { OnErr result (RanShort B.gives T.has_told T.form batches run.now.plan.now (told_by S.told K.told E.told devices.old devices.new) (device (map C.told boxes.old.items) (map C.told boxes.new.items))) }
+    ensures back { CameBack run.now.plan.now (map C.told boxes.old.items) (map C.told boxes.new.items) }
+    ensures unread { B.reads ≡ false → S.told devices.new.input.now ≡ S.told devices.old.input.now }
+    ensures same { SameDevices devices.old devices.new }
+{
+    let set = InputSet::new(run.alloc, run.plan.outputs.len())?;
+    let mut ends = Ends {
+        batches,
+        telling,
+        set,
+    };
+    let first = ends.batches.next(devices.input)?;
+    let status = run_made_net(run, gate, boxes, ends, first, devices)?;
+    Ok(status)
+}

@@ -1,0 +1,16 @@
+use Rattle.std.proofs.Common.{map, subst}
+use Rattle.mg_run.specs.Boxes.{outers_told}
+use Rattle.mg_run.specs.Code.Job.{job_view, CanBeDone}
+use Rattle.mg_run.specs.declared.job.Job.{Job}
+use Rattle.mg_run.proofs.Handing.{boxes_fit}
+use Rattle.mg_run.proofs.call.do_job.Goals as goal
+
+pub run_lines-requires-clause-boxes : goal.run_lines-requires-clause-boxes
+run_lines-requires-clause-boxes g c =
+    let can = subst (λ (job : Job). CanBeDone (outers_told (map g.C.Calculator.told c.args.boxes.now.items)) (job_view job)) c.in-Run.is c.requires.can in
+    boxes_fit c.in-Run.plan (map g.C.Calculator.told c.args.boxes.now.items) can.1 c.requires.lawful
+
+pub run_made-requires-clause-boxes : goal.run_made-requires-clause-boxes
+run_made-requires-clause-boxes g c =
+    let can = subst (λ (job : Job). CanBeDone (outers_told (map g.C.Calculator.told c.args.boxes.now.items)) (job_view job)) c.in-Generate.is c.requires.can in
+    boxes_fit c.in-Generate.plan (map g.C.Calculator.told c.args.boxes.now.items) can.1 c.requires.lawful

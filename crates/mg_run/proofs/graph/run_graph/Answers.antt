@@ -1,6 +1,0 @@
-use Rattle.std.proofs.Common.{map}
-use Rattle.mg_run.proofs.Handing.{boxes_fit}
-use Rattle.mg_run.proofs.graph.run_graph.Goals as goal
-
-pub run_input-requires-clause-boxes : goal.run_input-requires-clause-boxes
-run_input-requires-clause-boxes g c = boxes_fit c.args.plan.now (map g.C.Calculator.told c.args.boxes.now.items) c.requires.fit c.requires.lawful

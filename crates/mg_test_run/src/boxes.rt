@@ -1,0 +1,110 @@
+//! The calculators that are handed in have the calls of their nodes, and come back in their places.
+
+use crate::graphs::{counting, two_packets};
+use crate::outside::{Outside, assert_text, outside_of, show_came};
+use crate::shown::{show_first, show_logs};
+use mg_calc::Calculator;
+use mg_edge::StillGate;
+use mg_run::{Status, run_words, tally_box};
+use std::alloc::Global;
+use std::test::Fail;
+
+/// How many boxes are handed in.
+const BOXES: usize = 4;
+
+// Puts down what came of a call, the logs that the calculators then have, and what the first of them emits for one set more.
+fn tell<C: Calculator>(
+    alloc: Global,
+    told: &mut String,
+    status: Status,
+    outside: &Outside,
+    calculators: &mut Vec<C>,
+) -> Result<(), Fail> {
+    let came = show_came(alloc, status, &outside.output, &outside.notes)?;
+    let logs = show_logs(alloc, calculators)?;
+    let first = show_first(alloc, calculators)?;
+    writeln!(told, "{}{}{}", came.as_str(), logs.as_str(), first.as_str())?;
+    Ok(())
+}
+
+// What so many calls come to with the same four calculators, which tell their calls.
+fn told_of(alloc: Global, command: &str, calls: u32) -> Result<String, Fail> {
+    let mut boxes = Vec::new(alloc);
+    for _ in 0..BOXES {
+        let tally: Box<dyn Calculator + Send> = Box::new(alloc, tally_box(alloc, true)?)?;
+        boxes.push(tally)?;
+    }
+    let mut told = String::new(alloc);
+    for _ in 0..calls {
+        let mut outside = outside_of(alloc, command, counting(), two_packets())?;
+        let status = run_words(
+            alloc,
+            &outside.words,
+            &mut outside.store,
+            &mut outside.input,
+            &mut outside.output,
+            &mut outside.notes,
+            &mut boxes,
+            &StillGate,
+        );
+        tell(alloc, &mut told, status, &outside, &mut boxes)?;
+    }
+    Ok(told)
+}
+
+// The first has the four calls of the one node, and goes on counting from there. A second run begins anew.
+fn told_by_runs() -> &'static str {
+    r#"0
+{"stream":"out","ts":1,"value":1}
+{"stream":"out","ts":4,"value":2}
+ begun 1 4 finished;;;; 3@9
+0
+{"stream":"out","ts":1,"value":1}
+{"stream":"out","ts":4,"value":2}
+ begun 1 4 finished 9 begun 1 4 finished;;;; 3@9
+"#
+}
+
+#[test]
+fn boxes_have_their_calls(rt: HostRuntime) -> Result<(), Fail> {
+    let told = told_of(rt.alloc(), "run", 2)?;
+    assert_text(told.as_str(), told_by_runs())
+}
+
+// The same over three packets that are made, whose report is in the notes: the input isn't read.
+fn told_by_generating() -> &'static str {
+    r#"0
+out packets=3 first=0 last=20 sum=6
+node 0 TallyCalculator sets=3
+stream in packets=3 bound=Done
+stream out packets=3 bound=Done
+ begun 0 10 20 finished;;;; 4@9
+0
+out packets=3 first=0 last=20 sum=6
+node 0 TallyCalculator sets=3
+stream in packets=3 bound=Done
+stream out packets=3 bound=Done
+ begun 0 10 20 finished 9 begun 0 10 20 finished;;;; 4@9
+"#
+}
+
+#[test]
+fn boxes_have_their_calls_of_packets_that_are_made(rt: HostRuntime) -> Result<(), Fail> {
+    let told = told_of(rt.alloc(), "generate --report --number 3", 2)?;
+    assert_text(told.as_str(), told_by_generating())
+}
+
+// None has a call, and the first counts from 1 on.
+fn told_by_solve() -> &'static str {
+    r#"0
+{"stream":"out","ts":1,"value":1}
+{"stream":"out","ts":4,"value":2}
+;;;; 1@9
+"#
+}
+
+#[test]
+fn solve_calls_none(rt: HostRuntime) -> Result<(), Fail> {
+    let told = told_of(rt.alloc(), "solve", 1)?;
+    assert_text(told.as_str(), told_by_solve())
+}

@@ -1,0 +1,86 @@
+//! A gate is called round each Process call.
+
+use crate::graphs::{five_packets, thinned, thinning};
+use crate::outside::{assert_text, outside_of, show_came, status_of};
+use mg_edge::Gate;
+use std::alloc::Global;
+use std::sync::atomic::{AtomicU64, Ordering};
+use std::test::Fail;
+
+// Counts its calls, and those that don't come in turn: node 0 with the numbers from 0 on, in and out again.
+#[derive(Drop)]
+struct Counts {
+    entered: AtomicU64,
+    left: AtomicU64,
+    out_of_turn: AtomicU64,
+}
+
+impl Counts {
+    fn new() -> Counts {
+        Counts {
+            entered: AtomicU64::new(0),
+            left: AtomicU64::new(0),
+            out_of_turn: AtomicU64::new(0),
+        }
+    }
+
+    // Counts a call for which these two have to be this number, at node 0.
+    fn note(&self, node: u32, number: u64, others: u64) {
+        if node != 0 || number != others {
+            self.out_of_turn.fetch_add(1, Ordering::SeqCst);
+        }
+    }
+
+    fn show(&self, alloc: Global) -> Result<String, Fail> {
+        let entered = self.entered.load(Ordering::SeqCst);
+        let left = self.left.load(Ordering::SeqCst);
+        let out_of_turn = self.out_of_turn.load(Ordering::SeqCst);
+        Ok(format!(in alloc; "{entered} {left} {out_of_turn}")?)
+    }
+}
+
+impl Gate for Counts {
+    fn enter(&self, node: u32, number: u64) {
+        self.note(node, number, self.left.load(Ordering::SeqCst));
+        self.note(node, number, self.entered.fetch_add(1, Ordering::SeqCst));
+    }
+
+    fn leave(&self, node: u32, number: u64) {
+        self.note(node, number, self.left.fetch_add(1, Ordering::SeqCst));
+    }
+}
+
+// The status and the texts that a command comes to through a gate, over five packets where it reads any.
+fn came_through(alloc: Global, command: &str, gate: &Counts) -> Result<String, Fail> {
+    let mut outside = outside_of(alloc, command, thinning(), five_packets())?;
+    let status = status_of(
+        alloc,
+        command,
+        thinning(),
+        &mut outside.input,
+        &mut outside.output,
+        &mut outside.notes,
+        gate,
+    )?;
+    show_came(alloc, status, &outside.output, &outside.notes)
+}
+
+// Five sets are shown, of which two are left out: each enters once, and leaves before the next one enters.
+#[test]
+fn gate_counts(rt: HostRuntime) -> Result<(), Fail> {
+    let alloc = rt.alloc();
+    let gate = Counts::new();
+    let came = came_through(alloc, "run", &gate)?;
+    assert_text(came.as_str(), thinned())?;
+    assert_text(gate.show(alloc)?.as_str(), "5 5 0")
+}
+
+// Of seven packets that are made each is shown.
+#[test]
+fn gate_counts_packets_that_are_made(rt: HostRuntime) -> Result<(), Fail> {
+    let alloc = rt.alloc();
+    let gate = Counts::new();
+    let came = came_through(alloc, "generate --number 7", &gate)?;
+    assert_text(came.as_str(), "0\nout packets=7 first=0 last=60 sum=21\n")?;
+    assert_text(gate.show(alloc)?.as_str(), "7 7 0")
+}
