@@ -230,7 +230,7 @@ def back_edge_misplaced(note: Note, graph: Graph) -> list[str]:
         if read_key(text) not in keys:
             return [f"{node.file.place(info.at)}: {node.describe()} has no input `{text}`" + near_said(text, [key_label(key) or ":0" for key in keys])]
         if not needs_back_edge(node, read_key(text)):
-            return [f"{node.file.place(info.at)}: {node.describe()}: only LOOP of a PreviousLoopbackCalculator may be a back edge, and `{text}` is none: take this away"]
+            return [f"{node.file.place(info.at)}: {node.describe()}: only LOOP of a PreviousLoopbackCalculator and FINISHED of a FlowLimiterCalculator may be back edges, and `{text}` is neither: take this away"]
     return [f"{node.place}: {node.describe()} has a back edge where none may be"]
 
 
@@ -266,3 +266,9 @@ def too_many(note: Note, graph: Graph) -> list[str]:
     edges = sum(len(node.inputs) for node in graph.nodes) + len(graph.outputs)
     most = max(graph.readers().items(), key=lambda pair: len(pair[1]))
     return [f"{graph.files[0].name}: {edges} ports read a stream, and 16384 are the most; `{most[0]}` has the most readers, {len(most[1])}"]
+
+
+def free_node(note: Note, graph: Graph) -> list[str]:
+    node = node_of(note, graph)
+    return [f"{node.place}: {node.describe()} is a free node: what it lays depends on the order in which packets arrive, and no command runs it so far: "
+            "take it away, or look at the graph by `check`"]

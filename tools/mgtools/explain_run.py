@@ -252,7 +252,7 @@ FAULTS = {"WrongKind": "a packet isn't of the kind that its input takes", "Overf
           "BadSelect": "SELECT has the number of no input", "NoSide": "it has no side packet",
           "NotAscending": "it emits a packet below its output's bound", "NotAlone": "it emits a packet at PostStream, and not alone",
           "NotAllowed": "it emits at a time that no packet may have", "BelowOffset": "it emits a packet below its offset",
-          "EmitsInClose": "it has an offset and emits in Close"}
+          "EmitsInClose": "it has an offset and emits in Close", "TooDeep": "an item that it gathers nests lists and records 16 deep or more"}
 
 
 def sources(node: Node, graph: Graph, cause: str, shown_set: dict[str, tuple[int, Any]]) -> list[str]:

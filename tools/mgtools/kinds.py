@@ -110,7 +110,12 @@ KINDS: dict[str, Kind] = {
                                          (ONE,), offset="none", either=("AT_PRESTREAM", "AT_ZERO", "AT_POSTSTREAM")),
     "ConstantSidePacketCalculator": Kind((), (), (), (Ports("PACKET", 1, 64),), {"packet": Option(required=True, repeated=True)}, "none"),
     "PreviousLoopbackCalculator": Kind((Ports("LOOP"), Ports("MAIN")), (Ports("PREV_LOOP"),), offset="none"),
+    "FlowLimiterCalculator": Kind((ONE, Ports("FINISHED")), (ONE,), options={"max_in_flight": Option(least=1, most=2**31 - 1)}, offset="none"),
     "TallyCalculator": Kind((ONE,), (Ports(kind="Int"),)),
+    "BeginLoopCalculator": Kind((Ports("ITERABLE", kind="Items"),), (Ports("BATCH_END", kind="Int"), Ports("ITEM")), offset="none"),
+    "BeginLoopCloneCalculator": Kind((Ports("CLONE"), Ports("ITERABLE", kind="Items")),
+                                     (Ports("BATCH_END", kind="Int"), Ports("CLONE"), Ports("ITEM")), offset="none"),
+    "EndLoopCalculator": Kind((Ports("BATCH_END", kind="Int"), Ports("ITEM")), (Ports("ITERABLE", kind="Items"),), offset="none"),
 }
 
 PLACES = (("input_stream", "inputs", "input"), ("output_stream", "outputs", "output"),
@@ -217,4 +222,4 @@ def offset_of(node: Node) -> int | None:
 
 
 def needs_back_edge(node: Node, key: tuple[str, int]) -> bool:
-    return node.calculator == "PreviousLoopbackCalculator" and key_label(key) == "LOOP"
+    return (node.calculator, key_label(key)) in (("PreviousLoopbackCalculator", "LOOP"), ("FlowLimiterCalculator", "FINISHED"))

@@ -2,12 +2,12 @@
 //! All that it does is `mg_run::run_words`, whose contract says what that is.
 #![tactic(auto)]
 
-use mg_batch::{begin_loop_box, end_loop_box};
+use mg_batch::{BatchBox, begin_loop_box, end_loop_box};
 use mg_calc::Calculator;
 use mg_edge::{FolderStore, ReaderSource, StillGate, WriterSink};
 use mg_run::{Status, run_words, tally_box};
 use mg_value::MgText;
-use std::alloc::AllocError;
+use std::alloc::{AllocError, Global};
 use std::env;
 use std::io::ErrorKind;
 use std::process::ExitCode;
@@ -47,6 +47,15 @@ fn words(rt: &HostRuntime) -> Result<Vec<MgText>, AllocError> {
     }
 }
 
+// The box of this number among those of loops over lists.
+fn loop_box(alloc: Global, number: usize) -> Result<BatchBox, AllocError> {
+    if number < BEGIN_LOOPS + BEGIN_CLONE_LOOPS {
+        begin_loop_box(alloc, number >= BEGIN_LOOPS, false)
+    } else {
+        end_loop_box(alloc, false)
+    }
+}
+
 // The top call over the files below the current folder and the standard streams, with boxes of its own.
 fn call(rt: &HostRuntime, words: &[MgText]) -> Result<Status, AllocError> {
     let alloc = rt.alloc();
@@ -55,14 +64,9 @@ fn call(rt: &HostRuntime, words: &[MgText]) -> Result<Status, AllocError> {
         let tally: Box<dyn Calculator + Send> = Box::new(alloc, tally_box(alloc, false)?)?;
         boxes.push(tally)?;
     }
-    for number in 0..BEGIN_LOOPS + BEGIN_CLONE_LOOPS {
-        let begin = begin_loop_box(alloc, number >= BEGIN_LOOPS, false)?;
-        let begin: Box<dyn Calculator + Send> = Box::new(alloc, begin)?;
-        boxes.push(begin)?;
-    }
-    for _ in 0..END_LOOPS {
-        let end: Box<dyn Calculator + Send> = Box::new(alloc, end_loop_box(alloc, false)?)?;
-        boxes.push(end)?;
+    for number in 0..BEGIN_LOOPS + BEGIN_CLONE_LOOPS + END_LOOPS {
+        let one: Box<dyn Calculator + Send> = Box::new(alloc, loop_box(alloc, number)?)?;
+        boxes.push(one)?;
     }
     let Ok(files) = rt.clone() else {
         return Err(AllocError);

@@ -1,6 +1,6 @@
 //! The cell of a plan's first node, and how it is made.
 ghost use Rattle.std.specs.Prelude.{◌≡◌, ◌<◌, ◌≤◌, length, slice_get, Some, None, IfOk, OnOk, [], true};
-ghost use Rattle.mg_calc.specs.Shape.{IsOuter, ParametersFit, IsShapeOf};
+ghost use Rattle.mg_calc.specs.Shape.{IsOuter, IsServed, ParametersFit, IsShapeOf};
 ghost use Rattle.mg_calc.specs.Plan.{IsValid, InputsFit};
 ghost use Rattle.mg_calc.specs.Equations.{IsJob};
 ghost use Rattle.mg_calc.specs.declared.plan_node.PlanNode.{PlanNode};
@@ -42,6 +42,7 @@ fn is_outer(law: &Law) -> bool
 fn box_of(alloc: Global, node: &PlanNode) -> Result<LawBox, Fail>
     requires ranges { ParametersFit node.now.law }
     requires of_law { IsShapeOf node.now.law node.now.shape }
+    requires served { IsServed node.now.law }
     ensures { IfOk result (λ b. b ≡ record { law = node.now.law; shape = node.now.shape; state = []; log = None }) }
 {
     if !is_outer(&node.law) {
@@ -58,6 +59,7 @@ fn box_of(alloc: Global, node: &PlanNode) -> Result<LawBox, Fail>
 fn calculator_of(alloc: Global, node: &PlanNode) -> Result<Holder<LawBox>, Fail>
     requires ranges { ParametersFit node.now.law }
     requires of_law { IsShapeOf node.now.law node.now.shape }
+    requires served { IsServed node.now.law }
     ensures { IfOk result (λ h. h ≡ held_of node.now) }
 {
     if node.box_number.is_some() {
