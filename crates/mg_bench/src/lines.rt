@@ -8,6 +8,7 @@ use mg_check::check;
 use mg_config::read;
 use mg_edge::{ReaderSource, Sink, Source, WriterSink};
 use mg_feed::{BatchEnd, Feed, FeedEnd, LineWriter, put_all};
+use mg_free::first_free;
 use mg_text::parse;
 use mg_value::{MgText, Packet};
 use std::alloc::Global;
@@ -54,7 +55,7 @@ fn graph() -> &'static str {
     r#"input_stream: "in" output_stream: "out" node { calculator: "PassThroughCalculator" input_stream: "in" output_stream: "out" }"#
 }
 
-/// The plan of a graph's text, if it is valid and no calculator has to be handed in.
+/// The plan of a graph's text, if it is valid, has no free node, and no calculator has to be handed in.
 pub(crate) fn plan_of(alloc: Global, text: &str) -> Option<Plan>
     ensures valid { IfSome result IsValid }
     ensures fit { IfSome result (λ plan. OutersFit plan []) }
@@ -65,7 +66,13 @@ pub(crate) fn plan_of(alloc: Global, text: &str) -> Option<Plan>
     if graph.nodes.len() > 4096 {
         return None;
     }
-    check(alloc, &graph, outers).ok()
+    let Ok(plan) = check(alloc, &graph, outers) else {
+        return None;
+    };
+    match first_free(&plan) {
+        Some(_) => None,
+        None => Some(plan),
+    }
 }
 
 fn output_of<K: Sink + Drop>(alloc: Global, sink: K) -> Option<Output<K>> {
