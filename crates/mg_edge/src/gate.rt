@@ -1,3 +1,9 @@
+ghost use Rattle.std.specs.Prelude.{◌≡◌};
+
+use std::sync::atomic::AtomicBool;
+use std::sync::atomic::Ordering::SeqCst;
+use std::thread;
+
 /// What is called round each Process call of a calculator, with the node's number and the number of the set, counted
 /// from 0. It tells nothing and changes no answer: a test may watch by it when calls are made, or hold one up.
 pub trait Gate {
@@ -14,6 +20,69 @@ pub struct StillGate;
 
 impl Gate for StillGate {
     fn enter(&self, _node: u32, _number: u64) {}
+
+    fn leave(&self, _node: u32, _number: u64) {}
+}
+
+/// A gate at which two Process calls meet, each told by its node and the number of its set: the one that comes first is held until the
+/// other has entered, or for so many turns.
+#[derive(Drop)]
+pub struct MeetGate {
+    /// The one call: its node and the number of its set.
+    pub first: (u32, u64),
+    /// The other call.
+    pub second: (u32, u64),
+    /// How often the call that waits looks for the other one.
+    pub turns: u64,
+    // Whether the first call waits or has met, and the same of the second.
+    first_in: AtomicBool,
+    second_in: AtomicBool,
+    met: AtomicBool,
+}
+
+impl MeetGate {
+    /// A gate for these two calls, which haven't met.
+    pub fn new(first: (u32, u64), second: (u32, u64), turns: u64) -> MeetGate
+        ensures calls { (result.first ≡ first) × (result.second ≡ second) }
+        ensures turns { result.turns ≡ turns }
+    {
+        MeetGate {
+            first,
+            second,
+            turns,
+            first_in: AtomicBool::new(false),
+            second_in: AtomicBool::new(false),
+            met: AtomicBool::new(false),
+        }
+    }
+
+    /// Whether the two calls have met.
+    pub fn met(&self) -> bool {
+        self.met.load(SeqCst)
+    }
+
+    // Holds a call until the other one has entered. Where it gives up, it is as if it hadn't come.
+    fn meet(&self, mine: &AtomicBool, theirs: &AtomicBool) {
+        mine.store(true, SeqCst);
+        for _ in 0..self.turns {
+            if theirs.load(SeqCst) {
+                self.met.store(true, SeqCst);
+                return;
+            }
+            thread::yield_now();
+        }
+        mine.store(false, SeqCst);
+    }
+}
+
+impl Gate for MeetGate {
+    fn enter(&self, node: u32, number: u64) {
+        if node == self.first.0 && number == self.first.1 {
+            self.meet(&self.first_in, &self.second_in);
+        } else if node == self.second.0 && number == self.second.1 {
+            self.meet(&self.second_in, &self.first_in);
+        }
+    }
 
     fn leave(&self, _node: u32, _number: u64) {}
 }

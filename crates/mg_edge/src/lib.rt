@@ -16,7 +16,7 @@ mod store;
 mod writer_sink;
 
 pub use folder_store::FolderStore;
-pub use gate::{Gate, StillGate};
+pub use gate::{Gate, MeetGate, StillGate};
 pub use memory_sink::MemorySink;
 pub use memory_source::MemorySource;
 pub use memory_store::MemoryStore;

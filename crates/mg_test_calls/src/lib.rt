@@ -6,6 +6,8 @@
 #[cfg(test)]
 mod edge;
 #[cfg(test)]
+mod gates;
+#[cfg(test)]
 mod names;
 #[cfg(test)]
 mod payload;
