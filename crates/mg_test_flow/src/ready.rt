@@ -109,8 +109,8 @@ fn stands_before(order: &[u32], place: usize) -> bool
     false
 }
 
-// Whether no number stands twice.
-fn is_distinct(order: &[u32]) -> bool
+/// Whether no number stands twice.
+pub(crate) fn is_distinct(order: &[u32]) -> bool
     ensures { result ≡ true → AllPairs (λ a b. a ≢ b) order.now }
 {
     for place in 0..order.len() {

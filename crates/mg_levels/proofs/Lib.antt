@@ -1,0 +1,7 @@
+mod Sums
+mod Shares
+mod Draining
+mod LevelsMade
+mod HandRows
+mod LeftOver
+mod SeatSteps

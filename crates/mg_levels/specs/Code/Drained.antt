@@ -1,0 +1,19 @@
+-- What is left at a level goes into a list, as nodes.
+use Rattle.std.specs.Prelude.{◌≡◌, ℕ, ◌+◌, ◌≤◌, List, ◌++◌, length, map}
+use Rattle.mg_levels.specs.Balance.{weigh, share}
+use Rattle.mg_levels.specs.declared.share.Share.{Share}
+use Rattle.mg_levels.specs.Hands.{HandView}
+use Rattle.mg_levels.specs.Places.{node_of}
+
+pub record Drained (room : ℕ) (order : List ℕ) (h : HandView) (old new : List ℕ) : Type 0 where
+  pub places : List ℕ
+  pub few : length places ≤ room
+  pub put : new ≡ old ++ map (node_of order) places
+  pub even : (weight : ℕ → ℕ) → weigh weight h.put ≡ weigh weight h.taken + weigh weight places
+
+-- so many places were taken out, and went into the list as nodes
+pub record IsDraining (count : ℕ) (order : List ℕ) (v now : Share) (old new : List ℕ) : Type 0 where
+  pub places : List ℕ
+  pub many : length places ≡ count
+  pub put : new ≡ old ++ map (node_of order) places
+  pub now_is : now ≡ share v.portion v.put (v.taken ++ places)

@@ -1,0 +1,93 @@
+//! An order of nodes, with the place of each.
+ghost use Rattle.std.specs.Prelude.{◌≡◌, ◌≢◌, ℕ, ◌^◌, ◌<◌, All, AllPairs, Contains, length, IfOk, Some, slice_get};
+ghost use Rattle.mg_levels.specs.Code.Table.{IsTable};
+ghost use Rattle.mg_levels.specs.Places.{node_of};
+
+use mg_value::NumberList;
+use std::alloc::{AllocError, Global};
+use std::marker::Model;
+
+/// An order of nodes. It keeps a table as long as the greatest number of a node.
+#[derive(Drop)]
+pub(crate) struct Order {
+    nodes: Vec<u32>,
+    places: Vec<u32>,
+}
+
+impl Model for Order {
+    ghost use Rattle.std.specs.Prelude.{List, ℕ};
+    ghost use Rattle.mg_levels.specs.Code.Table.{IsKept};
+
+    ghost Value = { List ℕ };
+
+    ghost view = { λ o. o.nodes.items };
+
+    ghost invariant = { λ o. IsKept o.nodes.items o.places.items };
+}
+
+// How long a table by these numbers is.
+fn table_len(order: &[u32]) -> usize
+    ensures { All (λ node. node < result) order.now }
+{
+    let mut len = 0;
+    for node in order {
+        len = len.max(*node as usize + 1);
+    }
+    len
+}
+
+// A table of so many zeros.
+fn zeros(alloc: Global, len: usize) -> Result<Vec<u32>, AllocError>
+    ensures { IfOk result (λ v. length v.items ≡ len) }
+{
+    vec![in alloc; 0; len]
+}
+
+// The place of each node of an order, by its number.
+fn places_of(alloc: Global, order: &[u32]) -> Result<Vec<u32>, AllocError>
+    requires few { length order.now < 2 ^ 32 }
+    requires distinct { AllPairs (λ a b. a ≢ b) order.now }
+    ensures { IfOk result (λ v. IsTable order.now v.items) }
+{
+    let mut places = zeros(alloc, table_len(order))?;
+    for (place, node) in order.iter().enumerate() {
+        places[*node as usize] = place as u32;
+    }
+    Ok(places)
+}
+
+impl Order {
+    /// An order in which no node stands twice.
+    pub(crate) fn new(alloc: Global, order: &NumberList) -> Result<Order, AllocError>
+        requires { AllPairs (λ a b. a ≢ b) order.now }
+        ensures { IfOk result (λ o. o ≡ order.now) }
+    {
+        let _count = order.len();
+        let places = places_of(alloc, order.as_slice())?;
+        let nodes = order.as_slice().to_vec(alloc)?;
+        Ok(Order { nodes, places })
+    }
+
+    /// How many nodes there are.
+    pub(crate) fn len(&self) -> u32
+        ensures { result ≡ length self.now }
+    {
+        self.nodes.len() as u32
+    }
+
+    /// The place of a node.
+    pub(crate) fn place_of(&self, node: u32) -> u32
+        requires { Contains self.now node }
+        ensures { slice_get self.now result ≡ Some node }
+    {
+        self.places[node as usize]
+    }
+
+    /// The node at a place. Behind the last one the order begins again.
+    pub(crate) fn node_at(&self, place: u32) -> u32
+        requires { 0 < length self.now }
+        ensures { result ≡ node_of self.now place }
+    {
+        self.nodes[place as usize % self.nodes.len()]
+    }
+}

@@ -1,0 +1,90 @@
+// What a thread has done at a level, and the rule by which all threads use it.
+
+use crossbeam_queue::protocol::{Join, Lesson, Outcome, Protocol, Split};
+use std::collections::LinkedList;
+use std::marker::{Brand, PhantomData};
+
+// A portion of the right to know the whole, and the places that were put in and taken out with it. No value of it is made.
+pub struct Share {
+    pub portion: u64,
+    pub put: LinkedList<u32>,
+    pub taken: LinkedList<u32>,
+}
+
+pub struct Balance;
+
+impl Protocol<u32, Share> for Balance {
+    ghost use Rattle.std.specs.Prelude.{[]};
+    ghost use Rattle.mg_levels.specs.Balance.{share, whole, Balanced};
+
+    ghost holds = { Balanced };
+
+    ghost first = { share whole [] [] };
+}
+
+/// A place is put in, or the level is full.
+pub struct Puts;
+
+impl Outcome<u32, Share> for Puts {
+    ghost use Rattle.std.specs.Prelude.{◌≡◌};
+    ghost use Rattle.mg_levels.specs.Balance.{with_put};
+
+    ghost then = { λ v x w. w ≡ with_put v x };
+}
+
+impl Lesson<u32, Share> for Puts {
+    ghost use Rattle.mg_levels.specs.Balance.{Knows};
+
+    ghost fact = { Knows };
+}
+
+/// A place is taken out, or the level is empty.
+pub struct Takes;
+
+impl Outcome<u32, Share> for Takes {
+    ghost use Rattle.std.specs.Prelude.{◌≡◌};
+    ghost use Rattle.mg_levels.specs.Balance.{with_taken};
+
+    ghost then = { λ v x w. w ≡ with_taken v x };
+}
+
+impl Lesson<u32, Share> for Takes {
+    ghost use Rattle.mg_levels.specs.Balance.{Knows};
+
+    ghost fact = { Knows };
+}
+
+/// How much of a portion is handed over. A call picks it.
+pub trait Amount {
+    ghost use Rattle.std.specs.Prelude.{ℕ};
+
+    ghost amount: { ℕ };
+}
+
+impl Amount for Brand {
+    ghost amount = { 0 };
+}
+
+pub struct Cut<N: Amount> {
+    of: PhantomData<N>,
+}
+
+impl<N: Amount> Split<Share> for Cut<N> {
+    ghost use Rattle.std.specs.Prelude.{[]};
+    ghost use Rattle.mg_levels.specs.Balance.{share, kept_of};
+
+    ghost left = { kept_of N.amount };
+
+    ghost right = { λ v. share N.amount [] [] };
+}
+
+pub struct Both;
+
+impl Join<Share> for Both {
+    ghost use Rattle.std.specs.Prelude.{[]};
+    ghost use Rattle.mg_levels.specs.Balance.{share, both};
+
+    ghost both = { both };
+
+    ghost spent = { share 0 [] [] };
+}
