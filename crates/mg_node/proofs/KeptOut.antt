@@ -103,7 +103,7 @@ advance_set_up e f waits is = set_up_by e _ f is (others_kept e _ e.laid e.claim
 -- Which works are out.
 
 -- where the window and what was laid are the same
-window_out : (e f : EngineView) → f.node ≡ e.node → f.laid ≡ e.laid → f.window ≡ e.window → KeepsOut e f
+pub window_out : (e f : EngineView) → f.node ≡ e.node → f.laid ≡ e.laid → f.window ≡ e.window → KeepsOut e f
 window_out e f node laid window = record {
   stays = λ other o. record {
     node_is = o.node_is ∙ sym node;

@@ -1,4 +1,5 @@
 pub mod Sent
+pub mod Lemmas
 pub mod Horizons
 pub mod PortSteps
 pub mod Delivering

@@ -28,3 +28,4 @@ pub mod Codes
 pub mod Code
 pub mod Shelves
 pub mod Out
+pub mod Looking

@@ -8,6 +8,7 @@ mod committing;
 mod delivering;
 mod extending;
 mod leaving;
+mod looking;
 mod making;
 mod opening;
 mod shelving;

@@ -3,3 +3,4 @@ pub mod Making
 pub mod Cells
 pub mod Edges
 pub mod Scripting
+pub mod Sent

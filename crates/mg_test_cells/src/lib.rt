@@ -1,6 +1,6 @@
 //! The tests of cells: the first node of a graph with its intake and its engine, and the collector behind it, driven call by call
-//! through tables: windows whose works are committed in any order, and emissions that can't be laid. There is nothing else here, so
-//! that no other crate is proved a second time with its tests.
+//! through tables: windows whose works are committed in any order, emissions that can't be laid, and cells that go on in other
+//! threads. There is nothing else here, so that no other crate is proved a second time with its tests.
 #![tactic(auto)]
 
 #[cfg(test)]
@@ -17,6 +17,8 @@ mod shown;
 mod sink;
 #[cfg(test)]
 mod streams;
+#[cfg(test)]
+mod threads;
 #[cfg(test)]
 mod windows;
 #[cfg(test)]

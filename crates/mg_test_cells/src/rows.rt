@@ -81,8 +81,8 @@ fn taken(alloc: Global, cell: &mut Cell) -> Result<String, Fail>
     }
 }
 
-// What a row's call answers.
-fn answer(alloc: Global, cell: &mut Cell, call: &str) -> Result<String, Fail>
+/// What a row's call answers.
+pub(crate) fn answer(alloc: Global, cell: &mut Cell, call: &str) -> Result<String, Fail>
     requires { IsCell cell.old.plan cell.old.inputs cell.old.engine cell.old.intake cell.old.sink }
     ensures { OnOk result (IsCell cell.new.plan cell.new.inputs cell.new.engine cell.new.intake cell.new.sink) }
 {

@@ -31,8 +31,8 @@ fn assert_cell(
     Ok(())
 }
 
-// Ten more than each number, in a window of four.
-fn map() -> &'static str {
+/// Ten more than each number, in a window of four.
+pub(crate) fn map() -> &'static str {
     r#"input_stream: "in" output_stream: "out"
 node { calculator: "IntMapCalculator" input_stream: "in" output_stream: "out" max_in_flight: 4
   options { [mediapipe.IntMapCalculatorOptions.ext] { op: ADD operand: 10 } } }"#

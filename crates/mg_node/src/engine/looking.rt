@@ -1,0 +1,37 @@
+//! A look at what an engine has laid.
+ghost use Rattle.std.specs.Prelude.{◌≡◌, ◌-◌, ◌<◌, length, slice_index_or, option_copied};
+ghost use Rattle.mg_stream.specs.Pool.{empty_backlog, backlog_of};
+ghost use Rattle.mg_node.specs.Looking.{kept_packet};
+
+use super::Engine;
+use mg_calc::Calculator;
+use mg_stream::Queue;
+use mg_value::Packet;
+
+// How many packets of a queue are gone.
+fn gone(queue: &Queue) -> u64
+    ensures { result ≡ queue.now.gone }
+{
+    queue.count() - queue.waiting()
+}
+
+// The packet of a queue by its number, those that are gone included.
+fn packet_at(queue: &Queue, number: u64) -> Option<&Packet>
+    ensures { option_copied result ≡ kept_packet (backlog_of queue.now) number }
+{
+    let gone = gone(queue);
+    if number < gone {
+        return None;
+    }
+    queue.get(number - gone)
+}
+
+impl<C: Calculator> Engine<C> {
+    /// A packet that was laid at an output, by its number from 0 on; none where it is given up, or wasn't laid yet.
+    pub fn packet(&self, output: u32, number: u64) -> Option<&Packet>
+        requires { output < length self.now.outputs }
+        ensures { option_copied result ≡ kept_packet (slice_index_or self.now.outputs output empty_backlog) number }
+    {
+        packet_at(&self.outputs[output as usize], number)
+    }
+}
