@@ -207,7 +207,7 @@ IsKept-stopping node queues rows counts new kept len counted =
         go false on = on
 
 -- ---- a relaxed queue is not full
-not_full_relaxed : (q : Queue) → is_full (relaxed q) ≡ false
+pub not_full_relaxed : (q : Queue) → is_full (relaxed q) ≡ false
 not_full_relaxed q = elim (cases_Bool (is_full q)) [
   | inl full ↦ ap (λ b. is_full (cond b (record q { limit = Some (q.waiting + 1) }) q)) full
       ∙ and_right q.counts (leb (q.waiting + 1) q.waiting) (lt-leb (q.waiting + 1) q.waiting (omega arith))

@@ -1,8 +1,10 @@
 pub mod Counts
+pub mod Listing
 pub mod Edges
 pub mod Feeding
 pub mod Gathering
 pub mod Pressing
 pub mod Queues
+pub mod Ranges
 pub mod RowMarks
 pub mod Sources

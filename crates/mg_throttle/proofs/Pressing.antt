@@ -1,5 +1,5 @@
 -- The counts of full queues after a call.
-use Rattle.std.proofs.Common.{◌≡◌, ◌≢◌, ℕ, ℤ, pos, negsuc, ◌+◌, ◌^◌, ◌<◌, ◌≤◌, ◌↔◌, ◌⊎◌, zero, suc, Bool, true, false, not, ◌&&◌, cond, eqb, ltb, leb, List, [], ◌∷◌, length, map, get_or, slice_set, replicate, Any, Option, Some, slice_get, ◌∙◌, sym, ap, subst, inl, inr, refl, arith, eq-eqb}
+use Rattle.std.proofs.Common.{◌≡◌, ◌≢◌, ℕ, ℤ, pos, negsuc, ◌+◌, ◌^◌, ◌<◌, ◌≤◌, ◌↔◌, ◌⊎◌, zero, suc, Bool, true, false, not, ◌&&◌, cond, eqb, ltb, leb, List, [], ◌∷◌, length, map, get_or, slice_set, replicate, Any, Option, Some, slice_get, ◌∙◌, sym, ap, subst, inl, inr, refl, arith, eq-eqb, All}
 use Rattle.std.proofs.lemmas.Bool.{cases_eq, cases_Bool, cases_lt, false≢true, ne_eqb, eqb-false, and_left, and_right, and_from, lt-leb, ltb-true, le-ltb}
 use Rattle.std.proofs.lemmas.List.{length-map, get_or-map, get_or_default, get_or_past, get_or-replicate, length-replicate}
 use Rattle.std.proofs.lemmas.List.Elements.{All-map, All-weaker}
@@ -66,11 +66,15 @@ IsKept-changed queues rows counts lent new i q packets more less was is row kept
     let same : get_or lent f 0 ≡ get_or counts f 0 = ap (λ xs. get_or xs f 0) is_lent in
     omega arith)
 
+-- a queue that is noted stays full, or isn't still
+pub still_full : (q : Queue) (packets : ℕ) (was is : Bool) → was ≡ is_full q → is ≡ is_full (with_packets q packets) → not (beq was is) ≡ false → is_full q ≡ is_full (with_packets q packets)
+still_full q packets was is is_was is_is same = sym is_was ∙ same_of was is same ∙ is_is
+
 pub IsKept-unchanged : (queues : List Queue) (rows : List (List Bool)) (counts : List ℕ) (i : ℕ) (q : Queue) (packets : ℕ) (was is : Bool)
     → IsKept queues rows counts → i < length queues → q ≡ get_or queues i q → packets + 1 < 2 ^ 64 → was ≡ is_full q → is ≡ is_full (with_packets q packets)
     → not (beq was is) ≡ false → IsKept (slice_set queues i (with_packets q packets)) rows counts
 IsKept-unchanged queues rows counts i q packets was is kept within read small is_was is_is same =
-    let one : is_full q ≡ is_full (with_packets q packets) = sym is_was ∙ same_of was is same ∙ is_is in
+    let one = still_full q packets was is is_was is_is same in
     IsKept-noted queues rows counts counts i q packets kept within read small refl
     (λ f fits. ap (λ b. get_or counts f 0 + part (is_reached rows f q.node) (cond b 1 0)) one)
 
@@ -220,6 +224,13 @@ limit_above (pos n) = elim (cases_eq n 0) [
   | inl zero_limit ↦ ap (λ b. leb (cond b 100 n) 0) (eq-eqb n 0 zero_limit) ∙ lt-leb 100 0 (omega arith)
   | inr other ↦ ap (λ b. leb (cond b 100 n) 0) (ne_eqb n 0 other) ∙ lt-leb n 0 (omega arith)
 ]
+
+pub none_full : (nodes : ℕ) (edges : List Edge) (queues : List Queue) (limit : Option ℕ) (z : ℤ) → limit ≡ limit_of z → queues ≡ map (new_queue nodes limit) edges → All (λ q. is_full q ≡ false) queues
+none_full nodes edges queues limit z is_limit is_new =
+    let f : Edge → Queue = new_queue nodes limit in
+    subst (All (λ q. is_full q ≡ false)) (sym is_new)
+    (All-map (λ q. is_full q ≡ false) f edges
+    (λ k d within. and_right (ltb (get_or edges k d).node nodes) (is_at limit 0) (ap (λ l. is_at l 0) is_limit ∙ limit_above z)))
 
 pub IsKept-fresh : (plan : Plan) → IsValid plan → (queues : List Queue) (rows : List (List Bool)) (counts : List ℕ) (limit : Option ℕ) (z : ℤ) (n : ℕ)
     → limit ≡ limit_of z → length plan.edges < 2 ^ 32 → queues ≡ map (new_queue (length plan.nodes) limit) plan.edges → HasRows plan rows → counts ≡ replicate n 0

@@ -2,14 +2,16 @@ ghost use Rattle.std.specs.Prelude.{◌≡◌, ◌+◌, ◌^◌, ◌<◌, ◌≤
 ghost use Rattle.std.specs.List.{list_any};
 ghost use Rattle.std.specs.List.Sorted.{IsPartitionPoint};
 ghost use Rattle.mg_calc.specs.declared.plan.Plan.{Plan as PlanRecord};
-ghost use Rattle.mg_calc.specs.Plan.{IsValid, Feeder, feeders};
+ghost use Rattle.mg_calc.specs.Plan.{IsValid, Feeder, feeders, HasEachOnce};
 ghost use Rattle.mg_throttle.specs.Throttle.{limit_of, new_queue, noted, is_full, relaxed, stopped, IsOf, IsThrottled};
-ghost use Rattle.mg_throttle.specs.Code.Kept.{AreByNode, is_full_at};
+ghost use Rattle.mg_throttle.specs.Code.Kept.{AreByNode, AreListed, is_full_at};
 
 use crate::queue::Queue;
 use crate::reach::{rows_of, sources};
 use crate::row::Row;
 use mg_calc::{Edge, Plan};
+use mg_ready::Ready;
+use mg_value::{BlockList, NumberList};
 use std::alloc::{AllocError, Global};
 use std::marker::Model;
 
@@ -23,18 +25,20 @@ pub struct Limits {
     queues: Vec<Queue>,
     rows: Vec<Row>,
     counts: Vec<usize>,
+    // The queues that became full since limits were relaxed. Some of them may be full no more.
+    listed: Ready,
 }
 
 impl Model for Limits {
     ghost use Rattle.std.specs.Prelude.{vec_len};
     ghost use Rattle.mg_throttle.specs.Throttle.{QueueLimits};
-    ghost use Rattle.mg_throttle.specs.Code.Kept.{IsKept};
+    ghost use Rattle.mg_throttle.specs.Code.Kept.{IsKept, AreListed};
 
     ghost Value = { QueueLimits };
 
     ghost view = { λ l. record { queues = l.queues.items; reached = l.rows.items; feeders = vec_len l.counts } };
 
-    ghost invariant = { λ l. IsKept l.queues.items l.rows.items l.counts.items };
+    ghost invariant = { λ l. IsKept l.queues.items l.rows.items l.counts.items × AreListed l.queues.items l.listed };
 }
 
 // The limit that a number stands for: 0 is the usual one, and a negative number none.
@@ -109,21 +113,32 @@ fn stop_queues(queues: &mut [Queue], node: u32) -> usize
     full
 }
 
-// Whether one of some queues is full.
-fn is_any_full(queues: &[Queue]) -> bool
-    ensures { result ≡ list_any is_full queues.now }
+// The numbers below a count.
+fn numbers_below(alloc: Global, count: u32) -> Result<NumberList, AllocError>
+    ensures { IfOk result (λ l. HasEachOnce count l) }
 {
-    queues.iter().any(|queue| queue.is_full())
+    let mut numbers = Vec::new(alloc);
+    for number in 0..count {
+        numbers.push(number)?;
+    }
+    Ok(BlockList::from_vec(numbers)?)
 }
 
-// Relaxes the limits of the full queues.
-fn relax_queues(queues: &mut [Queue])
-    requires { All (λ q. q.waiting + 1 < 2 ^ 64) queues.old }
-    ensures { queues.new ≡ map relaxed queues.old }
+// Relaxes the limits of the full queues, which are among those that are listed, and tells whether there was one. None is listed then.
+fn relax_listed(queues: &mut [Queue], listed: &mut Ready) -> bool
+    requires lengths { All (λ q. q.waiting + 1 < 2 ^ 64) queues.old }
+    requires listed { AreListed queues.old listed.old }
+    ensures relaxed { queues.new ≡ map relaxed queues.old }
+    ensures any { result ≡ list_any is_full queues.old }
+    ensures order { listed.new.order ≡ listed.old.order }
 {
-    for queue in queues.iter_mut() {
-        *queue = queue.relaxed();
+    let mut any = false;
+    while let Some(number) = listed.take() {
+        let queue = queues[number as usize];
+        any |= queue.is_full();
+        queues[number as usize] = queue.relaxed();
     }
+    any
 }
 
 impl Limits {
@@ -138,10 +153,13 @@ impl Limits {
         let rows = rows_of(alloc, plan, sources.as_slice())?;
         let limit = limit_of(limit);
         let queues = queues_of(alloc, plan.edges.as_slice(), plan.nodes.len(), limit)?;
+        let numbers = numbers_below(alloc, plan.edges.len())?;
+        let listed = Ready::new(alloc, &numbers)?;
         Ok(Limits {
             queues,
             rows,
             counts,
+            listed,
         })
     }
 
@@ -164,6 +182,7 @@ impl Limits {
         if was != is {
             let row = &self.rows[queue.node as usize];
             row.change(&mut self.counts, usize::from(is), usize::from(was));
+            self.listed.put(edge);
         }
     }
 
@@ -188,20 +207,17 @@ impl Limits {
         self.counts[feeder as usize] == 0
     }
 
-    /// Whether a queue is full, that of any edge. It looks at each queue once.
-    pub fn is_any_full(&self) -> bool
-        ensures { result ≡ list_any is_full self.now.queues }
-    {
-        is_any_full(&self.queues)
-    }
-
-    /// Relaxes the limits: that of each full queue becomes its length and one more. It looks at each queue once.
-    pub fn relax(&mut self)
+    /// Relaxes the limits: that of each full queue becomes its length and one more. Tells whether there was one. It looks once at each
+    /// queue that became full, or stopped being so, since limits were relaxed last.
+    pub fn relax(&mut self) -> bool
+        ensures any { result ≡ list_any is_full self.old.queues }
         ensures relaxed { self.new ≡ record self.old { queues = map relaxed self.old.queues } }
+        ensures none { result ≡ false → self.new ≡ self.old }
         ensures of { (plan : PlanRecord) → IsOf plan self.old → IsOf plan self.new }
     {
-        relax_queues(&mut self.queues);
+        let any = relax_listed(&mut self.queues, &mut self.listed);
         self.counts.fill(0);
+        any
     }
 
     /// The limit of the queue of an edge, if it has one.

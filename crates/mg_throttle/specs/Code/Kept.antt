@@ -1,8 +1,11 @@
 -- How limits are kept: for each feeder a count of the full queues that it reaches.
-use Rattle.std.specs.Prelude.{◌≡◌, ℕ, ◌+◌, ◌^◌, ◌<◌, ◌&&◌, ◌==◌, Bool, true, List, length, All, slice_index, slice_index_or, take, ◌≤◌, count_by}
+use Rattle.std.specs.Prelude.{◌≡◌, ℕ, ◌+◌, ◌^◌, ◌<◌, ◌&&◌, ◌==◌, Bool, true, false, List, length, All, slice_index, slice_index_or, take, ◌≤◌, count_by}
+use Rattle.std.specs.List.{list_any}
 use Rattle.std.specs.List.Sorted.{IsNonDecreasingBy}
+use Rattle.mg_calc.specs.Plan.{HasEachOnce}
+use Rattle.mg_ready.specs.Ready.{ReadyNodes, IsIn}
 use Rattle.mg_throttle.specs.declared.queue.Queue.{Queue}
-use Rattle.mg_throttle.specs.Throttle.{is_full, is_reached, stopped}
+use Rattle.mg_throttle.specs.Throttle.{is_full, is_reached, stopped, relaxed}
 
 -- a queue presses on a feeder: it is full, and the feeder reaches its node
 abbrev pub presses : List (List Bool) → ℕ → Queue → Bool
@@ -34,3 +37,17 @@ pub record IsKept (queues : List Queue) (rows : List (List Bool)) (counts : List
   pub lengths : All (λ q. q.waiting + 1 < 2 ^ 64) queues
   pub marks : All (λ row. length row ≡ length counts) rows
   pub counted : AreCounted queues rows counts
+
+-- each full queue is among those that are listed
+pub record AreListed (queues : List Queue) (listed : ReadyNodes) : Type 0 where
+  pub numbers : HasEachOnce (length queues) listed.order
+  pub full : (k : ℕ) (d : Queue) → k < length queues → is_full (slice_index_or queues k d) ≡ true → IsIn listed k
+
+-- the queues that aren't listed any more are relaxed, and the others as they were; and whether one of those was full
+pub record RelaxesTo (old now : List Queue) (first listed : ReadyNodes) (any : Bool) : Type 0 where
+  pub len : length now ≡ length old
+  pub order : listed.order ≡ first.order
+  pub waits : (k : ℕ) (d : Queue) → IsIn listed k → slice_index_or now k d ≡ slice_index_or old k d
+  pub done : (k : ℕ) (d : Queue) → k < length old → ¬ IsIn listed k → slice_index_or now k d ≡ relaxed (slice_index_or old k d)
+  pub some : any ≡ true → list_any is_full old ≡ true
+  pub none : any ≡ false → (k : ℕ) (d : Queue) → k < length old → ¬ IsIn listed k → is_full (slice_index_or old k d) ≡ false

@@ -1,20 +1,42 @@
-use Rattle.std.proofs.Common.{◌∙◌, ap, sym, subst, map, arith}
-use Rattle.mg_throttle.specs.Throttle.{relaxed, IsOf}
-use Rattle.mg_throttle.specs.Code.Kept.{IsKept}
+use Rattle.std.proofs.Common.{List, ◌∙◌, ap, sym, subst, map, arith}
+use Rattle.std.specs.List.{list_any}
+use Rattle.mg_throttle.specs.declared.queue.Queue.{Queue}
+use Rattle.mg_throttle.specs.Throttle.{QueueLimits, is_full, relaxed, IsOf}
+use Rattle.mg_throttle.specs.Code.Kept.{IsKept, AreListed}
 use Rattle.mg_throttle.proofs.Counts.{whole, IsKept-relaxed, IsOf-relaxed, limits_with}
+use Rattle.mg_throttle.proofs.Listing.{listed_relaxed, none_relaxed}
 use Rattle.mg_throttle.proofs.limits.Limits.relax.Goals as goal
+
+pub relax_listed-any-requires-clause-listed : goal.relax_listed-any-requires-clause-listed
+relax_listed-any-requires-clause-listed c = subst (λ qs. AreListed qs c.self.inside.listed) (sym c.deref_mut.ensures.value) c.self.invariant.1
 
 pub invariant_of-self : goal.invariant_of-self
 invariant_of-self c =
-    let again = whole c.self.inside.queues.len c.relax_queues.new.queues c.self.inside.queues.items (omega arith) in
-    let new = c.relax_queues.ensures ∙ ap (map relaxed) c.deref_mut.ensures.value in
-    subst (λ qs. IsKept qs c.self.inside.rows.items c.fill.new.self.items) (sym (again ∙ new))
-    (IsKept-relaxed c.self.inside.queues.items c.self.inside.rows.items _ _ _ c.self.invariant (c.fill.ensures.items (λ y e. e)) (omega arith))
+    let again = whole c.self.inside.queues.len c.relax_listed-any.new.queues c.self.inside.queues.items (omega arith) in
+    let new = c.relax_listed-any.ensures.relaxed ∙ ap (map relaxed) c.deref_mut.ensures.value in (
+      subst (λ qs. IsKept qs c.self.inside.rows.items c.fill.new.self.items) (sym (again ∙ new))
+          (IsKept-relaxed c.self.inside.queues.items c.self.inside.rows.items _ _ _ c.self.invariant.0 (c.fill.ensures.items (λ y e. e)) (omega arith)),
+      subst (λ qs. AreListed qs c.relax_listed-any.new.listed) (sym (again ∙ new))
+          (listed_relaxed c.self.inside.queues.items c.self.inside.listed c.relax_listed-any.new.listed c.self.invariant.1 c.relax_listed-any.ensures.order),
+    )
 
 pub returns-clause-of : goal.returns-clause-of
 returns-clause-of c plan of =
-    let again = whole c.self.inside.queues.len c.relax_queues.new.queues c.self.inside.queues.items (omega arith) in
-    let new = c.relax_queues.ensures ∙ ap (map relaxed) c.deref_mut.ensures.value in
+    let again = whole c.self.inside.queues.len c.relax_listed-any.new.queues c.self.inside.queues.items (omega arith) in
+    let new = c.relax_listed-any.ensures.relaxed ∙ ap (map relaxed) c.deref_mut.ensures.value in
     subst (λ qs. IsOf plan (limits_with qs c.self.inside.rows.items c.fill.new.self.len)) (sym (again ∙ new))
     (subst (λ n. IsOf plan (limits_with (map relaxed c.self.inside.queues.items) c.self.inside.rows.items n)) (sym c.fill.ensures.len)
     (IsOf-relaxed c.self.inside.queues.items c.self.inside.rows.items _ _ c.self.view_is plan of))
+
+pub returns-clause-relaxed : goal.returns-clause-relaxed
+returns-clause-relaxed c =
+    let again = whole c.self.inside.queues.len c.relax_listed-any.new.queues c.self.inside.queues.items (omega arith) in
+    let new = c.relax_listed-any.ensures.relaxed ∙ ap (map relaxed) c.deref_mut.ensures.value in
+    ap (λ qs. limits_with qs c.self.inside.rows.items c.fill.new.self.len) (again ∙ new)
+    ∙ ap (limits_with (map relaxed c.self.inside.queues.items) c.self.inside.rows.items) c.fill.ensures.len
+    ∙ ap (λ (t : QueueLimits). (let u : QueueLimits = record t { queues = map relaxed t.queues } in u)) c.self.view_is
+
+pub returns-clause-none : goal.returns-clause-none
+returns-clause-none c = λ is.
+    let any = c.relax_listed-any.ensures.any ∙ ap (list_any is_full) c.deref_mut.ensures.value ∙ ap (λ (t : QueueLimits). list_any is_full t.queues) c.self.view_is in
+    returns-clause-relaxed c ∙ ap (λ (qs : List Queue). (let u : QueueLimits = record c.args.self.now { queues = qs } in u)) (none_relaxed c.args.self.now.queues (sym any ∙ is))
