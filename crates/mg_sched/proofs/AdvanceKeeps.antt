@@ -1,29 +1,18 @@
 -- An advance keeps what a net stands for.
-use Rattle.std.proofs.Common.{◌≡◌, ℕ, ◌<◌, List, [], ◌∷◌, map, length, Option, Some, None, ap₂, sym, refl, subst, ◌∙◌, arith}
-use Rattle.mg_value.specs.Payload.{Plain}
-use Rattle.mg_stream.specs.Pool.{Backlog}
+use Rattle.std.proofs.Common.{◌≡◌, ℕ, ◌<◌, length, sym, refl, subst, ◌∙◌, arith}
 use Rattle.mg_calc.specs.declared.event.Effect.{Effect}
-use Rattle.mg_node.specs.Advances.{raised_output, advance_bound, advanced}
+use Rattle.mg_node.specs.Advances.{advanced}
 use Rattle.mg_node.specs.Job.{LoggedJob}
 use Rattle.mg_node.specs.Ports.{port_queue}
-use Rattle.mg_node.proofs.AdvanceKeeps.{advance_lawful}
-use Rattle.mg_node.proofs.Growing.{advance_grows}
+use Rattle.mg_node.proofs.Lemmas.{advance_grows, advance_lawful, advance_out, advance_set_up}
 use Rattle.mg_sched.specs.Views.{NetView}
 use Rattle.mg_sched.specs.StandsFor.{IsNetOf, StandsFor, IsRunning}
 use Rattle.mg_sched.specs.Acts.{Advanced}
 use Rattle.mg_sched.proofs.Finding.{cell_at, found}
-use Rattle.mg_sched.proofs.Works.{works_same}
+use Rattle.mg_sched.proofs.Works.{works_kept}
 use Rattle.mg_sched.proofs.Changed.{CellStep, cell_stands}
 use Rattle.mg_sched.proofs.LimitsKnow.{cell_knows}
 use Rattle.mg_sched.proofs.CellForms.{only_engine, stays_so, gone_same}
-
-raised_gone : (bound : Option ℕ) (outputs : List (Backlog Plain)) → map (λ b. b.gone) (map (raised_output bound) outputs) ≡ map (λ b. b.gone) outputs
-raised_gone bound [] = refl
-raised_gone bound (b ∷ bs) = ap₂ (λ (n : ℕ) (ns : List ℕ). n ∷ ns) (one bound) (raised_gone bound bs)
-  where
-    one : (o : Option ℕ) → (raised_output o b).gone ≡ b.gone
-    one None = refl
-    one (Some n) = refl
 
 pub advance_stands : (job : LoggedJob) (node : ℕ) (effect : Effect) (before now : NetView) → node < length before.plan.nodes → IsRunning before → StandsFor job before → Advanced node effect before now → StandsFor job now
 unfolding StandsFor
@@ -37,11 +26,11 @@ advance_stands job node effect before now within running h a =
         lawful_engine = advance_lawful job node a.engine a.intake cell.lawful_engine cell.lawful_intake cell.agree;
         lawful_intake = cell.lawful_intake;
         agree = cell.agree;
-        works = works_same job a.engine engine_now desk.0 refl refl refl refl cell.works;
+        works = works_kept job a.engine engine_now desk.0 refl (advance_out a.engine engine_now a.intake.waits refl) cell.works;
       };
       first = refl;
       outputs = (advance_grows a.engine engine_now a.intake.waits refl).outputs;
-      gone = λ output. gone_same (map (raised_output (advance_bound a.engine a.intake.waits)) a.engine.outputs) a.engine.outputs output (raised_gone (advance_bound a.engine a.intake.waits) a.engine.outputs);
+      gone = λ output. gone_same engine_now.outputs a.engine.outputs output (advance_set_up a.engine engine_now a.intake.waits refl).given_up;
       ports = λ port. stays_so (port_queue a.intake.waits port);
     } in
     subst (λ (v : NetView). IsNetOf job v) (only_engine before node engine_now a.intake desk.0 before.limits a.to desk.1 ∙ sym a.now_is)

@@ -5,7 +5,7 @@ use Rattle.mg_node.specs.Job.{LoggedJob}
 use Rattle.mg_node.specs.Outputs.{laid_at}
 use Rattle.mg_node.specs.Standing.{EngineGrows}
 use Rattle.mg_node.specs.Views.{EngineView}
-use Rattle.mg_node.proofs.Growing.{grown_by_itself}
+use Rattle.mg_node.proofs.Lemmas.{grown_by_itself}
 use Rattle.mg_sched.specs.Begins.{Begins}
 use Rattle.mg_sched.specs.StandsFor.{StandsFor, StandsForSome, IsRunning}
 use Rattle.mg_sched.specs.Views.{NetView}

@@ -8,7 +8,7 @@ use Rattle.mg_calc.specs.declared.event.Effect.TheVariants.{Did, Idle, OutOfMemo
 use Rattle.mg_node.specs.Views.{IntakeView, PerformedView, EngineView}
 use Rattle.mg_node.specs.Job.{LoggedJob}
 use Rattle.mg_node.specs.Shelves.{shelf_at}
-use Rattle.mg_node.proofs.Frames.{get_other}
+use Rattle.mg_node.proofs.Lemmas.{get_other}
 use Rattle.mg_sched.specs.Views.{DeskView, NetView}
 use Rattle.mg_sched.specs.StandsFor.{StandsFor, StandsForSome, IsRunning}
 use Rattle.mg_sched.specs.Acts.{IsEventOf, Rests, Performs, CommittedAt, Acts}

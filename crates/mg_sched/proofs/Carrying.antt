@@ -14,7 +14,7 @@ use Rattle.mg_node.specs.Job.{LoggedJob, ports_of}
 use Rattle.mg_node.specs.Lawful.{Owner, of_node, of_input, LawfulIntake, LawfulEngine}
 use Rattle.mg_node.specs.Ports.{ports_in}
 use Rattle.mg_node.specs.Leading.{HasStream, Leads}
-use Rattle.mg_node.proofs.Knowing.{engine_known, input_known, intake_ports}
+use Rattle.mg_node.proofs.Lemmas.{engine_known, input_known, intake_ports}
 use Rattle.mg_sched.specs.Views.{NetView}
 use Rattle.mg_sched.specs.Places.{place_of, source_of, first_edge}
 use Rattle.mg_sched.specs.StandsFor.{StandsFor, StandsForSome, IsRunning}

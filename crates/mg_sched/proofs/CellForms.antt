@@ -8,7 +8,7 @@ use Rattle.mg_node.specs.IntakeStanding.{Stays}
 use Rattle.mg_throttle.specs.Throttle.{QueueLimits}
 use Rattle.mg_sched.specs.Views.{DeskView, NetView}
 use Rattle.mg_sched.specs.Places.{with_engine, with_desk, with_limits}
-use Rattle.mg_node.proofs.Frames.{same_put}
+use Rattle.mg_node.proofs.Lemmas.{same_put}
 use Rattle.mg_sched.proofs.Changed.{with_cell}
 
 -- the engine alone changed, and perhaps the limits

@@ -8,13 +8,12 @@ use Rattle.mg_node.specs.Job.{LoggedJob}
 use Rattle.mg_node.specs.Ports.{port_queue}
 use Rattle.mg_node.specs.Outputs.{laid_at}
 use Rattle.mg_node.specs.IntakeStanding.{HasGrown, Stays}
-use Rattle.mg_node.proofs.Growing.{grown_by_itself}
+use Rattle.mg_node.proofs.Lemmas.{get_other, grown_by_itself, put_there}
 use Rattle.mg_node.specs.Lawful.{LawfulIntake, Agree, AgreeBy}
 use Rattle.mg_throttle.specs.Throttle.{QueueLimits}
 use Rattle.mg_sched.specs.Views.{DeskView, NetView}
 use Rattle.mg_sched.specs.Places.{source_of}
 use Rattle.mg_sched.specs.StandsFor.{IsCell, IsJoined, KnowsLimits, IsNetOf, IsRunning}
-use Rattle.mg_node.proofs.Frames.{get_other, put_there}
 
 -- another cell at a node, and other limits
 abbrev pub with_cell : NetView → ℕ → EngineView → IntakeView → DeskView → QueueLimits → NetView

@@ -13,13 +13,7 @@ use Rattle.mg_node.specs.Leaving.{NoneOut}
 use Rattle.mg_node.specs.Shelves.{IsOut, shelved}
 use Rattle.mg_node.specs.Windows.{has_ended}
 use Rattle.mg_node.specs.Out.{ComesBack}
-use Rattle.mg_node.proofs.Frames.{get_other}
-use Rattle.mg_node.proofs.Growing.{grown_by_itself}
-use Rattle.mg_node.proofs.Knowing.{engine_known}
-use Rattle.mg_node.proofs.Making.{some_same}
-use Rattle.mg_node.proofs.Outcomes.{unrun_outcome}
-use Rattle.mg_node.proofs.Shelving.{shelved_lawful}
-use Rattle.mg_node.proofs.StaysOut.{shelved_back}
+use Rattle.mg_node.proofs.Lemmas.{engine_known, get_other, grown_by_itself, shelved_back, shelved_lawful, some_same, unrun_outcome}
 use Rattle.mg_sched.specs.Views.{DeskView, NetView}
 use Rattle.mg_sched.specs.Places.{with_engine, with_desk}
 use Rattle.mg_sched.specs.StandsFor.{HasWorks, IsCell, IsNetOf, StandsFor, StandsForSome, IsRunning}

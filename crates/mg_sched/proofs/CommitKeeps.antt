@@ -1,7 +1,5 @@
 -- A commit keeps what a net stands for.
-use Rattle.std.proofs.Common.{◌≡◌, ℕ, ◌<◌, length, map, Option, Some, None, Result, Ok, slice_get, ap, sym, refl, subst, ◌∙◌, arith}
-use Rattle.mg_value.specs.Payload.{Plain}
-use Rattle.mg_stream.specs.Pool.{Backlog}
+use Rattle.std.proofs.Common.{◌≡◌, ℕ, ◌<◌, length, Option, Some, None, Result, Ok, slice_get, ap, sym, refl, subst, ◌∙◌, arith}
 use Rattle.mg_calc.specs.declared.event.Effect.{Effect}
 use Rattle.mg_calc.specs.declared.event.Effect.TheVariants.{Did, Idle, OutOfMemory}
 use Rattle.mg_node.specs.declared.role.Role.{Role}
@@ -9,18 +7,14 @@ use Rattle.mg_node.specs.Views.{PerformedView, EngineView}
 use Rattle.mg_node.specs.Job.{LoggedJob}
 use Rattle.mg_node.specs.Ports.{port_queue}
 use Rattle.mg_node.specs.Lawful.{AgreeBy}
+use Rattle.mg_node.specs.Commits.{SomeJobHasEngine}
 use Rattle.mg_node.specs.Shelves.{outcome_of, shelf_at}
 use Rattle.mg_node.specs.Standing.{EngineGrows}
-use Rattle.mg_node.proofs.CommitKeeps.{commit_lawful}
-use Rattle.mg_node.proofs.FrontGrows.{commit_grows}
-use Rattle.mg_node.proofs.Growing.{engine_further, unshelving_grows}
-use Rattle.mg_node.proofs.Outcomes.{ran_outcome}
-use Rattle.mg_node.proofs.Shelving.{unshelved_lawful}
+use Rattle.mg_node.proofs.Lemmas.{commit_grows, commit_lawful, commits_back, commits_set_up, engine_further, ran_outcome, unshelved_lawful, unshelved_out, unshelving_grows, unshelving_set_up}
 use Rattle.mg_sched.specs.Views.{NetView}
 use Rattle.mg_sched.specs.StandsFor.{IsNetOf, StandsFor, IsRunning}
 use Rattle.mg_sched.specs.Acts.{CommitsTo, CommittedAt, Committed, stopped_by}
 use Rattle.mg_sched.proofs.Finding.{cell_at, found}
-use Rattle.mg_node.proofs.StaysOut.{unshelved_out, committed_back}
 use Rattle.mg_sched.proofs.Works.{works_through}
 use Rattle.mg_sched.proofs.Changed.{CellStep, cell_stands}
 use Rattle.mg_sched.proofs.LimitsKnow.{stopped_knows}
@@ -39,26 +33,24 @@ laid_stands job node number engine p before now within running h at is c =
     let taken = unshelved_lawful job node engine c.taken number p is c.takes cell.lawful_engine in
     let goes = unshelved_out job node engine c.taken number p cell.lawful_engine is c.takes in
     let outcome = outcome_of p in
-    let back = committed_back job node outcome c.laid c.taken c.engine_now goes.out taken.0 c.commits in
+    let some : SomeJobHasEngine c.taken = record { job = job; number = node; lawful = taken.0 } in
+    let back = commits_back outcome c.laid c.taken c.engine_now goes.out some c.commits in
     let result : Result ℕ ℕ = Ok c.laid in
     let grows : EngineGrows engine c.engine_now = engine_further engine c.taken c.engine_now (unshelving_grows (Some p) engine c.taken number c.takes)
-    (commit_grows {E = ℕ} outcome result c.taken c.engine_now (record { job = job; number = node; lawful = taken.0 }) c.commits tt) in
-    let others = c.commits.others in
-    let flight : c.engine_now.in_flight ≡ engine.in_flight = ap (λ (v : EngineView). v.in_flight) others ∙ ap (λ (v : EngineView). v.in_flight) c.takes in
-    let role : c.engine_now.role ≡ engine.role = ap (λ (v : EngineView). v.role) others ∙ ap (λ (v : EngineView). v.role) c.takes in
-    let claimed : c.engine_now.claimed ≡ engine.claimed = ap (λ (v : EngineView). v.claimed) others ∙ ap (λ (v : EngineView). v.claimed) c.takes in
-    let first : c.engine_now.first ≡ engine.first = ap (λ (v : EngineView). v.first) others ∙ ap (λ (v : EngineView). v.first) c.takes in
-    let given_up = c.commits.given_up ∙ ap (λ (v : EngineView). map (λ (b : Backlog Plain). b.gone) v.outputs) c.takes in
+    (commit_grows {E = ℕ} outcome result c.taken c.engine_now some c.commits tt) in
+    let one = unshelving_set_up (Some p) engine c.taken number c.takes in
+    let two = commits_set_up outcome c.laid c.taken c.engine_now c.commits in
+    let claimed : c.engine_now.claimed ≡ engine.claimed = ap (λ (v : EngineView). v.claimed) c.commits.others ∙ ap (λ (v : EngineView). v.claimed) c.takes in
     let step : CellStep job node engine c.engine_now intake.0 intake.0 desk.0 = record {
       cell = record {
         lawful_engine = commit_lawful job node outcome c.laid c.taken c.engine_now goes.out taken.0 (ran_outcome job p outcome refl taken.1) c.commits;
         lawful_intake = cell.lawful_intake;
-        agree = subst (λ (r : Role). AgreeBy r c.engine_now.claimed intake.0.claimed) (sym role) (subst (λ (n : ℕ). AgreeBy engine.role n intake.0.claimed) (sym claimed) cell.agree);
-        works = works_through job engine c.taken c.engine_now desk.0 p.work flight goes back cell.works;
+        agree = subst (λ (r : Role). AgreeBy r c.engine_now.claimed intake.0.claimed) (sym (two.role ∙ one.role)) (subst (λ (n : ℕ). AgreeBy engine.role n intake.0.claimed) (sym claimed) cell.agree);
+        works = works_through job engine c.taken c.engine_now desk.0 p.work (two.in_flight ∙ one.in_flight) goes back cell.works;
       };
-      first = first;
+      first = two.first ∙ one.first;
       outputs = grows.outputs;
-      gone = λ output. gone_same c.engine_now.outputs engine.outputs output given_up;
+      gone = λ output. gone_same c.engine_now.outputs engine.outputs output (two.given_up ∙ one.given_up);
       ports = λ port. stays_so (port_queue intake.0.waits port);
     } in
     let limits = stopped_by node c.engine_now before.limits in

@@ -14,10 +14,7 @@ use Rattle.mg_node.specs.Job.{LoggedJob}
 use Rattle.mg_node.specs.Lawful.{LawfulWork}
 use Rattle.mg_node.specs.Leaving.{calculator_in, handed_told, handed_in, first_handed}
 use Rattle.mg_node.specs.WindingUp.{lacks_close, FinishesLast, WindsUp}
-use Rattle.mg_node.proofs.Frames.{get_other}
-use Rattle.mg_node.proofs.Knowing.{engine_known}
-use Rattle.mg_node.proofs.OneCalculator.{calculator_there, handed_there}
-use Rattle.mg_node.proofs.Performing.{of_node as at_node}
+use Rattle.mg_node.proofs.Lemmas.{at_each as at_node, calculator_there, engine_known, get_other, handed_there}
 use Rattle.mg_sched.specs.Views.{DeskView, NetView}
 use Rattle.mg_sched.specs.StandsFor.{IsCell, HasSpare, StandsFor}
 use Rattle.mg_sched.specs.WindsUp.{WindsUpNet}

@@ -13,10 +13,7 @@ use Rattle.mg_node.specs.Job.{LoggedJob, ports_of}
 use Rattle.mg_node.specs.Ports.{port_queue}
 use Rattle.mg_node.specs.IntakeStanding.{IntakeGrows}
 use Rattle.mg_node.specs.Leading.{output_at}
-use Rattle.mg_node.proofs.IntakesGrow.{deliver_grows}
-use Rattle.mg_node.proofs.Knowing.{intake_ports}
-use Rattle.mg_node.proofs.Leads.{leads_port, leads_one, delivery_lawful}
-use Rattle.mg_node.proofs.Making.{some_same}
+use Rattle.mg_node.proofs.Lemmas.{deliver_grows, delivery_lawful, intake_ports, leads_one, leads_port, some_same}
 use Rattle.mg_sched.specs.Views.{NetView}
 use Rattle.mg_sched.specs.Places.{source_of, first_edge}
 use Rattle.mg_sched.specs.StandsFor.{IsJoined, IsNetOf, StandsFor, IsRunning}

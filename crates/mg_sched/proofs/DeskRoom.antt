@@ -11,7 +11,7 @@ use Rattle.mg_node.specs.Views.{WorkView, EngineView}
 use Rattle.mg_node.specs.Job.{LoggedJob}
 use Rattle.mg_node.specs.Lawful.{of_node, LawfulEngine}
 use Rattle.mg_node.specs.Shelves.{IsOut}
-use Rattle.mg_node.proofs.Knowing.{engine_there, engine_known}
+use Rattle.mg_node.proofs.Lemmas.{engine_known, engine_there}
 use Rattle.mg_sched.specs.Views.{DeskView}
 use Rattle.mg_sched.specs.StandsFor.{HasWorks}
 use Rattle.mg_sched.proofs.Finding.{found}

@@ -10,7 +10,7 @@ use Rattle.mg_calc.specs.Plan.{IsValid}
 use Rattle.mg_node.specs.Views.{EngineView}
 use Rattle.mg_node.specs.Job.{LoggedJob}
 use Rattle.mg_node.specs.Leading.{HasStream}
-use Rattle.mg_node.proofs.Knowing.{engine_known, input_known}
+use Rattle.mg_node.proofs.Lemmas.{engine_known, input_known}
 use Rattle.mg_sched.specs.Places.{place_of, first_edge}
 use Rattle.mg_sched.specs.ComesApart.{PartsView, ArePartsOf, IsInPlace}
 use Rattle.mg_sched.proofs.EdgePlaces.{edge_placed}

@@ -23,10 +23,7 @@ use Rattle.mg_node.specs.Leading.{output_at}
 use Rattle.mg_node.specs.Ports.{port_queue}
 use Rattle.mg_node.specs.IntakeStanding.{HasGrown}
 use Rattle.mg_node.specs.Extending.{joined, lengthened, extended, MayExtend}
-use Rattle.mg_node.proofs.Extending.{extended_lawful}
-use Rattle.mg_node.proofs.Frames.{get_first, get_drop}
-use Rattle.mg_node.proofs.Growing.{grown_by_itself, grown_further}
-use Rattle.mg_node.proofs.LaterParts.{intake_stays, engine_stays, work_stays, unbegun_stays}
+use Rattle.mg_node.proofs.Lemmas.{engine_stays, extended_lawful, get_drop, get_first, grown_by_itself, grown_further, intake_stays, unbegun_stays, work_stays}
 use Rattle.mg_sched.specs.Views.{DeskView, NetView}
 use Rattle.mg_sched.specs.StandsFor.{IsEngine, IsCell, IsJoined, HasSpare, IsNetOf, StandsFor}
 use Rattle.mg_sched.specs.Extends.{GoesOnWith, MayGoOnWith, Extends}

@@ -19,11 +19,7 @@ use Rattle.mg_node.specs.Shelves.{IsOut}
 use Rattle.mg_node.specs.Leaving.{handed_told, first_handed, HasHanded}
 use Rattle.mg_node.specs.WindingUp.{lacks_close, WindsUp}
 use Rattle.mg_node.specs.Had.{HadFront}
-use Rattle.mg_node.proofs.FrontsHad.{engine_front, unbegun_front, work_out_front, wound_front}
-use Rattle.mg_node.proofs.Knowing.{engine_known}
-use Rattle.mg_node.proofs.LaterParts.{engine_stays, unbegun_stays, work_stays}
-use Rattle.mg_node.proofs.OneCalculator.{handed_there}
-use Rattle.mg_node.proofs.Performing.{of_node as at_node}
+use Rattle.mg_node.proofs.Lemmas.{at_each as at_node, engine_front, engine_known, engine_stays, handed_there, unbegun_front, unbegun_stays, work_out_front, work_stays, wound_front}
 use Rattle.mg_sched.specs.Views.{DeskView, NetView}
 use Rattle.mg_sched.specs.StandsFor.{IsCell, StandsFor}
 use Rattle.mg_sched.specs.WindsUp.{WindsUpNet}

@@ -13,8 +13,7 @@ use Rattle.mg_node.specs.Views.{EngineView}
 use Rattle.mg_node.specs.Job.{LoggedJob, Solves}
 use Rattle.mg_node.specs.Had.{HadCalls}
 use Rattle.mg_node.specs.Leaving.{first_handed}
-use Rattle.mg_node.proofs.CallsHad.{had_calls}
-use Rattle.mg_node.proofs.Performing.{of_node as at_node}
+use Rattle.mg_node.proofs.Lemmas.{at_each as at_node, had_calls}
 use Rattle.mg_sched.specs.Views.{DeskView, NetView}
 use Rattle.mg_sched.specs.StandsFor.{StandsFor, IsRunning}
 use Rattle.mg_sched.specs.AtRest.{IsAtRest}

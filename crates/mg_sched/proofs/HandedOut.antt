@@ -12,10 +12,7 @@ use Rattle.mg_calc.specs.Told.{CalculatorTold}
 use Rattle.mg_route.specs.HolderView.{HolderView, holder_view}
 use Rattle.mg_node.specs.Views.{EngineView}
 use Rattle.mg_node.specs.Fresh.{own_told, fresh_engine}
-use Rattle.mg_node.proofs.ShelfLaws.{get_set}
-use Rattle.mg_node.proofs.ClaimsKeep.{set_get}
-use Rattle.mg_node.proofs.Performing.{of_node}
-use Rattle.mg_node.proofs.Making.{some_same}
+use Rattle.mg_node.proofs.Lemmas.{at_each, get_set, set_get, some_same}
 use Rattle.mg_sched.specs.Code.Made.{AtPlaces, IsEngineAt, IsLeft, HasTaken, FindEach, first_holder, holder_before}
 use Rattle.mg_sched.proofs.AtEach.{one_changed}
 use Rattle.std.proofs.lemmas.Option.{slice_get_within}
@@ -145,7 +142,7 @@ finds nodes given now count number node l apart find there takes = lying (slice_
   where
     wanted : IsSomeAnd (slice_get given number) (λ told. IsSome told)
     wanted = subst (λ (o : Option ℕ). IfSome o (λ n. IsSomeAnd (slice_get given n) (λ told. IsSome told))) takes
-        (of_node (λ (n : PlanNode). IfSome n.box_number (λ m. IsSomeAnd (slice_get given m) (λ told. IsSome told))) nodes count node find there)
+        (at_each (λ (n : PlanNode). IfSome n.box_number (λ m. IsSomeAnd (slice_get given m) (λ told. IsSome told))) nodes count node find there)
 
     none_past : (os : List (Option CalculatorTold)) (n : ℕ) → n < length os → slice_get os n ≡ None → ⊥
     none_past [] n less is = omega (arith, less)

@@ -15,13 +15,12 @@ use Rattle.mg_node.specs.declared.delivered.Delivered.TheVariants.{Moved, OutOfM
 use Rattle.mg_node.specs.Views.{IntakeView, PerformedView, EngineView}
 use Rattle.mg_node.specs.Job.{LoggedJob, ports_of}
 use Rattle.mg_node.specs.Ports.{ports_in, port_queue}
-use Rattle.mg_node.proofs.Knowing.{intake_ports}
+use Rattle.mg_node.proofs.Lemmas.{intake_ports, same_put}
 use Rattle.mg_node.specs.Advances.{advance_bound, raised_output, any_moved, any_moved_by, is_advanced}
 use Rattle.mg_node.specs.Claims.{AreSame}
 use Rattle.mg_node.specs.Shelves.{shelf_at}
 use Rattle.mg_stream.specs.Pool.{Backlog}
 use Rattle.mg_value.specs.Payload.{Plain}
-use Rattle.mg_node.proofs.Frames.{same_put}
 use Rattle.mg_throttle.specs.declared.queue.Queue.{Queue}
 use Rattle.mg_throttle.specs.Throttle.{noted}
 use Rattle.mg_sched.specs.Views.{DeskView, NetView}

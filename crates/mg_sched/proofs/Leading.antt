@@ -1,5 +1,5 @@
 -- From which places the edges of a valid plan lead, and how they are kept by these.
-use Rattle.std.proofs.Common.{◌≡◌, ℕ, ◌+◌, ◌<◌, List, Option, Some, None, IfSome, length, get_or, slice_set, option_map, ap, sym, ◌∙◌, subst, inl, inr, arith, get_or-set_same, get_or-set_other}
+use Rattle.std.proofs.Common.{◌≡◌, ℕ, ◌+◌, ◌<◌, List, Option, Some, None, IfSome, length, get_or, slice_get, slice_set, option_map, ap, sym, ◌∙◌, subst, inl, inr, arith, get_or-set_same, get_or-set_other}
 use Rattle.std.proofs.lemmas.Bool.{cases_eq}
 use Rattle.std.proofs.lemmas.List.{get_or_read}
 use Rattle.std.proofs.lemmas.Option.{same_Some, slice_get-get_or, slice_get_within}
@@ -36,6 +36,13 @@ source_within plan edges number place d valid same within from =
     (sym (ap (λ (s : Option PlanStream). option_map (place_of plan) (option_map (λ x. x.producer) s)) it.1) ∙ from) in
     subst (λ k. k < length plan.nodes + length plan.inputs) is (written_within plan e.stream it.0.producer it.2)
 
+-- the edge of a number leads from there
+pub source_is : (plan : Plan) (edges : List Edge) (number place : ℕ) (d : Edge) → edges ≡ plan.edges → number < length plan.edges → source_of plan (get_or edges number d) ≡ Some place
+    → (e : Edge) → slice_get plan.edges number ≡ Some e → source_of plan e ≡ Some place
+source_is plan edges number place d same within from e at =
+    let is : get_or edges number d ≡ e = ap (λ (l : List Edge). get_or l number d) same ∙ same_Some (get_or plan.edges number d) e (sym (slice_get-get_or plan.edges number d within) ∙ at) in
+    ap (source_of plan) (sym is) ∙ from
+
 -- ---- how they are kept
 
 -- one edge more leads from a place
@@ -59,6 +66,18 @@ lead_more low edges place heads links head h place_within edge_within is_edge re
         (omega (arith, old.0, same), old.1)
     | inr other ↦ h.next e l (sym (get_or-set_other links low e head None other) ∙ at)
   ];
+}
+
+-- a place goes on elsewhere, or nowhere
+pub lead_at : (edges place : ℕ) (heads links : List (Option ℕ)) (head : Option ℕ) → LeadOn 0 edges heads links → place < length heads → IfSome head (λ edge. edge < edges) → LeadOn 0 edges (slice_set heads place head) links
+lead_at edges place heads links head h within there = record {
+  first = λ p e at. elim (cases_eq p place) [
+    | inl same ↦
+        let is : head ≡ Some e = sym (get_or-set_same heads place head None within) ∙ (ap (λ k. get_or (slice_set heads place head) k None) (sym same) ∙ at) in
+        (omega arith, subst (λ (o : Option ℕ). IfSome o (λ edge. edge < edges)) is there)
+    | inr other ↦ h.first p e (sym (get_or-set_other heads place p head None other) ∙ at)
+  ];
+  next = h.next;
 }
 
 -- what is read of them

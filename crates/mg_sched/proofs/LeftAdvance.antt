@@ -11,8 +11,7 @@ use Rattle.mg_node.specs.Views.{EngineView}
 use Rattle.mg_node.specs.Advances.{raised_output, any_moved, any_moved_by, advance_bound, advanced, is_advanced}
 use Rattle.mg_node.specs.Job.{LoggedJob}
 use Rattle.mg_node.specs.Lawful.{of_node}
-use Rattle.mg_node.proofs.AdvanceKeeps.{advance_lawful}
-use Rattle.mg_node.proofs.SmallNumbers.{bounds_small}
+use Rattle.mg_node.proofs.Lemmas.{advance_lawful, bounds_small}
 use Rattle.mg_sched.specs.Views.{NetView}
 use Rattle.mg_sched.specs.Places.{with_engine}
 use Rattle.mg_sched.specs.StandsFor.{StandsFor, IsRunning}

@@ -22,9 +22,7 @@ use Rattle.mg_node.specs.Outputs.{laid_at}
 use Rattle.mg_node.specs.Lawful.{of_node, is_close, LawfulEngine, AreCell}
 use Rattle.mg_node.specs.Windows.{has_ended}
 use Rattle.mg_node.specs.Claims.{with_answer, AreSame, Hands, TakesUnrun, TakesAnswer, Claims}
-use Rattle.mg_node.proofs.ClaimsGrow.{claim_grows}
-use Rattle.mg_node.proofs.ClaimsLeave.{answer_stays}
-use Rattle.mg_node.proofs.SmallNumbers.{claims_small}
+use Rattle.mg_node.proofs.Lemmas.{claim_grows, claim_stays, claims_small}
 use Rattle.mg_sched.specs.Views.{DeskView, NetView}
 use Rattle.mg_sched.specs.Places.{first_edge, lengths_of, with_engine, with_intake, with_desk}
 use Rattle.mg_sched.specs.StandsFor.{IsCell, StandsFor, IsRunning}
@@ -149,7 +147,7 @@ answered_less job node engine engine_now intake intake_now desk cell few claims 
     let grows = claim_grows {C = ℕ} Answered engine engine_now intake intake_now is_cell claims in
     record {
       engine_less = answer_less engine engine_now intake intake_now t grows.engine_grows.outputs few;
-      intake_same = intake_same intake intake_now (ap (λ (v : IntakeView). ports_in v.waits) t.intake_is ∙ sym (ap ports_in t.waits)) (answer_stays engine engine_now intake intake_now t);
+      intake_same = intake_same intake intake_now (ap (λ (v : IntakeView). ports_in v.waits) t.intake_is ∙ sym (ap ports_in t.waits)) (claim_stays {X = ℕ} Answered engine engine_now intake intake_now claims);
     }
 
 cell_less : (job : LoggedJob) (node : ℕ) (engine engine_now : EngineView) (intake intake_now : IntakeView) (desk desk_now : DeskView) → IsCell job true node engine intake desk → engine.claimed < 2 ^ 64 → ClaimsBy Did engine engine_now intake intake_now desk desk_now

@@ -14,11 +14,7 @@ use Rattle.mg_node.specs.Windows.{has_ended, ready_of}
 use Rattle.mg_node.specs.Shelves.{outcome_of, shelf_at, Unshelves}
 use Rattle.mg_node.specs.Commits.{Front, answer_laid, has_stopped, with_ready, front_laid, front_of, fault_at, committed_entry, window_with, Commits, SomeJobHasEngine}
 use Rattle.mg_node.specs.Standing.{EngineGrows}
-use Rattle.mg_node.proofs.EngineFronts.{is_some_map, committed_whole}
-use Rattle.mg_node.proofs.FrontGrows.{commit_grows}
-use Rattle.mg_node.proofs.Growing.{engine_further, unshelving_grows}
-use Rattle.mg_node.proofs.Shelving.{IsFound, found_at, unshelved_lawful}
-use Rattle.mg_node.proofs.StaysOut.{unshelved_out}
+use Rattle.mg_node.proofs.Lemmas.{commit_grows, committed_whole, engine_further, found_at, is_some_map, IsFound, unshelved_lawful, unshelved_out, unshelving_grows}
 use Rattle.mg_throttle.specs.declared.queue.Queue.{Queue}
 use Rattle.mg_throttle.specs.Throttle.{QueueLimits, stopped}
 use Rattle.mg_sched.specs.Views.{NetView}

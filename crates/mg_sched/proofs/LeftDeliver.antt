@@ -19,11 +19,7 @@ use Rattle.mg_node.specs.Ports.{ports_in, port_queue, with_room}
 use Rattle.mg_node.specs.Delivery.{missing, delivered, Delivers}
 use Rattle.mg_node.specs.IntakeStanding.{HasGrown, IntakeGrows}
 use Rattle.mg_node.specs.Leading.{output_at}
-use Rattle.mg_node.proofs.IntakesGrow.{deliver_grows}
-use Rattle.mg_node.proofs.Knowing.{intake_ports}
-use Rattle.mg_node.proofs.Leads.{leads_port, leads_one, delivery_lawful}
-use Rattle.mg_node.proofs.PortSteps.{queue-there}
-use Rattle.mg_node.proofs.SmallNumbers.{counts_small, port_bounds_small}
+use Rattle.mg_node.proofs.Lemmas.{counts_small, deliver_grows, delivery_lawful, intake_ports, leads_one, leads_port, port_bounds_small, queue-there}
 use Rattle.mg_sched.specs.Views.{NetView}
 use Rattle.mg_sched.specs.Places.{with_intake}
 use Rattle.mg_sched.specs.StandsFor.{StandsFor, IsRunning}

@@ -7,7 +7,7 @@ use Rattle.std.proofs.lemmas.Option.{slice_get_within, slice_get_read}
 use Rattle.mg_calc.specs.declared.event.Effect.{Effect}
 use Rattle.mg_calc.specs.declared.event.Effect.TheVariants.{Did}
 use Rattle.mg_node.specs.Job.{LoggedJob}
-use Rattle.mg_node.proofs.FewWait.{few_packets}
+use Rattle.mg_node.proofs.Lemmas.{few_packets}
 use Rattle.mg_throttle.specs.declared.queue.Queue.{Queue}
 use Rattle.mg_throttle.specs.Throttle.{is_at, is_full, relaxed}
 use Rattle.mg_sched.specs.Views.{NetView}

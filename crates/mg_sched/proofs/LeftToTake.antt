@@ -22,8 +22,7 @@ use Rattle.mg_node.specs.Intakes.{next_set_of}
 use Rattle.mg_node.specs.Job.{LoggedJob, Solves, ports_of, policy_of, law_of, streams_at}
 use Rattle.mg_node.specs.Lawful.{HoldsWaits, LawfulIntake}
 use Rattle.mg_node.specs.Resting.{HasCome}
-use Rattle.mg_node.proofs.Frames.{get_drop}
-use Rattle.mg_node.proofs.RestingStands.{each_stands, all_stood_same}
+use Rattle.mg_node.proofs.Lemmas.{all_stood_same, each_stands, get_drop}
 use Rattle.mg_sched.specs.Views.{NetView}
 use Rattle.mg_sched.specs.StandsFor.{StandsFor, IsRunning}
 use Rattle.mg_sched.specs.AtRest.{IsAtRest}

@@ -8,6 +8,8 @@ pub mod PlanEdges
 pub mod PlanStreams
 pub mod Leading
 pub mod Priorities
+pub mod Pouring
+pub mod LeadingOn
 pub mod PlanFeeders
 pub mod Middles
 pub mod Works
@@ -69,3 +71,5 @@ pub mod LeftIn
 pub mod ComingApart
 pub mod PuttingTogether
 pub mod EdgesInPlace
+pub mod StreamLooks
+pub mod RunsOn

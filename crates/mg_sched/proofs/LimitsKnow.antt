@@ -14,7 +14,7 @@ use Rattle.mg_node.specs.Views.{IntakeView, EngineView}
 use Rattle.mg_node.specs.Job.{ports_of}
 use Rattle.mg_node.specs.Ports.{ports_in, port_queue}
 use Rattle.mg_node.specs.Claims.{has_ended}
-use Rattle.mg_node.proofs.Making.{some_same}
+use Rattle.mg_node.proofs.Lemmas.{get_other, put_there, some_same}
 use Rattle.mg_throttle.specs.declared.queue.Queue.{Queue}
 use Rattle.mg_throttle.specs.Throttle.{QueueLimits, IsOf, noted, relaxed, stopped, is_full}
 use Rattle.mg_throttle.proofs.Counts.{View-noted, IsOf-noted, IsOf-relaxed, IsOf-stopped}
@@ -22,7 +22,6 @@ use Rattle.mg_sched.specs.Views.{DeskView, NetView}
 use Rattle.mg_sched.specs.Places.{first_edge, lengths_of, with_limits}
 use Rattle.mg_sched.specs.StandsFor.{KnowsQueue, KnowsLimits}
 use Rattle.mg_sched.specs.Acts.{all_noted, stopped_by}
-use Rattle.mg_node.proofs.Frames.{get_other, put_there}
 use Rattle.mg_sched.proofs.PlanEdges.{mapped_at}
 use Rattle.mg_sched.proofs.PlanStreams.{number_there, number_of}
 use Rattle.mg_sched.proofs.EdgePlaces.{edge_placed, edges_before}

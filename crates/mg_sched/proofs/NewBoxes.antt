@@ -12,8 +12,7 @@ use Rattle.mg_route.specs.HolderView.{HolderView, holder_view}
 use Rattle.mg_calc.proofs.Earlier.{get_map}
 use Rattle.mg_node.specs.Begun.{IsHanded}
 use Rattle.mg_node.specs.Fresh.{own_told}
-use Rattle.mg_node.proofs.Making.{some_same}
-use Rattle.mg_node.proofs.Performing.{of_node}
+use Rattle.mg_node.proofs.Lemmas.{at_each, some_same}
 use Rattle.mg_sched.specs.StandsFor.{HasSpare}
 use Rattle.mg_sched.specs.Made.{job_of, FitsNew, BoxesFit}
 use Rattle.mg_sched.specs.Code.Made.{IsLeft, HasTaken, FindEach, first_holder}
@@ -45,7 +44,7 @@ box_of : (plan : Plan) (boxes : List CalculatorTold) (place number : ℕ) (node 
     → (box : CalculatorTold) × ((slice_get boxes number ≡ Some box) × FitsNew node box)
 box_of plan boxes place number node fit there takes = holds_there (FitsNew node) (slice_get boxes number)
     (subst (λ (o : Option ℕ). IfSome o (λ n. IsSomeAnd (slice_get boxes n) (FitsNew node))) takes
-    (of_node (λ (n : PlanNode). IfSome n.box_number (λ m. IsSomeAnd (slice_get boxes m) (FitsNew n))) plan.nodes place node fit there))
+    (at_each (λ (n : PlanNode). IfSome n.box_number (λ m. IsSomeAnd (slice_get boxes m) (FitsNew n))) plan.nodes place node fit there))
 
 pub find_each : (plan : Plan) (boxes : List CalculatorTold) → BoxesFit plan boxes → FindEach plan.nodes (given_of boxes)
 find_each plan boxes fit = every (λ (n : PlanNode). IfSome n.box_number (λ number. IsSomeAnd (slice_get (given_of boxes) number) (λ told. is_some told ≡ true))) plan.nodes

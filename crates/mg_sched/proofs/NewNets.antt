@@ -30,9 +30,7 @@ use Rattle.mg_node.specs.Lawful.{of_input, LawfulEngine, AgreeBy}
 use Rattle.mg_node.specs.Leading.{output_at}
 use Rattle.mg_node.specs.Outputs.{input_engine, kept_whole}
 use Rattle.mg_node.specs.Ports.{port_queue}
-use Rattle.mg_node.proofs.Filling.{input_lawful}
-use Rattle.mg_node.proofs.Making.{some_same, fresh_unbegun}
-use Rattle.mg_node.proofs.Performing.{of_node}
+use Rattle.mg_node.proofs.Lemmas.{at_each, fresh_unbegun, input_lawful, some_same}
 use Rattle.mg_throttle.specs.declared.queue.Queue.{Queue}
 use Rattle.mg_throttle.specs.Throttle.{QueueLimits, IsOf, limit_of, new_queue}
 use Rattle.mg_sched.specs.Views.{DeskView, NetView}
@@ -57,7 +55,7 @@ input_engine_lawful plan inputs boxes input s is there =
     let found = solved (job_of plan inputs boxes) is in
     let same = is.inputs.streams in
     let less = slice_get_within inputs.streams input s there in
-    input_lawful (job_of plan inputs boxes) found.0 plan input s (omega (arith, same, less)) (of_node IsPrefix inputs.streams input s is.inputs.prefixes there) refl found.1
+    input_lawful (job_of plan inputs boxes) found.0 plan input s (omega (arith, same, less)) (at_each IsPrefix inputs.streams input s is.inputs.prefixes there) refl found.1
     (get_or_from_slice_get found.0 input s empty_prefix (ap (λ (ss : List (StreamPrefix Plain)). slice_get ss input) (sym found.1.solution.meets) ∙ front inputs.streams _ input s there))
 
 -- at an output nothing was given up, and its bound is at least the first
@@ -82,7 +80,7 @@ gives_all plan inputs told engines place engine e is count all there = elim (bel
   | inr past ↦ (let most = slice_get_within engines place engine there in let same = is.inputs.streams in let more = past.1 in
       let s = there_at inputs.streams (place - length plan.nodes) (omega (arith, most, same, more, count)) in
       subst (λ (v : EngineView). GivesAll (output_at v e)) (sym ((all place engine there).input (place - length plan.nodes) s.0 (omega (arith, more)) s.1))
-      (gives_input s.0 (e.stream - get_or plan.inputs (place - length plan.nodes) 0) (of_node IsPrefix inputs.streams _ s.0 is.inputs.prefixes s.1)))
+      (gives_input s.0 (e.stream - get_or plan.inputs (place - length plan.nodes) 0) (at_each IsPrefix inputs.streams _ s.0 is.inputs.prefixes s.1)))
 ]
 
 -- Intakes.

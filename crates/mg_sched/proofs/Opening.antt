@@ -29,9 +29,7 @@ use Rattle.mg_node.specs.Shelves.{IsOut}
 use Rattle.mg_node.specs.Standing.{EngineGrows}
 use Rattle.mg_node.specs.Views.{IntakeView, BenchView, EntryView, EngineView}
 use Rattle.mg_node.specs.Windows.{has_ended}
-use Rattle.mg_node.proofs.BeginKeeps.{is_new, unbegun_parts}
-use Rattle.mg_node.proofs.Growing.{grown_by_itself}
-use Rattle.mg_node.proofs.Knowing.{may_begin}
+use Rattle.mg_node.proofs.Lemmas.{get_other, grown_by_itself, is_new, may_begin, put_there, unbegun_parts}
 use Rattle.mg_throttle.specs.Throttle.{QueueLimits}
 use Rattle.mg_sched.specs.Acts.{stopped_by}
 use Rattle.mg_sched.specs.Begins.{Begins}
@@ -40,7 +38,6 @@ use Rattle.mg_sched.specs.StandsFor.{HasWorks, IsEngine, IsCell, IsJoined, Knows
 use Rattle.mg_sched.specs.Views.{DeskView, NetView}
 use Rattle.mg_sched.proofs.CellForms.{only_engine}
 use Rattle.mg_sched.proofs.Finding.{engine_read, engine_there, found, of_plan, valid}
-use Rattle.mg_node.proofs.Frames.{get_other, put_there}
 use Rattle.mg_sched.proofs.Solved.{solved}
 use Rattle.mg_sched.proofs.LimitsKnow.{cell_knows, stopped_knows}
 

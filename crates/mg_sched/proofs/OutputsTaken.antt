@@ -28,8 +28,7 @@ use Rattle.mg_node.specs.Job.{LoggedJob, Solves, ports_of, policy_of, law_of, st
 use Rattle.mg_node.specs.Lawful.{HoldsWaits, LawfulIntake}
 use Rattle.mg_node.specs.Ports.{port_queue}
 use Rattle.mg_node.specs.Resting.{HasCome}
-use Rattle.mg_node.proofs.LaidAndCame.{intake_has_reached}
-use Rattle.mg_node.proofs.Zips.{zip_long}
+use Rattle.mg_node.proofs.Lemmas.{intake_has_reached, zip_long}
 use Rattle.mg_sched.specs.Views.{NetView}
 use Rattle.mg_sched.specs.StandsFor.{StandsFor, IsRunning}
 use Rattle.mg_sched.specs.AtRest.{IsAtRest}

@@ -8,7 +8,7 @@ use Rattle.mg_calc.specs.declared.plan_node.PlanNode.{PlanNode}
 use Rattle.mg_node.specs.Views.{EngineView}
 use Rattle.mg_node.specs.Fresh.{own_told, fresh_engine}
 use Rattle.mg_node.specs.Outputs.{input_engine}
-use Rattle.mg_node.proofs.Making.{some_same}
+use Rattle.mg_node.proofs.Lemmas.{some_same}
 use Rattle.mg_sched.specs.Views.{DeskView}
 use Rattle.mg_sched.specs.Code.Made.{IsEngineAt, IsDeskAt}
 

@@ -8,17 +8,13 @@ use Rattle.mg_node.specs.Ports.{port_queue}
 use Rattle.mg_node.specs.Outputs.{laid_at}
 use Rattle.mg_node.specs.Lawful.{LawfulWork}
 use Rattle.mg_node.specs.Shelves.{IsOut, outcome_of, shelved}
-use Rattle.mg_node.proofs.Growing.{grown_by_itself}
-use Rattle.mg_node.proofs.Outcomes.{ran_outcome}
-use Rattle.mg_node.proofs.Performing.{performed_lawful}
-use Rattle.mg_node.proofs.Shelving.{shelved_lawful}
+use Rattle.mg_node.proofs.Lemmas.{grown_by_itself, performed_lawful, ran_outcome, shelved_back, shelved_lawful}
 use Rattle.mg_sched.specs.Views.{DeskView, NetView}
 use Rattle.mg_sched.specs.StandsFor.{IsNetOf, StandsFor, IsRunning}
 use Rattle.mg_sched.specs.Acts.{PerformedBy, Performs, Performed}
 use Rattle.mg_sched.proofs.Finding.{cell_at, found}
 use Rattle.mg_sched.proofs.Middles.{all_middle}
 use Rattle.mg_node.specs.Out.{ComesBack}
-use Rattle.mg_node.proofs.StaysOut.{shelved_back}
 use Rattle.mg_sched.proofs.Works.{works_fewer}
 use Rattle.mg_sched.proofs.Changed.{CellStep, cell_stands}
 use Rattle.mg_sched.proofs.LimitsKnow.{cell_knows}

@@ -11,9 +11,7 @@ use Rattle.mg_node.specs.Job.{LoggedJob, ports_of}
 use Rattle.mg_node.specs.Leaving.{NoneOut}
 use Rattle.mg_node.specs.Ports.{ports_in, port_queue}
 use Rattle.mg_node.specs.Windows.{has_ended}
-use Rattle.mg_node.proofs.FewWait.{few_packets}
-use Rattle.mg_node.proofs.Knowing.{engine_known, intake_ports}
-use Rattle.mg_node.proofs.Making.{some_same}
+use Rattle.mg_node.proofs.Lemmas.{engine_known, few_packets, intake_ports, some_same}
 use Rattle.mg_throttle.specs.declared.queue.Queue.{Queue}
 use Rattle.mg_throttle.specs.Throttle.{QueueLimits, stopped}
 use Rattle.mg_throttle.proofs.Counts.{IsOf-stopped}

@@ -20,7 +20,7 @@ use Rattle.mg_node.specs.Delivery.{missing, with_packets, delivered, Delivers}
 use Rattle.mg_node.specs.IntakeStanding.{HasGrown}
 use Rattle.mg_node.specs.Leading.{output_at}
 use Rattle.mg_node.specs.Job.{LoggedJob}
-use Rattle.mg_node.proofs.PortSteps.{queue-there}
+use Rattle.mg_node.proofs.Lemmas.{queue-there}
 use Rattle.mg_throttle.specs.Throttle.{is_full, IsThrottled}
 use Rattle.mg_sched.specs.Views.{NetView}
 use Rattle.mg_sched.specs.Places.{source_of}

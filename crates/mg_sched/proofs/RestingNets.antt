@@ -25,9 +25,7 @@ use Rattle.mg_node.specs.Job.{LoggedJob, Solves, ports_of, streams_at}
 use Rattle.mg_node.specs.Lawful.{LawfulEngine, LawfulIntake, of_node, Agree}
 use Rattle.mg_node.specs.Outputs.{laid_at}
 use Rattle.mg_node.specs.Resting.{IsResting, HasCome}
-use Rattle.mg_node.proofs.Resting.{meets_its_equation}
-use Rattle.mg_node.proofs.RestingCounts.{rests_count, rests_fault}
-use Rattle.mg_node.proofs.RestingStands.{stood_same, each_prefix}
+use Rattle.mg_node.proofs.Lemmas.{each_prefix, meets_its_equation, rests_count, rests_fault, stood_same}
 use Rattle.mg_sched.specs.Views.{NetView}
 use Rattle.mg_sched.specs.Places.{place_of}
 use Rattle.mg_sched.specs.StandsFor.{StandsFor, StandsForSome, IsRunning}

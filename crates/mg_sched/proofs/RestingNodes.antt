@@ -21,7 +21,7 @@ use Rattle.mg_node.specs.Windows.{starts_ready}
 use Rattle.mg_node.specs.Job.{LoggedJob}
 use Rattle.mg_node.specs.Resting.{IsResting}
 use Rattle.mg_node.specs.Shelves.{shelf_of, shelf_at}
-use Rattle.mg_node.proofs.Knowing.{engine_known, nothing_ready}
+use Rattle.mg_node.proofs.Lemmas.{engine_known, nothing_ready}
 use Rattle.mg_sched.specs.Views.{DeskView, NetView}
 use Rattle.mg_sched.specs.StandsFor.{HasWorks, StandsFor, IsRunning}
 use Rattle.mg_sched.specs.Acts.{ClaimsBy, CommittedAt}

@@ -18,8 +18,7 @@ use Rattle.mg_calc.proofs.Solutions.{solution_has_each}
 use Rattle.mg_node.specs.Views.{EngineView}
 use Rattle.mg_node.specs.Job.{LoggedJob, Solves, streams_at}
 use Rattle.mg_node.specs.Lawful.{StandForAll}
-use Rattle.mg_node.proofs.Frames.{get_drop}
-use Rattle.mg_node.proofs.LaidAndCame.{input_has_laid}
+use Rattle.mg_node.proofs.Lemmas.{get_drop, input_has_laid}
 use Rattle.mg_sched.specs.declared.report.StreamEnd.{StreamEnd}
 use Rattle.mg_sched.specs.Views.{NetView}
 use Rattle.mg_sched.specs.StandsFor.{StandsFor, StandsForSome, IsRunning}

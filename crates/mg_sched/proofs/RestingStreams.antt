@@ -24,9 +24,7 @@ use Rattle.mg_node.specs.Lawful.{StandForAll, LawfulEngine, of_node}
 use Rattle.mg_node.specs.Outputs.{laid_at}
 use Rattle.mg_node.specs.Ports.{port_queue}
 use Rattle.mg_node.specs.Resting.{HasCome}
-use Rattle.mg_node.proofs.Knowing.{engine_known, input_known, intake_ports}
-use Rattle.mg_node.proofs.LaidAndCame.{node_has_laid, input_has_laid, intake_has_reached}
-use Rattle.mg_node.proofs.Zips.{zip_at, zip_long}
+use Rattle.mg_node.proofs.Lemmas.{engine_known, input_has_laid, input_known, intake_has_reached, intake_ports, node_has_laid, zip_at, zip_long}
 use Rattle.mg_sched.specs.Views.{NetView}
 use Rattle.mg_sched.specs.Places.{place_of, source_of, first_edge}
 use Rattle.mg_sched.specs.StandsFor.{StandsFor, StandsForSome, IsRunning}

@@ -17,8 +17,7 @@ use Rattle.mg_node.specs.Views.{IntakeView, EngineView}
 use Rattle.mg_node.specs.Job.{LoggedJob}
 use Rattle.mg_node.specs.Lawful.{LawfulIntake}
 use Rattle.mg_node.specs.Begun.{LawfulUnbegun}
-use Rattle.mg_node.proofs.BeginKeeps.{unbegun_parts}
-use Rattle.mg_node.proofs.Knowing.{engine_known, input_known}
+use Rattle.mg_node.proofs.Lemmas.{engine_known, input_known, unbegun_parts}
 use Rattle.mg_sched.specs.Views.{NetView}
 use Rattle.mg_sched.specs.Places.{place_of, source_of}
 use Rattle.mg_sched.specs.StandsFor.{IsEngine, StandsFor, StandsForSome}

@@ -1,5 +1,5 @@
 -- The steps of a sweep, one after the other, and what is left once none does anything.
-use Rattle.std.proofs.Common.{◌≡◌, ◌≢◌, ℕ, ◌+◌, ◌<◌, ◌≤◌, ◌-◌, ◌||◌, Bool, true, false, List, [], ◌∷◌, length, All, Option, Some, None, IfSome, IfNone, IfOk, Result, Ok, Err, IsSome, IsSomeAnd, slice_get, ◌⊎◌, inl, inr, refl, sym, subst, ◌∙◌, arith}
+use Rattle.std.proofs.Common.{◌≡◌, ◌≢◌, ℕ, ◌+◌, ◌<◌, ◌≤◌, ◌-◌, ◌||◌, Bool, true, false, List, [], ◌∷◌, length, All, Option, Some, None, IfSome, IfNone, IfOk, Result, Ok, Err, IsSome, IsSomeAnd, slice_get, slice_set, ◌⊎◌, inl, inr, refl, sym, ap, subst, ◌∙◌, length-set, arith}
 use borrow.Author.Count.{below_more}
 use Rattle.std.proofs.lemmas.Bool.{false≢true}
 use Rattle.std.proofs.lemmas.List.Elements.{All-nil, recursion_from_All}
@@ -205,16 +205,16 @@ agenda_on a b agenda h of = subst (λ (p : Plan). IsAgendaOf p agenda) (sym (bec
 pub agenda_back : (a b : NetView) (agenda : AgendaView) → Becomes a b → IsAgendaOf b.plan agenda → IsAgendaOf a.plan agenda
 agenda_back a b agenda h of = subst (λ (p : Plan). IsAgendaOf p agenda) (becomes_plan a b h) of
 
-pub both_same : (did moved : Bool) (a b c : AgendaView) → (did ≡ false → b ≡ a) → (moved ≡ false → c ≡ b) → (did || moved) ≡ false → c ≡ a
+pub both_same : {X : Type 0} (did moved : Bool) (a b c : X) → (did ≡ false → b ≡ a) → (moved ≡ false → c ≡ b) → (did || moved) ≡ false → c ≡ a
 both_same true moved a b c first second isnt = absurd (false≢true (sym isnt))
 both_same false true a b c first second isnt = absurd (false≢true (sym isnt))
 both_same false false a b c first second isnt = second refl ∙ first refl
 
-pub edge_within : (next : Option ℕ) (plan : Plan) (agenda : AgendaView) → IsAgendaOf plan agenda → IfSome next (λ e. e < agenda.edges) → IfSome next (λ e. e < length plan.edges)
+pub edge_within : (next : Option ℕ) (plan : Plan) (agenda : AgendaView) → IsAgendaOf plan agenda → IfSome next (λ e. e < length agenda.links) → IfSome next (λ e. e < length plan.edges)
 edge_within None plan agenda of h = tt
 edge_within (Some e) plan agenda of h = subst (λ (n : ℕ). e < n) of.edges h
 
-pub next_within : (next : Option ℕ) (edge : ℕ) (plan : Plan) (agenda : AgendaView) → IsAgendaOf plan agenda → IfSome next (λ e. (edge < e) × (e < agenda.edges)) → IfSome next (λ e. (edge < e) × (e < length plan.edges))
+pub next_within : (next : Option ℕ) (edge : ℕ) (plan : Plan) (agenda : AgendaView) → IsAgendaOf plan agenda → IfSome next (λ e. (edge < e) × (e < length agenda.links)) → IfSome next (λ e. (edge < e) × (e < length plan.edges))
 next_within None edge plan agenda of h = tt
 next_within (Some e) edge plan agenda of h = (h.0, subst (λ (n : ℕ). e < n) of.edges h.1)
 
@@ -222,10 +222,20 @@ pub second_of : (next : Option ℕ) (edge count : ℕ) → IfSome next (λ e. (e
 second_of None edge count h = tt
 second_of (Some e) edge count h = h.1
 
-pub agenda_same : (plan : Plan) (a b : AgendaView) → IsAgendaOf plan a → b.places ≡ a.places → b.edges ≡ a.edges → IsAgendaOf plan b
-agenda_same plan a b of places edges = record { places = places ∙ of.places; edges = edges ∙ of.edges }
+pub agenda_same : (plan : Plan) (a b : AgendaView) → IsAgendaOf plan a → b.heads ≡ a.heads → b.links ≡ a.links → IsAgendaOf plan b
+agenda_same plan a b of heads links = record { places = ap (λ (l : List (Option ℕ)). length l) heads ∙ of.places; edges = ap (λ (l : List (Option ℕ)). length l) links ∙ of.edges }
 
-pub node_place : (plan : Plan) (agenda : AgendaView) (node : ℕ) → IsAgendaOf plan agenda → node < length plan.nodes → node < agenda.places
+-- where a place goes on elsewhere
+pub agenda_set : (plan : Plan) (a b : AgendaView) (place : ℕ) (head : Option ℕ) → IsAgendaOf plan a → b.heads ≡ slice_set a.heads place head → b.links ≡ a.links → IsAgendaOf plan b
+agenda_set plan a b place head of heads links = record {
+  places = ap (λ (l : List (Option ℕ)). length l) heads ∙ length-set a.heads place head ∙ of.places;
+  edges = ap (λ (l : List (Option ℕ)). length l) links ∙ of.edges;
+}
+
+pub same_places : (plan : Plan) (a b : AgendaView) → IsAgendaOf plan a → IsAgendaOf plan b → length b.heads ≡ length a.heads
+same_places plan a b of now = now.places ∙ sym of.places
+
+pub node_place : (plan : Plan) (agenda : AgendaView) (node : ℕ) → IsAgendaOf plan agenda → node < length plan.nodes → node < length agenda.heads
 node_place plan agenda node of there = (let places = of.places in omega (arith, there, places))
 
 pub in_ok : {E : Type 0} (P Q : Bool → Type 0) (r : Result Bool E) → ((b : Bool) → P b → Q b) → IfOk r P → IfOk r Q
@@ -249,7 +259,7 @@ over_rests false false false a b c d some edges works nodes isnt s still =
     (subst (λ (v : NetView). NodesRest v (length v.plan.nodes)) (sym s.0) (nodes refl))
     (still_idle Relax c d (sym s.0) s.1)
 
-pub agenda_made : {E : Type 0} (r : Result AgendaView E) (shown net : NetView) → shown ≡ net → IfOk r (λ a. a.places ≡ length shown.plan.nodes + length shown.plan.inputs) → IfOk r (λ a. a.edges ≡ length shown.plan.edges)
+pub agenda_made : {E : Type 0} (r : Result AgendaView E) (shown net : NetView) → shown ≡ net → IfOk r (λ a. length a.heads ≡ length shown.plan.nodes + length shown.plan.inputs) → IfOk r (λ a. length a.links ≡ length shown.plan.edges)
     → IfOk r (λ a. IsAgendaOf net.plan a)
 agenda_made (Ok agenda) shown net is places edges = subst (λ (v : NetView). IsAgendaOf v.plan agenda) is (record { places = places; edges = edges })
 agenda_made (Err e) shown net is places edges = tt

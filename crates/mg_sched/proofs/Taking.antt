@@ -14,8 +14,7 @@ use Rattle.mg_node.specs.Lawful.{LawfulIntake}
 use Rattle.mg_node.specs.Intakes.{SomeJobHasIntake, HasSet, next_set_of}
 use Rattle.mg_node.specs.Ports.{ports_in, port_queue}
 use Rattle.mg_node.specs.Claims.{Takes}
-use Rattle.mg_node.proofs.FewWait.{few_packets}
-use Rattle.mg_node.proofs.Knowing.{intake_ports}
+use Rattle.mg_node.proofs.Lemmas.{few_packets, get_other, intake_ports, put_there, same_put}
 use Rattle.mg_throttle.specs.declared.queue.Queue.{Queue}
 use Rattle.mg_throttle.specs.Throttle.{noted}
 use Rattle.mg_sched.specs.Views.{NetView}
@@ -27,7 +26,6 @@ use Rattle.mg_sched.proofs.Changed.{with_arrived}
 use Rattle.mg_sched.proofs.EdgePlaces.{edge_placed, edges_before}
 use Rattle.mg_sched.proofs.LimitsKnow.{with_queues, all_noted_of, lengths_get}
 use Rattle.mg_sched.proofs.Finding.{valid, places, of_plan, found, read_at}
-use Rattle.mg_node.proofs.Frames.{get_other, put_there, same_put}
 use Rattle.mg_sched.proofs.PlanEdges.{ports_of_collector, ports_of_node, edges_count}
 
 -- Queues that are told how many wait, from one on: those before it stay as they are, and each has what it is told.

@@ -22,7 +22,8 @@ use Rattle.mg_sched.specs.Code.Outputs.{HasOutput, HaveOutputs, AreLaid, AreWith
 use Rattle.mg_sched.proofs.Finding.{found, valid}
 use Rattle.mg_sched.proofs.StreamOutputs.{IsBare, bare, have_outputs, laid_below, edge_laid}
 use Rattle.mg_sched.proofs.Trimming.{came_there, least_low, least_came, given_yes}
-use Rattle.mg_sched.proofs.Works.{works_same}
+use Rattle.mg_node.proofs.Lemmas.{window_out}
+use Rattle.mg_sched.proofs.Works.{works_kept}
 
 -- numbers that are what is laid and were lowered are within what is laid
 pub lowered_within : (net : NetView) (laid got : List ℕ) → HaveOutputs net.plan net.engines → AreLaid net.engines (length net.plan.streams) laid → ((s : ℕ) → get_or got s 0 ≡ fold min (get_or laid s 0) (came_of net.intakes net.plan.edges s)) → AreWithin net.engines got
@@ -88,7 +89,8 @@ cell_stays job net b n e e_now i d t lawful cell = record {
   lawful_engine = lawful;
   lawful_intake = cell.lawful_intake;
   agree = subst (λ (v : EngineView). Agree v i) (sym t.rest) cell.agree;
-  works = works_same job e e_now d (ap (λ (v : EngineView). v.in_flight) t.rest) (ap (λ (v : EngineView). v.node) t.rest) (ap (λ (v : EngineView). v.laid) t.rest) (ap (λ (v : EngineView). v.window) t.rest) cell.works;
+  works = works_kept job e e_now d (ap (λ (v : EngineView). v.in_flight) t.rest)
+      (window_out e e_now (ap (λ (v : EngineView). v.node) t.rest) (ap (λ (v : EngineView). v.laid) t.rest) (ap (λ (v : EngineView). v.window) t.rest)) cell.works;
 }
 
 -- an output that gives up no more than is laid has as many packets in all

@@ -14,7 +14,7 @@ use Rattle.mg_node.specs.Job.{LoggedJob}
 use Rattle.mg_node.specs.Lawful.{Owner, LawfulEngine}
 use Rattle.mg_node.specs.Outputs.{count_at, without_first}
 use Rattle.mg_node.specs.Ports.{port_queue}
-use Rattle.mg_node.proofs.Frames.{get_other, put_there}
+use Rattle.mg_node.proofs.Lemmas.{get_other, put_there}
 use Rattle.mg_sched.specs.Places.{place_of}
 use Rattle.mg_sched.specs.Trims.{came_along, came_of}
 use Rattle.mg_sched.specs.Code.Outputs.{writer_at, output_of, LaidAt, HasOutput, HaveOutputs, AreLaid, AreWithin, given_below, GivenBelow, AllGiven}

@@ -10,7 +10,7 @@ use Rattle.mg_calc.specs.declared.plan_node.PlanNode.{PlanNode}
 use Rattle.mg_calc.specs.Meaning.{count_of, weight}
 use Rattle.mg_node.specs.Views.{EngineView}
 use Rattle.mg_node.specs.Job.{LoggedJob, Solves}
-use Rattle.mg_node.proofs.SmallNumbers.{claims_counted}
+use Rattle.mg_node.proofs.Lemmas.{claims_counted}
 use Rattle.mg_sched.specs.Views.{NetView}
 use Rattle.mg_sched.specs.StandsFor.{StandsFor, StandsForSome, IsRunning}
 use Rattle.mg_sched.specs.Reports.{claimed_in}

@@ -9,9 +9,7 @@ use Rattle.mg_node.specs.Claims.{has_ended}
 use Rattle.mg_node.specs.Running.{SomeJobHas, IsPerformed}
 use Rattle.mg_node.specs.Shelves.{IsOut, shelved, outcome_of, shelf_at, Unshelves}
 use Rattle.mg_node.specs.Commits.{Commits}
-use Rattle.mg_node.proofs.Making.{some_same}
-use Rattle.mg_node.proofs.ShelfLaws.{get_set}
-use Rattle.mg_node.proofs.WorksOut.{back_in_place}
+use Rattle.mg_node.proofs.Lemmas.{back_in_place, get_set, put_there, same_put, some_same}
 use Rattle.mg_throttle.specs.Throttle.{QueueLimits, stopped}
 use Rattle.mg_sched.specs.Views.{DeskView, NetView}
 use Rattle.mg_sched.specs.Places.{with_engine, with_desk, with_limits}
@@ -19,7 +17,6 @@ use Rattle.mg_sched.specs.StandsFor.{HasWorks, StandsForSome, IsRunning}
 use Rattle.mg_sched.specs.Acts.{Performs, Performed, stopped_by, CommitsTo, CommittedAt, Committed}
 use Rattle.mg_sched.specs.Code.Desks.{TakesFrom}
 use Rattle.mg_sched.proofs.Finding.{cell_at, found, of_plan, read_at, engine_there, intake_there, desk_there, engine_read}
-use Rattle.mg_node.proofs.Frames.{put_there, same_put}
 use Rattle.mg_sched.proofs.Middles.{all_middle}
 use Rattle.mg_sched.proofs.DeskRoom.{works_fit, window_fits}
 

@@ -1,7 +1,6 @@
 -- A desk has the works of its engine that are out, whatever is claimed, performed and committed.
 use Rattle.std.proofs.Common.{◌≡◌, ◌≢◌, ℕ, ◌+◌, ◌-◌, ◌≤◌, List, [], ◌∷◌, ◌++◌, get_or, All, slice_get, inl, inr, ap, sym, subst, ◌∙◌}
 use Rattle.std.specs.Prelude.{AllPairs, Any}
-use Rattle.std.proofs.lemmas.Option.{none-some}
 use Rattle.std.proofs.lemmas.List.Elements.{All-push, All-weaker}
 use Rattle.std.proofs.lemmas.List.Quantifiers.{all_pairs_push, Any-push}
 use Rattle.mg_node.specs.Views.{WorkView, EntryView, EngineView}
@@ -11,27 +10,20 @@ use Rattle.mg_node.specs.Shelves.{IsOut}
 use Rattle.mg_sched.specs.Views.{DeskView}
 use Rattle.mg_sched.specs.StandsFor.{HasWorks}
 use Rattle.mg_sched.proofs.Middles.{all_middle, any_middle, any_first, pairs_middle, pairs_with, all_both}
-use Rattle.mg_node.specs.Out.{IsMissing, GoesOut, ComesBack}
+use Rattle.mg_node.specs.Out.{IsMissing, GoesOut, ComesBack, KeepsOut}
 
 -- a work that is missing in the window lies on the desk
 missing_there : (job : LoggedJob) (engine : EngineView) (desk : DeskView) (number : ℕ) → HasWorks job engine desk → IsMissing engine number → Any (λ w. w.number ≡ number) desk.works
 missing_there job engine desk number h m = subst (λ (n : ℕ). Any (λ w. w.number ≡ n) desk.works) (sym m.number_is) (h.complete m.place m.entry m.there m.missing)
 
--- an engine with the same window
-pub works_same : (job : LoggedJob) (before now : EngineView) (desk : DeskView) → now.in_flight ≡ before.in_flight → now.node ≡ before.node → now.laid ≡ before.laid → now.window ≡ before.window → HasWorks job before desk → HasWorks job now desk
-works_same job before now desk flight node laid window h = record {
+-- the same works are out
+pub works_kept : (job : LoggedJob) (before now : EngineView) (desk : DeskView) → now.in_flight ≡ before.in_flight → KeepsOut before now → HasWorks job before desk → HasWorks job now desk
+works_kept job before now desk flight k h = record {
   room = h.room ∙ sym flight;
-  out = All-weaker (IsOut before) (IsOut now) (λ w o. record {
-    node_is = o.node_is ∙ sym node;
-    laid = subst (λ (n : ℕ). n ≤ w.number) (sym laid) o.laid;
-    entry = o.entry;
-    there = ap (λ (xs : List EntryView). slice_get xs (w.number - now.laid)) window ∙ ap (λ (n : ℕ). slice_get before.window (w.number - n)) laid ∙ o.there;
-    out = o.out;
-    phase_is = o.phase_is;
-  }) desk.works h.out;
+  out = All-weaker (IsOut before) (IsOut now) k.stays desk.works h.out;
   lawful = h.lawful;
   apart = h.apart;
-  complete = λ place entry at none. subst (λ (n : ℕ). Any (λ w. w.number ≡ n + place) desk.works) (sym laid) (h.complete place entry (ap (λ (xs : List EntryView). slice_get xs place) (sym window) ∙ at) none);
+  complete = λ place entry at none. missing_there job before desk (now.laid + place) h (k.only place entry at none);
 }
 
 -- one more work
@@ -69,16 +61,6 @@ works_fewer job before now desk front back work flight c works h =
           any_middle (λ (w : WorkView). w.number ≡ now.laid + place) front back work (λ e. only.1 (sym e))
           (subst (Any (λ (w : WorkView). w.number ≡ now.laid + place)) works (missing_there job before desk (now.laid + place) h only.0));
     }
-
--- nothing is out of an empty window
-pub works_none : (job : LoggedJob) (before now : EngineView) (desk : DeskView) → now.in_flight ≡ before.in_flight → before.window ≡ [] → now.window ≡ [] → HasWorks job before desk → HasWorks job now desk
-works_none job before now desk flight empty still h = record {
-  room = h.room ∙ sym flight;
-  out = All-weaker (IsOut before) (IsOut now) (λ w o. absurd (none-some o.entry (ap (λ (xs : List EntryView). slice_get xs (w.number - before.laid)) (sym empty) ∙ o.there))) desk.works h.out;
-  lawful = h.lawful;
-  apart = h.apart;
-  complete = λ place entry at none. absurd (none-some entry (ap (λ (xs : List EntryView). slice_get xs place) (sym still) ∙ at));
-}
 
 -- a work that is found in its window, and comes back once more
 pub works_through : (job : LoggedJob) (before mid now : EngineView) (desk : DeskView) (work : WorkView) → now.in_flight ≡ before.in_flight → GoesOut before mid work → ComesBack mid now work.number → HasWorks job before desk → HasWorks job now desk

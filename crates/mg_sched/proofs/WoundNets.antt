@@ -4,7 +4,7 @@ use Rattle.std.proofs.lemmas.Bool.{cases_Bool, ltb-true, ltb-false}
 use Rattle.std.proofs.lemmas.Option.{same_Some}
 use Rattle.mg_node.specs.Views.{EngineView}
 use Rattle.mg_node.specs.WindingUp.{WindsUp}
-use Rattle.mg_node.proofs.Frames.{get_other, put_there}
+use Rattle.mg_node.proofs.Lemmas.{get_other, put_there}
 use Rattle.mg_sched.specs.Views.{NetView}
 use Rattle.mg_sched.specs.StandsFor.{StandsFor, StandsForSome}
 use Rattle.mg_sched.specs.WindsUp.{MayWindUp, WindsNext, WindsUpNet}

@@ -6,5 +6,6 @@ pub mod Made
 pub mod Longer
 pub mod Outputs
 pub mod Agendas
+pub mod AtLimits
 pub mod Left
 pub mod Telling

@@ -8,6 +8,7 @@ use Rattle.mg_calc.specs.Told.{CalculatorTold}
 use Rattle.mg_calc.specs.ToldCodes.{told_code, plan_code}
 use Rattle.mg_node.specs.Views.{IntakeView, WorkView, EngineView}
 use Rattle.mg_node.specs.Codes.{work_code, intake_code, engine_code}
+use Rattle.mg_ready.specs.Ready.{ReadyNodes}
 use Rattle.mg_throttle.specs.declared.queue.Queue.{Queue}
 use Rattle.mg_throttle.specs.contracts.queue.Queue as queue
 use Rattle.mg_throttle.specs.Throttle.{QueueLimits}
@@ -18,9 +19,13 @@ use Rattle.mg_sched.specs.Code.Agendas.{AgendaView}
 abbrev pub desk_code : Coded DeskView
 desk_code = code_by (ℕ × List WorkView) (coded× coded_ℕ (coded_list work_code)) (λ d. (d.room, d.works)) (λ p. record { room = p.0; works = p.1 }) (λ _. refl)
 
+abbrev pub ready_code : Coded ReadyNodes
+ready_code = code_by (List ℕ × List Bool) (coded× (coded_list coded_ℕ) (coded_list coded_bool)) (λ r. (r.order, r.is_in)) (λ p. record { order = p.0; is_in = p.1 }) (λ _. refl)
+
 abbrev pub agenda_code : Coded AgendaView
 agenda_code =
-    code_by (ℕ × (ℕ × ℕ)) (coded× coded_ℕ (coded× coded_ℕ coded_ℕ)) (λ a. (a.places, (a.edges, a.waiting))) (λ p. record { places = p.0; edges = p.1.0; waiting = p.1.1 }) (λ _. refl)
+    code_by ((ReadyNodes × ReadyNodes) × (List (Option ℕ) × List (Option ℕ))) (coded× (coded× ready_code ready_code) (coded× (coded_list (coded_option coded_ℕ)) (coded_list (coded_option coded_ℕ))))
+    (λ a. ((a.ready, a.held), (a.heads, a.links))) (λ p. record { ready = p.0.0; held = p.0.1; heads = p.1.0; links = p.1.1 }) (λ _. refl)
 
 abbrev pub limits_code : Coded QueueLimits
 limits_code =

@@ -3,6 +3,7 @@ pub mod Places
 pub mod StandsFor
 pub mod Acts
 pub mod Begins
+pub mod Looks
 pub mod Made
 pub mod Taking
 pub mod Reports
@@ -12,6 +13,7 @@ pub mod GivesBack
 pub mod WindsUp
 pub mod AtRest
 pub mod Sweeps
+pub mod Runs
 pub mod ComesApart
 -- What the prover wants of the types beside their meaning. No meaning rests on it.
 pub mod Codes

@@ -10,6 +10,7 @@ mod net;
 mod net_parts;
 mod parts;
 mod report;
+pub mod run_laws;
 mod sources;
 mod tables;
 

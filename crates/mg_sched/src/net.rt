@@ -5,6 +5,7 @@ mod claiming;
 mod extending;
 mod joining;
 mod leaving;
+mod looking;
 mod making;
 mod parting;
 mod reporting;

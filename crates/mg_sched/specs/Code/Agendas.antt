@@ -1,23 +1,53 @@
--- What contracts see of an agenda: how many places and edges it has, and how many places are in. And how it is kept.
-use Rattle.std.specs.Prelude.{◌≡◌, ℕ, ◌+◌, ◌^◌, ◌<◌, ◌≤◌, List, length, Option, Some, None, slice_index_or}
+-- What contracts see of an agenda. And how it is kept.
+use Rattle.std.specs.Prelude.{◌≡◌, ℕ, ◌+◌, ◌^◌, ◌<◌, ◌≤◌, ◌⊎◌, ◌++◌, Bool, List, length, count_by, Option, Some, None, slice_get, slice_index_or}
+use Rattle.std.specs.List.{range_with_len}
+use Rattle.mg_calc.specs.declared.edge.Edge.{Edge}
 use Rattle.mg_calc.specs.declared.plan.Plan.{Plan}
 use Rattle.mg_calc.specs.Plan.{HasEachOnce}
+use Rattle.mg_ready.specs.Ready.{ReadyNodes}
+use Rattle.mg_sched.specs.Places.{source_of}
 
 pub record AgendaView : Type 0 where
-  pub places : ℕ
-  pub edges : ℕ
-  pub waiting : ℕ
+  -- the places that may have something to do, and the feeders that were found throttled
+  pub ready : ReadyNodes
+  pub held : ReadyNodes
+  -- the edge along which each place goes on, and behind each edge the next one from the same place
+  pub heads : List (Option ℕ)
+  pub links : List (Option ℕ)
+
+-- how many places are ready
+abbrev pub waiting_in : AgendaView → ℕ
+waiting_in agenda = count_by (λ b. b) agenda.ready.is_in
 
 -- an agenda is for a plan's nets
 pub record IsAgendaOf (plan : Plan) (agenda : AgendaView) : Type 0 where
-  pub places : agenda.places ≡ length plan.nodes + length plan.inputs
-  pub edges : agenda.edges ≡ length plan.edges
+  pub places : length agenda.heads ≡ length plan.nodes + length plan.inputs
+  pub edges : length agenda.links ≡ length plan.edges
+
+-- the places by priority, the highest last: those of the graph inputs, and behind them those of the nodes in the plan's order
+abbrev pub priorities : Plan → List ℕ
+priorities plan = range_with_len (length plan.nodes) (length plan.inputs) ++ plan.order
 
 -- the first edge from each place, and behind each edge the next one from the same place: all of a number on that lead from places are
 -- below a count, and their numbers rise
 pub record LeadOn (low count : ℕ) (heads links : List (Option ℕ)) : Type 0 where
   pub first : (place edge : ℕ) → slice_index_or heads place None ≡ Some edge → (low ≤ edge) × (edge < count)
   pub next : (edge later : ℕ) → slice_index_or links edge None ≡ Some later → (edge < later) × (later < count)
+
+-- an edge leads from a place
+abbrev pub LeadsFrom : Plan → ℕ → ℕ → Type 0
+LeadsFrom plan place edge = (e : Edge) × (slice_get plan.edges edge ≡ Some e) × (source_of plan e ≡ Some place)
+
+-- the first edge of a number on that leads from a place, if there is one
+abbrev pub IsFirstFrom : Plan → ℕ → ℕ → Option ℕ → Type 0
+IsFirstFrom plan low place None = (edge : ℕ) → low ≤ edge → ¬ LeadsFrom plan place edge
+IsFirstFrom plan low place (Some edge) = (low ≤ edge) × LeadsFrom plan place edge × ((other : ℕ) → low ≤ other → other < edge → ¬ LeadsFrom plan place other)
+
+-- the edges of a number on, by the places from which they lead: the first from each place, and behind each edge the next one from the
+-- same place
+pub record AreLeads (plan : Plan) (low : ℕ) (heads links : List (Option ℕ)) : Type 0 where
+  pub first : (place : ℕ) → place < length heads → IsFirstFrom plan low place (slice_index_or heads place None)
+  pub next : (place edge : ℕ) → low ≤ edge → LeadsFrom plan place edge → IsFirstFrom plan (edge + 1) place (slice_index_or links edge None)
 
 -- both sets of an agenda are of all places, and its edges lead on
 pub record IsAgenda (places edges : ℕ) (ready held : List ℕ) (heads links : List (Option ℕ)) : Type 0 where

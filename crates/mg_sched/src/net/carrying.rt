@@ -107,10 +107,6 @@ impl<C: Calculator> Net<C> {
     pub(super) fn relax(&mut self) -> Effect
         ensures { Relaxed result self.old self.new }
     {
-        if !self.limits.is_any_full() {
-            return Effect::Idle;
-        }
-        self.limits.relax();
-        Effect::Did
+        done_if(self.limits.relax())
     }
 }

@@ -1,17 +1,22 @@
 //! How a net comes to rest.
-ghost use Rattle.std.specs.Prelude.{◌≡◌, ◌<◌, ◌+◌, ◌≤◌, ◌^◌, List, length, IfOk, false};
+ghost use Rattle.std.specs.Prelude.{◌≡◌, ◌<◌, ◌+◌, ◌≤◌, ◌^◌, List, length, slice_get, slice_set, Some, IfOk, true, false};
 ghost use Rattle.mg_value.specs.Payload.{Plain};
 ghost use Rattle.mg_value.specs.Prefix.{StreamPrefix};
 ghost use Rattle.mg_calc.specs.Meaning.{weight};
 ghost use Rattle.mg_node.specs.Job.{LoggedJob, Solves};
 ghost use Rattle.mg_node.specs.Ports.{ports_in};
+ghost use Rattle.mg_ready.specs.Ready.{IsIn};
 ghost use Rattle.mg_sched.specs.StandsFor.{StandsFor, StandsForSome, IsRunning};
-ghost use Rattle.mg_sched.specs.Acts.{IsEventOf};
+ghost use Rattle.mg_calc.specs.declared.edge.Edge.{Edge};
+ghost use Rattle.mg_sched.specs.Acts.{IsEventOf, IsHeld};
 ghost use Rattle.mg_sched.specs.AtRest.{IsAtRest};
 ghost use Rattle.mg_sched.specs.Taking.{taken_out};
 ghost use Rattle.mg_sched.specs.Reports.{claimed_in};
 ghost use Rattle.mg_sched.specs.Sweeps.{Becomes};
+ghost use Rattle.mg_node.specs.Views.{IntakeView};
+ghost use Rattle.mg_sched.specs.Places.{first_edge};
 ghost use Rattle.mg_sched.specs.Code.Agendas.{IsAgendaOf};
+ghost use Rattle.mg_sched.specs.Code.AtLimits.{is_at_limit, TellsAtLimit};
 ghost use Rattle.mg_sched.specs.Code.Left.{Goes, Steps, EdgesRest, NodesRest};
 
 use super::Net;
@@ -22,16 +27,26 @@ use mg_node::Intake;
 use mg_throttle::Limits;
 use std::alloc::AllocError;
 
+// Whether so many packets are as many as the limit of a queue is, or more.
+fn is_queue_at_limit(limits: &Limits, number: u32, packets: u64) -> bool
+    requires { number < length limits.now.queues }
+    ensures { result ≡ is_at_limit limits.now.queues number packets }
+{
+    match limits.limit(number) {
+        Some(limit) => limit <= packets,
+        None => false,
+    }
+}
+
 // Whether as many packets wait at a port of an intake as its queue's limit is, or more. The queues are those from a number on.
 fn is_at_limit(limits: &Limits, first: u32, intake: &Intake) -> bool
     requires queues { first + ports_in intake.now.waits ≤ length limits.now.queues }
     requires short { length limits.now.queues < 2 ^ 32 }
+    ensures { TellsAtLimit result limits.now.queues first intake.now.waits }
 {
     for port in 0..intake.ports() {
-        if let Some(limit) = limits.limit(first + port) {
-            if limit <= intake.waiting(port) {
-                return true;
-            }
+        if is_queue_at_limit(limits, first + port, intake.waiting(port)) {
+            return true;
         }
     }
     false
@@ -39,14 +54,27 @@ fn is_at_limit(limits: &Limits, first: u32, intake: &Intake) -> bool
 
 // Puts in a node that has worked, and the feeders that were kept where one of its queues was full.
 fn go_on_with(agenda: &mut Agenda, node: u32, was_full: bool)
-    requires { node < agenda.old.places }
-    ensures places { agenda.new.places ≡ agenda.old.places }
-    ensures edges { agenda.new.edges ≡ agenda.old.edges }
+    requires { node < length agenda.old.heads }
+    ensures put { IsIn agenda.new.ready node }
+    ensures leads { (agenda.new.heads ≡ agenda.old.heads) × (agenda.new.links ≡ agenda.old.links) }
 {
     agenda.put(node);
     if was_full {
         agenda.release();
     }
+}
+
+// Keeps a graph input that is throttled, which goes on with an edge then.
+fn hold_at(agenda: &mut Agenda, place: u32, edge: u32)
+    requires place { place < length agenda.old.heads }
+    requires edge { edge < length agenda.old.links }
+    ensures held { IsIn agenda.new.held place }
+    ensures ready { agenda.new.ready ≡ agenda.old.ready }
+    ensures heads { agenda.new.heads ≡ slice_set agenda.old.heads place (Some edge) }
+    ensures links { agenda.new.links ≡ agenda.old.links }
+{
+    agenda.hold(place);
+    agenda.resume_at(place, edge);
 }
 
 impl<C: Calculator> Net<C> {
@@ -137,21 +165,22 @@ impl<C: Calculator> Net<C> {
         requires running { IsRunning self.old }
         requires stands { StandsForSome self.old }
         requires agenda { IsAgendaOf self.old.plan agenda.old }
-        requires there { place < agenda.old.places }
+        requires there { place < length agenda.old.heads }
         ensures becomes { Becomes self.old self.new }
         ensures goes { IfOk result (λ did. Goes did self.old self.new) }
         ensures agenda { IsAgendaOf self.old.plan agenda.new }
-        ensures unchanged { IfOk result (λ did. did ≡ false → agenda.new ≡ agenda.old) }
+        ensures unchanged { IfOk result (λ did. did ≡ false → agenda.new.ready ≡ agenda.old.ready) }
     {
         if place < self.node_count() {
             self.visit_node(place, agenda, gate)
         } else {
-            self.visit_input(place, agenda, gate)
+            self.send_until_held(place, agenda, gate)
         }
     }
 
-    // Brings what came at a graph input along its edges, unless it is throttled.
-    fn visit_input<G: Gate>(
+    // Brings what came at a graph input along its edges until it is throttled. It is kept then, and goes on with that edge: along those
+    // before it all has gone, since no more comes at a graph input while a net is swept. Tells whether something was brought.
+    fn send_until_held<G: Gate>(
         &mut self,
         place: u32,
         agenda: &mut Agenda,
@@ -160,20 +189,34 @@ impl<C: Calculator> Net<C> {
         requires running { IsRunning self.old }
         requires stands { StandsForSome self.old }
         requires agenda { IsAgendaOf self.old.plan agenda.old }
-        requires there { place < agenda.old.places }
+        requires there { place < length agenda.old.heads }
         ensures becomes { Becomes self.old self.new }
         ensures goes { IfOk result (λ did. Goes did self.old self.new) }
         ensures agenda { IsAgendaOf self.old.plan agenda.new }
-        ensures unchanged { IfOk result (λ did. did ≡ false → agenda.new ≡ agenda.old) }
+        ensures unchanged { IfOk result (λ did. did ≡ false → agenda.new.ready ≡ agenda.old.ready) }
     {
-        let Some(edge) = agenda.first_edge(place) else {
-            return Ok(false);
-        };
-        if self.is_held(self.plan.edges.as_slice()[edge as usize]) {
-            agenda.hold(place);
-            return Ok(false);
+        let mut did = false;
+        let mut cursor = agenda.first_edge(place);
+        'edges: while let Some(edge) = cursor {
+            if self.is_held_at(edge) {
+                hold_at(agenda, place, edge);
+                return Ok(did);
+            }
+            did |= self.send_along(edge, agenda, gate)?;
+            cursor = agenda.next_edge(edge);
         }
-        self.send(place, agenda, gate)
+        agenda.finish(place);
+        Ok(did)
+    }
+
+    // Whether the edge of a number leads from a graph input that is throttled.
+    fn is_held_at(&self, edge: u32) -> bool
+        requires there { edge < length self.now.plan.edges }
+        requires stands { StandsForSome self.now }
+        ensures held { (e : Edge) → slice_get self.now.plan.edges edge ≡ Some e → result ≡ true → IsHeld self.now e }
+        ensures not_held { (e : Edge) → slice_get self.now.plan.edges edge ≡ Some e → result ≡ false → ¬ IsHeld self.now e }
+    {
+        self.is_held(self.plan.edges.as_slice()[edge as usize])
     }
 
     // Lets a node work, unless it is a source that is throttled, and sends on what it laid. Where it took packets from a full queue, the
@@ -191,7 +234,7 @@ impl<C: Calculator> Net<C> {
         ensures becomes { Becomes self.old self.new }
         ensures goes { IfOk result (λ did. Goes did self.old self.new) }
         ensures agenda { IsAgendaOf self.old.plan agenda.new }
-        ensures unchanged { IfOk result (λ did. did ≡ false → agenda.new ≡ agenda.old) }
+        ensures unchanged { IfOk result (λ did. did ≡ false → agenda.new.ready ≡ agenda.old.ready) }
     {
         if self.is_held_source(node) {
             agenda.hold(node);
@@ -210,6 +253,8 @@ impl<C: Calculator> Net<C> {
     fn is_full(&self, node: u32) -> bool
         requires there { node < length self.now.plan.nodes }
         requires stands { StandsForSome self.now }
+        ensures { (intake : IntakeView) → slice_get self.now.intakes node ≡ Some intake
+            → TellsAtLimit result self.now.limits.queues (first_edge self.now.plan node) intake.waits }
     {
         is_at_limit(
             &self.limits,
@@ -229,7 +274,7 @@ impl<C: Calculator> Net<C> {
         requires running { IsRunning self.old }
         requires stands { StandsForSome self.old }
         requires agenda { IsAgendaOf self.old.plan agenda.old }
-        requires there { place < agenda.old.places }
+        requires there { place < length agenda.old.heads }
         ensures becomes { Becomes self.old self.new }
         ensures goes { IfOk result (λ did. Goes did self.old self.new) }
         ensures agenda { IsAgendaOf self.old.plan agenda.new }

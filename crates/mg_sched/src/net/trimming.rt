@@ -18,8 +18,8 @@ fn writer_of(plan: &Plan, stream: u32) -> Producer
     plan.streams.as_slice()[stream as usize].producer
 }
 
-// The place of the engine that writes a stream, and at which of its outputs.
-fn output_of(plan: &Plan, stream: u32) -> (usize, u32)
+/// The place of the engine that writes a stream, and at which of its outputs.
+pub(super) fn output_of(plan: &Plan, stream: u32) -> (usize, u32)
     requires { stream < length plan.now.streams }
     ensures laid { LaidAt plan.now stream result.0 result.1 }
     ensures small { result.0 < 2 ^ 33 }

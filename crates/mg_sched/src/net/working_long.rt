@@ -1,5 +1,6 @@
 //! How a node works, and how long before what it laid goes on.
-ghost use Rattle.std.specs.Prelude.{◌≡◌, ◌<◌, length, IfSome, IfNone, IfOk, false};
+ghost use Rattle.std.specs.Prelude.{◌≡◌, ◌<◌, ◌==◌, length, slice_get, Some, IfSome, IfNone, IfOk, false};
+ghost use Rattle.mg_calc.specs.declared.plan_node.PlanNode.{PlanNode};
 ghost use Rattle.mg_sched.specs.StandsFor.{StandsForSome, IsRunning};
 ghost use Rattle.mg_sched.specs.Sweeps.{Becomes};
 ghost use Rattle.mg_sched.specs.Code.Left.{Goes, HasWork, HasNoWork, HasShelf, HasNoShelf, WorksRest, RestsAt};
@@ -29,8 +30,9 @@ impl<C: Calculator> Net<C> {
 
     fn has_no_input(&self, node: u32) -> bool
         requires { node < length self.now.plan.nodes }
+        ensures { (planned : PlanNode) → slice_get self.now.plan.nodes node ≡ Some planned → result ≡ (length planned.inputs == 0) }
     {
-        self.plan.nodes.as_slice()[node as usize].inputs.len() == 0
+        self.plan.nodes.as_slice()[node as usize].inputs.is_empty()
     }
 
     fn work_until_idle<G: Gate>(&mut self, node: u32, gate: &G) -> Result<bool, AllocError>

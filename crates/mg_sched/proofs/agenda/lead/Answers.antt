@@ -1,9 +1,8 @@
-use Rattle.std.proofs.Common.{arith, vec_len}
-use Rattle.mg_sched.proofs.Leading.{lead_more}
+use Rattle.std.proofs.Common.{None, Option, ℕ, ap, arith, slice_set}
+use Rattle.std.proofs.lemmas.List.{get_or_read}
 use Rattle.mg_sched.proofs.agenda.lead.Goals as goal
 
-pub returns-clause-lead : goal.returns-clause-lead
-returns-clause-lead c =
+pub returns-clause-next : goal.returns-clause-next
+returns-clause-next c =
     let leads = c.args.leads.now in
-    lead_more c.args.edge (vec_len leads.next) c.args.place leads.first.items leads.next.items c.index.result.now c.requires.lead
-    (omega (arith, c.requires.place, leads.first.ok)) (omega (arith, c.requires.edge, leads.next.ok)) c.requires.edge c.index.ensures
+    ap (λ (o : Option ℕ). slice_set leads.next.items c.args.edge o) (get_or_read leads.first.items c.args.place c.index.result.now (omega (arith, c.requires.place, leads.first.ok)) c.index.ensures None)

@@ -1,6 +1,6 @@
 use Rattle.std.proofs.Common.{rules, ◌≡◌, ◌<◌, length, length-set, Some, slice_get, sym, refl, ◌∙◌, arith}
 use Rattle.mg_calc.proofs.Earlier.{get_or_some}
-use Rattle.mg_node.proofs.Making.{read_at}
+use Rattle.mg_node.proofs.Lemmas.{read_at}
 use Rattle.mg_sched.proofs.HandedOut.{left_first, left_passed, left_taken, finds, engines_first, engines_last, engines_passed, engines_taken, all_full, seen_there, some_below}
 use Rattle.mg_sched.proofs.boxes.hand_out.Goals as goal
 

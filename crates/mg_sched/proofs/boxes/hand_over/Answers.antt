@@ -2,7 +2,7 @@ use Rattle.std.proofs.Common.{◌≡◌, true, Some, Option, option_map, map, sl
 use Rattle.mg_calc.specs.Told.{CalculatorTold}
 use Rattle.mg_route.specs.HolderView.{holder_view}
 use Rattle.mg_node.specs.Fresh.{fresh_engine}
-use Rattle.mg_node.proofs.Making.{some_same}
+use Rattle.mg_node.proofs.Lemmas.{some_same}
 use Rattle.mg_calc.proofs.Earlier.{get_map, get_or_some}
 use Rattle.mg_sched.proofs.HandedOut.{map_set}
 use Rattle.mg_sched.proofs.boxes.hand_over.Goals as goal

@@ -2,7 +2,7 @@
 use Rattle.std.proofs.Common.{◌≡◌, map}
 use Rattle.std.specs.Vec.Iter.{into_iter_items}
 use Rattle.mg_node.specs.Views.{WorkView}
-use Rattle.mg_node.proofs.HandedBack.{first_told}
+use Rattle.mg_node.proofs.Lemmas.{first_told}
 use Rattle.mg_sched.proofs.desk.first_of.Given as goal
 
 abbrev pub invariant-loop-work : goal.invariant-loop-work

@@ -1,5 +1,5 @@
 use Rattle.std.proofs.Common.{rules, ◌≡◌, ◌<◌, Some, length, slice_get, refl}
-use Rattle.mg_node.proofs.Making.{read_at}
+use Rattle.mg_node.proofs.Lemmas.{read_at}
 use Rattle.mg_sched.specs.Code.Made.{IsDeskAt}
 use Rattle.mg_sched.proofs.AtEach.{pushed}
 use Rattle.mg_sched.proofs.PartsMade.{desk_at}

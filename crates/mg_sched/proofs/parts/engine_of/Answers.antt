@@ -3,8 +3,7 @@ use Rattle.mg_calc.specs.declared.plan_node.PlanNode.{PlanNode}
 use Rattle.mg_calc.specs.Shape.{ParametersFit, IsServed}
 use Rattle.mg_route.specs.HolderView.{HolderView, holder_view}
 use Rattle.mg_node.specs.Fresh.{own_told, fresh_engine}
-use Rattle.mg_node.proofs.Performing.{of_node}
-use Rattle.mg_node.proofs.Making.{read_at, some_same}
+use Rattle.mg_node.proofs.Lemmas.{at_each, read_at, some_same}
 use Rattle.mg_sched.proofs.parts.engine_of.Goals as goal
 
 pub returns-in-Ok : goal.returns-in-Ok
@@ -16,8 +15,8 @@ returns-in-Ok g c = λ planned there_too.
 
 pub new-requires-clause-ranges : goal.new-requires-clause-ranges
 new-requires-clause-ranges g c =
-    of_node (λ (n : PlanNode). ParametersFit n.law) _ c.args.node _ c.requires.valid.parameters (read_at _ _ _ _ c.as_slice.ensures c.requires.node c.index-as_slice-node.is)
+    at_each (λ (n : PlanNode). ParametersFit n.law) _ c.args.node _ c.requires.valid.parameters (read_at _ _ _ _ c.as_slice.ensures c.requires.node c.index-as_slice-node.is)
 
 pub new-requires-clause-served : goal.new-requires-clause-served
 new-requires-clause-served g c =
-    of_node (λ (n : PlanNode). IsServed n.law) _ c.args.node _ c.requires.valid.laws (read_at _ _ _ _ c.as_slice.ensures c.requires.node c.index-as_slice-node.is)
+    at_each (λ (n : PlanNode). IsServed n.law) _ c.args.node _ c.requires.valid.laws (read_at _ _ _ _ c.as_slice.ensures c.requires.node c.index-as_slice-node.is)

@@ -1,6 +1,6 @@
 use Rattle.std.proofs.Common.{rules, ◌≡◌, ◌+◌, ◌<◌, Some, length, slice_get, refl, arith}
 use Rattle.mg_node.specs.Fresh.{own_told}
-use Rattle.mg_node.proofs.Making.{read_at}
+use Rattle.mg_node.proofs.Lemmas.{read_at}
 use Rattle.mg_sched.specs.Code.Made.{IsEngineAt}
 use Rattle.mg_sched.proofs.AtEach.{pushed}
 use Rattle.mg_sched.proofs.PartsMade.{input_engine_at}

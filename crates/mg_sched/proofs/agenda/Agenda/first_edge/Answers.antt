@@ -1,12 +1,22 @@
-use Rattle.std.proofs.Common.{◌<◌, IfSome, ap, subst, arith, vec_len}
+use Rattle.std.proofs.Common.{◌≡◌, ◌<◌, ◌∙◌, ℕ, Option, None, IfSome, length, get_or, ap, subst, arith, vec_len}
+use Rattle.std.proofs.lemmas.List.{get_or_read}
 use Rattle.mg_sched.specs.Code.Agendas.{AgendaView}
 use Rattle.mg_sched.proofs.Leading.{lead_first}
 use Rattle.mg_sched.proofs.agenda.Agenda.first_edge.Goals as goal
 
-pub returns : goal.returns
-returns c =
+pub returns-clause-first : goal.returns-clause-first
+returns-clause-first c =
     let inside = c.self.inside in
-    let places = ap (λ (a : AgendaView). a.places) c.self.view_is in
-    subst (λ (a : AgendaView). IfSome c.index.result.now (λ edge. edge < a.edges)) c.self.view_is
+    let places = ap (λ (a : AgendaView). length a.heads) c.self.view_is in
+    get_or_read inside.first.items c.args.place c.index.result.now (omega (arith, c.requires, places)) c.index.ensures None
+    ∙ ap (λ (a : AgendaView). get_or a.heads c.args.place None) c.self.view_is
+
+pub returns-clause-there : goal.returns-clause-there
+returns-clause-there c =
+    let inside = c.self.inside in
+    let places = ap (λ (a : AgendaView). length a.heads) c.self.view_is in
+    let edges = ap (λ (a : AgendaView). length a.links) c.self.view_is in
+    let long : vec_len inside.next ≡ length c.args.self.now.links = omega (arith, edges, inside.next.ok) in
+    subst (λ (n : ℕ). IfSome c.index.result.now (λ edge. edge < n)) long
     (lead_first 0 (vec_len inside.next) c.args.place inside.first.items inside.next.items c.index.result.now c.self.invariant.edges_lead
-    (omega (arith, c.requires, places, inside.first.ok)) c.index.ensures)
+    (omega (arith, c.requires, places)) c.index.ensures)

@@ -5,7 +5,7 @@ use Rattle.mg_sched.specs.Views.{NetView}
 use Rattle.mg_sched.specs.Places.{with_intake, with_limits}
 use Rattle.mg_sched.proofs.Finding.{valid, engine_read_at, intake_read_at}
 use Rattle.mg_sched.proofs.Carrying.{leads, source_there, target_there, queue_there, port_there, still_lawful}
-use Rattle.mg_node.proofs.FewWait.{few_packets}
+use Rattle.mg_node.proofs.Lemmas.{few_packets}
 use Rattle.mg_sched.proofs.PlanEdges.{edge_stream}
 use Rattle.mg_sched.proofs.net.Net.bring.Goals as goal
 

@@ -2,12 +2,11 @@ use Rattle.std.proofs.Common.{◌+◌, ◌<◌, ◌≤◌, length, ap, sym, subs
 use Rattle.mg_node.specs.Views.{IntakeView}
 use Rattle.mg_node.specs.Ports.{ports_in}
 use Rattle.mg_node.specs.Lawful.{LawfulIntake}
-use Rattle.mg_node.proofs.FewWait.{few_packets}
+use Rattle.mg_node.proofs.Lemmas.{few_packets, put_there}
 use Rattle.mg_sched.specs.Views.{NetView}
 use Rattle.mg_sched.specs.Places.{first_edge, with_engine, with_intake, with_desk, lengths_of}
 use Rattle.mg_sched.specs.Acts.{with_noted}
 use Rattle.mg_sched.proofs.Finding.{cell_at, engine_read, intake_read, desk_read, engine_fits, intake_fits, desk_fits, intake_there, put_here, put_long}
-use Rattle.mg_node.proofs.Frames.{put_there}
 use Rattle.mg_sched.proofs.Carrying.{ports_fit, queues_short}
 use Rattle.mg_sched.proofs.net.Net.claim_next.Goals as goal
 

@@ -1,3 +1,5 @@
+use Rattle.std.proofs.Common.{ap}
+use Rattle.mg_sched.specs.Code.Agendas.{AgendaView}
 use Rattle.mg_sched.specs.Sweeps.{itself}
 use Rattle.mg_sched.proofs.Becoming.{becomes_runs, becomes_some, becomes_trans}
 use Rattle.mg_sched.proofs.LeftIn.{becomes_no_more}
@@ -16,7 +18,7 @@ work_off-requires-clause-stands g c = becomes_some c.args.self.now c.passes.self
 pub work_off-requires-clause-agenda : goal.work_off-requires-clause-agenda
 work_off-requires-clause-agenda g c =
     agenda_on c.args.self.now c.passes.self c.put_all.new.self c.passes.invariant.becomes
-    (agenda_same c.args.self.now.plan c.passes.agenda c.put_all.new.self c.passes.invariant.agenda c.put_all.ensures.places c.put_all.ensures.edges)
+    (agenda_same c.args.self.now.plan c.passes.agenda c.put_all.new.self c.passes.invariant.agenda (ap (λ (a : AgendaView). a.heads) c.put_all.ensures.others) (ap (λ (a : AgendaView). a.links) c.put_all.ensures.others))
 
 pub returns-in_err-agenda-clause-becomes : goal.returns-in_err-agenda-clause-becomes
 returns-in_err-agenda-clause-becomes g c = itself

@@ -1,9 +1,10 @@
-use Rattle.std.proofs.Common.{ℕ, ◌<◌, ◌∙◌, refl, subst, sym}
+use Rattle.std.proofs.Common.{ℕ, ◌<◌, ◌∙◌, length, count_by, ap, refl, subst, sym}
 use Rattle.mg_calc.specs.declared.event.Event.TheVariants.{Relax}
 use Rattle.mg_sched.specs.Views.{NetView}
 use Rattle.mg_sched.specs.StandsFor.{StandsForSome, IsRunning}
 use Rattle.mg_sched.specs.Sweeps.{Becomes}
-use Rattle.mg_sched.specs.Code.Agendas.{AgendaView, IsAgendaOf}
+use Rattle.mg_ready.specs.Ready.{ReadyNodes}
+use Rattle.mg_sched.specs.Code.Agendas.{AgendaView, IsAgendaOf, waiting_in}
 use Rattle.mg_sched.specs.Code.Left.{left_in, Goes}
 use Rattle.mg_sched.proofs.Sweeping.{steps_go, goes_true, goes_false, agenda_same}
 use Rattle.mg_sched.proofs.net.Net.go_on.Goals as goal
@@ -20,10 +21,10 @@ visit-requires-clause-stands g c = subst (λ (v : NetView). StandsForSome v) (sy
 pub visit-requires-clause-agenda : goal.visit-requires-clause-agenda
 visit-requires-clause-agenda g c =
     subst (λ (v : NetView). IsAgendaOf v.plan c.take.new.self) (sym c.places.invariant.same)
-    (agenda_same c.args.self.now.plan c.places.agenda c.take.new.self c.places.invariant.agenda c.take.ensures.places c.take.ensures.edges)
+    (agenda_same c.args.self.now.plan c.places.agenda c.take.new.self c.places.invariant.agenda (ap (λ (a : AgendaView). a.heads) c.take.ensures.others) (ap (λ (a : AgendaView). a.links) c.take.ensures.others))
 
 pub visit-requires-clause-there : goal.visit-requires-clause-there
-visit-requires-clause-there g c = subst (λ (n : ℕ). c.in-Some.place < n) (sym c.take.ensures.places) c.in-Some.ensures.place
+visit-requires-clause-there g c = subst (λ (n : ℕ). c.in-Some.place < n) (sym (ap (λ (a : AgendaView). length a.heads) c.take.ensures.others)) c.in-Some.ensures.place
 
 pub places-preserved : goal.places-preserved
 places-preserved g c = record {
@@ -32,7 +33,7 @@ places-preserved g c = record {
 }
 
 pub places-smaller : goal.places-smaller
-places-smaller g c = subst (λ (a : AgendaView). a.waiting < c.places.agenda.waiting) (sym (c.in_ok-visit.ensures.unchanged c.if-branch.false)) c.in-Some.ensures.fewer
+places-smaller g c = subst (λ (r : ReadyNodes). count_by (λ b. b) r.is_in < waiting_in c.places.agenda) (sym (c.in_ok-visit.ensures.unchanged c.if-branch.false)) c.in-Some.ensures.fewer
 
 pub returns-in_err-visit-clause-becomes : goal.returns-in_err-visit-clause-becomes
 returns-in_err-visit-clause-becomes g c = subst (λ (v : NetView). Becomes v c.visit.new.self) c.places.invariant.same c.in_err-visit.ensures.becomes
@@ -59,7 +60,7 @@ pub returns-in_err-relaxed-clause-becomes : goal.returns-in_err-relaxed-clause-b
 returns-in_err-relaxed-clause-becomes g c = subst (λ (v : NetView). Becomes v c.step.new.self) c.places.invariant.same c.in_err-relaxed.ensures.becomes
 
 pub returns-in_err-relaxed-clause-agenda : goal.returns-in_err-relaxed-clause-agenda
-returns-in_err-relaxed-clause-agenda g c = agenda_same c.args.self.now.plan c.places.agenda c.take.new.self c.places.invariant.agenda c.take.ensures.places c.take.ensures.edges
+returns-in_err-relaxed-clause-agenda g c = agenda_same c.args.self.now.plan c.places.agenda c.take.new.self c.places.invariant.agenda (ap (λ (a : AgendaView). a.heads) c.take.ensures.others) (ap (λ (a : AgendaView). a.links) c.take.ensures.others)
 
 pub returns-clause-becomes : goal.returns-clause-becomes
 returns-clause-becomes g c = subst (λ (v : NetView). Becomes v c.step.new.self) c.places.invariant.same c.in_ok-relaxed.ensures.becomes
@@ -70,4 +71,4 @@ returns-clause-goes g c = subst (λ (v : NetView). Goes c.in_ok-relaxed.relaxed 
 pub returns-clause-agenda : goal.returns-clause-agenda
 returns-clause-agenda g c =
     agenda_same c.args.self.now.plan c.take.new.self c.release.new.self
-    (agenda_same c.args.self.now.plan c.places.agenda c.take.new.self c.places.invariant.agenda c.take.ensures.places c.take.ensures.edges) c.release.ensures.places c.release.ensures.edges
+    (agenda_same c.args.self.now.plan c.places.agenda c.take.new.self c.places.invariant.agenda (ap (λ (a : AgendaView). a.heads) c.take.ensures.others) (ap (λ (a : AgendaView). a.links) c.take.ensures.others)) (ap (λ (a : AgendaView). a.heads) c.release.ensures.others) (ap (λ (a : AgendaView). a.links) c.release.ensures.others)

@@ -10,7 +10,7 @@ edges-init g c = record {
   goes = refl;
   agenda = c.requires.agenda;
   unchanged = λ isnt. refl;
-  there = edge_within c.first_edge-cursor.result c.args.self.now.plan c.args.agenda.now c.requires.agenda c.first_edge-cursor.ensures;
+  there = edge_within c.first_edge-cursor.result c.args.self.now.plan c.args.agenda.now c.requires.agenda c.first_edge-cursor.ensures.there;
 }
 
 pub send_along-requires-clause-running : goal.send_along-requires-clause-running
@@ -41,7 +41,7 @@ edges-smaller g c =
     (let of = agenda_back c.args.self.now c.edges.self c.send_along.new.agenda c.edges.invariant.becomes c.in_ok-did.ensures.agenda in
     let count = length c.args.self.now.plan.edges in
     let there = subst (λ (o : Option ℕ). IfSome o (λ e. e < count)) c.in-Some.is c.edges.invariant.there in
-    let next = next_within c.next_edge-cursor.result c.in-Some.edge c.args.self.now.plan c.send_along.new.agenda of c.next_edge-cursor.ensures in
+    let next = next_within c.next_edge-cursor.result c.in-Some.edge c.args.self.now.plan c.send_along.new.agenda of c.next_edge-cursor.ensures.later in
     subst (λ (o : Option ℕ). edges_left count c.next_edge-cursor.result < edges_left count o) (sym c.in-Some.is) (fewer_edges count c.in-Some.edge c.next_edge-cursor.result there next))
 
 pub edges-preserved : goal.edges-preserved
@@ -52,5 +52,5 @@ edges-preserved g c =
       goes = goes_then c.edges.did c.in_ok-did.field-0 c.args.self.now c.edges.self c.send_along.new.self c.edges.invariant.goes c.in_ok-did.ensures.goes;
       agenda = of;
       unchanged = both_same c.edges.did c.in_ok-did.field-0 c.args.agenda.now c.edges.agenda c.send_along.new.agenda c.edges.invariant.unchanged c.in_ok-did.ensures.unchanged;
-      there = second_of c.next_edge-cursor.result c.in-Some.edge (length c.args.self.now.plan.edges) (next_within c.next_edge-cursor.result c.in-Some.edge c.args.self.now.plan c.send_along.new.agenda of c.next_edge-cursor.ensures);
+      there = second_of c.next_edge-cursor.result c.in-Some.edge (length c.args.self.now.plan.edges) (next_within c.next_edge-cursor.result c.in-Some.edge c.args.self.now.plan c.send_along.new.agenda of c.next_edge-cursor.ensures.later);
     })

@@ -1,5 +1,6 @@
-use Rattle.std.proofs.Common.{true}
+use Rattle.std.proofs.Common.{true, ap}
 use Rattle.mg_sched.specs.Sweeps.{itself}
+use Rattle.mg_sched.specs.Code.Agendas.{AgendaView}
 use Rattle.mg_sched.proofs.Becoming.{becomes_runs, becomes_some, becomes_trans}
 use Rattle.mg_sched.proofs.Sweeping.{goes_then, goes_true, agenda_on, agenda_back, agenda_same, node_place}
 use Rattle.mg_sched.proofs.net.Net.visit_node.Goals as goal
@@ -9,6 +10,13 @@ hold-requires g c = node_place c.args.self.now.plan c.args.agenda.now c.args.nod
 
 pub returns-then-is_held_source-clause-becomes : goal.returns-then-is_held_source-clause-becomes
 returns-then-is_held_source-clause-becomes g c = itself
+
+pub returns-then-is_held_source-clause-agenda : goal.returns-then-is_held_source-clause-agenda
+returns-then-is_held_source-clause-agenda g c =
+    agenda_same c.args.self.now.plan c.args.agenda.now c.hold.new.self c.requires.agenda (ap (λ (a : AgendaView). a.heads) c.hold.ensures.others) (ap (λ (a : AgendaView). a.links) c.hold.ensures.others)
+
+pub returns-then-is_held_source-clause-unchanged : goal.returns-then-is_held_source-clause-unchanged
+returns-then-is_held_source-clause-unchanged g c = λ is. ap (λ (a : AgendaView). a.ready) c.hold.ensures.others
 
 pub go_on_with-requires : goal.go_on_with-requires
 go_on_with-requires g c = node_place c.args.self.now.plan c.args.agenda.now c.args.node c.requires.agenda c.requires.there
@@ -22,7 +30,7 @@ send-requires-clause-stands g c = becomes_some c.args.self.now c.work_long.new.s
 pub send-requires-clause-agenda : goal.send-requires-clause-agenda
 send-requires-clause-agenda g c =
     agenda_on c.args.self.now c.work_long.new.self c.go_on_with.new.agenda c.in_ok-work_long.ensures.becomes
-    (agenda_same c.args.self.now.plan c.args.agenda.now c.go_on_with.new.agenda c.requires.agenda c.go_on_with.ensures.places c.go_on_with.ensures.edges)
+    (agenda_same c.args.self.now.plan c.args.agenda.now c.go_on_with.new.agenda c.requires.agenda c.go_on_with.ensures.leads.0 c.go_on_with.ensures.leads.1)
 
 pub returns-in_err-send-clause-becomes : goal.returns-in_err-send-clause-becomes
 returns-in_err-send-clause-becomes g c = becomes_trans c.args.self.now c.work_long.new.self c.send.new.self c.in_ok-work_long.ensures.becomes c.in_err-send.ensures.becomes

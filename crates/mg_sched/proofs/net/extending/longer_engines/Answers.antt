@@ -1,5 +1,5 @@
 use Rattle.std.proofs.Common.{rules, ◌≡◌, ◌<◌, Some, length, slice_get, refl, arith}
-use Rattle.mg_node.proofs.Making.{read_at}
+use Rattle.mg_node.proofs.Lemmas.{read_at}
 use Rattle.mg_sched.specs.Code.Longer.{IsLonger}
 use Rattle.mg_sched.proofs.AtEach.{pushed}
 use Rattle.mg_sched.proofs.ExtendedNets.{longer_there}

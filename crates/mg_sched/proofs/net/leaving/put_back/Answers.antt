@@ -1,6 +1,6 @@
 use Rattle.std.proofs.Common.{rules, ◌<◌, length, get_or, map, option_map}
 use Rattle.std.specs.Vec.Iter.{into_iter_items}
-use Rattle.mg_node.proofs.Making.{read_at}
+use Rattle.mg_node.proofs.Lemmas.{read_at}
 use Rattle.mg_sched.specs.GivesBack.{with_cells}
 use Rattle.mg_sched.proofs.GivenBack.{cells_next}
 use Rattle.mg_sched.proofs.net.leaving.put_back.Goals as goal

@@ -1,7 +1,7 @@
 use Rattle.std.proofs.Common.{◌-◌, ◌^◌, min, ap, ◌∙◌}
 use Rattle.mg_node.specs.Views.{EngineView}
 use Rattle.mg_node.specs.Outputs.{kept_in}
-use Rattle.mg_node.proofs.Held.{held_all}
+use Rattle.mg_node.proofs.Lemmas.{held_all}
 use Rattle.mg_sched.proofs.HeldIn.{part_more}
 use Rattle.mg_sched.proofs.net.reporting.kept_by.Goals as goal
 

@@ -1,7 +1,7 @@
 use Rattle.std.proofs.Common.{ℕ, ◌-◌, ◌^◌, min, ap, ◌∙◌}
 use Rattle.mg_node.specs.Views.{IntakeView}
 use Rattle.mg_node.specs.Ports.{waiting_in}
-use Rattle.mg_node.proofs.Held.{held_all}
+use Rattle.mg_node.proofs.Lemmas.{held_all}
 use Rattle.mg_sched.proofs.HeldIn.{part_more}
 use Rattle.mg_sched.proofs.net.reporting.waiting_at.Goals as goal
 

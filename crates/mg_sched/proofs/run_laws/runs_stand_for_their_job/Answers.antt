@@ -1,0 +1,11 @@
+use Rattle.mg_sched.proofs.RunsOn.{run_runs, run_stands, run_moves}
+use Rattle.mg_sched.proofs.run_laws.runs_stand_for_their_job.Goals as goal
+
+pub returns-clause-running : goal.returns-clause-running
+returns-clause-running c = run_runs
+
+pub returns-clause-stands : goal.returns-clause-stands
+returns-clause-stands c = run_stands
+
+pub returns-clause-moves : goal.returns-clause-moves
+returns-clause-moves c = run_moves

@@ -1,0 +1,19 @@
+-- Whether as many packets wait at a port as its queue's limit is, or more.
+use Rattle.std.specs.Prelude.{◌≡◌, ℕ, ◌+◌, ◌<◌, Bool, true, false, List, length, Option, option_and_then, slice_get}
+use Rattle.mg_node.specs.declared.waits.Waits.{Waits}
+use Rattle.mg_node.specs.Ports.{ports_in, port_queue}
+use Rattle.mg_throttle.specs.declared.queue.Queue.{Queue}
+use Rattle.mg_throttle.specs.Throttle.{is_at}
+
+-- in the queue of a number
+abbrev pub is_at_limit : List Queue → ℕ → ℕ → Bool
+is_at_limit queues number packets = is_at (option_and_then (λ q. q.limit) (slice_get queues number)) packets
+
+-- at a port; the queues of the ports are those from a number on
+abbrev pub is_port_at_limit : List Queue → ℕ → Waits → ℕ → Bool
+is_port_at_limit queues first waits port = is_at_limit queues (first + port) (length (port_queue waits port).packets)
+
+-- it is so at some port, or at none
+abbrev pub TellsAtLimit : Bool → List Queue → ℕ → Waits → Type 0
+TellsAtLimit true queues first waits = (port : ℕ) × (port < ports_in waits) × (is_port_at_limit queues first waits port ≡ true)
+TellsAtLimit false queues first waits = (port : ℕ) → port < ports_in waits → is_port_at_limit queues first waits port ≡ false

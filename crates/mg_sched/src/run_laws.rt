@@ -1,0 +1,47 @@
+//! Laws of runs: each function does nothing, and its contract is the law.
+ghost use Rattle.std.specs.Prelude.{◌≡◌, ◌≢◌, List, [], ◌∷◌, ◌++◌, map};
+ghost use Rattle.mg_value.specs.Payload.{Plain};
+ghost use Rattle.mg_value.specs.Prefix.{StreamPrefix};
+ghost use Rattle.mg_calc.specs.declared.event.Event.{Event};
+ghost use Rattle.mg_calc.specs.declared.event.Effect.TheVariants.{Did};
+ghost use Rattle.mg_calc.specs.declared.inputs.Inputs.{Inputs};
+ghost use Rattle.mg_calc.specs.declared.plan.Plan.{Plan};
+ghost use Rattle.mg_calc.specs.Told.{CalculatorTold};
+ghost use Rattle.mg_calc.specs.Meaning.{counts, faults};
+ghost use Rattle.mg_node.specs.Job.{LoggedJob, Solves};
+ghost use Rattle.mg_sched.specs.Views.{NetView};
+ghost use Rattle.mg_sched.specs.StandsFor.{StandsFor, IsRunning};
+ghost use Rattle.mg_sched.specs.Acts.{IsEventOf, Acts};
+ghost use Rattle.mg_sched.specs.Made.{job_of};
+ghost use Rattle.mg_sched.specs.Reports.{stream_end, report_of};
+ghost use Rattle.mg_sched.specs.Runs.{IsRun, IsRunAtRest};
+
+/// No event is a run from a net to itself, an event that does something is one, and a run that begins where another one ended goes on
+/// with it.
+pub fn runs_go_on()
+    ensures none { (net : NetView) → IsRun [] net net }
+    ensures one { (event : Event) (before now : NetView) → IsEventOf before event → Acts event Did before now → IsRun (event ∷ []) before now }
+    ensures further { (events more : List Event) (before between now : NetView) → IsRun events before between → IsRun more between now
+        → IsRun (events ++ more) before now }
+{}
+
+/// Whatever the events of a run are, the net runs at its end and stands for its job as it did at its begin, and a run that has an event
+/// leaves no net as it was.
+pub fn runs_stand_for_their_job()
+    ensures running { (events : List Event) (before now : NetView) → IsRun events before now → IsRunning before → IsRunning now }
+    ensures stands { (job : LoggedJob) (events : List Event) (before now : NetView) → IsRun events before now → IsRunning before → StandsFor job before
+        → StandsFor job now }
+    ensures moves { (job : LoggedJob) (events : List Event) (before now : NetView) → IsRun events before now → IsRunning before → StandsFor job before
+        → events ≢ [] → now ≢ before }
+{}
+
+/// Whatever its events are, a run of a job at rest has come to the job's solution: the net reports how many sets each node has there,
+/// its faults, and how far each stream comes.
+pub fn runs_at_rest_have_the_solution()
+    ensures sets { (plan : Plan) (inputs : Inputs) (boxes : List CalculatorTold) (events : List Event) (solution : List (StreamPrefix Plain))
+        (run : IsRunAtRest plan inputs boxes events) → Solves (job_of plan inputs boxes) solution → (report_of run.rested).sets ≡ counts (job_of plan inputs boxes).job solution }
+    ensures faults { (plan : Plan) (inputs : Inputs) (boxes : List CalculatorTold) (events : List Event) (solution : List (StreamPrefix Plain))
+        (run : IsRunAtRest plan inputs boxes events) → Solves (job_of plan inputs boxes) solution → (report_of run.rested).faults ≡ faults (job_of plan inputs boxes).job solution }
+    ensures streams { (plan : Plan) (inputs : Inputs) (boxes : List CalculatorTold) (events : List Event) (solution : List (StreamPrefix Plain))
+        (run : IsRunAtRest plan inputs boxes events) → Solves (job_of plan inputs boxes) solution → (report_of run.rested).streams ≡ map stream_end solution }
+{}
