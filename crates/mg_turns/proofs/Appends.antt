@@ -49,7 +49,7 @@ consumer_of key k e p q g i c = c.edges.consumers k e c.there
 stream_at : (key : FrameView) (job : LoggedJob) (k : ℕ) (e : Edge) → Fits job key → EdgesFit key → slice_get key.plan.edges k ≡ Some e → slice_get (ports_of job.job.plan e.node) e.port ≡ Some e.stream
 stream_at key job k e fits edges there = subst (λ (x : Plan). slice_get (ports_of x e.node) e.port ≡ Some e.stream) (sym fits.plan) (edges.ports k e there)
 
-gone_get : (bs : List (Backlog Plain)) (k : ℕ) → (get_or bs k empty_backlog).gone ≡ get_or (map (λ (b : Backlog Plain). b.gone) bs) k 0
+pub gone_get : (bs : List (Backlog Plain)) (k : ℕ) → (get_or bs k empty_backlog).gone ≡ get_or (map (λ (b : Backlog Plain). b.gone) bs) k 0
 gone_get [] zero = refl
 gone_get [] (suc k) = refl
 gone_get (b ∷ bs) zero = refl

@@ -14,8 +14,9 @@ use Rattle.mg_node.specs.Out.{ComesBack}
 use Rattle.mg_node.proofs.StaysOut.{committed_back, shelved_back}
 use Rattle.mg_turns.specs.Parts.{PartView, FrameView, at, nodes_in, an_engine, PartGrows, Fits, FitsSome, gone_by, first_by, Follows, AgreeParts, IsOutIn, IsMissingAt, IsMissingIn}
 use Rattle.mg_turns.specs.Turns.{Turn}
-use Rattle.mg_turns.specs.Code.Plays.{Sat, turn, turning, Back, Taken, Gives, GivesPlainly, GivesLaid}
-use Rattle.mg_turns.specs.Calls.{HasOutcome}
+use Rattle.mg_turns.specs.Sights.{Finds, left_one}
+use Rattle.mg_turns.specs.Code.Plays.{Sat, turn, turning, Back, Taken, Gives, GivesPlainly, GivesLaid, laid_view}
+use Rattle.mg_turns.specs.Calls.{HasOutcome, HasCommitted}
 use Rattle.mg_turns.proofs.Grows.{part_same, part_further, like_self, joins_self}
 use Rattle.mg_turns.proofs.Ends.{nil}
 use Rattle.mg_turns.proofs.Claims.{gones, engine_of_part, engine_kind, missing_by, lawful_e, engine_joins, engine_follows_on}
@@ -98,6 +99,22 @@ module _ (m n₁ : Sat) (key : FrameView) (n : ℕ) (p : PartView) (e : EngineVi
       let p-is : p ≡ an_engine f = engine_kind key (2 * n + 1) (of_node n) p e found_follows (engine_at (nodes_in key) n within) is ∙ ap an_engine (sym same) in
       subst (λ (x : PartView). GivesPlainly n₁ (2 * n + 1) x) p-is (subst (λ (s : Sat). GivesPlainly s (2 * n + 1) p) (sym one.0)
       (turn m.0.key (2 * n + 1) p, m.0.turns, record { slot = refl; turns = refl; word_is = refl; grows = part_same p; follows = one.1.follows }, like_self p, joins_self p))
+
+  -- a work is committed
+  pub committed_by : (outcome : OutcomeView) (laid : ℕ) (f : EngineView) → outcome.work ≡ work → Commits outcome laid e f → (n₂ : Sat) → n₂ ≡ (laid_view n₁.0 (2 * n + 1) (an_engine f), rest n₁.1) → HasCommitted laid outcome m.0 n₂.0
+  committed_by outcome laid f same commits n₂ after =
+      let p-is : p ≡ an_engine e = engine_kind key (2 * n + 1) (of_node n) p e found_follows (engine_at (nodes_in key) n within) is in
+      let node : n ≡ outcome.work.node = sym (ap (λ (w : WorkView). w.node) same ∙ node-is) in
+      let found : Finds m.0 (2 * n + 1) (an_engine e) = subst (λ (x : PartView). Finds m.0 (2 * n + 1) x) p-is (record { follows = one.1.follows; sights = one.1.sights }) in
+      let left : n₂.0 ≡ left_one m.0 (2 * n + 1) (an_engine f) None = ap (λ (s : Sat). s.0) after ∙ ap (λ (s : Sat). laid_view s.0 (2 * n + 1) (an_engine f)) one.0 in
+      record {
+        engine = e;
+        engine_now = f;
+        found = subst (λ (k : ℕ). Finds m.0 (2 * k + 1) (an_engine e)) node found;
+        out = subst (λ (w : WorkView). IsOut e w) (sym same) work_out;
+        commits = commits;
+        left = subst (λ (k : ℕ). n₂.0 ≡ left_one m.0 (2 * k + 1) (an_engine f) None) node left;
+      }
 
 pub commit_facts : (key : FrameView) (n : ℕ) (outcome : OutcomeView) (laid : ℕ) (e f : EngineView) → IsOut e outcome.work → SomeJobHasEngine e → ((job : LoggedJob) → Fits job key → LawfulOutcome job outcome)
     → Commits outcome laid e f → EngineGrows e f → ((job : LoggedJob) (number : ℕ) → LawfulEngine job (of_node number) e → LawfulOutcome job outcome → LawfulEngine job (of_node number) f)

@@ -99,6 +99,7 @@ module _ (m n : Sat) (key : FrameView) (k : ℕ) (e : Edge) (source : ℕ) (p q 
             intake_now = j;
             engine_found = subst (λ (x : ℕ). Finds m.0 x (an_engine g)) source-is found;
             intake_found = subst (λ (x : PartView). Finds m.0 (2 * e.node) x) q-is (record { follows = subst (λ (x : FrameView). Follows x (2 * e.node) q) old t.2.1.follows; sights = sights });
+            behind = both_ends.joined g i is is';
             moved = moved;
             claimed = claimed;
             left = subst (λ (x : ℕ). n₄.0 ≡ left_two m.0 x (an_engine g) (2 * e.node) (an_intake j) m.0.work) source-is twice;

@@ -17,7 +17,8 @@ use Rattle.mg_turns.specs.Rule.{total, view, Sights, is_of, has_turn, InSlot, No
 use Rattle.mg_turns.specs.Ends.{with_parts, Unshared}
 use Rattle.mg_turns.proofs.Links.{SameWorks, same_part, linked_by, set_at, set_past}
 use Rattle.mg_turns.proofs.Grows.{like_self, joins_self, sights_both}
-use Rattle.mg_turns.specs.Code.Plays.{kept_after, handed, joined, spent_view, either_work}
+use Rattle.mg_turns.specs.Code.Plays.{spent_view}
+use Rattle.mg_turns.specs.Sights.{kept_after, handed, joined, either_work}
 use Rattle.mg_turns.specs.declared.view.View.{View}
 use Rattle.mg_turns.proofs.Sums.{total-set, total-append, term_le, terms_le}
 

@@ -16,3 +16,10 @@ pub mod Appends
 pub mod Rounds
 pub mod Giving
 pub mod Bringing
+pub mod Standings
+pub mod Keeping
+pub mod Committed
+pub mod Telling
+pub mod Brought
+pub mod Ways
+pub mod Sent

@@ -1,6 +1,9 @@
 -- For the loops of `share`.
-use Rattle.std.proofs.Common.{◌≡◌, ℕ, zero, suc, take, take_all, ◌+◌, ◌<◌, ◌≤◌, List, [], ◌∷◌, ◌++◌, map, length, get_or, sym, refl, ap, ◌∙◌, arith, Option, Some, append_assoc, append-nil, replicate}
-use Rattle.mg_turns.specs.Parts.{PartView}
+use Rattle.std.proofs.Common.{◌≡◌, ℕ, zero, suc, take, take_all, ◌+◌, ◌<◌, ◌≤◌, List, [], ◌∷◌, ◌++◌, map, length, get_or, sym, refl, ap, ◌∙◌, arith, Option, Some, append_assoc, append-nil, replicate, slice_get}
+use Rattle.mg_calc.specs.declared.edge.Edge.{Edge}
+use Rattle.mg_calc.specs.declared.plan.Plan.{Plan}
+use Rattle.mg_turns.specs.Parts.{PartView, FrameView, source_at, EdgesFit}
+use Rattle.mg_turns.specs.Code.Stored.{somes}
 use Rattle.mg_turns.proofs.Words.{no_word_of}
 
 pub moved : (slots slots' all : List (Option PartView)) (rest rest' : List PartView) (x : PartView) → slots ++ map Some rest ≡ all → rest ≡ x ∷ rest' → slots' ≡ slots ++ Some x ∷ [] → slots' ++ map Some rest' ≡ all
@@ -19,3 +22,21 @@ no_words (p ∷ ps) = ap (λ (l : List ℕ). zero ∷ l) (no_words ps)
 -- all of a list was gone through
 pub all_taken : {A B : Type 0} (f : A → B) (ws : List B) (ps : List A) (i : ℕ) → ws ≡ map f (take i ps) → length ps ≤ i → ws ≡ map f ps
 all_taken f ws ps i e h = e ∙ ap (map f) (take_all i ps h)
+
+-- what went in comes out
+somes_all : (xs : List PartView) → somes (map Some xs) ≡ xs
+somes_all [] = refl
+somes_all (x ∷ xs) = ap (λ (l : List PartView). x ∷ l) (somes_all xs)
+
+pub back_again : (frame : FrameView) (plan : Plan) (slots back : List (Option PartView)) (parts : List PartView) → plan ≡ frame.plan → slots ≡ map Some frame.parts → back ≡ slots → parts ≡ somes back
+    → (let f : FrameView = record { plan = plan; parts = parts } in f) ≡ frame
+back_again frame plan slots back parts same in-is back-is out-is =
+    ap (λ (p : Plan). (let f : FrameView = record { plan = p; parts = parts } in f)) same
+    ∙ ap (λ (l : List PartView). (let f : FrameView = record { plan = frame.plan; parts = l } in f)) (out-is ∙ (ap somes (back-is ∙ in-is) ∙ somes_all frame.parts))
+
+-- the words of the engines from which edges lead are few
+pub few_sources : (frame : FrameView) (plan : Plan) → plan ≡ frame.plan → EdgesFit frame → length frame.parts ≤ 4294967296 → (k : ℕ) (e : Edge) → slice_get plan.edges k ≡ Some e → source_at plan e < 4294967296
+few_sources frame plan same edges few k e there =
+    let within = (edges.sources k e (ap (λ (p : Plan). slice_get p.edges k) (sym same) ∙ there)).within in
+    let is : source_at plan e ≡ source_at frame.plan e = ap (λ (p : Plan). source_at p e) same in
+    omega (arith, within, is, few)

@@ -9,13 +9,16 @@ use Rattle.mg_node.specs.declared.claimed.Claimed.{Claimed}
 use Rattle.mg_node.specs.declared.delivered.Delivered.{Delivered}
 use Rattle.mg_node.specs.Claims.{Claims, IsLawfulWork}
 use Rattle.mg_node.specs.Commits.{Commits}
-use Rattle.mg_node.specs.Shelves.{shelved}
+use Rattle.mg_node.specs.Shelves.{IsOut, shelved}
 use Rattle.mg_node.specs.Advances.{advanced, is_advanced}
 use Rattle.mg_node.specs.Delivery.{Delivers}
 use Rattle.mg_node.specs.Leading.{output_at}
+use Rattle.mg_node.specs.IntakeStanding.{HasGrown}
+use Rattle.mg_node.specs.Ports.{port_queue}
 use Rattle.mg_turns.specs.Parts.{FrameView, an_engine, an_intake, source_at}
 use Rattle.mg_turns.specs.Sights.{Finds, FindsCell, Missed, MissedOne, left_one, left_two, cell_left, has_after}
 use Rattle.mg_turns.specs.Rounds.{Rounds, Stops}
+use Rattle.mg_turns.specs.Told.{committed_in, RunEnds}
 use Rattle.mg_turns.specs.declared.view.View.{View}
 use Rattle.mg_turns.specs.declared.shared.SharedNet.{SharedNet}
 use Rattle.mg_turns.specs.declared.seat.NetSeat.{NetSeat}
@@ -82,6 +85,8 @@ pub record HasRun (done most node : ℕ) (v w : View) : Type 0 where
   pub rounds : Rounds done laid engine engine_then intake intake_then
   pub within : done ≤ most
   pub end : ((done ≡ most) × (engine_now ≡ engine_then) × (intake_now ≡ intake_then)) ⊎ ((done < most) × Stops engine_then engine_now intake_then intake_now)
+  pub committed : committed_in engine_now ≡ committed_in engine + done
+  pub ends : done < most → RunEnds engine_now intake_now
   pub left : w ≡ cell_left v node engine_now intake_now v.work
 
 abbrev pub TriesRun : Tried ℕ → ℕ → ℕ → View → View → Type 0
@@ -95,6 +100,8 @@ pub record HasBrought (result : Delivered) (source : ℕ) (edge : Edge) (v w : V
   pub intake_now : IntakeView
   pub engine_found : Finds v source (an_engine engine)
   pub intake_found : Finds v (2 * edge.node) (an_intake intake)
+  -- no more had come than was laid
+  pub behind : HasGrown (port_queue intake.waits edge.port) (output_at engine edge)
   pub moved : Delivers result (output_at engine edge) edge.port 256 intake.waits intake_now.waits
   pub claimed : intake_now.claimed ≡ intake.claimed
   pub left : w ≡ left_two v source (an_engine engine) (2 * edge.node) (an_intake intake_now) v.work
@@ -111,11 +118,12 @@ pub record HasOutcome (has : Option WorkView) (work : WorkView) : Type 0 where
   pub number : it.number ≡ work.number
   pub phase : it.phase ≡ work.phase
 
--- the seat's work is back in the engine that was found
+-- the seat's work was out of the engine that was found, and is back in it
 pub record HasCommitted (laid : ℕ) (outcome : OutcomeView) (v w : View) : Type 0 where
   pub engine : EngineView
   pub engine_now : EngineView
   pub found : Finds v (2 * outcome.work.node + 1) (an_engine engine)
+  pub out : IsOut engine outcome.work
   pub commits : Commits outcome laid engine engine_now
   pub left : w ≡ left_one v (2 * outcome.work.node + 1) (an_engine engine_now) None
 

@@ -4,3 +4,4 @@ pub mod Plays
 pub mod Running
 pub mod Cells
 pub mod Counts
+pub mod Ways

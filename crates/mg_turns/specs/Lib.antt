@@ -5,6 +5,8 @@ pub mod Sums
 pub mod Rule
 pub mod Sights
 pub mod Rounds
+pub mod Standings
+pub mod Told
 pub mod Calls
 pub mod Ends
 pub mod Code

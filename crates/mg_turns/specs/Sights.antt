@@ -1,5 +1,5 @@
 -- What a seat knows of the words before a call and after it.
-use Rattle.std.specs.Prelude.{◌≡◌, ℕ, ◌+◌, ◌*◌, ◌⊎◌, ◌∷◌, Option, None, Some}
+use Rattle.std.specs.Prelude.{◌≡◌, ℕ, ◌+◌, ◌-◌, ◌*◌, ◌⊎◌, [], ◌∷◌, ◌++◌, Option, None, Some}
 use Rattle.mg_node.specs.Views.{IntakeView, WorkView, EngineView}
 use Rattle.mg_node.specs.Lawful.{Agree}
 use Rattle.mg_node.specs.declared.claimed.Claimed.{Claimed}
@@ -51,3 +51,20 @@ MissedOne only word v w = (word ≡ only) × (w ≡ view v.key v.portion (v.miss
 abbrev pub has_after : {X : Type 0} → Claimed X → Option WorkView → Option WorkView
 has_after (Work w) had = Some w
 has_after _ had = had
+
+-- so much of the portion is handed over
+abbrev pub kept_after : ℕ → View → View
+kept_after n v = view v.key (v.portion - n) v.misses (v.splits + 1) v.missed v.turns v.work v.seen
+
+-- a new seat, to which it is handed: it knows what the other one knows
+abbrev pub handed : ℕ → View → View
+handed n v = view v.key n 0 0 None [] None v.seen
+
+-- the work of one of two seats, of which not both have one
+abbrev pub either_work : Option WorkView → Option WorkView → Option WorkView
+either_work None b = b
+either_work (Some a) b = Some a
+
+-- a seat that takes over what another one has and knows
+abbrev pub joined : View → View → View
+joined v w = view v.key (v.portion + w.portion) v.misses v.splits v.missed v.turns (either_work v.work w.work) (v.seen ++ w.seen)

@@ -29,4 +29,12 @@ impl<C: Calculator> Frame<C> {
     {
         Frame { plan, parts }
     }
+
+    /// The plan and the parts again.
+    pub fn into_parts(self) -> (Plan, Vec<Part<C>>)
+        ensures { self ≡ record { plan = result.0; parts = result.1.items } }
+    {
+        let Frame { plan, parts } = self;
+        (plan, parts)
+    }
 }

@@ -4,6 +4,7 @@
 
 mod frame;
 mod held;
+mod memory;
 mod part;
 mod room;
 mod rule;
@@ -12,6 +13,7 @@ mod seat;
 mod shared;
 mod tried;
 mod view;
+mod way;
 
 pub use frame::Frame;
 pub use part::Part;

@@ -1,4 +1,5 @@
-ghost use Rattle.mg_turns.specs.Code.Plays.{tried, kept_after, handed, joined, spent_view};
+ghost use Rattle.mg_turns.specs.Code.Plays.{tried, spent_view};
+ghost use Rattle.mg_turns.specs.Sights.{kept_after, handed, joined};
 ghost use Rattle.std.specs.Prelude.{◌≡◌, ℕ};
 ghost use Rattle.atomic_table.specs.Table.{rest};
 

@@ -1,12 +1,13 @@
 //! Sets that are worked on while both turns of a node are held.
-ghost use Rattle.std.specs.Prelude.{◌≡◌, MatchBool};
+ghost use Rattle.std.specs.Prelude.{◌≡◌, ◌+◌, ◌<◌, MatchBool, cond, is_some};
 ghost use Rattle.mg_node.specs.Job.{LoggedJob};
 ghost use Rattle.mg_node.specs.Lawful.{AreCell, LawfulWork, LawfulOutcome};
 ghost use Rattle.mg_node.specs.Running.{SomeJobHas};
 ghost use Rattle.mg_node.specs.Shelves.{IsOut, shelved};
 ghost use Rattle.mg_node.specs.Commits.{SomeJobHasEngine};
 ghost use Rattle.mg_turns.specs.Rounds.{Stops};
-ghost use Rattle.mg_turns.specs.Code.Running.{Returned, CellSteps, IsCommitted, IsDone, IsPutBack, SomeRound, Ran};
+ghost use Rattle.mg_turns.specs.Told.{committed_in, RunEnds};
+ghost use Rattle.mg_turns.specs.Code.Running.{Returned, CellSteps, IsCommitted, IsDone, IsPutBack, SomeRound, Ran, NoneCommitted};
 
 use mg_calc::Calculator;
 use mg_edge::Gate;
@@ -19,6 +20,7 @@ fn take_in<C: Calculator>(engine: &mut Engine<C>, outcome: Outcome<C>) -> bool
     requires lawful { SomeJobHasEngine engine.old }
     ensures returned { Returned engine.old engine.new outcome.work.number (λ job. LawfulOutcome job outcome) }
     ensures came { MatchBool result (IsCommitted outcome engine.old engine.new) (engine.new ≡ shelved engine.old outcome) }
+    ensures counts { MatchBool result (committed_in engine.new ≡ committed_in engine.old + cond (is_some outcome.answer) 1 0) (NoneCommitted engine.old engine.new) }
 {
     match engine.commit(outcome) {
         Ok(_) => true,
@@ -41,6 +43,7 @@ fn run_work<C: Calculator, G: Gate>(
     requires lawful { SomeJobHasEngine engine.old }
     ensures returned { Returned engine.old engine.new work.number (λ job. LawfulWork job work) }
     ensures came { MatchBool result (IsDone work engine.old engine.new) (IsPutBack work engine.old engine.new) }
+    ensures counts { MatchBool result (committed_in engine.new ≡ committed_in engine.old + 1) (NoneCommitted engine.old engine.new) }
 {
     match perform(alloc, work, gate) {
         Ok(performed) => take_in(engine, Outcome::ran(performed)),
@@ -61,15 +64,16 @@ fn run_set<C: Calculator, G: Gate>(
     requires { AreCell engine.old intake.old }
     ensures steps { CellSteps engine.old engine.new intake.old intake.new }
     ensures ran { MatchBool result (SomeRound engine.old engine.new intake.old intake.new) (Stops engine.old engine.new intake.old intake.new) }
+    ensures counts { MatchBool result (committed_in engine.new ≡ committed_in engine.old + 1) ((committed_in engine.new ≡ committed_in engine.old) × RunEnds engine.new intake.new) }
 {
     match engine.claim(intake) {
         Claimed::Work(work) => run_work(alloc, engine, work, gate),
         Claimed::Answered => true,
-        Claimed::NotReady
-        | Claimed::InFlightFull
-        | Claimed::Draining
-        | Claimed::Ended
-        | Claimed::OutOfMemory => false,
+        Claimed::NotReady => false,
+        Claimed::InFlightFull => false,
+        Claimed::Draining => false,
+        Claimed::Ended => false,
+        Claimed::OutOfMemory => false,
     }
 }
 
@@ -84,6 +88,8 @@ pub(crate) fn run_sets<C: Calculator, G: Gate>(
     requires { AreCell engine.old intake.old }
     ensures steps { CellSteps engine.old engine.new intake.old intake.new }
     ensures ran { Ran result most engine.old engine.new intake.old intake.new }
+    ensures counts { committed_in engine.new ≡ committed_in engine.old + result }
+    ensures ends { result < most → RunEnds engine.new intake.new }
 {
     for done in 0..most {
         if !run_set(alloc, engine, intake, gate) {

@@ -1,5 +1,7 @@
 ghost use Rattle.std.specs.Prelude.{◌≡◌, ◌<◌, ◌≤◌, ◌+◌, ◌^◌, ◌-◌, ℕ, min, [], IfSome, None};
-ghost use Rattle.mg_turns.specs.Code.Plays.{Idle, kept_after, handed, joined};
+ghost use Rattle.mg_turns.specs.Code.Plays.{Idle};
+ghost use Rattle.mg_turns.specs.Sights.{kept_after, handed, joined};
+ghost use Rattle.mg_turns.specs.Standings.{KnowsToo};
 
 use crate::part::Part;
 use crate::rule::{Amount, Both, Cut};
@@ -75,7 +77,10 @@ impl<C: Calculator> NetSeat<C> {
         requires of { IsSeatOf net.now self.old × IsSeatOf net.now other }
         requires portions { (view_of self.old).portion + (view_of other).portion ≤ 2 ^ 32 }
         requires work { IfSome (view_of other).work (λ _. (view_of self.old).work ≡ None) }
-        ensures { IsSeatOf net.now self.new × (view_of self.new ≡ joined (view_of self.old) (view_of other)) }
+        ensures joined { IsSeatOf net.now self.new × (view_of self.new ≡ joined (view_of self.old) (view_of other)) }
+
+        // It knows what both knew.
+        ensures knows { KnowsToo (view_of self.old) (view_of self.new) × KnowsToo (view_of other) (view_of self.new) }
     {
         let NetSeat {
             seat: from,

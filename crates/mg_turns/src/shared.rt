@@ -1,19 +1,22 @@
-ghost use Rattle.std.specs.Prelude.{◌≡◌, ◌<◌, ◌≤◌, ◌*◌, ◌^◌, IfOk, length, None};
+ghost use Rattle.std.specs.Prelude.{◌≡◌, ◌<◌, ◌≤◌, ◌*◌, ◌^◌, IfOk, IfErr, length, map, None};
 ghost use Rattle.mg_turns.specs.Parts.{nodes_in};
+ghost use Rattle.mg_turns.specs.Code.Ways.{way_of};
 
 mod appending;
 mod claiming;
 mod committing;
 mod turning;
 
+use crate::memory::{Rooms, all_in, all_out};
 use crate::room::Room;
 use crate::rule::{Key, Law};
 use crate::seat::NetSeat;
 use crate::view::View;
+use crate::way::{Way, ways_of};
 use crate::{Frame, Part};
 use atomic_table::{Refused, Table};
 use mg_calc::Calculator;
-use std::alloc::{AllocError, Global};
+use std::alloc::Global;
 use std::snapshot::Snapshot;
 
 /// A net that threads share. Each of its parts has a word, which says whether a seat has the part's turn, and a slot.
@@ -22,11 +25,13 @@ pub struct SharedNet<C: Calculator> {
     pub(crate) table: Table<Option<Part<C>>, View, Key<C>, Law, Global>,
     nodes: u32,
     size: usize,
+    ways: Vec<Way>,
     // For the parts that come back.
     room: Room<Part<C>>,
     ghost roomy: { room.table.shared.key ≡ size },
     ghost sized: { (table.shared.table_id.words ≡ size) × (table.shared.table_id.slots ≡ size) × (size ≤ 2 ^ 32) },
     ghost framed: { (nodes_in table.shared.key.value ≡ nodes) × (length table.shared.key.value.parts ≡ size) × (2 * nodes < size) },
+    ghost led: { ways.items ≡ map (way_of table.shared.key.value.plan) table.shared.key.value.plan.edges },
 }
 
 impl<C: Calculator> SharedNet<C> {
@@ -41,43 +46,55 @@ impl<C: Calculator> SharedNet<C> {
         self.nodes
     }
 
-    /// Shares the parts of a frame. The seat has the whole portion, 2^32.
-    pub fn share(alloc: Global, frame: Frame<C>) -> Result<(SharedNet<C>, NetSeat<C>), AllocError>
+    /// How many edges there are.
+    pub fn edges(&self) -> usize
+        ensures { result ≡ length (key_of self.now).plan.edges }
+    {
+        self.ways.len()
+    }
+
+    /// Shares the parts of a frame. The seat has the whole portion, 2^32. Where there is no memory the frame comes back.
+    pub fn share(alloc: Global, frame: Frame<C>) -> Result<(SharedNet<C>, NetSeat<C>), Frame<C>>
         requires ready { Ready frame }
         requires few { length frame.parts ≤ 2 ^ 32 }
         ensures seat { IfOk result (λ r. IsSeatOf r.0 r.1 × (view_of r.1 ≡ first_view frame)) }
         ensures key { IfOk result (λ r. key_of r.0 ≡ frame) }
+        ensures unchanged { IfErr result (λ f. f ≡ frame) }
     {
         let key = Snapshot::of(&frame);
+        let Ok(rooms) = Rooms::new(alloc, &frame) else {
+            return Err(frame);
+        };
         let Frame { plan, parts } = frame;
+        let Rooms {
+            words,
+            ways,
+            slots,
+            room,
+        } = rooms;
         let nodes = plan.nodes.len();
         let size = parts.len();
-        let mut words = Vec::with_capacity(alloc, size)?;
-        for _ in 0..size {
-            words.push_reserved(0);
+        let slots = all_in(slots, parts);
+        match Table::new(alloc, &words, slots, &key) {
+            Ok((table, seat)) => Ok((
+                SharedNet {
+                    table,
+                    nodes,
+                    size,
+                    ways,
+                    room,
+                },
+                NetSeat {
+                    seat,
+                    portion: 1 << 32,
+                    misses: 0,
+                },
+            )),
+            Err(Refused { slots }) => Err(Frame {
+                plan,
+                parts: all_out(slots, room.open()),
+            }),
         }
-        let mut slots = Vec::with_capacity(alloc, size)?;
-        for part in parts {
-            slots.push(Some(part))?;
-        }
-        let room = Room::new(alloc, size)?;
-        let (table, seat) = match Table::new(alloc, &words, slots, &key) {
-            Ok(made) => made,
-            Err(Refused { slots: _ }) => return Err(AllocError),
-        };
-        Ok((
-            SharedNet {
-                table,
-                nodes,
-                size,
-                room,
-            },
-            NetSeat {
-                seat,
-                portion: 1 << 32,
-                misses: 0,
-            },
-        ))
     }
 
     /// Gives back the parts, each at the place of its word. Every other seat was joined into this one, and it has no work.

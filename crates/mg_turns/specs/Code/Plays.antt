@@ -159,20 +159,6 @@ Holds m word P = (p : PartView) × (m.1 ≡ (word, Some p) ∷ rest m.1) × P p
 abbrev pub HasTurn : View → ℕ → PartView → Type 0
 HasTurn v word p = (t : Turn) × (ts : List Turn) × (v.turns ≡ t ∷ ts) × (t.word ≡ word) × PartGrows t.note p
 
--- n of the portion is handed over
-abbrev pub kept_after : ℕ → View → View
-kept_after n v = view v.key (v.portion - n) v.misses (v.splits + 1) v.missed v.turns v.work v.seen
-
-abbrev pub handed : ℕ → View → View
-handed n v = view v.key n 0 0 None [] None v.seen
-
-abbrev pub either_work : Option WorkView → Option WorkView → Option WorkView
-either_work None b = b
-either_work (Some a) b = Some a
-
-abbrev pub joined : View → View → View
-joined v w = view v.key (v.portion + w.portion) v.misses v.splits v.missed v.turns (either_work v.work w.work) (v.seen ++ w.seen)
-
 abbrev pub spent_view : View
 spent_view = view blank_frame 0 0 0 None [] None []
 

@@ -14,6 +14,7 @@ use Rattle.mg_node.specs.Running.{IsPerformed}
 use Rattle.mg_node.specs.Commits.{Commits}
 use Rattle.mg_turns.specs.Rounds.{Round, Rounds, IsOutcomeOf, Stops}
 use Rattle.mg_turns.specs.Parts.{IsMissingAt}
+use Rattle.mg_turns.specs.Told.{committed_in, StandsBack}
 
 -- a work of a number came back to its engine, laid or as it is; what it was lawful by
 pub record Returned (e f : EngineView) (number : ℕ) (Good : LoggedJob → Type 0) : Type 0 where
@@ -61,3 +62,7 @@ Ran done most e f i k = (m : EngineView) × (l : IntakeView) × (laid : ℕ) × 
 
 abbrev pub IsCommitted : OutcomeView → EngineView → EngineView → Type 0
 IsCommitted outcome e f = (n : ℕ) × Commits outcome n e f
+
+-- a work found no memory: as many are committed as before, and it stands in its window
+abbrev pub NoneCommitted : EngineView → EngineView → Type 0
+NoneCommitted e f = (committed_in f ≡ committed_in e) × StandsBack f

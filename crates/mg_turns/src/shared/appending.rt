@@ -1,14 +1,18 @@
 //! How packets are brought along an edge.
-ghost use Rattle.std.specs.Prelude.{◌≡◌, Some, slice_get};
+ghost use Rattle.std.specs.Prelude.{◌≡◌, ◌<◌, length, Some, slice_get, option_copied};
 ghost use Rattle.mg_turns.specs.Parts.{EdgesFit, FitsSome, source_at};
 ghost use Rattle.mg_turns.specs.Code.Counts.{packets_in};
 ghost use Rattle.mg_turns.specs.Calls.{key_of, view_of, IsSeatOf, TriesAppend};
+ghost use Rattle.mg_turns.specs.Standings.{Keeps};
+ghost use Rattle.mg_turns.specs.Told.{AppendTells};
+ghost use Rattle.mg_calc.specs.declared.edge.Edge.{Edge as EdgeView};
 
 use super::SharedNet;
 use crate::Part;
 use crate::held::{Held, Pair, counted};
 use crate::seat::{NetSeat, one_more};
 use crate::tried::Tried;
+use crate::way::Way;
 use mg_calc::{Calculator, Edge};
 use mg_node::Delivered;
 
@@ -22,10 +26,47 @@ fn packets_of(delivered: Delivered) -> u32
     }
 }
 
+// The way at a place.
+fn way_at(ways: &[Way], place: u32) -> Option<&Way>
+    ensures { option_copied result ≡ slice_get ways.now place }
+{
+    ways.get(place as usize)
+}
+
 impl<C: Calculator> SharedNet<C> {
-    /// Brings at most 256 packets along an edge, and the bound once all are there. The edge comes with its number, and with the word of
-    /// the engine from which it leads.
-    pub fn try_append(
+    /// Brings at most 256 packets along the edge of a number, and its bound once all packets are there.
+    pub fn try_append(&self, seat: &mut NetSeat<C>, number: u32) -> Tried<Delivered>
+        requires of { IsSeatOf self.now seat.old }
+        requires some { FitsSome (key_of self.now) }
+        requires edges { EdgesFit (key_of self.now) }
+        requires edge { number < length (key_of self.now).plan.edges }
+        ensures of { IsSeatOf self.now seat.new }
+        ensures tried { (e : EdgeView) → slice_get (key_of self.now).plan.edges number ≡ Some e → TriesAppend result (key_of self.now).plan e (view_of seat.old) (view_of seat.new) }
+        ensures keeps { Keeps (view_of seat.old) (view_of seat.new) }
+        ensures work { (view_of seat.new).work ≡ (view_of seat.old).work }
+
+        // What the answer says by all that the seat knows.
+        ensures tells { (e : EdgeView) → slice_get (key_of self.now).plan.edges number ≡ Some e → AppendTells result (key_of self.now) e (view_of seat.old) (view_of seat.new) }
+    {
+        let way = self.way(number);
+        let tried = self.append_at(seat, number, way.edge, way.source);
+        tried
+    }
+
+    // The edge of a number, with the word of its engine.
+    fn way(&self, number: u32) -> Way
+        requires { number < length (key_of self.now).plan.edges }
+        ensures edge { slice_get (key_of self.now).plan.edges number ≡ Some result.edge }
+        ensures source { result.source ≡ source_at (key_of self.now).plan result.edge }
+    {
+        match way_at(&self.ways, number) {
+            Some(way) => *way,
+            None => unreachable!(),
+        }
+    }
+
+    // Brings packets along an edge, which comes with its number and the word of the engine from which it leads.
+    fn append_at(
         &self,
         seat: &mut NetSeat<C>,
         number: u32,

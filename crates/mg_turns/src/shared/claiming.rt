@@ -3,6 +3,8 @@ ghost use Rattle.std.specs.Prelude.{◌≡◌, ◌<◌, ◌+◌, ◌*◌, None, 
 ghost use Rattle.mg_node.specs.Job.{LoggedJob};
 ghost use Rattle.mg_turns.specs.Parts.{nodes_in, Fits, FitsSome};
 ghost use Rattle.mg_turns.specs.Calls.{key_of, view_of, IsSeatOf, TriesClaim, TriesRaise, TriesRun, IsLawfulTry};
+ghost use Rattle.mg_turns.specs.Standings.{Keeps};
+ghost use Rattle.mg_turns.specs.Told.{ClaimTells, RaiseTells, RunTells};
 ghost use Rattle.mg_turns.specs.Code.Plays.{MissedPair};
 ghost use Rattle.mg_turns.specs.Code.Cells.{TakesCell};
 
@@ -38,8 +40,70 @@ impl<C: Calculator> SharedNet<C> {
         requires free { (view_of seat.old).work ≡ None }
         ensures of { IsSeatOf self.now seat.new }
         ensures tried { TriesClaim result node (view_of seat.old) (view_of seat.new) }
+        ensures keeps { Keeps (view_of seat.old) (view_of seat.new) }
+
+        // What the answer says by all that the seat knows.
+        ensures tells { ClaimTells result node (view_of seat.old) (view_of seat.new) }
 
         // A work that is handed out is lawful, for every job.
+        ensures lawful { (job : LoggedJob) → Fits job (key_of self.now) → IsLawfulTry job result }
+    {
+        let tried = self.claim_cell(seat, node);
+        tried
+    }
+
+    /// Raises the bounds of a node's outputs as far as what waits tells, and answers whether that moved one of them.
+    pub fn try_raise(&self, seat: &mut NetSeat<C>, node: u32) -> Tried<bool>
+        requires of { IsSeatOf self.now seat.old }
+        requires node { node < nodes_in (key_of self.now) }
+        requires some { FitsSome (key_of self.now) }
+        ensures of { IsSeatOf self.now seat.new }
+        ensures tried { TriesRaise result node (view_of seat.old) (view_of seat.new) }
+        ensures keeps { Keeps (view_of seat.old) (view_of seat.new) }
+        ensures work { (view_of seat.new).work ≡ (view_of seat.old).work }
+
+        // What the answer says by all that the seat knows.
+        ensures tells { RaiseTells result node (view_of seat.old) (view_of seat.new) }
+    {
+        let tried = self.raise_cell(seat, node);
+        tried
+    }
+
+    /// Claims, performs and commits at most so many works of a node, one after the other, while it holds both of the node's turns, and
+    /// answers how many. An answer of a loopback counts as one, and so does Close. What is committed behind a work that another seat
+    /// has is laid once that one is back. A work that finds no memory is put back into its window, and the call ends there.
+    pub fn try_run<G: Gate>(
+        &self,
+        alloc: Global,
+        seat: &mut NetSeat<C>,
+        node: u32,
+        most: u32,
+        gate: &G,
+    ) -> Tried<u32>
+        requires of { IsSeatOf self.now seat.old }
+        requires node { node < nodes_in (key_of self.now) }
+        requires some { FitsSome (key_of self.now) }
+        requires free { (view_of seat.old).work ≡ None }
+        ensures of { IsSeatOf self.now seat.new }
+        ensures tried { TriesRun result most node (view_of seat.old) (view_of seat.new) }
+        ensures keeps { Keeps (view_of seat.old) (view_of seat.new) }
+        ensures work { (view_of seat.new).work ≡ (view_of seat.old).work }
+
+        // What the answer says by all that the seat knows.
+        ensures tells { RunTells result most node (view_of seat.old) (view_of seat.new) }
+    {
+        let tried = self.run_cell(alloc, seat, node, most, gate);
+        tried
+    }
+
+    // Claims with both turns of the node.
+    fn claim_cell(&self, seat: &mut NetSeat<C>, node: u32) -> Tried<Claimed<C>>
+        requires of { IsSeatOf self.now seat.old }
+        requires node { node < nodes_in (key_of self.now) }
+        requires some { FitsSome (key_of self.now) }
+        requires free { (view_of seat.old).work ≡ None }
+        ensures of { IsSeatOf self.now seat.new }
+        ensures tried { TriesClaim result node (view_of seat.old) (view_of seat.new) }
         ensures lawful { (job : LoggedJob) → Fits job (key_of self.now) → IsLawfulTry job result }
     {
         let mut cell = match self.take_cell(&mut seat.seat, node) {
@@ -54,8 +118,8 @@ impl<C: Calculator> SharedNet<C> {
         Tried::Done(claimed)
     }
 
-    /// Raises the bounds of a node's outputs as far as what waits tells, and answers whether that moved one of them.
-    pub fn try_raise(&self, seat: &mut NetSeat<C>, node: u32) -> Tried<bool>
+    // Raises with both turns of the node.
+    fn raise_cell(&self, seat: &mut NetSeat<C>, node: u32) -> Tried<bool>
         requires of { IsSeatOf self.now seat.old }
         requires node { node < nodes_in (key_of self.now) }
         requires some { FitsSome (key_of self.now) }
@@ -74,10 +138,8 @@ impl<C: Calculator> SharedNet<C> {
         Tried::Done(moved)
     }
 
-    /// Claims, performs and commits at most so many works of a node, one after the other, while it holds both of the node's turns, and
-    /// answers how many. An answer of a loopback counts as one. A work that finds no memory is put back into its window, and the call
-    /// ends there.
-    pub fn try_run<G: Gate>(
+    // Works with both turns of the node.
+    fn run_cell<G: Gate>(
         &self,
         alloc: Global,
         seat: &mut NetSeat<C>,

@@ -4,6 +4,8 @@ ghost use Rattle.mg_node.specs.Job.{LoggedJob};
 ghost use Rattle.mg_node.specs.Lawful.{LawfulOutcome};
 ghost use Rattle.mg_turns.specs.Parts.{nodes_in, Fits, FitsSome};
 ghost use Rattle.mg_turns.specs.Calls.{key_of, view_of, IsSeatOf, HasOutcome, TriesCommit, TriesShelve};
+ghost use Rattle.mg_turns.specs.Standings.{Keeps};
+ghost use Rattle.mg_turns.specs.Told.{CommitTells};
 
 use super::SharedNet;
 use crate::Part;
@@ -16,6 +18,38 @@ use mg_node::Outcome;
 impl<C: Calculator> SharedNet<C> {
     /// Commits the work that the seat has. What is ready at the front of its window is laid.
     pub fn try_commit(&self, seat: &mut NetSeat<C>, outcome: Outcome<C>) -> TriedCommit<C>
+        requires of { IsSeatOf self.now seat.old }
+        requires some { FitsSome (key_of self.now) }
+        requires has { HasOutcome (view_of seat.old).work outcome.work }
+        requires node { outcome.work.node < nodes_in (key_of self.now) }
+        requires lawful { (job : LoggedJob) → Fits job (key_of self.now) → LawfulOutcome job outcome }
+        ensures of { IsSeatOf self.now seat.new }
+        ensures tried { TriesCommit result outcome (view_of seat.old) (view_of seat.new) }
+        ensures keeps { Keeps (view_of seat.old) (view_of seat.new) }
+
+        // What the answer says by all that the seat knows.
+        ensures tells { CommitTells result outcome (view_of seat.old) (view_of seat.new) }
+    {
+        let tried = self.commit_at(seat, outcome);
+        tried
+    }
+
+    /// Puts the work that the seat has back into its window as it is.
+    pub fn try_shelve(&self, seat: &mut NetSeat<C>, outcome: Outcome<C>) -> TriedShelf<C>
+        requires of { IsSeatOf self.now seat.old }
+        requires has { HasOutcome (view_of seat.old).work outcome.work }
+        requires node { outcome.work.node < nodes_in (key_of self.now) }
+        requires lawful { (job : LoggedJob) → Fits job (key_of self.now) → LawfulOutcome job outcome }
+        ensures of { IsSeatOf self.now seat.new }
+        ensures tried { TriesShelve result outcome (view_of seat.old) (view_of seat.new) }
+        ensures keeps { Keeps (view_of seat.old) (view_of seat.new) }
+    {
+        let tried = self.shelve_at(seat, outcome);
+        tried
+    }
+
+    // Commits with the turn of the engine.
+    fn commit_at(&self, seat: &mut NetSeat<C>, outcome: Outcome<C>) -> TriedCommit<C>
         requires of { IsSeatOf self.now seat.old }
         requires some { FitsSome (key_of self.now) }
         requires has { HasOutcome (view_of seat.old).work outcome.work }
@@ -50,8 +84,8 @@ impl<C: Calculator> SharedNet<C> {
         }
     }
 
-    /// Puts the work that the seat has back into its window as it is.
-    pub fn try_shelve(&self, seat: &mut NetSeat<C>, outcome: Outcome<C>) -> TriedShelf<C>
+    // Shelves with the turn of the engine.
+    fn shelve_at(&self, seat: &mut NetSeat<C>, outcome: Outcome<C>) -> TriedShelf<C>
         requires of { IsSeatOf self.now seat.old }
         requires has { HasOutcome (view_of seat.old).work outcome.work }
         requires node { outcome.work.node < nodes_in (key_of self.now) }
@@ -66,11 +100,11 @@ impl<C: Calculator> SharedNet<C> {
         };
         let mut engine = held.part.into_engine();
         engine.shelve(outcome);
-        let held = Held {
+        let back = Held {
             part: Part::of_engine(engine),
             word: held.word,
         };
-        self.give_laid(&mut seat.seat, word, held);
+        self.give_laid(&mut seat.seat, word, back);
         TriedShelf::Shelved
     }
 }

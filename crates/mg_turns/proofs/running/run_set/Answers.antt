@@ -1,4 +1,5 @@
-use Rattle.std.proofs.Common.{refl, inr}
+use Rattle.std.proofs.Common.{ℕ, ◌+◌, ap, ◌∙◌, refl, inr}
+use Rattle.mg_turns.proofs.Committed.{work_counts, answer_counts, not_ready_ends, full_ends, draining_ends, ended_ends, no_memory_ends}
 use Rattle.mg_node.specs.declared.claimed.Claimed.TheVariants.{Answered}
 use Rattle.mg_turns.proofs.Rounds.{work_steps, claim_steps, ran_by, done_round, back_stops}
 use Rattle.mg_turns.proofs.running.run_set.Goals as goal
@@ -23,3 +24,27 @@ returns-in-Answered-clause-steps g c =
 
 pub returns-in-Answered-clause-ran : goal.returns-in-Answered-clause-ran
 returns-in-Answered-clause-ran g c = (1, inr (refl, c.in-Answered.ensures.claims))
+
+pub returns-in-Work-clause-counts : goal.returns-in-Work-clause-counts
+returns-in-Work-clause-counts g c =
+    let l = c.in-Work.ensures in
+    let same = work_counts g.row.C.Denot c.requires.job c.requires.number c.in-Work.work c.args.engine.now c.claim.new.self c.args.intake.now c.claim.new.intake c.requires.lawful_engine l.claims in
+    ran_by c.run_work.result (λ h. h ∙ ap (λ (n : ℕ). n + 1) same) (λ h. (h.0 ∙ same, inr h.1)) c.run_work.ensures.counts
+
+pub returns-in-Answered-clause-counts : goal.returns-in-Answered-clause-counts
+returns-in-Answered-clause-counts g c = answer_counts g.row.C.Denot c.args.engine.now c.claim.new.self c.args.intake.now c.claim.new.intake c.in-Answered.ensures.claims
+
+pub returns-in-NotReady-clause-counts : goal.returns-in-NotReady-clause-counts
+returns-in-NotReady-clause-counts g c = not_ready_ends g.row.C.Denot c.args.engine.now c.claim.new.self c.args.intake.now c.claim.new.intake c.in-NotReady.ensures.claims
+
+pub returns-in-InFlightFull-clause-counts : goal.returns-in-InFlightFull-clause-counts
+returns-in-InFlightFull-clause-counts g c = full_ends g.row.C.Denot c.args.engine.now c.claim.new.self c.args.intake.now c.claim.new.intake c.in-InFlightFull.ensures.claims
+
+pub returns-in-Draining-clause-counts : goal.returns-in-Draining-clause-counts
+returns-in-Draining-clause-counts g c = draining_ends g.row.C.Denot c.args.engine.now c.claim.new.self c.args.intake.now c.claim.new.intake c.in-Draining.ensures.claims
+
+pub returns-in-Ended-clause-counts : goal.returns-in-Ended-clause-counts
+returns-in-Ended-clause-counts g c = ended_ends g.row.C.Denot c.args.engine.now c.claim.new.self c.args.intake.now c.claim.new.intake c.in-Ended.ensures.claims
+
+pub returns-in-OutOfMemory-clause-counts : goal.returns-in-OutOfMemory-clause-counts
+returns-in-OutOfMemory-clause-counts g c = no_memory_ends g.row.C.Denot c.args.engine.now c.claim.new.self c.args.intake.now c.claim.new.intake c.in-OutOfMemory.ensures.claims

@@ -1,21 +1,12 @@
-use Rattle.mg_turns.specs.Calls.{key_of}
-use Rattle.mg_turns.proofs.Giving.{taken_cell, run_gives}
+use Rattle.mg_turns.proofs.Keeping.{run_keeps, run_work}
+use Rattle.mg_turns.proofs.Telling.{run_tells}
 use Rattle.mg_turns.proofs.shared.SharedNet.try_run.Goals as goal
 
-pub run_sets-done-requires : goal.run_sets-done-requires
-run_sets-done-requires g c = rw (c.deref_mut.ensures.value, c.deref_mut-2.ensures.value) (taken_cell (key_of c.args.self.now) c.args.seat.now.seat.me c.args.node c.in-Ok.cell.engine.value c.in-Ok.cell.engine_word c.in-Ok.cell.laid c.in-Ok.cell.intake.value c.in-Ok.cell.intake_word c.take_cell.new.seat.me c.requires.of.1 c.args.seat.now.idle.1 c.in-Ok.ensures.taken c.requires.some)
+pub returns-clause-keeps : goal.returns-clause-keeps
+returns-clause-keeps g c = (let t = c.run_cell-tried in run_keeps t.result c.args.most c.args.node c.args.seat.now.seat.me.0 t.new.seat.seat.me.0 t.ensures.tried)
 
-pub give_cell-requires-clause-words : goal.give_cell-requires-clause-words
-give_cell-requires-clause-words g c =
-    let l = c.run_sets-done.ensures in let e = c.deref_mut.ensures.value in let i = c.deref_mut-2.ensures.value in
-    (run_gives (key_of c.args.self.now) c.args.seat.now.seat.me c.args.node c.in-Ok.cell.engine.value c.in-Ok.cell.engine_word c.in-Ok.cell.laid c.in-Ok.cell.intake.value c.in-Ok.cell.intake_word c.take_cell.new.seat.me c.requires.of.1 c.args.seat.now.idle.1 c.in-Ok.ensures.taken c.requires.some {X = g.row.C.Denot} c.run_sets-done.new.engine c.run_sets-done.new.intake (rw (e, i) at l.steps)).words
+pub returns-clause-tells : goal.returns-clause-tells
+returns-clause-tells g c = (let t = c.run_cell-tried in run_tells t.result c.args.most c.args.node c.args.seat.now.seat.me.0 t.new.seat.seat.me.0 t.ensures.tried)
 
-pub give_cell-requires-clause-gives : goal.give_cell-requires-clause-gives
-give_cell-requires-clause-gives g c =
-    let l = c.run_sets-done.ensures in let e = c.deref_mut.ensures.value in let i = c.deref_mut-2.ensures.value in
-    (run_gives (key_of c.args.self.now) c.args.seat.now.seat.me c.args.node c.in-Ok.cell.engine.value c.in-Ok.cell.engine_word c.in-Ok.cell.laid c.in-Ok.cell.intake.value c.in-Ok.cell.intake_word c.take_cell.new.seat.me c.requires.of.1 c.args.seat.now.idle.1 c.in-Ok.ensures.taken c.requires.some {X = g.row.C.Denot} c.run_sets-done.new.engine c.run_sets-done.new.intake (rw (e, i) at l.steps)).gives
-
-pub give_cell-requires-clause-follows : goal.give_cell-requires-clause-follows
-give_cell-requires-clause-follows g c =
-    let l = c.run_sets-done.ensures in let e = c.deref_mut.ensures.value in let i = c.deref_mut-2.ensures.value in
-    (run_gives (key_of c.args.self.now) c.args.seat.now.seat.me c.args.node c.in-Ok.cell.engine.value c.in-Ok.cell.engine_word c.in-Ok.cell.laid c.in-Ok.cell.intake.value c.in-Ok.cell.intake_word c.take_cell.new.seat.me c.requires.of.1 c.args.seat.now.idle.1 c.in-Ok.ensures.taken c.requires.some {X = g.row.C.Denot} c.run_sets-done.new.engine c.run_sets-done.new.intake (rw (e, i) at l.steps)).follows
+pub returns-clause-work : goal.returns-clause-work
+returns-clause-work g c = (let t = c.run_cell-tried in run_work t.result c.args.most c.args.node c.args.seat.now.seat.me.0 t.new.seat.seat.me.0 t.ensures.tried)

@@ -1,0 +1,87 @@
+//! The memory that a table of parts takes, and how the parts go in and come out again.
+ghost use Rattle.std.specs.Prelude.{◌≡◌, ◌≤◌, ◌^◌, [], length, map, replicate, zero, vec_capacity, IfOk, Some};
+ghost use Rattle.mg_turns.specs.Rule.{Ready};
+ghost use Rattle.mg_turns.specs.Code.Stored.{somes};
+ghost use Rattle.mg_turns.specs.Code.Ways.{way_of};
+
+use crate::room::Room;
+use crate::way::{Way, ways_of};
+use crate::{Frame, Part};
+use mg_calc::Calculator;
+use std::alloc::{AllocError, Global};
+
+/// The memory for a table, taken before a part is moved.
+#[derive(Drop)]
+pub(crate) struct Rooms<C: Calculator> {
+    pub words: Vec<u64>,
+    pub ways: Vec<Way>,
+    pub slots: Vec<Option<Part<C>>>,
+    // For the parts that come back.
+    pub room: Room<Part<C>>,
+}
+
+// So many words of parts to which nothing came.
+fn free_words(alloc: Global, size: usize) -> Result<Vec<u64>, AllocError>
+    ensures { IfOk result (λ w. w.items ≡ replicate size zero) }
+{
+    let mut words = Vec::with_capacity(alloc, size)?;
+    for _ in 0..size {
+        words.push_reserved(0);
+    }
+    Ok(words)
+}
+
+impl<C: Calculator> Rooms<C> {
+    /// The memory for the parts of a frame.
+    pub fn new(alloc: Global, frame: &Frame<C>) -> Result<Rooms<C>, AllocError>
+        requires ready { Ready frame.now }
+        requires few { length frame.now.parts ≤ 2 ^ 32 }
+        ensures words { IfOk result (λ r. r.words.items ≡ replicate (length frame.now.parts) zero) }
+        ensures ways { IfOk result (λ r. r.ways.items ≡ map (way_of frame.now.plan) frame.now.plan.edges) }
+        ensures slots { IfOk result (λ r. (r.slots.items ≡ []) × (length frame.now.parts ≤ vec_capacity r.slots)) }
+        ensures room { IfOk result (λ r. r.room.table.shared.key ≡ length frame.now.parts) }
+    {
+        let size = frame.parts.len();
+        let words = free_words(alloc, size)?;
+        let ways = ways_of(alloc, &frame.plan)?;
+        let slots = Vec::with_capacity(alloc, size)?;
+        let room = Room::new(alloc, size)?;
+        Ok(Rooms {
+            words,
+            ways,
+            slots,
+            room,
+        })
+    }
+}
+
+/// Moves parts into slots, for which there is room.
+pub(crate) fn all_in<C: Calculator>(
+    slots: Vec<Option<Part<C>>>,
+    parts: Vec<Part<C>>,
+) -> Vec<Option<Part<C>>>
+    requires { (slots.items ≡ []) × (length parts.items ≤ vec_capacity slots) }
+    ensures { result.items ≡ map Some parts.items }
+{
+    let mut slots = slots;
+    for part in parts {
+        slots.push_reserved(Some(part));
+    }
+    slots
+}
+
+/// Moves the parts out of slots, for which there is room.
+pub(crate) fn all_out<C: Calculator>(
+    slots: Vec<Option<Part<C>>>,
+    parts: Vec<Part<C>>,
+) -> Vec<Part<C>>
+    requires { (length parts.items ≡ 0) × (length slots.items ≤ vec_capacity parts) }
+    ensures { result.items ≡ somes slots.items }
+{
+    let mut parts = parts;
+    for slot in slots {
+        let Some(part) = slot else { continue };
+        parts.push_reserved(part);
+    }
+    parts
+}
