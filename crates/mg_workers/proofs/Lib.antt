@@ -1,0 +1,4 @@
+mod Places
+mod Weaves
+mod Frames
+mod Returning

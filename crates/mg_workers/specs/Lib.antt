@@ -1,0 +1,4 @@
+pub mod Woven
+pub mod Shared
+pub mod Became
+pub mod Code

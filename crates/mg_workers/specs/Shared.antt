@@ -1,0 +1,40 @@
+-- A net that is shared, its seats, and what is kept aside meanwhile.
+use Rattle.std.specs.Prelude.{◌≡◌, None, refl}
+use Rattle.std.specs.Coded.{Coded, code_by, coded×}
+use Rattle.mg_calc.specs.declared.plan.Plan.{Plan}
+use Rattle.mg_calc.specs.declared.calculator.Calculator.{Ghosts}
+use Rattle.mg_calc.specs.ToldCodes.{plan_code}
+use Rattle.mg_node.specs.Job.{LoggedJob}
+use Rattle.mg_sched.specs.Views.{NetView}
+use Rattle.mg_sched.specs.StandsFor.{StandsFor}
+use Rattle.mg_sched.specs.ComesApart.{RestView, PartsView, HasComeApart, ArePartsOf}
+use Rattle.mg_sched.specs.Codes.{rest_code}
+use Rattle.mg_turns.specs.Parts.{FrameView, FitsSome, EdgesFit}
+use Rattle.mg_turns.specs.Calls.{key_of, view_of, IsSeatOf}
+use Rattle.mg_turns.specs.declared.shared.SharedNet.{SharedNet}
+use Rattle.mg_turns.specs.declared.seat.NetSeat.{NetSeat}
+use Rattle.mg_workers.specs.Woven.{frame_of}
+
+-- a seat is of a net whose parts are those of some job, and it has no work
+pub record IsShared {X : Type 0} {g : Ghosts X} (net : SharedNet X) (seat : NetSeat X g) : Type 0 where
+  pub of : IsSeatOf net seat
+  pub some : FitsSome (key_of net)
+  pub edges : EdgesFit (key_of net)
+  pub free : (view_of seat).work ≡ None
+
+-- what is kept aside: the plan, and what stays of the net
+pub record KeptView : Type 0 where
+  pub plan : Plan
+  pub rest : RestView
+
+abbrev pub kept_code : Coded KeptView
+kept_code = code_by (Plan × RestView) (coded× plan_code rest_code) (λ k. (k.plan, k.rest)) (λ p. record { plan = p.0; rest = p.1 }) (λ _. refl)
+
+-- these parts were shared, and of these this is kept: a net came apart into them, and for each job for which it stood they are the parts
+-- of one net
+pub record IsSharedOf (before : NetView) (key : FrameView) (kept : KeptView) : Type 0 where
+  pub parts : PartsView
+  pub apart : HasComeApart before parts
+  pub of : (job : LoggedJob) → StandsFor job before → ArePartsOf job parts
+  pub shared : key ≡ frame_of parts
+  pub stays : kept ≡ record { plan = parts.plan; rest = parts.rest }

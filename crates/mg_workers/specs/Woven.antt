@@ -1,0 +1,21 @@
+-- The parts of a net in the order of their words: of each node its intake and its engine, then the collector's intake, and then the
+-- engines of the graph inputs.
+use Rattle.std.specs.Prelude.{ℕ, zero, suc, List, [], ◌∷◌, ◌++◌, map, length}
+use Rattle.mg_node.specs.Views.{IntakeView, EngineView}
+use Rattle.mg_calc.specs.declared.plan.Plan.{Plan}
+use Rattle.mg_sched.specs.ComesApart.{PartsView}
+use Rattle.mg_turns.specs.Parts.{PartView, FrameView, an_engine, an_intake}
+
+-- so many nodes, the engines in the order of a net's, and the intakes
+abbrev pub woven : ℕ → List EngineView → List IntakeView → List PartView
+woven zero es is = map an_intake is ++ map an_engine es
+woven (suc n) [] is = map an_intake is
+woven (suc n) (e ∷ es) [] = map an_engine (e ∷ es)
+woven (suc n) (e ∷ es) (i ∷ is) = an_intake i ∷ an_engine e ∷ woven n es is
+
+-- the frame of a plan and the parts of its net
+abbrev pub frame_by : Plan → List EngineView → List IntakeView → FrameView
+frame_by plan es is = record { plan = plan; parts = woven (length plan.nodes) es is }
+
+abbrev pub frame_of : PartsView → FrameView
+frame_of parts = frame_by parts.plan parts.engines parts.intakes

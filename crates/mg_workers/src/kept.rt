@@ -1,0 +1,29 @@
+use mg_calc::Calculator;
+use mg_node::{Engine, Intake};
+use mg_sched::{IndexedPlan, NetRest};
+use std::marker::Model;
+
+/// What stays aside while a net is shared: its plan, what stays of it, and the emptied lists of its parts, in which there is room for
+/// them again.
+#[derive(Drop)]
+pub struct Kept<C: Calculator> {
+    pub(crate) plan: IndexedPlan,
+    pub(crate) engines: Vec<Engine<C>>,
+    pub(crate) intakes: Vec<Intake>,
+    pub(crate) rest: NetRest<C>,
+}
+
+impl<C: Calculator> Model for Kept<C> {
+    ghost use Rattle.std.specs.Prelude.{◌≡◌, ◌+◌, ◌≤◌, [], length, vec_capacity};
+    ghost use Rattle.mg_workers.specs.Shared.{KeptView, kept_code};
+
+    ghost Value = { KeptView };
+
+    ghost coded = { kept_code };
+
+    ghost view = { λ k. record { plan = k.plan; rest = k.rest } };
+
+    ghost invariant = { λ k. (k.engines.items ≡ []) × (k.intakes.items ≡ [])
+        × (length k.plan.nodes + length k.plan.inputs ≤ vec_capacity k.engines)
+        × (length k.plan.nodes + 1 ≤ vec_capacity k.intakes) };
+}

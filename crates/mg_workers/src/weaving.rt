@@ -1,0 +1,137 @@
+//! How the engines and the intakes of a net become parts in the order of their words, each in a box of its own.
+ghost use Rattle.std.specs.Prelude.{◌≡◌, ◌+◌, ◌*◌, ◌<◌, ◌≤◌, ◌++◌, ◌∷◌, ℕ, true, false, List, [], length, reverse, vec_len, vec_capacity};
+ghost use Rattle.mg_node.specs.Views.{IntakeView, EngineView};
+ghost use Rattle.mg_turns.specs.Parts.{an_engine, an_intake};
+ghost use Rattle.mg_workers.specs.Woven.{woven};
+ghost use Rattle.mg_workers.specs.Code.Weaving.{IsOf};
+
+use mg_calc::Calculator;
+use mg_node::{Engine, Intake};
+use mg_turns::Part;
+use std::alloc::Global;
+
+// The last intake of a list becomes the last part. Where there is no memory for that nothing changes.
+fn put_intake<C: Calculator>(
+    alloc: Global,
+    intakes: &mut Vec<Intake>,
+    parts: &mut Vec<Part<C>>,
+) -> bool
+    requires there { 0 < vec_len intakes.old }
+    requires room { vec_len parts.old + 1 ≤ vec_capacity parts.old }
+    ensures put { result ≡ true → (i : IntakeView) × (intakes.old.items ≡ intakes.new.items ++ i ∷ []) × (parts.new.items ≡ parts.old.items ++ an_intake i ∷ []) }
+    ensures unchanged { result ≡ false → (intakes.new.items ≡ intakes.old.items) × (parts.new.items ≡ parts.old.items) }
+    ensures room { (vec_capacity intakes.new ≡ vec_capacity intakes.old) × (vec_capacity parts.new ≡ vec_capacity parts.old) }
+{
+    let Some(intake) = intakes.pop() else {
+        unreachable!()
+    };
+    match Box::new(alloc, intake) {
+        Ok(intake) => {
+            parts.push_reserved(Part::of_intake(intake));
+            true
+        }
+        Err(failed) => {
+            intakes.push_reserved(failed.value);
+            false
+        }
+    }
+}
+
+// The last engine of a list becomes the last part. Where there is no memory for that nothing changes.
+fn put_engine<C: Calculator>(
+    alloc: Global,
+    engines: &mut Vec<Engine<C>>,
+    parts: &mut Vec<Part<C>>,
+) -> bool
+    requires there { 0 < vec_len engines.old }
+    requires room { vec_len parts.old + 1 ≤ vec_capacity parts.old }
+    ensures put { result ≡ true → (e : EngineView) × (engines.old.items ≡ engines.new.items ++ e ∷ []) × (parts.new.items ≡ parts.old.items ++ an_engine e ∷ []) }
+    ensures unchanged { result ≡ false → (engines.new.items ≡ engines.old.items) × (parts.new.items ≡ parts.old.items) }
+    ensures room { (vec_capacity engines.new ≡ vec_capacity engines.old) × (vec_capacity parts.new ≡ vec_capacity parts.old) }
+{
+    let Some(engine) = engines.pop() else {
+        unreachable!()
+    };
+    match Box::new(alloc, engine) {
+        Ok(engine) => {
+            parts.push_reserved(Part::of_engine(engine));
+            true
+        }
+        Err(failed) => {
+            engines.push_reserved(failed.value);
+            false
+        }
+    }
+}
+
+// Weaves the parts of the nodes, of each its intake and its engine. The lists have the last ones first.
+fn weave_nodes<C: Calculator>(
+    alloc: Global,
+    nodes: u32,
+    engines: &mut Vec<Engine<C>>,
+    intakes: &mut Vec<Intake>,
+    parts: &mut Vec<Part<C>>,
+) -> bool
+    requires counts { (nodes ≤ vec_len engines.old) × (nodes ≤ vec_len intakes.old) }
+    requires room { (parts.old.items ≡ []) × (2 * nodes ≤ vec_capacity parts.old) }
+    ensures of { IsOf nodes (reverse engines.old.items) (reverse intakes.old.items) parts.new.items engines.new.items intakes.new.items }
+    ensures counts { result ≡ true → (length parts.new.items ≡ 2 * nodes) × (length engines.new.items + nodes ≡ length engines.old.items) × (length intakes.new.items + nodes ≡ length intakes.old.items) }
+    ensures room { (vec_capacity engines.new ≡ vec_capacity engines.old) × (vec_capacity intakes.new ≡ vec_capacity intakes.old) × (vec_capacity parts.new ≡ vec_capacity parts.old) }
+{
+    for _ in 0..nodes {
+        if !put_intake(alloc, intakes, parts) {
+            return false;
+        }
+        if !put_engine(alloc, engines, parts) {
+            return false;
+        }
+    }
+    true
+}
+
+// Weaves the parts of the graph inputs, behind all others.
+fn weave_inputs<C: Calculator>(
+    alloc: Global,
+    engines: &mut Vec<Engine<C>>,
+    parts: &mut Vec<Part<C>>,
+) -> bool
+    requires room { vec_len parts.old + vec_len engines.old ≤ vec_capacity parts.old }
+    ensures of { (nodes : ℕ) (es : List EngineView) (is intakes : List IntakeView) → 2 * nodes < length parts.old.items → IsOf nodes es is parts.old.items engines.old.items intakes
+        → IsOf nodes es is parts.new.items engines.new.items intakes }
+    ensures all { result ≡ true → engines.new.items ≡ [] }
+    ensures more { length parts.old.items ≤ length parts.new.items }
+    ensures room { (vec_capacity engines.new ≡ vec_capacity engines.old) × (vec_capacity parts.new ≡ vec_capacity parts.old) }
+{
+    while !engines.is_empty() {
+        if !put_engine(alloc, engines, parts) {
+            return false;
+        }
+    }
+    true
+}
+
+/// The engines and the intakes of a net become parts in the order of their words, and their lists are emptied. Where there is no memory
+/// for one, those before it are parts, and the others lie in their lists, the last ones first.
+pub(crate) fn weave<C: Calculator>(
+    alloc: Global,
+    nodes: u32,
+    engines: &mut Vec<Engine<C>>,
+    intakes: &mut Vec<Intake>,
+    parts: &mut Vec<Part<C>>,
+) -> bool
+    requires counts { (nodes ≤ vec_len engines.old) × (vec_len intakes.old ≡ nodes + 1) }
+    requires room { (parts.old.items ≡ []) × (vec_len engines.old + vec_len intakes.old ≤ vec_capacity parts.old) }
+    ensures of { IsOf nodes engines.old.items intakes.old.items parts.new.items engines.new.items intakes.new.items }
+    ensures woven { result ≡ true → (parts.new.items ≡ woven nodes engines.old.items intakes.old.items) × (engines.new.items ≡ []) × (intakes.new.items ≡ []) }
+    ensures room { (vec_capacity engines.new ≡ vec_capacity engines.old) × (vec_capacity intakes.new ≡ vec_capacity intakes.old) }
+{
+    engines.reverse();
+    intakes.reverse();
+    if !weave_nodes(alloc, nodes, engines, intakes, parts) {
+        return false;
+    }
+    if !put_intake(alloc, intakes, parts) {
+        return false;
+    }
+    weave_inputs(alloc, engines, parts)
+}
