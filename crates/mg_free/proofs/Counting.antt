@@ -1,5 +1,5 @@
 -- How many packets a free node lays, and how many of them are in flight.
-use Rattle.std.proofs.Common.{◌≡◌, ℕ, zero, suc, ◌+◌, ◌-◌, ◌<◌, ◌≤◌, Bool, true, false, cond, ◌==◌, nat_lt, nat_le, List, [], ◌∷◌, ◌++◌, map, filter, take, sum_by, length, length-append, refl, sym, ap, ap₂, ◌∙◌, subst, inl, inr, arith}
+use Rattle.std.proofs.Common.{◌≡◌, ℕ, suc, ◌+◌, ◌<◌, ◌≤◌, Bool, true, false, cond, ◌==◌, nat_lt, nat_le, List, [], ◌∷◌, filter, take, sum_by, length, length-append, refl, sym, ap, ap₂, ◌∙◌, subst, inl, inr, arith}
 use Rattle.std.specs.List.{AllByRecursion, fold}
 use Rattle.std.proofs.Math.Nat.{add-zero}
 use Rattle.std.proofs.lemmas.List.{length-map, length-take}
@@ -7,7 +7,7 @@ use Rattle.std.proofs.lemmas.List.Sums.{sum_by-cons}
 use Rattle.std.proofs.lemmas.List.Elements.{recursion_from_All}
 use Rattle.std.proofs.lemmas.Bool.{cases_Bool}
 use Rattle.std.proofs.lemmas.Bool.Decides.{nat_tests}
-use Rattle.mg_value.specs.Prefix.{Stamped, StreamPrefix}
+use Rattle.mg_value.specs.Prefix.{StreamPrefix}
 use Rattle.mg_value.specs.Settled.{port_of}
 use Rattle.mg_free.specs.declared.law.FreeLaw.{FreeLaw}
 use Rattle.mg_free.specs.declared.law.FreeLaw.TheVariants.{FirstCome, Limiter}
@@ -119,9 +119,9 @@ all_from_first {X} (a ∷ log) = rw (first_test a.port) (ap (λ (l : List (Arriv
 take-most : {X : Type 0} (k : ℕ) (xs : List X) → length (take k xs) ≤ length xs
 take-most k xs = omega (arith, length-take k xs)
 
-pub lawful_count : {X : Type 0} (law : FreeLaw) (inputs : List (StreamPrefix X)) (log : List (Arrival X)) → length inputs ≡ ports_of law → IsLawfulSoFar inputs log
-    → length (flow_of law log).output.packets ≤ sum_by (λ s. length s.packets) (ending law inputs)
-lawful_count {X} (FirstCome lanes) inputs log many lawful =
+-- A log that is lawful so far is at most as long as all streams together.
+pub logs_are_short : {X : Type 0} (inputs : List (StreamPrefix X)) (log : List (Arrival X)) → IsLawfulSoFar inputs log → length log ≤ sum_by (λ s. length s.packets) inputs
+logs_are_short {X} inputs log lawful =
     let up : length inputs ≡ 0 + length inputs = omega arith in
     let all = count_from 0 inputs log
     (subst (λ (m : ℕ). AllByRecursion (λ (a : Arrival X). a.port < m) log) up (recursion_from_All (λ (a : Arrival X). a.port < length inputs) log lawful.ports))
@@ -130,8 +130,14 @@ lawful_count {X} (FirstCome lanes) inputs log many lawful =
     let same_port : i ≡ 0 + i = omega arith in
     subst (λ (p : ℕ). length (arrived_at p log) ≤ length (port_of inputs i).packets) same_port here)) in
     let same = ap length (all_from_first log) in
+    omega (arith, all, same)
+
+pub lawful_count : {X : Type 0} (law : FreeLaw) (inputs : List (StreamPrefix X)) (log : List (Arrival X)) → length inputs ≡ ports_of law → IsLawfulSoFar inputs log
+    → length (flow_of law log).output.packets ≤ sum_by (λ s. length s.packets) (ending law inputs)
+lawful_count {X} (FirstCome lanes) inputs log many lawful =
+    let all = logs_are_short inputs log lawful in
     let count = first_come_count lanes begun log in
-    omega (arith, all, same, count)
+    omega (arith, all, count)
 lawful_count {X} (Limiter most) (s ∷ inputs) log many lawful =
     let total = sum_by-cons (λ (t : StreamPrefix X). length t.packets) s [] in
     let count = limiter_count most begun log in

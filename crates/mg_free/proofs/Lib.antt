@@ -1,3 +1,16 @@
 pub mod Arriving
 pub mod Logging
 pub mod Counting
+pub mod Placing
+pub mod Kept
+pub mod Walking
+pub mod CoreStreams
+pub mod CoreEdges
+pub mod CoreOrder
+pub mod CoreValid
+pub mod Turning
+pub mod TurnEnds
+pub mod WellTaken
+pub mod UnderWay
+pub mod CoreFits
+pub mod RoundsEnd

@@ -1,18 +1,18 @@
 -- A lawful log may arrive, one arrival after the other, and what it makes of the output is a prefix.
-use Rattle.std.proofs.Common.{◌≡◌, ℕ, zero, suc, ◌+◌, ◌<◌, ◌≤◌, Bool, true, false, ◌==◌, List, [], ◌∷◌, ◌++◌, nat_lt, map, filter, take, length, length-append, All, refl, sym, ap, subst, inl, inr, arith, eq-eqb}
+use Rattle.std.proofs.Common.{◌≡◌, ℕ, zero, suc, ◌+◌, ◌<◌, ◌≤◌, true, false, ◌==◌, List, [], ◌∷◌, ◌++◌, nat_lt, take, length, length-append, refl, sym, subst, inl, inr, arith, eq-eqb}
 use Rattle.std.specs.List.{AllByRecursion, fold}
 use Rattle.std.proofs.lemmas.Bool.{cases_Bool}
 use Rattle.std.proofs.lemmas.Bool.Decides.{nat_tests}
-use Rattle.std.proofs.lemmas.List.Elements.{All-from_recursion, recursion_from_All}
+use Rattle.std.proofs.lemmas.List.Elements.{recursion_from_All}
 use Rattle.std.proofs.lemmas.List.Sums.{fold-append}
 use Rattle.mg_time.specs.Time.{next, pre_stream, post_stream, IsAllowed}
-use Rattle.mg_value.specs.Prefix.{Stamped, StreamPrefix, IsPrefix, Ascends, first_time, empty_prefix}
+use Rattle.mg_value.specs.Prefix.{Stamped, StreamPrefix, IsPrefix, Ascends, first_time}
 use Rattle.mg_value.specs.Settled.{port_of}
 use Rattle.mg_value.specs.Extension.{IsExtendedBy}
 use Rattle.mg_value.proofs.Lemmas.{empty_is_prefix, closed_is_prefix, extended_by_itself, extended_further}
 use Rattle.mg_free.specs.declared.law.FreeLaw.{FreeLaw}
 use Rattle.mg_free.specs.declared.law.FreeLaw.TheVariants.{FirstCome, Limiter}
-use Rattle.mg_free.specs.Free.{Arrival, Flow, begun, ports_of, arrived, MayArrive}
+use Rattle.mg_free.specs.Free.{Arrival, Flow, begun, ports_of, arrived}
 use Rattle.mg_free.specs.Logs.{flow_of, arrived_at, MayAllArrive, IsLawfulSoFar, has_ended, output_of}
 use Rattle.mg_free.proofs.Arriving.{next_over, limiter_laid, limiter_dropped, limiter_finished, arrived_prefix, arrived_extends}
 

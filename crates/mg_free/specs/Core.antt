@@ -1,7 +1,7 @@
 -- The core of a plan: the plan without its free nodes, whose outputs are further graph inputs there. Nodes and streams keep their
 -- order: the graph inputs stand first, behind them the outputs of the free nodes, and then those of the other nodes. The number
 -- of a stream or a node in the core is its place in that order.
-use Rattle.std.specs.Prelude.{ℕ, ◌+◌, ◌++◌, Bool, false, not, ◌==◌, List, [], map, filter, length, position, Option, Some, None, is_some, option_map, unwrap_or, slice_get, slice_index_or}
+use Rattle.std.specs.Prelude.{ℕ, ◌++◌, Bool, false, not, ◌==◌, List, [], map, filter, length, position, Option, Some, None, is_some, option_map, unwrap_or, slice_get, slice_index_or}
 use Rattle.std.specs.List.{enumerate_from, filter_map, flat_map, prefix_len}
 use Rattle.mg_value.specs.declared.kind.Kind.TheVariants.{Any}
 use Rattle.mg_calc.specs.declared.law.Law.{Law}

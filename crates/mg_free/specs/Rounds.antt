@@ -1,6 +1,6 @@
 -- The rounds in which free nodes take what arrives. Nothing here speaks of a net, of queues or of workers: in each round the streams
 -- are the solution of the core for what has come by then, and each free node takes one packet at most.
-use Rattle.std.specs.Prelude.{◌≡◌, ℕ, Bool, true, false, List, [], ◌∷◌, ◌++◌, map, length, Option, Some, None, option_map, slice_get}
+use Rattle.std.specs.Prelude.{◌≡◌, Bool, true, false, List, [], ◌∷◌, ◌++◌, map, length, Option, Some, None, option_map, slice_get}
 use Rattle.std.specs.List.{enumerate_from, filter_map, zip}
 use Rattle.mg_value.specs.Payload.{Plain}
 use Rattle.mg_value.specs.Prefix.{StreamPrefix, closed}

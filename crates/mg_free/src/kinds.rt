@@ -16,8 +16,8 @@ pub fn free_law(law: &Law) -> Option<FreeLaw>
     }
 }
 
-// Whether a node is free.
-fn is_free(node: &PlanNode) -> bool
+/// Whether a node is free.
+pub(crate) fn is_free(node: &PlanNode) -> bool
     ensures { result ≡ the_free node.now }
 {
     free_law(&node.law).is_some()

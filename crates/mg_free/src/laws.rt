@@ -1,12 +1,20 @@
 //! Laws of logs: each function does nothing, and its contract is the law.
-ghost use Rattle.std.specs.Prelude.{◌≡◌, ℕ, ◌≤◌, List, ◌++◌, length, sum_by, All};
+ghost use Rattle.std.specs.Prelude.{◌≡◌, ℕ, ◌<◌, ◌≤◌, ◌⊎◌, List, ◌∷◌, ◌++◌, length, sum_by, All};
 ghost use Rattle.mg_value.specs.Payload.{Plain};
 ghost use Rattle.mg_value.specs.Prefix.{StreamPrefix, IsPrefix};
-ghost use Rattle.mg_value.specs.Extension.{IsExtendedBy};
+ghost use Rattle.mg_value.specs.Extension.{IsExtendedBy, AreExtendedBy};
+ghost use Rattle.mg_calc.specs.declared.inputs.Inputs.{Inputs};
+ghost use Rattle.mg_calc.specs.declared.plan.Plan.{Plan};
+ghost use Rattle.mg_calc.specs.Plan.{IsValidWithFree, InputsFit};
 ghost use Rattle.mg_free.specs.declared.law.FreeLaw.{FreeLaw};
 ghost use Rattle.mg_free.specs.declared.law.FreeLaw.TheVariants.{FirstCome, Limiter};
+ghost use Rattle.mg_free.specs.declared.node.FreeNode.{FreeNode};
+ghost use Rattle.mg_free.specs.declared.plan.FreePlan.{FreePlan};
 ghost use Rattle.mg_free.specs.Free.{Arrival, Flow, begun, ports_of, arrived, MayArrive};
 ghost use Rattle.mg_free.specs.Logs.{flow_of, MayAllArrive, arrived_at, IsLawfulSoFar, ending, output_of};
+ghost use Rattle.mg_free.specs.Core.{split_of};
+ghost use Rattle.mg_free.specs.Rounds.{Taken, none_taken, IsRound, AllRounds};
+ghost use Rattle.mg_free.specs.Turns.{AreLawfulSoFar, AreLawful, taken_by_all, room_of_all, AreBatches, last_batch, HasCome};
 
 /// Whatever may arrive keeps the rule of streams at the output, and extends what is known of it.
 pub fn an_arrival_extends_the_output()
@@ -34,4 +42,32 @@ pub fn outputs_are_no_longer_than_logs()
     ensures inputs { (law : FreeLaw) (inputs : List (StreamPrefix Plain)) (log : List (Arrival Plain)) → length inputs ≡ ports_of law → IsLawfulSoFar inputs log
         → length (flow_of law log).output.packets ≤ sum_by (λ s. length s.packets) (ending law inputs) }
     ensures in_flight { (most : ℕ) (log : List (Arrival Plain)) → (flow_of (Limiter most) log).in_flight ≤ most }
+{}
+
+/// A round leaves all as it was, and is the last, or something more is taken in it; and never is more taken than there is: the
+/// packets at the ports of the free nodes, and one closing for each. Each log that is lawful so far stays so in a round, and where
+/// the streams grow. Where a round leaves all as it was, all has arrived.
+pub fn rounds_take_what_there_is()
+    ensures rises { (split : FreePlan) (inputs : Inputs) (before after : List Taken) → length split.free ≡ length before → IsRound split inputs before after
+        → (after ≡ before) ⊎ (taken_by_all before < taken_by_all after) }
+    ensures lawful { (split : FreePlan) (inputs : Inputs) (before after : List Taken) (round : IsRound split inputs before after)
+        → AreLawfulSoFar round.streams split.free before → AreLawfulSoFar round.streams split.free after }
+    ensures grows { (streams later : List (StreamPrefix Plain)) (frees : List FreeNode) (takens : List Taken) → AreExtendedBy streams later
+        → AreLawfulSoFar streams frees takens → AreLawfulSoFar later frees takens }
+    ensures most { (streams : List (StreamPrefix Plain)) (frees : List FreeNode) (takens : List Taken) → AreLawfulSoFar streams frees takens
+        → taken_by_all takens ≤ room_of_all streams frees }
+    ensures rest { (split : FreePlan) (inputs : Inputs) (takens : List Taken) (round : IsRound split inputs takens takens)
+        → AreLawfulSoFar round.streams split.free takens → AreLawful round.streams split.free takens }
+{}
+
+/// The rounds of a run end, whatever comes to it in however many batches, and there is one list of logs to which they come. Then what
+/// comes to the core is a job, by which everything but the free outputs is determined; in its solution the log of each free node is
+/// lawful; and each free output is what its node's log lays, closed where it has ended.
+pub fn rounds_end()
+    ensures ends { (plan : Plan) (inputs : Inputs) (later : List Inputs) → IsValidWithFree plan → InputsFit plan inputs → AreBatches plan inputs later
+        → (last : List Taken) × AllRounds (split_of plan) (inputs ∷ later) (none_taken (split_of plan)) last }
+    ensures one { (split : FreePlan) (batches : List Inputs) (before last other : List Taken) → AllRounds split batches before last → AllRounds split batches before other
+        → last ≡ other }
+    ensures come { (plan : Plan) (inputs : Inputs) (later : List Inputs) (last : List Taken) → IsValidWithFree plan → InputsFit plan inputs → AreBatches plan inputs later
+        → AllRounds (split_of plan) (inputs ∷ later) (none_taken (split_of plan)) last → HasCome (split_of plan) (last_batch inputs later) last }
 {}

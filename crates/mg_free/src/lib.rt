@@ -1,18 +1,24 @@
 //! Free nodes: what a node does whose output depends on the order in which packets arrive.
-//! Answers to the definitions of `specs/Free.antt` and `specs/Logs.antt`; `specs/Core.antt` and `specs/Rounds.antt` say what the
-//! core of a plan is, and in what rounds free nodes take what arrives.
+//! Answers to the definitions of `specs/Free.antt`, `specs/Logs.antt` and `specs/Core.antt`; `specs/Rounds.antt` and
+//! `specs/Turns.antt` say in what rounds free nodes take what arrives.
 #![tactic(auto)]
 
+mod core_parts;
+mod core_streams;
 mod kinds;
 mod law;
 pub mod laws;
 mod node;
+mod numbering;
 mod output;
+mod places;
 mod plan;
+mod splitting;
 mod state;
 
 pub use kinds::{first_free, free_law};
 pub use law::FreeLaw;
 pub use node::{FreeNode, FreeNodeList};
 pub use plan::FreePlan;
+pub use splitting::split;
 pub use state::FreeState;

@@ -42,12 +42,12 @@ input_stream: "in" output_stream: "prev" node { calculator: "PreviousLoopbackCal
 }
 
 /// The graph of a text.
-fn graph_of(alloc: Global, text: &str) -> Result<GraphConfig, Fail> {
+pub fn graph_of(alloc: Global, text: &str) -> Result<GraphConfig, Fail> {
     let tree = parse(alloc, text.as_bytes())?;
     Ok(read(alloc, &tree)?)
 }
 
-fn show_edges(text: &mut String, edges: &[Edge]) -> Result<(), AllocError> {
+pub fn show_edges(text: &mut String, edges: &[Edge]) -> Result<(), AllocError> {
     for edge in edges {
         let back = if edge.back { "b" } else { "" };
         write!(text, " {}>{}.{}{back}", edge.stream, edge.node, edge.port)?;
@@ -55,7 +55,7 @@ fn show_edges(text: &mut String, edges: &[Edge]) -> Result<(), AllocError> {
     Ok(())
 }
 
-fn show_numbers(text: &mut String, numbers: &[u32]) -> Result<(), AllocError> {
+pub fn show_numbers(text: &mut String, numbers: &[u32]) -> Result<(), AllocError> {
     for number in numbers {
         write!(text, " {number}")?;
     }

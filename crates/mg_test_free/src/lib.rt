@@ -1,4 +1,4 @@
-//! The tests of free nodes: graphs with free nodes as the check takes or refuses them, and arrivals one by one. There is nothing
+//! The tests of free nodes: graphs with free nodes as the check takes or refuses them, their cores, and arrivals one by one. There is nothing
 //! else here, so that no other crate is proved a second time with its tests.
 #![tactic(auto)]
 
@@ -6,5 +6,7 @@
 mod checks;
 #[cfg(test)]
 mod rows;
+#[cfg(test)]
+mod splits;
 #[cfg(test)]
 mod states;

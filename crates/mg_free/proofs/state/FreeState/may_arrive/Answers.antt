@@ -1,4 +1,4 @@
-use Rattle.std.proofs.Common.{◌∙◌, sym, refl}
+use Rattle.std.proofs.Common.{◌∙◌, sym}
 use Rattle.mg_free.proofs.Arriving.{arrival_tells, arrival_told}
 use Rattle.mg_free.proofs.state.FreeState.may_arrive.Goals as goal
 

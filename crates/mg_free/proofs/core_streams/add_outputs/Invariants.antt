@@ -1,0 +1,10 @@
+-- With those that are left it comes to the same.
+use Rattle.std.proofs.Common.{◌≡◌, ◌++◌, map, drop}
+use Rattle.std.specs.List.{enumerate_from}
+use Rattle.mg_calc.specs.declared.plan_stream.Producer.TheVariants.{Node}
+use Rattle.mg_free.specs.Core.{written_by, output_streams}
+use Rattle.mg_free.proofs.core_streams.add_outputs.Given as goal
+
+abbrev pub invariant-loop-port : goal.invariant-loop-port
+invariant-loop-port l =
+    l.into.items ++ map (λ e. written_by l.plan e.1 (Node l.node e.0)) (enumerate_from l.port (drop l.port l.outputs)) ≡ l.fn.into.items ++ output_streams l.plan l.node l.outputs

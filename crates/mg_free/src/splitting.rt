@@ -1,0 +1,126 @@
+//! A plan split into its core and its free nodes.
+ghost use Rattle.std.specs.Prelude.{◌≡◌, IfOk, length, slice_index_or};
+ghost use Rattle.mg_calc.specs.Plan.{IsValid, IsValidWithFree, numbers as the_numbers};
+ghost use Rattle.mg_free.specs.Core.{core_of as the_core, free_node as the_free_node, free_nodes as the_free_nodes, entering as the_entering, split_of};
+ghost use Rattle.mg_free.specs.Code.Numbering.{IsNumberingOf};
+
+use crate::core_parts::{core_edges, core_nodes, core_order};
+use crate::core_streams::core_streams;
+use crate::numbering::{Numbering, entering};
+use crate::{FreeNode, FreeNodeList, FreePlan, free_law};
+use mg_calc::{Plan, PlanNode, TryClone};
+use mg_value::NumberList;
+use std::alloc::{AllocError, Global};
+
+// The numbers below a count.
+fn numbers(alloc: Global, count: u32) -> Result<NumberList, AllocError>
+    ensures { IfOk result (λ numbers. numbers ≡ the_numbers count) }
+{
+    let mut numbers = Vec::with_capacity(alloc, count as usize)?;
+    for number in 0..count {
+        numbers.push(number)?;
+    }
+    Ok(NumberList::from_vec(numbers)?)
+}
+
+// The numbers of the core's graph inputs.
+fn core_inputs(alloc: Global, plan: &Plan) -> Result<NumberList, AllocError>
+    ensures { IfOk result (λ inputs. inputs ≡ the_numbers (length (the_entering plan.now))) }
+{
+    let entering = entering(alloc, plan)?;
+    numbers(alloc, entering.len())
+}
+
+// The core of a plan.
+fn core(alloc: Global, plan: &Plan, numbering: &Numbering) -> Result<Plan, AllocError>
+    requires { IsNumberingOf plan.now numbering.now }
+    ensures { IfOk result (λ core. core ≡ the_core plan.now) }
+{
+    let nodes = core_nodes(alloc, plan, numbering)?;
+    let streams = core_streams(alloc, plan)?;
+    let edges = core_edges(alloc, plan, numbering)?;
+    let order = core_order(alloc, plan, numbering)?;
+    let inputs = core_inputs(alloc, plan)?;
+    let outputs = numbering.streams.of_all(alloc, plan.outputs.as_slice())?;
+    let sides = plan.sides.try_clone(alloc)?;
+    Ok(Plan {
+        nodes,
+        streams,
+        edges,
+        order,
+        inputs,
+        outputs,
+        sides,
+        limit: plan.limit,
+        workers: plan.workers,
+    })
+}
+
+// The first of some numbers, and 0 where there is none.
+fn first_of(numbers: &NumberList) -> u32
+    ensures { result ≡ slice_index_or numbers.now 0 0 }
+{
+    match numbers.get(0) {
+        Some(number) => *number,
+        None => 0,
+    }
+}
+
+// A node as a free one, where it is free.
+fn free_node(
+    alloc: Global,
+    plan: &Plan,
+    numbering: &Numbering,
+    number: u32,
+    node: &PlanNode,
+) -> Result<Option<FreeNode>, AllocError>
+    requires { IsNumberingOf plan.now numbering.now }
+    ensures { IfOk result (λ free. free ≡ the_free_node plan.now (number, node.now)) }
+{
+    let law = match free_law(&node.law) {
+        Some(law) => law,
+        None => return Ok(None),
+    };
+    let inputs = numbering.streams.of_all(alloc, node.inputs.as_slice())?;
+    let outputs = numbering.streams.of_all(alloc, node.outputs.as_slice())?;
+    let output = first_of(&outputs);
+    Ok(Some(FreeNode {
+        node: number,
+        law,
+        inputs,
+        output,
+    }))
+}
+
+// The free nodes of a plan.
+fn free_nodes(alloc: Global, plan: &Plan, numbering: &Numbering) -> Result<FreeNodeList, AllocError>
+    requires { IsNumberingOf plan.now numbering.now }
+    ensures { IfOk result (λ free. free ≡ the_free_nodes plan.now) }
+{
+    let nodes = plan.nodes.as_slice();
+    let mut free = Vec::new(alloc);
+    for number in 0..plan.nodes.len() {
+        if let Some(node) = free_node(alloc, plan, numbering, number, &nodes[number as usize])? {
+            free.push(node)?;
+        }
+    }
+    Ok(FreeNodeList::from_vec(free)?)
+}
+
+/// Splits a plan into its core and its free nodes. The core is a valid plan without free nodes, whose outputs are its last graph
+/// inputs. It has the plan's nodes and streams in their order, under its own numbers.
+pub fn split(alloc: Global, plan: &Plan) -> Result<FreePlan, AllocError>
+    requires { IsValidWithFree plan.now }
+    ensures split { IfOk result (λ split. split ≡ split_of plan.now) }
+    ensures valid { IfOk result (λ split. IsValid split.core) }
+{
+    let numbering = Numbering::of(alloc, plan)?;
+    let core = core(alloc, plan, &numbering)?;
+    let free = free_nodes(alloc, plan, &numbering)?;
+    let Numbering { numbers, .. } = numbering;
+    Ok(FreePlan {
+        core,
+        numbers,
+        free,
+    })
+}
