@@ -5,3 +5,4 @@ pub mod ReadBack
 pub mod Saying
 pub mod Giving
 pub mod Welcome
+pub mod EventLines

@@ -1,5 +1,5 @@
 //! Laws of what a recorded run says: each function does nothing, and its contract is the law.
-ghost use Rattle.std.specs.Prelude.{◌≡◌, ◌∷◌, [], ◌++◌};
+ghost use Rattle.std.specs.Prelude.{◌≡◌, List, All, ◌∷◌, [], ◌++◌};
 ghost use Rattle.mg_calc.specs.Plan.{IsValid};
 ghost use Rattle.mg_calc.specs.declared.event.Event.{Event};
 ghost use Rattle.mg_calc.specs.declared.inputs.Inputs.{Inputs};
@@ -11,10 +11,17 @@ ghost use Rattle.mg_feed.specs.Stands.{AllGood};
 ghost use Rattle.mg_trace.specs.Event.{IsEventOf, event_text};
 ghost use Rattle.mg_trace.specs.Job.{job_lines, end_word};
 ghost use Rattle.mg_trace.specs.Told.{IsTold, FitsInput};
+ghost use Rattle.mg_trace.specs.Trace.{trace_text};
 
 /// Two events of a plan with the same text are the same event.
 pub fn an_event_has_its_own_text()
     ensures { (plan : Plan) (one other : Event) → IsValid plan → IsEventOf plan one → IsEventOf plan other → event_text one ≡ event_text other → one ≡ other }
+{}
+
+/// Two recorded runs of a job with the same text made the same events in the same order.
+pub fn a_trace_has_its_own_events()
+    ensures { (plan : Plan) (inputs : Inputs) (one other : List Event) → IsValid plan → All (IsEventOf plan) one → All (IsEventOf plan) other
+        → trace_text plan inputs one ≡ trace_text plan inputs other → one ≡ other }
 {}
 
 /// The canonical lines of a job give just its inputs again.

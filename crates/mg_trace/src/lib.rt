@@ -1,5 +1,5 @@
 //! Recorded runs: the texts of the events that a net makes, and the packet lines of the job that it makes them for.
-//! Answers to the definitions of `specs/Event.antt` and `specs/Job.antt`.
+//! Answers to the definitions of `specs/Event.antt`, `specs/Job.antt` and `specs/Trace.antt`.
 #![tactic(auto)]
 
 mod event_reader;
