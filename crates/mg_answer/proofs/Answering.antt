@@ -1,5 +1,5 @@
 -- What a run came to, by its status, and what follows of it.
-use Rattle.std.proofs.Common.{◌≡◌, ◌≢◌, ◌⊎◌, inl, inr, ℕ, List, [], ◌∷◌, ◌++◌, Bool, true, false, ◌&&◌, not, if◌then◌else◌, Option, None, Some, IfSome, refl, sym, ap, ◌∙◌, subst, arith, append-nil}
+use Rattle.std.proofs.Common.{◌≡◌, ◌≢◌, ◌⊎◌, inl, inr, ℕ, List, [], ◌∷◌, ◌++◌, Bool, true, false, not, if◌then◌else◌, Option, None, Some, IfSome, refl, sym, ap, ◌∙◌, subst, arith, append-nil}
 use Rattle.mg_edge.specs.Edge.{SourceTold, SinkTold, Rose, one_more}
 use Rattle.mg_edge.specs.Runs.{Gave}
 use Rattle.mg_value.specs.Payload.{Plain}
@@ -12,15 +12,15 @@ use Rattle.mg_calc.specs.Meaning.{faults, stalled}
 use Rattle.mg_feed.specs.Graph.{GraphInputs, inputs_of}
 use Rattle.mg_feed.specs.Ran.{EndCame, MetEnd, FailedBy}
 use Rattle.mg_feed.specs.Sent.{Sent}
-use Rattle.mg_answer.specs.Notes.{bounds_of, notes_by}
+use Rattle.mg_answer.specs.Notes.{memory_note, bounds_of, notes_by}
 use Rattle.mg_answer.specs.Report.{report_by, asked_report}
 use Rattle.mg_answer.specs.Outcomes.{TellsOf}
 use Rattle.mg_feed.specs.declared.feed_end.FeedEnd.{FeedEnd}
 use Rattle.mg_feed.specs.declared.feed_end.FeedEnd.TheVariants.{Ended, Failed, Refused, OutOfMemory as no_lines}
 use Rattle.mg_answer.specs.Text.{output_of}
 use Rattle.mg_answer.specs.Told.{status_of}
-use Rattle.mg_answer.specs.Answer.{Read, Form, Telling, by_lines, output_in, Answer, ended_input, inputs_by, job_of, answer_of, IsAnswer, AnswersEnded}
-use Rattle.mg_answer.specs.Devices.{Device, device, RunDevices, run_devices, TookFront, HasRisen, Unrisen, NoneFailed}
+use Rattle.mg_answer.specs.Answer.{Read, Form, Telling, by_lines, output_in, Answer, ended_input, inputs_by, job_of, notes_at, failed_notes, answer_of, IsAnswer, AnswersEnded}
+use Rattle.mg_answer.specs.Devices.{Device, device, RunDevices, run_devices, Untouched, TookFront, Noted, HasRisen, Unrisen, NoneFailed}
 use Rattle.mg_answer.specs.Status.{IsOneOf}
 use Rattle.mg_answer.specs.Ran.{CameAs, CameTo, RanAll, RanShort, TookSome, Ran, IsAnswered}
 use Rattle.mg_answer.specs.Put.{TextView, HasPut}
@@ -43,8 +43,11 @@ plain_job plan inputs = record { plan = plan; inputs = inputs }
 abbrev told : Bool → Plan → Inputs → FeedEnd → List (StreamPrefix Plain) → Answer
 told report plan inputs end streams = answer_of (by_lines report) (plain_job plan inputs) end streams
 
+abbrev failed : Bool → Plan → Inputs → FeedEnd → List (StreamPrefix Plain) → List ℕ
+failed report plan inputs end streams = failed_notes (by_lines report) (plain_job plan inputs) end streams
+
 -- an answer of the job is that of the plan over what was read
-is-answer : (report : Bool) (plan : Plan) (inputs : Inputs) (end : FeedEnd) (read : Read) (streams : List (StreamPrefix Plain)) → inputs ≡ inputs_by (inputs_of plan) read → end ≡ read.end
+abbrev is-answer : (report : Bool) (plan : Plan) (inputs : Inputs) (end : FeedEnd) (read : Read) (streams : List (StreamPrefix Plain)) → inputs ≡ inputs_by (inputs_of plan) read → end ≡ read.end
     → IsSolution (plain_job plan inputs) streams → IsAnswer report plan read (told report plan inputs end streams)
 is-answer report plan inputs end read streams is ended solution = record {
   streams = streams;
@@ -65,28 +68,39 @@ ran-all report plan input end inputs status output notes streams gathered soluti
 
 ran-short : (report : Bool) (plan : Plan) (input : Device SourceTold) (end : FeedEnd) (inputs : Inputs) (output notes : Device SinkTold) (streams : List (StreamPrefix Plain))
     → Gathered (inputs_of plan) input end inputs → IsSolution (plain_job plan inputs) streams
-    → MetShort (told report plan inputs end streams) output notes → RanShort report plan (run_devices input output notes)
+    → MetShort (told report plan inputs end streams) (failed report plan inputs end streams) output notes → RanShort report plan (run_devices input output notes)
 ran-short report plan input end inputs output notes streams gathered solution wrote = record {
   read = gathered.read;
   input = gathered.came;
   answer = told report plan inputs end streams;
   is = is-answer report plan inputs end gathered.read streams gathered.given gathered.ended solution;
-  short = record { rose = wrote.rose; front = wrote.front; whole = wrote.whole };
+  short = subst (λ (l : List ℕ). MetShort (told report plan inputs end streams) l output notes)
+      (ap (λ (i : Inputs). failed report plan i end streams) gathered.given ∙ ap (λ (e : FeedEnd). failed_notes (by_lines report) (job_of plan gathered.read) e streams) gathered.ended) wrote;
 }
 
-took-some : (plan : Plan) (input : Device SourceTold) (end : FeedEnd) (inputs : Inputs) (output notes : Device SinkTold) (streams : List (StreamPrefix Plain))
-    → Gathered (inputs_of plan) input end inputs → IsSolution (plain_job plan inputs) streams → TookFront output (output_of plan streams) → TookSome plan (run_devices input output notes)
-took-some plan input end inputs output notes streams gathered solution front = record {
+took-some : (plan : Plan) (input : Device SourceTold) (end : FeedEnd) (inputs : Inputs) (output : Device SinkTold) (streams : List (StreamPrefix Plain))
+    → Gathered (inputs_of plan) input end inputs → IsSolution (plain_job plan inputs) streams → TookFront output (output_of plan streams) → TookSome plan input output
+took-some plan input end inputs output streams gathered solution front = record {
   read = gathered.read;
-  input = gathered.came;
+  came = gathered.came;
   streams = streams;
   solution = subst (λ (i : Inputs). IsSolution (plain_job plan i) streams) gathered.given solution;
   front = front;
 }
 
+-- an input that came to something was read without want of memory, and no status of it tells that
+pub no-want : (plan : Plan) (input : Device SourceTold) (end : FeedEnd) (fs : List Fault) (ns : List ℕ) (came : List ℕ) (read : Read) → CameAs end (inputs_of plan) input came read
+    → OutOfMemory ≡ status_of end fs ns → ⊥
+no-want plan input Ended [] [] came read by is = cc
+no-want plan input Ended [] (n ∷ ns) came read by is = cc
+no-want plan input Ended (f ∷ fs) ns came read by is = cc
+no-want plan input (Failed lines) fs ns came read by is = cc
+no-want plan input (Refused line cause) fs ns came read by is = cc
+no-want plan input no_lines fs ns came read by is = absurd by
+
 ran-by : (report : Bool) (plan : Plan) (input : Device SourceTold) (end : FeedEnd) (inputs : Inputs) (status : Status) (output notes : Device SinkTold) (streams : List (StreamPrefix Plain))
     → Gathered (inputs_of plan) input end inputs → IsSolution (plain_job plan inputs) streams
-    → WroteBy status (told report plan inputs end streams) output notes → Ran report plan status (run_devices input output notes)
+    → WroteBy status (told report plan inputs end streams) (failed report plan inputs end streams) output notes → Ran report plan status (run_devices input output notes)
 ran-by report plan input end inputs Good output notes streams gathered solution by = ran-all report plan input end inputs Good output notes streams gathered solution by
 ran-by report plan input end inputs LineRefused output notes streams gathered solution by = ran-all report plan input end inputs LineRefused output notes streams gathered solution by
 ran-by report plan input end inputs StoreFault output notes streams gathered solution by = ran-all report plan input end inputs StoreFault output notes streams gathered solution by
@@ -97,71 +111,101 @@ ran-by report plan input end inputs Stalled output notes streams gathered soluti
 ran-by report plan input end inputs ReadFault output notes streams gathered solution by = ran-all report plan input end inputs ReadFault output notes streams gathered solution by
 ran-by report plan input end inputs WriteFault output notes streams gathered solution by = ran-short report plan input end inputs output notes streams gathered solution by
 ran-by report plan input end inputs OutOfMemory output notes streams gathered solution by =
-    inr (took-some plan input end inputs output notes streams gathered solution (front-sent true output.before output.now (output_of plan streams) by.text))
+    let fs = faults (plain_job plan inputs) streams in
+    absurd (no-want plan input gathered.read.end fs (stalled streams) gathered.came.came gathered.read gathered.came.by
+    (by.told ∙ ap (λ (e : FeedEnd). status_of e fs (stalled streams)) gathered.ended))
 
 pub ran-wrote : (report : Bool) (plan : Plan) (input : Device SourceTold) (end : FeedEnd) (inputs : Inputs) (status : Status) (output notes : Device SinkTold)
     → Gathered (inputs_of plan) input end inputs → Wrote (by_lines report) (plain_job plan inputs) end status output notes → Ran report plan status (run_devices input output notes)
 ran-wrote report plan input end inputs status output notes gathered wrote = ran-by report plan input end inputs status output notes wrote.streams gathered wrote.solution wrote.by
 
-pub ran-out : (report : Bool) (plan : Plan) (input : Device SourceTold) (end : FeedEnd) (inputs : Inputs) (output notes : Device SinkTold)
-    → Gathered (inputs_of plan) input end inputs → WroteSome (plain_job plan inputs) output → Ran report plan OutOfMemory (run_devices input output notes)
-ran-out report plan input end inputs output notes gathered (inl untouched) = inl untouched
-ran-out report plan input end inputs output notes gathered (inr wrote) = inr (took-some plan input end inputs output notes wrote.streams gathered wrote.solution wrote.front)
+pub ran-out : (report : Bool) (plan : Plan) (input : Device SourceTold) (end : FeedEnd) (inputs : Inputs) (output : Device SinkTold)
+    → Gathered (inputs_of plan) input end inputs → WroteSome (plain_job plan inputs) output → Untouched output ⊎ TookSome plan input output
+ran-out report plan input end inputs output gathered (inl untouched) = inl untouched
+ran-out report plan input end inputs output gathered (inr wrote) = inr (took-some plan input end inputs output wrote.streams gathered wrote.solution wrote.front)
+
+-- the note that memory ran out was taken by notes that nothing else was written to
+pub noted-then : (before middle now : SinkTold) (text : List ℕ) → middle ≡ before → Noted (device middle now) text → Noted (device before now) text
+noted-then before middle now text same noted = subst (λ (s : SinkTold). Noted (device s now) text) same noted
 
 -- What was written --
 
-wrote-all : (end : FeedEnd) (fs : List Fault) (ns : List ℕ) (answer : Answer) (output notes : Device SinkTold) → Meets answer (status_of end fs ns) output notes
-    → WroteBy (status_of end fs ns) answer output notes
-wrote-all Ended [] [] answer output notes wrote = wrote
-wrote-all Ended [] (n ∷ ns) answer output notes wrote = wrote
-wrote-all Ended (f ∷ fs) ns answer output notes wrote = wrote
-wrote-all (Failed lines) fs ns answer output notes wrote = wrote
-wrote-all (Refused line cause) fs ns answer output notes wrote = wrote
-wrote-all no_lines fs ns answer output notes wrote = wrote
+wrote-all : (end : FeedEnd) (fs : List Fault) (ns : List ℕ) (answer : Answer) (failed : List ℕ) (output notes : Device SinkTold) → Meets answer (status_of end fs ns) output notes
+    → WroteBy (status_of end fs ns) answer failed output notes
+wrote-all Ended [] [] answer failed output notes wrote = wrote
+wrote-all Ended [] (n ∷ ns) answer failed output notes wrote = wrote
+wrote-all Ended (f ∷ fs) ns answer failed output notes wrote = wrote
+wrote-all (Failed lines) fs ns answer failed output notes wrote = wrote
+wrote-all (Refused line cause) fs ns answer failed output notes wrote = wrote
+wrote-all no_lines fs ns answer failed output notes wrote = wrote
 
-wrote-by : (end : FeedEnd) (fs : List Fault) (ns : List ℕ) (answer : Answer) (status : Status) (written noted : Bool) (output notes : Device SinkTold)
-    → status ≡ status_of end fs ns → answer.status ≡ status_of end fs ns → Sent written output.before output.now answer.output → Sent noted notes.before notes.now answer.notes
-    → WroteBy (if written && noted then status else WriteFault) answer output notes
-wrote-by end fs ns answer status true true output notes is told text noted =
-    subst (λ (s : Status). WroteBy s answer output notes) (sym is) (wrote-all end fs ns answer output notes (record { text = text; noted = noted; told = sym told }))
-wrote-by end fs ns answer status true false output notes is told text noted =
-    record { rose = inr noted.rose; front = front-sent true output.before output.now answer.output text; whole = inr text }
-wrote-by end fs ns answer status false noted' output notes is told text noted =
-    record { rose = inl text.rose; front = front-sent false output.before output.now answer.output text; whole = inl text.rose }
+pub noted-from : (all : Bool) (notes : Device SinkTold) (text : List ℕ) → Sent all notes.before notes.now text → Noted notes text
+noted-from true notes text sent = inl sent
+noted-from false notes text sent = inr sent
+
+-- the notes at a write fault of the output
+wrote-failed : (answer : Answer) (failed : List ℕ) (status : Status) (noted : Bool) (said : Status → List ℕ) (output notes : Device SinkTold)
+    → status ≡ WriteFault → failed ≡ said WriteFault → Sent false output.before output.now answer.output → Sent noted notes.before notes.now (said status)
+    → MetShort answer failed output notes
+wrote-failed answer failed status noted said output notes is failed_is text sent = record {
+  rose = inl text.rose;
+  front = front-sent false output.before output.now answer.output text;
+  whole = inl text.rose;
+  noted = inl (text.rose, noted-from noted notes failed (subst (λ (l : List ℕ). Sent noted notes.before notes.now l) (ap said is ∙ sym failed_is) sent));
+}
+
+-- the notes are those of the status, which is that of a write fault where the output's failed
+wrote-by : (end : FeedEnd) (fs : List Fault) (ns : List ℕ) (answer : Answer) (failed : List ℕ) (status : Status) (written noted : Bool) (said : Status → List ℕ) (output notes : Device SinkTold)
+    → status ≡ (if written then status_of end fs ns else WriteFault) → answer.status ≡ status_of end fs ns → answer.notes ≡ said (status_of end fs ns) → failed ≡ said WriteFault
+    → Sent written output.before output.now answer.output → Sent noted notes.before notes.now (said status)
+    → WroteBy (if noted then status else WriteFault) answer failed output notes
+wrote-by end fs ns answer failed status true true said output notes is told notes_are failed_is text sent =
+    subst (λ (s : Status). WroteBy s answer failed output notes) (sym is) (wrote-all end fs ns answer failed output notes
+    (record { text = text; noted = subst (λ (l : List ℕ). Sent true notes.before notes.now l) (ap said is ∙ sym notes_are) sent; told = sym told }))
+wrote-by end fs ns answer failed status true false said output notes is told notes_are failed_is text sent =
+    let part = subst (λ (l : List ℕ). Sent false notes.before notes.now l) (ap said is ∙ sym notes_are) sent in
+    record { rose = inr part.rose; front = front-sent true output.before output.now answer.output text; whole = inr text; noted = inr (text, part) }
+wrote-by end fs ns answer failed status false true said output notes is told notes_are failed_is text sent =
+    subst (λ (s : Status). WroteBy s answer failed output notes) (sym is) (wrote-failed answer failed status true said output notes is failed_is text sent)
+wrote-by end fs ns answer failed status false false said output notes is told notes_are failed_is text sent =
+    wrote-failed answer failed status false said output notes is failed_is text sent
 
 wrote : (telling : Telling) (job : Job) (end : FeedEnd) (streams : List (StreamPrefix Plain)) (status result : Status) (written noted : Bool) (output notes : Device SinkTold)
-    → IsSolution job streams → status ≡ status_of end (faults job streams) (stalled streams) → Sent written output.before output.now (answer_of telling job end streams).output
-    → Sent noted notes.before notes.now (answer_of telling job end streams).notes → result ≡ (if written && noted then status else WriteFault)
+    → IsSolution job streams → status ≡ (if written then status_of end (faults job streams) (stalled streams) else WriteFault)
+    → Sent written output.before output.now (answer_of telling job end streams).output
+    → Sent noted notes.before notes.now (notes_at status telling job end streams) → result ≡ (if noted then status else WriteFault)
     → Wrote telling job end result output notes
 wrote telling job end streams status result written noted output notes solution is text notes_text result_is = record {
   streams = streams;
   solution = solution;
-  by = subst (λ (s : Status). WroteBy s (answer_of telling job end streams) output notes) (sym result_is)
-      (wrote-by end (faults job streams) (stalled streams) (answer_of telling job end streams) status written noted output notes is refl text notes_text);
+  by = subst (λ (s : Status). WroteBy s (answer_of telling job end streams) (failed_notes telling job end streams) output notes) (sym result_is)
+      (wrote-by end (faults job streams) (stalled streams) (answer_of telling job end streams) (failed_notes telling job end streams) status written noted
+      (λ (s : Status). notes_at s telling job end streams) output notes is refl refl refl text notes_text);
 }
 
 -- what is said of outcomes that a job's streams tell
-said-of : (plan : Plan) (end : FeedEnd) (outcomes : Outcomes) (report : Bool) (form : Form) (job : Job) (streams : List (StreamPrefix Plain)) → job.plan ≡ plan
-    → TellsOf job streams outcomes → all_notes plan end outcomes report ≡ (answer_of (record { form = form; report = report }) job end streams).notes
-said-of plan end outcomes report form job streams plan_is tells =
+said-of : (status : Status) (plan : Plan) (end : FeedEnd) (outcomes : Outcomes) (report : Bool) (form : Form) (job : Job) (streams : List (StreamPrefix Plain)) → job.plan ≡ plan
+    → TellsOf job streams outcomes → all_notes status plan end outcomes report ≡ notes_at status (record { form = form; report = report }) job end streams
+said-of status plan end outcomes report form job streams plan_is tells =
     let bounds : end_bounds outcomes.ends.items ≡ bounds_of streams = ap end_bounds tells.ends ∙ bounds-told streams in
     let numbers : open_numbers outcomes.ends.items ≡ stalled streams = ap open_numbers tells.ends ∙ open-stalled streams in
-    λ i. notes_by (sym plan_is i) end (tells.faults i) (bounds i) (numbers i) ++ asked_report report (report_by (sym plan_is i) (tells.sets i) (tells.ends i))
+    λ i. notes_by status (sym plan_is i) end (tells.faults i) (bounds i) (numbers i) ++ asked_report report (report_by (sym plan_is i) (tells.sets i) (tells.ends i))
 
 -- the same, where the text was put, and the outcomes tell the rest
 pub wrote-told : (plan : Plan) (end : FeedEnd) (outcomes : Outcomes) (report : Bool) (view view' : TextView) (status result : Status) (written noted : Bool) (bytes said : List ℕ)
     (before now notes_before notes_now : SinkTold) → ((first : SinkTold) (text : List ℕ) → HasPut first before view text → HasPut first now view' text)
-    → (view'.failed ≡ false → view'.kept ≡ []) → written ≡ not view'.failed → status ≡ status_of end outcomes.faults (open_numbers outcomes.ends.items)
-    → said ≡ all_notes plan end outcomes report → bytes ≡ said → Sent noted notes_before notes_now bytes → result ≡ (if written && noted then status else WriteFault)
+    → (view'.failed ≡ false → view'.kept ≡ []) → written ≡ not view'.failed
+    → status ≡ (if written then status_of end outcomes.faults (open_numbers outcomes.ends.items) else WriteFault)
+    → said ≡ all_notes status plan end outcomes report → bytes ≡ said → Sent noted notes_before notes_now bytes → result ≡ (if noted then status else WriteFault)
     → (form : Form) (job : Job) (streams : List (StreamPrefix Plain)) (first : SinkTold) → job.plan ≡ plan → IsSolution job streams → TellsOf job streams outcomes
     → HasPut first before view (output_in form plan streams) → Wrote (record { form = form; report = report }) job end result (device first now) (device notes_before notes_now)
 wrote-told plan end outcomes report view view' status result written noted bytes said before now notes_before notes_now flush none written_is is said_is bytes_is sent result_is
     form job streams first plan_is solution tells put =
     let telling : Telling = record { form = form; report = report } in
     let numbers : open_numbers outcomes.ends.items ≡ stalled streams = ap open_numbers tells.ends ∙ open-stalled streams in
-    let told_is : status ≡ status_of end (faults job streams) (stalled streams) =
-    is ∙ ap (λ l. status_of end l (open_numbers outcomes.ends.items)) tells.faults ∙ ap (status_of end (faults job streams)) numbers in
-    let noted_is : bytes ≡ (answer_of telling job end streams).notes = bytes_is ∙ said_is ∙ said-of plan end outcomes report form job streams plan_is tells in
+    let told_is : status ≡ (if written then status_of end (faults job streams) (stalled streams) else WriteFault) =
+    is ∙ ap (λ (s : Status). if written then s else WriteFault) (ap (λ l. status_of end l (open_numbers outcomes.ends.items)) tells.faults ∙ ap (status_of end (faults job streams)) numbers) in
+    let noted_is : bytes ≡ notes_at status telling job end streams = bytes_is ∙ said_is ∙ said-of status plan end outcomes report form job streams plan_is tells in
     let text : Sent (not view'.failed) first now (output_in form plan streams) =
     put-sent view'.failed first now view'.kept (output_in form plan streams) none (flush first (output_in form plan streams) put) in
     wrote telling job end streams status result written noted (device first now) (device notes_before notes_now) solution told_is

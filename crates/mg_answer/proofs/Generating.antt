@@ -1,5 +1,5 @@
 -- What a run over packets that are made came to, by its status, and what follows of it.
-use Rattle.std.proofs.Common.{◌≢◌, ◌<◌, ◌^◌, length, ◌⊎◌, inl, inr, ℕ, Bool, true, List, [], ◌∷◌, refl}
+use Rattle.std.proofs.Common.{◌≡◌, ◌≢◌, ◌<◌, ◌^◌, length, ◌⊎◌, inl, inr, ℕ, Bool, List, [], ◌∷◌, refl}
 use Rattle.mg_edge.specs.Edge.{Rose}
 use Rattle.mg_value.specs.Payload.{Plain}
 use Rattle.mg_value.specs.Prefix.{StreamPrefix}
@@ -7,18 +7,19 @@ use Rattle.mg_value.specs.declared.policy.Policy.TheVariants.{Default}
 use Rattle.mg_value.specs.Settled.{settled_sets, inputs_of as ports_of}
 use Rattle.mg_value.proofs.Lemmas.{all_inputs}
 use Rattle.mg_calc.specs.declared.plan.Plan.{Plan}
+use Rattle.mg_calc.specs.declared.node_fault.NodeFault.{NodeFault as Fault}
 use Rattle.mg_calc.specs.Equations.{Job, IsJob, IsSolution}
+use Rattle.mg_calc.specs.Meaning.{faults, stalled}
 use Rattle.mg_equations.proofs.NodeSteps.{few_sets}
 use Rattle.mg_feed.specs.declared.feed_end.FeedEnd.TheVariants.{Ended}
-use Rattle.mg_answer.specs.Summary.{summary_of}
-use Rattle.mg_answer.specs.Answer.{Answer, by_summary, generated_job, answer_of, AnswersGenerated}
+use Rattle.mg_answer.specs.Told.{status_of}
+use Rattle.mg_answer.specs.Answer.{Answer, by_summary, generated_job, failed_notes, answer_of, AnswersGenerated}
 use Rattle.mg_answer.specs.Devices.{RunDevices, Unrisen}
 use Rattle.mg_answer.specs.Wrote.{Meets, MetShort, Wrote}
 use Rattle.mg_answer.specs.Status.{IsOneOf}
 use Rattle.mg_answer.specs.Ran.{GeneratedAll, GeneratedShort, RanGenerated}
 use Rattle.mg_answer.specs.declared.status.Status.{Status}
 use Rattle.mg_answer.specs.declared.status.Status.TheVariants.{Good, StoreFault, Usage, GraphRefused, LineRefused, NodeFault, Stalled, ReadFault, WriteFault, OutOfMemory}
-use Rattle.mg_answer.proofs.Writing.{front-sent}
 use Rattle.mg_answer.proofs.Answering.{WriteRisen, steady-risen, rose-unrisen}
 use Rattle.mg_answer.proofs.OneAnswer.{answer-of}
 use Rattle.mg_answer.proofs.Telling.{solved-prefixes}
@@ -41,12 +42,18 @@ wrote-answer report plan number status all wrote by = record {
 }
 
 wrote-short : (report : Bool) (plan : Plan) (number : ℕ) (status : Status) (all : RunDevices) → (wrote : Written report plan number status all)
-    → MetShort (answer_of (by_summary report) (generated_job plan number) Ended wrote.streams) all.output all.notes → GeneratedShort report plan number all
+    → MetShort (answer_of (by_summary report) (generated_job plan number) Ended wrote.streams) (failed_notes (by_summary report) (generated_job plan number) Ended wrote.streams) all.output all.notes → GeneratedShort report plan number all
 wrote-short report plan number status all wrote by = record {
   answer = answer_of (by_summary report) (generated_job plan number) Ended wrote.streams;
   is = record { streams = wrote.streams; solution = wrote.solution; is = refl };
-  short = record { rose = by.rose; front = by.front; whole = by.whole };
+  short = by;
 }
+
+-- no status of packets that are made tells want of memory
+no-want : (fs : List Fault) (ns : List ℕ) → OutOfMemory ≡ status_of Ended fs ns → ⊥
+no-want [] [] is = cc
+no-want [] (n ∷ ns) is = cc
+no-want (f ∷ fs) ns is = cc
 
 pub generated-ran : (report : Bool) (plan : Plan) (number : ℕ) (status : Status) (all : RunDevices) → Written report plan number status all → RanGenerated report plan number status all
 generated-ran report plan number Good all wrote = wrote-answer report plan number Good all wrote wrote.by
@@ -58,11 +65,7 @@ generated-ran report plan number NodeFault all wrote = wrote-answer report plan 
 generated-ran report plan number Stalled all wrote = wrote-answer report plan number Stalled all wrote wrote.by
 generated-ran report plan number ReadFault all wrote = wrote-answer report plan number ReadFault all wrote wrote.by
 generated-ran report plan number WriteFault all wrote = wrote-short report plan number WriteFault all wrote wrote.by
-generated-ran report plan number OutOfMemory all wrote = record {
-  streams = wrote.streams;
-  solution = wrote.solution;
-  front = front-sent true all.output.before all.output.now (summary_of plan wrote.streams) wrote.by.text;
-}
+generated-ran report plan number OutOfMemory all wrote = absurd (no-want (faults (generated_job plan number) wrote.streams) (stalled wrote.streams) wrote.by.told)
 
 -- What follows --
 

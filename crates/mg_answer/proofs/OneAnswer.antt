@@ -53,7 +53,7 @@ good-by telling job end streams answer solution ended no_fault no_stall is =
     let of_streams : answer ≡ answer_of telling job end streams = is.is ∙ ap (answer_of telling job end) (one_solution job is.streams streams is.solution solution) in
     let good : answer_of telling job end streams ≡ record { output = output_in telling.form job.plan streams; notes = asked_report telling.report (report_of job streams); status = Good } = λ i. record {
       output = output_in telling.form job.plan streams;
-      notes = notes_by job.plan (ended i) (no_fault i) (bounds_of streams) (no_stall i) ++ asked_report telling.report (report_of job streams);
+      notes = notes_by (status_of (ended i) (no_fault i) (no_stall i)) job.plan (ended i) (no_fault i) (bounds_of streams) (no_stall i) ++ asked_report telling.report (report_of job streams);
       status = status_of (ended i) (no_fault i) (no_stall i);
     } in
     of_streams ∙ good

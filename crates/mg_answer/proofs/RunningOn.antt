@@ -1,21 +1,17 @@
 -- What a run that writes as it goes came to, by its status, and what follows of it.
 use Rattle.std.proofs.Common.{◌≡◌, ◌≢◌, ◌⊎◌, inl, inr, ℕ, Bool, List, [], ◌∷◌, refl, sym, ◌∙◌}
 use Rattle.mg_calc.specs.declared.plan.Plan.{Plan}
-use Rattle.mg_calc.specs.declared.node_fault.NodeFault.{NodeFault as Fault}
 use Rattle.mg_calc.specs.Meaning.{faults, stalled}
 use Rattle.mg_feed.specs.Graph.{inputs_of}
 use Rattle.mg_feed.specs.Ran.{EndCame}
-use Rattle.mg_feed.specs.declared.feed_end.FeedEnd.{FeedEnd}
-use Rattle.mg_feed.specs.declared.feed_end.FeedEnd.TheVariants.{Ended, Failed, Refused, OutOfMemory as no_lines}
-use Rattle.mg_answer.specs.Told.{status_of}
-use Rattle.mg_answer.specs.Answer.{Read, by_lines, job_of, answer_of}
+use Rattle.mg_answer.specs.Answer.{Read, by_lines, job_of, failed_notes, answer_of}
 use Rattle.mg_answer.specs.Devices.{RunDevices, HasRisen, NoneFailed}
 use Rattle.mg_answer.specs.Wrote.{Meets, MetShort, Wrote}
 use Rattle.mg_answer.specs.Status.{IsOneOf}
-use Rattle.mg_answer.specs.Ran.{CameAs, CameTo, RanAll, RanShort, RanOn, Ran, IsAnswered}
+use Rattle.mg_answer.specs.Ran.{CameTo, RanAll, RanShort, RanOn, Ran, IsAnswered}
 use Rattle.mg_answer.specs.declared.status.Status.{Status}
 use Rattle.mg_answer.specs.declared.status.Status.TheVariants.{Good, StoreFault, Usage, GraphRefused, LineRefused, NodeFault, Stalled, ReadFault, WriteFault, OutOfMemory}
-use Rattle.mg_answer.proofs.Answering.{WriteRisen, read_statuses, ran-read, ran-ended, ran-answered, read-risen, write-risen}
+use Rattle.mg_answer.proofs.Answering.{no-want, WriteRisen, read_statuses, ran-read, ran-ended, ran-answered, read-risen, write-risen}
 
 -- What was written --
 
@@ -32,24 +28,14 @@ wrote-answer report plan read status all came wrote by = record {
 
 wrote-short : (report : Bool) (plan : Plan) (read : Read) (status : Status) (all : RunDevices) → CameTo (inputs_of plan) all.input read
     → (wrote : Wrote (by_lines report) (job_of plan read) read.end status all.output all.notes)
-    → MetShort (answer_of (by_lines report) (job_of plan read) read.end wrote.streams) all.output all.notes → RanShort report plan all
+    → MetShort (answer_of (by_lines report) (job_of plan read) read.end wrote.streams) (failed_notes (by_lines report) (job_of plan read) read.end wrote.streams) all.output all.notes → RanShort report plan all
 wrote-short report plan read status all came wrote by = record {
   read = read;
   input = came;
   answer = answer_of (by_lines report) (job_of plan read) read.end wrote.streams;
   is = record { streams = wrote.streams; solution = wrote.solution; is = refl };
-  short = record { rose = by.rose; front = by.front; whole = by.whole };
+  short = by;
 }
-
--- an input that came to something was read without want of memory, and no status of it tells that
-no-want : (plan : Plan) (all : RunDevices) (end : FeedEnd) (fs : List Fault) (ns : List ℕ) (came : List ℕ) (read : Read) → CameAs end (inputs_of plan) all.input came read
-    → OutOfMemory ≡ status_of end fs ns → ⊥
-no-want plan all Ended [] [] came read by is = cc
-no-want plan all Ended [] (n ∷ ns) came read by is = cc
-no-want plan all Ended (f ∷ fs) ns came read by is = cc
-no-want plan all (Failed lines) fs ns came read by is = cc
-no-want plan all (Refused line cause) fs ns came read by is = cc
-no-want plan all no_lines fs ns came read by is = absurd by
 
 pub written-ran : (report : Bool) (plan : Plan) (read : Read) (all : RunDevices) (status : Status) → CameTo (inputs_of plan) all.input read
     → Wrote (by_lines report) (job_of plan read) read.end status all.output all.notes → RanOn report plan status all
@@ -63,7 +49,7 @@ written-ran report plan read all Stalled came wrote = wrote-answer report plan r
 written-ran report plan read all ReadFault came wrote = wrote-answer report plan read ReadFault all came wrote wrote.by
 written-ran report plan read all WriteFault came wrote = wrote-short report plan read WriteFault all came wrote wrote.by
 written-ran report plan read all OutOfMemory came wrote =
-    absurd (no-want plan all read.end (faults (job_of plan read) wrote.streams) (stalled wrote.streams) came.came read came.by wrote.by.told)
+    absurd (no-want plan all.input read.end (faults (job_of plan read) wrote.streams) (stalled wrote.streams) came.came read came.by wrote.by.told)
 
 -- What follows --
 

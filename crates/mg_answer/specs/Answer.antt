@@ -20,6 +20,7 @@ use Rattle.mg_answer.specs.Report.{report_of, asked_report}
 use Rattle.mg_answer.specs.Told.{status_of}
 use Rattle.mg_answer.specs.Notes.{notes_of}
 use Rattle.mg_answer.specs.declared.status.Status.{Status}
+use Rattle.mg_answer.specs.declared.status.Status.TheVariants.{WriteFault}
 
 -- The input --
 
@@ -98,11 +99,19 @@ pub record Answer : Type 0 where
   pub notes : List ℕ
   pub status : Status
 
+-- the notes of a run that ends with a status, over the streams of a job whose input ended so: the report stands last
+abbrev pub notes_at : Status → Telling → Job → FeedEnd → List (StreamPrefix Plain) → List ℕ
+notes_at status telling job end streams = notes_of status job.plan end (faults job streams) streams ++ asked_report telling.report (report_of job streams)
+
+-- the notes where a write of the output failed
+abbrev pub failed_notes : Telling → Job → FeedEnd → List (StreamPrefix Plain) → List ℕ
+failed_notes telling job end streams = notes_at WriteFault telling job end streams
+
 -- the answer that the streams of a job make, whose input ended so
 abbrev pub answer_of : Telling → Job → FeedEnd → List (StreamPrefix Plain) → Answer
 answer_of telling job end streams = record {
   output = output_in telling.form job.plan streams;
-  notes = notes_of job.plan end (faults job streams) streams ++ asked_report telling.report (report_of job streams);
+  notes = notes_at (status_of end (faults job streams) (stalled streams)) telling job end streams;
   status = status_of end (faults job streams) (stalled streams);
 }
 

@@ -1,9 +1,9 @@
 -- The devices of a run, and what the run did to each: what each told of itself before it, and tells now. What a source
 -- and a sink did is said by mg_feed's words for it (`specs/Ran.antt` and `specs/Sent.antt` there).
-use Rattle.std.specs.Prelude.{◌≡◌, ℕ, ◌^◌, ◌-◌, ◌<◌, List, ◌++◌}
+use Rattle.std.specs.Prelude.{◌≡◌, ◌⊎◌, ℕ, ◌^◌, ◌-◌, ◌<◌, List, ◌++◌}
 use Rattle.mg_edge.specs.Edge.{SourceTold, SinkTold}
 use Rattle.mg_edge.specs.Runs.{TookAll}
-use Rattle.mg_feed.specs.Sent.{SentAll}
+use Rattle.mg_feed.specs.Sent.{SentAll, SentPart}
 
 pub record Device (T : Type 0) : Type 0 where
   pub before : T
@@ -53,3 +53,11 @@ TookFront sink text = (front : List ℕ) × IsFront front text × TookAll sink.b
 -- A sink took a whole text, and no write failed.
 abbrev pub TookText : Device SinkTold → List ℕ → Type 0
 TookText sink text = SentAll sink.before sink.now text
+
+-- A sink took a front of a text, and a write of it failed.
+abbrev pub TookPart : Device SinkTold → List ℕ → Type 0
+TookPart sink text = SentPart sink.before sink.now text
+
+-- The notes took a text, or a front of it where a write failed.
+abbrev pub Noted : Device SinkTold → List ℕ → Type 0
+Noted notes text = TookText notes text ⊎ TookPart notes text

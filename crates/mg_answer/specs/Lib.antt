@@ -13,3 +13,5 @@ pub mod Put
 pub mod Wrote
 pub mod Ran
 pub mod Code
+-- What the prover wants of the types beside their meaning. No meaning rests on it.
+pub mod Codes

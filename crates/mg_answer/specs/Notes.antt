@@ -20,7 +20,6 @@ use Rattle.mg_feed.specs.declared.feed_end.FeedEnd.{FeedEnd}
 use Rattle.mg_feed.specs.declared.feed_end.FeedEnd.TheVariants.{Ended, Failed, Refused, OutOfMemory}
 use Rattle.mg_answer.specs.Shown.{shown}
 use Rattle.mg_answer.specs.Text.{name_of}
-use Rattle.mg_answer.specs.Told.{status_of}
 use Rattle.mg_answer.specs.declared.status.Status.{Status}
 use Rattle.mg_answer.specs.declared.status.Status.TheVariants as runs
 
@@ -107,25 +106,36 @@ abbrev pub stall_note : Plan → List ℕ → ℕ → List ℕ
 stall_note plan bounds number =
     codes "stalled: " ++ shown (name_of plan number) ++ codes " " ++ time_text (slice_index_or bounds number pre_stream) ++ codes "\n"
 
--- the streams of these numbers are noted at one status alone
-abbrev pub stall_notes : Status → Plan → List ℕ → List ℕ → List ℕ
-stall_notes runs.Good plan bounds stalled = []
-stall_notes runs.StoreFault plan bounds stalled = []
-stall_notes runs.Usage plan bounds stalled = []
-stall_notes runs.GraphRefused plan bounds stalled = []
-stall_notes runs.LineRefused plan bounds stalled = []
-stall_notes runs.NodeFault plan bounds stalled = []
-stall_notes runs.Stalled plan bounds stalled = flat_map (stall_note plan bounds) stalled
-stall_notes runs.ReadFault plan bounds stalled = []
-stall_notes runs.WriteFault plan bounds stalled = []
-stall_notes runs.OutOfMemory plan bounds stalled = []
+-- The end --
 
--- All notes of a run: how the input ended, then each node's fault in node order, then the streams that haven't ended, in
--- stream order, exactly where this is the status. Of the streams it takes the bounds and the numbers of those that stalled.
-abbrev pub notes_by : Plan → FeedEnd → List NodeFault → List ℕ → List ℕ → List ℕ
-notes_by plan end faults bounds stalled =
-    end_note end ++ flat_map (fault_note plan) faults ++ stall_notes (status_of end faults stalled) plan bounds stalled
+-- something couldn't be written
+abbrev pub write_note : List ℕ
+write_note = codes "write fault\n"
+
+-- memory ran out; it is the only note then
+abbrev pub memory_note : List ℕ
+memory_note = codes "out of memory\n"
+
+-- What three of the statuses are noted by, each at that status alone: the streams of these numbers haven't ended; a write failed;
+-- memory ran out.
+abbrev pub status_notes : Status → Plan → List ℕ → List ℕ → List ℕ
+status_notes runs.Good plan bounds stalled = []
+status_notes runs.StoreFault plan bounds stalled = []
+status_notes runs.Usage plan bounds stalled = []
+status_notes runs.GraphRefused plan bounds stalled = []
+status_notes runs.LineRefused plan bounds stalled = []
+status_notes runs.NodeFault plan bounds stalled = []
+status_notes runs.Stalled plan bounds stalled = flat_map (stall_note plan bounds) stalled
+status_notes runs.ReadFault plan bounds stalled = []
+status_notes runs.WriteFault plan bounds stalled = write_note
+status_notes runs.OutOfMemory plan bounds stalled = memory_note
+
+-- All notes of a run that ends with a status: how the input ended, then each node's fault in node order, then what the status is
+-- noted by, the streams in stream order. Of the streams it takes the bounds and the numbers of those that stalled.
+abbrev pub notes_by : Status → Plan → FeedEnd → List NodeFault → List ℕ → List ℕ → List ℕ
+notes_by status plan end faults bounds stalled =
+    end_note end ++ flat_map (fault_note plan) faults ++ status_notes status plan bounds stalled
 
 -- the notes that the streams of a plan make
-abbrev pub notes_of : Plan → FeedEnd → List NodeFault → List (StreamPrefix Plain) → List ℕ
-notes_of plan end faults streams = notes_by plan end faults (bounds_of streams) (stalled streams)
+abbrev pub notes_of : Status → Plan → FeedEnd → List NodeFault → List (StreamPrefix Plain) → List ℕ
+notes_of status plan end faults streams = notes_by status plan end faults (bounds_of streams) (stalled streams)

@@ -1,4 +1,4 @@
--- A text that is put set by set, and written in blocks as it grows.
+-- A text that is put part by part, as set by set, and written in blocks as it grows.
 use Rattle.std.specs.Prelude.{◌≡◌, ℕ, List, [], ◌++◌, Bool, true, false}
 use Rattle.mg_edge.specs.Edge.{SinkTold}
 use Rattle.mg_feed.specs.Sent.{SentAll, SentPart}
@@ -14,6 +14,14 @@ pub record TextView : Type 0 where
 abbrev pub nothing_put : List (List ℕ) → TextView
 nothing_put names = record { names = names; kept = []; failed = false }
 
+-- what writes a text in blocks: the bytes that aren't written yet, and whether a write has failed
+pub record BlockView : Type 0 where
+  pub kept : List ℕ
+  pub failed : Bool
+
+abbrev pub nothing_kept : BlockView
+nothing_kept = record { kept = []; failed = false }
+
 -- by whether a write has failed: a front of the text was taken, and nothing more is written; or all of it was sent but what
 -- is kept
 abbrev pub PutBy : Bool → SinkTold → SinkTold → List ℕ → List ℕ → Type 0
@@ -21,5 +29,8 @@ PutBy true first now kept text = SentPart first now text
 PutBy false first now kept text = (sent : List ℕ) × SentAll first now sent × (text ≡ sent ++ kept)
 
 -- All of a text was put, since a sink told `first`.
+abbrev pub HasPutIn : SinkTold → SinkTold → BlockView → List ℕ → Type 0
+HasPutIn first now view text = PutBy view.failed first now view.kept text
+
 abbrev pub HasPut : SinkTold → SinkTold → TextView → List ℕ → Type 0
 HasPut first now view text = PutBy view.failed first now view.kept text

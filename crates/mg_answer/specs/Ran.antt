@@ -1,6 +1,6 @@
 -- What a run came to, by its status.
 use Rattle.std.specs.Prelude.{◌≡◌, ℕ, ◌⊎◌, ◌++◌, List, [], ◌∷◌, Bool, true, false, IfSome}
-use Rattle.mg_edge.specs.Edge.{SourceTold}
+use Rattle.mg_edge.specs.Edge.{SourceTold, SinkTold}
 use Rattle.mg_edge.specs.Runs.{Gave}
 use Rattle.mg_calc.specs.declared.plan.Plan.{Plan}
 use Rattle.mg_feed.specs.Graph.{GraphInputs, inputs_of}
@@ -13,8 +13,9 @@ use Rattle.mg_value.specs.Prefix.{StreamPrefix}
 use Rattle.mg_calc.specs.Equations.{IsSolution}
 use Rattle.mg_answer.specs.Text.{output_of}
 use Rattle.mg_answer.specs.Summary.{summary_of}
-use Rattle.mg_answer.specs.Answer.{Read, Answer, ended_input, cut_input, job_of, generated_job, IsAnswer, AnswersEnded, AnswersGenerated}
-use Rattle.mg_answer.specs.Devices.{Device, RunDevices, Untouched, TookFront, TookText}
+use Rattle.mg_answer.specs.Notes.{memory_note}
+use Rattle.mg_answer.specs.Answer.{Read, Answer, by_lines, by_summary, failed_notes, ended_input, cut_input, job_of, generated_job, IsAnswer, AnswersEnded, AnswersGenerated}
+use Rattle.mg_answer.specs.Devices.{Device, RunDevices, Untouched, TookFront, Noted}
 use Rattle.mg_answer.specs.Wrote.{Meets, MetShort}
 use Rattle.mg_answer.specs.declared.status.Status.{Status}
 use Rattle.mg_answer.specs.declared.status.Status.TheVariants.{WriteFault, OutOfMemory}
@@ -55,37 +56,37 @@ pub record RanShort (report : Bool) (plan : Plan) (devices : RunDevices) : Type 
   pub input : CameTo (inputs_of plan) devices.input read
   pub answer : Answer
   pub is : IsAnswer report plan read answer
-  pub short : MetShort answer devices.output devices.notes
+  pub short : MetShort answer (failed_notes (by_lines report) (job_of plan read) read.end is.streams) devices.output devices.notes
 
 -- The output took a front of the answer's text over what the input came to.
-pub record TookSome (plan : Plan) (devices : RunDevices) : Type 0 where
+pub record TookSome (plan : Plan) (input : Device SourceTold) (output : Device SinkTold) : Type 0 where
   pub read : Read
-  pub input : CameTo (inputs_of plan) devices.input read
+  pub came : CameTo (inputs_of plan) input read
   pub streams : List (StreamPrefix Plain)
   pub solution : IsSolution (job_of plan read) streams
-  pub front : TookFront devices.output (output_of plan streams)
+  pub front : TookFront output (output_of plan streams)
 
 -- Memory ran out, before anything was written or after the input was read.
 abbrev pub RanOut : Plan → RunDevices → Type 0
-RanOut plan devices = Untouched devices.output ⊎ TookSome plan devices
+RanOut plan devices = Untouched devices.output ⊎ TookSome plan devices.input devices.output
 
--- A run ended with this status.
+-- A run ended with this status. Where memory ran out the notes say that alone.
 abbrev pub Ran : Bool → Plan → Status → RunDevices → Type 0
 Ran report plan WriteFault devices = RanShort report plan devices
-Ran report plan OutOfMemory devices = RanOut plan devices
+Ran report plan OutOfMemory devices = RanOut plan devices × Noted devices.notes memory_note
 Ran report plan status devices = RanAll report plan status devices
 
 -- Memory ran out: after the input was read, and the output took a front of the answer's text over what it came to; or while it
 -- came, and where the input tells its bytes the output took a front of the answer's text over an input that ends after them.
 abbrev pub RanShortOf : Plan → RunDevices → Type 0
 RanShortOf plan devices =
-    TookSome plan devices ⊎ IfSome devices.input.before.left (λ bytes. (streams : List (StreamPrefix Plain))
+    TookSome plan devices.input devices.output ⊎ IfSome devices.input.before.left (λ bytes. (streams : List (StreamPrefix Plain))
     → IsSolution (job_of plan (ended_input (inputs_of plan) bytes)) streams → TookFront devices.output (output_of plan streams))
 
 -- A run that writes as it goes ended with this status.
 abbrev pub RanOn : Bool → Plan → Status → RunDevices → Type 0
 RanOn report plan WriteFault devices = RanShort report plan devices
-RanOn report plan OutOfMemory devices = RanShortOf plan devices
+RanOn report plan OutOfMemory devices = RanShortOf plan devices × Noted devices.notes memory_note
 RanOn report plan status devices = RanAll report plan status devices
 
 -- Where the input tells its bytes, the run met the answer over an input that ends after them.
@@ -105,16 +106,16 @@ pub record GeneratedAll (report : Bool) (plan : Plan) (number : ℕ) (status : S
 pub record GeneratedShort (report : Bool) (plan : Plan) (number : ℕ) (devices : RunDevices) : Type 0 where
   pub answer : Answer
   pub is : AnswersGenerated report plan number answer
-  pub short : MetShort answer devices.output devices.notes
+  pub short : MetShort answer (failed_notes (by_summary report) (generated_job plan number) Ended is.streams) devices.output devices.notes
 
 -- Memory ran out: the output took a front of the summary.
-pub record GeneratedSome (plan : Plan) (number : ℕ) (devices : RunDevices) : Type 0 where
+pub record GeneratedSome (plan : Plan) (number : ℕ) (output : Device SinkTold) : Type 0 where
   pub streams : List (StreamPrefix Plain)
   pub solution : IsSolution (generated_job plan number) streams
-  pub front : TookFront devices.output (summary_of plan streams)
+  pub front : TookFront output (summary_of plan streams)
 
 -- A run over so many packets that are made ended with this status.
 abbrev pub RanGenerated : Bool → Plan → ℕ → Status → RunDevices → Type 0
 RanGenerated report plan number WriteFault devices = GeneratedShort report plan number devices
-RanGenerated report plan number OutOfMemory devices = GeneratedSome plan number devices
+RanGenerated report plan number OutOfMemory devices = GeneratedSome plan number devices.output × Noted devices.notes memory_note
 RanGenerated report plan number status devices = GeneratedAll report plan number status devices

@@ -1,12 +1,12 @@
 -- What was written of the answer of a job.
-use Rattle.std.specs.Prelude.{◌≡◌, ◌⊎◌, List}
+use Rattle.std.specs.Prelude.{◌≡◌, ◌⊎◌, ℕ, List}
 use Rattle.mg_edge.specs.Edge.{SinkTold, Rose}
 use Rattle.mg_value.specs.Payload.{Plain}
 use Rattle.mg_value.specs.Prefix.{StreamPrefix}
 use Rattle.mg_calc.specs.Equations.{Job, IsSolution}
 use Rattle.mg_feed.specs.declared.feed_end.FeedEnd.{FeedEnd}
-use Rattle.mg_answer.specs.Answer.{Telling, Answer, answer_of}
-use Rattle.mg_answer.specs.Devices.{Device, TookFront, TookText}
+use Rattle.mg_answer.specs.Answer.{Telling, Answer, answer_of, failed_notes}
+use Rattle.mg_answer.specs.Devices.{Device, TookFront, TookText, TookPart, Noted}
 use Rattle.mg_answer.specs.declared.status.Status.{Status}
 use Rattle.mg_answer.specs.declared.status.Status.TheVariants.{WriteFault}
 
@@ -16,18 +16,20 @@ pub record Meets (answer : Answer) (status : Status) (output notes : Device Sink
   pub noted : TookText notes answer.notes
   pub told : status ≡ answer.status
 
--- A write failed, after all was told. Where none to the output did, it took all of the answer's text.
-pub record MetShort (answer : Answer) (output notes : Device SinkTold) : Type 0 where
+-- A write failed, after all was told. Where none to the output did, it took all of the answer's text, and the notes took a front of the
+-- answer's. Where one did, the notes took those that say so (`failed`), or a front of them where a write of them failed too.
+pub record MetShort (answer : Answer) (failed : List ℕ) (output notes : Device SinkTold) : Type 0 where
   pub rose : Rose output.before.faults output.now.faults ⊎ Rose notes.before.faults notes.now.faults
   pub front : TookFront output answer.output
   pub whole : Rose output.before.faults output.now.faults ⊎ TookText output answer.output
+  pub noted : (Rose output.before.faults output.now.faults × Noted notes failed) ⊎ (TookText output answer.output × TookPart notes answer.notes)
 
-abbrev pub WroteBy : Status → Answer → Device SinkTold → Device SinkTold → Type 0
-WroteBy WriteFault answer output notes = MetShort answer output notes
-WroteBy status answer output notes = Meets answer status output notes
+abbrev pub WroteBy : Status → Answer → List ℕ → Device SinkTold → Device SinkTold → Type 0
+WroteBy WriteFault answer failed output notes = MetShort answer failed output notes
+WroteBy status answer failed output notes = Meets answer status output notes
 
 -- the answer of a job's solution was written, told so
 pub record Wrote (telling : Telling) (job : Job) (end : FeedEnd) (status : Status) (output notes : Device SinkTold) : Type 0 where
   pub streams : List (StreamPrefix Plain)
   pub solution : IsSolution job streams
-  pub by : WroteBy status (answer_of telling job end streams) output notes
+  pub by : WroteBy status (answer_of telling job end streams) (failed_notes telling job end streams) output notes

@@ -1,5 +1,5 @@
 //! The end of a run: the rest of its output text, its notes and its status.
-ghost use Rattle.std.specs.Prelude.{◌≡◌, ◌<◌, ◌^◌, ◌&&◌, if◌then◌else◌, All, length, List, ℕ, IfOk, OnErr};
+ghost use Rattle.std.specs.Prelude.{◌≡◌, ◌<◌, ◌^◌, if◌then◌else◌, All, length, List, ℕ, IfOk, OnErr};
 ghost use Rattle.mg_edge.specs.Edge.{SinkTold};
 ghost use Rattle.mg_value.specs.Payload.{Plain};
 ghost use Rattle.mg_value.specs.Prefix.{StreamPrefix};
@@ -13,7 +13,7 @@ ghost use Rattle.mg_answer.specs.Wrote.{Wrote};
 ghost use Rattle.mg_answer.specs.Code.Bounds.{open_numbers};
 ghost use Rattle.mg_answer.specs.Code.Said.{all_notes};
 
-use crate::notes::{put_end, put_faults, put_stalled};
+use crate::notes::{put_end, put_faults, put_status};
 use crate::report::put_asked;
 use crate::told::{stalled_of, status_of};
 use crate::{Outcomes, OutputText, Run, Status};
@@ -24,7 +24,8 @@ use std::alloc::AllocError;
 /// Ends a run whose sets are all put: writes the rest of the output text and then the notes, with the report behind them where
 /// it is asked for, and answers the status. The notes are told of how the input ended and of what came of the nodes and streams.
 ///
-/// Where a write of the text has failed, or that of the rest does, the notes are written all the same.
+/// Where a write of the text has failed, or that of the rest does, the notes are written all the same, and say so. Where memory runs out
+/// none is written.
 pub fn conclude<K: Sink, E: Sink>(
     run: &Run<'_>,
     end: FeedEnd,
@@ -47,22 +48,19 @@ pub fn conclude<K: Sink, E: Sink>(
     // Memory ran out: a front of the text was taken.
     ensures front { OnErr result ((first : SinkTold) (whole : List ℕ) → HasPut first (K.told output.old) text whole
         → TookFront (device first (K.told output.new)) whole) }
+    ensures unnoted { OnErr result (E.told notes.new ≡ E.told notes.old) }
 {
     text.flush(output);
-    let told = tell(run, end, outcomes)?;
+    let told = tell(run, end, outcomes, !text.has_failed())?;
     let noted = put_all(notes, &told.notes);
-    Ok(written_status(told.status, !text.has_failed(), noted))
+    Ok(unless_failed(noted, told.status))
 }
 
-// The status, unless a write failed.
-fn written_status(status: Status, written: bool, noted: bool) -> Status
-    ensures { result ≡ (if written && noted then status else Status.WriteFault) }
+// The status where something was written, which was or wasn't.
+fn unless_failed(written: bool, status: Status) -> Status
+    ensures { result ≡ (if written then status else Status.WriteFault) }
 {
-    if written && noted {
-        status
-    } else {
-        Status::WriteFault
-    }
+    if written { status } else { Status::WriteFault }
 }
 
 // What is told of a solution.
@@ -72,23 +70,23 @@ struct Told {
     notes: Vec<u8>,
 }
 
-// The status and the notes of a run whose input ended so.
-fn tell(run: &Run<'_>, end: FeedEnd, outcomes: &Outcomes) -> Result<Told, AllocError>
+// The status and the notes of a run whose input ended so, and whose text was written or wasn't.
+fn tell(run: &Run<'_>, end: FeedEnd, outcomes: &Outcomes, written: bool) -> Result<Told, AllocError>
     requires few { length outcomes.now.ends.items < 2 ^ 32 }
     requires many { length outcomes.now.ends.items ≡ length run.now.plan.now.streams }
     requires sets { length outcomes.now.sets ≡ length run.now.plan.now.nodes }
     requires nodes { All (λ fault. fault.node < length run.now.plan.now.nodes) outcomes.now.faults }
-    ensures status { IfOk result (λ told. told.status ≡ the_status end outcomes.now.faults (open_numbers outcomes.now.ends.items)) }
-    ensures notes { IfOk result (λ told. told.notes.items ≡ all_notes run.now.plan.now end outcomes.now run.now.report) }
+    ensures status { IfOk result (λ told. told.status ≡ (if written then the_status end outcomes.now.faults (open_numbers outcomes.now.ends.items) else Status.WriteFault)) }
+    ensures notes { IfOk result (λ told. told.notes.items ≡ all_notes told.status run.now.plan.now end outcomes.now run.now.report) }
 {
     let faults = outcomes.faults.as_slice();
     let ends = outcomes.ends.as_slice();
     let stalled = stalled_of(run.alloc, ends)?;
-    let status = status_of(end, faults, &stalled);
+    let status = unless_failed(written, status_of(end, faults, &stalled));
     let mut notes = Vec::new(run.alloc);
     put_end(&mut notes, end)?;
     put_faults(&mut notes, run.plan, faults)?;
-    put_stalled(&mut notes, status, run.plan, ends, &stalled)?;
+    put_status(&mut notes, status, run.plan, ends, &stalled)?;
     put_asked(
         &mut notes,
         run.report,

@@ -5,8 +5,10 @@
 //! `specs/Answer.antt`, `specs/Put.antt`, `specs/Wrote.antt` and `specs/Ran.antt`.
 #![tactic(auto)]
 
+mod block_text;
 mod concluding;
 mod devices;
+mod failing;
 pub mod laws;
 mod notes;
 mod outcomes;
@@ -24,8 +26,10 @@ mod total;
 mod total_lines;
 mod words;
 
+pub use block_text::{BlockText, Puts};
 pub use concluding::conclude;
 pub use devices::Devices;
+pub use failing::{note_out_of_memory, note_write_fault};
 pub use outcomes::{Outcomes, StreamEnd};
 pub use output_summary::OutputSummary;
 pub use output_text::OutputText;

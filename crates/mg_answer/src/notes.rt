@@ -5,6 +5,7 @@ ghost use Rattle.mg_time.specs.Time.{pre_stream};
 ghost use Rattle.mg_answer.specs.Notes as notes;
 ghost use Rattle.mg_answer.specs.Code.Bounds.{end_bounds};
 
+use crate::failing::{MEMORY_NOTE, WRITE_NOTE};
 use crate::pieces::{label_at, put, put_number, put_time};
 use crate::set_lines::stream_name;
 use crate::shown::put_shown;
@@ -100,8 +101,8 @@ fn put_phase(text: &mut Vec<u8>, phase: Phase) -> Result<(), AllocError>
     }
 }
 
-/// Puts the notes of stalled streams at a text's end, where the status asks for them.
-pub fn put_stalled(
+/// Puts what a status is noted by at a text's end: the streams that stalled, that a write failed, or that memory ran out.
+pub fn put_status(
     text: &mut Vec<u8>,
     status: Status,
     plan: &Plan,
@@ -110,11 +111,27 @@ pub fn put_stalled(
 ) -> Result<(), AllocError>
     requires numbers { All (λ number. number < length ends.now) stalled.now }
     requires many { length ends.now ≡ length plan.now.streams }
-    ensures { OnOk result (text.new.items ≡ text.old.items ++ notes.stall_notes status plan.now (end_bounds ends.now) stalled.now) }
+    ensures { OnOk result (text.new.items ≡ text.old.items ++ notes.status_notes status plan.now (end_bounds ends.now) stalled.now) }
 {
-    if status != Status::Stalled {
-        return Ok(());
+    match status {
+        Status::Stalled => put_stalled(text, plan, ends, stalled),
+        Status::WriteFault => put(text, WRITE_NOTE),
+        Status::OutOfMemory => put(text, MEMORY_NOTE),
+        _ => Ok(()),
     }
+}
+
+// Puts the notes of stalled streams.
+fn put_stalled(
+    text: &mut Vec<u8>,
+    plan: &Plan,
+    ends: &[StreamEnd],
+    stalled: &[u32],
+) -> Result<(), AllocError>
+    requires numbers { All (λ number. number < length ends.now) stalled.now }
+    requires many { length ends.now ≡ length plan.now.streams }
+    ensures { OnOk result (text.new.items ≡ text.old.items ++ flat_map (notes.stall_note plan.now (end_bounds ends.now)) stalled.now) }
+{
     for number in stalled {
         put_stall(text, plan, ends, *number)?;
     }

@@ -3,28 +3,24 @@ ghost use Rattle.std.specs.Prelude.{◌≡◌, ◌<◌, ◌++◌, [], false, All
 ghost use Rattle.mg_edge.specs.Edge.{SinkTold};
 ghost use Rattle.mg_answer.specs.Text.{output_names, set_text};
 ghost use Rattle.mg_answer.specs.Put.{nothing_put, HasPut};
-ghost use Rattle.mg_answer.specs.Code.Written.{HandedOn};
 
-use crate::set_lines::{push_set, writers_of};
+use crate::BlockText;
+use crate::set_lines::{SetLines, writers_of};
 use mg_calc::Plan;
 use mg_edge::Sink;
-use mg_feed::{LineWriter, put_all};
+use mg_feed::LineWriter;
 use mg_value::InputSet;
 use std::alloc::{AllocError, Global};
 use std::marker::Model;
 
-// How many bytes a text has before they are handed on.
-const BLOCK: usize = 1 << 16;
-
-/// The text that a graph's outputs make, on its way to a sink: sets are put one after the other, and their lines are written
-/// once there is a block of 64 KiB. Once a write has failed nothing more is written.
+/// The text that a graph's outputs make, on its way to a sink: sets are put one after the other, and their lines are written in blocks.
+/// Once a write has failed nothing more is written.
 ///
 /// What of a text was put, and what a sink took of it, is `HasPut` of `specs/Put.antt`.
 #[derive(Drop)]
 pub struct OutputText {
     writers: Vec<LineWriter>,
-    text: Vec<u8>,
-    failed: bool,
+    blocks: BlockText,
 }
 
 impl Model for OutputText {
@@ -33,7 +29,7 @@ impl Model for OutputText {
 
     ghost Value = { TextView };
 
-    ghost view = { λ t. record { names = t.writers.items; kept = t.text.items; failed = t.failed } };
+    ghost view = { λ t. record { names = t.writers.items; kept = t.blocks.kept; failed = t.blocks.failed } };
 
     ghost invariant = { λ t. length t.writers.items < 2 ^ 32 };
 }
@@ -47,8 +43,7 @@ impl OutputText {
         let writers = writers_of(alloc, plan)?;
         Ok(OutputText {
             writers,
-            text: Vec::new(alloc),
-            failed: false,
+            blocks: BlockText::new(alloc),
         })
     }
 
@@ -58,8 +53,7 @@ impl OutputText {
     {
         OutputText {
             writers: Vec::new(alloc),
-            text,
-            failed: false,
+            blocks: BlockText::whole(text),
         }
     }
 
@@ -71,11 +65,11 @@ impl OutputText {
             → HasPut first (K.told output.new) self.new (text ++ set_text self.old.names set.now)) }
         ensures unwritten { OnErr result (K.told output.new ≡ K.told output.old) }
     {
-        if self.failed {
-            return Ok(());
-        }
-        push_set(&mut self.text, self.writers.as_slice(), set)?;
-        self.failed = !hand_on(output, &mut self.text);
+        let lines = SetLines {
+            writers: self.writers.as_slice(),
+            set,
+        };
+        self.blocks.put(&lines, output)?;
         Ok(())
     }
 
@@ -85,29 +79,13 @@ impl OutputText {
         ensures put { (first : SinkTold) (text : List ℕ) → HasPut first (K.told output.old) self.old text → HasPut first (K.told output.new) self.new text }
         ensures kept { self.new.failed ≡ false → self.new.kept ≡ [] }
     {
-        if self.failed {
-            return;
-        }
-        self.failed = !put_all(output, &self.text);
-        self.text.clear();
+        self.blocks.flush(output);
     }
 
     /// Whether a write has failed.
     pub fn has_failed(&self) -> bool
         ensures { result ≡ self.now.failed }
     {
-        self.failed
+        self.blocks.has_failed()
     }
-}
-
-// Hands a text on once it has a block of bytes. False where a write failed.
-fn hand_on<K: Sink>(output: &mut K, text: &mut Vec<u8>) -> bool
-    ensures { HandedOn result (K.told output.old) (K.told output.new) text.old.items text.new.items }
-{
-    if text.len() < BLOCK {
-        return true;
-    }
-    let all = put_all(output, text);
-    text.clear();
-    all
 }

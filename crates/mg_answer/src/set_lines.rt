@@ -3,6 +3,7 @@ ghost use Rattle.std.specs.Prelude.{◌≡◌, ◌<◌, ◌^◌, ◌++◌, All, 
 ghost use Rattle.std.specs.Option.{option_copied};
 ghost use Rattle.mg_answer.specs.Text.{name_of, output_names, packet_text, set_text};
 
+use crate::Puts;
 use mg_calc::Plan;
 use mg_feed::LineWriter;
 use mg_value::{InputSet, MgText, Packet};
@@ -36,12 +37,25 @@ pub fn stream_name(plan: &Plan, number: u32) -> &MgText
     &plan.streams.as_slice()[number as usize].name
 }
 
-/// Puts the lines of a set at a text's end.
-pub fn push_set(
-    text: &mut Vec<u8>,
-    writers: &[LineWriter],
-    set: &InputSet,
-) -> Result<(), AllocError>
+/// The lines of a set, of which each output has one where it has a packet there.
+#[derive(Drop)]
+pub struct SetLines<'w, 's> {
+    pub writers: &'w [LineWriter],
+    pub set: &'s InputSet,
+    ghost few: { length writers.now < 2 ^ 32 },
+}
+
+impl<'w, 's> Puts for SetLines<'w, 's> {
+    ghost says = { λ lines. set_text lines.writers.now lines.set.now };
+
+    fn put_at(&self, text: &mut Vec<u8>) -> Result<(), AllocError> {
+        push_set(text, self.writers, self.set)?;
+        Ok(())
+    }
+}
+
+// Puts the lines of a set at a text's end.
+fn push_set(text: &mut Vec<u8>, writers: &[LineWriter], set: &InputSet) -> Result<(), AllocError>
     requires { length writers.now < 2 ^ 32 }
     ensures { OnOk result (text.new.items ≡ text.old.items ++ set_text writers.now set.now) }
 {

@@ -1,5 +1,5 @@
 //! A run that computes its answer plainly: the whole input is read, and then its solution is written.
-ghost use Rattle.std.specs.Prelude.{◌≡◌, ◌≢◌, ◌<◌, ◌⊎◌, ◌∷◌, [], false, All, length, map, MatchResult, IfOk};
+ghost use Rattle.std.specs.Prelude.{◌≡◌, ◌≢◌, ◌<◌, ◌⊎◌, ◌∷◌, [], false, All, length, map, MatchResult, IfOk, OnErr};
 ghost use Rattle.mg_value.specs.Prefix.{IsPrefix};
 ghost use Rattle.mg_feed.specs.Stands.{Stands, nothing_taken};
 ghost use Rattle.mg_feed.specs.FeedSeen.{seen, fed};
@@ -19,6 +19,7 @@ ghost use Rattle.mg_feed.specs.Graph.{inputs_of};
 ghost use Rattle.mg_answer.specs.Answer.{Read, by_lines};
 
 use crate::concluding::conclude;
+use crate::failing::note_out_of_memory;
 use crate::told::{is_ended, ran_out};
 use crate::{Devices, Outcomes, OutputText, Run, Status, StreamEnd};
 use mg_calc::{Inputs, Plan};
@@ -32,7 +33,7 @@ use std::alloc::{AllocError, Global};
 /// what they give, and writes the output text and then the notes, with the report behind them where it is asked for. It calls
 /// no calculator that is handed in.
 ///
-/// Once a write to the output has failed nothing more is written to it; the notes are written all the same.
+/// Once a write to the output has failed nothing more is written to it; the notes are written all the same, and say so.
 pub fn solve_input<S: Source, K: Sink, E: Sink>(
     run: &Run<'_>,
     devices: &mut Devices<'_, '_, '_, S, K, E>,
@@ -74,7 +75,10 @@ fn solve_whole<S: Source, K: Sink, E: Sink>(
 {
     match Feed::new(run.alloc, run.plan) {
         Ok(feed) => solve_feed(run, feed, devices),
-        Err(_) => Status::OutOfMemory,
+        Err(_) => {
+            note_out_of_memory(devices.notes);
+            Status::OutOfMemory
+        }
     }
 }
 
@@ -93,11 +97,15 @@ fn solve_feed<S: Source, K: Sink, E: Sink>(
 {
     let (end, inputs) = read_inputs(feed, devices.input);
     if ran_out(end) {
+        note_out_of_memory(devices.notes);
         return Status::OutOfMemory;
     }
     match answer(run, &inputs, end, devices.output, devices.notes) {
         Ok(status) => status,
-        Err(_) => Status::OutOfMemory,
+        Err(_) => {
+            note_out_of_memory(devices.notes);
+            Status::OutOfMemory
+        }
     }
 }
 
@@ -122,9 +130,10 @@ fn answer<K: Sink, E: Sink>(
 ) -> Result<Status, AllocError>
     requires plan { IsValid run.now.plan.now }
     requires inputs { InputsFit run.now.plan.now inputs.now }
-    ensures { MatchResult result
+    ensures wrote { MatchResult result
         (λ status. Wrote (by_lines run.now.report) (record { plan = run.now.plan.now; inputs = inputs.now }) end status (device (K.told output.old) (K.told output.new)) (device (E.told notes.old) (E.told notes.new)))
         (λ _. WroteSome (record { plan = run.now.plan.now; inputs = inputs.now }) (device (K.told output.old) (K.told output.new))) }
+    ensures unnoted { OnErr result (E.told notes.new ≡ E.told notes.old) }
 {
     let solved = solve(run.alloc, run.plan, inputs)?;
     let ends = ends_of(run.alloc, solved.prefixes.as_slice())?;

@@ -5,7 +5,7 @@
 use mg_batch::{BatchBox, begin_loop_box, end_loop_box};
 use mg_calc::Calculator;
 use mg_edge::{FolderStore, ReaderSource, StillGate, WriterSink};
-use mg_run::{Status, run_words, tally_box};
+use mg_run::{Status, note_out_of_memory, run_words, tally_box};
 use mg_value::MgText;
 use std::alloc::{AllocError, Global};
 use std::env;
@@ -22,7 +22,13 @@ const BEGIN_CLONE_LOOPS: usize = 2;
 const END_LOOPS: usize = 6;
 
 fn main(rt: HostRuntime) -> ExitCode {
-    let status = status_of(&rt).unwrap_or(Status::OutOfMemory);
+    let status = match status_of(&rt) {
+        Ok(status) => status,
+        Err(_) => {
+            note_out_of_memory(&mut WriterSink::new(rt.stderr()));
+            Status::OutOfMemory
+        }
+    };
     ExitCode::from(status.number())
 }
 

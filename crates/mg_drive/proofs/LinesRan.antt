@@ -194,7 +194,7 @@ lines_short plan devices fed (End end) at inputs u (inr same) is_job put =
     let read : Read = record { lines = u.lines; end = end } in
     inl (record {
       read = read;
-      input = subst (λ (s : SourceTold). CameTo (inputs_of plan) (device devices.input.before s) read) same (came_at plan devices.input.before at fed end inputs u);
+      came = subst (λ (s : SourceTold). CameTo (inputs_of plan) (device devices.input.before s) read) same (came_at plan devices.input.before at fed end inputs u);
       streams = found.0;
       solution = subst (λ (i : Inputs). IsSolution (record { plan = plan; inputs = i }) found.0) u.inputs_are found.1.solution;
       front = put found.0 found.1.solution;

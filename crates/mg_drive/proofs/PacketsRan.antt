@@ -102,19 +102,19 @@ front_sums job first now is (inl some) =
     subst (λ (s : SinkTold). FrontIn totals first s job.job) (sym same) (front_unwritten first job.job)
 
 -- a front of the summary was taken
-pub short_made : (plan : Plan) (number : ℕ) (devices : RunDevices) → IsJob (generated_job plan number) → FrontIn totals devices.output.before devices.output.now (generated_job plan number) → GeneratedSome plan number devices
+pub short_made : (plan : Plan) (number : ℕ) (devices : RunDevices) → IsJob (generated_job plan number) → FrontIn totals devices.output.before devices.output.now (generated_job plan number) → GeneratedSome plan number devices.output
 short_made plan number devices is front =
     let found = solved (record { job = generated_job plan number; logs = [] }) is in
     record { streams = found.0; solution = found.1.solution; front = front found.0 found.1.solution }
 
 -- where none was written
-pub short_none : (plan : Plan) (number : ℕ) (devices : RunDevices) → IsJob (generated_job plan number) → devices.output.now ≡ devices.output.before → GeneratedSome plan number devices
+pub short_none : (plan : Plan) (number : ℕ) (devices : RunDevices) → IsJob (generated_job plan number) → devices.output.now ≡ devices.output.before → GeneratedSome plan number devices.output
 short_none plan number devices is same =
     short_made plan number devices is (subst (λ (s : SinkTold). FrontIn totals devices.output.before s (generated_job plan number)) (sym same) (front_unwritten devices.output.before (generated_job plan number)))
 
 pub packets_short : (plan : Plan) (number : ℕ) (packets : Option Inputs) (devices : RunDevices) (end : BatchEnd) (inputs : Inputs) → packets ≡ Some (generated_job plan number).inputs → WereGiven packets end inputs
     → IsJob (record { plan = plan; inputs = inputs }) → IsToldSome HasSums (record { plan = plan; inputs = inputs }) devices.output.before devices.output.now ⊎ FrontIn totals devices.output.before devices.output.now (record { plan = plan; inputs = inputs })
-    → GeneratedSome plan number devices
+    → GeneratedSome plan number devices.output
 packets_short plan number packets devices end inputs are given is front =
     let same = given_made plan number packets end inputs are given in
     short_made plan number devices (subst (λ (i : Inputs). IsJob (record { plan = plan; inputs = i })) same is)

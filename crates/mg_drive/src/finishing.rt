@@ -32,6 +32,7 @@ pub fn finish<N: Driven, K: Sink, E: Sink>(
         → IsWhole form first (K.told output.old) job.job text
         → Wrote (record { form = form; report = run.now.report }) job.job end status (device first (K.told output.new)) (device (E.told notes.old) (E.told notes.new))) }
     ensures front { OnErr result ((form : Form) (job : Job) (first : SinkTold) → IsWhole form first (K.told output.old) job text → FrontIn form first (K.told output.new) job) }
+    ensures unnoted { OnErr result (E.told notes.new ≡ E.told notes.old) }
     ensures since { (N.net net.new ≡ N.net net.old) ⊎ WindsUpNet (N.net net.old) (N.net net.new) }
     ensures wound { OnOk result (WindsUpNet (N.net net.old) (N.net net.new) × ((N.net net.new).wound ≡ length (N.net net.old).plan.nodes)) }
 {

@@ -15,7 +15,7 @@ ghost use Rattle.mg_drive.specs.Code.Ending.{CameBack};
 ghost use Rattle.mg_drive.specs.Code.Lines.{has_ended as the_end, HadMemory, IsRead, HasBatch, IsNew, LinesGave, lines_left};
 
 use crate::{Batch, Batches, run_batches};
-use mg_answer::{Devices, OutputText, Run, Status, is_ended, ran_out};
+use mg_answer::{Devices, OutputText, Run, Status, is_ended, note_out_of_memory, ran_out};
 use mg_calc::Calculator;
 use mg_edge::{Gate, Sink, Source};
 use mg_feed::{BatchEnd, Feed};
@@ -77,7 +77,8 @@ impl Batches for Feed {
 /// its first line that isn't good it writes the notes, with the report behind them where it is asked for. Each Process call goes
 /// through the gate.
 ///
-/// Once a write to the output has failed nothing more is written to it. The run goes on all the same, and the notes are written.
+/// Once a write to the output has failed nothing more is written to it. The run goes on all the same, and the notes are written and say
+/// so. Where memory runs out they say that alone.
 pub fn run_lines<G: Gate, C: Calculator, S: Source, K: Sink, E: Sink>(
     run: &Run<'_>,
     gate: &G,
@@ -96,7 +97,10 @@ pub fn run_lines<G: Gate, C: Calculator, S: Source, K: Sink, E: Sink>(
 {
     match run_whole(run, gate, boxes, devices) {
         Ok(status) => status,
-        Err(_) => Status::OutOfMemory,
+        Err(_) => {
+            note_out_of_memory(devices.notes);
+            Status::OutOfMemory
+        }
     }
 }
 
@@ -111,6 +115,7 @@ fn run_whole<G: Gate, C: Calculator, S: Source, K: Sink, E: Sink>(
     requires boxes { BoxesFit run.now.plan.now (map C.told boxes.old.items) }
     ensures ran { IfOk result (λ status. RanOn run.now.report run.now.plan.now status (told_by S.told K.told E.told devices.old devices.new)) }
     ensures short { OnErr result (RanShortOf run.now.plan.now (told_by S.told K.told E.told devices.old devices.new)) }
+    ensures unnoted { OnErr result (E.told devices.new.notes.now ≡ E.told devices.old.notes.now) }
     ensures used { OnOk result (HadCalls run.now.plan.now (told_by S.told K.told E.told devices.old devices.new).input (device (map C.told boxes.old.items) (map C.told boxes.new.items))) }
     ensures fronts { OnErr result (HadSome run.now.plan.now (told_by S.told K.told E.told devices.old devices.new).input (device (map C.told boxes.old.items) (map C.told boxes.new.items))) }
     ensures back { CameBack run.now.plan.now (map C.told boxes.old.items) (map C.told boxes.new.items) }

@@ -14,7 +14,7 @@ ghost use Rattle.mg_drive.specs.Code.Ending.{CameBack};
 ghost use Rattle.mg_drive.specs.Code.Packets.{AreWaiting, WereGiven};
 
 use crate::{Batch, Batches, run_batches};
-use mg_answer::{Devices, OutputSummary, Run, Status};
+use mg_answer::{Devices, OutputSummary, Run, Status, note_out_of_memory};
 use mg_calc::{Calculator, Inputs};
 use mg_edge::{Gate, Sink, Source};
 use mg_feed::{BatchEnd, FeedEnd, generate};
@@ -51,7 +51,7 @@ impl Batches for Made {
 /// places. It drives a net over all of them to rest, sums up the sets of its outputs, and writes the summary and then the notes, with
 /// the report behind them where it is asked for. Each Process call goes through the gate. The input is left as it was.
 ///
-/// Where a write of the summary fails, the notes are written all the same.
+/// Where a write of the summary fails, the notes are written all the same, and say so. Where memory runs out they say that alone.
 pub fn run_made<G: Gate, C: Calculator, S: Source, K: Sink, E: Sink>(
     run: &Run<'_>,
     number: u32,
@@ -72,7 +72,10 @@ pub fn run_made<G: Gate, C: Calculator, S: Source, K: Sink, E: Sink>(
 {
     match run_whole(run, number, gate, boxes, devices) {
         Ok(status) => status,
-        Err(_) => Status::OutOfMemory,
+        Err(_) => {
+            note_out_of_memory(devices.notes);
+            Status::OutOfMemory
+        }
     }
 }
 
@@ -87,7 +90,8 @@ fn run_whole<G: Gate, C: Calculator, S: Source, K: Sink, E: Sink>(
     requires valid { IsValid run.now.plan.now }
     requires boxes { BoxesFit run.now.plan.now (map C.told boxes.old.items) }
     ensures ran { IfOk result (λ status. RanGenerated run.now.report run.now.plan.now number status (told_by S.told K.told E.told devices.old devices.new)) }
-    ensures short { OnErr result (GeneratedSome run.now.plan.now number (told_by S.told K.told E.told devices.old devices.new)) }
+    ensures short { OnErr result (GeneratedSome run.now.plan.now number (told_by S.told K.told E.told devices.old devices.new).output) }
+    ensures unnoted { OnErr result (E.told devices.new.notes.now ≡ E.told devices.old.notes.now) }
     ensures used { OnOk result (HadCallsOf (generated_job run.now.plan.now number) (device (map C.told boxes.old.items) (map C.told boxes.new.items))) }
     ensures fronts { OnErr result (HadFronts (generated_job run.now.plan.now number) (device (map C.told boxes.old.items) (map C.told boxes.new.items))) }
     ensures back { CameBack run.now.plan.now (map C.told boxes.old.items) (map C.told boxes.new.items) }

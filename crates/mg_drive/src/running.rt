@@ -37,6 +37,7 @@ pub fn run_net<N: Driven, B: Batches, T: Telling, S: Source, K: Sink, E: Sink>(
     ensures short { OnErr result ((start : Start B) → start.plan ≡ run.now.plan.now
         → IsUnderWay B.gives T.has_told start first (S.told devices.old.input.now) (K.told devices.old.output.now) ends.batches ends.telling (N.net net.old)
         → IsShort B.gives T.has_told T.form start (S.told devices.new.input.now) (K.told devices.new.output.now) (N.net net.new)) }
+    ensures unnoted { OnErr result (E.told devices.new.notes.now ≡ E.told devices.old.notes.now) }
     ensures keeps { Keeps (N.net net.old) (N.net net.new) }
     ensures unread { B.reads ≡ false → S.told devices.new.input.now ≡ S.told devices.old.input.now }
     ensures same { SameDevices devices.old devices.new }
@@ -66,6 +67,7 @@ fn run_made_net<G: Gate, C: Calculator, B: Batches, T: Telling, S: Source, K: Si
         → HasRun B.gives T.form run.now.report began run.now.plan.now status (since source (told_by S.told K.told E.told devices.old devices.new)) (device (map C.told boxes.old.items) (map C.told boxes.new.items))) }
     ensures short { OnErr result ((began : B) (source : SourceTold) → B.gives began ends.batches run.now.plan.now source (S.told devices.old.input.now) first.end first.inputs
         → RanShort B.gives T.has_told T.form began run.now.plan.now (since source (told_by S.told K.told E.told devices.old devices.new)) (device (map C.told boxes.old.items) (map C.told boxes.new.items))) }
+    ensures unnoted { OnErr result (E.told devices.new.notes.now ≡ E.told devices.old.notes.now) }
     ensures back { CameBack run.now.plan.now (map C.told boxes.old.items) (map C.told boxes.new.items) }
     ensures unread { B.reads ≡ false → S.told devices.new.input.now ≡ S.told devices.old.input.now }
     ensures same { SameDevices devices.old devices.new }
@@ -102,6 +104,7 @@ pub fn run_batches<G: Gate, C: Calculator, B: Batches, T: Telling, S: Source, K:
     requires nothing { (sink : SinkTold) → T.has_told telling run.now.plan.now sink sink [] }
     ensures ran { IfOk result (λ status. HasRun B.gives T.form run.now.report batches run.now.plan.now status (told_by S.told K.told E.told devices.old devices.new) (device (map C.told boxes.old.items) (map C.told boxes.new.items))) }
     ensures short { OnErr result (RanShort B.gives T.has_told T.form batches run.now.plan.now (told_by S.told K.told E.told devices.old devices.new) (device (map C.told boxes.old.items) (map C.told boxes.new.items))) }
+    ensures unnoted { OnErr result (E.told devices.new.notes.now ≡ E.told devices.old.notes.now) }
     ensures back { CameBack run.now.plan.now (map C.told boxes.old.items) (map C.told boxes.new.items) }
     ensures unread { B.reads ≡ false → S.told devices.new.input.now ≡ S.told devices.old.input.now }
     ensures same { SameDevices devices.old devices.new }

@@ -1,5 +1,5 @@
 -- What a call came to.
-use Rattle.std.proofs.Common.{◌≡◌, ◌≢◌, ℕ, List, [], ◌∷◌, Bool, true, false, Option, None, Some, IfSome, ◌⊎◌, inl, inr, refl, ap, ◌∙◌, subst, arith}
+use Rattle.std.proofs.Common.{◌≡◌, ◌≢◌, ℕ, List, [], ◌∷◌, Bool, Option, None, Some, IfSome, ◌⊎◌, inl, inr, refl, ap, ◌∙◌, subst, arith}
 use Rattle.mg_edge.specs.Edge.{SourceTold, SinkTold, StoreTold, Rose, one_more}
 use Rattle.mg_calc.specs.Told.{CalculatorTold}
 use Rattle.mg_run.specs.Boxes.{RunLeaves, GeneratedLeaves}
@@ -17,26 +17,22 @@ use Rattle.mg_calc.specs.declared.node_fault.NodeFault.{NodeFault as Fault}
 use Rattle.mg_feed.specs.declared.feed_end.FeedEnd.{FeedEnd}
 use Rattle.mg_feed.specs.declared.feed_end.FeedEnd.TheVariants.{Ended, Failed, Refused, OutOfMemory as no_lines}
 use Rattle.mg_answer.specs.Text.{output_of}
+use Rattle.mg_answer.specs.Notes.{memory_note}
 use Rattle.mg_answer.specs.Devices as running_devices
 use Rattle.mg_answer.specs.Ran as running
 use Rattle.mg_answer.proofs.Answering.{ran-answered}
 use Rattle.mg_answer.proofs.RunningOn.{on-answered}
 use Rattle.mg_answer.proofs.Generating.{generated-answered}
 use Rattle.mg_run.specs.Answer.{Answer, Job, refuse, show, run_plan, solve, generate, job_of}
-use Rattle.mg_run.specs.Devices.{Device, device, Devices, devices, run_of, Untouched, Unrisen, NoneFailed, TookFront, TookText, TookPart, Noted}
+use Rattle.mg_run.specs.Devices.{Device, device, Devices, devices, run_of, Untouched, Unrisen, NoneFailed, TookFront, TookText, Noted}
 use Rattle.mg_answer.specs.Wrote.{Meets}
-use Rattle.mg_run.specs.Call.{WasShown, Did, IsJob, CallDid, Short, ShortRun, ShortGenerated, CallShort, Called, MetAnswer, IsAnswered}
-use Rattle.mg_feed.specs.Sent.{Sent}
+use Rattle.mg_run.specs.Call.{Written, WasShown, Did, IsJob, CallDid, Short, ShortRun, ShortGenerated, CallShort, Called, MetAnswer, IsAnswered}
 use Rattle.mg_answer.specs.declared.status.Status.{Status}
 use Rattle.mg_answer.specs.declared.status.Status.TheVariants.{Good, StoreFault, Usage, GraphRefused, LineRefused, NodeFault, Stalled, ReadFault, WriteFault, OutOfMemory}
 
 -- a call that fails, after others that don't
 rose-after : (a b c : ℕ) → b ≡ a → c ≡ one_more b → Rose a c
 rose-after a b c same more = omega (arith, same, more)
-
-pub noted-from : (all : Bool) (notes : Device SinkTold) (text : List ℕ) → Sent all notes.before notes.now text → Noted notes text
-noted-from true notes text sent = inl sent
-noted-from false notes text sent = inr sent
 
 -- Nothing was written.
 if-any : {X : Type 0} (o : Option X) (P : X → Type 0) → ((x : X) → P x) → IfSome o P
@@ -57,8 +53,9 @@ short-none (solve report plan) store input output notes boxes = inl refl
 short-none (generate report number plan) store input output notes boxes = inl refl
 
 pub short-nothing : (task : Task) (store : Device StoreTold) (input : Device SourceTold) (output : SinkTold) (notes : Device SinkTold) (boxes : List CalculatorTold)
-    → CallShort task (devices store input (device output output) notes (device boxes boxes))
-short-nothing task store input output notes boxes = record {
+    → Noted notes memory_note → CallShort task (devices store input (device output output) notes (device boxes boxes))
+short-nothing task store input output notes boxes noted = record {
+  noted = noted;
   front = if-any (loads_of store.before.content task.files) _ (λ contents files are. short-none (job_of task files) store input output notes (device boxes boxes));
   called = inl refl;
 }
@@ -73,7 +70,7 @@ short-files task contents job all (files, are, same) took =
 not-shown : (text : List ℕ) (status : Status) (all : Devices) → status ≢ Good → status ≢ WriteFault → WasShown text status all → ⊥
 not-shown text status all not_good not_failed shown = by shown.written
   where
-    by : ((status ≡ Good) × TookText all.output text) ⊎ ((status ≡ WriteFault) × TookPart all.output text) → ⊥
+    by : Written text status all → ⊥
     by (inl good) = not_good good.0
     by (inr failed) = not_failed failed.0
 
@@ -120,9 +117,19 @@ did-short (refuse note) all did = let e = did.ended in absurd (differ e)
     differ : OutOfMemory ≡ GraphRefused → ⊥
     differ e = cc
 did-short (show text) all did = absurd (not-shown text OutOfMemory all (λ e. cc) (λ e. cc) did)
-did-short (run_plan report plan) all did = did.ran
-did-short (solve report plan) all did = did.ran
-did-short (generate report number plan) all did = inr did.ran
+did-short (run_plan report plan) all did = did.ran.0
+did-short (solve report plan) all did = did.ran.0
+did-short (generate report number plan) all did = inr did.ran.0
+
+did-noted : (job : Job) (all : Devices) → Did job OutOfMemory all → Noted all.notes memory_note
+did-noted (refuse note) all did = let e = did.ended in absurd (differ e)
+  where
+    differ : OutOfMemory ≡ GraphRefused → ⊥
+    differ e = cc
+did-noted (show text) all did = absurd (not-shown text OutOfMemory all (λ e. cc) (λ e. cc) did)
+did-noted (run_plan report plan) all did = did.ran.1
+did-noted (solve report plan) all did = did.ran.1
+did-noted (generate report number plan) all did = did.ran.1
 
 -- what is left of the calculators that are handed in
 short-boxes : (job : Job) (task : Task) (contents : List (List ℕ)) (all : Devices) → LoadedAll task.files contents all.store → IsJob task contents job → Did job OutOfMemory all
@@ -151,6 +158,7 @@ short-boxes (generate report number plan) task contents all loaded due did = inr
 call-short : (job : Job) (task : Task) (contents : List (List ℕ)) (all : Devices) → AreLoaded all.store.before.content task.files contents → IsJob task contents job
     → LoadedAll task.files contents all.store → Did job OutOfMemory all → CallShort task all
 call-short job task contents all given due loaded did = record {
+  noted = did-noted job all did;
   front = of-loads all.store.before.content task.files contents
       (λ known. (files : Files) → AreFiles task.files known files → Short (job_of task files) all)
       given (short-files task contents job all due (did-short job all did));
@@ -192,8 +200,8 @@ show_answer text = record { output = text; notes = []; status = Good }
 shown-answer : (text : List ℕ) (status : Status) (all : Devices) → WasShown text status all → NoneFailed all → Meets (show_answer text) status all.output all.notes
 shown-answer text status all shown none = by shown.written
   where
-    by : ((status ≡ Good) × TookText all.output text) ⊎ ((status ≡ WriteFault) × TookPart all.output text) → Meets (show_answer text) status all.output all.notes
-    by (inl good) = record { text = good.1; noted = took-nothing all.notes shown.unnoted; told = good.0 }
+    by : Written text status all → Meets (show_answer text) status all.output all.notes
+    by (inl good) = record { text = good.1; noted = took-nothing all.notes good.2; told = good.0 }
     by (inr failed) = absurd (unrisen-rose all.output.before.faults all.output.now.faults none.output failed.1.rose)
 
 none-run : (all : Devices) → NoneFailed all → running_devices.NoneFailed (run_of all)

@@ -15,9 +15,11 @@ use Rattle.mg_run.specs.Task.{Task, task}
 use Rattle.mg_run.specs.Files.{Files, graphs, no_graphs}
 use Rattle.mg_run.specs.Answer.{Job, refuse, show, run_plan, solve, generate, solve_job, check_job, verb_job, expanded_job, files_job, free_refusal, unless_refused}
 use Rattle.mg_run.specs.Words.{Asked, asks_usage, asks_text, asks_command, command_by}
-use Rattle.mg_run.specs.Devices.{Device, device, Devices, devices, Untouched, HasEnded, HasRisen, NoneFailed, TookText, TookPart, Noted}
+use Rattle.mg_run.specs.Devices.{Device, device, Devices, devices, Untouched, HasEnded, HasRisen, NoneFailed, Noted}
+use Rattle.mg_answer.specs.Notes.{memory_note}
+use Rattle.mg_answer.proofs.Answering.{noted-from}
 use Rattle.mg_run.specs.Notes.{usage_note}
-use Rattle.mg_run.specs.Call.{WasUsage, WasTold, Did, IsJob, CallDid, ShortRun, ShortGenerated, Came, Called, IsAnswered, IsOneOf}
+use Rattle.mg_run.specs.Call.{Written, WasUsage, WasTold, Did, IsJob, CallDid, ShortRun, ShortGenerated, Came, Called, IsAnswered, IsOneOf}
 use Rattle.mg_run.specs.Command.{Command, reads_input, calls_boxes}
 use Rattle.mg_run.specs.declared.words.Order.{Order}
 use Rattle.mg_run.specs.declared.words.Verb.{Verb}
@@ -25,15 +27,16 @@ use Rattle.mg_run.specs.declared.words.Verb.TheVariants.{Run, Solve, Check, Expa
 use Rattle.mg_answer.specs.declared.status.Status.{Status}
 use Rattle.mg_answer.specs.declared.status.Status.TheVariants.{Good, StoreFault, Usage, GraphRefused, LineRefused, NodeFault, Stalled, ReadFault, WriteFault, OutOfMemory}
 use Rattle.mg_feed.specs.Sent.{Sent}
-use Rattle.mg_run.proofs.Calling.{noted-from, short-nothing, answered-from}
+use Rattle.mg_run.proofs.Calling.{short-nothing, answered-from}
 use Rattle.mg_run.proofs.Ending.{ended_statuses, called-ended}
 use Rattle.mg_run.proofs.Risen.{store-risen, read-risen, write-risen, risen-steady}
 
 -- There was no memory to judge the words.
-pub came-nothing : (outers : List OuterShape) (asked : Asked) (store : StoreTold) (input : SourceTold) (output notes : SinkTold) (boxes : List CalculatorTold) → Came outers asked OutOfMemory (devices (device store store) (device input input) (device output output) (device notes notes) (device boxes boxes))
-came-nothing outers asks_usage store input output notes boxes = record { noted = inr (refl, refl); unloaded = refl; unread = refl; unwritten = refl; uncalled = refl }
-came-nothing outers (asks_text text) store input output notes boxes = record { written = inr (inr (refl, refl)); unloaded = refl; unread = refl; unnoted = refl; uncalled = refl }
-came-nothing outers (asks_command command) store input output notes boxes = short-nothing (task command outers) (device store store) (device input input) output (device notes notes) boxes
+pub came-nothing : (outers : List OuterShape) (asked : Asked) (store : StoreTold) (input : SourceTold) (output : SinkTold) (notes : Device SinkTold) (boxes : List CalculatorTold) → Noted notes memory_note
+    → Came outers asked OutOfMemory (devices (device store store) (device input input) (device output output) notes (device boxes boxes))
+came-nothing outers asks_usage store input output notes boxes noted = record { noted = inr (refl, noted); unloaded = refl; unread = refl; unwritten = refl; uncalled = refl }
+came-nothing outers (asks_text text) store input output notes boxes noted = record { written = inr (refl, refl, noted); unloaded = refl; unread = refl; uncalled = refl }
+came-nothing outers (asks_command command) store input output notes boxes noted = short-nothing (task command outers) (device store store) (device input input) output notes boxes noted
 
 -- The words were no command, and the note says so.
 pub usage-came : (outers : List OuterShape) (asked : Asked) (all : Devices) (done : Bool) → asked ≡ asks_usage → Sent done all.notes.before all.notes.now usage_note
@@ -42,20 +45,18 @@ usage-came outers asked all done is sent unloaded unread unwritten uncalled =
     subst (λ (a : Asked). Came outers a Usage all) (sym is)
     (record { noted = inl (refl, noted-from done all.notes usage_note sent); unloaded = unloaded; unread = unread; unwritten = unwritten; uncalled = uncalled })
 
-pub told-by : (text : List ℕ) (status : Status) (all : Devices) → ((status ≡ Good) × TookText all.output text) ⊎ ((status ≡ WriteFault) × TookPart all.output text)
-    → Untouched all.store → Untouched all.input → Untouched all.notes → Untouched all.boxes → WasTold text status all
-told-by text status all (inl good) unloaded unread unnoted uncalled = record { written = inl good; unloaded = unloaded; unread = unread; unnoted = unnoted; uncalled = uncalled }
-told-by text status all (inr failed) unloaded unread unnoted uncalled = record { written = inr (inl failed); unloaded = unloaded; unread = unread; unnoted = unnoted; uncalled = uncalled }
+pub told-by : (text : List ℕ) (status : Status) (all : Devices) → Written text status all → Untouched all.store → Untouched all.input → Untouched all.boxes → WasTold text status all
+told-by text status all written unloaded unread uncalled = record { written = inl written; unloaded = unloaded; unread = unread; uncalled = uncalled }
 
 -- Usage --
 
 told-status : (text : List ℕ) (all : Devices) → WasTold text Usage all → ⊥
 told-status text all told = by told.written
   where
-    by : ((Usage ≡ Good) × TookText all.output text) ⊎ (((Usage ≡ WriteFault) × TookPart all.output text) ⊎ ((Usage ≡ OutOfMemory) × Untouched all.output)) → ⊥
-    by (inl good) = let e = good.0 in cc
-    by (inr (inl failed)) = let e = failed.0 in cc
-    by (inr (inr short)) = let e = short.0 in cc
+    by : Written text Usage all ⊎ ((Usage ≡ OutOfMemory) × Untouched all.output × Noted all.notes memory_note) → ⊥
+    by (inl (inl good)) = let e = good.0 in cc
+    by (inl (inr failed)) = let e = failed.0 in cc
+    by (inr short) = let e = short.0 in cc
 
 asks-by-status : (outers : List OuterShape) (asked : Asked) (status : Status) (all : Devices) → Came outers asked status all → status ≡ Usage → asked ≡ asks_usage
 asks-by-status outers asks_usage status all came is = refl
@@ -65,7 +66,7 @@ asks-by-status outers (asks_command command) status all came is = absurd (subst 
 usage-status : (status : Status) (all : Devices) → WasUsage status all → status ≢ OutOfMemory → status ≡ Usage
 usage-status status all was some = by was.noted
   where
-    by : ((status ≡ Usage) × Noted all.notes usage_note) ⊎ ((status ≡ OutOfMemory) × Untouched all.notes) → status ≡ Usage
+    by : ((status ≡ Usage) × Noted all.notes usage_note) ⊎ ((status ≡ OutOfMemory) × Noted all.notes memory_note) → status ≡ Usage
     by (inl noted) = noted.0
     by (inr short) = absurd (some short.0)
 
@@ -126,23 +127,48 @@ write_statuses = Usage ∷ StoreFault ∷ GraphRefused ∷ WriteFault ∷ OutOfM
 usage-write : (status : Status) (all : Devices) → WasUsage status all → IsOneOf status write_statuses
 usage-write status all was = by was.noted
   where
-    by : ((status ≡ Usage) × Noted all.notes usage_note) ⊎ ((status ≡ OutOfMemory) × Untouched all.notes) → IsOneOf status write_statuses
+    by : ((status ≡ Usage) × Noted all.notes usage_note) ⊎ ((status ≡ OutOfMemory) × Noted all.notes memory_note) → IsOneOf status write_statuses
     by (inl noted) = inl noted.0
     by (inr short) = inr (inr (inr (inr (inl short.0))))
 
 told-write : (text : List ℕ) (status : Status) (all : Devices) → WasTold text status all → EitherRisen all → IsOneOf status write_statuses
 told-write text status all told risen = by told.written risen
   where
-    by : ((status ≡ Good) × TookText all.output text) ⊎ (((status ≡ WriteFault) × TookPart all.output text) ⊎ ((status ≡ OutOfMemory) × Untouched all.output)) → EitherRisen all → IsOneOf status write_statuses
-    by (inr (inl failed)) risen = inr (inr (inr (inl failed.0)))
-    by (inr (inr short)) risen = inr (inr (inr (inr (inl short.0))))
-    by (inl good) (inl risen) = absurd (risen-steady _ _ risen good.1.steady)
-    by (inl good) (inr risen) = absurd (risen-steady _ _ risen (ap (λ s. s.faults) told.unnoted))
+    by : Written text status all ⊎ ((status ≡ OutOfMemory) × Untouched all.output × Noted all.notes memory_note) → EitherRisen all → IsOneOf status write_statuses
+    by (inl (inr failed)) risen = inr (inr (inr (inl failed.0)))
+    by (inr short) risen = inr (inr (inr (inr (inl short.0))))
+    by (inl (inl good)) (inl risen) = absurd (risen-steady _ _ risen good.1.steady)
+    by (inl (inl good)) (inr risen) = absurd (risen-steady _ _ risen (ap (λ s. s.faults) good.2))
 
 pub came-write : (outers : List OuterShape) (asked : Asked) (status : Status) (all : Devices) → Came outers asked status all → EitherRisen all → IsOneOf status write_statuses
 came-write outers asks_usage status all came risen = usage-write status all came
 came-write outers (asks_text text) status all came risen = told-write text status all came risen
 came-write outers (asks_command command) status all came risen = inr (write-risen status (task command outers) all came risen)
+
+-- Want of memory --
+
+usage-noted : (all : Devices) → WasUsage OutOfMemory all → Noted all.notes memory_note
+usage-noted all was = by was.noted
+  where
+    by : ((OutOfMemory ≡ Usage) × Noted all.notes usage_note) ⊎ ((OutOfMemory ≡ OutOfMemory) × Noted all.notes memory_note) → Noted all.notes memory_note
+    by (inl noted) = let e = noted.0 in cc
+    by (inr short) = short.1
+
+told-noted : (text : List ℕ) (all : Devices) → WasTold text OutOfMemory all → Noted all.notes memory_note
+told-noted text all told = by told.written
+  where
+    by : Written text OutOfMemory all ⊎ ((OutOfMemory ≡ OutOfMemory) × Untouched all.output × Noted all.notes memory_note) → Noted all.notes memory_note
+    by (inl (inl good)) = let e = good.0 in cc
+    by (inl (inr failed)) = let e = failed.0 in cc
+    by (inr short) = short.2
+
+noted-by : (outers : List OuterShape) (asked : Asked) (all : Devices) → Came outers asked OutOfMemory all → Noted all.notes memory_note
+noted-by outers asks_usage all came = usage-noted all came
+noted-by outers (asks_text text) all came = told-noted text all came
+noted-by outers (asks_command command) all came = came.noted
+
+pub came-noted : (outers : List OuterShape) (asked : Asked) (status : Status) (all : Devices) → Came outers asked status all → status ≡ OutOfMemory → Noted all.notes memory_note
+came-noted outers asked status all came is = noted-by outers asked all (subst (λ (s : Status). Came outers asked s all) is came)
 
 -- The calculators --
 

@@ -7,8 +7,8 @@ use Rattle.mg_answer.proofs.Answering.{read-risen as run-read-risen, write-risen
 use Rattle.mg_answer.proofs.RunningOn.{on-read-risen as run-on-read, on-write-risen as run-on-write}
 use Rattle.mg_answer.proofs.Generating.{generated-risen}
 use Rattle.mg_run.specs.Answer.{Job, refuse, show, run_plan, solve, generate}
-use Rattle.mg_run.specs.Devices.{Device, Devices, run_of, Untouched, HasRisen, TookText, TookPart}
-use Rattle.mg_run.specs.Call.{WasShown, Did, Called, IsOneOf}
+use Rattle.mg_run.specs.Devices.{Device, Devices, run_of, Untouched, HasRisen}
+use Rattle.mg_run.specs.Call.{Written, WasShown, Did, Called, IsOneOf}
 use Rattle.mg_answer.specs.declared.status.Status.{Status}
 use Rattle.mg_answer.specs.declared.status.Status.TheVariants.{Good, StoreFault, Usage, GraphRefused, LineRefused, NodeFault, Stalled, ReadFault, WriteFault, OutOfMemory}
 
@@ -71,10 +71,10 @@ either-steady all (inr risen) one two = risen-steady _ _ risen two
 write-shown : (text : List ℕ) (status : Status) (all : Devices) → WasShown text status all → EitherRisen all → IsOneOf status write_statuses
 write-shown text status all shown risen = by shown.written risen
   where
-    by : ((status ≡ Good) × TookText all.output text) ⊎ ((status ≡ WriteFault) × TookPart all.output text) → EitherRisen all → IsOneOf status write_statuses
+    by : Written text status all → EitherRisen all → IsOneOf status write_statuses
     by (inr failed) risen = inr (inr (inl failed.0))
     by (inl good) (inl risen) = absurd (risen-steady _ _ risen good.1.steady)
-    by (inl good) (inr risen) = absurd (risen-unwritten all.notes risen shown.unnoted)
+    by (inl good) (inr risen) = absurd (risen-unwritten all.notes risen good.2)
 
 write-status : (status : Status) → IsOneOf status (WriteFault ∷ OutOfMemory ∷ []) → IsOneOf status write_statuses
 write-status status one = inr (inr one)

@@ -7,6 +7,7 @@ use Rattle.mg_run.specs.Words.{Asked, asks_usage, asks_text, asks_command}
 use Rattle.mg_run.specs.Files.{Files, AreFiles}
 use Rattle.mg_run.specs.Loads.{LoadedAll, FailedAt, loads_of}
 use Rattle.mg_run.specs.Notes.{usage_note, store_note}
+use Rattle.mg_answer.specs.Notes.{write_note, memory_note}
 use Rattle.mg_answer.specs.Ran as runs
 use Rattle.mg_answer.specs.Wrote.{Meets}
 use Rattle.mg_run.specs.Boxes.{RunLeaves, GeneratedLeaves}
@@ -18,23 +19,26 @@ use Rattle.mg_answer.specs.declared.status.Status.TheVariants.{Good, StoreFault,
 
 -- What became of it --
 
--- The words were no command, and the note says how the program is used. Where there was no memory to judge them, nothing
--- was done.
+-- The words were no command, and the note says how the program is used. Where there was no memory to judge them the note says that, and
+-- nothing was done.
 pub record WasUsage (status : Status) (devices : Devices) : Type 0 where
-  pub noted : ((status ≡ Usage) × Noted devices.notes usage_note) ⊎ ((status ≡ OutOfMemory) × Untouched devices.notes)
+  pub noted : ((status ≡ Usage) × Noted devices.notes usage_note) ⊎ ((status ≡ OutOfMemory) × Noted devices.notes memory_note)
   pub unloaded : Untouched devices.store
   pub unread : Untouched devices.input
   pub unwritten : Untouched devices.output
   pub uncalled : Untouched devices.boxes
 
+-- A text was written, and no note; or a write of it failed, and the note says so.
+abbrev pub Written : List ℕ → Status → Devices → Type 0
+Written text status devices = ((status ≡ Good) × TookText devices.output text × Untouched devices.notes)
+    ⊎ ((status ≡ WriteFault) × TookPart devices.output text × Noted devices.notes write_note)
+
 -- A text of the program's own was asked for: it was written, or a write of it failed. Where there was no memory to judge
--- the words, nothing was done.
+-- the words the note says that, and nothing was done.
 pub record WasTold (text : List ℕ) (status : Status) (devices : Devices) : Type 0 where
-  pub written : ((status ≡ Good) × TookText devices.output text) ⊎ (((status ≡ WriteFault) × TookPart devices.output text)
-      ⊎ ((status ≡ OutOfMemory) × Untouched devices.output))
+  pub written : Written text status devices ⊎ ((status ≡ OutOfMemory) × Untouched devices.output × Noted devices.notes memory_note)
   pub unloaded : Untouched devices.store
   pub unread : Untouched devices.input
-  pub unnoted : Untouched devices.notes
   pub uncalled : Untouched devices.boxes
 
 -- A file couldn't be loaded, the first such of these, and the note is of it.
@@ -54,11 +58,10 @@ pub record WasRefused (note : List ℕ) (status : Status) (devices : Devices) : 
   pub unwritten : Untouched devices.output
   pub uncalled : Untouched devices.boxes
 
--- This text was written, or a write of it failed. The input was left as it was, and no note was taken.
+-- This text was written, or a write of it failed. The input was left as it was.
 pub record WasShown (text : List ℕ) (status : Status) (devices : Devices) : Type 0 where
-  pub written : ((status ≡ Good) × TookText devices.output text) ⊎ ((status ≡ WriteFault) × TookPart devices.output text)
+  pub written : Written text status devices
   pub unread : Untouched devices.input
-  pub unnoted : Untouched devices.notes
   pub uncalled : Untouched devices.boxes
 
 -- A run --
@@ -107,7 +110,7 @@ Short (refuse note) devices = TookFront devices.output []
 Short (show text) devices = TookFront devices.output text
 Short (run_plan report plan) devices = runs.RanShortOf plan (run_of devices)
 Short (solve report plan) devices = runs.RanOut plan (run_of devices)
-Short (generate report number plan) devices = Untouched devices.output ⊎ runs.GeneratedSome plan number (run_of devices)
+Short (generate report number plan) devices = Untouched devices.output ⊎ runs.GeneratedSome plan number devices.output
 
 -- Memory ran out in the run of a graph. What is left of the calculators that are handed in is what a run leaves.
 pub record ShortRun (task : Task) (devices : Devices) : Type 0 where
@@ -129,8 +132,9 @@ pub record ShortGenerated (task : Task) (devices : Devices) : Type 0 where
   pub left : GeneratedLeaves plan number OutOfMemory devices.boxes
 
 -- Memory ran out. Where the store tells the files' bytes, the output took a front of what is due; and no calculator that is handed in
--- had a call, unless a graph was run.
+-- had a call, unless a graph was run. The note says that memory ran out, and there is no other.
 pub record CallShort (task : Task) (devices : Devices) : Type 0 where
+  pub noted : Noted devices.notes memory_note
   pub front : IfSome (loads_of devices.store.before.content task.files) (λ contents.
       (files : Files) → AreFiles task.files contents files → Short (job_of task files) devices)
   pub called : Untouched devices.boxes ⊎ (ShortRun task devices ⊎ ShortGenerated task devices)

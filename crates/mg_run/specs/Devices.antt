@@ -4,10 +4,9 @@ use Rattle.std.specs.Prelude.{◌≡◌, ℕ, ◌⊎◌, List, [], map, Some, If
 use Rattle.std.specs.Global.{Vec}
 use Rattle.mg_calc.specs.Told.{CalculatorTold}
 use Rattle.mg_edge.specs.Edge.{SourceTold, SinkTold, StoreTold, Rose}
-use Rattle.mg_feed.specs.Sent.{SentPart}
 use Rattle.mg_answer.specs.declared.devices.Devices.{Devices as Held}
 pub use Rattle.mg_answer.specs.Held.{told_by, SameDevices}
-pub use Rattle.mg_answer.specs.Devices.{Device, device, Untouched, HasRisen, Unrisen, IsFront, TookFront, TookText, RunDevices, run_devices}
+pub use Rattle.mg_answer.specs.Devices.{Device, device, Untouched, HasRisen, Unrisen, IsFront, TookFront, TookText, TookPart, Noted, RunDevices, run_devices}
 
 pub record Devices : Type 0 where
   pub store : Device StoreTold
@@ -55,13 +54,3 @@ pub record NoneFailed (devices : Devices) : Type 0 where
 pub record HasEnded (input : Device SourceTold) : Type 0 where
   pub rose : Rose input.before.ends input.now.ends
   pub none : IfSome input.before.left (λ bytes. input.now.left ≡ Some [])
-
--- Sinks --
-
--- A sink took a front of a text, and a write of it failed.
-abbrev pub TookPart : Device SinkTold → List ℕ → Type 0
-TookPart sink text = SentPart sink.before sink.now text
-
--- The notes took a text, or a front of it where a write failed.
-abbrev pub Noted : Device SinkTold → List ℕ → Type 0
-Noted notes text = TookText notes text ⊎ TookPart notes text

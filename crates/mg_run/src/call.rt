@@ -4,8 +4,9 @@ ghost use Rattle.mg_run.specs.Command.{command, reads_input, calls_boxes};
 ghost use Rattle.mg_run.specs.Boxes.{outers_told, MayBeHandedIn};
 ghost use Rattle.mg_run.specs.Task.{task};
 ghost use Rattle.mg_run.specs.Words.{asks_usage, asks_text, asked_of, command_by, command_of};
-ghost use Rattle.mg_run.specs.Devices.{Device, device, with_run, told_at, told_apart, told_by, SameDevices, Untouched, HasEnded, HasRisen, NoneFailed, TookText, TookPart};
+ghost use Rattle.mg_run.specs.Devices.{Device, device, with_run, told_at, told_apart, told_by, SameDevices, Untouched, HasEnded, HasRisen, NoneFailed, TookText, TookPart, Noted};
 ghost use Rattle.mg_run.specs.Call.{WasUsage, WasTold, Came, Called, Did, IsAnswered, IsOneOf};
+ghost use Rattle.mg_answer.specs.Notes.{write_note, memory_note};
 ghost use Rattle.mg_run.specs.Code.Asked.{asked_view};
 ghost use Rattle.mg_run.specs.Code.Job.{job_view, MayRead, CanBeDone};
 ghost use Rattle.mg_edge.specs.Edge.{StoreTold};
@@ -16,7 +17,7 @@ use crate::job::{Job, job_of};
 use crate::load::load_all;
 use crate::outers::outers_of;
 use crate::words::{Asked, Order, USAGE, asked_of};
-use mg_answer::{Devices, Run, Status, solve_input};
+use mg_answer::{Devices, Run, Status, note_out_of_memory, note_write_fault, solve_input};
 use mg_calc::{Calculator, OuterShape};
 use mg_drive::{run_lines, run_made};
 use mg_edge::{Gate, Sink, Source, Store};
@@ -56,6 +57,9 @@ pub fn run_words<S: Source, K: Sink, E: Sink, T: Store, G: Gate>(
         → result ≢ Status.OutOfMemory
         → IsAnswered result (task command (outers_told (map (λ b. (Calculator-box b).told b.value) boxes.old.items))) (told_apart T.told S.told K.told E.told (λ b. (Calculator-box b).told b.value)
         store.old store.new input.old input.new output.old output.new notes.old notes.new boxes.old boxes.new)) }
+
+    // Where memory ran out the notes say that alone.
+    ensures memory_noted { result ≡ Status.OutOfMemory → Noted (device (E.told notes.old) (E.told notes.new)) memory_note }
 
     // A `check`, an `expand` and a `generate` leave the input as it was.
     ensures unread { IfSome (command_of words.now) (λ command. reads_input command.order.verb ≡ false
@@ -102,7 +106,10 @@ fn do_words<G: Gate, C: Calculator, S: Source, K: Sink, E: Sink, T: Store>(
 {
     match asked_of(alloc, words) {
         Ok(asked) => do_asked(alloc, asked, gate, boxes, store, devices),
-        Err(_) => Status::OutOfMemory,
+        Err(_) => {
+            note_out_of_memory(devices.notes);
+            Status::OutOfMemory
+        }
     }
 }
 
@@ -127,8 +134,8 @@ fn do_asked<G: Gate, C: Calculator, S: Source, K: Sink, E: Sink, T: Store>(
             };
             do_command(alloc, &ordered, gate, boxes, store, devices)
         }
-        Asked::Help => told(devices.output, help_text()),
-        Asked::Version => told(devices.output, version_text()),
+        Asked::Help => told(devices.output, devices.notes, help_text()),
+        Asked::Version => told(devices.output, devices.notes, version_text()),
         Asked::Usage => {
             let _ = put_all(devices.notes, USAGE);
             Status::Usage
@@ -136,14 +143,15 @@ fn do_asked<G: Gate, C: Calculator, S: Source, K: Sink, E: Sink, T: Store>(
     }
 }
 
-// Writes a text of the program's own.
-fn told<K: Sink>(output: &mut K, text: &[u8]) -> Status
-    ensures { ((result ≡ Status.Good) × TookText (device (K.told output.old) (K.told output.new)) text.now)
-        ⊎ ((result ≡ Status.WriteFault) × TookPart (device (K.told output.old) (K.told output.new)) text.now) }
+// Writes a text, and notes where it can't.
+fn told<K: Sink, E: Sink>(output: &mut K, notes: &mut E, text: &[u8]) -> Status
+    ensures { ((result ≡ Status.Good) × TookText (device (K.told output.old) (K.told output.new)) text.now × Untouched (device (E.told notes.old) (E.told notes.new)))
+        ⊎ ((result ≡ Status.WriteFault) × TookPart (device (K.told output.old) (K.told output.new)) text.now × Noted (device (E.told notes.old) (E.told notes.new)) write_note) }
 {
     if put_all(output, text) {
         Status::Good
     } else {
+        note_write_fault(notes);
         Status::WriteFault
     }
 }
@@ -178,7 +186,10 @@ fn do_command<G: Gate, C: Calculator, S: Source, K: Sink, E: Sink, T: Store>(
             };
             serve(alloc, &duty, gate, boxes, store, devices)
         }
-        Err(_) => Status::OutOfMemory,
+        Err(_) => {
+            note_out_of_memory(devices.notes);
+            Status::OutOfMemory
+        }
     }
 }
 
@@ -210,13 +221,19 @@ fn serve<G: Gate, C: Calculator, S: Source, K: Sink, E: Sink, T: Store>(
     match load_all(alloc, store, duty.files) {
         Ok(contents) => match job_of(alloc, duty.order, duty.outers, duty.files, contents) {
             Ok(job) => do_job(alloc, job, gate, boxes, devices),
-            Err(_) => Status::OutOfMemory,
+            Err(_) => {
+                note_out_of_memory(devices.notes);
+                Status::OutOfMemory
+            }
         },
         Err(Fault::Noted(note)) => {
             let _ = put_all(devices.notes, &note);
             Status::StoreFault
         }
-        Err(Fault::OutOfMemory) => Status::OutOfMemory,
+        Err(Fault::OutOfMemory) => {
+            note_out_of_memory(devices.notes);
+            Status::OutOfMemory
+        }
     }
 }
 
@@ -239,13 +256,7 @@ fn do_job<G: Gate, C: Calculator, S: Source, K: Sink, E: Sink>(
             let _ = put_all(devices.notes, &note);
             Status::GraphRefused
         }
-        Job::Show(text) => {
-            if put_all(devices.output, &text) {
-                Status::Good
-            } else {
-                Status::WriteFault
-            }
-        }
+        Job::Show(text) => told(devices.output, devices.notes, &text),
         Job::Run(report, plan) => run_lines(
             &Run {
                 alloc,

@@ -20,6 +20,6 @@ mod tally;
 mod words;
 
 pub use call::run_words;
-pub use mg_answer::Status;
+pub use mg_answer::{Status, note_out_of_memory};
 pub use tally::tally_box;
 pub use words::{Order, Verb};

@@ -1,5 +1,5 @@
 use Rattle.std.proofs.lemmas.Result.{err_from_is_err_and}
-use Rattle.std.proofs.Common.{subst}
+use Rattle.std.proofs.Common.{refl, subst}
 use Rattle.mg_calc.specs.declared.plan.Plan.{Plan}
 use Rattle.mg_answer.specs.Answer.{output_in}
 use Rattle.mg_answer.specs.Put.{HasPut}
@@ -43,3 +43,18 @@ returns-clause-wrote g c = λ form job first plan stands rested whole.
     c.in_ok-status.ensures.wrote form job.job found.0 first plan found.1.solution
     (tells_at job (g.N.Driven.net c.args.net.now) found.0 c.in_ok-outcomes.outcomes rested found.1 c.in_ok-outcomes.ensures.tells)
     (subst (λ (p : Plan). HasPut first (g.K.Sink.told c.args.output.now) c.args.text (output_in form p found.0)) plan (whole found.0 found.1.solution))
+
+pub returns-in_err-outcomes-clause-unnoted : goal.returns-in_err-outcomes-clause-unnoted
+returns-in_err-outcomes-clause-unnoted g c =
+    let is = err_from_is_err_and c.from_residual.result c.from_residual.ensures.1 in
+    rw is.1 refl
+
+pub returns-in_err-wind_up-clause-unnoted : goal.returns-in_err-wind_up-clause-unnoted
+returns-in_err-wind_up-clause-unnoted g c =
+    let is = err_from_is_err_and c.from_residual-in_err-wind_up.result c.from_residual-in_err-wind_up.ensures.1 in
+    rw is.1 refl
+
+pub returns-in_err-status-clause-unnoted : goal.returns-in_err-status-clause-unnoted
+returns-in_err-status-clause-unnoted g c =
+    let is = err_from_is_err_and c.from_residual-in_err-status.result c.from_residual-in_err-status.ensures.1 in
+    rw is.1 c.in_err-status.ensures.unnoted

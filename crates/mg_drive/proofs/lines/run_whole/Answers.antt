@@ -52,3 +52,13 @@ pub returns-clause-used : goal.returns-clause-used
 returns-clause-used g c =
     let h = c.in_ok-status.ensures.ran in
     lines_had c.args.run.now.plan.now (told_by g.S.Source.told g.K.Sink.told g.E.Sink.told c.args.devices.now c.run_batches.new.devices).input (device (map g.C.Calculator.told c.args.boxes.now.items) (map g.C.Calculator.told c.run_batches.new.boxes.items)) (fed h.batches) h.end h.inputs h.given h.had
+
+pub returns-in_err-ends-clause-unnoted : goal.returns-in_err-ends-clause-unnoted
+returns-in_err-ends-clause-unnoted g c =
+    let is = err_from_is_err_and c.from_residual.result c.from_residual.ensures.1 in
+    rw is.1 refl
+
+pub returns-in_err-status-clause-unnoted : goal.returns-in_err-status-clause-unnoted
+returns-in_err-status-clause-unnoted g c =
+    let is = err_from_is_err_and c.from_residual-in_err-status.result c.from_residual-in_err-status.ensures.1 in
+    rw is.1 c.in_err-status.ensures.unnoted

@@ -63,3 +63,13 @@ returns-clause-used g c =
 
 pub returns-clause-unread : goal.returns-clause-unread
 returns-clause-unread g c = c.in_ok-status.ensures.unread refl
+
+pub returns-in_err-ends-clause-unnoted : goal.returns-in_err-ends-clause-unnoted
+returns-in_err-ends-clause-unnoted g c =
+    let is = err_from_is_err_and c.from_residual.result c.from_residual.ensures.1 in
+    rw is.1 refl
+
+pub returns-in_err-status-clause-unnoted : goal.returns-in_err-status-clause-unnoted
+returns-in_err-status-clause-unnoted g c =
+    let is = err_from_is_err_and c.from_residual-in_err-status.result c.from_residual-in_err-status.ensures.1 in
+    rw is.1 c.in_err-status.ensures.unnoted

@@ -39,3 +39,18 @@ returns-clause-ran g c = c.in_ok-status.ensures.ran c.args.batches (g.S.Source.t
 
 pub returns-clause-unread : goal.returns-clause-unread
 returns-clause-unread g c = λ none. c.in_ok-status.ensures.unread none ∙ c.in_ok-first.ensures.unread none
+
+pub returns-in_err-set-clause-unnoted : goal.returns-in_err-set-clause-unnoted
+returns-in_err-set-clause-unnoted g c =
+    let is = err_from_is_err_and c.from_residual.result c.from_residual.ensures.1 in
+    rw is.1 refl
+
+pub returns-in_err-first-clause-unnoted : goal.returns-in_err-first-clause-unnoted
+returns-in_err-first-clause-unnoted g c =
+    let is = err_from_is_err_and c.from_residual-in_err-first.result c.from_residual-in_err-first.ensures.1 in
+    rw is.1 refl
+
+pub returns-in_err-status-clause-unnoted : goal.returns-in_err-status-clause-unnoted
+returns-in_err-status-clause-unnoted g c =
+    let is = err_from_is_err_and c.from_residual-in_err-status.result c.from_residual-in_err-status.ensures.1 in
+    rw is.1 c.in_err-status.ensures.unnoted

@@ -1,3 +1,4 @@
+use Rattle.std.proofs.Common.{refl}
 use Rattle.std.proofs.lemmas.Result.{err_from_is_err_and}
 use Rattle.mg_answer.specs.Devices.{device}
 use Rattle.mg_drive.proofs.Looping.{keeps_on}
@@ -37,3 +38,18 @@ returns-clause-ended g c = λ start plan u.
 
 pub returns-clause-keeps : goal.returns-clause-keeps
 returns-clause-keeps g c = keeps_on (g.N.Driven.net c.args.net.now) (g.N.Driven.net c.drive.new.net) (g.N.Driven.net c.finish.new.net) c.in_ok-end.ensures.keeps (winds_keep (g.N.Driven.net c.drive.new.net) (g.N.Driven.net c.finish.new.net) c.in_ok-status.ensures.since)
+
+pub returns-in_err-end-clause-unnoted : goal.returns-in_err-end-clause-unnoted
+returns-in_err-end-clause-unnoted g c =
+    let is = err_from_is_err_and c.from_residual.result c.from_residual.ensures.1 in
+    rw is.1 refl
+
+pub returns-in_err-text-clause-unnoted : goal.returns-in_err-text-clause-unnoted
+returns-in_err-text-clause-unnoted g c =
+    let is = err_from_is_err_and c.from_residual-in_err-text.result c.from_residual-in_err-text.ensures.1 in
+    rw is.1 refl
+
+pub returns-in_err-status-clause-unnoted : goal.returns-in_err-status-clause-unnoted
+returns-in_err-status-clause-unnoted g c =
+    let is = err_from_is_err_and c.from_residual-in_err-status.result c.from_residual-in_err-status.ensures.1 in
+    rw is.1 c.in_err-status.ensures.unnoted

@@ -1,6 +1,6 @@
 use Rattle.std.proofs.Common.{sym, ap}
 use Rattle.mg_run.specs.Words.{asked_of}
-use Rattle.mg_run.proofs.Coming.{came-usage, came-note, came-told, came-called, came-answered, came-ended, came-store, came-read, came-write, came-boxes, count-of, came-uncalled, came_apart, unread_apart}
+use Rattle.mg_run.proofs.Coming.{came-usage, came-note, came-told, came-called, came-answered, came-noted, came-ended, came-store, came-read, came-write, came-boxes, count-of, came-uncalled, came_apart, unread_apart}
 use Rattle.mg_run.proofs.call.run_words.Goals as goal
 
 pub returns-clause-usage : goal.returns-clause-usage
@@ -21,6 +21,10 @@ returns-clause-called g c = came-called _ (asked_of c.args.words.now) c.do_words
 
 pub returns-clause-answered : goal.returns-clause-answered
 returns-clause-answered g c = came-answered _ (asked_of c.args.words.now) c.do_words.result _ (came_apart _ _ _ _ _ _ _ _ _ _ _ _ _ _ (ap g.S.Source.told (c.input-1.given.1 (sym c.do_words.ensures.same.same_input))) (ap g.K.Sink.told (c.output-1.given.1 (sym c.do_words.ensures.same.same_output)))
+    (ap g.E.Sink.told (c.notes-1.given.1 (sym c.do_words.ensures.same.same_notes))) c.do_words.ensures.came)
+
+pub returns-clause-memory_noted : goal.returns-clause-memory_noted
+returns-clause-memory_noted g c = came-noted _ (asked_of c.args.words.now) c.do_words.result _ (came_apart _ _ _ _ _ _ _ _ _ _ _ _ _ _ (ap g.S.Source.told (c.input-1.given.1 (sym c.do_words.ensures.same.same_input))) (ap g.K.Sink.told (c.output-1.given.1 (sym c.do_words.ensures.same.same_output)))
     (ap g.E.Sink.told (c.notes-1.given.1 (sym c.do_words.ensures.same.same_notes))) c.do_words.ensures.came)
 
 pub returns-clause-ended : goal.returns-clause-ended

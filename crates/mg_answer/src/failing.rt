@@ -1,0 +1,26 @@
+//! The notes of a call for which there isn't memory enough, or whose text couldn't be written.
+ghost use Rattle.mg_answer.specs.Devices.{device, Noted};
+ghost use Rattle.mg_answer.specs.Notes.{write_note, memory_note};
+
+use mg_edge::Sink;
+use mg_feed::put_all;
+
+/// The note that something couldn't be written.
+pub const WRITE_NOTE: &[u8] = b"write fault\n";
+
+/// The note that memory ran out.
+pub const MEMORY_NOTE: &[u8] = b"out of memory\n";
+
+/// Notes that a text couldn't be written. It takes no memory.
+pub fn note_write_fault<E: Sink>(notes: &mut E)
+    ensures { Noted (device (E.told notes.old) (E.told notes.new)) write_note }
+{
+    let _ = put_all(notes, WRITE_NOTE);
+}
+
+/// Notes that memory ran out. It takes no memory.
+pub fn note_out_of_memory<E: Sink>(notes: &mut E)
+    ensures { Noted (device (E.told notes.old) (E.told notes.new)) memory_note }
+{
+    let _ = put_all(notes, MEMORY_NOTE);
+}
