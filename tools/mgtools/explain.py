@@ -65,6 +65,10 @@ class Explainer:
                 return explain_run.line(note, self.graph, lines, "standard input" if name.startswith("/dev/") else name)
         if note.form == "read":
             return explain_run.read_fault(note, self.recording or "standard input")
+        if note.form == "write":
+            return explain_run.write_fault()
+        if note.form == "memory":
+            return explain_run.out_of_memory()
         if note.form == "fault":
             if self.recording is None:
                 return explain_run.node_fault(note, self.graph)

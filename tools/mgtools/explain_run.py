@@ -231,6 +231,16 @@ def read_fault(note: Note, name: str) -> list[str]:
     return [f"{name}: the input couldn't be read behind line {note['line']}: a folder, a broken pipe or a bad disk; what was settled by then was printed"]
 
 
+def write_fault() -> list[str]:
+    return ["the output couldn't be written: its disk is full, or its reader has gone; what was written is the front of what a good run writes",
+            "make room, or keep the reader, and run again; streams that never closed have no notes here"]
+
+
+def out_of_memory() -> list[str]:
+    return ["there wasn't memory enough; what was written is the front of what a good run writes, and nothing else is noted",
+            "run in smaller parts, or let streams that fall silent be promised (docs/guide/recordings.md#promises): `tools/recording info` shows which do"]
+
+
 def node_fault(note: Note, graph: Graph | None, lines: Iterable[bytes] = ()) -> list[str]:
     """A node that failed: where it stands, what it was shown, and from whom."""
     if graph is None or note["node"] >= len(graph.nodes):

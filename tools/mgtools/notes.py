@@ -32,6 +32,8 @@ FORMS = [(name, re.compile(form)) for name, form in (
     ("FreeNode", r"refused: (?P<command>run|solve|generate) FreeNode (?P<node>\d+)"),
     ("line", r"line (?P<line>\d+): (?P<refusal>\w+)(?: (?P<cause>\w+))?"),
     ("read", r"read fault after line (?P<line>\d+)"),
+    ("write", r"write fault"),
+    ("memory", r"out of memory"),
     ("sets", r"node (?P<node>\d+) (?P<label>.*) sets=(?P<sets>\d+)"),
     ("ends", r"stream (?P<name>.*) packets=(?P<packets>\d+) bound=(?P<bound>-?\d+|[A-Z]\w+)"),
     ("fault", r"node (?P<node>\d+) (?P<label>.*): (?P<phase>open|close|process (?P<time>\S+)|call (?P<call>\d+)): (?P<cause>\w+)"),
