@@ -1,4 +1,5 @@
--- A cell may go to another thread: its plan, its inputs, its engine and its intakes may.
+-- What a cell holds may go to another thread: its plan, its inputs and its engine. The cell itself is a type that only the tests have, and a
+-- lemma on it would be read without the tests too; so that it may go stands where it is needed.
 use denote.Struct.Declared.{shape}
 use denote.Param.Send.{IsSend, struct_send, sendable}
 use Rattle.std.proofs.Crossing.{crosses}
@@ -13,9 +14,8 @@ use Rattle.mg_batch.proofs.Sent.{law, packet}
 use Rattle.mg_route.proofs.Sent.{law_box}
 use Rattle.mg_route.specs.contracts.law_box.LawBox as LawBox
 use Rattle.mg_route.specs.contracts.law_box.LawBoxCalculator.TheImpl as boxes
-use Rattle.mg_node.proofs.Sent.{engine_field, intake_field}
+use Rattle.mg_node.proofs.Sent.{engine_field}
 use Rattle.mg_node.specs.contracts.engine.Engine as Engine
-use Rattle.mg_test_cells.specs.contracts.cell.Cell as Cell
 
 node : IsSend PlanNode.the_row
 node = search (law, the_shape, sendable, crosses) depth 60 fits 50000
@@ -23,7 +23,7 @@ node = search (law, the_shape, sendable, crosses) depth 60 fits 50000
 nodes : IsSend (BlockList.the_row PlanNode.the_row)
 nodes = search (node, sendable, crosses) depth 20
 
-plan : IsSend (Plan.the_field).row
+pub plan : IsSend (Plan.the_field).row
 plan = struct_send (shape Plan.the_type) (
   (search (nodes, sendable, crosses) depth 20),
   (
@@ -47,11 +47,8 @@ plan = struct_send (shape Plan.the_type) (
   ),
 )
 
-inputs : IsSend (Inputs.the_field).row
+pub inputs : IsSend (Inputs.the_field).row
 inputs = search (packet, timestamp, knot, sendable, crosses) depth 60 fits 50000
 
-engine : IsSend (Engine.the_field LawBox.the_row boxes.ghosts).row
+pub engine : IsSend (Engine.the_field LawBox.the_row boxes.ghosts).row
 engine = engine_field LawBox.the_row boxes.ghosts law_box
-
-pub cell : IsSend (Cell.the_field).row
-cell = search (plan, inputs, engine, intake_field, sendable) depth 40 fits 50000
