@@ -59,6 +59,7 @@ front_by : (job : LoggedJob) (streams : List (StreamPrefix Plain)) (node : PlanN
 front_by job streams node held n close outer fits le log = record {
   count = suc n;
   close = close;
+  opened = λ closed. omega arith;
   log = log ∙ ap (log_after job node) (calls_front job streams node n close outer le);
   fits = record { same_law = fits.same_law; same_shape = fits.same_shape };
 }
@@ -165,12 +166,14 @@ unbegun_front job number node engine solution told solves there boxed outer unbe
       | inl is ↦ record {
         count = 0;
         close = false;
+        opened = λ closed. absurd cc;
         log = ap (λ (x : HolderView). x.log) is ∙ h.handed.log ∙ none_more (first_log job node);
         fits = record { same_law = ap (λ (x : HolderView). x.law) is ∙ h.handed.fits.same_law; same_shape = ap (λ (x : HolderView). x.shape) is ∙ h.handed.fits.same_shape };
       }
       | inr o ↦ record {
         count = 1;
         close = false;
+        opened = λ closed. absurd cc;
         log = o.opened.log ∙ ap (λ (l : Option (List Call)). with_call l Begun) h.handed.log;
         fits = record { same_law = o.opened.law ∙ h.handed.fits.same_law; same_shape = o.opened.shape ∙ h.handed.fits.same_shape };
       }
@@ -219,6 +222,7 @@ ended_front job number engine engine_now h told bench boxed outer idle window la
     (record {
       count = suc engine.laid;
       close = true;
+      opened = λ closed. omega arith;
       log = log ∙ ap (log_after job h.node) (calls_front job h.streams h.node engine.laid true outer h.taken);
       fits = record { same_law = end.law ∙ one.is.fits.same_law; same_shape = end.shape ∙ one.is.fits.same_shape };
     })

@@ -1,5 +1,5 @@
 -- The calls that a calculator which was handed in has had, beside those that its node has in the solution.
-use Rattle.std.specs.Prelude.{◌≡◌, ℕ, Bool, List, [], ◌∷◌, ◌++◌, map, take, if◌then◌else◌}
+use Rattle.std.specs.Prelude.{◌≡◌, ℕ, ◌≤◌, Bool, true, List, [], ◌∷◌, ◌++◌, map, take, if◌then◌else◌}
 use Rattle.mg_value.specs.Payload.{Plain}
 use Rattle.mg_value.specs.Prefix.{StreamPrefix}
 use Rattle.mg_calc.specs.declared.call.Call.{Call}
@@ -23,9 +23,10 @@ abbrev pub front_calls : LoggedJob → List (StreamPrefix Plain) → PlanNode �
 front_calls job solution node count close =
     take count (Begun ∷ map (λ e. Shown e.at e.set) (shown_sets job.job solution node)) ++ (if close then Finished ∷ [] else [])
 
--- a calculator had such a front of its node's calls
+-- a calculator had such a front of its node's calls; it had Close only behind Open
 pub record HadFront (job : LoggedJob) (solution : List (StreamPrefix Plain)) (node : PlanNode) (told : CalculatorTold) : Type 0 where
   pub count : ℕ
   pub close : Bool
+  pub opened : close ≡ true → 1 ≤ count
   pub log : told.log ≡ log_after job node (front_calls job solution node count close)
   pub fits : FitsNode node told.law told.shape

@@ -73,3 +73,4 @@ pub mod PuttingTogether
 pub mod EdgesInPlace
 pub mod StreamLooks
 pub mod RunsOn
+pub mod HeardOn

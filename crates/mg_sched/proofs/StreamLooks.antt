@@ -8,7 +8,8 @@ use Rattle.mg_calc.specs.declared.plan_stream.Producer.{Producer}
 use Rattle.mg_calc.proofs.Earlier.{some_same}
 use Rattle.mg_node.specs.Views.{EngineView}
 use Rattle.mg_sched.specs.Places.{place_of}
-use Rattle.mg_sched.specs.Code.Outputs.{output_of, LaidAt}
+use Rattle.mg_sched.specs.Writers.{output_of}
+use Rattle.mg_sched.specs.Code.Outputs.{LaidAt}
 use Rattle.mg_sched.specs.Looks.{IsOutputAmong}
 
 got_at : {X : Type 0} (xs : List X) (i : ℕ) (d x : X) → slice_get xs i ≡ Some x → slice_index_or xs i d ≡ x

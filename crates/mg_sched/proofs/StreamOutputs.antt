@@ -21,7 +21,8 @@ use Rattle.mg_node.proofs.Lemmas.{engine_known, input_known, unbegun_parts}
 use Rattle.mg_sched.specs.Views.{NetView}
 use Rattle.mg_sched.specs.Places.{place_of, source_of}
 use Rattle.mg_sched.specs.StandsFor.{IsEngine, StandsFor, StandsForSome}
-use Rattle.mg_sched.specs.Code.Outputs.{writer_at, output_of, LaidAt, HasOutput, HaveOutputs, LeadToPorts}
+use Rattle.mg_sched.specs.Writers.{writer_at, output_of}
+use Rattle.mg_sched.specs.Code.Outputs.{LaidAt, HasOutput, HaveOutputs, LeadToPorts}
 use Rattle.mg_sched.proofs.Finding.{found, valid}
 use Rattle.mg_sched.proofs.Carrying.{target_there, port_there}
 use Rattle.mg_sched.proofs.PlanEdges.{edge_ends, edge_stream}

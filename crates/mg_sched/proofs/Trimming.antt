@@ -17,7 +17,8 @@ use Rattle.mg_node.specs.Ports.{port_queue}
 use Rattle.mg_node.proofs.Lemmas.{get_other, put_there}
 use Rattle.mg_sched.specs.Places.{place_of}
 use Rattle.mg_sched.specs.Trims.{came_along, came_of}
-use Rattle.mg_sched.specs.Code.Outputs.{writer_at, output_of, LaidAt, HasOutput, HaveOutputs, AreLaid, AreWithin, given_below, GivenBelow, AllGiven}
+use Rattle.mg_sched.specs.Writers.{writer_at, output_of}
+use Rattle.mg_sched.specs.Code.Outputs.{LaidAt, HasOutput, HaveOutputs, AreLaid, AreWithin, given_below, GivenBelow, AllGiven}
 use Rattle.mg_sched.proofs.Finding.{found}
 
 -- What is laid.

@@ -1,5 +1,6 @@
 pub mod Views
 pub mod Places
+pub mod Writers
 pub mod StandsFor
 pub mod Acts
 pub mod Begins
@@ -14,6 +15,7 @@ pub mod WindsUp
 pub mod AtRest
 pub mod Sweeps
 pub mod Runs
+pub mod Heard
 pub mod ComesApart
 -- What the prover wants of the types beside their meaning. No meaning rests on it.
 pub mod Codes

@@ -7,7 +7,7 @@ use Rattle.mg_calc.specs.declared.plan_stream.Producer.{Producer}
 use Rattle.mg_node.specs.Views.{EngineView}
 use Rattle.mg_sched.specs.Places.{place_of}
 use Rattle.mg_sched.specs.Views.{NetView}
-use Rattle.mg_sched.specs.Code.Outputs.{writer_at, output_of}
+use Rattle.mg_sched.specs.Writers.{writer_at, output_of}
 
 -- the output of a stream: that of the engine of its writer, at which the writer lays it
 pub record IsOutputAmong (plan : Plan) (engines : List EngineView) (stream : ℕ) (output : Backlog Plain) : Type 0 where

@@ -5,6 +5,7 @@
 mod agenda;
 mod boxes;
 mod desk;
+mod hears;
 pub mod laws;
 mod net;
 mod net_parts;
@@ -14,6 +15,7 @@ pub mod run_laws;
 mod sources;
 mod tables;
 
+pub use hears::{Deaf, Hears};
 pub use net::{IndexedPlan, Net, NetRest};
 pub use net_parts::NetParts;
 pub use report::{CountList, Report, StreamEnd, StreamEndList};

@@ -6,6 +6,7 @@ mod extending;
 mod joining;
 mod leaving;
 mod looking;
+mod looking_over;
 mod making;
 mod parting;
 mod reporting;

@@ -1,26 +1,17 @@
 -- At which outputs the streams of a plan are laid, and numbers kept by stream.
-use Rattle.std.specs.Prelude.{◌≡◌, ℕ, ◌+◌, ◌<◌, ◌≤◌, List, length, Option, Some, slice_get, slice_index_or, option_map, if◌then◌else◌, nat_lt}
+use Rattle.std.specs.Prelude.{◌≡◌, ℕ, ◌+◌, ◌<◌, ◌≤◌, List, length, Some, slice_get, slice_index_or, if◌then◌else◌, nat_lt}
 use Rattle.mg_value.specs.Payload.{Plain}
 use Rattle.mg_stream.specs.Pool.{Backlog}
 use Rattle.mg_calc.specs.declared.edge.Edge.{Edge}
 use Rattle.mg_calc.specs.declared.plan.Plan.{Plan}
 use Rattle.mg_calc.specs.declared.plan_stream.Producer.{Producer}
-use Rattle.mg_calc.specs.declared.plan_stream.Producer.TheVariants.{Input, Node}
 use Rattle.mg_node.specs.Views.{IntakeView, EngineView}
 use Rattle.mg_node.specs.Job.{LoggedJob}
 use Rattle.mg_node.specs.Lawful.{Owner, LawfulEngine}
 use Rattle.mg_node.specs.Outputs.{count_at, without_first}
 use Rattle.mg_node.specs.Ports.{ports_in}
 use Rattle.mg_sched.specs.Places.{place_of}
-
--- who writes a stream
-abbrev pub writer_at : Plan → ℕ → Option Producer
-writer_at plan stream = option_map (λ s. s.producer) (slice_get plan.streams stream)
-
--- the output of a producer
-abbrev pub output_of : Producer → ℕ
-output_of (Input number) = 0
-output_of (Node node port) = port
+use Rattle.mg_sched.specs.Writers.{writer_at, output_of}
 
 -- a stream is laid at an output of the engine at a place
 pub record LaidAt (plan : Plan) (stream place port : ℕ) : Type 0 where

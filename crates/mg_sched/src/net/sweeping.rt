@@ -1,5 +1,5 @@
 //! How a net comes to rest.
-ghost use Rattle.std.specs.Prelude.{◌≡◌, ◌<◌, ◌+◌, ◌≤◌, ◌^◌, List, length, slice_get, slice_set, Some, IfOk, true, false};
+ghost use Rattle.std.specs.Prelude.{◌≡◌, ◌<◌, ◌+◌, ◌≤◌, ◌^◌, List, length, slice_get, slice_set, Some, IfOk, OnOk, OnErr, true, false};
 ghost use Rattle.mg_value.specs.Payload.{Plain};
 ghost use Rattle.mg_value.specs.Prefix.{StreamPrefix};
 ghost use Rattle.mg_calc.specs.Meaning.{weight};
@@ -8,20 +8,22 @@ ghost use Rattle.mg_node.specs.Ports.{ports_in};
 ghost use Rattle.mg_ready.specs.Ready.{IsIn};
 ghost use Rattle.mg_sched.specs.StandsFor.{StandsFor, StandsForSome, IsRunning};
 ghost use Rattle.mg_calc.specs.declared.edge.Edge.{Edge};
-ghost use Rattle.mg_sched.specs.Acts.{IsEventOf, IsHeld};
+ghost use Rattle.mg_sched.specs.Acts.{IsHeld};
 ghost use Rattle.mg_sched.specs.AtRest.{IsAtRest};
 ghost use Rattle.mg_sched.specs.Taking.{taken_out};
 ghost use Rattle.mg_sched.specs.Reports.{claimed_in};
 ghost use Rattle.mg_sched.specs.Sweeps.{Becomes};
+ghost use Rattle.mg_sched.specs.Heard.{Heard, HeardSome};
 ghost use Rattle.mg_node.specs.Views.{IntakeView};
 ghost use Rattle.mg_sched.specs.Places.{first_edge};
 ghost use Rattle.mg_sched.specs.Code.Agendas.{IsAgendaOf};
 ghost use Rattle.mg_sched.specs.Code.AtLimits.{is_at_limit, TellsAtLimit};
-ghost use Rattle.mg_sched.specs.Code.Left.{Goes, Steps, EdgesRest, NodesRest};
+ghost use Rattle.mg_sched.specs.Code.Left.{Goes};
 
 use super::Net;
+use crate::Hears;
 use crate::agenda::Agenda;
-use mg_calc::{Calculator, Effect, Event};
+use mg_calc::{Calculator, Event};
 use mg_edge::Gate;
 use mg_node::Intake;
 use mg_throttle::Limits;
@@ -83,11 +85,16 @@ impl<C: Calculator> Net<C> {
     /// throttled waits until a queue falls below its limit, and where nothing else can be done limits are relaxed (MediaPipe, Real-time
     /// Streams). No set is taken from the collector. At want of memory the steps made so far stand, and this may be called again.
     ///
+    /// Each event that does something is told, once it has done it: what hears them hears a run of the net. That run leads to where the
+    /// net is now; at want of memory it may end before a step that wasn't made whole.
+    ///
     /// A packet costs what the steps on its way cost. All events are looked over only once nothing is known any more that may be done.
-    pub fn sweep<G: Gate>(&mut self, gate: &G) -> Result<(), AllocError>
+    pub fn sweep<G: Gate, H: Hears>(&mut self, gate: &G, hearer: &mut H) -> Result<(), AllocError>
         requires running { IsRunning self.old }
         requires stands { StandsForSome self.old }
         ensures becomes { Becomes self.old self.new }
+        ensures heard { OnOk result (Heard H.has_heard hearer.old hearer.new self.old self.new) }
+        ensures heard_some { OnErr result (HeardSome H.has_heard hearer.old hearer.new self.old) }
         ensures rest { IfOk result (λ _. IsAtRest self.new) }
         ensures running { IsRunning self.new }
         ensures stands { (job : LoggedJob) → StandsFor job self.old → StandsFor job self.new }
@@ -96,21 +103,27 @@ impl<C: Calculator> Net<C> {
         // What the nodes have claimed is within the weight of the job.
         ensures weight { (job : LoggedJob) (solution : List (StreamPrefix Plain)) → StandsFor job self.old → Solves job solution → claimed_in self.new ≤ weight job.job solution }
     {
-        self.come_to_rest(gate)
+        self.come_to_rest(gate, hearer)
     }
 
     // Makes steps until none would do anything.
-    fn come_to_rest<G: Gate>(&mut self, gate: &G) -> Result<(), AllocError>
+    fn come_to_rest<G: Gate, H: Hears>(
+        &mut self,
+        gate: &G,
+        hearer: &mut H,
+    ) -> Result<(), AllocError>
         requires running { IsRunning self.old }
         requires stands { StandsForSome self.old }
         ensures becomes { Becomes self.old self.new }
+        ensures heard { OnOk result (Heard H.has_heard hearer.old hearer.new self.old self.new) }
+        ensures heard_some { OnErr result (HeardSome H.has_heard hearer.old hearer.new self.old) }
         ensures rest { IfOk result (λ _. IsAtRest self.new) }
     {
         let mut agenda = self.agenda()?;
         'passes: loop {
             agenda.put_all();
-            self.work_off(&mut agenda, gate)?;
-            if !self.look_over(gate)? {
+            self.work_off(&mut agenda, gate, hearer)?;
+            if !self.look_over(gate, hearer)? {
                 return Ok(());
             }
         }
@@ -125,72 +138,92 @@ impl<C: Calculator> Net<C> {
     }
 
     // Makes the steps that are known of, and those that they bring about.
-    fn work_off<G: Gate>(&mut self, agenda: &mut Agenda, gate: &G) -> Result<(), AllocError>
+    fn work_off<G: Gate, H: Hears>(
+        &mut self,
+        agenda: &mut Agenda,
+        gate: &G,
+        hearer: &mut H,
+    ) -> Result<(), AllocError>
         requires running { IsRunning self.old }
         requires stands { StandsForSome self.old }
         requires agenda { IsAgendaOf self.old.plan agenda.old }
         ensures becomes { Becomes self.old self.new }
+        ensures heard { OnOk result (Heard H.has_heard hearer.old hearer.new self.old self.new) }
+        ensures heard_some { OnErr result (HeardSome H.has_heard hearer.old hearer.new self.old) }
         ensures agenda { IsAgendaOf self.old.plan agenda.new }
     {
-        'steps: while self.go_on(agenda, gate)? {}
+        'steps: while self.go_on(agenda, gate, hearer)? {}
         Ok(())
     }
 
     // Visits places until something is done, and where there is nothing to do relaxes limits. Tells whether something was done.
-    fn go_on<G: Gate>(&mut self, agenda: &mut Agenda, gate: &G) -> Result<bool, AllocError>
+    fn go_on<G: Gate, H: Hears>(
+        &mut self,
+        agenda: &mut Agenda,
+        gate: &G,
+        hearer: &mut H,
+    ) -> Result<bool, AllocError>
         requires running { IsRunning self.old }
         requires stands { StandsForSome self.old }
         requires agenda { IsAgendaOf self.old.plan agenda.old }
         ensures becomes { Becomes self.old self.new }
+        ensures heard { OnOk result (Heard H.has_heard hearer.old hearer.new self.old self.new) }
+        ensures heard_some { OnErr result (HeardSome H.has_heard hearer.old hearer.new self.old) }
         ensures goes { IfOk result (λ did. Goes did self.old self.new) }
         ensures agenda { IsAgendaOf self.old.plan agenda.new }
     {
         'places: while let Some(place) = agenda.take() {
-            if self.visit(place, agenda, gate)? {
+            if self.visit(place, agenda, gate, hearer)? {
                 return Ok(true);
             }
         }
-        let relaxed = self.step(Event::Relax, gate)?;
+        let relaxed = self.step(Event::Relax, gate, hearer)?;
         agenda.release();
         Ok(relaxed)
     }
 
     // Lets the part at a place do what it can. Tells whether something was done.
-    fn visit<G: Gate>(
+    fn visit<G: Gate, H: Hears>(
         &mut self,
         place: u32,
         agenda: &mut Agenda,
         gate: &G,
+        hearer: &mut H,
     ) -> Result<bool, AllocError>
         requires running { IsRunning self.old }
         requires stands { StandsForSome self.old }
         requires agenda { IsAgendaOf self.old.plan agenda.old }
         requires there { place < length agenda.old.heads }
         ensures becomes { Becomes self.old self.new }
+        ensures heard { OnOk result (Heard H.has_heard hearer.old hearer.new self.old self.new) }
+        ensures heard_some { OnErr result (HeardSome H.has_heard hearer.old hearer.new self.old) }
         ensures goes { IfOk result (λ did. Goes did self.old self.new) }
         ensures agenda { IsAgendaOf self.old.plan agenda.new }
         ensures unchanged { IfOk result (λ did. did ≡ false → agenda.new.ready ≡ agenda.old.ready) }
     {
         if place < self.node_count() {
-            self.visit_node(place, agenda, gate)
+            self.visit_node(place, agenda, gate, hearer)
         } else {
-            self.send_until_held(place, agenda, gate)
+            self.send_until_held(place, agenda, gate, hearer)
         }
     }
 
     // Brings what came at a graph input along its edges until it is throttled. It is kept then, and goes on with that edge: along those
     // before it all has gone, since no more comes at a graph input while a net is swept. Tells whether something was brought.
-    fn send_until_held<G: Gate>(
+    fn send_until_held<G: Gate, H: Hears>(
         &mut self,
         place: u32,
         agenda: &mut Agenda,
         gate: &G,
+        hearer: &mut H,
     ) -> Result<bool, AllocError>
         requires running { IsRunning self.old }
         requires stands { StandsForSome self.old }
         requires agenda { IsAgendaOf self.old.plan agenda.old }
         requires there { place < length agenda.old.heads }
         ensures becomes { Becomes self.old self.new }
+        ensures heard { OnOk result (Heard H.has_heard hearer.old hearer.new self.old self.new) }
+        ensures heard_some { OnErr result (HeardSome H.has_heard hearer.old hearer.new self.old) }
         ensures goes { IfOk result (λ did. Goes did self.old self.new) }
         ensures agenda { IsAgendaOf self.old.plan agenda.new }
         ensures unchanged { IfOk result (λ did. did ≡ false → agenda.new.ready ≡ agenda.old.ready) }
@@ -202,7 +235,7 @@ impl<C: Calculator> Net<C> {
                 hold_at(agenda, place, edge);
                 return Ok(did);
             }
-            did |= self.send_along(edge, agenda, gate)?;
+            did |= self.send_along(edge, agenda, gate, hearer)?;
             cursor = agenda.next_edge(edge);
         }
         agenda.finish(place);
@@ -221,17 +254,20 @@ impl<C: Calculator> Net<C> {
 
     // Lets a node work, unless it is a source that is throttled, and sends on what it laid. Where it took packets from a full queue, the
     // feeders that were held may feed again.
-    fn visit_node<G: Gate>(
+    fn visit_node<G: Gate, H: Hears>(
         &mut self,
         node: u32,
         agenda: &mut Agenda,
         gate: &G,
+        hearer: &mut H,
     ) -> Result<bool, AllocError>
         requires running { IsRunning self.old }
         requires stands { StandsForSome self.old }
         requires agenda { IsAgendaOf self.old.plan agenda.old }
         requires there { node < length self.old.plan.nodes }
         ensures becomes { Becomes self.old self.new }
+        ensures heard { OnOk result (Heard H.has_heard hearer.old hearer.new self.old self.new) }
+        ensures heard_some { OnErr result (HeardSome H.has_heard hearer.old hearer.new self.old) }
         ensures goes { IfOk result (λ did. Goes did self.old self.new) }
         ensures agenda { IsAgendaOf self.old.plan agenda.new }
         ensures unchanged { IfOk result (λ did. did ≡ false → agenda.new.ready ≡ agenda.old.ready) }
@@ -241,11 +277,11 @@ impl<C: Calculator> Net<C> {
             return Ok(false);
         }
         let was_full = self.is_full(node);
-        if !self.work_long(node, gate)? {
+        if !self.work_long(node, gate, hearer)? {
             return Ok(false);
         }
         go_on_with(agenda, node, was_full);
-        self.send(node, agenda, gate)?;
+        self.send(node, agenda, gate, hearer)?;
         Ok(true)
     }
 
@@ -265,17 +301,20 @@ impl<C: Calculator> Net<C> {
 
     // Brings along the edges that lead from a place what their ports haven't got, and puts in the nodes to which something came. Tells
     // whether something did.
-    fn send<G: Gate>(
+    fn send<G: Gate, H: Hears>(
         &mut self,
         place: u32,
         agenda: &mut Agenda,
         gate: &G,
+        hearer: &mut H,
     ) -> Result<bool, AllocError>
         requires running { IsRunning self.old }
         requires stands { StandsForSome self.old }
         requires agenda { IsAgendaOf self.old.plan agenda.old }
         requires there { place < length agenda.old.heads }
         ensures becomes { Becomes self.old self.new }
+        ensures heard { OnOk result (Heard H.has_heard hearer.old hearer.new self.old self.new) }
+        ensures heard_some { OnErr result (HeardSome H.has_heard hearer.old hearer.new self.old) }
         ensures goes { IfOk result (λ did. Goes did self.old self.new) }
         ensures agenda { IsAgendaOf self.old.plan agenda.new }
         ensures unchanged { IfOk result (λ did. did ≡ false → agenda.new ≡ agenda.old) }
@@ -283,29 +322,32 @@ impl<C: Calculator> Net<C> {
         let mut did = false;
         let mut cursor = agenda.first_edge(place);
         'edges: while let Some(edge) = cursor {
-            did |= self.send_along(edge, agenda, gate)?;
+            did |= self.send_along(edge, agenda, gate, hearer)?;
             cursor = agenda.next_edge(edge);
         }
         Ok(did)
     }
 
     // Brings along an edge what its port hasn't got, and puts in the node to which something came. Tells whether something did.
-    fn send_along<G: Gate>(
+    fn send_along<G: Gate, H: Hears>(
         &mut self,
         edge: u32,
         agenda: &mut Agenda,
         gate: &G,
+        hearer: &mut H,
     ) -> Result<bool, AllocError>
         requires running { IsRunning self.old }
         requires stands { StandsForSome self.old }
         requires agenda { IsAgendaOf self.old.plan agenda.old }
         requires there { edge < length self.old.plan.edges }
         ensures becomes { Becomes self.old self.new }
+        ensures heard { OnOk result (Heard H.has_heard hearer.old hearer.new self.old self.new) }
+        ensures heard_some { OnErr result (HeardSome H.has_heard hearer.old hearer.new self.old) }
         ensures goes { IfOk result (λ did. Goes did self.old self.new) }
         ensures agenda { IsAgendaOf self.old.plan agenda.new }
         ensures unchanged { IfOk result (λ did. did ≡ false → agenda.new ≡ agenda.old) }
     {
-        if !self.step(Event::Deliver { edge }, gate)? {
+        if !self.step(Event::Deliver { edge }, gate, hearer)? {
             return Ok(false);
         }
         self.put_consumer(edge, agenda);
@@ -321,79 +363,6 @@ impl<C: Calculator> Net<C> {
         let node = self.plan.edges.as_slice()[edge as usize].node;
         if node < self.plan.nodes.len() {
             agenda.put(node);
-        }
-    }
-
-    // Looks over all events, and makes those that do something. Tells whether there was one.
-    fn look_over<G: Gate>(&mut self, gate: &G) -> Result<bool, AllocError>
-        requires running { IsRunning self.old }
-        requires stands { StandsForSome self.old }
-        ensures becomes { Becomes self.old self.new }
-        ensures goes { IfOk result (λ did. Goes did self.old self.new) }
-        ensures rest { IfOk result (λ did. did ≡ false → IsAtRest self.new) }
-    {
-        let delivered = self.look_over_edges(gate)?;
-        let worked = self.look_over_nodes(gate)?;
-        if delivered | worked {
-            return Ok(true);
-        }
-        self.step(Event::Relax, gate)
-    }
-
-    // Brings along each edge what its port hasn't got. Tells whether something was brought.
-    fn look_over_edges<G: Gate>(&mut self, gate: &G) -> Result<bool, AllocError>
-        requires running { IsRunning self.old }
-        requires stands { StandsForSome self.old }
-        ensures becomes { Becomes self.old self.new }
-        ensures goes { IfOk result (λ did. Goes did self.old self.new) }
-        ensures rest { IfOk result (λ did. did ≡ false → EdgesRest self.new (length self.new.plan.edges)) }
-    {
-        let mut did = false;
-        'edges: for edge in 0..self.edge_count() {
-            did |= self.step(Event::Deliver { edge }, gate)?;
-        }
-        Ok(did)
-    }
-
-    fn edge_count(&self) -> u32
-        ensures { result ≡ length self.now.plan.edges }
-    {
-        self.plan.edges.len()
-    }
-
-    fn node_count(&self) -> u32
-        ensures { result ≡ length self.now.plan.nodes }
-    {
-        self.plan.nodes.len()
-    }
-
-    // Lets each node work. Tells whether one did something.
-    fn look_over_nodes<G: Gate>(&mut self, gate: &G) -> Result<bool, AllocError>
-        requires running { IsRunning self.old }
-        requires stands { StandsForSome self.old }
-        ensures becomes { Becomes self.old self.new }
-        ensures goes { IfOk result (λ did. Goes did self.old self.new) }
-        ensures rest { IfOk result (λ did. did ≡ false → NodesRest self.new (length self.new.plan.nodes)) }
-    {
-        let mut did = false;
-        'nodes: for node in 0..self.node_count() {
-            did |= self.work(node, gate)?;
-        }
-        Ok(did)
-    }
-
-    // Makes a step. Tells whether it did something.
-    pub(super) fn step<G: Gate>(&mut self, event: Event, gate: &G) -> Result<bool, AllocError>
-        requires event { IsEventOf self.old event }
-        requires running { IsRunning self.old }
-        requires stands { StandsForSome self.old }
-        ensures becomes { Becomes self.old self.new }
-        ensures steps { IfOk result (λ did. Steps did event self.old self.new) }
-    {
-        match self.act(event, gate) {
-            Effect::Did => Ok(true),
-            Effect::Idle => Ok(false),
-            Effect::OutOfMemory => Err(AllocError),
         }
     }
 }

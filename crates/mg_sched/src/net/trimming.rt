@@ -3,7 +3,8 @@ ghost use Rattle.std.specs.Prelude.{◌≡◌, ◌<◌, ◌^◌, ℕ, length, mi
 ghost use Rattle.std.specs.List.{fold};
 ghost use Rattle.mg_node.specs.Job.{LoggedJob};
 ghost use Rattle.mg_sched.specs.StandsFor.{StandsFor, StandsForSome};
-ghost use Rattle.mg_sched.specs.Code.Outputs.{writer_at, LaidAt, HaveOutputs, LeadToPorts, AreLaid, AreWithin, AllGiven};
+ghost use Rattle.mg_sched.specs.Writers.{writer_at};
+ghost use Rattle.mg_sched.specs.Code.Outputs.{LaidAt, HaveOutputs, LeadToPorts, AreLaid, AreWithin, AllGiven};
 ghost use Rattle.mg_sched.specs.Trims.{came_of, Trims};
 
 use super::Net;

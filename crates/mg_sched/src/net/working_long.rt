@@ -1,11 +1,13 @@
 //! How a node works, and how long before what it laid goes on.
-ghost use Rattle.std.specs.Prelude.{◌≡◌, ◌<◌, ◌==◌, length, slice_get, Some, IfSome, IfNone, IfOk, false};
+ghost use Rattle.std.specs.Prelude.{◌≡◌, ◌<◌, ◌==◌, length, slice_get, Some, IfSome, IfNone, IfOk, OnOk, OnErr, false};
 ghost use Rattle.mg_calc.specs.declared.plan_node.PlanNode.{PlanNode};
 ghost use Rattle.mg_sched.specs.StandsFor.{StandsForSome, IsRunning};
 ghost use Rattle.mg_sched.specs.Sweeps.{Becomes};
+ghost use Rattle.mg_sched.specs.Heard.{Heard, HeardSome};
 ghost use Rattle.mg_sched.specs.Code.Left.{Goes, HasWork, HasNoWork, HasShelf, HasNoShelf, WorksRest, RestsAt};
 
 use super::Net;
+use crate::Hears;
 use mg_calc::{Calculator, Event};
 use mg_edge::Gate;
 use std::alloc::AllocError;
@@ -13,18 +15,25 @@ use std::alloc::AllocError;
 impl<C: Calculator> Net<C> {
     /// Lets a node work off what waits at it, so that all of it goes on at once. A source works once, since what it lays has to go on
     /// before it is known whether it is throttled. Tells whether something was done.
-    pub(super) fn work_long<G: Gate>(&mut self, node: u32, gate: &G) -> Result<bool, AllocError>
+    pub(super) fn work_long<G: Gate, H: Hears>(
+        &mut self,
+        node: u32,
+        gate: &G,
+        hearer: &mut H,
+    ) -> Result<bool, AllocError>
         requires running { IsRunning self.old }
         requires stands { StandsForSome self.old }
         requires there { node < length self.old.plan.nodes }
         ensures becomes { Becomes self.old self.new }
+        ensures heard { OnOk result (Heard H.has_heard hearer.old hearer.new self.old self.new) }
+        ensures heard_some { OnErr result (HeardSome H.has_heard hearer.old hearer.new self.old) }
         ensures goes { IfOk result (λ did. Goes did self.old self.new) }
     {
         if self.has_no_input(node) {
-            let did = self.work(node, gate)?;
+            let did = self.work(node, gate, hearer)?;
             return Ok(did);
         }
-        let did = self.work_until_idle(node, gate)?;
+        let did = self.work_until_idle(node, gate, hearer)?;
         Ok(did)
     }
 
@@ -35,15 +44,22 @@ impl<C: Calculator> Net<C> {
         self.plan.nodes.as_slice()[node as usize].inputs.is_empty()
     }
 
-    fn work_until_idle<G: Gate>(&mut self, node: u32, gate: &G) -> Result<bool, AllocError>
+    fn work_until_idle<G: Gate, H: Hears>(
+        &mut self,
+        node: u32,
+        gate: &G,
+        hearer: &mut H,
+    ) -> Result<bool, AllocError>
         requires running { IsRunning self.old }
         requires stands { StandsForSome self.old }
         requires there { node < length self.old.plan.nodes }
         ensures becomes { Becomes self.old self.new }
+        ensures heard { OnOk result (Heard H.has_heard hearer.old hearer.new self.old self.new) }
+        ensures heard_some { OnErr result (HeardSome H.has_heard hearer.old hearer.new self.old) }
         ensures goes { IfOk result (λ did. Goes did self.old self.new) }
     {
         let mut did = false;
-        'works: while self.work(node, gate)? {
+        'works: while self.work(node, gate, hearer)? {
             did = true;
         }
         Ok(did)
@@ -51,49 +67,70 @@ impl<C: Calculator> Net<C> {
 
     // Claims a node's next work, and performs and commits what is claimed; only where there is nothing of that, raises the node's
     // outputs. Tells whether something was done.
-    pub(super) fn work<G: Gate>(&mut self, node: u32, gate: &G) -> Result<bool, AllocError>
+    pub(super) fn work<G: Gate, H: Hears>(
+        &mut self,
+        node: u32,
+        gate: &G,
+        hearer: &mut H,
+    ) -> Result<bool, AllocError>
         requires running { IsRunning self.old }
         requires stands { StandsForSome self.old }
         requires there { node < length self.old.plan.nodes }
         ensures becomes { Becomes self.old self.new }
+        ensures heard { OnOk result (Heard H.has_heard hearer.old hearer.new self.old self.new) }
+        ensures heard_some { OnErr result (HeardSome H.has_heard hearer.old hearer.new self.old) }
         ensures goes { IfOk result (λ did. Goes did self.old self.new) }
         ensures rest { IfOk result (λ did. did ≡ false → RestsAt self.new node) }
     {
-        let worked = self.work_on(node, gate)?;
+        let worked = self.work_on(node, gate, hearer)?;
         if worked {
             return Ok(true);
         }
-        let raised = self.step(Event::Advance { node }, gate)?;
+        let raised = self.step(Event::Advance { node }, gate, hearer)?;
         Ok(raised)
     }
 
     // Claims a node's next work, and performs and commits what is claimed. Tells whether something was done.
-    fn work_on<G: Gate>(&mut self, node: u32, gate: &G) -> Result<bool, AllocError>
+    fn work_on<G: Gate, H: Hears>(
+        &mut self,
+        node: u32,
+        gate: &G,
+        hearer: &mut H,
+    ) -> Result<bool, AllocError>
         requires running { IsRunning self.old }
         requires stands { StandsForSome self.old }
         requires there { node < length self.old.plan.nodes }
         ensures becomes { Becomes self.old self.new }
+        ensures heard { OnOk result (Heard H.has_heard hearer.old hearer.new self.old self.new) }
+        ensures heard_some { OnErr result (HeardSome H.has_heard hearer.old hearer.new self.old) }
         ensures goes { IfOk result (λ did. Goes did self.old self.new) }
         ensures rest { IfOk result (λ did. did ≡ false → WorksRest self.new node) }
     {
-        let claimed = self.step(Event::Claim { node }, gate)?;
-        let performed = self.perform_all(node, gate)?;
-        let committed = self.commit_all(node, gate)?;
+        let claimed = self.step(Event::Claim { node }, gate, hearer)?;
+        let performed = self.perform_all(node, gate, hearer)?;
+        let committed = self.commit_all(node, gate, hearer)?;
         Ok(claimed | performed | committed)
     }
 
     // Performs a node's works that are claimed. Tells whether there was one.
-    fn perform_all<G: Gate>(&mut self, node: u32, gate: &G) -> Result<bool, AllocError>
+    fn perform_all<G: Gate, H: Hears>(
+        &mut self,
+        node: u32,
+        gate: &G,
+        hearer: &mut H,
+    ) -> Result<bool, AllocError>
         requires running { IsRunning self.old }
         requires stands { StandsForSome self.old }
         requires there { node < length self.old.plan.nodes }
         ensures becomes { Becomes self.old self.new }
+        ensures heard { OnOk result (Heard H.has_heard hearer.old hearer.new self.old self.new) }
+        ensures heard_some { OnErr result (HeardSome H.has_heard hearer.old hearer.new self.old) }
         ensures goes { IfOk result (λ did. Goes did self.old self.new) }
         ensures none { IfOk result (λ did. did ≡ false → HasNoWork self.new node) }
     {
         let mut did = false;
         'works: while let Some(number) = self.first_claimed(node) {
-            let _ = self.step(Event::Perform { node, number }, gate)?;
+            let _ = self.step(Event::Perform { node, number }, gate, hearer)?;
             did = true;
         }
         Ok(did)
@@ -110,17 +147,24 @@ impl<C: Calculator> Net<C> {
     }
 
     // Commits a node's works that are performed. Tells whether there was one.
-    fn commit_all<G: Gate>(&mut self, node: u32, gate: &G) -> Result<bool, AllocError>
+    fn commit_all<G: Gate, H: Hears>(
+        &mut self,
+        node: u32,
+        gate: &G,
+        hearer: &mut H,
+    ) -> Result<bool, AllocError>
         requires running { IsRunning self.old }
         requires stands { StandsForSome self.old }
         requires there { node < length self.old.plan.nodes }
         ensures becomes { Becomes self.old self.new }
+        ensures heard { OnOk result (Heard H.has_heard hearer.old hearer.new self.old self.new) }
+        ensures heard_some { OnErr result (HeardSome H.has_heard hearer.old hearer.new self.old) }
         ensures goes { IfOk result (λ did. Goes did self.old self.new) }
         ensures none { IfOk result (λ did. did ≡ false → HasNoShelf self.new node) }
     {
         let mut did = false;
         'works: while let Some(number) = self.first_performed(node) {
-            let _ = self.step(Event::Commit { node, number }, gate)?;
+            let _ = self.step(Event::Commit { node, number }, gate, hearer)?;
             did = true;
         }
         Ok(did)

@@ -4,10 +4,11 @@ use Rattle.mg_sched.specs.Sweeps.{itself}
 use Rattle.mg_sched.proofs.Becoming.{becomes_runs, becomes_some, becomes_trans}
 use Rattle.mg_sched.proofs.LeftIn.{becomes_no_more}
 use Rattle.mg_sched.proofs.Sweeping.{later_less, goes_true, agenda_on, agenda_back, agenda_same}
+use Rattle.mg_sched.proofs.HeardOn.{heard_none, heard_then, heard_so_far, heard_then_some, on_err}
 use Rattle.mg_sched.proofs.net.Net.come_to_rest.Goals as goal
 
 pub passes-init : goal.passes-init
-passes-init g c = record { becomes = itself; agenda = c.in_ok-agenda.ensures }
+passes-init g c = record { becomes = itself; agenda = c.in_ok-agenda.ensures; heard = heard_none g.H.Hears.has_heard c.args.hearer.now c.args.self.now }
 
 pub work_off-requires-clause-running : goal.work_off-requires-clause-running
 work_off-requires-clause-running g c = becomes_runs c.args.self.now c.passes.self c.requires.running c.passes.invariant.becomes
@@ -59,6 +60,19 @@ pub passes-preserved : goal.passes-preserved
 passes-preserved g c =
     (let first = becomes_trans c.args.self.now c.passes.self c.work_off.new.self c.passes.invariant.becomes c.in_ok-work_off.ensures.becomes in
     record {
+      heard = heard_then g.H.Hears.has_heard c.args.hearer.now c.work_off.new.hearer c.look_over.new.hearer c.args.self.now c.work_off.new.self c.look_over.new.self (heard_then g.H.Hears.has_heard c.args.hearer.now c.passes.hearer c.work_off.new.hearer c.args.self.now c.passes.self c.work_off.new.self c.passes.invariant.heard c.in_ok-work_off.ensures.heard) c.in_ok-look_over.ensures.heard;
       becomes = becomes_trans c.args.self.now c.work_off.new.self c.look_over.new.self first c.in_ok-look_over.ensures.becomes;
       agenda = agenda_back c.args.self.now c.passes.self c.work_off.new.agenda c.passes.invariant.becomes c.in_ok-work_off.ensures.agenda;
     })
+
+pub returns-in_err-agenda-clause-heard_some : goal.returns-in_err-agenda-clause-heard_some
+returns-in_err-agenda-clause-heard_some g c = on_err c.from_residual.result (heard_so_far g.H.Hears.has_heard c.args.hearer.now c.args.self.now)
+
+pub returns-in_err-work_off-clause-heard_some : goal.returns-in_err-work_off-clause-heard_some
+returns-in_err-work_off-clause-heard_some g c = on_err c.from_residual-in_err-work_off.result (heard_then_some g.H.Hears.has_heard c.args.hearer.now c.passes.hearer c.work_off.new.hearer c.args.self.now c.passes.self c.passes.invariant.heard c.in_err-work_off.ensures.heard_some)
+
+pub returns-in_err-look_over-clause-heard_some : goal.returns-in_err-look_over-clause-heard_some
+returns-in_err-look_over-clause-heard_some g c = on_err c.from_residual-in_err-look_over.result (heard_then_some g.H.Hears.has_heard c.args.hearer.now c.work_off.new.hearer c.look_over.new.hearer c.args.self.now c.work_off.new.self (heard_then g.H.Hears.has_heard c.args.hearer.now c.passes.hearer c.work_off.new.hearer c.args.self.now c.passes.self c.work_off.new.self c.passes.invariant.heard c.in_ok-work_off.ensures.heard) c.in_err-look_over.ensures.heard_some)
+
+pub returns-then-not-branch-clause-heard : goal.returns-then-not-branch-clause-heard
+returns-then-not-branch-clause-heard g c = heard_then g.H.Hears.has_heard c.args.hearer.now c.work_off.new.hearer c.look_over.new.hearer c.args.self.now c.work_off.new.self c.look_over.new.self (heard_then g.H.Hears.has_heard c.args.hearer.now c.passes.hearer c.work_off.new.hearer c.args.self.now c.passes.self c.work_off.new.self c.passes.invariant.heard c.in_ok-work_off.ensures.heard) c.in_ok-look_over.ensures.heard

@@ -7,10 +7,11 @@ use Rattle.mg_ready.specs.Ready.{ReadyNodes}
 use Rattle.mg_sched.specs.Code.Agendas.{AgendaView, IsAgendaOf, waiting_in}
 use Rattle.mg_sched.specs.Code.Left.{left_in, Goes}
 use Rattle.mg_sched.proofs.Sweeping.{steps_go, goes_true, goes_false, agenda_same}
+use Rattle.mg_sched.proofs.HeardOn.{heard_none, heard_then, heard_then_some, on_err}
 use Rattle.mg_sched.proofs.net.Net.go_on.Goals as goal
 
 pub places-init : goal.places-init
-places-init g c = record { same = refl; agenda = c.requires.agenda }
+places-init g c = record { same = refl; agenda = c.requires.agenda; heard = heard_none g.H.Hears.has_heard c.args.hearer.now c.args.self.now }
 
 pub visit-requires-clause-running : goal.visit-requires-clause-running
 visit-requires-clause-running g c = subst (λ (v : NetView). IsRunning v) (sym c.places.invariant.same) c.requires.running
@@ -28,6 +29,7 @@ visit-requires-clause-there g c = subst (λ (n : ℕ). c.in-Some.place < n) (sym
 
 pub places-preserved : goal.places-preserved
 places-preserved g c = record {
+  heard = heard_then g.H.Hears.has_heard c.args.hearer.now c.places.hearer c.visit.new.hearer c.args.self.now c.places.self c.visit.new.self c.places.invariant.heard c.in_ok-visit.ensures.heard;
   same = goes_false c.in_ok-visit.field-0 c.places.self c.visit.new.self c.if-branch.false c.in_ok-visit.ensures.goes ∙ c.places.invariant.same;
   agenda = subst (λ (v : NetView). IsAgendaOf v.plan c.visit.new.agenda) c.places.invariant.same c.in_ok-visit.ensures.agenda;
 }
@@ -72,3 +74,15 @@ pub returns-clause-agenda : goal.returns-clause-agenda
 returns-clause-agenda g c =
     agenda_same c.args.self.now.plan c.take.new.self c.release.new.self
     (agenda_same c.args.self.now.plan c.places.agenda c.take.new.self c.places.invariant.agenda (ap (λ (a : AgendaView). a.heads) c.take.ensures.others) (ap (λ (a : AgendaView). a.links) c.take.ensures.others)) (ap (λ (a : AgendaView). a.heads) c.release.ensures.others) (ap (λ (a : AgendaView). a.links) c.release.ensures.others)
+
+pub returns-in_err-visit-clause-heard_some : goal.returns-in_err-visit-clause-heard_some
+returns-in_err-visit-clause-heard_some g c = on_err c.from_residual.result (heard_then_some g.H.Hears.has_heard c.args.hearer.now c.places.hearer c.visit.new.hearer c.args.self.now c.places.self c.places.invariant.heard c.in_err-visit.ensures.heard_some)
+
+pub returns-then-branch-clause-heard : goal.returns-then-branch-clause-heard
+returns-then-branch-clause-heard g c = heard_then g.H.Hears.has_heard c.args.hearer.now c.places.hearer c.visit.new.hearer c.args.self.now c.places.self c.visit.new.self c.places.invariant.heard c.in_ok-visit.ensures.heard
+
+pub returns-in_err-relaxed-clause-heard_some : goal.returns-in_err-relaxed-clause-heard_some
+returns-in_err-relaxed-clause-heard_some g c = on_err c.from_residual-in_err-relaxed.result (heard_then_some g.H.Hears.has_heard c.args.hearer.now c.places.hearer c.step.new.hearer c.args.self.now c.places.self c.places.invariant.heard c.in_err-relaxed.ensures.heard_some)
+
+pub returns-clause-heard : goal.returns-clause-heard
+returns-clause-heard g c = heard_then g.H.Hears.has_heard c.args.hearer.now c.places.hearer c.step.new.hearer c.args.self.now c.places.self c.step.new.self c.places.invariant.heard c.in_ok-relaxed.ensures.heard

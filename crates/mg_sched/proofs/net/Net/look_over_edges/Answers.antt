@@ -3,10 +3,11 @@ use Rattle.mg_calc.specs.declared.plan.Plan.{Plan}
 use Rattle.mg_sched.specs.Sweeps.{itself}
 use Rattle.mg_sched.proofs.Becoming.{becomes_plan, becomes_runs, becomes_some, becomes_trans}
 use Rattle.mg_sched.proofs.Sweeping.{goes_then, steps_go, still_edge, edges_more}
+use Rattle.mg_sched.proofs.HeardOn.{heard_none, heard_then, heard_then_some, on_err}
 use Rattle.mg_sched.proofs.net.Net.look_over_edges.Goals as goal
 
 pub edges-init : goal.edges-init
-edges-init g c = record { becomes = itself; goes = refl; rest = λ isnt edge less. absurd (omega (arith, less)) }
+edges-init g c = record { becomes = itself; goes = refl; rest = λ isnt edge less. absurd (omega (arith, less)); heard = heard_none g.H.Hears.has_heard c.args.hearer.now c.args.self.now }
 
 pub step-requires-clause-event : goal.step-requires-clause-event
 step-requires-clause-event g c = still_edge c.edges.edge c.args.self.now c.edges.self c.edges.invariant.becomes (let less = c.edges-test.true in let count = c.edge_count-edge-end.ensures in omega (arith, less, count))
@@ -22,6 +23,7 @@ returns-in_err-did-clause-becomes g c = becomes_trans c.args.self.now c.edges.se
 
 pub edges-preserved : goal.edges-preserved
 edges-preserved g c = record {
+  heard = heard_then g.H.Hears.has_heard c.args.hearer.now c.edges.hearer c.step.new.hearer c.args.self.now c.edges.self c.step.new.self c.edges.invariant.heard c.in_ok-did.ensures.heard;
   becomes = becomes_trans c.args.self.now c.edges.self c.step.new.self c.edges.invariant.becomes c.in_ok-did.ensures.becomes;
   goes = goes_then c.edges.did c.in_ok-did.field-0 c.args.self.now c.edges.self c.step.new.self c.edges.invariant.goes (steps_go c.in_ok-did.field-0 _ c.edges.self c.step.new.self c.in_ok-did.ensures.steps);
   rest = edges_more c.edges.did c.in_ok-did.field-0 c.edges.self c.step.new.self c.edges.edge c.edges.invariant.rest c.in_ok-did.ensures.steps;
@@ -36,3 +38,6 @@ returns-clause-rest g c = λ isnt edge less.
     let count = c.edge_count-edge-end.ensures in
     let same = ap (λ (p : Plan). length p.edges) (becomes_plan c.args.self.now c.edges.self c.edges.invariant.becomes) in
     c.edges.invariant.rest isnt edge (omega (arith, less, past, count, same)))
+
+pub returns-in_err-did-clause-heard_some : goal.returns-in_err-did-clause-heard_some
+returns-in_err-did-clause-heard_some g c = on_err c.from_residual.result (heard_then_some g.H.Hears.has_heard c.args.hearer.now c.edges.hearer c.step.new.hearer c.args.self.now c.edges.self c.edges.invariant.heard c.in_err-did.ensures.heard_some)

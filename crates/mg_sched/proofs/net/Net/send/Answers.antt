@@ -2,6 +2,7 @@ use Rattle.std.proofs.Common.{◌<◌, ℕ, length, Option, IfSome, refl, sym, s
 use Rattle.mg_sched.specs.Sweeps.{itself}
 use Rattle.mg_sched.proofs.Becoming.{becomes_runs, becomes_some, becomes_trans}
 use Rattle.mg_sched.proofs.Sweeping.{goes_then, still_edge, agenda_on, agenda_back, both_same, edge_within, next_within, second_of, edges_left, fewer_edges}
+use Rattle.mg_sched.proofs.HeardOn.{heard_none, heard_then, heard_then_some, on_err}
 use Rattle.mg_sched.proofs.net.Net.send.Goals as goal
 
 pub edges-init : goal.edges-init
@@ -11,6 +12,7 @@ edges-init g c = record {
   agenda = c.requires.agenda;
   unchanged = λ isnt. refl;
   there = edge_within c.first_edge-cursor.result c.args.self.now.plan c.args.agenda.now c.requires.agenda c.first_edge-cursor.ensures.there;
+  heard = heard_none g.H.Hears.has_heard c.args.hearer.now c.args.self.now;
 }
 
 pub send_along-requires-clause-running : goal.send_along-requires-clause-running
@@ -48,9 +50,13 @@ pub edges-preserved : goal.edges-preserved
 edges-preserved g c =
     (let of = agenda_back c.args.self.now c.edges.self c.send_along.new.agenda c.edges.invariant.becomes c.in_ok-did.ensures.agenda in
     record {
+      heard = heard_then g.H.Hears.has_heard c.args.hearer.now c.edges.hearer c.send_along.new.hearer c.args.self.now c.edges.self c.send_along.new.self c.edges.invariant.heard c.in_ok-did.ensures.heard;
       becomes = becomes_trans c.args.self.now c.edges.self c.send_along.new.self c.edges.invariant.becomes c.in_ok-did.ensures.becomes;
       goes = goes_then c.edges.did c.in_ok-did.field-0 c.args.self.now c.edges.self c.send_along.new.self c.edges.invariant.goes c.in_ok-did.ensures.goes;
       agenda = of;
       unchanged = both_same c.edges.did c.in_ok-did.field-0 c.args.agenda.now c.edges.agenda c.send_along.new.agenda c.edges.invariant.unchanged c.in_ok-did.ensures.unchanged;
       there = second_of c.next_edge-cursor.result c.in-Some.edge (length c.args.self.now.plan.edges) (next_within c.next_edge-cursor.result c.in-Some.edge c.args.self.now.plan c.send_along.new.agenda of c.next_edge-cursor.ensures.later);
     })
+
+pub returns-in_err-did-clause-heard_some : goal.returns-in_err-did-clause-heard_some
+returns-in_err-did-clause-heard_some g c = on_err c.from_residual.result (heard_then_some g.H.Hears.has_heard c.args.hearer.now c.edges.hearer c.send_along.new.hearer c.args.self.now c.edges.self c.edges.invariant.heard c.in_err-did.ensures.heard_some)

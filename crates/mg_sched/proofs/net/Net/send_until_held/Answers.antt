@@ -3,6 +3,7 @@ use Rattle.mg_sched.specs.Sweeps.{itself}
 use Rattle.mg_sched.specs.Code.Agendas.{AgendaView}
 use Rattle.mg_sched.proofs.Becoming.{becomes_runs, becomes_some, becomes_trans}
 use Rattle.mg_sched.proofs.Sweeping.{goes_then, still_edge, agenda_on, agenda_back, agenda_set, both_same, same_places, edge_within, next_within, second_of, edges_left, fewer_edges}
+use Rattle.mg_sched.proofs.HeardOn.{heard_none, heard_then, heard_then_some, on_err}
 use Rattle.mg_sched.proofs.net.Net.send_until_held.Goals as goal
 
 pub edges-init : goal.edges-init
@@ -13,6 +14,7 @@ edges-init g c = record {
   places = refl;
   unchanged = λ isnt. refl;
   there = edge_within c.first_edge-cursor.result c.args.self.now.plan c.args.agenda.now c.requires.agenda c.first_edge-cursor.ensures.there;
+  heard = heard_none g.H.Hears.has_heard c.args.hearer.now c.args.self.now;
 }
 
 pub is_held_at-requires-clause-there : goal.is_held_at-requires-clause-there
@@ -68,6 +70,7 @@ pub edges-preserved : goal.edges-preserved
 edges-preserved g c =
     (let of = agenda_back c.args.self.now c.edges.self c.send_along.new.agenda c.edges.invariant.becomes c.in_ok-did.ensures.agenda in
     record {
+      heard = heard_then g.H.Hears.has_heard c.args.hearer.now c.edges.hearer c.send_along.new.hearer c.args.self.now c.edges.self c.send_along.new.self c.edges.invariant.heard c.in_ok-did.ensures.heard;
       becomes = becomes_trans c.args.self.now c.edges.self c.send_along.new.self c.edges.invariant.becomes c.in_ok-did.ensures.becomes;
       goes = goes_then c.edges.did c.in_ok-did.field-0 c.args.self.now c.edges.self c.send_along.new.self c.edges.invariant.goes c.in_ok-did.ensures.goes;
       agenda = of;
@@ -85,3 +88,6 @@ returns-clause-agenda g c =
 
 pub returns-clause-unchanged : goal.returns-clause-unchanged
 returns-clause-unchanged g c = λ isnt. ap (λ (a : AgendaView). a.ready) c.finish.ensures ∙ ap (λ (a : AgendaView). a.ready) (c.edges.invariant.unchanged isnt)
+
+pub returns-in_err-did-clause-heard_some : goal.returns-in_err-did-clause-heard_some
+returns-in_err-did-clause-heard_some g c = on_err c.from_residual.result (heard_then_some g.H.Hears.has_heard c.args.hearer.now c.edges.hearer c.send_along.new.hearer c.args.self.now c.edges.self c.edges.invariant.heard c.in_err-did.ensures.heard_some)

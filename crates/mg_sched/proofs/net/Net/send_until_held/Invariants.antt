@@ -4,6 +4,7 @@ use Rattle.mg_sched.specs.Sweeps.{Becomes}
 use Rattle.mg_sched.specs.Code.Agendas.{IsAgendaOf}
 use Rattle.mg_sched.specs.Code.Left.{Goes}
 use Rattle.mg_sched.proofs.Sweeping.{edges_left}
+use Rattle.mg_sched.specs.Heard.{Heard}
 use Rattle.mg_sched.proofs.net.Net.send_until_held.Given as goal
 
 abbrev pub invariant-edges : goal.invariant-edges
@@ -14,6 +15,7 @@ invariant-edges g l = record {
   places : length l.agenda.heads ≡ length l.fn.agenda.heads;
   unchanged : l.did ≡ false → l.agenda ≡ l.fn.agenda;
   there : IfSome l.cursor (λ e. e < length l.fn.self.plan.edges);
+  heard : Heard g.H.Hears.has_heard l.fn.hearer l.hearer l.fn.self l.self;
 }
 
 abbrev pub decreases-edges : goal.decreases-edges

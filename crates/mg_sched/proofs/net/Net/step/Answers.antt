@@ -2,6 +2,7 @@ use Rattle.std.proofs.Common.{refl}
 use Rattle.mg_sched.proofs.Becoming.{becomes_one}
 use Rattle.mg_sched.proofs.LeftIn.{acts_less}
 use Rattle.mg_sched.proofs.Sweeping.{steps_none}
+use Rattle.mg_sched.proofs.HeardOn.{heard_same, heard_one, heard_so_far}
 use Rattle.mg_sched.proofs.net.Net.step.Goals as goal
 
 pub returns-in-Did-clause-becomes : goal.returns-in-Did-clause-becomes
@@ -18,3 +19,13 @@ returns-in-Did-clause-steps g c = acts_less c.requires.stands.job c.args.event c
 
 pub returns-in-Idle-clause-steps : goal.returns-in-Idle-clause-steps
 returns-in-Idle-clause-steps g c = steps_none c.args.event c.args.self.now c.act.new.self (c.in-Idle.ensures.idle refl) c.in-Idle.ensures.acts
+
+pub returns-in-Did-clause-heard : goal.returns-in-Did-clause-heard
+returns-in-Did-clause-heard g c =
+    heard_one g.H.Hears.has_heard c.args.hearer.now c.hear.new.self c.args.event c.args.self.now c.act.new.self c.requires.event c.in-Did.ensures.acts c.hear.ensures
+
+pub returns-in-Idle-clause-heard : goal.returns-in-Idle-clause-heard
+returns-in-Idle-clause-heard g c = heard_same g.H.Hears.has_heard c.args.hearer.now c.args.self.now c.act.new.self (c.in-Idle.ensures.idle refl)
+
+pub returns-in-OutOfMemory-clause-heard_some : goal.returns-in-OutOfMemory-clause-heard_some
+returns-in-OutOfMemory-clause-heard_some g c = heard_so_far g.H.Hears.has_heard c.args.hearer.now c.args.self.now

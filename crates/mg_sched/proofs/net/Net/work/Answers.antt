@@ -1,5 +1,6 @@
 use Rattle.mg_sched.proofs.Becoming.{becomes_runs, becomes_some, becomes_trans}
 use Rattle.mg_sched.proofs.Sweeping.{goes_true, still_there, raises_go, raises_rest}
+use Rattle.mg_sched.proofs.HeardOn.{heard_then, heard_then_some, on_err}
 use Rattle.mg_sched.proofs.net.Net.work.Goals as goal
 
 pub returns-then-worked-clause-goes : goal.returns-then-worked-clause-goes
@@ -25,3 +26,9 @@ returns-clause-goes g c = raises_go c.args.node c.in_ok-worked.worked c.in_ok-ra
 
 pub returns-clause-rest : goal.returns-clause-rest
 returns-clause-rest g c = raises_rest c.args.node c.in_ok-worked.worked c.in_ok-raised.raised c.work_on.new.self c.step.new.self c.in_ok-worked.ensures.rest c.if-worked.false c.in_ok-raised.ensures.steps
+
+pub returns-in_err-raised-clause-heard_some : goal.returns-in_err-raised-clause-heard_some
+returns-in_err-raised-clause-heard_some g c = on_err c.from_residual-in_err-raised.result (heard_then_some g.H.Hears.has_heard c.args.hearer.now c.work_on.new.hearer c.step.new.hearer c.args.self.now c.work_on.new.self c.in_ok-worked.ensures.heard c.in_err-raised.ensures.heard_some)
+
+pub returns-clause-heard : goal.returns-clause-heard
+returns-clause-heard g c = heard_then g.H.Hears.has_heard c.args.hearer.now c.work_on.new.hearer c.step.new.hearer c.args.self.now c.work_on.new.self c.step.new.self c.in_ok-worked.ensures.heard c.in_ok-raised.ensures.heard

@@ -1,5 +1,6 @@
 use Rattle.mg_sched.proofs.Becoming.{becomes_runs, becomes_some, becomes_trans}
 use Rattle.mg_sched.proofs.Sweeping.{still_there, works_go, works_rest}
+use Rattle.mg_sched.proofs.HeardOn.{heard_then, heard_then_some, on_err}
 use Rattle.mg_sched.proofs.net.Net.work_on.Goals as goal
 
 pub perform_all-requires-clause-running : goal.perform_all-requires-clause-running
@@ -47,3 +48,12 @@ pub returns-clause-rest : goal.returns-clause-rest
 returns-clause-rest g c =
     works_rest c.args.node c.in_ok-claimed.claimed c.in_ok-performed.performed c.in_ok-committed.committed c.args.self.now c.step.new.self c.perform_all.new.self c.commit_all.new.self
     c.in_ok-claimed.ensures.steps c.in_ok-performed.ensures.goes c.in_ok-performed.ensures.none c.in_ok-committed.ensures.goes c.in_ok-committed.ensures.none
+
+pub returns-in_err-performed-clause-heard_some : goal.returns-in_err-performed-clause-heard_some
+returns-in_err-performed-clause-heard_some g c = on_err c.from_residual-in_err-performed.result (heard_then_some g.H.Hears.has_heard c.args.hearer.now c.step.new.hearer c.perform_all.new.hearer c.args.self.now c.step.new.self c.in_ok-claimed.ensures.heard c.in_err-performed.ensures.heard_some)
+
+pub returns-in_err-committed-clause-heard_some : goal.returns-in_err-committed-clause-heard_some
+returns-in_err-committed-clause-heard_some g c = on_err c.from_residual-in_err-committed.result (heard_then_some g.H.Hears.has_heard c.args.hearer.now c.perform_all.new.hearer c.commit_all.new.hearer c.args.self.now c.perform_all.new.self (heard_then g.H.Hears.has_heard c.args.hearer.now c.step.new.hearer c.perform_all.new.hearer c.args.self.now c.step.new.self c.perform_all.new.self c.in_ok-claimed.ensures.heard c.in_ok-performed.ensures.heard) c.in_err-committed.ensures.heard_some)
+
+pub returns-clause-heard : goal.returns-clause-heard
+returns-clause-heard g c = heard_then g.H.Hears.has_heard c.args.hearer.now c.perform_all.new.hearer c.commit_all.new.hearer c.args.self.now c.perform_all.new.self c.commit_all.new.self (heard_then g.H.Hears.has_heard c.args.hearer.now c.step.new.hearer c.perform_all.new.hearer c.args.self.now c.step.new.self c.perform_all.new.self c.in_ok-claimed.ensures.heard c.in_ok-performed.ensures.heard) c.in_ok-committed.ensures.heard

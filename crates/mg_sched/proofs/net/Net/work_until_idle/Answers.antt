@@ -2,10 +2,11 @@ use Rattle.std.proofs.Common.{refl}
 use Rattle.mg_sched.specs.Sweeps.{itself}
 use Rattle.mg_sched.proofs.Becoming.{becomes_runs, becomes_some, becomes_trans}
 use Rattle.mg_sched.proofs.Sweeping.{goes_less, goes_same, goes_true, goes_false, still_there}
+use Rattle.mg_sched.proofs.HeardOn.{heard_none, heard_then, heard_then_some, on_err}
 use Rattle.mg_sched.proofs.net.Net.work_until_idle.Goals as goal
 
 pub works-init : goal.works-init
-works-init g c = record { becomes = itself; goes = refl }
+works-init g c = record { becomes = itself; goes = refl; heard = heard_none g.H.Hears.has_heard c.args.hearer.now c.args.self.now }
 
 pub work-requires-clause-running : goal.work-requires-clause-running
 work-requires-clause-running g c = becomes_runs c.args.self.now c.works.self c.requires.running c.works.invariant.becomes
@@ -24,6 +25,7 @@ works-smaller g c = goes_true c.in_ok-work.field-0 c.works.self c.work.new.self 
 
 pub works-preserved : goal.works-preserved
 works-preserved g c = record {
+  heard = heard_then g.H.Hears.has_heard c.args.hearer.now c.works.hearer c.work.new.hearer c.args.self.now c.works.self c.work.new.self c.works.invariant.heard c.in_ok-work.ensures.heard;
   becomes = becomes_trans c.args.self.now c.works.self c.work.new.self c.works.invariant.becomes c.in_ok-work.ensures.becomes;
   goes = goes_less c.works.did c.args.self.now c.works.self c.work.new.self c.works.invariant.goes (goes_true c.in_ok-work.field-0 c.works.self c.work.new.self c.if-branch.true c.in_ok-work.ensures.goes);
 }
@@ -33,3 +35,9 @@ returns-clause-becomes g c = becomes_trans c.args.self.now c.works.self c.work.n
 
 pub returns-clause-goes : goal.returns-clause-goes
 returns-clause-goes g c = goes_same c.works.did c.args.self.now c.works.self c.work.new.self c.works.invariant.goes (goes_false c.in_ok-work.field-0 c.works.self c.work.new.self c.if-branch.false c.in_ok-work.ensures.goes)
+
+pub returns-in_err-work-clause-heard_some : goal.returns-in_err-work-clause-heard_some
+returns-in_err-work-clause-heard_some g c = on_err c.from_residual.result (heard_then_some g.H.Hears.has_heard c.args.hearer.now c.works.hearer c.work.new.hearer c.args.self.now c.works.self c.works.invariant.heard c.in_err-work.ensures.heard_some)
+
+pub returns-clause-heard : goal.returns-clause-heard
+returns-clause-heard g c = heard_then g.H.Hears.has_heard c.args.hearer.now c.works.hearer c.work.new.hearer c.args.self.now c.works.self c.work.new.self c.works.invariant.heard c.in_ok-work.ensures.heard
