@@ -1,5 +1,5 @@
 -- What a run leaves of the calculators that were handed in where memory ran out: a front of their calls.
-use Rattle.std.proofs.Common.{◌≡◌, ◌⊎◌, inl, inr, ℕ, suc, List, [], ◌∷◌, ◌++◌, length, map, append-nil, Bool, true, false, Option, Some, None, slice_get, option_map, if◌then◌else◌, refl, sym, ap, ◌∙◌, subst}
+use Rattle.std.proofs.Common.{◌≡◌, ◌⊎◌, inl, inr, ℕ, suc, List, [], ◌∷◌, ◌++◌, length, map, append-nil, Bool, true, false, Option, Some, None, slice_get, option_map, if◌then◌else◌, refl, sym, ap, ◌∙◌, subst, arith}
 use Rattle.std.proofs.Math.Seq.{take-length}
 use Rattle.mg_value.specs.Payload.{Plain}
 use Rattle.mg_value.specs.Prefix.{StreamPrefix}
@@ -44,6 +44,7 @@ one_front boxes job later net streams number place node fit logs stood more plan
       holds = record {
         count = back.2.count;
         close = back.2.close;
+        opened = back.2.opened;
         log = back.2.log ∙ ap (option_map (λ (calls : List Call). calls ++ first_calls later.job streams node back.2.count back.2.close)) (log_was later boxes place node box.0 logs has box.1);
         law = back.2.fits.same_law ∙ sym box.2.fits.same_law;
         shape = back.2.fits.same_shape ∙ sym box.2.fits.same_shape;
@@ -86,7 +87,7 @@ none_had job boxes is fit =
             now = box.0;
             was = box.1;
             is = box.1;
-            holds = record { count = 0; close = false; log = none_more box.0.log; law = refl; shape = refl };
+            holds = record { count = 0; close = false; opened = λ closed. absurd cc; log = none_more box.0.log; law = refl; shape = refl };
           });
     }
 
@@ -136,6 +137,7 @@ all_are_fronts job boxes had = record {
         holds = record {
           count = suc (length (map (λ e. Shown e.at e.set) (shown_sets job had.streams node)));
           close = closes (outcome_of job had.streams node).fault;
+          opened = λ closed. omega arith;
           log = at.holds.log ∙ ap (λ (more : List Call). option_map (λ (calls : List Call). calls ++ more) at.before.log) (all_first job had.streams node);
           law = at.holds.law;
           shape = at.holds.shape;

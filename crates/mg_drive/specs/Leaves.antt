@@ -1,5 +1,5 @@
 -- What a run leaves of the calculators that are handed in.
-use Rattle.std.specs.Prelude.{◌≡◌, ◌≢◌, ◌⊎◌, ℕ, List, ◌∷◌, ◌++◌, map, take, length, All, Bool, [], Some, IfSome, option_map, slice_get, if◌then◌else◌}
+use Rattle.std.specs.Prelude.{◌≡◌, ◌≢◌, ◌⊎◌, ℕ, ◌≤◌, List, ◌∷◌, ◌++◌, map, take, length, All, Bool, true, [], Some, IfSome, option_map, slice_get, if◌then◌else◌}
 use Rattle.mg_value.specs.Payload.{Plain}
 use Rattle.mg_value.specs.Prefix.{StreamPrefix}
 use Rattle.mg_edge.specs.Edge.{SourceTold}
@@ -53,10 +53,11 @@ pub record HadCalls (plan : Plan) (input : Device SourceTold) (boxes : Device (L
   pub had : HadCallsOf (job_of plan read) boxes
 
 -- A calculator had a front of the calls that its node has in a solution: the first of them, a number of them, and perhaps Close behind
--- them. Its log, where it tells one, grew by just these.
+-- them, which it had only behind Open. Its log, where it tells one, grew by just these.
 pub record HadAFront (job : Job) (streams : List (StreamPrefix Plain)) (node : PlanNode) (before now : CalculatorTold) : Type 0 where
   pub count : ℕ
   pub close : Bool
+  pub opened : close ≡ true → 1 ≤ count
   pub log : now.log ≡ option_map (λ calls. calls ++ first_calls job streams node count close) before.log
   pub law : now.law ≡ before.law
   pub shape : now.shape ≡ before.shape

@@ -1,7 +1,7 @@
 use crate::Driven;
 use mg_calc::{Calculator, Inputs};
 use mg_edge::Gate;
-use mg_sched::{Net, Report};
+use mg_sched::{Deaf, Net, Report};
 use mg_value::InputSet;
 use std::alloc::{AllocError, Global};
 
@@ -20,7 +20,7 @@ impl<'a, C: Calculator, G: Gate> Driven for OneThread<'a, C, G> {
     }
 
     fn to_rest(&mut self) -> Result<(), AllocError> {
-        self.net.sweep(self.gate)?;
+        self.net.sweep(self.gate, &mut Deaf)?;
         Ok(())
     }
 
