@@ -10,7 +10,7 @@ use mg_calc::{Inputs, Plan};
 use mg_edge::StillGate;
 use mg_feed::Feed;
 use mg_route::LawBox;
-use mg_sched::Net;
+use mg_sched::{Deaf, Net};
 use mg_value::are_prefixes;
 use std::alloc::{AllocError, Global};
 use std::env;
@@ -128,7 +128,7 @@ fn swept(alloc: Global, plan: &Plan, inputs: &Inputs) -> Result<u64, AllocError>
     requires none { OutersFit plan.now [] }
 {
     let mut net = begun(alloc, plan, inputs)?;
-    net.sweep(&StillGate)?;
+    net.sweep(&StillGate, &mut Deaf)?;
     let report = net.report(alloc)?;
     Ok(report.sets.as_slice().last().copied().unwrap_or(0))
 }

@@ -2,3 +2,4 @@ pub mod Driving
 pub mod Handing
 pub mod Growing
 pub mod PiecesBehind
+pub mod CarriedParts

@@ -8,13 +8,15 @@ ghost use Rattle.mg_test_nets.specs.Driven.{IsDriven, StandsOver};
 ghost use Rattle.mg_test_nets.specs.Handed.{two_outers};
 
 use crate::boxes::tallies;
+use crate::carrying::carry;
 use crate::pieces::longer;
 use crate::plans::plan_of;
 use mg_calc::{Effect, Event, Inputs, Plan};
 use mg_edge::StillGate;
 use mg_plans::{do_fit, inputs_of};
 use mg_route::LawBox;
-use mg_sched::{Net, Report};
+use mg_sched::{Deaf, Net, Report};
+use mg_tables::{show_packet_at, text_of};
 use mg_value::InputSet;
 use std::alloc::Global;
 use std::test::Fail;
@@ -105,7 +107,7 @@ pub(crate) fn sweep(driver: &mut Driver) -> Result<(), Fail>
     requires { IsDriven driver.old.plan driver.old.inputs driver.old.net }
     ensures { IsDriven driver.new.plan driver.new.inputs driver.new.net }
 {
-    match driver.net.sweep(&StillGate) {
+    match driver.net.sweep(&StillGate, &mut Deaf) {
         Ok(()) => Ok(()),
         Err(_) => Err(Fail::from("no memory")),
     }
@@ -152,6 +154,19 @@ pub(crate) fn report(alloc: Global, driver: &Driver) -> Result<Report, Fail> {
     Ok(driver.net.report(alloc)?)
 }
 
+/// Takes the net apart, and puts it together again of its parts. Meanwhile what a port hasn't got goes along the edge of a number, if
+/// there is one.
+pub(crate) fn part_and_join(driver: Driver, edge: u32) -> Driver
+    requires { IsDriven driver.plan driver.inputs driver.net }
+    ensures { IsDriven result.plan result.inputs result.net }
+{
+    let Driver { plan, inputs, net } = driver;
+    let mut parts = net.apart();
+    carry(parts.plan.plan(), &parts.engines, &mut parts.intakes, edge);
+    let net = Net::put_together(parts);
+    Driver { plan, inputs, net }
+}
+
 /// Winds the net up: how far it has come then, and the calculators that were handed in.
 pub(crate) fn end(alloc: Global, driver: Driver) -> Result<(Report, Vec<LawBox>), Fail>
     requires { IsDriven driver.plan driver.inputs driver.net }
@@ -160,4 +175,29 @@ pub(crate) fn end(alloc: Global, driver: Driver) -> Result<(Report, Vec<LawBox>)
     net.wind_up()?;
     let report = net.report(alloc)?;
     Ok((report, net.give_back()))
+}
+
+/// The packet of a stream, by its number, if it is there.
+pub(crate) fn show_packet(
+    alloc: Global,
+    driver: &Driver,
+    stream: u32,
+    number: u64,
+) -> Result<String, Fail>
+    requires { IsDriven driver.now.plan driver.now.inputs driver.now.net }
+{
+    match driver.net.packet(stream, number) {
+        Some(packet) => show_packet_at(alloc, packet),
+        None => Ok(String::from_str(alloc, "-")?),
+    }
+}
+
+/// The bound of a stream, if there is one.
+pub(crate) fn show_bound(alloc: Global, driver: &Driver, stream: u32) -> Result<String, Fail>
+    requires { IsDriven driver.now.plan driver.now.inputs driver.now.net }
+{
+    if stream >= driver.plan.streams.len() {
+        return Ok(String::from_str(alloc, "-")?);
+    }
+    text_of(alloc, driver.net.bound(stream))
 }

@@ -1,10 +1,12 @@
-//! The tests of nets: the cells of a whole graph, joined by its edges, driven at random to rest, by sweeps, and line by line as
-//! its input comes.
+//! The tests of nets: the cells of a whole graph, joined by its edges, driven at random to rest, by sweeps, line by line as its input
+//! comes, and taken apart on the way.
 //! There is nothing else here, so that no other crate is proved a second time with its tests.
 #![tactic(auto)]
 
 #[cfg(test)]
 mod boxes;
+#[cfg(test)]
+mod carrying;
 #[cfg(test)]
 mod cases;
 #[cfg(test)]
@@ -20,7 +22,11 @@ mod graphs;
 #[cfg(test)]
 mod lines;
 #[cfg(test)]
+mod looks;
+#[cfg(test)]
 mod orders;
+#[cfg(test)]
+mod parting;
 #[cfg(test)]
 mod pieces;
 #[cfg(test)]

@@ -1,13 +1,30 @@
 //! Nets that are driven until nothing is left to do.
 ghost use Rattle.mg_test_nets.specs.Driven.{IsDriven};
 
+use crate::cases::{Case, is_wanted};
+use crate::chance::Chance;
 use crate::driver::{Driver, act, held, take_out, trim};
-use crate::ending::told;
+use crate::ending::{assert_end, told};
 use crate::events::{event_at, event_count};
-use mg_calc::Effect;
+use mg_calc::{Effect, Event};
 use mg_tables::show_set_at;
 use std::alloc::Global;
+use std::process::Abort;
 use std::test::Fail;
+
+/// Makes steps, each of which has the same effect.
+pub(crate) fn make_each(driver: &mut Driver, events: &[Event], wanted: Effect) -> Result<(), Fail>
+    requires { IsDriven driver.old.plan driver.old.inputs driver.old.net }
+    ensures { IsDriven driver.new.plan driver.new.inputs driver.new.net }
+{
+    for event in events {
+        let effect = act(driver, *event)?;
+        if effect != wanted {
+            return Err(Fail::new(format_args!("{event:?}: {effect:?}")));
+        }
+    }
+    Ok(())
+}
 
 /// Makes the step of a number, and tells whether it did something.
 pub(crate) fn step(driver: &mut Driver, number: u32) -> Result<bool, Fail>
@@ -20,6 +37,18 @@ pub(crate) fn step(driver: &mut Driver, number: u32) -> Result<bool, Fail>
         Effect::Idle => Ok(false),
         Effect::OutOfMemory => Err(Fail::from("no memory")),
     }
+}
+
+/// Makes steps at random, so many.
+pub(crate) fn wander(driver: &mut Driver, chance: &mut Chance, steps: u32) -> Result<(), Fail>
+    requires { IsDriven driver.old.plan driver.old.inputs driver.old.net }
+    ensures { IsDriven driver.new.plan driver.new.inputs driver.new.net }
+{
+    let count = event_count(&driver.plan);
+    for _ in 0..steps {
+        let _ = step(driver, chance.below(count))?;
+    }
+    Ok(())
 }
 
 // Makes each step once, and tells whether one did something.
@@ -83,4 +112,28 @@ pub(crate) fn come_out(alloc: Global, driver: &mut Driver) -> Result<String, Fai
     let told = told(alloc, driver)?;
     let held = held(driver);
     Ok(format!(in alloc; "{}| {held} | {}", sets.as_str(), told.as_str())?)
+}
+
+// What comes out of a net once nothing is left to do.
+fn outcome(alloc: Global, driver: &mut Driver) -> Result<String, Fail>
+    requires { IsDriven driver.old.plan driver.old.inputs driver.old.net }
+    ensures { IsDriven driver.new.plan driver.new.inputs driver.new.net }
+{
+    settle(driver)?;
+    come_out(alloc, driver)
+}
+
+/// Runs a net to rest, and winds it up. What comes out of it is wanted, and so are the calls of the calculators that come back.
+pub(crate) fn assert_rest(
+    rt: &impl Abort,
+    alloc: Global,
+    case: &Case,
+    driver: Driver,
+) -> Result<(), Fail>
+    requires { IsDriven driver.plan driver.inputs driver.net }
+{
+    let mut driver = driver;
+    let shown = outcome(alloc, &mut driver)?;
+    assert!(rt; is_wanted(case, shown.as_str()), "{shown}");
+    assert_end(rt, alloc, driver, case.calls)
 }

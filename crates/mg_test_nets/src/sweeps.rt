@@ -1,9 +1,7 @@
 //! Nets that are swept: whatever the limit of the queues is, what comes out is the same, and nothing is left to do.
 ghost use Rattle.mg_test_nets.specs.Driven.{IsDriven};
 
-use crate::cases::{
-    Case, added, chosen, counted, is_wanted, merged, passed, stalled, summed, throttled,
-};
+use crate::cases::{CASES, Case, case_of, is_wanted};
 use crate::driver::{Driver, driver_of, sweep};
 use crate::ending::assert_end;
 use crate::graphs::limited;
@@ -51,17 +49,8 @@ fn assert_limits(rt: &impl Abort, alloc: Global, case: &Case) -> Result<(), Fail
 
 #[test]
 fn nets_come_to_the_same_under_any_limit(rt: HostRuntime) -> Result<(), Fail> {
-    for case in [
-        passed(),
-        merged(),
-        chosen(),
-        summed(),
-        stalled(),
-        throttled(),
-        added(),
-        counted(),
-    ] {
-        assert_limits(&rt, rt.alloc(), &case)?;
+    for number in 0..CASES {
+        assert_limits(&rt, rt.alloc(), &case_of(number))?;
     }
     Ok(())
 }

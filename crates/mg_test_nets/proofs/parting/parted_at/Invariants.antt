@@ -1,5 +1,5 @@
 use Rattle.mg_test_nets.specs.Driven.{IsDriven}
-use Rattle.mg_test_nets.proofs.orders.wander.Given as goal
+use Rattle.mg_test_nets.proofs.parting.parted_at.Given as goal
 
 abbrev pub invariant-loop : goal.invariant-loop
 invariant-loop l = IsDriven l.driver.plan l.driver.inputs l.driver.net

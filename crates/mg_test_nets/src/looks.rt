@@ -1,0 +1,86 @@
+//! What a net has of its streams: a packet by its number, until it is given up, and the bound.
+ghost use Rattle.mg_test_nets.specs.Driven.{IsDriven};
+
+use crate::driver::{Driver, driver_of, show_bound, show_packet, sweep, trim};
+use crate::graphs::passing;
+use crate::rest::make_each;
+use mg_calc::{Effect, Event};
+use std::alloc::Global;
+use std::test::Fail;
+
+// The first three packets of a stream, and its bound.
+fn show_stream(alloc: Global, driver: &Driver, stream: u32) -> Result<String, Fail>
+    requires { IsDriven driver.now.plan driver.now.inputs driver.now.net }
+{
+    let mut shown = String::new(alloc);
+    for number in 0..3 {
+        write!(shown, "{} ", show_packet(alloc, driver, stream, number)?)?;
+    }
+    write!(shown, "| {}", show_bound(alloc, driver, stream)?)?;
+    Ok(shown)
+}
+
+// A net has this of a stream.
+fn assert_stream(alloc: Global, driver: &Driver, stream: u32, wanted: &str) -> Result<(), Fail>
+    requires { IsDriven driver.now.plan driver.now.inputs driver.now.net }
+{
+    let shown = show_stream(alloc, driver, stream)?;
+    if shown.as_str() == wanted {
+        return Ok(());
+    }
+    Err(Fail::new(format_args!("stream {stream}: {shown}")))
+}
+
+// A net of one node has this of its input and its output, and nothing of a stream that isn't there.
+fn assert_streams(alloc: Global, driver: &Driver, input: &str, output: &str) -> Result<(), Fail>
+    requires { IsDriven driver.now.plan driver.now.inputs driver.now.net }
+{
+    assert_stream(alloc, driver, 0, input)?;
+    assert_stream(alloc, driver, 1, output)?;
+    assert_stream(alloc, driver, 2, "- - - | -")
+}
+
+// Both packets go through the node. The first one also goes to the collector.
+fn goes_through() -> &'static [Event] {
+    &[
+        Event::Deliver { edge: 0 },
+        Event::Claim { node: 0 },
+        Event::Perform { node: 0, number: 0 },
+        Event::Commit { node: 0, number: 0 },
+        Event::Deliver { edge: 1 },
+        Event::Claim { node: 0 },
+        Event::Perform { node: 0, number: 1 },
+        Event::Commit { node: 0, number: 1 },
+    ]
+}
+
+// What was laid is there.
+fn assert_laid(alloc: Global, driver: &mut Driver) -> Result<(), Fail>
+    requires { IsDriven driver.old.plan driver.old.inputs driver.old.net }
+    ensures { IsDriven driver.new.plan driver.new.inputs driver.new.net }
+{
+    assert_streams(alloc, driver, "1@10 2@20 - | Done", "- - - | PreStream")?;
+    make_each(driver, goes_through(), Effect::Did)?;
+    assert_streams(alloc, driver, "1@10 2@20 - | Done", "1@10 2@20 - | 21")
+}
+
+// What all have got is given up, and the others keep their numbers.
+fn assert_given_up(alloc: Global, driver: &mut Driver) -> Result<(), Fail>
+    requires { IsDriven driver.old.plan driver.old.inputs driver.old.net }
+    ensures { IsDriven driver.new.plan driver.new.inputs driver.new.net }
+{
+    trim(driver);
+    assert_streams(alloc, driver, "- - - | Done", "- 2@20 - | 21")?;
+    sweep(driver)?;
+    trim(driver);
+    assert_streams(alloc, driver, "- - - | Done", "- - - | Done")
+}
+
+#[test]
+fn packets_are_there_until_they_are_given_up(rt: HostRuntime) -> Result<(), Fail> {
+    let lines = r#"{"stream":"in","ts":10,"value":1}
+{"stream":"in","ts":20,"value":2}"#;
+    let mut driver = driver_of(rt.alloc(), passing(), lines)?;
+    assert_laid(rt.alloc(), &mut driver)?;
+    assert_given_up(rt.alloc(), &mut driver)
+}
