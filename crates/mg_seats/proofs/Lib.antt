@@ -1,0 +1,3 @@
+mod NoBoxes
+mod Outputs
+mod Sharing

@@ -1,0 +1,41 @@
+-- A net stands for its job and keeps its outputs while it is made, begun, taken from, shared and put together again.
+use Rattle.std.proofs.Common.{◌≡◌, ℕ, ◌∙◌, List, length, ap, sym}
+use Rattle.mg_calc.specs.declared.inputs.Inputs.{Inputs}
+use Rattle.mg_calc.specs.declared.plan.Plan.{Plan}
+use Rattle.mg_calc.specs.Told.{CalculatorTold}
+use Rattle.mg_node.specs.Job.{LoggedJob}
+use Rattle.mg_sched.specs.Views.{NetView}
+use Rattle.mg_sched.specs.StandsFor.{StandsFor, StandsForSome}
+use Rattle.mg_sched.specs.Made.{job_of, IsMade}
+use Rattle.mg_turns.specs.Parts.{FrameView}
+use Rattle.mg_workers.specs.Shared.{KeptView}
+use Rattle.mg_workers.specs.Became.{Became}
+use Rattle.mg_seats.specs.Held.{HasOutputs, CameOf}
+
+-- two nets that stand for one job are of one plan
+of_one_plan : (job : LoggedJob) (before now : NetView) → StandsFor job before → StandsFor job now → now.plan ≡ before.plan
+unfolding StandsFor
+of_one_plan job before now h g = g.plan ∙ sym h.plan
+
+pub plan_stays : (before now : NetView) → ((job : LoggedJob) → StandsFor job before → StandsFor job now) → StandsForSome before → now.plan ≡ before.plan
+plan_stays before now keeps some = of_one_plan some.job before now some.stands (keeps some.job some.stands)
+
+pub outputs_stay : (count : ℕ) (before now : NetView) → ((job : LoggedJob) → StandsFor job before → StandsFor job now) → HasOutputs count before → HasOutputs count now
+outputs_stay count before now keeps h = record {
+  stands = record { job = h.stands.job; stands = keeps h.stands.job h.stands.stands };
+  outputs = ap (λ (p : Plan). length p.outputs) (plan_stays before now keeps h.stands) ∙ h.outputs;
+}
+
+pub made_plan : (plan : Plan) (inputs : Inputs) (boxes : List CalculatorTold) (net : NetView) → IsMade plan inputs boxes net → net.plan ≡ plan
+unfolding StandsFor
+made_plan plan inputs boxes net m = m.stands.plan
+
+pub made_outputs : (plan : Plan) (inputs : Inputs) (boxes : List CalculatorTold) (net : NetView) → IsMade plan inputs boxes net → HasOutputs (length plan.outputs) net
+made_outputs plan inputs boxes net m = record {
+  stands = record { job = job_of plan inputs boxes; stands = m.stands };
+  outputs = ap (λ (p : Plan). length p.outputs) (made_plan plan inputs boxes net m);
+}
+
+-- what a net became that came apart into what is shared and what is kept
+pub together_outputs : (count : ℕ) (key : FrameView) (kept : KeptView) (now : NetView) (c : CameOf count key kept) → Became c.before now → HasOutputs count now
+together_outputs count key kept now c b = outputs_stay count c.before now b.stands c.has

@@ -1,0 +1,139 @@
+-- What the calls on a shared net leave of a seat: it is still one of the net, and has a work or none.
+use Rattle.std.proofs.Common.{◌≡◌, ℕ, ◌<◌, ◌∙◌, Option, None, IfSome, length, ap, sym, refl, subst, inl, inr}
+use Rattle.std.proofs.lemmas.Option.{slice_get_within}
+use Rattle.mg_calc.specs.declared.calculator.Calculator.{Ghosts}
+use Rattle.mg_calc.specs.declared.plan.Plan.{Plan}
+use Rattle.mg_node.specs.Views.{WorkView, PerformedView, OutcomeView}
+use Rattle.mg_node.specs.Job.{LoggedJob}
+use Rattle.mg_node.specs.Lawful.{LawfulWork}
+use Rattle.mg_node.specs.Running.{SomeJobHas, IsPerformed}
+use Rattle.mg_node.specs.Shelves.{outcome_of}
+use Rattle.mg_node.specs.declared.claimed.Claimed.{Claimed}
+use Rattle.mg_node.specs.declared.claimed.Claimed.TheVariants.{Work}
+use Rattle.mg_node.specs.Claims.{IsLawfulWork}
+use Rattle.mg_turns.specs.Parts.{FrameView, nodes_in, Fits, FitsSome, EdgesFit}
+use Rattle.mg_turns.specs.Sights.{Missed, has_after, kept_after, handed, either_work, joined}
+use Rattle.mg_turns.specs.Calls.{key_of, view_of, IsSeatOf, HasClaimed, HasCommitted, HasShelved}
+use Rattle.mg_turns.specs.Standings.{Keeps}
+use Rattle.mg_turns.specs.declared.view.View.{View}
+use Rattle.mg_turns.specs.declared.shared.SharedNet.{SharedNet}
+use Rattle.mg_turns.specs.declared.seat.NetSeat.{NetSeat}
+use Rattle.mg_workers.specs.Shared.{IsShared}
+use Rattle.mg_seats.specs.Held.{StaysShared, IsSharedWith, IsSameWork}
+
+-- a seat that has no work before a call, and none after it
+pub stays_free : {X : Type 0} {g : Ghosts X} (net : SharedNet X) (before now : NetSeat X g) → IsShared net before → IsSeatOf net now → (view_of now).work ≡ (view_of before).work → IsShared net now
+stays_free net before now h of same = record { of = of; some = h.some; edges = h.edges; free = same ∙ h.free }
+
+pub stays_shared : {X : Type 0} {g : Ghosts X} (net : SharedNet X) (before now : NetSeat X g) → IsShared net before → IsSeatOf net now → (view_of now).work ≡ (view_of before).work
+    → Keeps (view_of before) (view_of now) → StaysShared net before now
+stays_shared net before now h of same keeps = record { shared = stays_free net before now h of same; portion = keeps.portion }
+
+pub stays_itself : {X : Type 0} {g : Ghosts X} (net : SharedNet X) (seat : NetSeat X g) → IsShared net seat → StaysShared net seat seat
+stays_itself net seat h = record { shared = h; portion = refl }
+
+pub stays_on : {X : Type 0} {g : Ghosts X} (net : SharedNet X) (first second third : NetSeat X g) → StaysShared net first second → StaysShared net second third → StaysShared net first third
+stays_on net first second third h k = record { shared = k.shared; portion = k.portion ∙ h.portion }
+
+-- a work that was handed out
+
+node_there : (job : LoggedJob) (work : WorkView) → LawfulWork job work → work.node < length job.job.plan.nodes
+unfolding LawfulWork
+node_there job work lawful = slice_get_within job.job.plan.nodes work.node lawful.node lawful.there
+
+node_within : (key : FrameView) (work : WorkView) → FitsSome key → ((job : LoggedJob) → Fits job key → LawfulWork job work) → work.node < nodes_in key
+node_within key work some lawful = subst (λ (p : Plan). work.node < length p.nodes) some.fits.plan (node_there some.job work (lawful some.job some.fits))
+
+pub some_has : (key : FrameView) (work : WorkView) → FitsSome key → ((job : LoggedJob) → Fits job key → LawfulWork job work) → SomeJobHas work
+some_has key work some lawful = record { job = some.job; lawful = lawful some.job some.fits }
+
+pub is_lawful : {X : Type 0} (key : FrameView) (answer : Claimed X) (work : WorkView) → answer ≡ Work work → ((job : LoggedJob) → Fits job key → IsLawfulWork job answer)
+    → (job : LoggedJob) → Fits job key → LawfulWork job work
+is_lawful {X} key result work is lawful job fits = subst (λ (a : Claimed X). IsLawfulWork job a) is (lawful job fits)
+
+-- a seat that claimed it has it
+pub has_claimed : {X : Type 0} {g : Ghosts X} (net : SharedNet X) (before now : NetSeat X g) (answer : Claimed X) (work : WorkView) (node : ℕ) → IsShared net before → IsSeatOf net now
+    → answer ≡ Work work → HasClaimed answer node (view_of before) (view_of now) → ((job : LoggedJob) → Fits job (key_of net) → IsLawfulWork job answer) → IsSharedWith net now work
+has_claimed {X} net before now result work node h of is tried lawful = record {
+  of = of;
+  some = h.some;
+  edges = h.edges;
+  has = record {
+    it = work;
+    there = ap (λ (v : View). v.work) tried.left ∙ ap (λ (a : Claimed X). has_after a (view_of before).work) is;
+    node = refl;
+    number = refl;
+    phase = refl;
+  };
+  node = node_within (key_of net) work h.some (is_lawful (key_of net) result work is lawful);
+}
+
+-- and one that got none has none
+pub has_none : {X : Type 0} {g : Ghosts X} (net : SharedNet X) (before now : NetSeat X g) (answer : Claimed X) (node : ℕ) → IsShared net before → IsSeatOf net now
+    → has_after answer (view_of before).work ≡ (view_of before).work → HasClaimed answer node (view_of before) (view_of now) → IsShared net now
+has_none net before now result node h of same tried = stays_free net before now h of (ap (λ (v : View). v.work) tried.left ∙ same)
+
+missed_work : (first second word : ℕ) (v w : View) → Missed first second word v w → w.work ≡ v.work
+missed_work first second word v w (inl m) = ap (λ (x : View). x.work) m.1
+missed_work first second word v w (inr m) = ap (λ (x : View). x.work) m.3
+
+pub has_missed : {X : Type 0} {g : Ghosts X} (net : SharedNet X) (before now : NetSeat X g) (first second word : ℕ) → IsShared net before → IsSeatOf net now
+    → Missed first second word (view_of before) (view_of now) → IsShared net now
+has_missed net before now first second word h of missed = stays_free net before now h of (missed_work first second word (view_of before) (view_of now) missed)
+
+-- a seat whose work came back
+
+freed : {X : Type 0} {g : Ghosts X} (net : SharedNet X) (before now : NetSeat X g) (work : WorkView) → IsSharedWith net before work → IsSeatOf net now → (view_of now).work ≡ None → IsShared net now
+freed net before now work h of free = record { of = of; some = h.some; edges = h.edges; free = free }
+
+pub has_committed : {X : Type 0} {g : Ghosts X} (net : SharedNet X) (before now : NetSeat X g) (laid : ℕ) (outcome : OutcomeView) → IsSharedWith net before outcome.work → IsSeatOf net now
+    → HasCommitted laid outcome (view_of before) (view_of now) → IsShared net now
+has_committed net before now laid outcome h of tried = freed net before now outcome.work h of (ap (λ (v : View). v.work) tried.left)
+
+pub has_shelved : {X : Type 0} {g : Ghosts X} (net : SharedNet X) (before now : NetSeat X g) (outcome : OutcomeView) → IsSharedWith net before outcome.work → IsSeatOf net now
+    → HasShelved outcome (view_of before) (view_of now) → IsShared net now
+has_shelved net before now outcome h of tried = freed net before now outcome.work h of (ap (λ (v : View). v.work) tried.left)
+
+-- the work of a seat, whatever its calculator has done
+
+pub performed_same : (work : WorkView) (done : PerformedView) (outcome : OutcomeView) → IsPerformed work done → outcome ≡ outcome_of done → IsSameWork work outcome.work
+performed_same work done outcome performed is =
+    let same : outcome.work ≡ record work { bench = done.work.bench } = ap (λ (x : OutcomeView). x.work) is ∙ performed.same in
+    record { node = ap (λ (x : WorkView). x.node) same; number = ap (λ (x : WorkView). x.number) same; phase = ap (λ (x : WorkView). x.phase) same }
+
+pub same_work : {X : Type 0} {g : Ghosts X} (net : SharedNet X) (seat : NetSeat X g) (work now : WorkView) → IsSameWork work now → IsSharedWith net seat work → IsSharedWith net seat now
+same_work net seat work now same h = record {
+  of = h.of;
+  some = h.some;
+  edges = h.edges;
+  has = record { it = h.has.it; there = h.has.there; node = h.has.node ∙ sym same.node; number = h.has.number ∙ sym same.number; phase = h.has.phase ∙ sym same.phase };
+  node = subst (λ (n : ℕ). n < nodes_in (key_of net)) (sym same.node) h.node;
+}
+
+-- seats that are split and joined
+
+pub split_with : {X : Type 0} {g : Ghosts X} (net : SharedNet X) (before now : NetSeat X g) (work : WorkView) (portion : ℕ) → IsSharedWith net before work → IsSeatOf net now
+    → view_of now ≡ kept_after portion (view_of before) → IsSharedWith net now work
+split_with net before now work portion h of is = record {
+  of = of;
+  some = h.some;
+  edges = h.edges;
+  has = record { it = h.has.it; there = ap (λ (v : View). v.work) is ∙ h.has.there; node = h.has.node; number = h.has.number; phase = h.has.phase };
+  node = h.node;
+}
+
+pub split_free : {X : Type 0} {g : Ghosts X} (net : SharedNet X) (before now : NetSeat X g) (portion : ℕ) → IsShared net before → IsSeatOf net now
+    → view_of now ≡ kept_after portion (view_of before) → IsShared net now
+split_free net before now portion h of is = stays_free net before now h of (ap (λ (v : View). v.work) is)
+
+pub split_off : {X : Type 0} {g : Ghosts X} (net : SharedNet X) (before new : NetSeat X g) (portion : ℕ) → FitsSome (key_of net) → EdgesFit (key_of net) → IsSeatOf net new
+    → view_of new ≡ handed portion (view_of before) → IsShared net new
+split_off net before new portion some edges of is = record { of = of; some = some; edges = edges; free = ap (λ (v : View). v.work) is }
+
+pub no_work : (P : WorkView → Type 0) (work : Option WorkView) → work ≡ None → IfSome work P
+no_work P work none = subst (λ (w : Option WorkView). IfSome w P) (sym none) tt
+
+pub joined_free : {X : Type 0} {g : Ghosts X} (net : SharedNet X) (one other now : NetSeat X g) → IsShared net one → IsShared net other → IsSeatOf net now
+    → view_of now ≡ joined (view_of one) (view_of other) → IsShared net now
+joined_free net one other now h k of is =
+    stays_free net one now h of (ap (λ (v : View). v.work) is ∙ (ap (λ (w : Option WorkView). either_work w (view_of other).work) h.free ∙ (k.free ∙ sym h.free)))

@@ -1,0 +1,9 @@
+//! A shared net as tests and measurements drive it: it is made without calculators of one's own, shared, called by its seats, and put
+//! together again. Answers to `specs/Held.antt`.
+#![tactic(auto)]
+
+mod calls;
+mod nets;
+
+pub use calls::{Idle, append, claim, commit, performed, raise, run, shelve};
+pub use nets::{Shared, begun, shared_net, take_next, together};

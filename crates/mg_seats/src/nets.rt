@@ -1,0 +1,96 @@
+//! How a net is made, shared, and put together again.
+ghost use Rattle.std.specs.Prelude.{◌≡◌, ℕ, ◌^◌, [], IfOk, length};
+ghost use Rattle.mg_calc.specs.Plan.{OutersFit};
+ghost use Rattle.mg_calc.specs.Equations.{IsJob};
+ghost use Rattle.mg_sched.specs.StandsFor.{IsRunning, StandsForSome};
+ghost use Rattle.mg_turns.specs.Calls.{key_of, view_of};
+ghost use Rattle.mg_workers.specs.Shared.{IsShared};
+ghost use Rattle.mg_seats.specs.Held.{HasOutputs, CameOf};
+
+use mg_calc::{Inputs, Plan};
+use mg_route::LawBox;
+use mg_sched::Net;
+use mg_turns::{NetSeat, SharedNet};
+use mg_value::InputSet;
+use mg_workers::{Kept, share, unshare};
+use std::alloc::{AllocError, Global};
+
+/// A shared net, its first seat, and what stays of it aside.
+#[derive(Drop)]
+pub struct Shared {
+    pub net: SharedNet<LawBox>,
+    pub seat: NetSeat<LawBox>,
+    pub kept: Kept<LawBox>,
+}
+
+// No calculators.
+fn no_boxes(alloc: Global) -> Vec<LawBox>
+    ensures { result.items ≡ [] }
+{
+    Vec::new(alloc)
+}
+
+// The net of a plan for which no calculators are handed in.
+fn net_of(alloc: Global, plan: &Plan, inputs: &Inputs) -> Result<Net<LawBox>, AllocError>
+    requires job { IsJob (record { plan = plan.now; inputs = inputs.now }) }
+    requires none { OutersFit plan.now [] }
+    ensures of { IfOk result (λ n. n.plan ≡ plan.now) }
+    ensures outputs { IfOk result (λ n. HasOutputs (length plan.now.outputs) n) }
+{
+    match Net::new(alloc, plan, inputs, no_boxes(alloc)) {
+        Ok(net) => Ok(net),
+        Err(_) => Err(AllocError),
+    }
+}
+
+/// The net of a plan for which no calculators are handed in, with its nodes begun.
+pub fn begun(alloc: Global, plan: &Plan, inputs: &Inputs) -> Result<Net<LawBox>, AllocError>
+    requires job { IsJob (record { plan = plan.now; inputs = inputs.now }) }
+    requires none { OutersFit plan.now [] }
+    ensures running { IfOk result (λ n. IsRunning n) }
+    ensures stands { IfOk result (λ n. StandsForSome n) }
+    ensures of { IfOk result (λ n. n.plan ≡ plan.now) }
+    ensures outputs { IfOk result (λ n. HasOutputs (length plan.now.outputs) n) }
+{
+    let mut net = net_of(alloc, plan, inputs)?;
+    net.begin()?;
+    Ok(net)
+}
+
+/// Shares a net. The seat has the whole portion.
+pub fn shared_net(alloc: Global, net: Net<LawBox>) -> Result<Shared, AllocError>
+    requires running { IsRunning net }
+    requires stands { StandsForSome net }
+    ensures shared { IfOk result (λ r. IsShared r.net r.seat) }
+    ensures whole { IfOk result (λ r. (view_of r.seat).portion ≡ 2 ^ 32) }
+    ensures kept { IfOk result (λ r. (count : ℕ) → HasOutputs count net → CameOf count (key_of r.net) r.kept) }
+{
+    match share(alloc, net) {
+        Ok((net, seat, kept)) => Ok(Shared { net, seat, kept }),
+        Err(_) => Err(AllocError),
+    }
+}
+
+/// Puts a shared net together again. The seat has the whole portion again.
+pub fn together(net: SharedNet<LawBox>, seat: NetSeat<LawBox>, kept: Kept<LawBox>) -> Net<LawBox>
+    requires shared { IsShared net seat }
+    requires whole { (view_of seat).portion ≡ 2 ^ 32 }
+    requires kept { (count : ℕ) × CameOf count (key_of net) kept }
+    ensures running { IsRunning result }
+    ensures outputs { (count : ℕ) → CameOf count (key_of net) kept → HasOutputs count result }
+{
+    let net = unshare(net, seat, kept);
+    net
+}
+
+/// Takes the next set of a net with one output, and tells whether there is one.
+pub fn take_next(net: &mut Net<LawBox>, set: &mut InputSet) -> bool
+    requires outputs { HasOutputs 1 net.old }
+    ensures outputs { HasOutputs 1 net.new }
+{
+    if set.len() != 1 {
+        return false;
+    }
+    let took = net.take_out(set);
+    took
+}

@@ -1,0 +1,5 @@
+use Rattle.mg_seats.specs.Held.{StaysShared}
+use Rattle.mg_test_turns.proofs.threads.bring_all.Given as goal
+
+abbrev pub invariant-loop-edge : goal.invariant-loop-edge
+invariant-loop-edge l = StaysShared l.net l.initial.seat l.seat

@@ -1,0 +1,5 @@
+use Rattle.mg_seats.specs.Held.{StaysShared}
+use Rattle.mg_test_turns.proofs.threads.run_all.Given as goal
+
+abbrev pub invariant-loop-node : goal.invariant-loop-node
+invariant-loop-node l = StaysShared l.net l.initial.seat l.seat

@@ -1,0 +1,5 @@
+use Rattle.mg_seats.specs.Held.{StaysShared}
+use Rattle.mg_test_turns.proofs.threads.work.Given as goal
+
+abbrev pub invariant-loop : goal.invariant-loop
+invariant-loop l = StaysShared l.net l.initial.seat l.seat

@@ -1,0 +1,174 @@
+//! Two threads on one net, whose answers add up.
+ghost use Rattle.std.specs.Prelude.{◌≡◌, ◌<◌, ◌≤◌, ◌+◌, ◌*◌, ◌^◌};
+ghost use Rattle.mg_turns.specs.Calls.{view_of};
+ghost use Rattle.mg_workers.specs.Shared.{IsShared};
+ghost use Rattle.mg_seats.specs.Held.{StaysShared};
+
+use crate::nets::{last_of, shared_of};
+use mg_route::LawBox;
+use mg_seats::{Shared, append, run, together};
+use mg_turns::{NetSeat, SharedNet};
+use std::alloc::Global;
+use std::test::Fail;
+use std::thread::{Threads, join};
+
+/// What a thread comes back with: its seat, how many works it has committed, and how many packets it has brought along edges.
+#[derive(Drop)]
+struct Worked {
+    seat: NetSeat<LawBox>,
+    done: u64,
+    brought: u64,
+}
+
+// Works at each node once, at most three works under one pair of turns, and tells how many are committed.
+fn run_all(alloc: Global, net: &SharedNet<LawBox>, seat: &mut NetSeat<LawBox>) -> u64
+    requires { IsShared net.now seat.old }
+    ensures { StaysShared net.now seat.old seat.new }
+{
+    let mut done = 0_u64;
+    for node in 0..net.nodes() {
+        let more = run(alloc, net, seat, node, 3);
+        done = done.saturating_add(u64::from(more));
+    }
+    done
+}
+
+// Brings packets along each of two edges once, and tells how many.
+fn bring_all(net: &SharedNet<LawBox>, seat: &mut NetSeat<LawBox>) -> u64
+    requires { IsShared net.now seat.old }
+    ensures { StaysShared net.now seat.old seat.new }
+{
+    let mut brought = 0_u64;
+    for edge in 0..2 {
+        if let Some((packets, _)) = append(net, seat, edge) {
+            brought = brought.saturating_add(u64::from(packets));
+        }
+    }
+    brought
+}
+
+// Works so many rounds long.
+fn work(alloc: Global, net: &SharedNet<LawBox>, seat: NetSeat<LawBox>, rounds: u32) -> Worked
+    requires { IsShared net.now seat }
+    ensures { StaysShared net.now seat result.seat }
+{
+    let mut seat = seat;
+    let mut done = 0_u64;
+    let mut brought = 0_u64;
+    for _ in 0..rounds {
+        done = done.saturating_add(run_all(alloc, net, &mut seat));
+        brought = brought.saturating_add(bring_all(net, &mut seat));
+    }
+    Worked {
+        seat,
+        done,
+        brought,
+    }
+}
+
+// Takes over what another thread comes back with.
+fn both(net: &SharedNet<LawBox>, one: Worked, other: Worked) -> Worked
+    requires shared { IsShared net.now one.seat × IsShared net.now other.seat }
+    requires portions { (view_of one.seat).portion + (view_of other.seat).portion ≤ 2 ^ 32 }
+    ensures shared { IsShared net.now result.seat }
+    ensures portion { (view_of result.seat).portion ≡ (view_of one.seat).portion + (view_of other.seat).portion }
+{
+    let Worked {
+        mut seat,
+        done,
+        brought,
+    } = one;
+    let Worked {
+        seat: from,
+        done: more,
+        brought: further,
+    } = other;
+    seat.join(net, from);
+    Worked {
+        seat,
+        done: done.saturating_add(more),
+        brought: brought.saturating_add(further),
+    }
+}
+
+// Two threads work, each with a half of the whole.
+fn two<R: Threads + Sync>(
+    rt: &R,
+    alloc: Global,
+    net: &SharedNet<LawBox>,
+    seat: NetSeat<LawBox>,
+    rounds: u32,
+) -> Worked
+    requires shared { IsShared net.now seat }
+    requires whole { (view_of seat).portion ≡ 2 ^ 32 }
+    ensures { StaysShared net.now seat result.seat }
+{
+    let mut first = seat;
+    let second = first.split(net, 1 << 31);
+    let (one, other) = join(
+        rt,
+        move || -> Worked
+            requires { IsShared net.now first }
+            ensures { StaysShared net.entry.now first result.seat }
+        { work(alloc, net, first, rounds) },
+        move || -> Worked
+            requires { IsShared net.now second }
+            ensures { StaysShared net.entry.now second result.seat }
+        { work(alloc, net, second, rounds) },
+    );
+    both(net, one, other)
+}
+
+// A source of 1,000 packets, and a node through which they go. Each has as many calls or sets, and Close.
+fn counting() -> &'static str {
+    r#"output_stream: "out"
+node { calculator: "CountingSourceCalculator" output_stream: "in"
+  node_options: { [type.googleapis.com/mediapipe.CountingSourceCalculatorOptions] { count: 1000 } } }
+node { calculator: "PassThroughCalculator" input_stream: "in" output_stream: "out" }"#
+}
+
+// Two threads work, and then one works off what they left.
+fn all_work<R: Threads + Sync>(
+    rt: &R,
+    alloc: Global,
+    net: &SharedNet<LawBox>,
+    seat: NetSeat<LawBox>,
+) -> Worked
+    requires shared { IsShared net.now seat }
+    requires whole { (view_of seat).portion ≡ 2 ^ 32 }
+    ensures { StaysShared net.now seat result.seat }
+{
+    let Worked {
+        seat,
+        done,
+        brought,
+    } = two(rt, alloc, net, seat, 40);
+    let Worked {
+        seat,
+        done: more,
+        brought: further,
+    } = work(alloc, net, seat, 400);
+    Worked {
+        seat,
+        done: done.saturating_add(more),
+        brought: brought.saturating_add(further),
+    }
+}
+
+#[test]
+fn the_answers_of_two_threads_add_up(rt: HostRuntime) -> Result<(), Fail> {
+    let Shared { net, seat, kept } = shared_of(rt.alloc(), counting(), "")?;
+    let Worked {
+        seat,
+        done,
+        brought,
+    } = all_work(&rt, rt.alloc(), &net, seat);
+    if done != 2002 || brought != 2000 {
+        return Err(Fail::new(format_args!("{done} works, {brought} packets")));
+    }
+    let last = last_of(rt.alloc(), together(net, seat, kept), 1000)?;
+    if last.as_str() != "999@999" {
+        return Err(Fail::new(format_args!("{last} is the last")));
+    }
+    Ok(())
+}
