@@ -1,9 +1,9 @@
 //! Graphs with free nodes, as the check takes or refuses them.
 
-use crate::rows::{Calls, assert_rows};
 use mg_calc::{Edge, Plan};
 use mg_check::{CheckFault, check};
 use mg_config::{GraphConfig, read};
+use mg_tables::{Calls, assert_rows};
 use mg_text::parse;
 use std::alloc::{AllocError, Global};
 use std::fmt::Write;

@@ -5,8 +5,6 @@
 #[cfg(test)]
 mod checks;
 #[cfg(test)]
-mod rows;
-#[cfg(test)]
 mod splits;
 #[cfg(test)]
 mod states;

@@ -1,10 +1,10 @@
 //! Plans split into their cores and their free nodes.
 
 use crate::checks::{graph_of, show_edges, show_numbers};
-use crate::rows::{Calls, assert_rows};
 use mg_calc::{Plan, PlanStream, Producer};
 use mg_check::check;
 use mg_free::{FreeNode, FreePlan, FreeState, split};
+use mg_tables::{Calls, assert_rows};
 use mg_time::Timestamp;
 use mg_value::{Packet, Payload};
 use std::alloc::{AllocError, Global};

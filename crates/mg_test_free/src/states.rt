@@ -1,7 +1,7 @@
 //! Arrivals at free nodes, one by one.
 
-use crate::rows::{Calls, assert_rows};
 use mg_free::{FreeLaw, FreeNode, FreeState};
+use mg_tables::{Calls, assert_rows};
 use mg_time::Timestamp;
 use mg_value::{BlockList, Packet, Payload, Prefix};
 use std::alloc::{AllocError, Global};
