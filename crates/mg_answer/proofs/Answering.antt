@@ -29,7 +29,7 @@ use Rattle.mg_answer.specs.Code.Answered.{WroteSome}
 use Rattle.mg_answer.specs.Code.Bounds.{open_numbers, end_bounds}
 use Rattle.mg_answer.specs.Code.Said.{all_notes}
 use Rattle.mg_answer.specs.declared.outcomes.Outcomes.{Outcomes}
-use Rattle.mg_answer.specs.Code.Gathered.{Gathered}
+use Rattle.mg_answer.specs.Gathered.{Gathered}
 use Rattle.mg_answer.specs.declared.status.Status.{Status}
 use Rattle.mg_answer.specs.declared.status.Status.TheVariants.{Good, StoreFault, Usage, GraphRefused, LineRefused, NodeFault, Stalled, ReadFault, WriteFault, OutOfMemory}
 use Rattle.mg_answer.proofs.Writing.{front-sent, put-sent}
@@ -242,7 +242,7 @@ abbrev pub ended_statuses : List Status
 ended_statuses = Good ∷ NodeFault ∷ Stalled ∷ []
 
 -- a status of a run whose input ended comes of no other end
-end-by : (end : FeedEnd) (status : Status) (fs : List Fault) (ns : List ℕ) (graph : GraphInputs) (input : Device SourceTold) (came : List ℕ) (read : Read)
+pub end-by : (end : FeedEnd) (status : Status) (fs : List Fault) (ns : List ℕ) (graph : GraphInputs) (input : Device SourceTold) (came : List ℕ) (read : Read)
     → status ≡ status_of end fs ns → IsOneOf status ended_statuses → CameAs end graph input came read → EndCame input.before input.now
 end-by Ended status fs ns graph input came read is one by = by.0
 end-by (Failed lines) status fs ns graph input came read is (inl e) by = cc
@@ -260,7 +260,7 @@ all-ended report plan status all ran one =
     let told = told-by report plan status all ran in
     end-by ran.read.end status told.0 told.1 (inputs_of plan) all.input ran.input.came ran.read told.2 one ran.input.by
 
-no-one : (status : Status) → (status ≡ WriteFault) ⊎ (status ≡ OutOfMemory) → IsOneOf status ended_statuses → ⊥
+pub no-one : (status : Status) → (status ≡ WriteFault) ⊎ (status ≡ OutOfMemory) → IsOneOf status ended_statuses → ⊥
 no-one status (inl e) (inl f) = cc
 no-one status (inl e) (inr (inl f)) = cc
 no-one status (inl e) (inr (inr (inl f))) = cc
@@ -296,7 +296,7 @@ rose-unrisen a b rose un = absurd (omega (arith, rose, un.0, un.1))
 abbrev pub read_statuses : List Status
 read_statuses = ReadFault ∷ WriteFault ∷ OutOfMemory ∷ []
 
-failed-by : (end : FeedEnd) (status : Status) (fs : List Fault) (ns : List ℕ) (before now : SourceTold) (graph : GraphInputs) (input : Device SourceTold) (came : List ℕ) (read : Read)
+pub failed-by : (end : FeedEnd) (status : Status) (fs : List Fault) (ns : List ℕ) (before now : SourceTold) (graph : GraphInputs) (input : Device SourceTold) (came : List ℕ) (read : Read)
     → status ≡ status_of end fs ns → FailedBy end before now → CameAs end graph input came read → HasRisen before.faults now.faults → IsOneOf status read_statuses
 failed-by Ended status fs ns before now graph input came read is un by risen = absurd (steady-risen before.faults now.faults un.steady risen)
 failed-by (Failed lines) status fs ns before now graph input came read is un by risen = inl is
@@ -357,7 +357,7 @@ whole-by (Refused line cause) graph input came bytes left read is is_left cut by
     by.2 left (none-left by.0 input.before input.now bytes left is is_left by.1) ∙ ap (ended_input graph) (sym cut)
 whole-by no_lines graph input came bytes left read is is_left cut by failed un = absurd by
 
-whole-read : (graph : GraphInputs) (input : Device SourceTold) (read : Read) (bytes : List ℕ) → CameTo graph input read → input.before.left ≡ Some bytes
+pub whole-read : (graph : GraphInputs) (input : Device SourceTold) (read : Read) (bytes : List ℕ) → CameTo graph input read → input.before.left ≡ Some bytes
     → Unrisen input.before.faults input.now.faults → read ≡ ended_input graph bytes
 whole-read graph input read bytes came is un =
     let gave : Gave (Some bytes) input.now.left came.came = subst (λ (o : Option (List ℕ)). Gave o input.now.left came.came) is came.gave in

@@ -20,7 +20,7 @@ use Rattle.mg_feed.specs.declared.feed_end.FeedEnd.TheVariants.{Ended, Failed, R
 use Rattle.mg_answer.specs.Answer.{Read, end_by, is_ended}
 use Rattle.mg_answer.specs.Devices.{Device, device}
 use Rattle.mg_answer.specs.Ran.{CameAs, CameTo}
-use Rattle.mg_answer.specs.Code.Gathered.{Gathered}
+use Rattle.mg_answer.specs.Gathered.{Gathered}
 
 abbrev read_of : List (List ℕ) → FeedEnd → Read
 read_of lines end = record { lines = lines; end = end }

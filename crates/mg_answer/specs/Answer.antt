@@ -75,10 +75,12 @@ generated_job plan number = record { plan = plan; inputs = generated_inputs (inp
 
 -- The answer --
 
--- How a solution is told: by the lines of its outputs or by a summary of these, and with a report behind the notes or without.
+-- How a solution is told: by the lines of its outputs, by a summary of these, or by another text in their place, as that of the events
+-- that led to it; and with a report behind the notes or without.
 pub data Form : Type 0 where
   packet_lines : Form
   totals : Form
+  in_place : List ℕ → Form
 
 pub record Telling : Type 0 where
   pub form : Form
@@ -90,9 +92,13 @@ by_lines report = record { form = packet_lines; report = report }
 abbrev pub by_summary : Bool → Telling
 by_summary report = record { form = totals; report = report }
 
+abbrev pub by_text : List ℕ → Bool → Telling
+by_text text report = record { form = in_place text; report = report }
+
 abbrev pub output_in : Form → Plan → List (StreamPrefix Plain) → List ℕ
 output_in packet_lines plan streams = output_of plan streams
 output_in totals plan streams = summary_of plan streams
+output_in (in_place text) plan streams = text
 
 pub record Answer : Type 0 where
   pub output : List ℕ

@@ -1,6 +1,5 @@
 pub mod Written
 pub mod Answered
-pub mod Gathered
 pub mod Bounds
 pub mod Said
 pub mod Adding

@@ -12,6 +12,7 @@ pub mod Held
 pub mod Put
 pub mod Wrote
 pub mod Ran
+pub mod Gathered
 pub mod Code
 -- What the prover wants of the types beside their meaning. No meaning rests on it.
 pub mod Codes

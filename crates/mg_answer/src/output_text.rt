@@ -57,6 +57,16 @@ impl OutputText {
         }
     }
 
+    /// A text of which a part may be written. No sets are put behind it.
+    pub fn of_blocks(alloc: Global, blocks: BlockText) -> OutputText
+        ensures { result ≡ record { names = []; kept = blocks.kept; failed = blocks.failed } }
+    {
+        OutputText {
+            writers: Vec::new(alloc),
+            blocks,
+        }
+    }
+
     /// Puts the lines of a set, and writes what isn't written once it has a block of bytes. After a failed write it puts
     /// nothing more. After an `Err` nothing of the set was written, but a part of it may be kept: let the text go then.
     pub fn put_set<K: Sink>(&mut self, set: &InputSet, output: &mut K) -> Result<(), AllocError>

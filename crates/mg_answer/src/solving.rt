@@ -1,9 +1,6 @@
 //! A run that computes its answer plainly: the whole input is read, and then its solution is written.
 ghost use Rattle.std.specs.Prelude.{◌≡◌, ◌≢◌, ◌<◌, ◌⊎◌, ◌∷◌, [], false, All, length, map, MatchResult, IfOk, OnErr};
 ghost use Rattle.mg_value.specs.Prefix.{IsPrefix};
-ghost use Rattle.mg_feed.specs.Stands.{Stands, nothing_taken};
-ghost use Rattle.mg_feed.specs.FeedSeen.{seen, fed};
-ghost use Rattle.mg_answer.specs.Code.Gathered.{Gathered};
 ghost use Rattle.mg_calc.specs.Plan.{IsValid, InputsFit};
 ghost use Rattle.mg_feed.specs.Ran.{EndCame};
 ghost use Rattle.mg_answer.specs.Text.{sets_text, output_of};
@@ -13,19 +10,19 @@ ghost use Rattle.mg_answer.specs.Wrote.{Wrote};
 ghost use Rattle.mg_answer.specs.Devices.{device, HasRisen, NoneFailed, TookFront};
 ghost use Rattle.mg_answer.specs.Held.{told_by, SameDevices};
 ghost use Rattle.mg_answer.specs.Status.{IsOneOf};
-ghost use Rattle.mg_answer.specs.Ran.{Ran, CameTo, IsAnswered};
+ghost use Rattle.mg_answer.specs.Ran.{Ran, RanOut, CameTo, IsAnswered};
 ghost use Rattle.mg_answer.specs.Code.Answered.{WroteSome};
 ghost use Rattle.mg_feed.specs.Graph.{inputs_of};
 ghost use Rattle.mg_answer.specs.Answer.{Read, by_lines};
 
 use crate::concluding::conclude;
 use crate::failing::note_out_of_memory;
-use crate::told::{is_ended, ran_out};
+use crate::reading::read_whole;
 use crate::{Devices, Outcomes, OutputText, Run, Status, StreamEnd};
 use mg_calc::{Inputs, Plan};
 use mg_edge::{Sink, Source};
 use mg_equations::solve;
-use mg_feed::{Feed, FeedEnd};
+use mg_feed::FeedEnd;
 use mg_value::{Policy, Prefix, PrefixList, TimedSet, settled_sets};
 use std::alloc::{AllocError, Global};
 
@@ -64,7 +61,7 @@ pub fn solve_input<S: Source, K: Sink, E: Sink>(
     solve_whole(run, devices)
 }
 
-// Makes a feed for the plan, and goes on with it.
+// Reads the input, and answers. Where memory runs out the notes say that alone.
 fn solve_whole<S: Source, K: Sink, E: Sink>(
     run: &Run<'_>,
     devices: &mut Devices<'_, '_, '_, S, K, E>,
@@ -73,34 +70,7 @@ fn solve_whole<S: Source, K: Sink, E: Sink>(
     ensures ran { Ran run.now.report run.now.plan.now result (told_by S.told K.told E.told devices.old devices.new) }
     ensures same { SameDevices devices.old devices.new }
 {
-    match Feed::new(run.alloc, run.plan) {
-        Ok(feed) => solve_feed(run, feed, devices),
-        Err(_) => {
-            note_out_of_memory(devices.notes);
-            Status::OutOfMemory
-        }
-    }
-}
-
-// Reads the input into a feed, and answers.
-fn solve_feed<S: Source, K: Sink, E: Sink>(
-    run: &Run<'_>,
-    feed: Feed,
-    devices: &mut Devices<'_, '_, '_, S, K, E>,
-) -> Status
-    requires plan { IsValid run.now.plan.now }
-    requires graph { (seen feed).graph ≡ inputs_of run.now.plan.now }
-    requires stands { Stands [] (nothing_taken (inputs_of run.now.plan.now)) (seen feed) }
-    requires unread { (fed feed).read ≡ record { kept = []; ended = false } }
-    ensures ran { Ran run.now.report run.now.plan.now result (told_by S.told K.told E.told devices.old devices.new) }
-    ensures same { SameDevices devices.old devices.new }
-{
-    let (end, inputs) = read_inputs(feed, devices.input);
-    if ran_out(end) {
-        note_out_of_memory(devices.notes);
-        return Status::OutOfMemory;
-    }
-    match answer(run, &inputs, end, devices.output, devices.notes) {
+    match solve_read(run, devices) {
         Ok(status) => status,
         Err(_) => {
             note_out_of_memory(devices.notes);
@@ -109,15 +79,20 @@ fn solve_feed<S: Source, K: Sink, E: Sink>(
     }
 }
 
-// Reads the input, and what its lines give: how it ended, and what they hand to the graph.
-fn read_inputs<S: Source>(mut feed: Feed, input: &mut S) -> (FeedEnd, Inputs)
-    requires stands { Stands [] (nothing_taken (seen feed).graph) (seen feed) }
-    requires unread { (fed feed).read ≡ record { kept = []; ended = false } }
-    ensures { result.0 ≢ FeedEnd.OutOfMemory → Gathered (seen feed).graph (device (S.told input.old) (S.told input.new)) result.0 result.1 }
+// Reads the whole input, and answers.
+fn solve_read<S: Source, K: Sink, E: Sink>(
+    run: &Run<'_>,
+    devices: &mut Devices<'_, '_, '_, S, K, E>,
+) -> Result<Status, AllocError>
+    requires { IsValid run.now.plan.now }
+    ensures ran { IfOk result (λ status. Ran run.now.report run.now.plan.now status (told_by S.told K.told E.told devices.old devices.new)) }
+    ensures short { OnErr result (RanOut run.now.plan.now (told_by S.told K.told E.told devices.old devices.new)) }
+    ensures unnoted { OnErr result (E.told devices.new.notes.now ≡ E.told devices.old.notes.now) }
+    ensures same { SameDevices devices.old devices.new }
 {
-    let end = feed.read_all(input);
-    let inputs = feed.into_inputs(is_ended(end));
-    (end, inputs)
+    let whole = read_whole(run.alloc, run.plan, devices.input)?;
+    let status = answer(run, &whole.inputs, whole.end, devices.output, devices.notes)?;
+    Ok(status)
 }
 
 // Solves a job whose input ended so, and writes its answer.

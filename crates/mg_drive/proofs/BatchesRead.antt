@@ -21,7 +21,7 @@ use Rattle.mg_feed.proofs.Holding.{given-untaken}
 use Rattle.mg_feed.proofs.Growing.{naming-names}
 use Rattle.mg_feed.proofs.Joining.{taken-all}
 use Rattle.mg_drive.specs.Batches.{IsMore}
-use Rattle.mg_drive.specs.Code.Lines.{has_ended, inputs_at, HadMemory, ReadsAs, IsRead, HasBatch, LinesGave}
+use Rattle.mg_drive.specs.Code.Lines.{has_ended, HadMemory, ReadsAs, IsRead, HasBatch, LinesGave}
 
 -- The first moment --
 

@@ -10,3 +10,6 @@ pub mod BoxesBack
 pub mod FrontsBack
 pub mod LinesRan
 pub mod PacketsRan
+pub mod EventsPut
+pub mod RecordedRuns
+pub mod TracesRan

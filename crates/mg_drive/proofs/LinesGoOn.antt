@@ -1,5 +1,5 @@
 -- A net goes on with a further batch of lines: its job is that of more lines.
-use Rattle.std.proofs.Common.{◌≡◌, ◌<◌, ◌≤◌, ℕ, List, [], ◌∷◌, ◌++◌, length, Bool, true, false, Option, slice_index_or, refl, sym, ap, ◌∙◌, subst, arith, length-append}
+use Rattle.std.proofs.Common.{◌≡◌, ◌<◌, ℕ, List, [], ◌∷◌, ◌++◌, length, Bool, true, false, Option, slice_index_or, refl, sym, ap, ◌∙◌, subst, arith}
 use Rattle.std.proofs.lemmas.List.{length-map}
 use Rattle.mg_edge.specs.Edge.{SourceTold}
 use Rattle.mg_value.specs.Payload.{Plain}
@@ -11,7 +11,7 @@ use Rattle.mg_calc.specs.declared.plan.Plan.{Plan}
 use Rattle.mg_calc.specs.Plan.{IsValid}
 use Rattle.mg_calc.specs.Equations.{IsJob}
 use Rattle.mg_feed.specs.Graph.{GraphInputs, inputs_of as graph_of}
-use Rattle.mg_feed.specs.Accepted.{given_by, most_lines}
+use Rattle.mg_feed.specs.Accepted.{given_by}
 use Rattle.mg_feed.specs.Given.{ended_stream, ended_streams}
 use Rattle.mg_feed.specs.Stands.{AllGood, Stands, packets_of}
 use Rattle.mg_feed.specs.Fed.{Fed}
@@ -25,8 +25,8 @@ use Rattle.mg_answer.proofs.Fitting.{inputs-fit}
 use Rattle.mg_node.specs.Extending.{joined}
 use Rattle.mg_sched.specs.Extends.{GoesOnWith}
 use Rattle.mg_drive.specs.Batches.{IsMore, logged, IsFirst, GoesOn}
-use Rattle.mg_drive.specs.Code.Lines.{has_ended, inputs_at, IsRead, HasBatch, IsNew, LinesGave, lines_left}
-use Rattle.mg_drive.proofs.BatchesRead.{nothing_read, first_read}
+use Rattle.mg_drive.specs.Code.Lines.{has_ended, inputs_at, HasBatch, LinesGave, lines_left}
+use Rattle.mg_drive.proofs.BatchesRead.{first_read}
 
 -- What lines give --
 

@@ -1,5 +1,5 @@
 -- What a run over lines came to.
-use Rattle.std.proofs.Common.{◌≡◌, ◌⊎◌, inl, inr, ℕ, List, [], ◌++◌, take, drop, Bool, true, false, Option, Some, None, IfSome, map, refl, sym, ap, ◌∙◌, subst, take-append-drop}
+use Rattle.std.proofs.Common.{◌≡◌, ◌⊎◌, inl, inr, ℕ, List, [], ◌++◌, take, drop, Bool, true, false, Option, Some, None, IfSome, refl, sym, ap, ◌∙◌, subst, take-append-drop}
 use Rattle.std.proofs.lemmas.Grind.{flat_map-append}
 use Rattle.mg_edge.specs.Edge.{SourceTold, SinkTold}
 use Rattle.mg_edge.specs.Runs.{Gave}
@@ -12,7 +12,7 @@ use Rattle.mg_calc.specs.declared.inputs.Inputs.{Inputs}
 use Rattle.mg_calc.specs.declared.plan.Plan.{Plan}
 use Rattle.mg_calc.specs.Plan.{IsValid}
 use Rattle.mg_calc.specs.Told.{CalculatorTold}
-use Rattle.mg_calc.specs.Equations.{Job, IsJob, IsSolution}
+use Rattle.mg_calc.specs.Equations.{IsJob, IsSolution}
 use Rattle.mg_feed.specs.Graph.{GraphInputs, inputs_of}
 use Rattle.mg_feed.specs.Lines.{all_lines}
 use Rattle.mg_feed.specs.Accepted.{accepted, given_by}
@@ -50,7 +50,7 @@ use Rattle.mg_drive.specs.Batches.{IsMore, logged}
 use Rattle.mg_drive.specs.Told.{HasLines}
 use Rattle.mg_drive.specs.Leaves.{HadCallsOf, HadCalls, HadFronts, HadSome}
 use Rattle.mg_drive.specs.Code.Running.{IsToldSome, FrontIn}
-use Rattle.mg_drive.specs.Code.Lines.{has_ended, inputs_at, LinesGave}
+use Rattle.mg_drive.specs.Code.Lines.{inputs_at, LinesGave}
 use Rattle.mg_drive.proofs.Jobs.{valid_plan}
 use Rattle.mg_drive.proofs.LinesGoOn.{not_ended}
 use Rattle.mg_drive.proofs.BoxesBack.{logs_of}

@@ -12,7 +12,7 @@ use Rattle.mg_feed.specs.declared.feed_end.BatchEnd.TheVariants.{More, End}
 use Rattle.mg_answer.specs.Answer.{Form}
 use Rattle.mg_node.specs.Job.{LoggedJob, Solves}
 use Rattle.mg_sched.specs.Views.{NetView}
-use Rattle.mg_sched.specs.StandsFor.{StandsFor, StandsForSome, IsRunning}
+use Rattle.mg_sched.specs.StandsFor.{StandsFor, IsRunning}
 use Rattle.mg_sched.specs.AtRest.{IsAtRest}
 use Rattle.mg_sched.specs.Sweeps.{Becomes}
 use Rattle.mg_sched.specs.Begins.{Begins}
@@ -24,7 +24,7 @@ use Rattle.mg_sched.proofs.Becoming.{becomes_plan, becomes_spare}
 use Rattle.mg_sched.proofs.OutputsTaken.{all_come_at_rest}
 use Rattle.mg_drive.specs.Nets.{Keeps}
 use Rattle.mg_drive.specs.Batches.{IsMore}
-use Rattle.mg_drive.specs.Code.Running.{Giving, Telling, Start, job_with, IsTold, IsToldSome, IsSomeTold, IsUnderWay, IsSomeMore, WentOn, HasRested, IsOver, IsShort}
+use Rattle.mg_drive.specs.Code.Running.{Giving, Telling, Start, job_with, IsTold, IsToldSome, IsSomeTold, IsUnderWay, IsSomeMore, WentOn, HasRested, IsAllTaken, IsOver, IsShort}
 use Rattle.mg_drive.proofs.TakingSets.{told_same, told_some}
 use Rattle.mg_drive.proofs.Jobs.{told_of_later}
 
@@ -91,15 +91,11 @@ same_runs before now same running = subst IsRunning (sym same) running
 -- a net that came to rest, from which sets were taken then until there was none
 pub rested_at : (job : LoggedJob) (before rested now : NetView) → ((j : LoggedJob) → StandsFor j before → StandsFor j rested) → StandsFor job before → IsRunning rested → IsAtRest rested
     → LeavesNodes rested now → ((j : LoggedJob) (streams : List (StreamPrefix Plain)) → StandsFor j rested → Solves j streams → HasAllOutputs streams rested
-    → taken_out now ≡ length (settled_outputs now.plan streams)) → HasRested job now
-rested_at job before rested now keeps stands running rests since all = record {
-  rested = rested;
-  stands = keeps job stands;
-  running = running;
-  rests = rests;
-  since = since;
-  all = λ streams solves. all job streams (keeps job stands) solves (all_come_at_rest job streams rested (keeps job stands) running rests solves);
-}
+    → taken_out now ≡ length (settled_outputs now.plan streams)) → HasRested job now × IsAllTaken job now
+rested_at job before rested now keeps stands running rests since all = (
+  record { rested = rested; stands = keeps job stands; running = running; rests = rests; since = since },
+  λ streams solves. all job streams (keeps job stands) solves (all_come_at_rest job streams rested (keeps job stands) running rests solves),
+)
 
 -- Runs --
 
@@ -160,13 +156,14 @@ flushed {B} {T} gives has_told start last source sink later written batches tell
 pub over_at : {B T : Type 0} (gives : Giving B) (has_told : Telling T) (start : Start B) (last : BatchEnd) (end : FeedEnd) (source : SourceTold) (sink later : SinkTold) (batches : B) (telling telling_now : T) (net now : NetView) → last ≡ End end
     → ((job : LoggedJob) → StandsFor job net → StandsFor job now)
     → ((job : LoggedJob) (first : SinkTold) → StandsFor job net → IsTold has_told job.job first sink (taken_out net) telling → IsTold has_told job.job first later (taken_out now) telling_now)
-    → ((job : LoggedJob) → StandsFor job net → HasRested job now)
+    → ((job : LoggedJob) → StandsFor job net → HasRested job now × IsAllTaken job now)
     → IsUnderWay gives has_told start last source sink batches telling net → IsOver gives has_told start end source later batches telling_now now
 over_at {B} {T} gives has_told start last end source sink later batches telling telling_now net now is keeps tells rests u =
     let v : IsUnderWay gives has_told start (End end) source sink batches telling net = subst (λ (e : BatchEnd). IsUnderWay gives has_told start e source sink batches telling net) is u in
     record {
       under_way = more_told gives has_told start (End end) source sink later batches telling telling_now net now keeps tells v;
-      has_rested = rests (job_with start v.inputs) v.stands;
+      has_rested = (rests (job_with start v.inputs) v.stands).0;
+      all = (rests (job_with start v.inputs) v.stands).1;
     }
 
 -- there is more to read of a run

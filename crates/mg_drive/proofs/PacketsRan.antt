@@ -1,8 +1,6 @@
 -- What a run over packets that are made came to.
-use Rattle.std.proofs.Common.{◌≡◌, ◌⊎◌, ◌<◌, ◌^◌, inl, inr, ℕ, List, Bool, Option, Some, IsSomeAnd, [], length, true, map, refl, sym, ap, ◌∙◌, subst}
+use Rattle.std.proofs.Common.{◌≡◌, ◌⊎◌, ◌<◌, ◌^◌, inl, inr, ℕ, List, Bool, Option, Some, IsSomeAnd, [], length, true, refl, sym, ◌∙◌, subst}
 use Rattle.mg_edge.specs.Edge.{SinkTold}
-use Rattle.mg_value.specs.Payload.{Plain}
-use Rattle.mg_value.specs.Prefix.{StreamPrefix}
 use Rattle.mg_calc.specs.declared.inputs.Inputs.{Inputs}
 use Rattle.mg_calc.specs.declared.plan.Plan.{Plan}
 use Rattle.mg_calc.specs.Plan.{IsValid}
@@ -14,7 +12,7 @@ use Rattle.mg_feed.specs.declared.feed_end.FeedEnd.{FeedEnd}
 use Rattle.mg_feed.specs.declared.feed_end.FeedEnd.TheVariants.{Ended}
 use Rattle.mg_feed.specs.declared.feed_end.BatchEnd.{BatchEnd}
 use Rattle.mg_feed.specs.declared.feed_end.BatchEnd.TheVariants.{More, End}
-use Rattle.mg_answer.specs.Answer.{totals, by_summary, output_in, generated_inputs, generated_job}
+use Rattle.mg_answer.specs.Answer.{totals, by_summary, output_in, generated_job}
 use Rattle.mg_answer.specs.Text.{output_names}
 use Rattle.mg_answer.specs.Summary.{SummaryView, HasSummed}
 use Rattle.mg_answer.specs.Devices.{Device, device, RunDevices}
@@ -29,7 +27,7 @@ use Rattle.mg_sched.specs.Views.{NetView}
 use Rattle.mg_sched.specs.Made.{BoxesFit}
 use Rattle.mg_sched.specs.GivesBack.{given_back, StoodFor}
 use Rattle.mg_sched.proofs.Solved.{solved}
-use Rattle.mg_drive.specs.Batches.{IsMore, IsFirst, logged}
+use Rattle.mg_drive.specs.Batches.{IsFirst, logged}
 use Rattle.mg_drive.specs.Told.{HasSums}
 use Rattle.mg_drive.specs.Leaves.{HadCallsOf, HadFronts}
 use Rattle.mg_drive.specs.Code.Running.{IsToldSome, FrontIn}

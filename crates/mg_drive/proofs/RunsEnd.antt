@@ -8,13 +8,13 @@ use Rattle.mg_value.specs.Settled.{TimedSet}
 use Rattle.mg_calc.specs.declared.inputs.Inputs.{Inputs}
 use Rattle.mg_calc.specs.declared.plan.Plan.{Plan}
 use Rattle.mg_calc.specs.Told.{CalculatorTold}
-use Rattle.mg_calc.specs.Equations.{Job, IsSolution}
+use Rattle.mg_calc.specs.Equations.{Job}
 use Rattle.mg_feed.specs.declared.feed_end.FeedEnd.{FeedEnd}
 use Rattle.mg_feed.specs.declared.feed_end.BatchEnd.{BatchEnd}
 use Rattle.mg_feed.specs.declared.feed_end.BatchEnd.TheVariants.{End}
 use Rattle.mg_answer.specs.Text.{output_names, sets_text}
 use Rattle.mg_answer.specs.Summary.{summary_text}
-use Rattle.mg_answer.specs.Answer.{Form, packet_lines, totals, output_in}
+use Rattle.mg_answer.specs.Answer.{Form, packet_lines, totals, in_place, output_in}
 use Rattle.mg_answer.specs.Devices.{Device, device}
 use Rattle.mg_answer.specs.Wrote.{Wrote}
 use Rattle.mg_answer.specs.Put.{TextView, HasPut}
@@ -27,18 +27,15 @@ use Rattle.mg_sched.specs.StandsFor.{StandsFor}
 use Rattle.mg_sched.specs.Made.{IsMade}
 use Rattle.mg_sched.specs.Taking.{collector_of, taken_out, settled_outputs}
 use Rattle.mg_sched.specs.WindsUp.{WindsUpNet}
-use Rattle.mg_sched.specs.GivesBack.{StoodFor}
 use Rattle.mg_sched.proofs.Solved.{solved}
 use Rattle.mg_sched.proofs.HadBack.{used_back}
 use Rattle.mg_sched.proofs.OutputsTaken.{outputs_by_default}
-use Rattle.mg_drive.specs.Batches.{logged}
 use Rattle.mg_drive.specs.Told.{told_in}
 use Rattle.mg_drive.specs.Nets.{Keeps}
-use Rattle.mg_drive.specs.Code.Running.{Giving, Telling, Start, job_with, IsTold, IsUnderWay, HasRested, SomeRested, IsOver, IsShort, FrontIn}
+use Rattle.mg_drive.specs.Code.Running.{Giving, Telling, Start, job_with, IsTold, IsUnderWay, HasRested, IsAllTaken, SomeRested, IsOver, IsShort, FrontIn}
 use Rattle.mg_drive.specs.Code.Ending.{IsWhole, HadAllOf, HasEnded}
 use Rattle.mg_drive.proofs.Jobs.{valid_plan, plan_stood}
 use Rattle.mg_drive.proofs.TakingSets.{told_some}
-use Rattle.mg_drive.proofs.Looping.{keeps_itself}
 
 -- The beginning --
 
@@ -72,22 +69,23 @@ begins {B} {T} gives has_told plan boxes handed began batches telling first now 
 -- The text --
 
 -- all sets were taken
-pub all_taken : (job : LoggedJob) (net : NetView) (streams : List (StreamPrefix Plain)) → StandsFor job net → HasRested job net → Solves job streams → taken_out net ≡ length (settled_outputs job.job.plan streams)
-all_taken job net streams stands h solves = h.all streams solves ∙ ap (λ (p : Plan). length (settled_outputs p streams)) (plan_stood job net stands)
+pub all_taken : (job : LoggedJob) (net : NetView) (streams : List (StreamPrefix Plain)) → StandsFor job net → IsAllTaken job net → Solves job streams → taken_out net ≡ length (settled_outputs job.job.plan streams)
+all_taken job net streams stands all solves = all streams solves ∙ ap (λ (p : Plan). length (settled_outputs p streams)) (plan_stood job net stands)
 
 -- in a form, all sets of a job's solution are the text that its streams make
 pub told_whole : (form : Form) (job : LoggedJob) (streams : List (StreamPrefix Plain)) → Solves job streams → told_in form job.job.plan (settled_outputs job.job.plan streams) ≡ output_in form job.job.plan streams
 told_whole packet_lines job streams solves = ap (sets_text (output_names job.job.plan)) (outputs_by_default job streams solves)
 told_whole totals job streams solves = ap (summary_text (output_names job.job.plan)) (outputs_by_default job streams solves)
+told_whole (in_place text) job streams solves = refl
 
 -- all sets were told, so the text of what was told is whole
-pub whole_told : {T : Type 0} (has_told : Telling T) (form : Form) (job : LoggedJob) (first sink : SinkTold) (net : NetView) (telling : T) (text : TextView) → StandsFor job net → HasRested job net
+pub whole_told : {T : Type 0} (has_told : Telling T) (form : Form) (job : LoggedJob) (first sink : SinkTold) (net : NetView) (telling : T) (text : TextView) → StandsFor job net → IsAllTaken job net
     → IsTold has_told job.job first sink (taken_out net) telling
     → ((plan : Plan) (f now : SinkTold) (sets : List (TimedSet Plain)) → has_told telling plan f now sets → HasPut f now text (told_in form plan sets)) → IsWhole form first sink job.job text
-whole_told {T} has_told form job first sink net telling text stands rested told puts = λ streams solution.
+whole_told {T} has_told form job first sink net telling text stands all_came told puts = λ streams solution.
     let solves : Solves job streams = record { is_job = valid_plan job net stands; solution = solution } in
     let sets = settled_outputs job.job.plan streams in
-    let all : take (taken_out net) sets ≡ sets = ap (λ (n : ℕ). take n sets) (all_taken job net streams stands rested solves) ∙ take-length sets in
+    let all : take (taken_out net) sets ≡ sets = ap (λ (n : ℕ). take n sets) (all_taken job net streams stands all_came solves) ∙ take-length sets in
     subst (λ (t : List ℕ). HasPut first sink text t) (ap (told_in form job.job.plan) all ∙ told_whole form job streams solves) (puts job.job.plan first sink (take (taken_out net) sets) (told.told streams solution))
 
 -- a front of what was put was taken
@@ -133,7 +131,7 @@ ended_over {B} {T} gives has_told form report plan start end source sink now bat
       end = end;
       inputs = u.inputs;
       given = u.given;
-      wrote = wrote form job start.sink is u.stands over.has_rested (whole_told has_told form job start.sink sink net telling text u.stands over.has_rested u.is_told puts);
+      wrote = wrote form job start.sink is u.stands over.has_rested (whole_told has_told form job start.sink sink net telling text u.stands over.all u.is_told puts);
       had = had_of job net wound u.stands over.has_rested winds all;
       stood = record { before = net; stands = u.stands; since = inr winds };
     }
@@ -171,7 +169,7 @@ short_end {B} {T} gives has_told form start end source sink now batches telling 
       given = u.given;
       last = inr refl;
       stood = record { before = net; stands = u.stands; since = since };
-      front = inr (front form job.job start.sink (whole_told has_told form job start.sink sink net telling text u.stands over.has_rested u.is_told puts));
+      front = inr (front form job.job start.sink (whole_told has_told form job start.sink sink net telling text u.stands over.all u.is_told puts));
     }
 
 pub winds_keep : (net now : NetView) → (now ≡ net) ⊎ WindsUpNet net now → Keeps net now

@@ -3,3 +3,4 @@ pub mod Running
 pub mod Lines
 pub mod Ending
 pub mod Packets
+pub mod Tracing

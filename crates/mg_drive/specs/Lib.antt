@@ -1,5 +1,7 @@
 pub mod Nets
 pub mod Batches
 pub mod Told
+pub mod Recorded
 pub mod Leaves
+pub mod Traced
 pub mod Code

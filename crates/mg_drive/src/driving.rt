@@ -10,7 +10,7 @@ ghost use Rattle.mg_sched.specs.StandsFor.{StandsFor, IsRunning};
 ghost use Rattle.mg_sched.specs.Taking.{taken_out, settled_outputs, HasAllOutputs, LeavesNodes};
 ghost use Rattle.mg_drive.specs.Nets.{Keeps};
 ghost use Rattle.mg_drive.specs.Batches.{IsMore};
-ghost use Rattle.mg_drive.specs.Code.Running.{Start, job_with, IsTold, IsToldSome, IsSomeTold, IsUnderWay, IsSomeRun, IsSomeMore, WentOn, HasRested, IsOver, IsShort};
+ghost use Rattle.mg_drive.specs.Code.Running.{Start, job_with, IsTold, IsToldSome, IsSomeTold, IsUnderWay, IsSomeRun, IsSomeMore, WentOn, HasRested, IsAllTaken, IsOver, IsShort};
 
 use crate::{Batches, Driven, Ends, Telling};
 use mg_edge::{Sink, Source};
@@ -85,7 +85,7 @@ fn advance<N: Driven, T: Telling, K: Sink>(
         → IsTold T.has_told job.job first (K.told output.new) (taken_out (N.net net.new)) telling.new) }
     ensures front { OnErr result ((job : LoggedJob) (first : SinkTold) → StandsFor job (N.net net.old) → IsTold T.has_told job.job first (K.told output.old) (taken_out (N.net net.old)) telling.old
         → IsToldSome T.has_told job.job first (K.told output.new)) }
-    ensures rested { OnOk result ((job : LoggedJob) → StandsFor job (N.net net.old) → HasRested job (N.net net.new)) }
+    ensures rested { OnOk result ((job : LoggedJob) → StandsFor job (N.net net.old) → HasRested job (N.net net.new) × IsAllTaken job (N.net net.new)) }
 {
     net.to_rest()?;
     take_all(net, set, telling, output)?;

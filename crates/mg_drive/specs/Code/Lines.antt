@@ -13,7 +13,7 @@ use Rattle.mg_feed.specs.Fed.{Fed}
 use Rattle.mg_feed.specs.Came.{Came}
 use Rattle.mg_feed.specs.Ran.{MetEnd, Unfailed, FailedBy}
 use Rattle.mg_feed.specs.Batch.{EndsAs}
-use Rattle.mg_feed.specs.declared.feed_end.FeedEnd.TheVariants.{Ended, OutOfMemory}
+use Rattle.mg_feed.specs.declared.feed_end.FeedEnd.TheVariants.{OutOfMemory}
 use Rattle.mg_feed.specs.declared.feed_end.BatchEnd.{BatchEnd}
 use Rattle.mg_feed.specs.declared.feed_end.BatchEnd.TheVariants.{More, End}
 use Rattle.mg_answer.specs.Answer.{is_ended}

@@ -1,5 +1,5 @@
 -- A run of a net over batches, while it is under way.
-use Rattle.std.specs.Prelude.{◌≡◌, ◌⊎◌, ℕ, List, map, length, take, All, Option, Some, slice_get}
+use Rattle.std.specs.Prelude.{◌≡◌, ◌⊎◌, ℕ, List, length, take, Option}
 use Rattle.mg_edge.specs.Edge.{SourceTold, SinkTold}
 use Rattle.mg_value.specs.Payload.{Plain}
 use Rattle.mg_value.specs.Prefix.{StreamPrefix}
@@ -7,7 +7,6 @@ use Rattle.mg_value.specs.Settled.{TimedSet}
 use Rattle.mg_calc.specs.declared.call.Call.{Call}
 use Rattle.mg_calc.specs.declared.inputs.Inputs.{Inputs}
 use Rattle.mg_calc.specs.declared.plan.Plan.{Plan}
-use Rattle.mg_calc.specs.Told.{CalculatorTold}
 use Rattle.mg_calc.specs.Equations.{Job, IsSolution}
 use Rattle.mg_feed.specs.declared.feed_end.FeedEnd.{FeedEnd}
 use Rattle.mg_feed.specs.declared.feed_end.BatchEnd.{BatchEnd}
@@ -87,14 +86,17 @@ pub record WentOn {B : Type 0} (gives : Giving B) (start : Start B) (end : Batch
   pub grows : Grows (job_with start inputs) (job_with start all)
   pub stands : StandsFor (job_with start all) net
 
--- A net came to rest for a job, and since then sets alone were taken: all of the solution's.
+-- A net came to rest for a job, and since then sets alone were taken.
 pub record HasRested (job : LoggedJob) (net : NetView) : Type 0 where
   pub rested : NetView
   pub stands : StandsFor job rested
   pub running : IsRunning rested
   pub rests : IsAtRest rested
   pub since : LeavesNodes rested net
-  pub all : (streams : List (StreamPrefix Plain)) → Solves job streams → taken_out net ≡ length (settled_outputs net.plan streams)
+
+-- all sets of a job's solution were taken out of a net
+abbrev pub IsAllTaken : LoggedJob → NetView → Type 0
+IsAllTaken job net = (streams : List (StreamPrefix Plain)) → Solves job streams → taken_out net ≡ length (settled_outputs net.plan streams)
 
 -- a net has rested for some job of a plan
 pub record SomeRested (plan : Plan) (net : NetView) : Type 0 where
@@ -107,6 +109,7 @@ pub record SomeRested (plan : Plan) (net : NetView) : Type 0 where
 pub record IsOver {B T : Type 0} (gives : Giving B) (has_told : Telling T) (start : Start B) (end : FeedEnd) (source : SourceTold) (sink : SinkTold) (batches : B) (telling : T) (net : NetView) : Type 0 where
   pub under_way : IsUnderWay gives has_told start (End end) source sink batches telling net
   pub has_rested : HasRested (job_with start under_way.inputs) net
+  pub all : IsAllTaken (job_with start under_way.inputs) net
 
 -- a front of what a job's solution is told by was taken, in a form
 abbrev pub FrontIn : Form → SinkTold → SinkTold → Job → Type 0

@@ -1,7 +1,6 @@
 use Rattle.std.proofs.Common.{length, refl, ◌∙◌, ap, sym}
 use Rattle.std.proofs.lemmas.Result.{err_from_is_err_and}
 use Rattle.mg_calc.specs.declared.plan.Plan.{Plan}
-use Rattle.mg_feed.specs.declared.feed_end.BatchEnd.TheVariants.{More}
 use Rattle.mg_drive.proofs.TakingSets.{told_stands}
 use Rattle.mg_drive.proofs.Looping.{fewer_batches, keeps_on, run_told, run_more, still_under_way, went_on, short_here, short_told, short_more, over_at, flushed}
 use Rattle.mg_drive.proofs.driving.drive.Goals as goal

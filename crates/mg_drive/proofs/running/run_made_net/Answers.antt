@@ -5,7 +5,7 @@ use Rattle.mg_answer.specs.Devices.{device}
 use Rattle.mg_sched.specs.Made.{job_of as made_job}
 use Rattle.mg_drive.proofs.Jobs.{plan_stood}
 use Rattle.mg_drive.proofs.RunsEnd.{start_of, begins}
-use Rattle.mg_drive.proofs.BoxesBack.{logs_of, either, stood_ended, stood_short, run_ended, run_short, came_back_then, same_back}
+use Rattle.mg_drive.proofs.BoxesBack.{either, stood_ended, stood_short, run_ended, run_short, came_back_then, same_back}
 use Rattle.mg_drive.proofs.running.run_made_net.Goals as goal
 
 pub run_net-ran-requires-clause-under_way : goal.run_net-ran-requires-clause-under_way

@@ -1,7 +1,7 @@
 use Rattle.std.proofs.Common.{refl}
 use Rattle.mg_feed.specs.FeedSeen.{seen, fed}
 use Rattle.mg_answer.proofs.Gathering.{gathered}
-use Rattle.mg_answer.proofs.solving.read_inputs.Goals as goal
+use Rattle.mg_answer.proofs.reading.read_feed.Goals as goal
 
 pub returns : goal.returns
 returns g c some =

@@ -1,0 +1,71 @@
+-- A run that is recorded, step by step.
+use Rattle.std.specs.Prelude.{◌≡◌, ◌⊎◌, ℕ, List, ◌++◌, Bool}
+use Rattle.mg_edge.specs.Edge.{SinkTold}
+use Rattle.mg_calc.specs.declared.event.Event.{Event}
+use Rattle.mg_calc.specs.declared.inputs.Inputs.{Inputs}
+use Rattle.mg_calc.specs.declared.plan.Plan.{Plan}
+use Rattle.mg_calc.specs.Told.{CalculatorTold}
+use Rattle.mg_calc.specs.Equations.{Job}
+use Rattle.mg_feed.specs.declared.feed_end.FeedEnd.{FeedEnd}
+use Rattle.mg_trace.specs.Trace.{events_text}
+use Rattle.mg_answer.specs.Answer.{by_text}
+use Rattle.mg_answer.specs.Devices.{Device, device, Untouched, TookFront}
+use Rattle.mg_answer.specs.Put.{BlockView, HasPutIn}
+use Rattle.mg_answer.specs.Wrote.{Wrote}
+use Rattle.mg_answer.specs.declared.status.Status.{Status}
+use Rattle.mg_sched.specs.Views.{NetView}
+use Rattle.mg_sched.specs.Runs.{IsRun}
+use Rattle.mg_sched.specs.Made.{IsMade, job_of}
+use Rattle.mg_sched.specs.GivesBack.{StoodFor, given_back}
+use Rattle.mg_drive.specs.Leaves.{HadCallsOf}
+use Rattle.mg_drive.specs.Traced.{IsTrace, TookSomeTrace}
+use Rattle.mg_drive.specs.Code.Ending.{HadAllOf}
+
+-- a job of a plan
+abbrev pub plan_job : Plan → Inputs → Job
+plan_job plan inputs = record { plan = plan; inputs = inputs }
+
+-- there are inputs and calculators for which a net was made
+pub record IsSomeMade (plan : Plan) (net : NetView) : Type 0 where
+  pub inputs : Inputs
+  pub boxes : List CalculatorTold
+  pub made : IsMade plan inputs boxes net
+
+-- The lines of the events of a run from one net to another were put behind a text, and an end behind them; or memory ran out, and of the
+-- text and the events of a run from the first net on a front was taken.
+pub record HasRecorded (first sink : SinkTold) (blocks : BlockView) (text end : List ℕ) (before now : NetView) : Type 0 where
+  pub events : List Event
+  pub run : IsRun events before now
+  pub put : HasPutIn first sink blocks (text ++ (events_text events ++ end))
+
+pub record HasRecordedSome (first sink : SinkTold) (text : List ℕ) (before : NetView) : Type 0 where
+  pub there : NetView
+  pub events : List Event
+  pub run : IsRun events before there
+  pub front : TookFront (device first sink) (text ++ events_text events)
+
+-- A net that was made was run, and a trace of it was written; its nodes had their calls.
+pub record NetTraced (report : Bool) (plan : Plan) (inputs : Inputs) (boxes : List CalculatorTold) (end : FeedEnd) (status : Status) (output notes : Device SinkTold) (net : NetView) : Type 0 where
+  pub text : List ℕ
+  pub trace : IsTrace plan inputs boxes text
+  pub wrote : Wrote (by_text text report) (plan_job plan inputs) end status output notes
+  pub had : HadAllOf (job_of plan inputs boxes) net
+  pub stood : StoodFor (job_of plan inputs boxes) net
+
+-- Memory ran out meanwhile: since the output told `before` nothing was written, or some of a trace was.
+pub record NetShort (plan : Plan) (inputs : Inputs) (boxes : List CalculatorTold) (before : SinkTold) (output : Device SinkTold) (net : NetView) : Type 0 where
+  pub took : (output.now ≡ before) ⊎ TookSomeTrace plan inputs boxes output
+  pub stood : StoodFor (job_of plan inputs boxes) net
+
+-- So it is of the run as a whole, by the calculators that were handed in.
+pub record JobTraced (report : Bool) (plan : Plan) (inputs : Inputs) (end : FeedEnd) (status : Status) (output notes : Device SinkTold) (boxes : Device (List CalculatorTold)) : Type 0 where
+  pub text : List ℕ
+  pub trace : IsTrace plan inputs boxes.before text
+  pub wrote : Wrote (by_text text report) (plan_job plan inputs) end status output notes
+  pub had : HadCallsOf (plan_job plan inputs) boxes
+
+pub record JobShort (plan : Plan) (inputs : Inputs) (output : Device SinkTold) (boxes : Device (List CalculatorTold)) : Type 0 where
+  pub took : Untouched output ⊎ TookSomeTrace plan inputs boxes.before output
+  pub net : NetView
+  pub stood : StoodFor (job_of plan inputs boxes.before) net
+  pub back : boxes.now ≡ given_back net
