@@ -2,7 +2,6 @@
 use Rattle.std.proofs.Common.{◌≡◌, ◌≢◌, ℕ, List, [], ◌∷◌, Bool, Option, None, Some, IfSome, ◌⊎◌, inl, inr, refl, ap, ◌∙◌, subst, arith}
 use Rattle.mg_edge.specs.Edge.{SourceTold, SinkTold, StoreTold, Rose, one_more}
 use Rattle.mg_calc.specs.Told.{CalculatorTold}
-use Rattle.mg_run.specs.Boxes.{RunLeaves, GeneratedLeaves}
 use Rattle.mg_edge.proofs.Runs.{TookAll-start}
 use Rattle.mg_run.proofs.Together.{one-reading}
 use Rattle.mg_run.proofs.Loading.{of-loads}
@@ -23,7 +22,9 @@ use Rattle.mg_answer.specs.Ran as running
 use Rattle.mg_answer.proofs.Answering.{ran-answered}
 use Rattle.mg_answer.proofs.RunningOn.{on-answered}
 use Rattle.mg_answer.proofs.Generating.{generated-answered}
-use Rattle.mg_run.specs.Answer.{Answer, Job, refuse, show, run_plan, solve, generate, job_of}
+use Rattle.mg_drive.specs.Traced.{TracedAll}
+use Rattle.mg_drive.proofs.TracesRan.{traced_told, traced_answered}
+use Rattle.mg_run.specs.Answer.{Answer, Job, refuse, show, run_plan, solve, generate, trace, job_of}
 use Rattle.mg_run.specs.Devices.{Device, device, Devices, devices, run_of, Untouched, Unrisen, NoneFailed, TookFront, TookText, Noted}
 use Rattle.mg_answer.specs.Wrote.{Meets}
 use Rattle.mg_run.specs.Call.{Written, WasShown, Did, IsJob, CallDid, Short, ShortRun, ShortGenerated, CallShort, Called, MetAnswer, IsAnswered}
@@ -51,6 +52,7 @@ short-none (run_plan report plan) store input output notes boxes =
     inr (if-any input.before.left _ (λ bytes streams solution. front-none output (output_of plan streams)))
 short-none (solve report plan) store input output notes boxes = inl refl
 short-none (generate report number plan) store input output notes boxes = inl refl
+short-none (trace report plan) store input output notes boxes = inl refl
 
 pub short-nothing : (task : Task) (store : Device StoreTold) (input : Device SourceTold) (output : SinkTold) (notes : Device SinkTold) (boxes : List CalculatorTold)
     → Noted notes memory_note → CallShort task (devices store input (device output output) notes (device boxes boxes))
@@ -97,12 +99,18 @@ not-generated : (report : Bool) (plan : Plan) (number : ℕ) (status : Status) (
 not-generated report plan number status all other ran =
     no-status status Ended (faults (answers.generated_job plan number) ran.is.streams) (stalled ran.is.streams) other (ran.met.told ∙ ap (λ (a : Answer). a.status) ran.is.is)
 
+not-traced : (report : Bool) (plan : Plan) (boxes : List CalculatorTold) (status : Status) (all : running_devices.RunDevices) → (status ≡ StoreFault) ⊎ (status ≡ Usage) → TracedAll report plan boxes status all → ⊥
+not-traced report plan boxes status all other ran =
+    let told = traced_told report plan boxes status all ran in
+    no-status status ran.read.end told.0 told.1 other told.2
+
 did-store : (job : Job) (all : Devices) → Did job StoreFault all → ⊥
 did-store (refuse note) all did = let e = did.ended in cc
 did-store (show text) all did = not-shown text StoreFault all (λ e. cc) (λ e. cc) did
 did-store (run_plan report plan) all did = not-ran report plan StoreFault (run_of all) (inl refl) did.ran
 did-store (solve report plan) all did = not-ran report plan StoreFault (run_of all) (inl refl) did.ran
 did-store (generate report number plan) all did = not-generated report plan number StoreFault (run_of all) (inl refl) did.ran
+did-store (trace report plan) all did = not-traced report plan all.boxes.before StoreFault (run_of all) (inl refl) did.ran
 
 did-usage : (job : Job) (all : Devices) → Did job Usage all → ⊥
 did-usage (refuse note) all did = let e = did.ended in cc
@@ -110,6 +118,7 @@ did-usage (show text) all did = not-shown text Usage all (λ e. cc) (λ e. cc) d
 did-usage (run_plan report plan) all did = not-ran report plan Usage (run_of all) (inr refl) did.ran
 did-usage (solve report plan) all did = not-ran report plan Usage (run_of all) (inr refl) did.ran
 did-usage (generate report number plan) all did = not-generated report plan number Usage (run_of all) (inr refl) did.ran
+did-usage (trace report plan) all did = not-traced report plan all.boxes.before Usage (run_of all) (inr refl) did.ran
 
 did-short : (job : Job) (all : Devices) → Did job OutOfMemory all → Short job all
 did-short (refuse note) all did = let e = did.ended in absurd (differ e)
@@ -120,6 +129,7 @@ did-short (show text) all did = absurd (not-shown text OutOfMemory all (λ e. cc
 did-short (run_plan report plan) all did = did.ran.0
 did-short (solve report plan) all did = did.ran.0
 did-short (generate report number plan) all did = inr did.ran.0
+did-short (trace report plan) all did = did.ran.0
 
 did-noted : (job : Job) (all : Devices) → Did job OutOfMemory all → Noted all.notes memory_note
 did-noted (refuse note) all did = let e = did.ended in absurd (differ e)
@@ -130,6 +140,7 @@ did-noted (show text) all did = absurd (not-shown text OutOfMemory all (λ e. cc
 did-noted (run_plan report plan) all did = did.ran.1
 did-noted (solve report plan) all did = did.ran.1
 did-noted (generate report number plan) all did = did.ran.1
+did-noted (trace report plan) all did = did.ran.1
 
 -- what is left of the calculators that are handed in
 short-boxes : (job : Job) (task : Task) (contents : List (List ℕ)) (all : Devices) → LoadedAll task.files contents all.store → IsJob task contents job → Did job OutOfMemory all
@@ -142,7 +153,15 @@ short-boxes (run_plan report plan) task contents all loaded due did = inr (inl (
   loaded = loaded;
   report = report;
   plan = plan;
-  due = due;
+  due = inl due;
+  left = did.left;
+}))
+short-boxes (trace report plan) task contents all loaded due did = inr (inl (record {
+  contents = contents;
+  loaded = loaded;
+  report = report;
+  plan = plan;
+  due = inr due;
   left = did.left;
 }))
 short-boxes (generate report number plan) task contents all loaded due did = inr (inr (record {
@@ -221,6 +240,8 @@ did-answer (solve report plan) status all did none some =
 did-answer (generate report number plan) status all did none some =
     if-any all.input.before.left (λ r. MetAnswer (generate report number plan) r status all)
     (λ r. generated-answered report plan number status (run_of all) did.ran none.output none.notes some)
+did-answer (trace report plan) status all did none some =
+    traced_answered report plan all.boxes.before status (run_of all) did.ran (none-run all none) some
 
 -- The answer of the job is that of the files' bytes and the input's.
 job-answered : (task : Task) (contents : List (List ℕ)) (status : Status) (job : Job) (input : Option (List ℕ)) (all : Devices) → IsJob task contents job

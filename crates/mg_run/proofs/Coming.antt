@@ -13,7 +13,7 @@ use Rattle.mg_calc.specs.declared.shape.OuterShape.{OuterShape}
 use Rattle.mg_calc.specs.Told.{CalculatorTold}
 use Rattle.mg_run.specs.Task.{Task, task}
 use Rattle.mg_run.specs.Files.{Files, graphs, no_graphs}
-use Rattle.mg_run.specs.Answer.{Job, refuse, show, run_plan, solve, generate, solve_job, check_job, verb_job, expanded_job, files_job, free_refusal, unless_refused}
+use Rattle.mg_run.specs.Answer.{Job, refuse, show, run_plan, solve, generate, trace, solve_job, check_job, verb_job, expanded_job, files_job, free_refusal, unless_refused}
 use Rattle.mg_run.specs.Words.{Asked, asks_usage, asks_text, asks_command, command_by}
 use Rattle.mg_run.specs.Devices.{Device, device, Devices, devices, Untouched, HasEnded, HasRisen, NoneFailed, Noted}
 use Rattle.mg_answer.specs.Notes.{memory_note}
@@ -23,7 +23,7 @@ use Rattle.mg_run.specs.Call.{Written, WasUsage, WasTold, Did, IsJob, CallDid, S
 use Rattle.mg_run.specs.Command.{Command, reads_input, calls_boxes}
 use Rattle.mg_run.specs.declared.words.Order.{Order}
 use Rattle.mg_run.specs.declared.words.Verb.{Verb}
-use Rattle.mg_run.specs.declared.words.Verb.TheVariants.{Run, Solve, Check, Expand, Generate}
+use Rattle.mg_run.specs.declared.words.Verb.TheVariants.{Run, Solve, Check, Expand, Generate, Trace}
 use Rattle.mg_answer.specs.declared.status.Status.{Status}
 use Rattle.mg_answer.specs.declared.status.Status.TheVariants.{Good, StoreFault, Usage, GraphRefused, LineRefused, NodeFault, Stalled, ReadFault, WriteFault, OutOfMemory}
 use Rattle.mg_feed.specs.Sent.{Sent}
@@ -178,6 +178,7 @@ did-boxes (show text) status all did = ap length did.uncalled
 did-boxes (run_plan report plan) status all did = did.left.count
 did-boxes (solve report plan) status all did = ap length did.uncalled
 did-boxes (generate report number plan) status all did = did.left.count
+did-boxes (trace report plan) status all did = did.left.count
 
 short-boxes : (task : Task) (all : Devices) → Untouched all.boxes ⊎ (ShortRun task all ⊎ ShortGenerated task all) → length all.boxes.now ≡ length all.boxes.before
 short-boxes task all (inl untouched) = ap length untouched
@@ -212,6 +213,7 @@ IsRun (show text) = ⊥
 IsRun (run_plan report plan) = Unit {0}
 IsRun (solve report plan) = ⊥
 IsRun (generate report number plan) = Unit {0}
+IsRun (trace report plan) = Unit {0}
 
 check-no-run : (checked : Result Plan CheckFault) → IsRun (check_job checked) → ⊥
 check-no-run (Ok plan) runs = runs
@@ -231,6 +233,7 @@ verb-no-run Solve order outers g is runs = solve-no-run order.report (check_of o
 verb-no-run Check order outers g is runs = check-no-run (check_of outers g) runs
 verb-no-run Expand order outers g is runs = runs
 verb-no-run Generate order outers g is runs = false≢true (sym is)
+verb-no-run Trace order outers g is runs = false≢true (sym is)
 
 expanded-no-run : (order : Order) (outers : List OuterShape) (expanded : Result GraphView ExpandFault) → calls_boxes order.verb ≡ false → IsRun (expanded_job order outers expanded) → ⊥
 expanded-no-run order outers (Ok g) is runs = verb-no-run order.verb order outers g is runs
@@ -250,13 +253,18 @@ did-uncalled (show text) status all none did = did.uncalled
 did-uncalled (run_plan report plan) status all none did = absurd (none tt)
 did-uncalled (solve report plan) status all none did = did.uncalled
 did-uncalled (generate report number plan) status all none did = absurd (none tt)
+did-uncalled (trace report plan) status all none did = absurd (none tt)
 
 call-uncalled : (status : Status) (task : Task) (all : Devices) → calls_boxes task.order.verb ≡ false → CallDid status task all → Untouched all.boxes
 call-uncalled status task all is called = did-uncalled called.job status all (due-no-run task called.contents called.job is called.due) called.did
 
+short-no-run : (task : Task) (contents : List (List ℕ)) (report : Bool) (plan : Plan) → calls_boxes task.order.verb ≡ false → IsJob task contents (run_plan report plan) ⊎ IsJob task contents (trace report plan) → ⊥
+short-no-run task contents report plan is (inl due) = due-no-run task contents (run_plan report plan) is due tt
+short-no-run task contents report plan is (inr due) = due-no-run task contents (trace report plan) is due tt
+
 short-uncalled : (task : Task) (all : Devices) → calls_boxes task.order.verb ≡ false → Untouched all.boxes ⊎ (ShortRun task all ⊎ ShortGenerated task all) → Untouched all.boxes
 short-uncalled task all is (inl untouched) = untouched
-short-uncalled task all is (inr (inl short)) = absurd (due-no-run task short.contents (run_plan short.report short.plan) is short.due tt)
+short-uncalled task all is (inr (inl short)) = absurd (short-no-run task short.contents short.report short.plan is short.due)
 short-uncalled task all is (inr (inr short)) = absurd (due-no-run task short.contents (generate short.report short.number short.plan) is short.due tt)
 
 called-uncalled : (status : Status) (task : Task) (all : Devices) → calls_boxes task.order.verb ≡ false → Called status task all → Untouched all.boxes

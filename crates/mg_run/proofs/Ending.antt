@@ -10,19 +10,19 @@ use Rattle.mg_check.specs.Check.{check_of}
 use Rattle.mg_check.specs.declared.fault.CheckFault.{CheckFault}
 use Rattle.mg_subgraph.specs.Expansion.{expansion_of}
 use Rattle.mg_subgraph.specs.declared.fault.ExpandFault.{ExpandFault}
-use Rattle.mg_answer.specs.Ran as running
 use Rattle.mg_answer.proofs.Answering.{ran-ended}
 use Rattle.mg_answer.proofs.RunningOn.{on-ended}
+use Rattle.mg_drive.proofs.TracesRan.{traced_ended}
 use Rattle.mg_run.specs.Command.{reads_input}
 use Rattle.mg_run.specs.Task.{Task}
 use Rattle.mg_run.specs.Files.{Files, graphs, no_graphs}
-use Rattle.mg_run.specs.Answer.{Job, refuse, show, run_plan, solve, generate, run_job, solve_job, check_job, generate_job, verb_job, expanded_job, files_job, free_refusal, unless_refused, with_limit}
+use Rattle.mg_run.specs.Answer.{Job, refuse, show, run_plan, solve, generate, trace, run_job, solve_job, check_job, generate_job, trace_job, verb_job, expanded_job, files_job, free_refusal, unless_refused, with_limit}
 use Rattle.mg_run.specs.Devices.{Device, Devices, run_of, Untouched, HasEnded}
 use Rattle.mg_run.specs.Call.{Did, IsJob, CallDid, Called, IsOneOf}
 use Rattle.mg_run.specs.Code.Job.{MayRead}
 use Rattle.mg_run.specs.declared.words.Order.{Order}
 use Rattle.mg_run.specs.declared.words.Verb.{Verb}
-use Rattle.mg_run.specs.declared.words.Verb.TheVariants.{Run, Solve, Check, Expand, Generate}
+use Rattle.mg_run.specs.declared.words.Verb.TheVariants.{Run, Solve, Check, Expand, Generate, Trace}
 use Rattle.mg_answer.specs.declared.status.Status.{Status}
 use Rattle.mg_answer.specs.declared.status.Status.TheVariants.{Good, StoreFault, Usage, GraphRefused, LineRefused, NodeFault, Stalled, ReadFault, WriteFault, OutOfMemory}
 
@@ -45,6 +45,7 @@ graph-unread Solve order outers g is may = false≢true (sym is)
 graph-unread Check order outers g is may = check-unread (check_of outers g) may
 graph-unread Expand order outers g is may = may
 graph-unread Generate order outers g is may = generate-unread order (check_of outers g) may
+graph-unread Trace order outers g is may = false≢true (sym is)
 
 expanded-unread : (order : Order) (outers : List OuterShape) (expanded : Result GraphView ExpandFault) → reads_input order.verb ≡ false → MayRead (expanded_job order outers expanded) → ⊥
 expanded-unread order outers (Ok g) is may = graph-unread order.verb order outers g is may
@@ -67,6 +68,7 @@ NeedsNone (show text) = Unit {0}
 NeedsNone (run_plan report plan) = ⊥
 NeedsNone (solve report plan) = ⊥
 NeedsNone (generate report number plan) = Unit {0}
+NeedsNone (trace report plan) = ⊥
 
 run-reads : (order : Order) (checked : Result Plan CheckFault) → NeedsNone (run_job order checked) → ⊥
 run-reads order (Ok plan) none = by (free_refusal (codes "run") plan) none
@@ -75,6 +77,14 @@ run-reads order (Ok plan) none = by (free_refusal (codes "run") plan) none
     by None none = none
     by (Some note) none = none
 run-reads order (Err fault) none = none
+
+trace-reads : (order : Order) (checked : Result Plan CheckFault) → NeedsNone (trace_job order checked) → ⊥
+trace-reads order (Ok plan) none = by (free_refusal (codes "trace") plan) none
+  where
+    by : (note : Option (List ℕ)) → NeedsNone (unless_refused note (trace order.report (with_limit order.limit plan))) → ⊥
+    by None none = none
+    by (Some note) none = none
+trace-reads order (Err fault) none = none
 
 solve-reads : (report : Bool) (checked : Result Plan CheckFault) → NeedsNone (solve_job report checked) → ⊥
 solve-reads report (Ok plan) none = by (free_refusal (codes "solve") plan) none
@@ -90,6 +100,7 @@ graph-reads Solve order outers g is none = solve-reads order.report (check_of ou
 graph-reads Check order outers g is none = false≢true is
 graph-reads Expand order outers g is none = false≢true is
 graph-reads Generate order outers g is none = false≢true is
+graph-reads Trace order outers g is none = trace-reads order (check_of outers g) none
 
 expanded-reads : (order : Order) (outers : List OuterShape) (expanded : Result GraphView ExpandFault) → reads_input order.verb ≡ true → NeedsNone (expanded_job order outers expanded) → ⊥
 expanded-reads order outers (Ok g) is none = graph-reads order.verb order outers g is none
@@ -132,6 +143,8 @@ did-ended task contents (run_plan report plan) status all due did reads one =
 did-ended task contents (solve report plan) status all due did reads one =
     end-came all.input (ran-ended report plan status (run_of all) did.ran one)
 did-ended task contents (generate report number plan) status all due did reads one = absurd (due-reads task contents (generate report number plan) due reads tt)
+did-ended task contents (trace report plan) status all due did reads one =
+    end-came all.input (traced_ended report plan all.boxes.before status (run_of all) did.ran one)
 
 call-ended : (status : Status) (task : Task) (all : Devices) → CallDid status task all → reads_input task.order.verb ≡ true → IsOneOf status ended_statuses → HasEnded all.input
 call-ended status task all called reads one = did-ended task called.contents called.job status all called.due called.did reads one

@@ -1,11 +1,13 @@
--- There is one answer.
+-- There is one answer, and of a recorded run one end.
 use Rattle.std.proofs.Common.{◌≡◌, ℕ, Bool, List, sym, ap, ◌∙◌}
 use Rattle.mg_calc.specs.declared.plan.Plan.{Plan}
+use Rattle.mg_calc.specs.Told.{CalculatorTold}
 use Rattle.mg_feed.specs.Graph.{inputs_of}
 use Rattle.mg_feed.specs.declared.feed_end.FeedEnd.TheVariants.{Ended}
 use Rattle.mg_answer.specs.Answer.{ended_input, by_summary, generated_job, AnswersEnded, AnswersGenerated}
 use Rattle.mg_answer.proofs.OneAnswer.{one-answer, one-of}
-use Rattle.mg_run.specs.Answer.{Answer, Job, refuse, show, run_plan, solve, generate, IsAnswerOf}
+use Rattle.mg_drive.specs.Traced.{TracesEnded}
+use Rattle.mg_run.specs.Answer.{Answer, Job, refuse, show, run_plan, solve, generate, trace, IsAnswerOf, Records}
 
 one-of-run : (report : Bool) (plan : Plan) (input : List ℕ) (a b : Answer) → AnswersEnded report plan input a → AnswersEnded report plan input b → a ≡ b
 one-of-run report plan input a b one two = one-answer report plan (ended_input (inputs_of plan) input) a b one two
@@ -13,9 +15,35 @@ one-of-run report plan input a b one two = one-answer report plan (ended_input (
 one-of-made : (report : Bool) (plan : Plan) (number : ℕ) (a b : Answer) → AnswersGenerated report plan number a → AnswersGenerated report plan number b → a ≡ b
 one-of-made report plan number a b one two = one-of (by_summary report) (generated_job plan number) Ended a b one two
 
-pub one-of-job : (job : Job) (input : List ℕ) (a b : Answer) → IsAnswerOf job input a → IsAnswerOf job input b → a ≡ b
-one-of-job (refuse note) input a b one two = one ∙ sym two
-one-of-job (show text) input a b one two = one ∙ sym two
-one-of-job (run_plan report plan) input a b one two = one-of-run report plan input a b one two
-one-of-job (solve report plan) input a b one two = one-of-run report plan input a b one two
-one-of-job (generate report number plan) input a b one two = one-of-made report plan number a b one two
+pub one-of-job : (job : Job) (boxes : List CalculatorTold) (input : List ℕ) (a b : Answer) → ¬ Records job → IsAnswerOf job boxes input a → IsAnswerOf job boxes input b → a ≡ b
+one-of-job (refuse note) boxes input a b other one two = one ∙ sym two
+one-of-job (show text) boxes input a b other one two = one ∙ sym two
+one-of-job (run_plan report plan) boxes input a b other one two = one-of-run report plan input a b one two
+one-of-job (solve report plan) boxes input a b other one two = one-of-run report plan input a b one two
+one-of-job (generate report number plan) boxes input a b other one two = one-of-made report plan number a b one two
+one-of-job (trace report plan) boxes input a b other one two = absurd (other tt)
+
+-- what two answers end with is the same
+abbrev pub EndAlike : Answer → Answer → Type 0
+EndAlike a b = (a.notes ≡ b.notes) × (a.status ≡ b.status)
+
+alike : (a b : Answer) → a ≡ b → EndAlike a b
+alike a b same = (ap (λ (x : Answer). x.notes) same, ap (λ (x : Answer). x.status) same)
+
+pub ends-as-run : (report : Bool) (plan : Plan) (boxes : List CalculatorTold) (input : List ℕ) (a b : Answer) → TracesEnded report plan boxes input a → AnswersEnded report plan input b → EndAlike a b
+ends-as-run report plan boxes input a b one two =
+    let same = one-of-run report plan input one.of_run b one.is_answer two in
+    (ap (λ (x : Answer). x.notes) one.is ∙ ap (λ (x : Answer). x.notes) same, ap (λ (x : Answer). x.status) one.is ∙ ap (λ (x : Answer). x.status) same)
+
+two-traces : (report : Bool) (plan : Plan) (boxes : List CalculatorTold) (input : List ℕ) (a b : Answer) → TracesEnded report plan boxes input a → TracesEnded report plan boxes input b → EndAlike a b
+two-traces report plan boxes input a b one two =
+    let first = ends-as-run report plan boxes input a two.of_run one two.is_answer in
+    (first.0 ∙ sym (ap (λ (x : Answer). x.notes) two.is), first.1 ∙ sym (ap (λ (x : Answer). x.status) two.is))
+
+pub one-end : (job : Job) (boxes : List CalculatorTold) (input : List ℕ) (a b : Answer) → IsAnswerOf job boxes input a → IsAnswerOf job boxes input b → EndAlike a b
+one-end (refuse note) boxes input a b one two = alike a b (one ∙ sym two)
+one-end (show text) boxes input a b one two = alike a b (one ∙ sym two)
+one-end (run_plan report plan) boxes input a b one two = alike a b (one-of-run report plan input a b one two)
+one-end (solve report plan) boxes input a b one two = alike a b (one-of-run report plan input a b one two)
+one-end (generate report number plan) boxes input a b one two = alike a b (one-of-made report plan number a b one two)
+one-end (trace report plan) boxes input a b one two = two-traces report plan boxes input a b one two

@@ -1,12 +1,12 @@
 -- Which statuses a call may have whose devices failed.
-use Rattle.std.proofs.Common.{◌≡◌, ℕ, List, [], ◌∷◌, ◌⊎◌, inl, inr, refl, ap, ◌∙◌, arith}
+use Rattle.std.proofs.Common.{◌≡◌, ℕ, List, [], ◌∷◌, ◌⊎◌, inl, inr, refl, ap, arith}
 use Rattle.mg_edge.specs.Edge.{SourceTold, SinkTold}
 use Rattle.mg_run.specs.Task.{Task}
-use Rattle.mg_answer.specs.Ran as running
 use Rattle.mg_answer.proofs.Answering.{read-risen as run-read-risen, write-risen as run-write-risen}
 use Rattle.mg_answer.proofs.RunningOn.{on-read-risen as run-on-read, on-write-risen as run-on-write}
 use Rattle.mg_answer.proofs.Generating.{generated-risen}
-use Rattle.mg_run.specs.Answer.{Job, refuse, show, run_plan, solve, generate}
+use Rattle.mg_drive.proofs.TracesRan.{traced_read_risen, traced_write_risen}
+use Rattle.mg_run.specs.Answer.{Job, refuse, show, run_plan, solve, generate, trace}
 use Rattle.mg_run.specs.Devices.{Device, Devices, run_of, Untouched, HasRisen}
 use Rattle.mg_run.specs.Call.{Written, WasShown, Did, Called, IsOneOf}
 use Rattle.mg_answer.specs.declared.status.Status.{Status}
@@ -44,6 +44,7 @@ read-did (show text) status all did risen = absurd (risen-unread all.input risen
 read-did (run_plan report plan) status all did risen = run-on-read report plan status (run_of all) did.ran risen
 read-did (solve report plan) status all did risen = run-read-risen report plan status (run_of all) did.ran risen
 read-did (generate report number plan) status all did risen = absurd (risen-unread all.input risen did.unread)
+read-did (trace report plan) status all did risen = traced_read_risen report plan all.boxes.before status (run_of all) did.ran risen
 
 pub read-risen : (status : Status) (task : Task) (all : Devices) → Called status task all → HasRisen all.input.before.faults all.input.now.faults → IsOneOf status read_statuses
 read-risen Good task all called risen = read-did called.job Good all called.did risen
@@ -86,6 +87,7 @@ write-did (run_plan report plan) status all did risen = write-status status (run
 write-did (solve report plan) status all did risen = write-status status (run-write-risen report plan status (run_of all) did.ran risen)
 write-did (generate report number plan) status all did risen =
     write-status status (generated-risen report plan number status (run_of all) did.ran risen)
+write-did (trace report plan) status all did risen = write-status status (traced_write_risen report plan all.boxes.before status (run_of all) did.ran risen)
 
 pub write-risen : (status : Status) (task : Task) (all : Devices) → Called status task all → EitherRisen all → IsOneOf status write_statuses
 write-risen Good task all called risen = write-did called.job Good all called.did risen

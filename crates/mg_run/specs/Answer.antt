@@ -6,6 +6,7 @@ use Rattle.mg_config.specs.Config.{GraphView}
 use Rattle.mg_config.specs.Written.{tree_of}
 use Rattle.mg_calc.specs.declared.plan.Plan.{Plan}
 use Rattle.mg_calc.specs.declared.shape.OuterShape.{OuterShape}
+use Rattle.mg_calc.specs.Told.{CalculatorTold}
 use Rattle.mg_check.specs.Check.{check_of}
 use Rattle.mg_check.specs.declared.fault.CheckFault.{CheckFault}
 use Rattle.mg_run.specs.Task.{Task}
@@ -15,11 +16,12 @@ use Rattle.mg_run.specs.Files.{Files, graphs, no_graphs}
 use Rattle.mg_run.specs.CheckNotes.{check_note, check_text}
 use Rattle.mg_answer.specs.Answer.{AnswersEnded, AnswersGenerated}
 pub use Rattle.mg_answer.specs.Answer.{Answer}
+use Rattle.mg_drive.specs.Traced.{TracesEnded}
 use Rattle.mg_free.specs.Core.{first_free}
 use Rattle.mg_run.specs.Notes.{expand_note, free_note}
 use Rattle.mg_run.specs.declared.words.Order.{Order}
 use Rattle.mg_run.specs.declared.words.Verb.{Verb}
-use Rattle.mg_run.specs.declared.words.Verb.TheVariants.{Run, Solve, Check, Expand, Generate}
+use Rattle.mg_run.specs.declared.words.Verb.TheVariants.{Run, Solve, Check, Expand, Generate, Trace}
 use Rattle.mg_answer.specs.declared.status.Status.TheVariants.{Good, GraphRefused}
 
 -- The graphs --
@@ -31,13 +33,15 @@ graph_text g = canonical (tree_of g)
 -- What is to be done --
 
 -- A file, the expansion or the graph is refused, with a note; or a text is the output; or the graph of this plan is run; or it is
--- solved; or it is run over so many packets that are made. The notes of the last three end with a report or not.
+-- solved; or it is run over so many packets that are made; or it is run, and the run is recorded. The notes of the last four end with a
+-- report or not.
 pub data Job : Type 0 where
   refuse : List ℕ → Job
   show : List ℕ → Job
   run_plan : Bool → Plan → Job
   solve : Bool → Plan → Job
   generate : Bool → ℕ → Plan → Job
+  trace : Bool → Plan → Job
 
 -- A graph that is checked has a text that is written, or it is refused; one that is run or solved is checked before,
 -- and has no free nodes.
@@ -75,12 +79,17 @@ abbrev pub generate_job : Order → Result Plan CheckFault → Job
 generate_job order (Ok plan) = unless_refused (free_refusal (codes "generate") plan) (generate order.report order.number (with_limit order.limit plan))
 generate_job order (Err fault) = refuse (check_note fault)
 
+abbrev pub trace_job : Order → Result Plan CheckFault → Job
+trace_job order (Ok plan) = unless_refused (free_refusal (codes "trace") plan) (trace order.report (with_limit order.limit plan))
+trace_job order (Err fault) = refuse (check_note fault)
+
 abbrev pub verb_job : Verb → Order → List OuterShape → GraphView → Job
 verb_job Run order outers g = run_job order (check_of outers g)
 verb_job Solve order outers g = solve_job order.report (check_of outers g)
 verb_job Check order outers g = check_job (check_of outers g)
 verb_job Expand order outers g = show (graph_text g)
 verb_job Generate order outers g = generate_job order (check_of outers g)
+verb_job Trace order outers g = trace_job order (check_of outers g)
 
 abbrev pub graph_job : Order → List OuterShape → GraphView → Job
 graph_job order outers g = verb_job order.verb order outers g
@@ -103,11 +112,22 @@ job_of task files = files_job task.order task.outers files
 
 -- The answers --
 
--- An answer is that of a job where an input of these bytes ends well. To run a graph and to solve it is to answer the same. Where packets
+-- An answer is that of a job where an input of these bytes ends well, and these calculators are handed in. To run a graph and to solve it
+-- is to answer the same, and to record a run is to answer the same but for the output, which is a trace of any run of the job. Where packets
 -- are made no input matters.
-abbrev pub IsAnswerOf : Job → List ℕ → Answer → Type 0
-IsAnswerOf (refuse note) input given = given ≡ record { output = []; notes = note; status = GraphRefused }
-IsAnswerOf (show text) input given = given ≡ record { output = text; notes = []; status = Good }
-IsAnswerOf (run_plan report plan) input given = AnswersEnded report plan input given
-IsAnswerOf (solve report plan) input given = AnswersEnded report plan input given
-IsAnswerOf (generate report number plan) input given = AnswersGenerated report plan number given
+abbrev pub IsAnswerOf : Job → List CalculatorTold → List ℕ → Answer → Type 0
+IsAnswerOf (refuse note) boxes input given = given ≡ record { output = []; notes = note; status = GraphRefused }
+IsAnswerOf (show text) boxes input given = given ≡ record { output = text; notes = []; status = Good }
+IsAnswerOf (run_plan report plan) boxes input given = AnswersEnded report plan input given
+IsAnswerOf (solve report plan) boxes input given = AnswersEnded report plan input given
+IsAnswerOf (generate report number plan) boxes input given = AnswersGenerated report plan number given
+IsAnswerOf (trace report plan) boxes input given = TracesEnded report plan boxes input given
+
+-- a job's answer is a recorded run, of which there may be many
+abbrev pub Records : Job → Type 0
+Records (refuse note) = ⊥
+Records (show text) = ⊥
+Records (run_plan report plan) = ⊥
+Records (solve report plan) = ⊥
+Records (generate report number plan) = ⊥
+Records (trace report plan) = Unit {0}

@@ -1,5 +1,5 @@
 -- The calculators that are handed in. What a run leaves of them is said in mg_drive.
-use Rattle.std.specs.Prelude.{◌≡◌, List, map, Bool, [], None, Some, codes, pos, false, if◌then◌else◌}
+use Rattle.std.specs.Prelude.{List, map, Bool, [], None, Some, codes, pos, false, if◌then◌else◌}
 use Rattle.mg_value.specs.declared.kind.Kind.TheVariants.{Any, Int}
 use Rattle.mg_calc.specs.declared.law.Law.TheVariants.{Tally}
 use Rattle.mg_calc.specs.declared.shape.Shape.{Shape}

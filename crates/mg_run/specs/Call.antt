@@ -10,8 +10,9 @@ use Rattle.mg_run.specs.Notes.{usage_note, store_note}
 use Rattle.mg_answer.specs.Notes.{write_note, memory_note}
 use Rattle.mg_answer.specs.Ran as runs
 use Rattle.mg_answer.specs.Wrote.{Meets}
+use Rattle.mg_drive.specs.Traced.{Traced, TracedOut}
 use Rattle.mg_run.specs.Boxes.{RunLeaves, GeneratedLeaves}
-use Rattle.mg_run.specs.Answer.{Answer, Job, refuse, show, run_plan, solve, generate, job_of, IsAnswerOf}
+use Rattle.mg_run.specs.Answer.{Answer, Job, refuse, show, run_plan, solve, generate, trace, job_of, IsAnswerOf}
 use Rattle.mg_run.specs.Devices.{Devices, run_of, Untouched, TookFront, TookText, TookPart, Noted}
 pub use Rattle.mg_answer.specs.Status.{IsOneOf}
 use Rattle.mg_answer.specs.declared.status.Status.{Status}
@@ -83,6 +84,11 @@ pub record GeneratedGraph (report : Bool) (number : ℕ) (plan : Plan) (status :
   pub left : GeneratedLeaves plan number status devices.boxes
   pub unread : Untouched devices.input
 
+-- The graph of this plan was run over the input, and a trace of the run was written.
+pub record TracedGraph (report : Bool) (plan : Plan) (status : Status) (devices : Devices) : Type 0 where
+  pub ran : Traced report plan devices.boxes.before status (run_of devices)
+  pub left : RunLeaves plan status devices.input devices.boxes
+
 -- A call --
 
 abbrev pub Did : Job → Status → Devices → Type 0
@@ -91,6 +97,7 @@ Did (show text) status devices = WasShown text status devices
 Did (run_plan report plan) status devices = RanGraph report plan status devices
 Did (solve report plan) status devices = SolvedGraph report plan status devices
 Did (generate report number plan) status devices = GeneratedGraph report number plan status devices
+Did (trace report plan) status devices = TracedGraph report plan status devices
 
 -- what a command has to do with the contents of its files
 abbrev pub IsJob : Task → List (List ℕ) → Job → Type 0
@@ -111,14 +118,15 @@ Short (show text) devices = TookFront devices.output text
 Short (run_plan report plan) devices = runs.RanShortOf plan (run_of devices)
 Short (solve report plan) devices = runs.RanOut plan (run_of devices)
 Short (generate report number plan) devices = Untouched devices.output ⊎ runs.GeneratedSome plan number devices.output
+Short (trace report plan) devices = TracedOut plan devices.boxes.before (run_of devices)
 
--- Memory ran out in the run of a graph. What is left of the calculators that are handed in is what a run leaves.
+-- Memory ran out in the run of a graph, recorded or not. What is left of the calculators that are handed in is what a run leaves.
 pub record ShortRun (task : Task) (devices : Devices) : Type 0 where
   pub contents : List (List ℕ)
   pub loaded : LoadedAll task.files contents devices.store
   pub report : Bool
   pub plan : Plan
-  pub due : IsJob task contents (run_plan report plan)
+  pub due : IsJob task contents (run_plan report plan) ⊎ IsJob task contents (trace report plan)
   pub left : RunLeaves plan OutOfMemory devices.input devices.boxes
 
 -- So it is where the graph was run over packets that are made.
@@ -154,7 +162,7 @@ Came outers (asks_command command) status devices = Called status (task command 
 
 -- The call met the answer of a job over an input that ends after these bytes.
 abbrev pub MetAnswer : Job → List ℕ → Status → Devices → Type 0
-MetAnswer job read status devices = (given : Answer) × IsAnswerOf job read given × Meets given status devices.output devices.notes
+MetAnswer job read status devices = (given : Answer) × IsAnswerOf job devices.boxes.before read given × Meets given status devices.output devices.notes
 
 -- Where the devices tell the files' bytes and the input's, the call met the answer to them.
 abbrev pub IsAnswered : Status → Task → Devices → Type 0

@@ -4,7 +4,7 @@ use Rattle.std.specs.Str.{bytes_eq}
 use Rattle.mg_run.specs.declared.limits.TheConstants.{MOST_FILES}
 use Rattle.mg_run.specs.declared.words.Order.{Order}
 use Rattle.mg_run.specs.declared.words.Verb.{Verb}
-use Rattle.mg_run.specs.declared.words.Verb.TheVariants.{Run, Solve, Check, Expand, Generate}
+use Rattle.mg_run.specs.declared.words.Verb.TheVariants.{Run, Solve, Check, Expand, Generate, Trace}
 
 -- what is done, and the names of the files: that of the main graph, and then those of its library
 pub record Command : Type 0 where
@@ -21,7 +21,8 @@ verb_of word =
     else (if bytes_eq word (codes "solve") then Some Solve
     else (if bytes_eq word (codes "check") then Some Check
     else (if bytes_eq word (codes "expand") then Some Expand
-    else (if bytes_eq word (codes "generate") then Some Generate else None))))
+    else (if bytes_eq word (codes "generate") then Some Generate
+    else (if bytes_eq word (codes "trace") then Some Trace else None)))))
 
 -- whether the input is read, where no file is refused
 abbrev pub reads_input : Verb → Bool
@@ -30,6 +31,7 @@ reads_input Solve = true
 reads_input Check = false
 reads_input Expand = false
 reads_input Generate = false
+reads_input Trace = true
 
 -- whether calculators that are handed in are called, where no file is refused
 abbrev pub calls_boxes : Verb → Bool
@@ -38,6 +40,7 @@ calls_boxes Solve = false
 calls_boxes Check = false
 calls_boxes Expand = false
 calls_boxes Generate = true
+calls_boxes Trace = true
 
 -- the most files: the main graph, and 64 further ones
 abbrev pub most_files : ℕ

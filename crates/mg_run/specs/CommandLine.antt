@@ -22,7 +22,7 @@ flag name = record (new_rule name) { long = Some name; action = Some SetTrue }
 
 -- the words that COMMAND may be
 abbrev pub verbs : List Text
-verbs = codes "run" ∷ codes "solve" ∷ codes "check" ∷ codes "expand" ∷ codes "generate" ∷ []
+verbs = codes "run" ∷ codes "solve" ∷ codes "check" ∷ codes "expand" ∷ codes "generate" ∷ codes "trace" ∷ []
 
 abbrev pub verb_word : Bor (List (Bor Text)) → Rule
 verb_word names = record (required_word (codes "COMMAND")) { parser = Some (Names names) }

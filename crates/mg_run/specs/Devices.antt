@@ -1,6 +1,6 @@
 -- The devices of a call, with the calculators that are handed in, and what the call did to each: what each told of itself before the
 -- call, and tells now. What holds of the devices of a run too is said in mg_answer.
-use Rattle.std.specs.Prelude.{◌≡◌, ℕ, ◌⊎◌, List, [], map, Some, IfSome}
+use Rattle.std.specs.Prelude.{◌≡◌, List, [], map, Some, IfSome}
 use Rattle.std.specs.Global.{Vec}
 use Rattle.mg_calc.specs.Told.{CalculatorTold}
 use Rattle.mg_edge.specs.Edge.{SourceTold, SinkTold, StoreTold, Rose}

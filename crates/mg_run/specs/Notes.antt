@@ -15,7 +15,7 @@ use Rattle.mg_answer.specs.Shown.{shown}
 -- The words or a file --
 
 abbrev pub usage_note : List ℕ
-usage_note = codes "usage: mg run|solve|check|expand|generate [--workers N] [--max-queue-size N] [--no-queue-limit] [--number N] [--report] GRAPH [SUBGRAPH...]\n"
+usage_note = codes "usage: mg run|solve|check|expand|generate|trace [--workers N] [--max-queue-size N] [--no-queue-limit] [--number N] [--report] GRAPH [SUBGRAPH...]\n"
 
 abbrev pub store_note : List ℕ → List ℕ
 store_note file = codes "store: " ++ shown file ++ codes "\n"

@@ -19,7 +19,7 @@ use crate::outers::outers_of;
 use crate::words::{Asked, Order, USAGE, asked_of};
 use mg_answer::{Devices, Run, Status, note_out_of_memory, note_write_fault, solve_input};
 use mg_calc::{Calculator, OuterShape};
-use mg_drive::{run_lines, run_made};
+use mg_drive::{run_lines, run_made, trace_lines};
 use mg_edge::{Gate, Sink, Source, Store};
 use mg_feed::put_all;
 use mg_value::MgText;
@@ -282,6 +282,16 @@ fn do_job<G: Gate, C: Calculator, S: Source, K: Sink, E: Sink>(
                 report,
             },
             number,
+            gate,
+            boxes,
+            devices,
+        ),
+        Job::Trace(report, plan) => trace_lines(
+            &Run {
+                alloc,
+                plan: &plan,
+                report,
+            },
             gate,
             boxes,
             devices,

@@ -9,7 +9,7 @@ use clap::{Arg, ArgAction, Command};
 use std::alloc::{AllocError, Global};
 
 /// The words that COMMAND may be.
-static VERBS: [&str; 5] = ["run", "solve", "check", "expand", "generate"];
+static VERBS: [&str; 6] = ["run", "solve", "check", "expand", "generate", "trace"];
 
 /// COMMAND GRAPH SUBGRAPH..., with options and flags anywhere between them.
 pub fn command<'a>(alloc: Global) -> Result<Command<'a>, AllocError>

@@ -34,6 +34,7 @@ commands:\n\
 \x20 check      tell whether the graph is valid, and what it counts\n\
 \x20 expand     write the graph with its subgraphs put in\n\
 \x20 generate   run the graph on packets that are made up, write a summary\n\
+\x20 trace      read all packet lines, run the graph, write what happened in it\n\
 \n\
 options:\n\
 \x20 --workers N          threads, 0 to 64; without it num_threads of the graph\n\

@@ -40,6 +40,8 @@ pub enum Job {
     Solve(bool, Plan),
     /// The graph of this plan is run over so many packets that are made, with a report or without.
     Generate(bool, u32, Plan),
+    /// The graph of this plan is run, and the run is recorded, with a report or without.
+    Trace(bool, Plan),
 }
 
 /// Reads the contents of the files of these names, and finds what the verb has to do with them, where these calculators
@@ -135,6 +137,7 @@ fn graph_job(
         Verb::Check => check_job(alloc, outers, &graph),
         Verb::Expand => Ok(Job::Show(graph_text(alloc, graph)?)),
         Verb::Generate => generate_job(alloc, order, outers, &graph),
+        Verb::Trace => trace_job(alloc, order, outers, &graph),
     }
 }
 
@@ -212,6 +215,27 @@ fn generate_job(
                 let plan = limited(order.limit, plan);
                 Ok(Job::Generate(order.report, order.number, plan))
             }
+        },
+        Err(fault) => Ok(Job::Refuse(check_note(alloc, &fault)?)),
+    }
+}
+
+// The same with a recorded run.
+fn trace_job(
+    alloc: Global,
+    order: Order,
+    outers: &[OuterShape],
+    graph: &GraphConfig,
+) -> Result<Job, AllocError>
+    requires few { length graph.now.nodes ≤ 4096 }
+    requires outers { All IsOuterShape outers.now }
+    ensures due { IfOk result (λ job. job_view job ≡ answers.trace_job order (check_of outers.now (graph_view graph.now))) }
+    ensures valid { IfOk result (λ job. CanBeDone outers.now (job_view job)) }
+{
+    match check(alloc, graph, outers) {
+        Ok(plan) => match free_note(alloc, b"trace", &plan)? {
+            Some(note) => Ok(Job::Refuse(note)),
+            None => Ok(Job::Trace(order.report, limited(order.limit, plan))),
         },
         Err(fault) => Ok(Job::Refuse(check_note(alloc, &fault)?)),
     }

@@ -1,11 +1,13 @@
 //! Laws of the definitions: each function does nothing, and its contract is the law.
-ghost use Rattle.std.specs.Prelude.{◌≡◌, ◌≤◌, ℕ, List, ◌∷◌, Ok, length};
+ghost use Rattle.std.specs.Prelude.{◌≡◌, ◌≤◌, ℕ, Bool, List, ◌∷◌, Ok, length};
+ghost use Rattle.mg_calc.specs.declared.plan.Plan.{Plan};
+ghost use Rattle.mg_calc.specs.Told.{CalculatorTold};
 ghost use Rattle.mg_text.specs.Answer.{max_len};
 ghost use Rattle.mg_config.specs.Config.{GraphView};
 ghost use Rattle.mg_subgraph.specs.Expansion.{expansion_of};
 ghost use Rattle.mg_run.specs.File.{File, graph, IsFile};
 ghost use Rattle.mg_run.specs.Files.{Files, AreGraphs, AreFiles};
-ghost use Rattle.mg_run.specs.Answer.{Answer, Job, IsAnswerOf, graph_text};
+ghost use Rattle.mg_run.specs.Answer.{Answer, Job, run_plan, trace, IsAnswerOf, Records, graph_text};
 
 /// A content is one file at most: so what the program answers to it is one answer.
 pub fn one_file()
@@ -18,9 +20,13 @@ pub fn one_reading()
     ensures { (names contents : List (List ℕ)) (a b : Files) → AreFiles names contents a → AreFiles names contents b → a ≡ b }
 {}
 
-/// To the bytes of an input the program has one answer at most.
+/// To the bytes of an input the program has one answer at most, but for the events of a run that it records, which are those of any run
+/// of the job. Of a recorded run too there are one status and one text of notes, and they are those of the run.
 pub fn one_answer()
-    ensures { (job : Job) (input : List ℕ) (a b : Answer) → IsAnswerOf job input a → IsAnswerOf job input b → a ≡ b }
+    ensures one { (job : Job) (boxes : List CalculatorTold) (input : List ℕ) (a b : Answer) → ¬ Records job → IsAnswerOf job boxes input a → IsAnswerOf job boxes input b → a ≡ b }
+    ensures ends { (job : Job) (boxes : List CalculatorTold) (input : List ℕ) (a b : Answer) → IsAnswerOf job boxes input a → IsAnswerOf job boxes input b → (a.notes ≡ b.notes) × (a.status ≡ b.status) }
+    ensures as_run { (report : Bool) (plan : Plan) (boxes : List CalculatorTold) (input : List ℕ) (a b : Answer) → IsAnswerOf (trace report plan) boxes input a → IsAnswerOf (run_plan report plan) boxes input b
+        → (a.notes ≡ b.notes) × (a.status ≡ b.status) }
 {}
 
 /// The text of a graph says the same graph again, where it isn't too long for a file.

@@ -15,7 +15,7 @@ use std::alloc::{AllocError, Global};
 
 /// The note for words that are no command.
 pub const USAGE: &[u8] =
-    b"usage: mg run|solve|check|expand|generate [--workers N] [--max-queue-size N] [--no-queue-limit] [--number N] [--report] GRAPH [SUBGRAPH...]\n";
+    b"usage: mg run|solve|check|expand|generate|trace [--workers N] [--max-queue-size N] [--no-queue-limit] [--number N] [--report] GRAPH [SUBGRAPH...]\n";
 
 /// What is done with a graph.
 #[derive(Clone, Copy, Debug, PartialEq, Eq)]
@@ -30,6 +30,8 @@ pub enum Verb {
     Expand,
     /// It is run over packets that are made, and a summary of its outputs is written.
     Generate,
+    /// It is run over the input, and the events of the run are written.
+    Trace,
 }
 
 /// What is done with a graph, and how.
@@ -151,6 +153,7 @@ fn verb_of(word: &str) -> Option<Verb>
         "check" => Some(Verb::Check),
         "expand" => Some(Verb::Expand),
         "generate" => Some(Verb::Generate),
+        "trace" => Some(Verb::Trace),
         _ => None,
     }
 }

@@ -94,6 +94,34 @@ fn boxes_have_their_calls_of_packets_that_are_made(rt: HostRuntime) -> Result<()
     assert_text(told.as_str(), told_by_generating())
 }
 
+// The same where the run is recorded.
+fn told_by_tracing() -> &'static str {
+    r#"0
+{"stream":"in","ts":1,"value":"a"}
+{"stream":"in","ts":4,"value":"b"}
+ended
+deliver 0
+claim 0
+perform 0 0
+commit 0 0
+claim 0
+perform 0 1
+commit 0 1
+claim 0
+perform 0 2
+commit 0 2
+deliver 1
+end
+ begun 1 4 finished;;;; 3@9
+"#
+}
+
+#[test]
+fn boxes_have_their_calls_of_a_recorded_run(rt: HostRuntime) -> Result<(), Fail> {
+    let told = told_of(rt.alloc(), "trace", 1)?;
+    assert_text(told.as_str(), told_by_tracing())
+}
+
 // None has a call, and the first counts from 1 on.
 fn told_by_solve() -> &'static str {
     r#"0

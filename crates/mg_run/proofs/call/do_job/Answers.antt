@@ -10,6 +10,11 @@ run_lines-requires-clause-boxes g c =
     let can = subst (λ (job : Job). CanBeDone (outers_told (map g.C.Calculator.told c.args.boxes.now.items)) (job_view job)) c.in-Run.is c.requires.can in
     boxes_fit c.in-Run.plan (map g.C.Calculator.told c.args.boxes.now.items) can.1 c.requires.lawful
 
+pub trace_lines-requires-clause-boxes : goal.trace_lines-requires-clause-boxes
+trace_lines-requires-clause-boxes g c =
+    let can = subst (λ (job : Job). CanBeDone (outers_told (map g.C.Calculator.told c.args.boxes.now.items)) (job_view job)) c.in-Trace.is c.requires.can in
+    boxes_fit c.in-Trace.plan (map g.C.Calculator.told c.args.boxes.now.items) can.1 c.requires.lawful
+
 pub run_made-requires-clause-boxes : goal.run_made-requires-clause-boxes
 run_made-requires-clause-boxes g c =
     let can = subst (λ (job : Job). CanBeDone (outers_told (map g.C.Calculator.told c.args.boxes.now.items)) (job_view job)) c.in-Generate.is c.requires.can in
