@@ -1,4 +1,4 @@
-use mg_calc::Calculator;
+use mg_calc::{Calculator, Plan};
 use mg_node::{Engine, Intake};
 use mg_sched::{IndexedPlan, NetRest};
 use std::marker::Model;
@@ -26,4 +26,15 @@ impl<C: Calculator> Model for Kept<C> {
     ghost invariant = { λ k. (k.engines.items ≡ []) × (k.intakes.items ≡ [])
         × (length k.plan.nodes + length k.plan.inputs ≤ vec_capacity k.engines)
         × (length k.plan.nodes + 1 ≤ vec_capacity k.intakes) };
+}
+
+impl<C: Calculator> Kept<C> {
+    ghost use Rattle.std.specs.Prelude.{◌≡◌};
+
+    /// The plan of the net.
+    pub fn plan(&self) -> &Plan
+        ensures { result.now ≡ self.now.plan }
+    {
+        self.plan.plan()
+    }
 }

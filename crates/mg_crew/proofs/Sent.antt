@@ -1,0 +1,77 @@
+-- What workers share may be shared by threads, and what each has may go to another thread.
+use denote.RattleType.{RattleType}
+use denote.Struct.Declared.{shape}
+use denote.Struct.Field.{rows}
+use denote.Struct.Tuple.{TupleAt, type_at, parts}
+use denote.Param.Send.{IsSend, IsSync, AllSend, struct_send, recorded_send, recorded_sync, sendable}
+use Rattle.std.proofs.Common.{List, [], ◌∷◌}
+use Rattle.std.proofs.Crossing as heap
+use Rattle.std.proofs.Crossing.{crosses}
+use Rattle.atomic_table.proofs.shared.Seat.TheSendSync as Seat
+use Rattle.crossbeam_queue.proofs.array_queue.Slotted.TheSendSync as Slotted
+use Rattle.crossbeam_utils.proofs.cache_padded.CachePadded.TheSendSync as Padded
+use Rattle.std.specs.contracts.option.Option as Maybe
+use Rattle.mg_calc.specs.declared.calculator.Calculator.{Ghosts}
+use Rattle.mg_node.proofs.Sent.{maybe_field, maybe}
+use Rattle.mg_levels.specs.contracts.order.Order as Order
+use Rattle.mg_levels.specs.contracts.order.Order.TheInside as OrderInside
+use Rattle.mg_levels.specs.contracts.hand.Hand as Hand
+use Rattle.mg_levels.specs.contracts.levels.Levels as Levels
+use Rattle.mg_levels.specs.contracts.seat.LevelSeat as LevelSeat
+use Rattle.mg_turns.specs.contracts.seat.NetSeat as NetSeat
+use Rattle.mg_turns.specs.contracts.shared.SharedNet as SharedNet
+use Rattle.mg_turns.proofs.Sent.{net_seat, net}
+use Rattle.mg_crew.specs.contracts.chart.Chart as Chart
+use Rattle.mg_crew.specs.contracts.board.Board as Board
+use Rattle.mg_crew.specs.contracts.shop.Tools as Tools
+
+order_inside : IsSync OrderInside.the_row
+order_inside = search (sendable, crosses) depth 40 fits 20000
+
+order : IsSync (Order.the_field).row
+order = search (order_inside, sendable) depth 40 fits 20000
+
+levels : IsSync (Levels.the_field).row
+levels = search (order, Slotted.the_sync, Slotted.the_field_sync, heap.send, heap.sync, heap.frees, sendable, crosses) depth 40 fits 50000
+
+hand : IsSend (Hand.the_field).row
+hand = search (Seat.the_send, sendable, crosses) depth 40 fits 50000
+
+pub level_seat : IsSend (LevelSeat.the_field).row
+level_seat = search (hand, sendable, crosses) depth 40 fits 20000
+
+level_row : IsSend LevelSeat.the_row
+level_row = search (hand, sendable, crosses) depth 40 fits 20000
+
+pub place : IsSend (Maybe.the_field LevelSeat.the_row).row
+place = maybe_field LevelSeat.the_row level_row
+
+pub place_row : IsSend (Maybe.the_row LevelSeat.the_row)
+place_row = maybe LevelSeat.the_row level_row
+
+board : IsSync (Board.the_field).row
+board = search (Padded.the_field_sync, sendable, crosses) depth 40 fits 20000
+
+chart : IsSync (Chart.the_field).row
+chart = search (sendable, crosses) depth 40 fits 20000
+
+pub tools : IsSync (Tools.the_field).row
+tools = search (levels, board, chart, sendable) depth 20 fits 20000
+
+pub tools_row : IsSync Tools.the_row
+tools_row = recorded_sync (Tools.the_field).row _ _ Tools.the_type.to_one tools
+
+module _ (C : RattleType) (g : Ghosts C.Denot) (s : IsSend C) where
+  pub seat_row : IsSend (NetSeat.the_row C g)
+  seat_row = recorded_send (NetSeat.the_field C g).row _ _ (NetSeat.the_type C g).to_one (net_seat C g s)
+
+  pub net_row : IsSync (SharedNet.the_row C g)
+  net_row = recorded_sync (SharedNet.the_field C g).row _ _ (SharedNet.the_type C g).to_one (net C g s)
+
+all_rows : (Ts : List RattleType) → AllSend Ts → AllSend (rows (parts Ts))
+all_rows [] s = tt
+all_rows (T ∷ Ts) s = (s.0, all_rows Ts s.1)
+
+-- A closure may cross threads where all that it captures may. Its name says nothing of that.
+pub closure : (Ts : List RattleType) → AllSend Ts → IsSend (TupleAt [] Ts)
+closure Ts s = recorded_send _ _ _ (type_at [] Ts).to_one (struct_send (shape (type_at [] Ts)) (all_rows Ts s))

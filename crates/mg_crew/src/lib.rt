@@ -1,0 +1,15 @@
+//! Workers: threads that run a net side by side. Answers to `specs/Leaves.antt`, and to `specs/Became.antt` of mg_workers.
+#![tactic(auto)]
+
+mod board;
+mod chart;
+mod commits;
+mod crew;
+mod putting;
+mod rounds;
+mod running;
+mod serving;
+mod shop;
+mod working;
+
+pub use running::run_workers;

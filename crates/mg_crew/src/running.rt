@@ -1,0 +1,92 @@
+//! A net that is run by workers.
+ghost use Rattle.std.specs.Prelude.{◌≡◌, ◌^◌, length};
+ghost use Rattle.mg_calc.specs.Plan.{HasEachOnce};
+ghost use Rattle.mg_sched.specs.StandsFor.{StandsForSome, IsRunning};
+ghost use Rattle.mg_turns.specs.Parts.{nodes_in};
+ghost use Rattle.mg_turns.specs.Calls.{key_of, view_of};
+ghost use Rattle.mg_workers.specs.Shared.{IsShared};
+ghost use Rattle.mg_workers.specs.Became.{Became};
+ghost use Rattle.mg_crew.specs.Leaves.{Leaves};
+ghost use Rattle.mg_crew.specs.Code.Seats.{StaysShared};
+
+use crate::crew::crew;
+use crate::shop::{Shop, tools_of};
+use mg_calc::{Calculator, Plan};
+use mg_edge::Gate;
+use mg_sched::Net;
+use mg_turns::{NetSeat, SharedNet};
+use mg_workers::{share, unshare};
+use std::alloc::Global;
+use std::sync::Wait;
+use std::thread::Threads;
+
+// How a net is run: by so many workers, each Process call through a gate.
+#[derive(Drop)]
+struct Task<'a, G: Gate> {
+    alloc: Global,
+    workers: u32,
+    gate: &'a G,
+}
+
+// Runs a shared net by at least one worker. Where there is no memory for what workers need, nothing is done.
+fn run_shared<C: Calculator + Send, R: Threads + Wait + Sync, G: Gate + Sync>(
+    rt: &R,
+    task: &Task<'_, G>,
+    net: &SharedNet<C>,
+    seat: NetSeat<C>,
+    plan: &Plan,
+) -> NetSeat<C>
+    requires shared { IsShared net.now seat }
+    requires whole { (view_of seat).portion ≡ 2 ^ 32 }
+    requires order { HasEachOnce (length plan.now.nodes) plan.now.order }
+    requires nodes { length plan.now.nodes ≡ nodes_in (key_of net.now) }
+    ensures { StaysShared net.now seat result }
+{
+    match tools_of(task.alloc, plan) {
+        Ok((tools, place)) => {
+            let shop = Shop {
+                alloc: task.alloc,
+                net,
+                tools: &tools,
+                gate: task.gate,
+            };
+            crew(rt, &shop, seat, Some(place), task.workers)
+        }
+        Err(_) => seat,
+    }
+}
+
+/// Lets so many workers run a net whose nodes are begun, side by side, until none of them finds anything to do (MediaPipe,
+/// Synchronization). What they leave undone, for want of memory too, is left to a sweep. Nobody says that they come far: without memory
+/// for sharing the net, or with no workers, nothing is done.
+pub fn run_workers<C: Calculator + Send, R: Threads + Wait + Sync, G: Gate + Sync>(
+    rt: &R,
+    alloc: Global,
+    net: Net<C>,
+    workers: u32,
+    gate: &G,
+) -> Net<C>
+    requires running { IsRunning net }
+    requires stands { StandsForSome net }
+    ensures running { IsRunning result }
+    ensures became { Became net result }
+
+    // Each part of it came of the net's own, and only grew.
+    ensures left { Leaves net result }
+{
+    if workers == 0 {
+        return net;
+    }
+    match share(alloc, net) {
+        Ok((shared, seat, kept)) => {
+            let task = Task {
+                alloc,
+                workers,
+                gate,
+            };
+            let seat = run_shared(rt, &task, &shared, seat, kept.plan());
+            unshare(shared, seat, kept)
+        }
+        Err(net) => net,
+    }
+}

@@ -1,0 +1,133 @@
+//! How a worker does works of a node, raises the bounds of its outputs, and brings packets along an edge.
+ghost use Rattle.std.specs.Prelude.{◌≡◌, ◌<◌, length, IfOk, OnErr};
+ghost use Rattle.mg_turns.specs.Parts.{nodes_in};
+ghost use Rattle.mg_turns.specs.Calls.{key_of, view_of};
+ghost use Rattle.mg_workers.specs.Shared.{IsShared};
+ghost use Rattle.mg_crew.specs.Code.Seats.{StaysShared, IsSharedWith, FitsWork, IsAtWork, StaysAtWork};
+
+use crate::commits::finish;
+use crate::putting::put;
+use crate::shop::{Came, Shop};
+use mg_calc::Calculator;
+use mg_edge::Gate;
+use mg_levels::LevelSeat;
+use mg_node::{Claimed, Delivered, Work};
+use mg_turns::{NetSeat, SharedNet, Tried};
+use std::sync::Wait;
+
+// How many works of a node are done under one pair of turns.
+const WORKS: u32 = 64;
+
+// Does works of a node while its turns are held.
+fn run<C: Calculator, G: Gate>(shop: &Shop<'_, C, G>, seat: &mut NetSeat<C>, node: u32) -> Came
+    requires shared { IsShared shop.now.net.now seat.old }
+    requires node { node < nodes_in (key_of shop.now.net.now) }
+    ensures { StaysShared shop.now.net.now seat.old seat.new }
+{
+    let tried = shop.net.try_run(shop.alloc, seat, node, WORKS, shop.gate);
+    match tried {
+        Tried::Done(done) => Came::if_did(done > 0),
+        Tried::Busy { .. } => Came::busy(),
+    }
+}
+
+// Claims the next work of a node, or tells what came of that.
+fn claim<C: Calculator>(
+    net: &SharedNet<C>,
+    seat: &mut NetSeat<C>,
+    node: u32,
+) -> Result<Work<C>, Came>
+    requires shared { IsShared net.now seat.old }
+    requires node { node < nodes_in (key_of net.now) }
+    ensures portion { (view_of seat.new).portion ≡ (view_of seat.old).portion }
+    ensures work { IfOk result (λ w. IsSharedWith net.now seat.new w) }
+    ensures lawful { IfOk result (λ w. FitsWork (key_of net.now) w) }
+    ensures none { OnErr result (StaysShared net.now seat.old seat.new) }
+{
+    match net.try_claim(seat, node) {
+        Tried::Done(Claimed::Work(work)) => Ok(work),
+        Tried::Done(Claimed::Answered) => Err(Came::if_did(true)),
+        Tried::Done(Claimed::NotReady) => Err(Came::nothing()),
+        Tried::Done(Claimed::InFlightFull) => Err(Came::nothing()),
+        Tried::Done(Claimed::Draining) => Err(Came::nothing()),
+        Tried::Done(Claimed::Ended) => Err(Came::nothing()),
+        Tried::Done(Claimed::OutOfMemory) => Err(Came::nothing()),
+        Tried::Busy { .. } => Err(Came::busy()),
+    }
+}
+
+// Does one work of a node. Before that it puts the node in, so that other workers do further ones meanwhile.
+fn fly<C: Calculator, R: Wait, G: Gate>(
+    rt: &R,
+    shop: &Shop<'_, C, G>,
+    seat: &mut NetSeat<C>,
+    place: &mut Option<LevelSeat>,
+    node: u32,
+) -> Came
+    requires at_work { IsAtWork shop.now.net.now shop.now.tools.now.levels seat.old place.old }
+    requires node { node < nodes_in (key_of shop.now.net.now) }
+    ensures { StaysAtWork shop.now.net.now shop.now.tools.now.levels seat.old seat.new place.new }
+{
+    match claim(shop.net, seat, node) {
+        Ok(work) => {
+            put(rt, &shop.tools.levels, place, node);
+            shop.tools.board.tell(true);
+            Came::if_did(finish(rt, shop, seat, work))
+        }
+        Err(came) => came,
+    }
+}
+
+/// Does works of a node, and tells what came of it.
+pub(crate) fn work_at<C: Calculator, R: Wait, G: Gate>(
+    rt: &R,
+    shop: &Shop<'_, C, G>,
+    seat: &mut NetSeat<C>,
+    place: &mut Option<LevelSeat>,
+    node: u32,
+) -> Came
+    requires at_work { IsAtWork shop.now.net.now shop.now.tools.now.levels seat.old place.old }
+    requires node { node < nodes_in (key_of shop.now.net.now) }
+    ensures { StaysAtWork shop.now.net.now shop.now.tools.now.levels seat.old seat.new place.new }
+{
+    if shop.tools.chart.flies(node) {
+        fly(rt, shop, seat, place, node)
+    } else {
+        run(shop, seat, node)
+    }
+}
+
+/// Raises the bounds of a node's outputs, and tells what came of it.
+pub(crate) fn raise<C: Calculator, G: Gate>(
+    shop: &Shop<'_, C, G>,
+    seat: &mut NetSeat<C>,
+    node: u32,
+) -> Came
+    requires shared { IsShared shop.now.net.now seat.old }
+    requires node { node < nodes_in (key_of shop.now.net.now) }
+    ensures { StaysShared shop.now.net.now seat.old seat.new }
+{
+    let tried = shop.net.try_raise(seat, node);
+    match tried {
+        Tried::Done(did) => Came::if_did(did),
+        Tried::Busy { .. } => Came::busy(),
+    }
+}
+
+/// Brings packets along an edge, and tells what came of it.
+pub(crate) fn bring<C: Calculator, G: Gate>(
+    shop: &Shop<'_, C, G>,
+    seat: &mut NetSeat<C>,
+    edge: u32,
+) -> Came
+    requires shared { IsShared shop.now.net.now seat.old }
+    requires edge { edge < length (key_of shop.now.net.now).plan.edges }
+    ensures { StaysShared shop.now.net.now seat.old seat.new }
+{
+    let tried = shop.net.try_append(seat, edge);
+    match tried {
+        Tried::Done(Delivered::Moved { packets, raised }) => Came::if_did(packets > 0 || raised),
+        Tried::Done(Delivered::OutOfMemory { packets }) => Came::if_did(packets > 0),
+        Tried::Busy { .. } => Came::busy(),
+    }
+}
