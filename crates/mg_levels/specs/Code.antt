@@ -1,5 +1,4 @@
 -- What only the crate's own functions and proofs cite. Nobody who reads the public contracts needs these pages.
-pub mod Table
 pub mod Drained
 pub mod Rows
 pub mod Making

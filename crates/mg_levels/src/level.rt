@@ -3,12 +3,13 @@ ghost use Rattle.std.specs.Prelude.{◌≡◌, ◌+◌, ◌-◌, ◌<◌, ◌≤
 ghost use Rattle.crossbeam_queue.specs.Passes.{ruled_capacity};
 ghost use Rattle.mg_levels.specs.Balance.{whole, share};
 ghost use Rattle.mg_levels.specs.Hands.{hand_view, queue_id, hand_id, fresh, put_to, took_from, FoundFull, FoundEmpty, kept_hand, joined};
+ghost use Rattle.mg_levels.specs.Places.{node_of};
 ghost use Rattle.mg_levels.specs.Code.Drained.{Drained};
 
 use crate::hand::{Hand, first_hand};
-use crate::order::Order;
 use crate::share::{Amount, Balance, Both, Cut, Puts, Share, Takes};
 use crossbeam_queue::{Pass, RuledArrayQueue};
+use mg_ready::Order;
 use std::marker::Brand;
 use std::sync::Wait;
 
@@ -97,6 +98,14 @@ pub(crate) fn join_at(queue: &Queue, hand: &mut Hand, other: Hand)
     hand.empties = sum_of(hand.empties, empties);
 }
 
+/// The node at a place of an order. Behind the last one the order begins again.
+pub(crate) fn node_in(order: &Order, place: u32) -> u32
+    requires { 0 < length order.now }
+    ensures { result ≡ node_of order.now place }
+{
+    order.node_at(place % order.len())
+}
+
 /// Takes out all that is left at a level, as nodes, where no other thread uses it any more.
 pub(crate) fn drain<R: Wait>(rt: &R, queue: &Queue, hand: Hand, order: &Order, left: &mut Vec<u32>)
     requires id { hand_id hand ≡ queue_id queue.now }
@@ -110,7 +119,7 @@ pub(crate) fn drain<R: Wait>(rt: &R, queue: &Queue, hand: Hand, order: &Order, l
     let count = queue.len_as::<Takes, R>(rt, &mut pass);
     for _done in 0..count {
         match queue.pop_as::<Takes, R>(rt, &mut pass) {
-            Some(place) => left.push_reserved(order.node_at(place)),
+            Some(place) => left.push_reserved(node_in(order, place)),
             None => unreachable!(),
         }
     }

@@ -1,11 +1,11 @@
 ghost use Rattle.std.specs.Prelude.{◌≡◌, ◌≢◌, ℕ, ◌+◌, ◌<◌, ◌≤◌, ◌^◌, ◌/◌, [], if◌then◌else◌, AllPairs, Contains, IfOk, IfSome, MatchBool, MatchOption, length, map, sum, vec_capacity};
 ghost use Rattle.crossbeam_queue.specs.Passes.{ruled_capacity};
 
-use crate::level::{Queue, put_at};
+use crate::level::{Queue, node_in, put_at};
 use crate::making::{BUCKET, Made, make_levels};
-use crate::order::Order;
 use crate::rows::{drain_all, take_last};
 use crate::seat::LevelSeat;
+use mg_ready::Order;
 use mg_value::NumberList;
 use std::alloc::{AllocError, Global};
 use std::sync::Wait;
@@ -87,7 +87,7 @@ impl Levels {
         ensures empty { MatchOption result (FoundEmptyFrom 0 (hands_of seat.old) (hands_of seat.new)) (λ node. TookNode (order_of self.now) node seat.old seat.new) }
     {
         let place = take_last(rt, &self.queues, &mut seat.hands)?;
-        Some(self.order.node_at(place))
+        Some(node_in(&self.order, place))
     }
 
     /// What is left, once every other seat was joined into this one.

@@ -6,7 +6,6 @@ mod hand;
 mod level;
 mod levels;
 mod making;
-mod order;
 mod rows;
 mod seat;
 mod share;

@@ -8,7 +8,7 @@ ghost use Rattle.mg_levels.specs.Code.Rows.{portions_in, views_in, joined_all, t
 
 use crate::hand::Hand;
 use crate::level::{Queue, cut_at, drain, join_at, take_at};
-use crate::order::Order;
+use mg_ready::Order;
 use std::sync::Wait;
 
 /// Takes a place out of the last level that isn't empty.

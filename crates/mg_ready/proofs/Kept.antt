@@ -1,19 +1,15 @@
 -- A set of nodes whose node at a place goes out.
-use Rattle.std.proofs.Common.{◌≡◌, ℕ, ◌+◌, ◌<◌, cond, Bool, true, false, List, length, get_or, slice_set, ◌∙◌, sym, ap, subst, arith, get_or-set_same}
+use Rattle.std.proofs.Common.{◌≡◌, ℕ, ◌+◌, ◌<◌, cond, Bool, true, false, List, length, get_or, slice_index, slice_set, ◌∙◌, sym, ap, subst, arith, get_or-set_same}
 use Rattle.std.proofs.lemmas.Bool.{false≢true}
 use Rattle.std.specs.List.{count_by}
-use Rattle.std.proofs.lemmas.List.{get_or_read}
 use Rattle.std.proofs.lemmas.List.Sums.{sum_by-set}
 use Rattle.mg_ready.specs.Ready.{IsIn}
-use Rattle.mg_ready.specs.Code.Inside.{IsTable}
 
-pub IsIn-out : (order positions : List ℕ) (is_in after : List Bool) (p node : ℕ) → IsTable order positions → p < length order → p < length is_in
-    → after ≡ slice_set is_in p false → node ≡ get_or order p node → ¬ IsIn (record { order = order; is_in = after }) node
-IsIn-out order positions is_in after p node table within inside is_after read (q, has) =
-    let at_p : node ≡ get_or order p 0 = get_or_read order p node within read 0 in
-    let same : q ≡ p = sym (table.back q has.within) ∙ ap (λ k. get_or positions k 0) (has.node_at ∙ at_p) ∙ table.back p within in
+pub IsIn-out : (order : List ℕ) (is_in after : List Bool) (p node : ℕ) → ((q : ℕ) → q < length order → slice_index order q ≡ node → q ≡ p) → p < length is_in
+    → after ≡ slice_set is_in p false → ¬ IsIn (record { order = order; is_in = after }) node
+IsIn-out order is_in after p node only inside is_after (q, has) =
     let out : get_or after p false ≡ false = rw is_after (get_or-set_same is_in p false false inside) in
-    false≢true (sym out ∙ subst (λ k. get_or after k false ≡ true) same has.there)
+    false≢true (sym out ∙ subst (λ k. get_or after k false ≡ true) (only q has.within has.node_at) has.there)
 
 -- one place fewer is in then
 pub count_by-out : (is_in after : List Bool) (p : ℕ) → p < length is_in → get_or is_in p false ≡ true → after ≡ slice_set is_in p false

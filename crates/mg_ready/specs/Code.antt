@@ -1,5 +1,5 @@
 -- What only the crate's own functions and proofs cite. Nobody who reads the public contracts needs these pages.
 pub mod Bits
-pub mod Inside
 pub mod Links
 pub mod Places
+pub mod Table

@@ -1,9 +1,9 @@
-ghost use Rattle.std.specs.Prelude.{◌≡◌, ◌≢◌, ℕ, ◌^◌, ◌<◌, All, AllPairs, Contains, count_by, length, replicate, IfOk, IfSome, IfNone};
+ghost use Rattle.std.specs.Prelude.{◌≡◌, ◌≢◌, ◌<◌, AllPairs, Contains, count_by, IfOk, IfSome, IfNone};
 ghost use Rattle.mg_ready.specs.Ready.{none_ready, IsIn, IsEmpty, IsHighest, ChangesOnly};
-ghost use Rattle.mg_ready.specs.Code.Inside.{IsTable};
 
+use crate::order::Order;
 use crate::places::Places;
-use mg_value::BlockList;
+use mg_value::NumberList;
 use std::alloc::{AllocError, Global};
 use std::marker::Model;
 
@@ -12,68 +12,30 @@ use std::marker::Model;
 /// `new` takes memory: it keeps a table as long as the greatest number of a node.
 #[derive(Drop)]
 pub struct Ready {
-    order: Vec<u32>,
-    positions: Vec<u32>,
+    order: Order,
     places: Places,
 }
 
 impl Model for Ready {
+    ghost use Rattle.std.specs.Prelude.{◌≡◌, length};
     ghost use Rattle.mg_ready.specs.Ready.{ReadyNodes};
-    ghost use Rattle.mg_ready.specs.Code.Inside.{IsKept};
 
     ghost Value = { ReadyNodes };
 
-    ghost view = { λ r. record { order = r.order.items; is_in = r.places } };
+    ghost view = { λ r. record { order = r.order; is_in = r.places } };
 
-    ghost invariant = { λ r. IsKept r.order.items r.positions.items r.places };
-}
-
-// How long a table by these numbers is.
-fn table_len(order: &[u32]) -> usize
-    ensures { All (λ node. node < result) order.now }
-{
-    let mut len = 0;
-    for node in order {
-        len = len.max(*node as usize + 1);
-    }
-    len
-}
-
-// A table of so many zeros.
-fn zeros(alloc: Global, len: usize) -> Result<Vec<u32>, AllocError>
-    ensures { IfOk result (λ v. length v.items ≡ len) }
-{
-    vec![in alloc; 0; len]
-}
-
-// The place of each node of an order, by its number.
-fn positions_of(alloc: Global, order: &[u32]) -> Result<Vec<u32>, AllocError>
-    requires few { length order.now < 2 ^ 32 }
-    requires distinct { AllPairs (λ a b. a ≢ b) order.now }
-    ensures { IfOk result (λ v. IsTable order.now v.items) }
-{
-    let mut positions = zeros(alloc, table_len(order))?;
-    for (place, node) in order.iter().enumerate() {
-        positions[*node as usize] = place as u32;
-    }
-    Ok(positions)
+    ghost invariant = { λ r. length r.places ≡ length r.order };
 }
 
 impl Ready {
     /// No node of an order. No node stands in the order twice.
-    pub fn new(alloc: Global, order: &BlockList<u32>) -> Result<Ready, AllocError>
+    pub fn new(alloc: Global, order: &NumberList) -> Result<Ready, AllocError>
         requires { AllPairs (λ a b. a ≢ b) order.now }
         ensures { IfOk result (λ r. r ≡ none_ready order.now) }
     {
-        let count = order.len();
-        let positions = positions_of(alloc, order.as_slice())?;
-        let places = Places::new(alloc, count)?;
-        let order = order.as_slice().to_vec(alloc)?;
-        Ok(Ready {
-            order,
-            positions,
-            places,
-        })
+        let order = Order::new(alloc, order)?;
+        let places = Places::new(alloc, order.len())?;
+        Ok(Ready { order, places })
     }
 
     /// Puts a node in. One that is there stays as it is.
@@ -82,7 +44,7 @@ impl Ready {
         ensures put { IsIn self.new node }
         ensures only { ChangesOnly self.old self.new node }
     {
-        let place = self.positions[node as usize];
+        let place = self.order.place_of(node);
         if !self.places.contains(place) {
             self.places.insert(place);
         }
@@ -100,7 +62,7 @@ impl Ready {
     {
         let place = self.places.last()?;
         self.places.remove(place);
-        Some(self.order[place as usize])
+        Some(self.order.node_at(place))
     }
 
     /// Takes a node out, where it is in.
@@ -109,7 +71,7 @@ impl Ready {
         ensures dropped { ¬ IsIn self.new node }
         ensures only { ChangesOnly self.old self.new node }
     {
-        let place = self.positions[node as usize];
+        let place = self.order.place_of(node);
         if self.places.contains(place) {
             self.places.remove(place);
         }

@@ -37,7 +37,7 @@ loop-done-preserved g c =
     let same = c.in-Some.ensures.queue in
     let was = c.loop-done.invariant in (
       ((same.0 ∙ was.0.0.0, same.2 ∙ was.0.0.1), c.push_reserved.ensures.capacity ∙ was.0.1),
-      goes_on _ _ _ _ _ _ _ _ _ was.1 c.in-Some.ensures.rule (c.push_reserved.ensures.items ∙ ap (λ x. c.loop-done.left.items ++ x ∷ []) c.node_at.ensures),
+      goes_on _ _ _ _ _ _ _ _ _ was.1 c.in-Some.ensures.rule (c.push_reserved.ensures.items ∙ ap (λ x. c.loop-done.left.items ++ x ∷ []) c.node_in.ensures),
     )
 
 pub learn_as-requires-clause-rule : goal.learn_as-requires-clause-rule

@@ -22,13 +22,13 @@ within_levels order place queues hands less many same = (omega (arith, less, man
 pub put_at-requires-clause-id : goal.put_at-requires-clause-id
 put_at-requires-clause-id g c =
     let w = within_levels (length c.args.self.now.order) c.place_of-place.result (length c.args.self.now.queues.items) (length c.args.seat.now.hands.items)
-    (slice_get_within _ _ _ c.place_of-place.ensures) c.args.self.now.levels (same_length hand_id queue_id _ _ c.requires.of) in
+    (slice_get_within _ _ _ c.place_of-place.ensures.at) c.args.self.now.levels (same_length hand_id queue_id _ _ c.requires.of) in
     ap hand_id c.index_mut.ensures.value ∙ same_at hand_id queue_id c.args.seat.now.hands.items c.args.self.now.queues.items _ _ _ c.requires.of w.0 w.1 c.index.ensures
 
 pub put_at-requires-clause-portion : goal.put_at-requires-clause-portion
 put_at-requires-clause-portion g c =
     let w = within_levels (length c.args.self.now.order) c.place_of-place.result (length c.args.self.now.queues.items) (length c.args.seat.now.hands.items)
-    (slice_get_within _ _ _ c.place_of-place.ensures) c.args.self.now.levels (same_length hand_id queue_id _ _ c.requires.of) in
+    (slice_get_within _ _ _ c.place_of-place.ensures.at) c.args.self.now.levels (same_length hand_id queue_id _ _ c.requires.of) in
     subst (λ (h : Hand). 0 < h.pass.me.0.client.portion) (sym c.index_mut.ensures.value)
     (part_at (λ p. 0 < p) (λ (h : Hand). h.pass.me.0.client.portion) c.args.seat.now.hands.items _ c.index_mut.result.now
     (subst (λ l. All (λ p. 0 < p) l) (sym c.args.seat.now.even) (All-replicate (λ p. 0 < p) (length c.args.seat.now.hands.items) c.args.seat.now.portion c.args.seat.now.some)) w.0)
@@ -48,10 +48,10 @@ returns-clause-of g c = (map-set_same hand_id c.args.seat.now.hands.items _ c.pu
 pub returns-clause-puts : goal.returns-clause-puts
 returns-clause-puts g c n =
     let w = within_levels (length c.args.self.now.order) c.place_of-place.result (length c.args.self.now.queues.items) (length c.args.seat.now.hands.items)
-    (slice_get_within _ _ _ c.place_of-place.ensures) c.args.self.now.levels (same_length hand_id queue_id _ _ c.requires.of) in
+    (slice_get_within _ _ _ c.place_of-place.ensures.at) c.args.self.now.levels (same_length hand_id queue_id _ _ c.requires.of) in
     let t = seat_total c.args.seat.now.hands.items (c.place_of-place.result / 32) c.put_at.new.hand c.index_mut.result.now w.0 (λ (h : HandView). times_of c.args.self.now.order n h.put) in
     let p = put_puts (ruled_capacity c.index.result.now) c.args.self.now.order n c.args.node c.place_of-place.result (hand_view c.index_mut.result.now) (hand_view c.put_at.new.hand) c.put_at.result c.put_at.ensures.put
-    (node_there c.args.self.now.order c.place_of-place.result c.args.node c.place_of-place.ensures) in
+    (node_there c.args.self.now.order c.place_of-place.result c.args.node c.place_of-place.ensures.at) in
     let was : times_of c.args.self.now.order n (hand_view c.index_mut.result.now).put ≡ times_of c.args.self.now.order n (hand_view (get_or c.args.seat.now.hands.items (c.place_of-place.result / 32) c.index_mut.result.now)).put =
     ap (λ (h : Hand). times_of c.args.self.now.order n (hand_view h).put) c.index_mut.ensures.value in
     omega (arith, t, p, was)
@@ -59,7 +59,7 @@ returns-clause-puts g c n =
 pub returns-clause-takes : goal.returns-clause-takes
 returns-clause-takes g c n =
     let w = within_levels (length c.args.self.now.order) c.place_of-place.result (length c.args.self.now.queues.items) (length c.args.seat.now.hands.items)
-    (slice_get_within _ _ _ c.place_of-place.ensures) c.args.self.now.levels (same_length hand_id queue_id _ _ c.requires.of) in
+    (slice_get_within _ _ _ c.place_of-place.ensures.at) c.args.self.now.levels (same_length hand_id queue_id _ _ c.requires.of) in
     same_takes c.args.self.now.order n (views_in (set c.args.seat.now.hands.items (c.place_of-place.result / 32) c.put_at.new.hand)) (views_in c.args.seat.now.hands.items)
     (seat_same c.args.seat.now.hands.items (c.place_of-place.result / 32) c.put_at.new.hand c.index_mut.result.now w.0 (λ (h : HandView). h.taken)
     (put_taken (ruled_capacity c.index.result.now) c.args.self.now.order 0 c.args.node c.place_of-place.result (hand_view c.index_mut.result.now) (hand_view c.put_at.new.hand) c.put_at.result c.put_at.ensures.put
@@ -68,7 +68,7 @@ returns-clause-takes g c n =
 pub returns-clause-empties : goal.returns-clause-empties
 returns-clause-empties g c =
     let w = within_levels (length c.args.self.now.order) c.place_of-place.result (length c.args.self.now.queues.items) (length c.args.seat.now.hands.items)
-    (slice_get_within _ _ _ c.place_of-place.ensures) c.args.self.now.levels (same_length hand_id queue_id _ _ c.requires.of) in
+    (slice_get_within _ _ _ c.place_of-place.ensures.at) c.args.self.now.levels (same_length hand_id queue_id _ _ c.requires.of) in
     seat_same c.args.seat.now.hands.items (c.place_of-place.result / 32) c.put_at.new.hand c.index_mut.result.now w.0 (λ (h : HandView). h.empties)
     (put_empties (ruled_capacity c.index.result.now) c.args.self.now.order 0 c.args.node c.place_of-place.result (hand_view c.index_mut.result.now) (hand_view c.put_at.new.hand) c.put_at.result c.put_at.ensures.put
     ∙ ap (λ (h : Hand). (hand_view h).empties) c.index_mut.ensures.value)
@@ -92,12 +92,12 @@ pub returns-clause-full : goal.returns-clause-full
 returns-clause-full g c =
     let i = c.place_of-place.result / 32 in
     let w = within_levels (length c.args.self.now.order) c.place_of-place.result (length c.args.self.now.queues.items) (length c.args.seat.now.hands.items)
-    (slice_get_within _ _ _ c.place_of-place.ensures) c.args.self.now.levels (same_length hand_id queue_id _ _ c.requires.of) in
+    (slice_get_within _ _ _ c.place_of-place.ensures.at) c.args.self.now.levels (same_length hand_id queue_id _ _ c.requires.of) in
     let room : get_or (rooms_in c.args.self.now) i 0 ≡ ruled_capacity c.index.result.now =
     get_or-map ruled_capacity c.args.self.now.queues.items i c.index.result.now 0 w.1 ∙ ap ruled_capacity (sym c.index.ensures) in
     full_by c.put_at.result c.args.self.now c.args.node c.args.seat.now _ c.place_of-place.result (hand_view c.index_mut.result.now) (hand_view c.put_at.new.hand)
     (subst (λ n. MatchBool c.put_at.result (hand_view c.put_at.new.hand ≡ put_to (hand_view c.index_mut.result.now) c.place_of-place.result) (FoundFull n (hand_view c.index_mut.result.now) (hand_view c.put_at.new.hand))) (sym room) c.put_at.ensures.put)
-    c.place_of-place.ensures
+    c.place_of-place.ensures.at
     (slice_get-get_or (views_in c.args.seat.now.hands.items) i (hand_view c.index_mut.result.now) (subst (λ n. i < n) (sym (length-map c.args.seat.now.hands.items hand_view)) w.0)
     ∙ ap Some (get_or-map hand_view c.args.seat.now.hands.items i c.index_mut.result.now (hand_view c.index_mut.result.now) w.0 ∙ ap hand_view (sym c.index_mut.ensures.value)))
     (map-set hand_view c.args.seat.now.hands.items i c.put_at.new.hand)

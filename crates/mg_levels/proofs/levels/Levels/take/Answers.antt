@@ -53,7 +53,7 @@ pub returns-clause-node : goal.returns-clause-node
 returns-clause-node g c =
     let took : TookLast c.in_ok-place.place (views_in c.args.seat.now.hands.items) (views_in c.take_last.new.hands) =
     subst (λ l. TookLast c.in_ok-place.place (views_in l) (views_in c.take_last.new.hands)) c.deref_mut.ensures.value c.in_ok-place.ensures.taken in
-    subst (Contains c.args.self.now.order) (sym c.node_at.ensures)
+    subst (Contains c.args.self.now.order) (sym c.node_in.ensures)
     (stands_in c.args.self.now.order c.in_ok-place.place (length c.args.self.now.queues.items) (length c.args.seat.now.hands.items) _ _ took (length-map c.args.seat.now.hands.items hand_view)
     (same_length hand_id queue_id _ _ c.requires.of) c.args.self.now.levels)
 
@@ -63,8 +63,8 @@ returns-clause-takes g c n =
     let took : TookLast c.in_ok-place.place (views_in c.args.seat.now.hands.items) (views_in c.take_last.new.hands) =
     subst (λ l. TookLast c.in_ok-place.place (views_in l) (views_in c.take_last.new.hands)) c.deref_mut.ensures.value c.in_ok-place.ensures.taken in
     let a = took_takes c.args.self.now.order n c.in_ok-place.place _ _ took in
-    let b : once n c.node_at.result ≡ once n (node_of c.args.self.now.order c.in_ok-place.place) = ap (once n) c.node_at.ensures in
-    subst (λ (l : List Hand). total_taken c.args.self.now.order n (views_in l) ≡ total_taken c.args.self.now.order n (views_in c.args.seat.now.hands.items) + once n c.node_at.result) (sym e) (omega (arith, a, b))
+    let b : once n c.node_in.result ≡ once n (node_of c.args.self.now.order c.in_ok-place.place) = ap (once n) c.node_in.ensures in
+    subst (λ (l : List Hand). total_taken c.args.self.now.order n (views_in l) ≡ total_taken c.args.self.now.order n (views_in c.args.seat.now.hands.items) + once n c.node_in.result) (sym e) (omega (arith, a, b))
 
 pub returns-clause-puts : goal.returns-clause-puts
 returns-clause-puts g c n =
@@ -85,7 +85,7 @@ returns-clause-empty g c =
     let e = whole_list c.args.seat.now.hands c.take_last.new.hands (c.take_last.ensures.same.0 ∙ ap (map hand_id) c.deref_mut.ensures.value) in
     record {
       place = c.in_ok-place.place;
-      is = c.node_at.ensures;
+      is = c.node_in.ensures;
       took = subst (λ (l : List Hand). TookLast c.in_ok-place.place (views_in c.args.seat.now.hands.items) (views_in l)) (sym e)
           (subst (λ l. TookLast c.in_ok-place.place (views_in l) (views_in c.take_last.new.hands)) c.deref_mut.ensures.value c.in_ok-place.ensures.taken);
     }

@@ -7,7 +7,7 @@ use Rattle.mg_ready.proofs.ready.Ready.take.Goals as goal
 pub returns-clause-taken : goal.returns-clause-taken
 returns-clause-taken c =
     let inside = in_within c.self.inside.places c.in_ok-place.place c.in_ok-place.ensures.there in
-    IsIn-out _ _ c.self.inside.places _ c.in_ok-place.place _ c.self.invariant.table (omega (arith, inside)) inside c.remove.ensures c.index.ensures
+    IsIn-out _ c.self.inside.places _ c.in_ok-place.place _ c.node_at.ensures.only inside c.remove.ensures
 
 pub returns-clause-fewer : goal.returns-clause-fewer
 returns-clause-fewer c =

@@ -1,5 +1,5 @@
 use Rattle.std.proofs.Common.{◌≡◌, ℕ, ◌<◌, All, slice_index, length}
-use Rattle.mg_levels.proofs.order.places_of.Given as goal
+use Rattle.mg_ready.proofs.order.places_of.Given as goal
 
 -- the nodes so far have their places
 abbrev pub invariant-loop-place : goal.invariant-loop-place

@@ -1,22 +1,21 @@
 //! An order of nodes, with the place of each.
-ghost use Rattle.std.specs.Prelude.{◌≡◌, ◌≢◌, ℕ, ◌^◌, ◌<◌, All, AllPairs, Contains, length, IfOk, Some, slice_get};
-ghost use Rattle.mg_levels.specs.Code.Table.{IsTable};
-ghost use Rattle.mg_levels.specs.Places.{node_of};
+ghost use Rattle.std.specs.Prelude.{◌≡◌, ◌≢◌, ℕ, ◌^◌, ◌<◌, All, AllPairs, Contains, length, IfOk, Some, slice_get, slice_index};
+ghost use Rattle.mg_ready.specs.Code.Table.{IsTable};
 
 use mg_value::NumberList;
 use std::alloc::{AllocError, Global};
 use std::marker::Model;
 
-/// An order of nodes. It keeps a table as long as the greatest number of a node.
+/// An order of nodes in which no node stands twice, with the place of each. It keeps a table as long as the greatest number of a node.
 #[derive(Drop)]
-pub(crate) struct Order {
+pub struct Order {
     nodes: Vec<u32>,
     places: Vec<u32>,
 }
 
 impl Model for Order {
     ghost use Rattle.std.specs.Prelude.{List, ℕ};
-    ghost use Rattle.mg_levels.specs.Code.Table.{IsKept};
+    ghost use Rattle.mg_ready.specs.Code.Table.{IsKept};
 
     ghost Value = { List ℕ };
 
@@ -58,7 +57,7 @@ fn places_of(alloc: Global, order: &[u32]) -> Result<Vec<u32>, AllocError>
 
 impl Order {
     /// An order in which no node stands twice.
-    pub(crate) fn new(alloc: Global, order: &NumberList) -> Result<Order, AllocError>
+    pub fn new(alloc: Global, order: &NumberList) -> Result<Order, AllocError>
         requires { AllPairs (λ a b. a ≢ b) order.now }
         ensures { IfOk result (λ o. o ≡ order.now) }
     {
@@ -69,25 +68,27 @@ impl Order {
     }
 
     /// How many nodes there are.
-    pub(crate) fn len(&self) -> u32
+    pub fn len(&self) -> u32
         ensures { result ≡ length self.now }
     {
         self.nodes.len() as u32
     }
 
-    /// The place of a node.
-    pub(crate) fn place_of(&self, node: u32) -> u32
+    /// The place of a node, which has only one.
+    pub fn place_of(&self, node: u32) -> u32
         requires { Contains self.now node }
-        ensures { slice_get self.now result ≡ Some node }
+        ensures at { slice_get self.now result ≡ Some node }
+        ensures only { (place : ℕ) → place < length self.now → slice_index self.now place ≡ node → place ≡ result }
     {
         self.places[node as usize]
     }
 
-    /// The node at a place. Behind the last one the order begins again.
-    pub(crate) fn node_at(&self, place: u32) -> u32
-        requires { 0 < length self.now }
-        ensures { result ≡ node_of self.now place }
+    /// The node at a place, and at no other.
+    pub fn node_at(&self, place: u32) -> u32
+        requires { place < length self.now }
+        ensures at { slice_get self.now place ≡ Some result }
+        ensures only { (other : ℕ) → other < length self.now → slice_index self.now other ≡ result → other ≡ place }
     {
-        self.nodes[place as usize % self.nodes.len()]
+        self.nodes[place as usize]
     }
 }

@@ -1,8 +1,0 @@
-use Rattle.std.proofs.Common.{◌≡◌, ℕ, ◌<◌, All, slice_index, length}
-use Rattle.mg_ready.proofs.ready.positions_of.Given as goal
-
--- the nodes so far have their places
-abbrev pub invariant-loop-place : goal.invariant-loop-place
-invariant-loop-place l =
-    (All (λ node. node < length l.positions.items) l.order)
-    × ((k : ℕ) → k < l.place → slice_index l.positions.items (slice_index l.order k) ≡ k)
