@@ -36,7 +36,7 @@ tail_run d fs p t u w no_tail = refl
 tail_run d fs p t u w (byte {u = next} {b = b} {s = s} e h) =
     go d fs (comment p t) d fs (comment p next) b (class_of b) (s ++ w) refl (ap (moves (st d fs (comment p t))) (tail_step p t next (class_of b) b e)) ∙ tail_run d fs p next s w h
 
-in_line_step : (p : Place) (c : Class) (b : ℕ) → in_line c ≡ true → comment_spot p Whole c b ≡ Some (comment p Whole)
+pub in_line_step : (p : Place) (c : Class) (b : ℕ) → in_line c ≡ true → comment_spot p Whole c b ≡ Some (comment p Whole)
 in_line_step p LineFeed b e = cc
 in_line_step p Beyond b e = cc
 in_line_step p c b e = refl

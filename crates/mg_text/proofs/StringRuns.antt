@@ -29,7 +29,7 @@ not_closing Single (Plain Whole) SingleQuote n b e = cc
 not_closing Double (Plain Whole) DoubleQuote n b e = cc
 not_closing _ _ _ n b e = refl
 
-piece_step : (n : List ℕ) (slot : Slot) (bytes : List ℕ) (q : Quote) (i : Inside) (c : Class) (b : ℕ) (x : Inside × List ℕ) → inside_next q i c b ≡ Some x
+pub piece_step : (n : List ℕ) (slot : Slot) (bytes : List ℕ) (q : Quote) (i : Inside) (c : Class) (b : ℕ) (x : Inside × List ℕ) → inside_next q i c b ≡ Some x
     → piece_spot n slot bytes q i c b ≡ Some (piece n slot (bytes ++ x.1) q x.0)
 piece_step n slot bytes q i c b x e =
     ap (λ z. cond z (Some (at (joined n slot bytes))) (goes_on n slot bytes q (inside_next q i c b))) (not_closing q i c x b e)

@@ -3,3 +3,4 @@ pub mod Clean
 pub mod Machine
 pub mod Printing
 pub mod Running
+pub mod Plain

@@ -1,5 +1,6 @@
 ghost use Rattle.std.specs.Prelude.{◌≡◌, if◌then◌else◌};
-ghost use Rattle.mg_text.specs.Byte.{class_of, below_digits, digit_class, upper_class, lower_class, is_letter, is_digit, is_octal, is_hex, is_word_byte, joins, lead, follow, is_within};
+ghost use Rattle.mg_text.specs.Byte.{class_of, below_digits, digit_class, upper_class, lower_class, is_blank, is_letter, is_digit, is_octal, is_hex, is_word_byte, joins, lead, follow, is_within};
+ghost use Rattle.mg_text.specs.Grammar.{in_line};
 
 use crate::parts::{Class, Tail};
 
@@ -128,6 +129,23 @@ pub fn class_of(b: u8) -> Class
 }
 
 impl Class {
+    pub(crate) fn is_blank(self) -> bool
+        ensures { result ≡ is_blank self }
+    {
+        matches!(self, Class::Blank | Class::LineFeed)
+    }
+
+    /// Whether it is a byte of a comment by itself.
+    pub(crate) fn in_line(self) -> bool
+        ensures { result ≡ in_line self }
+    {
+        match self {
+            Class::LineFeed => false,
+            Class::Beyond => false,
+            _ => true,
+        }
+    }
+
     pub(crate) fn is_letter(self) -> bool
         ensures { result ≡ is_letter self }
     {

@@ -9,7 +9,7 @@ use crate::parts::{Class, Quote, Tail};
 use crate::state::Inside;
 
 /// Whether a byte stands for itself in a piece.
-fn in_piece(q: Quote, c: Class) -> bool
+pub fn in_piece(q: Quote, c: Class) -> bool
     ensures { result ≡ in_piece q c }
 {
     match (q, c) {

@@ -11,6 +11,7 @@ pub mod laws;
 mod machine;
 mod next;
 pub mod parts;
+mod plain;
 mod printer;
 mod reader;
 mod state;

@@ -38,14 +38,17 @@ fn read(alloc: Global, bytes: &[u8]) -> Result<Tree, TextFault>
     ensures { IsAnswered bytes.now result }
 {
     let mut machine = Machine::new(alloc);
-    for (i, b) in bytes.iter().enumerate() {
+    let mut i = 0;
+    'bytes: while i < bytes.len() {
         let at = i as u32;
-        if !machine.step(alloc, *b)? {
+        if !machine.step(alloc, bytes[i])? {
             return Err(TextFault::Syntax { at });
         }
         if machine.depth() > MAX_DEPTH {
             return Err(TextFault::TooDeep { at });
         }
+        let count = machine.take_plain(bytes.split_at(i + 1).1)?;
+        i += 1 + count;
     }
     end(alloc, machine, bytes.len() as u32)
 }

@@ -70,3 +70,12 @@ pub enum Kind {
     Number,
     Quoted,
 }
+
+/// What further bytes lengthen: white space, a comment, a word, or a piece of a string.
+#[derive(Clone, Copy, Debug)]
+pub enum Run {
+    Blank,
+    Comment,
+    Word,
+    Piece(Quote),
+}

@@ -87,3 +87,8 @@ abbrev pub IsAnswered : List ℕ → Result Tree TextFault → Type 0
 IsAnswered file (Ok tree) = Gives file (view tree) × (depth (view tree) ≤ max_depth)
 IsAnswered file (Err TooLong) = ⊥
 IsAnswered file (Err fault) = IsFault file fault
+
+-- From one state these bytes lead to another, each of them taken, and no message opens or closes.
+abbrev pub Lasts : State → List ℕ → State → Type 0
+Lasts s [] t = s ≡ t
+Lasts s (b ∷ bytes) t = (next : State) × (model.step s b ≡ Some next) × (next.frames ≡ s.frames) × Lasts next bytes t
