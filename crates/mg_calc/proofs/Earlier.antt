@@ -23,7 +23,7 @@ use Rattle.mg_calc.proofs.Positions.{Agree, agree_at, givers}
 abbrev AtLoop : Plan → Ends → Type 0
 AtLoop plan x = (x.port ≡ 0) × IsSomeAnd (slice_get plan.nodes x.node) (λ node. node.law ≡ Loopback)
 
-abbrev Forward : Plan → Ends → Type 0
+abbrev pub Forward : Plan → Ends → Type 0
 Forward plan x = IfSome (option_and_then (λ s. writing_node s.producer) (slice_get plan.streams x.stream)) (λ writer. StandsBefore plan.order writer x.node)
 
 abbrev Comes : Plan → Ends → Type 0
@@ -45,35 +45,40 @@ all_back P [] ys a = a
 all_back P (x ∷ xs) ys a = all_back P xs ys a.1
 
 -- the inputs of each node, by their numbers from k on
-abbrev NodesCome : Plan → ℕ → List PlanNode → Type 0
-NodesCome plan k [] = Unit {0}
-NodesCome plan k (node ∷ nodes) = AllByRecursion (Comes plan) (ends_at k node.inputs) × NodesCome plan (k + 1) nodes
+abbrev NodesCome : (Ends → Type 0) → ℕ → List PlanNode → Type 0
+NodesCome P k [] = Unit {0}
+NodesCome P k (node ∷ nodes) = AllByRecursion P (ends_at k node.inputs) × NodesCome P (k + 1) nodes
 
-nodes_come : (plan : Plan) (k : ℕ) (nodes : List PlanNode) → AllByRecursion (Comes plan) (flat_map (λ e. ends_at e.0 e.1.inputs) (enumerate_from k nodes)) → NodesCome plan k nodes
-nodes_come plan k [] a = tt
-nodes_come plan k (node ∷ nodes) a =
-    let b : AllByRecursion (Comes plan) (ends_at k node.inputs ++ flat_map (λ e. ends_at e.0 e.1.inputs) (enumerate_from (k + 1) nodes)) =
-    subst (AllByRecursion (Comes plan)) (flat_map-cons (λ e. ends_at e.0 e.1.inputs) (k, node) (enumerate_from (k + 1) nodes)) a in
-    (all_front (Comes plan) (ends_at k node.inputs) _ b, nodes_come plan (k + 1) nodes (all_back (Comes plan) (ends_at k node.inputs) _ b))
+nodes_come : (P : Ends → Type 0) (k : ℕ) (nodes : List PlanNode) → AllByRecursion P (flat_map (λ e. ends_at e.0 e.1.inputs) (enumerate_from k nodes)) → NodesCome P k nodes
+nodes_come P k [] a = tt
+nodes_come P k (node ∷ nodes) a =
+    let b : AllByRecursion P (ends_at k node.inputs ++ flat_map (λ e. ends_at e.0 e.1.inputs) (enumerate_from (k + 1) nodes)) =
+    subst (AllByRecursion P) (flat_map-cons (λ e. ends_at e.0 e.1.inputs) (k, node) (enumerate_from (k + 1) nodes)) a in
+    (all_front P (ends_at k node.inputs) _ b, nodes_come P (k + 1) nodes (all_back P (ends_at k node.inputs) _ b))
 
 pub some_same : {X : Type 0} (x y : X) → Some x ≡ Some y → x ≡ y
 some_same x y e = ap (λ o. (elim o [ Some z ↦ z | None ↦ x ])) e
 
-come_at : (plan : Plan) (k w : ℕ) (nodes : List PlanNode) (node : PlanNode) → NodesCome plan k nodes → slice_get nodes w ≡ Some node → AllByRecursion (Comes plan) (ends_at (k + w) node.inputs)
-come_at plan k w [] node c e = absurd cc
-come_at plan k zero (n ∷ nodes) node c e =
-    subst (λ (i : ℕ). AllByRecursion (Comes plan) (ends_at i node.inputs)) (let s : k ≡ k + 0 = omega arith in s)
-    (subst (λ (m : PlanNode). AllByRecursion (Comes plan) (ends_at k m.inputs)) (some_same n node e) c.0)
-come_at plan k (suc w) (n ∷ nodes) node c e =
-    subst (λ (i : ℕ). AllByRecursion (Comes plan) (ends_at i node.inputs)) (let s : k + 1 + w ≡ k + suc w = omega arith in s)
-    (come_at plan (k + 1) w nodes node c.1 e)
+come_at : (P : Ends → Type 0) (k w : ℕ) (nodes : List PlanNode) (node : PlanNode) → NodesCome P k nodes → slice_get nodes w ≡ Some node → AllByRecursion P (ends_at (k + w) node.inputs)
+come_at P k w [] node c e = absurd cc
+come_at P k zero (n ∷ nodes) node c e =
+    subst (λ (i : ℕ). AllByRecursion P (ends_at i node.inputs)) (let s : k ≡ k + 0 = omega arith in s)
+    (subst (λ (m : PlanNode). AllByRecursion P (ends_at k m.inputs)) (some_same n node e) c.0)
+come_at P k (suc w) (n ∷ nodes) node c e =
+    subst (λ (i : ℕ). AllByRecursion P (ends_at i node.inputs)) (let s : k + 1 + w ≡ k + suc w = omega arith in s)
+    (come_at P (k + 1) w nodes node c.1 e)
+
+-- what holds of each edge holds of those into a node
+pub edges_into : (plan : Plan) (P : Ends → Type 0) (w : ℕ) (node : PlanNode) → IsValid plan → AllByRecursion P (map ends_of plan.edges) → slice_get plan.nodes w ≡ Some node → AllByRecursion P (ends_at w node.inputs)
+edges_into plan P w node valid edges e =
+    let ends : AllByRecursion P (all_ends plan) = subst (AllByRecursion P) valid.edges edges in
+    let nodes = nodes_come P 0 plan.nodes (all_front P (flat_map (λ e. ends_at e.0 e.1.inputs) (enumerate_from 0 plan.nodes)) (ends_at (length plan.nodes) plan.outputs) ends) in
+    subst (λ (i : ℕ). AllByRecursion P (ends_at i node.inputs)) (zero-add w) (come_at P 0 w plan.nodes node nodes e)
 
 inputs_come : (plan : Plan) (w : ℕ) (node : PlanNode) → IsValid plan → slice_get plan.nodes w ≡ Some node → AllByRecursion (Comes plan) (ends_at w node.inputs)
 inputs_come plan w node valid e =
     let edges = edges_come plan plan.edges (recursion_from_All (λ (e : Edge). e.back ≡ false → LeadsForward plan e) plan.edges valid.forward) (recursion_from_All (λ (e : Edge). e.back ≡ true → EndsAtLoop plan e) plan.edges valid.back) in
-    let ends : AllByRecursion (Comes plan) (all_ends plan) = subst (AllByRecursion (Comes plan)) valid.edges edges in
-    let nodes = nodes_come plan 0 plan.nodes (all_front (Comes plan) (flat_map (λ e. ends_at e.0 e.1.inputs) (enumerate_from 0 plan.nodes)) (ends_at (length plan.nodes) plan.outputs) ends) in
-    subst (λ (i : ℕ). AllByRecursion (Comes plan) (ends_at i node.inputs)) (zero-add w) (come_at plan 0 w plan.nodes node nodes e)
+    edges_into plan (Comes plan) w node valid edges e
 
 -- the nodes that give streams are there
 abbrev pub GivenBelow : ℕ → Producer → Type 0
@@ -160,7 +165,7 @@ producer_known plan Held w (Input i) valid next below before = tt
 producer_known plan Held w (Node v port) valid next below before = earlier_held plan Held w v valid next below before
 
 -- a stream that leads forward to a node
-forward_same : (plan : Plan) (Held : ℕ → Type 0) (w t port : ℕ) (xs ys : List (StreamPrefix Plain)) → IsValid plan → IsNext plan Held w → t < length plan.streams
+pub forward_same : (plan : Plan) (Held : ℕ → Type 0) (w t port : ℕ) (xs ys : List (StreamPrefix Plain)) → IsValid plan → IsNext plan Held w → t < length plan.streams
     → Forward plan (record { stream = t; node = w; port = port }) → Agree (KnownBy Held) (producers plan) xs ys → stream_of xs t ≡ stream_of ys t
 forward_same plan Held w t port xs ys valid next le forward agree =
     let s = there plan.streams t le in

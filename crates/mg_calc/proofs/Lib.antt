@@ -23,3 +23,5 @@ pub mod StateLists
 pub mod Counting
 pub mod FreeNodes
 pub mod ValidJob
+pub mod EndedInputs
+pub mod NoStall

@@ -1,5 +1,5 @@
 //! Laws of what a graph means: each function does nothing, and its contract is the law.
-ghost use Rattle.std.specs.Prelude.{◌≡◌, ◌↔◌, ℕ, ◌<◌, ◌+◌, List, [], length, map, All, None};
+ghost use Rattle.std.specs.Prelude.{◌≡◌, ◌↔◌, ℕ, ◌<◌, ◌+◌, List, [], length, map, All, None, false};
 ghost use Rattle.std.specs.List.Sorted.{IsStrictlyIncreasing};
 ghost use Rattle.mg_time.specs.Time.{done};
 ghost use Rattle.mg_value.specs.Payload.{Plain};
@@ -90,4 +90,11 @@ pub fn faults_and_stalls_are_told()
 pub fn free_nodes_alone_keep_a_plan_from_being_valid()
     ensures without { (plan : Plan) → IsValidWithFree plan → HasNoFree plan → IsValid plan }
     ensures with_none { (plan : Plan) → IsValid plan → IsValidWithFree plan × HasNoFree plan }
+{}
+
+/// No stream stalls without a cause: where a graph has no back edges, each of its inputs ended and no node failed, every stream has ended.
+pub fn without_back_edges_every_stream_ends()
+    ensures { (job : Job) (solution : List (StreamPrefix Plain)) → IsJob job → IsSolution job solution
+        → All (λ e. e.back ≡ false) job.plan.edges → All (λ s. s.bound ≡ done) job.inputs.streams → faults job solution ≡ []
+        → stalled solution ≡ [] }
 {}

@@ -47,7 +47,7 @@ kept_all p P low (suc len) each =
       | inr fails ↦ subst (λ b. All P (cond b (low ∷ filter p (range_with_len (low + 1) len)) (filter p (range_with_len (low + 1) len)))) (sym fails) rest
     ]
 
-rises : (low len : ℕ) → IsStrictlyIncreasing (range_with_len low len)
+pub rises : (low len : ℕ) → IsStrictlyIncreasing (range_with_len low len)
 rises low len k within =
     let at_k = get_or-range_with_len low len k 0 (let l = length-range_with_len low len in omega (arith, l, within)) in
     let at_next = get_or-range_with_len low len (k + 1) 0 (let l = length-range_with_len low len in omega (arith, l, within)) in
@@ -153,10 +153,10 @@ never_taken count links ms feeds taken n old within next = record {
   ];
 }
 
-pub largest_cycle : (count : ℕ) (sources : List ℕ) (links : List Link) → All (λ n. n < count) sources → AllPairs ◌≢◌ sources
+pub largest_left_out : (count : ℕ) (sources : List ℕ) (links : List Link) → All (λ n. n < count) sources → AllPairs ◌≢◌ sources
     → All (IsBetween count) links → All (λ link. is_among sources link.to ≡ false) links
     → IsLargestCycle links (left_out count (order_of count sources links))
-largest_cycle count sources links below once between unfed =
+largest_left_out count sources links below once between unfed =
     let order = order_of count sources links in
     record {
       ascending = IsStrictlyIncreasing-filter (λ n. not (is_among order n)) (numbers count) (rises 0 count);

@@ -7,6 +7,7 @@ pub mod Numbering
 mod OrderExamples
 pub mod OrderFacts
 pub mod LargestCycle
+pub mod CycleRounds
 pub mod SoundKinds
 pub mod SoundDrafts
 pub mod Boxes

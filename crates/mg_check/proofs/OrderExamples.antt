@@ -2,6 +2,7 @@
 use Rattle.std.proofs.Common.{◌≡◌, List, [], ◌∷◌, refl}
 use Rattle.mg_check.specs.declared.ordering.Link.{Link}
 use Rattle.mg_check.specs.Order.{order_of, left_out}
+use Rattle.mg_check.specs.Cycle.{largest_cycle}
 
 -- a source that feeds the last two nodes, of which the last feeds the one between
 abbrev fed : List Link
@@ -20,3 +21,10 @@ ring_order = refl
 
 ring_out : left_out 4 (0 ∷ []) ≡ 1 ∷ 2 ∷ 3 ∷ []
 ring_out = refl
+
+-- and these are the largest set of nodes of which each reads what another one of them writes
+ring_cycle : largest_cycle 4 ring ≡ 1 ∷ 2 ∷ 3 ∷ []
+ring_cycle = refl
+
+no_cycle : largest_cycle 4 fed ≡ []
+no_cycle = refl

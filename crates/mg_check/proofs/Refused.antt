@@ -15,6 +15,7 @@ use Rattle.mg_check.specs.Drafts.{DraftView}
 use Rattle.mg_check.specs.Joining.{two_producers, no_producer, side_missing, kind_clash, back_edge_misplaced, cycle, too_many, join_refusal, stream_names, stream_meetings, order, edges, cycle_of}
 use Rattle.mg_check.specs.Code.Refusing.{name_refusal, wiring_refusal, producer_refusal, clash_by, count_refusal, AreJoint}
 use Rattle.mg_check.specs.declared.fault.CheckFault.{CheckFault}
+use Rattle.mg_check.proofs.ValidOrder.{left_out_is}
 
 pub or_first : {A : Type 0} (a b : Option A) (fault : A) → a ≡ Some fault → option_or a b ≡ Some fault
 or_first a b fault known = ap (λ o. option_or o b) known
@@ -53,6 +54,7 @@ pub cycle_is : (drafts : List Draft) (graph : GraphView) (ns items : List ℕ) �
 cycle_is drafts graph ns items is known =
     ap (λ l. cycle_of (left_out (length drafts) l)) (is ∙ known)
     ∙ ap (λ n. cycle_of (left_out n (order graph (drafts_view drafts)))) (sym (length-map drafts draft_view))
+    ∙ ap cycle_of (left_out_is graph (drafts_view drafts))
 
 pub count_is : (graph : GraphView) (ds : List DraftView) (edge_count output_count : ℕ) → edge_count ≡ length (edges graph ds) → output_count ≡ length graph.outputs → count_refusal edge_count output_count ≡ too_many graph ds
 count_is graph ds edge_count output_count is known = ap (λ n. count_refusal n output_count) is ∙ ap (count_refusal (length (edges graph ds))) known

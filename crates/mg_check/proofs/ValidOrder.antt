@@ -21,7 +21,10 @@ use Rattle.mg_check.specs.Planning.{plan_streams, plan_of}
 use Rattle.mg_check.specs.declared.ordering.Link.{Link}
 use Rattle.mg_check.specs.Code.Sound.{HasNames}
 use Rattle.mg_calc.proofs.Earlier.{at_place}
+use Rattle.mg_check.specs.Cycle.{largest_cycle}
 use Rattle.mg_check.proofs.OrderFacts.{order_below, order_once, order_forward, left_out_none}
+use Rattle.mg_check.proofs.LargestCycle.{largest_left_out, one_cycle}
+use Rattle.mg_check.proofs.CycleRounds.{rounds_leave_the_largest}
 use Rattle.mg_check.proofs.ValidLists.{joined, pieces, place_if, all_given, given_all, all_so, all_both, and_then_mapped}
 use Rattle.mg_check.proofs.ValidStreams.{stream_writers}
 use Rattle.mg_check.proofs.ValidEdges.{edges_each, edge_to, into_node, nodes_long}
@@ -198,6 +201,13 @@ links_unfed graph ds =
     let P : Link → Type 0 = λ link. is_among (sources ds) link.to ≡ false in
     All-from_recursion P (links graph ds) (all_so (IsSoundLink ds) P (links graph ds) (λ link sound. sound.to.fed) (links_sound graph ds))
 
+-- The nodes that the order leaves out are those of the largest cycle.
+pub left_out_is : (graph : GraphView) (ds : List DraftView) → left_out (length ds) (order graph ds) ≡ largest_cycle (length ds) (links graph ds)
+left_out_is graph ds =
+    one_cycle (links graph ds) (left_out (length ds) (order graph ds)) (largest_cycle (length ds) (links graph ds))
+    (largest_left_out (length ds) (sources ds) (links graph ds) (sources_below ds) (sources_once ds) (links_between graph ds) (links_unfed graph ds))
+    (rounds_leave_the_largest (length ds) (links graph ds) (links_between graph ds))
+
 -- Fields of a valid plan.
 
 no_cycle : (ns : List ℕ) → cycle_of ns ≡ None → ns ≡ []
@@ -207,16 +217,18 @@ no_cycle (n ∷ ns) none = cc
 below_all : (ds : List DraftView) (graph : GraphView) → All (λ n. n < length ds) (order graph ds)
 below_all ds graph = order_below (length ds) (sources ds) (links graph ds) (sources_below ds)
 
+pub order_each_once : (graph : GraphView) (ds : List DraftView) → cycle graph ds ≡ None → HasEachOnce (length ds) (order graph ds)
+order_each_once graph ds none = record {
+  there = left_out_none (length ds) (order graph ds) (left_out_is graph ds ∙ no_cycle (largest_cycle (length ds) (links graph ds)) none);
+  below = below_all ds graph;
+  once = order_once (length ds) (sources ds) (links graph ds) (sources_once ds);
+}
+
 pub valid_order : (graph : GraphView) (ds : List DraftView) → cycle graph ds ≡ None → HasEachOnce (length (plan_of graph ds).nodes) (plan_of graph ds).order
 valid_order graph ds none =
-    subst (λ count. HasEachOnce count (order graph ds)) (sym (nodes_long (stream_names graph ds) (side_names graph ds) (length graph.inputs) ds))
-    (record {
-      there = left_out_none (length ds) (order graph ds) (no_cycle (left_out (length ds) (order graph ds)) none);
-      below = below_all ds graph;
-      once = order_once (length ds) (sources ds) (links graph ds) (sources_once ds);
-    })
+    subst (λ count. HasEachOnce count (order graph ds)) (sym (nodes_long (stream_names graph ds) (side_names graph ds) (length graph.inputs) ds)) (order_each_once graph ds none)
 
-links_forward : (graph : GraphView) (ds : List DraftView) → AllByRecursion (λ link. StandsBefore (order graph ds) link.from link.to) (links graph ds)
+pub links_forward : (graph : GraphView) (ds : List DraftView) → AllByRecursion (λ link. StandsBefore (order graph ds) link.from link.to) (links graph ds)
 links_forward graph ds =
     all_both (Contains (links graph ds)) (IsSoundLink ds) (λ link. StandsBefore (order graph ds) link.from link.to) (links graph ds)
     (λ link there sound. order_forward (length ds) (sources ds) (links graph ds) link there sound.to.fed)

@@ -1,6 +1,9 @@
 -- Cycles: nodes that can come in no order, since each of them reads what another one of them writes.
-use Rattle.std.specs.Prelude.{ℕ, ◌≡◌, ◌<◌, List, All, Contains}
+use Rattle.std.specs.Prelude.{ℕ, zero, suc, ◌≡◌, ◌==◌, ◌&&◌, Bool, List, filter, All, Contains}
+use Rattle.std.specs.List.{list_any}
 use Rattle.std.specs.List.Sorted.{IsStrictlyIncreasing}
+use Rattle.mg_calc.specs.Plan.{numbers}
+use Rattle.mg_check.specs.Order.{is_among}
 use Rattle.mg_check.specs.declared.ordering.Link.{Link}
 
 -- The node reads what one of these nodes writes, over an edge that isn't back.
@@ -19,3 +22,17 @@ pub record IsLargestCycle (links : List Link) (ns : List ℕ) : Type 0 where
   pub ascending : IsStrictlyIncreasing ns
   pub feeds : FeedsItself links ns
   pub largest : (ms : List ℕ) → FeedsItself links ms → All (Contains ns) ms
+
+-- whether a node reads what one of these nodes writes
+abbrev pub is_fed_by : List Link → List ℕ → ℕ → Bool
+is_fed_by links ns n = list_any (λ link. link.to == n && is_among ns link.from) links
+
+-- what is left of a set where its nodes go that read what none of the set writes, so many times
+abbrev pub left_after : ℕ → List Link → List ℕ → List ℕ
+left_after zero links ns = ns
+left_after (suc more) links ns = left_after more links (filter (is_fed_by links ns) ns)
+
+-- the largest set of so many nodes that feeds itself: what is left of all of them when none goes any more, which is so at the latest
+-- after as many times as there are nodes
+abbrev pub largest_cycle : ℕ → List Link → List ℕ
+largest_cycle count links = left_after count links (numbers count)

@@ -14,7 +14,8 @@ use Rattle.mg_calc.specs.Plan.{numbers, writing_node}
 use Rattle.mg_check.specs.Drafts.{DraftView}
 use Rattle.mg_check.specs.Names.{first_again, first_missing, number_in}
 use Rattle.mg_check.specs.Meeting.{Reading, meetings, clashes}
-use Rattle.mg_check.specs.Order.{order_of, left_out}
+use Rattle.mg_check.specs.Order.{order_of}
+use Rattle.mg_check.specs.Cycle.{largest_cycle}
 use Rattle.mg_check.specs.declared.ordering.Link.{Link}
 use Rattle.mg_check.specs.declared.fault.Many.TheVariants.{Edges, Outputs}
 use Rattle.mg_check.specs.declared.fault.CheckFault.{CheckFault}
@@ -121,13 +122,13 @@ sources ds = map (λ e. e.0) (filter (λ e. length e.1.inputs == 0) (enumerate_f
 abbrev pub order : GraphView → List DraftView → List ℕ
 order graph ds = order_of (length ds) (sources ds) (links graph ds)
 
--- Nodes wait for each other.
+-- Nodes each read what another one of them writes; the largest set of such nodes is told.
 abbrev pub cycle_of : List ℕ → Option CheckFault
 cycle_of [] = None
 cycle_of (n ∷ ns) = Some (Cycle (n ∷ ns))
 
 abbrev pub cycle : GraphView → List DraftView → Option CheckFault
-cycle graph ds = cycle_of (left_out (length ds) (order graph ds))
+cycle graph ds = cycle_of (largest_cycle (length ds) (links graph ds))
 
 -- There are too many edges or graph outputs.
 abbrev pub too_many : GraphView → List DraftView → Option CheckFault

@@ -1,9 +1,11 @@
 //! Laws of the definitions: each function does nothing, and its contract is the law.
-ghost use Rattle.std.specs.Prelude.{◌≡◌, ℕ, List, [], Some, None};
+ghost use Rattle.std.specs.Prelude.{◌≡◌, ℕ, List, [], All, Some, None, length};
 ghost use Rattle.mg_config.specs.Config.{GraphView};
-ghost use Rattle.mg_check.specs.Cycle.{FeedsItself, IsLargestCycle};
+ghost use Rattle.mg_calc.specs.Plan.{HasEachOnce, StandsBefore};
+ghost use Rattle.mg_check.specs.Cycle.{FeedsItself, IsLargestCycle, largest_cycle};
 ghost use Rattle.mg_check.specs.Drafts.{DraftView};
-ghost use Rattle.mg_check.specs.Joining.{links, cycle, cycle_of};
+ghost use Rattle.mg_check.specs.Joining.{links, order, cycle, cycle_of};
+ghost use Rattle.mg_check.specs.Order.{left_out};
 ghost use Rattle.mg_check.specs.declared.fault.CheckFault.TheVariants.{Cycle};
 
 /// A graph has a cycle exactly where some nodes each read, by an edge that isn't back, what one of them writes, and a
@@ -15,4 +17,12 @@ pub fn a_cycle_is_the_largest_set()
 
     // There is one such set, so the refusal is that of any set that is the largest.
     ensures only { (graph : GraphView) (ds : List DraftView) (ns : List ℕ) → IsLargestCycle (links graph ds) ns → cycle graph ds ≡ cycle_of ns }
+{}
+
+/// The order of a graph's nodes, which is that of its plan, leads forward along each edge that isn't back: the node that writes stands
+/// before the one that reads. It leaves out exactly the nodes of the largest cycle, so where there is none it has each node once.
+pub fn the_order_leads_forward()
+    ensures forward { (graph : GraphView) (ds : List DraftView) → All (λ link. StandsBefore (order graph ds) link.from link.to) (links graph ds) }
+    ensures left { (graph : GraphView) (ds : List DraftView) → left_out (length ds) (order graph ds) ≡ largest_cycle (length ds) (links graph ds) }
+    ensures each { (graph : GraphView) (ds : List DraftView) → cycle graph ds ≡ None → HasEachOnce (length ds) (order graph ds) }
 {}
