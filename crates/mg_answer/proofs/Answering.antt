@@ -13,7 +13,7 @@ use Rattle.mg_feed.specs.Graph.{GraphInputs, inputs_of}
 use Rattle.mg_feed.specs.Ran.{EndCame, MetEnd, FailedBy}
 use Rattle.mg_feed.specs.Sent.{Sent}
 use Rattle.mg_answer.specs.Notes.{memory_note, bounds_of, notes_by}
-use Rattle.mg_answer.specs.Report.{report_by, asked_report}
+use Rattle.mg_answer.specs.Report.{report_by, report_of, asked_report}
 use Rattle.mg_answer.specs.Outcomes.{TellsOf}
 use Rattle.mg_feed.specs.declared.feed_end.FeedEnd.{FeedEnd}
 use Rattle.mg_feed.specs.declared.feed_end.FeedEnd.TheVariants.{Ended, Failed, Refused, OutOfMemory as no_lines}
@@ -24,6 +24,7 @@ use Rattle.mg_answer.specs.Devices.{Device, device, RunDevices, run_devices, Unt
 use Rattle.mg_answer.specs.Status.{IsOneOf}
 use Rattle.mg_answer.specs.Ran.{CameAs, CameTo, RanAll, RanShort, TookSome, Ran, IsAnswered}
 use Rattle.mg_answer.specs.Put.{TextView, HasPut}
+use Rattle.mg_answer.specs.Frozen.{frozen_notes, frozen_answer, WroteFrozen}
 use Rattle.mg_answer.specs.Wrote.{Meets, MetShort, WroteBy, Wrote}
 use Rattle.mg_answer.specs.Code.Answered.{WroteSome}
 use Rattle.mg_answer.specs.Code.Bounds.{open_numbers, end_bounds}
@@ -183,35 +184,71 @@ wrote telling job end streams status result written noted output notes solution 
       (λ (s : Status). notes_at s telling job end streams) output notes is refl refl refl text notes_text);
 }
 
--- what is said of outcomes that a job's streams tell
-said-of : (status : Status) (plan : Plan) (end : FeedEnd) (outcomes : Outcomes) (report : Bool) (form : Form) (job : Job) (streams : List (StreamPrefix Plain)) → job.plan ≡ plan
-    → TellsOf job streams outcomes → all_notes status plan end outcomes report ≡ notes_at status (record { form = form; report = report }) job end streams
-said-of status plan end outcomes report form job streams plan_is tells =
+-- and so it is of a frozen one
+wrote-frozen : (telling : Telling) (job : Job) (streams : List (StreamPrefix Plain)) (status result : Status) (written noted : Bool) (output notes : Device SinkTold)
+    → IsSolution job streams → status ≡ (if written then status_of Ended (faults job streams) [] else WriteFault)
+    → Sent written output.before output.now (output_in telling.form job.plan streams)
+    → Sent noted notes.before notes.now (frozen_notes status telling job streams) → result ≡ (if noted then status else WriteFault)
+    → WroteFrozen telling job result output notes
+wrote-frozen telling job streams status result written noted output notes solution is text notes_text result_is = record {
+  streams = streams;
+  solution = solution;
+  by = subst (λ (s : Status). WroteBy s (frozen_answer telling job streams) (failed_notes telling job Ended streams) output notes) (sym result_is)
+      (wrote-by Ended (faults job streams) [] (frozen_answer telling job streams) (failed_notes telling job Ended streams) status written noted
+      (λ (s : Status). frozen_notes s telling job streams) output notes is refl refl refl text notes_text);
+}
+
+-- what is said of outcomes that a job's streams tell, where these streams stalled
+said-by : (status : Status) (plan : Plan) (end : FeedEnd) (outcomes : Outcomes) (ns : List ℕ) (report : Bool) (job : Job) (streams : List (StreamPrefix Plain)) → job.plan ≡ plan
+    → TellsOf job streams outcomes → all_notes status plan end outcomes ns report ≡ notes_by status job.plan end (faults job streams) (bounds_of streams) ns ++ asked_report report (report_of job streams)
+said-by status plan end outcomes ns report job streams plan_is tells =
     let bounds : end_bounds outcomes.ends.items ≡ bounds_of streams = ap end_bounds tells.ends ∙ bounds-told streams in
-    let numbers : open_numbers outcomes.ends.items ≡ stalled streams = ap open_numbers tells.ends ∙ open-stalled streams in
-    λ i. notes_by status (sym plan_is i) end (tells.faults i) (bounds i) (numbers i) ++ asked_report report (report_by (sym plan_is i) (tells.sets i) (tells.ends i))
+    λ i. notes_by status (sym plan_is i) end (tells.faults i) (bounds i) ns ++ asked_report report (report_by (sym plan_is i) (tells.sets i) (tells.ends i))
+
+-- the text was put
+sent-of : (plan : Plan) (view view' : TextView) (written : Bool) (before now : SinkTold) → ((first : SinkTold) (text : List ℕ) → HasPut first before view text → HasPut first now view' text)
+    → (view'.failed ≡ false → view'.kept ≡ []) → written ≡ not view'.failed → (form : Form) (job : Job) (streams : List (StreamPrefix Plain)) (first : SinkTold) → job.plan ≡ plan
+    → HasPut first before view (output_in form plan streams) → Sent written first now (output_in form job.plan streams)
+sent-of plan view view' written before now flush none written_is form job streams first plan_is put =
+    subst (λ (b : Bool). Sent b first now (output_in form job.plan streams)) (sym written_is)
+    (subst (λ (p : Plan). Sent (not view'.failed) first now (output_in form p streams)) (sym plan_is)
+    (put-sent view'.failed first now view'.kept (output_in form plan streams) none (flush first (output_in form plan streams) put)))
 
 -- the same, where the text was put, and the outcomes tell the rest
-pub wrote-told : (plan : Plan) (end : FeedEnd) (outcomes : Outcomes) (report : Bool) (view view' : TextView) (status result : Status) (written noted : Bool) (bytes said : List ℕ)
+pub wrote-told : (plan : Plan) (end : FeedEnd) (outcomes : Outcomes) (ns : List ℕ) (report : Bool) (view view' : TextView) (status result : Status) (written noted : Bool) (bytes said : List ℕ)
     (before now notes_before notes_now : SinkTold) → ((first : SinkTold) (text : List ℕ) → HasPut first before view text → HasPut first now view' text)
-    → (view'.failed ≡ false → view'.kept ≡ []) → written ≡ not view'.failed
-    → status ≡ (if written then status_of end outcomes.faults (open_numbers outcomes.ends.items) else WriteFault)
-    → said ≡ all_notes status plan end outcomes report → bytes ≡ said → Sent noted notes_before notes_now bytes → result ≡ (if noted then status else WriteFault)
+    → (view'.failed ≡ false → view'.kept ≡ []) → written ≡ not view'.failed → ns ≡ open_numbers outcomes.ends.items
+    → status ≡ (if written then status_of end outcomes.faults ns else WriteFault)
+    → said ≡ all_notes status plan end outcomes ns report → bytes ≡ said → Sent noted notes_before notes_now bytes → result ≡ (if noted then status else WriteFault)
     → (form : Form) (job : Job) (streams : List (StreamPrefix Plain)) (first : SinkTold) → job.plan ≡ plan → IsSolution job streams → TellsOf job streams outcomes
     → HasPut first before view (output_in form plan streams) → Wrote (record { form = form; report = report }) job end result (device first now) (device notes_before notes_now)
-wrote-told plan end outcomes report view view' status result written noted bytes said before now notes_before notes_now flush none written_is is said_is bytes_is sent result_is
+wrote-told plan end outcomes ns report view view' status result written noted bytes said before now notes_before notes_now flush none written_is ns_is is said_is bytes_is sent result_is
     form job streams first plan_is solution tells put =
     let telling : Telling = record { form = form; report = report } in
-    let numbers : open_numbers outcomes.ends.items ≡ stalled streams = ap open_numbers tells.ends ∙ open-stalled streams in
+    let numbers : ns ≡ stalled streams = ns_is ∙ ap open_numbers tells.ends ∙ open-stalled streams in
     let told_is : status ≡ (if written then status_of end (faults job streams) (stalled streams) else WriteFault) =
-    is ∙ ap (λ (s : Status). if written then s else WriteFault) (ap (λ l. status_of end l (open_numbers outcomes.ends.items)) tells.faults ∙ ap (status_of end (faults job streams)) numbers) in
-    let noted_is : bytes ≡ notes_at status telling job end streams = bytes_is ∙ said_is ∙ said-of status plan end outcomes report form job streams plan_is tells in
-    let text : Sent (not view'.failed) first now (output_in form plan streams) =
-    put-sent view'.failed first now view'.kept (output_in form plan streams) none (flush first (output_in form plan streams) put) in
+    is ∙ ap (λ (s : Status). if written then s else WriteFault) (ap (λ l. status_of end l ns) tells.faults ∙ ap (status_of end (faults job streams)) numbers) in
+    let noted_is : bytes ≡ notes_at status telling job end streams =
+    bytes_is ∙ said_is ∙ said-by status plan end outcomes ns report job streams plan_is tells
+    ∙ ap (λ (l : List ℕ). notes_by status job.plan end (faults job streams) (bounds_of streams) l ++ asked_report report (report_of job streams)) numbers in
     wrote telling job end streams status result written noted (device first now) (device notes_before notes_now) solution told_is
-    (subst (λ (b : Bool). Sent b first now (output_in form job.plan streams)) (sym written_is)
-    (subst (λ (p : Plan). Sent (not view'.failed) first now (output_in form p streams)) (sym plan_is) text))
+    (sent-of plan view view' written before now flush none written_is form job streams first plan_is put)
     (subst (λ (l : List ℕ). Sent noted notes_before notes_now l) noted_is sent) result_is
+
+pub wrote-told-frozen : (plan : Plan) (outcomes : Outcomes) (report : Bool) (view view' : TextView) (status result : Status) (written noted : Bool) (bytes said : List ℕ)
+    (before now notes_before notes_now : SinkTold) → ((first : SinkTold) (text : List ℕ) → HasPut first before view text → HasPut first now view' text)
+    → (view'.failed ≡ false → view'.kept ≡ []) → written ≡ not view'.failed
+    → status ≡ (if written then status_of Ended outcomes.faults [] else WriteFault)
+    → said ≡ all_notes status plan Ended outcomes [] report → bytes ≡ said → Sent noted notes_before notes_now bytes → result ≡ (if noted then status else WriteFault)
+    → (form : Form) (job : Job) (streams : List (StreamPrefix Plain)) (first : SinkTold) → job.plan ≡ plan → IsSolution job streams → TellsOf job streams outcomes
+    → HasPut first before view (output_in form plan streams) → WroteFrozen (record { form = form; report = report }) job result (device first now) (device notes_before notes_now)
+wrote-told-frozen plan outcomes report view view' status result written noted bytes said before now notes_before notes_now flush none written_is is said_is bytes_is sent result_is
+    form job streams first plan_is solution tells put =
+    let telling : Telling = record { form = form; report = report } in
+    wrote-frozen telling job streams status result written noted (device first now) (device notes_before notes_now) solution
+    (is ∙ ap (λ (s : Status). if written then s else WriteFault) (ap (λ l. status_of Ended l []) tells.faults))
+    (sent-of plan view view' written before now flush none written_is form job streams first plan_is put)
+    (subst (λ (l : List ℕ). Sent noted notes_before notes_now l) (bytes_is ∙ said_is ∙ said-by status plan Ended outcomes [] report job streams plan_is tells) sent) result_is
 
 -- memory ran out after the output was written
 pub wrote-front : (job : Job) (streams : List (StreamPrefix Plain)) (output : Device SinkTold) → IsSolution job streams → TookFront output (output_of job.plan streams) → WroteSome job output

@@ -13,3 +13,4 @@ pub mod AddingSets
 pub mod Summing
 pub mod LongerTexts
 pub mod WorkedSummary
+pub mod ChangedPlaces

@@ -10,7 +10,7 @@ ghost use Rattle.mg_answer.specs.Outcomes.{TellsOf};
 ghost use Rattle.mg_answer.specs.Devices.{device, TookFront};
 ghost use Rattle.mg_answer.specs.Put.{HasPut};
 ghost use Rattle.mg_answer.specs.Wrote.{Wrote};
-ghost use Rattle.mg_answer.specs.Code.Bounds.{open_numbers};
+ghost use Rattle.mg_answer.specs.Frozen.{WroteFrozen};
 ghost use Rattle.mg_answer.specs.Code.Said.{all_notes};
 
 use crate::notes::{put_end, put_faults, put_status};
@@ -51,7 +51,35 @@ pub fn conclude<K: Sink, E: Sink>(
     ensures unnoted { OnErr result (E.told notes.new ≡ E.told notes.old) }
 {
     text.flush(output);
-    let told = tell(run, end, outcomes, !text.has_failed())?;
+    let stalled = stalled_of(run.alloc, outcomes.ends.as_slice())?;
+    let told = tell(run, end, outcomes, &stalled, !text.has_failed())?;
+    let noted = put_all(notes, &told.notes);
+    Ok(unless_failed(noted, told.status))
+}
+
+/// Ends a run whose sets are all put in the same way, where its input was frozen: it didn't end well, but nothing is said of that. No
+/// stream is told to have stalled then.
+pub fn conclude_frozen<K: Sink, E: Sink>(
+    run: &Run<'_>,
+    outcomes: &Outcomes,
+    mut text: OutputText,
+    output: &mut K,
+    notes: &mut E,
+) -> Result<Status, AllocError>
+    requires few { length outcomes.now.ends.items < 2 ^ 32 }
+    requires many { length outcomes.now.ends.items ≡ length run.now.plan.now.streams }
+    requires sets { length outcomes.now.sets ≡ length run.now.plan.now.nodes }
+    requires nodes { All (λ fault. fault.node < length run.now.plan.now.nodes) outcomes.now.faults }
+    ensures wrote { IfOk result (λ status. (form : Form) (job : Job) (streams : List (StreamPrefix Plain)) (first : SinkTold)
+        → job.plan ≡ run.now.plan.now → IsSolution job streams → TellsOf job streams outcomes.now
+        → HasPut first (K.told output.old) text (output_in form run.now.plan.now streams)
+        → WroteFrozen (record { form = form; report = run.now.report }) job status (device first (K.told output.new)) (device (E.told notes.old) (E.told notes.new))) }
+    ensures front { OnErr result ((first : SinkTold) (whole : List ℕ) → HasPut first (K.told output.old) text whole
+        → TookFront (device first (K.told output.new)) whole) }
+    ensures unnoted { OnErr result (E.told notes.new ≡ E.told notes.old) }
+{
+    text.flush(output);
+    let told = tell(run, FeedEnd::Ended, outcomes, &[], !text.has_failed())?;
     let noted = put_all(notes, &told.notes);
     Ok(unless_failed(noted, told.status))
 }
@@ -70,23 +98,29 @@ struct Told {
     notes: Vec<u8>,
 }
 
-// The status and the notes of a run whose input ended so, and whose text was written or wasn't.
-fn tell(run: &Run<'_>, end: FeedEnd, outcomes: &Outcomes, written: bool) -> Result<Told, AllocError>
+// The status and the notes of a run whose input ended so, of which these streams stalled, and whose text was written or wasn't.
+fn tell(
+    run: &Run<'_>,
+    end: FeedEnd,
+    outcomes: &Outcomes,
+    stalled: &[u32],
+    written: bool,
+) -> Result<Told, AllocError>
     requires few { length outcomes.now.ends.items < 2 ^ 32 }
+    requires numbers { All (λ number. number < length outcomes.now.ends.items) stalled.now }
     requires many { length outcomes.now.ends.items ≡ length run.now.plan.now.streams }
     requires sets { length outcomes.now.sets ≡ length run.now.plan.now.nodes }
     requires nodes { All (λ fault. fault.node < length run.now.plan.now.nodes) outcomes.now.faults }
-    ensures status { IfOk result (λ told. told.status ≡ (if written then the_status end outcomes.now.faults (open_numbers outcomes.now.ends.items) else Status.WriteFault)) }
-    ensures notes { IfOk result (λ told. told.notes.items ≡ all_notes told.status run.now.plan.now end outcomes.now run.now.report) }
+    ensures status { IfOk result (λ told. told.status ≡ (if written then the_status end outcomes.now.faults stalled.now else Status.WriteFault)) }
+    ensures notes { IfOk result (λ told. told.notes.items ≡ all_notes told.status run.now.plan.now end outcomes.now stalled.now run.now.report) }
 {
     let faults = outcomes.faults.as_slice();
     let ends = outcomes.ends.as_slice();
-    let stalled = stalled_of(run.alloc, ends)?;
-    let status = unless_failed(written, status_of(end, faults, &stalled));
+    let status = unless_failed(written, status_of(end, faults, stalled));
     let mut notes = Vec::new(run.alloc);
     put_end(&mut notes, end)?;
     put_faults(&mut notes, run.plan, faults)?;
-    put_status(&mut notes, status, run.plan, ends, &stalled)?;
+    put_status(&mut notes, status, run.plan, ends, stalled)?;
     put_asked(
         &mut notes,
         run.report,

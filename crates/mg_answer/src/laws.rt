@@ -12,6 +12,7 @@ ghost use Rattle.mg_calc.specs.Equations.{Job, IsJob, IsSolution};
 ghost use Rattle.mg_calc.specs.Meaning.{faults, stalled};
 ghost use Rattle.mg_feed.specs.declared.feed_end.FeedEnd.{FeedEnd};
 ghost use Rattle.mg_feed.specs.declared.feed_end.FeedEnd.TheVariants as ends;
+ghost use Rattle.mg_feed.specs.Apart.{AreApart};
 ghost use Rattle.mg_feed.specs.Graph.{GraphInputs, inputs_of};
 ghost use Rattle.mg_feed.specs.Lines.{all_lines};
 ghost use Rattle.mg_feed.specs.Accepted.{given_by, accepted, first_refused_after};
@@ -135,4 +136,13 @@ pub fn texts_grow()
           inputs = record { streams = (given_by (inputs_of plan) lines).streams; sides = (given_by (inputs_of plan) lines).sides; ended = false };
         }) streams
         → IsSolution (job_of plan (ended_input (inputs_of plan) bytes)) longer → IsFront (output_of plan streams) (output_of plan longer) }
+{}
+
+/// Lines of different streams may change places: where two that stand one behind the other name different streams, and all lines are good
+/// in either order, the answer is the same.
+pub fn lines_of_different_streams_answer_the_same()
+    ensures { (report : Bool) (plan : Plan) (input other : List ℕ) (front back : List (List ℕ)) (first second : List ℕ) (answer : Answer)
+        → all_lines input ≡ front ++ first ∷ second ∷ back → all_lines other ≡ front ++ second ∷ first ∷ back → AreApart first second
+        → AllGood (inputs_of plan) [] (all_lines input) → AllGood (inputs_of plan) [] (all_lines other)
+        → AnswersEnded report plan input answer → AnswersEnded report plan other answer }
 {}

@@ -53,7 +53,7 @@ grows-then a b c came came' taken taken' one two first past lines gone it =
 
 -- The end --
 
-lines-by : (ended : Bool) (past : List ℕ) (lines : List (List ℕ)) (kept more : List ℕ) → IsCut (arrived ended past) lines kept → (ended ≡ true → more ≡ [])
+pub lines-by : (ended : Bool) (past : List ℕ) (lines : List (List ℕ)) (kept more : List ℕ) → IsCut (arrived ended past) lines kept → (ended ≡ true → more ≡ [])
     → all_lines (past ++ more) ≡ lines ++ all_lines (kept ++ more)
 lines-by false past lines kept more cut fits = cut-all past lines kept more cut
 lines-by true past lines kept more cut fits =

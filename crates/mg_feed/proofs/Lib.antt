@@ -8,6 +8,7 @@ pub mod Several
 pub mod Emptying
 pub mod Holding
 pub mod Text
+pub mod ItemTexts
 pub mod Sending
 pub mod Graphs
 pub mod Making
@@ -21,4 +22,8 @@ pub mod Joining
 pub mod Coming
 pub mod Moving
 pub mod Stepping
+pub mod JsonParts
+pub mod Trees
 pub mod Frames
+pub mod ChangingPlaces
+pub mod LinesOut

@@ -164,7 +164,7 @@ heavier-bytes a b came view before ended kept some =
     let late_b : late b.read.ended ≡ 0 = ap late ended in
     omega (arith, lines, more, late_a, late_b, some)
 
-with_feed-grows : (rest bytes : List ℕ) → length bytes ≤ length (with_feed rest bytes)
+pub with_feed-grows : (rest bytes : List ℕ) → length bytes ≤ length (with_feed rest bytes)
 with_feed-grows [] bytes = omega arith
 with_feed-grows (b ∷ rest) bytes = omega (arith, length-append bytes (10 ∷ []))
 
@@ -221,7 +221,7 @@ left-told None before now came first_last before_last now_last gave same is = tt
 left-told (Some all) before now came first_last before_last now_last (left, was, split) same is =
     (rw was at is) ∙ ap (option_map (λ last. now)) same
 
-failed-stop : (first before now : SourceTold) (came : List ℕ) → Gave first.left before.left came → Unfailed first before → ReadFailed before now → ReadFailed first now
+pub failed-stop : (first before now : SourceTold) (came : List ℕ) → Gave first.left before.left came → Unfailed first before → ReadFailed before now → ReadFailed first now
 failed-stop first before now came gave un failed = record {
   once = failed.once ∙ ap one_more un.steady;
   last = left-told first.left before.left now.left came first.left_at_fault before.left_at_fault now.left_at_fault gave un.last failed.last;

@@ -24,10 +24,10 @@ use Rattle.mg_feed.proofs.Moving.{met-same, spends-late, spends-read, unfailed-s
 
 -- Reads --
 
-met-open : (a b : Bool) (before now : SourceTold) → a ≡ false → b ≡ false → now.ends ≡ before.ends → MetEnd a b before now
+pub met-open : (a b : Bool) (before now : SourceTold) → a ≡ false → b ≡ false → now.ends ≡ before.ends → MetEnd a b before now
 met-open a b before now was is same = rw (was, is) same
 
-met-end : (a b : Bool) (before now : SourceTold) → a ≡ false → b ≡ true → EndCame before now → MetEnd a b before now
+pub met-end : (a b : Bool) (before now : SourceTold) → a ≡ false → b ≡ true → EndCame before now → MetEnd a b before now
 met-end a b before now was is same = rw (was, is) same
 
 pub moved-bytes : (old new : Fed) (before now : SourceTold) → new.view ≡ old.view → old.read.ended ≡ false → (got : GotBytes old.read new.read before now)

@@ -11,3 +11,4 @@ pub mod Readers
 pub mod Filled
 pub mod Moves
 pub mod Frames
+pub mod Handing

@@ -5,6 +5,7 @@ pub mod Form
 pub mod Value
 pub mod Accepted
 pub mod Given
+pub mod Apart
 pub mod Output
 pub mod Generated
 pub mod View
@@ -17,5 +18,7 @@ pub mod Fed
 pub mod Came
 pub mod Ran
 pub mod Batch
+pub mod Handed
+pub mod LinesSeen
 -- What only the code's own functions say to one another. Nothing above rests on it.
 pub mod Code

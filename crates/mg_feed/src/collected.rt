@@ -106,17 +106,17 @@ impl Collected {
             self.packet(alloc, frame.stream, &frame.time, &frame.value)?;
             return Ok(true);
         }
-        let named = self.tree(alloc, text)?;
+        let named = self.tree(alloc, scratch, text)?;
         Ok(named)
     }
 
     // Takes what a line says as a JSON value.
-    fn tree(&mut self, alloc: Global, text: &[u8]) -> Result<bool, LineFault>
+    fn tree(&mut self, alloc: Global, scratch: &mut Scratch, text: &[u8]) -> Result<bool, LineFault>
         ensures named { IfOk result (λ named. named ≡ form_names (option_and_then form_of (json_value text.now))) }
         ensures heard { Heard (collected self.old) (collected self.new) result (json_refusal (before_seen (collected self.old)) (json_value text.now))
             (with_said (collected self.old).graph (collected self.old).given (option_and_then form_of (json_value text.now))) }
     {
-        let value = json_by(alloc, text)?;
+        let value = json_by(alloc, text, scratch)?;
         let named = self.value(alloc, &value)?;
         Ok(named)
     }

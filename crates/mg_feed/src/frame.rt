@@ -1,18 +1,17 @@
 ghost use Rattle.std.specs.Prelude.{◌≡◌, [], ◌∷◌, Some, IfSome, IsTrue, codes, option_and_then};
 ghost use Rattle.json.specs.Token.{begin_object, end_object, key, string as text_token, number as number_token};
-ghost use Rattle.json.specs.Reads.{token_of};
-ghost use Rattle.serde_json.specs.Data.{number, string};
+ghost use Rattle.serde_json.specs.Data.{number};
 ghost use Rattle.serde_json.specs.View.{view, number_view};
 ghost use Rattle.mg_feed.specs.Form.{packets, form_of, json_value};
-ghost use Rattle.mg_feed.specs.Code.Frames.{IsFrame, NumberAt, ScalarAt, scalar_of};
+ghost use Rattle.mg_feed.specs.Code.Frames.{IsFrame, NumberAt, ValueAt};
 
+use crate::tokens::{MAX_DEPTH, value_by_tokens};
 use crate::whole::whole_by;
 use json::{Reader, Scratch, Token};
 use serde_json::{Number, Value};
 use std::alloc::Global;
 
-/// What a usual packet line says: an object of a stream's name, a whole number as its timestamp and a scalar as its value,
-/// in this order.
+/// What a usual packet line says: an object of a stream's name, a whole number as its timestamp and any value, in this order.
 #[derive(Drop)]
 pub struct Frame<'a> {
     pub stream: &'a str,
@@ -74,37 +73,14 @@ fn time_by(reader: &mut Reader<'_>) -> Option<Number>
     whole_by(text)
 }
 
-// The value that comes next.
+// The value that comes next, which lies in the line's object.
 fn value_by(alloc: Global, reader: &mut Reader<'_>) -> Option<Value>
-    ensures { IfSome result (λ v. ScalarAt (codes "value") reader.old (view v) reader.new) }
+    ensures { IfSome result (λ v. ValueAt (codes "value") reader.old (view v) reader.new) }
 {
     if !has_key(reader, "value") {
         return None;
     }
-    let token = reader.next()?;
-    scalar_by(alloc, token)
-}
-
-// The value that a token is by itself, but for `null`, which says no payload.
-fn scalar_by(alloc: Global, token: Token<'_>) -> Option<Value>
-    ensures { IfSome result (λ v. scalar_of (token_of token.entry) ≡ Some (view v)) }
-{
-    match token {
-        Token::Number(text) => Some(Value::from(whole_by(text)?)),
-        Token::Bool(flag) => Some(Value::from(flag)),
-        Token::String(text) => text_value(alloc, text),
-        _ => None,
-    }
-}
-
-// The value that is a text, where there is memory.
-fn text_value(alloc: Global, text: &str) -> Option<Value>
-    ensures { IfSome result (λ v. view v ≡ string text.now) }
-{
-    match String::from_str(alloc, text) {
-        Ok(text) => Some(Value::from(text)),
-        Err(_) => None,
-    }
+    value_by_tokens(alloc, reader, MAX_DEPTH - 1)
 }
 
 // Whether an object begins.

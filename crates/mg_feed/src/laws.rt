@@ -1,11 +1,13 @@
 //! Laws of what packet lines mean: each function does nothing, and its contract is the law.
-ghost use Rattle.std.specs.Prelude.{◌≡◌, ◌<◌, ◌++◌, max, ℕ, Bool, true, false, Option, List, [], length, slice_index_or};
+ghost use Rattle.std.specs.Prelude.{◌≡◌, ◌<◌, ◌++◌, max, ℕ, Bool, true, false, Option, List, [], ◌∷◌, length, slice_index_or};
 ghost use Rattle.mg_value.specs.Payload.{Plain};
 ghost use Rattle.mg_value.specs.Prefix.{Stamped, empty_prefix};
 ghost use Rattle.mg_value.specs.Extension.{AreExtendedBy};
+ghost use Rattle.mg_calc.specs.declared.plan.Plan.{Plan};
 ghost use Rattle.mg_edge.specs.Edge.{SourceTold};
 ghost use Rattle.mg_edge.specs.Runs.{Gave};
-ghost use Rattle.mg_feed.specs.Graph.{GraphInputs};
+ghost use Rattle.mg_feed.specs.Apart.{AreApart};
+ghost use Rattle.mg_feed.specs.Graph.{GraphInputs, inputs_of};
 ghost use Rattle.mg_feed.specs.Lines.{all_lines};
 ghost use Rattle.mg_feed.specs.Accepted.{given_by, accepted};
 ghost use Rattle.mg_feed.specs.Given.{ended_streams};
@@ -74,6 +76,12 @@ pub fn takings_join()
 pub fn what_came_is_a_front()
     ensures { (past rest : List ℕ) (lines : List (List ℕ)) (gone : List (List (Stamped Plain))) (f : Fed) → Came [] past lines gone f
         → (f.read.ended ≡ true → rest ≡ []) → (more : List (List ℕ)) × (accepted f.view.graph (all_lines (past ++ rest)) ≡ lines ++ more) }
+{}
+
+/// Two lines of different streams, one behind the other, give a plan's graph the same in either order.
+pub fn lines_of_different_streams_may_change_places()
+    ensures { (plan : Plan) (front back : List (List ℕ)) (first second : List ℕ) → AreApart first second
+        → given_by (inputs_of plan) (front ++ first ∷ second ∷ back) ≡ given_by (inputs_of plan) (front ++ second ∷ first ∷ back) }
 {}
 
 /// Accepted lines are all good.

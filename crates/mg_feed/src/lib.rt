@@ -1,7 +1,7 @@
 //! Packet lines: what they give a graph's inputs, and the lines of what a graph puts out.
 //! Answers to the definitions of `specs/Form.antt`, `specs/Accepted.antt`, `specs/Output.antt` and `specs/Generated.antt`;
 //! what a feed stands for is in `specs/Stands.antt`, and what of the bytes that it read in `specs/Came.antt` and
-//! `specs/Batch.antt`.
+//! `specs/Batch.antt`; and how the lines of an input are handed out in `specs/Handed.antt`.
 #![tactic(auto)]
 
 mod collected;
@@ -19,6 +19,8 @@ mod limits;
 mod line_fault;
 mod line_json;
 mod line_writer;
+mod lines;
+mod payload_text;
 mod places;
 mod put;
 mod reader;
@@ -27,6 +29,7 @@ mod standing;
 mod streams;
 mod taking;
 mod times;
+mod tokens;
 mod whole;
 
 pub use feed::Feed;
@@ -35,6 +38,7 @@ pub use generating::generate;
 pub use limits::{LONGEST_LINE, MOST_LINES};
 pub use line_fault::LineFault;
 pub use line_writer::{LineWriter, write_line};
+pub use lines::{Lines, NextLine};
 pub use places::{Placed, Places};
 pub use put::put_all;
 pub use standing::Standing;

@@ -3,37 +3,52 @@ ghost use Rattle.mg_feed.specs.declared.line_fault.LineFault.TheVariants.{OutOfM
 
 use mg_value::ValueFault;
 use std::alloc::{AllocError, AllocFailed};
+use thiserror::Error;
 
 /// Why a line isn't good. Of several causes the first is told.
-#[derive(Clone, Copy, Debug, PartialEq, Eq)]
+#[derive(Clone, Copy, Debug, PartialEq, Eq, Error)]
 pub enum LineFault {
     /// It isn't JSON.
+    #[error("it is no JSON")]
     NotJson,
     /// It has none of the five forms of a packet line.
+    #[error("it has none of the forms of a packet line")]
     BadShape,
     /// It names a stream or a side packet that is no input of the graph.
+    #[error("it names no input of the graph")]
     UnknownStream,
     /// A timestamp is none that a packet may carry.
+    #[error("no packet may carry the timestamp")]
     BadTimestamp,
     /// A packet stands below the bound of its stream.
+    #[error("the packet stands below the bound of its stream")]
     NotAscending,
     /// A stream was closed by a line before.
+    #[error("the stream was closed by a line before")]
     Closed,
     /// A payload isn't of its stream's kind.
+    #[error("the payload isn't of the kind of its stream")]
     KindMismatch,
     /// A value says no payload.
+    #[error("{0}")]
     BadValue(ValueFault),
     /// It has more than 1,048,576 bytes.
+    #[error("it has more than 1048576 bytes")]
     TooLong,
     /// 4,000,000 lines come before it.
+    #[error("4000000 lines come before it")]
     TooManyLines,
     /// A line before a side packet named a stream.
+    #[error("a line before the side packet named a stream")]
     SideLate,
     /// A side packet came already.
+    #[error("the side packet came already")]
     SideTwice,
     /// A packet at PostStream isn't the only one of its stream.
+    #[error("the packet at PostStream isn't the only one of its stream")]
     NotAlone,
     /// Want of memory. The line may be good.
+    #[error("out of memory")]
     OutOfMemory,
 }
 

@@ -4,14 +4,19 @@ ghost use Rattle.serde_json.specs.View.{view};
 ghost use Rattle.mg_feed.specs.Form.{is_blank, json_value};
 
 use crate::LineFault;
+use crate::tokens::text_by_tokens;
+use json::Scratch;
 use serde_json::Value;
 use std::alloc::Global;
 
-/// The JSON value of a text.
-pub fn json_by(alloc: Global, text: &[u8]) -> Result<Value, LineFault>
+/// The JSON value of a text. It is read with the scratch that is kept; what can't be read so is read again, for the fault.
+pub fn json_by(alloc: Global, text: &[u8], scratch: &mut Scratch) -> Result<Value, LineFault>
     ensures value { IfOk result (λ value. json_value text.now ≡ Some (view value)) }
     ensures fault { IfErr result (λ fault. fault ≢ LineFault.OutOfMemory → (fault ≡ LineFault.NotJson) × (json_value text.now ≡ None)) }
 {
+    if let Some(value) = text_by_tokens(alloc, text, scratch) {
+        return Ok(value);
+    }
     match Value::from_slice(alloc, text) {
         Ok(value) => Ok(value),
         Err(error) if error.is_memory() => Err(LineFault::OutOfMemory),

@@ -1,16 +1,13 @@
 ghost use Rattle.std.specs.Prelude.{◌≡◌, ◌++◌, OnOk, IfOk};
-ghost use Rattle.std.specs.Fmt.{signed_decimal};
 ghost use Rattle.serde_json.specs.Data.{string};
 ghost use Rattle.serde_json.specs.View.{view};
 ghost use Rattle.serde_json.specs.Written.{compact_text};
-ghost use Rattle.mg_value.specs.Payload.{plain};
-ghost use Rattle.mg_value.specs.Json.{json_of};
 ghost use Rattle.mg_feed.specs.Output.{line_text, time_data};
 ghost use Rattle.mg_feed.specs.Code.LineHead.{line_head, line_tail};
 
-use itoa::Buffer;
+use crate::payload_text::{push, push_number, push_payload};
 use mg_time::Timestamp;
-use mg_value::{MgText, Packet, Payload, to_json};
+use mg_value::{MgText, Packet};
 use serde_json::Value;
 use std::alloc::{AllocError, Global};
 use std::marker::Model;
@@ -104,31 +101,4 @@ fn push_time(text: &mut Vec<u8>, at: Timestamp) -> Result<(), AllocError>
         push_number(text, at.raw())?;
     }
     Ok(())
-}
-
-// Puts a payload as JSON at the end of a text.
-fn push_payload(text: &mut Vec<u8>, payload: &Payload) -> Result<(), AllocError>
-    ensures { OnOk result (text.new.items ≡ text.old.items ++ compact_text (json_of (plain payload.now))) }
-{
-    if let Payload::Int(number) = payload {
-        return push_number(text, *number);
-    }
-    let alloc = *text.allocator();
-    let value = to_json(alloc, payload)?;
-    push(text, value.to_string(alloc)?.as_bytes())
-}
-
-// Puts bytes at the end of a text.
-fn push(text: &mut Vec<u8>, bytes: &[u8]) -> Result<(), AllocError>
-    ensures { OnOk result (text.new.items ≡ text.old.items ++ bytes.now) }
-{
-    text.extend_from_slice(bytes)
-}
-
-// Puts a number's digits at the end of a text.
-fn push_number(text: &mut Vec<u8>, number: i64) -> Result<(), AllocError>
-    ensures { OnOk result (text.new.items ≡ text.old.items ++ signed_decimal number) }
-{
-    let mut digits = Buffer::new();
-    push(text, digits.format(number).as_bytes())
 }

@@ -9,6 +9,7 @@ use crate::limits::LONGEST_LINE;
 use memchr::memchr;
 use mg_edge::{Got, Source};
 use std::alloc::{AllocError, Global};
+use std::mem;
 
 /// How many bytes are read at once.
 pub const BLOCK: usize = 65_536;
@@ -131,6 +132,19 @@ impl Reader {
         ensures ended { self.new.ended ≡ self.old.ended }
     {
         self.cut.clear();
+        self.at += 1;
+    }
+
+    /// Passes the line feed behind the bytes that are held, and hands these over in place of what `line` had.
+    pub fn hand_over(&mut self, line: &mut Vec<u8>)
+        requires { 1 ≤ length (left_of self.old) }
+        ensures line { line.new.items ≡ self.old.cut.items }
+        ensures left { left_of self.new ≡ drop 1 (left_of self.old) }
+        ensures cut { self.new.cut.items ≡ [] }
+        ensures ended { self.new.ended ≡ self.old.ended }
+    {
+        line.clear();
+        mem::swap(line, &mut self.cut);
         self.at += 1;
     }
 

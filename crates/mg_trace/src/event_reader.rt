@@ -20,8 +20,8 @@ pub fn read_event(text: &[u8], plan: &Plan) -> Option<Event>
     }
 }
 
-// The event of a plan whose line this is, without its line feed.
-fn event_of(line: &[u8], plan: &Plan) -> Option<Event>
+/// The same of a line without its line feed.
+pub fn event_of(line: &[u8], plan: &Plan) -> Option<Event>
     ensures { (event : AnEvent) → (result ≡ Some event) ↔ (IsEventOf plan.now event × (line.now ≡ event_line event)) }
 {
     if let Some(rest) = behind(line, b"deliver ") {

@@ -8,6 +8,6 @@ mod job_text;
 pub mod laws;
 mod line_values;
 
-pub use event_reader::read_event;
+pub use event_reader::{event_of, read_event};
 pub use event_text::{push_event, write_event};
 pub use job_text::write_job;

@@ -4,12 +4,12 @@ use Rattle.mg_calc.specs.declared.plan.Plan.{Plan}
 use Rattle.mg_feed.specs.declared.feed_end.FeedEnd.{FeedEnd}
 use Rattle.mg_answer.specs.Notes.{notes_by}
 use Rattle.mg_answer.specs.Report.{report_by, asked_report}
-use Rattle.mg_answer.specs.Code.Bounds.{open_numbers, end_bounds}
+use Rattle.mg_answer.specs.Code.Bounds.{end_bounds}
 use Rattle.mg_answer.specs.declared.outcomes.Outcomes.{Outcomes}
 use Rattle.mg_answer.specs.declared.status.Status.{Status}
 
--- the notes at a status, and the report behind them where it is asked for
-abbrev pub all_notes : Status → Plan → FeedEnd → Outcomes → Bool → List ℕ
-all_notes status plan end outcomes report =
-    notes_by status plan end outcomes.faults (end_bounds outcomes.ends.items) (open_numbers outcomes.ends.items)
+-- the notes at a status, where these streams stalled, and the report behind them where it is asked for
+abbrev pub all_notes : Status → Plan → FeedEnd → Outcomes → List ℕ → Bool → List ℕ
+all_notes status plan end outcomes stalled report =
+    notes_by status plan end outcomes.faults (end_bounds outcomes.ends.items) stalled
     ++ asked_report report (report_by plan outcomes.sets outcomes.ends.items)

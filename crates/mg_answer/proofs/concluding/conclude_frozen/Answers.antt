@@ -1,0 +1,9 @@
+use Rattle.std.proofs.Common.{not, ap}
+use Rattle.mg_answer.proofs.Answering.{wrote-told-frozen}
+use Rattle.mg_answer.proofs.concluding.conclude_frozen.Goals as goal
+
+pub returns-clause-wrote : goal.returns-clause-wrote
+returns-clause-wrote g c =
+    wrote-told-frozen c.args.run.now.plan.now c.args.outcomes.now c.args.run.now.report c.args.text c.flush.new.self c.in_ok-told.told.status c.unless_failed.result (not c.has_failed.result) c.put_all-noted.result
+    c.deref.result.now c.in_ok-told.told.notes.items (g.K.Sink.told c.args.output.now) (g.K.Sink.told c.flush.new.output) (g.E.Sink.told c.args.notes.now) (g.E.Sink.told c.put_all-noted.new.sink)
+    c.flush.ensures.put c.flush.ensures.kept (ap not c.has_failed.ensures) c.in_ok-told.ensures.status c.in_ok-told.ensures.notes c.deref.ensures.value c.put_all-noted.ensures c.unless_failed.ensures

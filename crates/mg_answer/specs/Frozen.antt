@@ -1,0 +1,44 @@
+-- What a run answers of a job whose input was frozen, as a recorded run may say of its job: the input didn't end well, and nothing is told
+-- of why. So each stream stays as its lines left it, and none is told to have stalled.
+use Rattle.std.specs.Prelude.{◌≡◌, ℕ, List, [], ◌++◌}
+use Rattle.mg_edge.specs.Edge.{SinkTold}
+use Rattle.mg_value.specs.Payload.{Plain}
+use Rattle.mg_value.specs.Prefix.{StreamPrefix}
+use Rattle.mg_calc.specs.declared.node_fault.NodeFault.{NodeFault}
+use Rattle.mg_calc.specs.Equations.{Job, IsSolution}
+use Rattle.mg_calc.specs.Meaning.{faults}
+use Rattle.mg_feed.specs.declared.feed_end.FeedEnd.TheVariants.{Ended}
+use Rattle.mg_answer.specs.Report.{report_of, asked_report}
+use Rattle.mg_answer.specs.Told.{ended_status}
+use Rattle.mg_answer.specs.Notes.{bounds_of, notes_by}
+use Rattle.mg_answer.specs.Answer.{Telling, Answer, output_in, failed_notes}
+use Rattle.mg_answer.specs.Devices.{Device}
+use Rattle.mg_answer.specs.Wrote.{WroteBy}
+use Rattle.mg_answer.specs.declared.status.Status.{Status}
+
+-- the status: a node failed, or all went well
+abbrev pub frozen_status : List NodeFault → Status
+frozen_status faults = ended_status faults []
+
+-- the notes: each node's fault, and the report where it is asked for
+abbrev pub frozen_notes : Status → Telling → Job → List (StreamPrefix Plain) → List ℕ
+frozen_notes status telling job streams = notes_by status job.plan Ended (faults job streams) (bounds_of streams) [] ++ asked_report telling.report (report_of job streams)
+
+abbrev pub frozen_answer : Telling → Job → List (StreamPrefix Plain) → Answer
+frozen_answer telling job streams = record {
+  output = output_in telling.form job.plan streams;
+  notes = frozen_notes (frozen_status (faults job streams)) telling job streams;
+  status = frozen_status (faults job streams);
+}
+
+-- An answer is that of a frozen job: the answer of the solution.
+pub record IsFrozenAnswer (telling : Telling) (job : Job) (answer : Answer) : Type 0 where
+  pub streams : List (StreamPrefix Plain)
+  pub solution : IsSolution job streams
+  pub is : answer ≡ frozen_answer telling job streams
+
+-- it was written, told so
+pub record WroteFrozen (telling : Telling) (job : Job) (status : Status) (output notes : Device SinkTold) : Type 0 where
+  pub streams : List (StreamPrefix Plain)
+  pub solution : IsSolution job streams
+  pub by : WroteBy status (frozen_answer telling job streams) (failed_notes telling job Ended streams) output notes

@@ -1,0 +1,237 @@
+-- How lines are handed out of the bytes that come.
+use Rattle.std.proofs.Common.{◌≡◌, inl, inr, ℕ, ◌+◌, ◌<◌, ◌≤◌, ◌-◌, List, [], ◌∷◌, ◌++◌, length, take, drop, Bool, true, false, Option, None, Some, refl, sym, ap, ◌∙◌, subst, arith, append_assoc, append-nil, length-append}
+use Rattle.std.proofs.lemmas.List.{length-take-le}
+use Rattle.mg_edge.specs.Edge.{SourceTold}
+use Rattle.mg_edge.specs.Runs.{Gave}
+use Rattle.mg_edge.proofs.Runs.{Gave-start}
+use Rattle.mg_feed.specs.Lines.{NoFeed, IsCut, all_lines, whole_lines, with_feed}
+use Rattle.mg_feed.specs.Accepted.{longest_line}
+use Rattle.mg_feed.specs.Fed.{Reading}
+use Rattle.mg_feed.specs.Came.{arrived}
+use Rattle.mg_feed.specs.Ran.{MetEnd, Unfailed}
+use Rattle.mg_feed.specs.Handed.{HasHanded, MovesOn, EndsReads, ComesAs, NextComes}
+use Rattle.mg_feed.specs.Code.LineEnd.{EndsLine, has_feed}
+use Rattle.mg_feed.specs.Code.Filled.{GotBytes, GotEnd, GotFault}
+use Rattle.mg_feed.specs.Code.Moves.{late}
+use Rattle.mg_feed.specs.Code.Handing.{LacksLine, StopsAt, StopsLater, Takes, weight_of}
+use Rattle.mg_feed.specs.declared.reader.TheConstants.{BLOCK}
+use Rattle.mg_feed.specs.declared.lines.NextLine.{NextLine}
+use Rattle.mg_feed.specs.declared.lines.NextLine.TheVariants.{Line, TooLong, Ended, Failed}
+use Rattle.mg_feed.proofs.Cutting.{cut-more, cut-line, cut-whole, cut-end, cut-ended, all_lines-line, all_lines-begin}
+use Rattle.mg_feed.proofs.Blocks.{drop-twice}
+use Rattle.mg_feed.proofs.Coming.{lines-by}
+use Rattle.mg_feed.proofs.Moving.{met-same, met-then, gave-then, unfailed-same, unfailed-then, failed-stop, with_feed-grows}
+use Rattle.mg_feed.proofs.Stepping.{met-open, met-end, line-cut, line-none}
+
+-- Bytes --
+
+pub moves-same : (told : SourceTold) (r : Reading) → MovesOn told told r r
+moves-same told r = record {
+  came = [];
+  gave = Gave-start told.left;
+  met = met-same r.ended told;
+  unfailed = unfailed-same told;
+  grows = λ past lines has. subst (λ (l : List ℕ). HasHanded l lines r) (sym (append-nil past)) has;
+}
+
+pub moves-then : (first before now : SourceTold) (a b c : Reading) → MovesOn first before a b → MovesOn before now b c → MovesOn first now a c
+moves-then first before now a b c one two = record {
+  came = one.came ++ two.came;
+  gave = gave-then first.left before.left now.left one.came two.came one.gave two.gave;
+  met = met-then a.ended b.ended c.ended first before now one.came one.gave one.met two.met;
+  unfailed = unfailed-then first before now one.unfailed two.unfailed;
+  grows = λ past lines has. subst (λ (l : List ℕ). HasHanded l lines c) (append_assoc past one.came two.came) (two.grows (past ++ one.came) lines (one.grows past lines has));
+}
+
+-- what was read is the same, however it lies
+pub moves-kept : (told now : SourceTold) (r s : Reading) → s ≡ r → now ≡ told → MovesOn told now r s
+moves-kept told now r s same still = subst (λ (t : SourceTold). MovesOn told t r s) (sym still) (subst (MovesOn told told r) (sym same) (moves-same told r))
+
+pub moves-bytes : (old new : Reading) (before now : SourceTold) → old.ended ≡ false → GotBytes old new before now → MovesOn before now old new × (weight_of old < weight_of new)
+moves-bytes old new before now was got =
+    let some = got.some in
+    let long : length new.kept ≡ length old.kept + length got.bytes = ap length got.kept ∙ length-append old.kept got.bytes in
+    let late_old : late old.ended ≡ 0 = ap late was in
+    let late_new : late new.ended ≡ 0 = ap late got.ended in (
+      record {
+        came = got.bytes;
+        gave = got.gave;
+        met = met-open old.ended new.ended before now was got.ended got.ends;
+        unfailed = got.unfailed;
+        grows = λ past lines has.
+            subst (λ (b : Bool). IsCut (arrived b (past ++ got.bytes)) lines new.kept) (sym got.ended)
+            (subst (λ (k : List ℕ). IsCut (past ++ got.bytes) lines k) (sym got.kept)
+            (cut-more past lines old.kept got.bytes (subst (λ (b : Bool). IsCut (arrived b past) lines old.kept) was has)));
+      },
+      omega (arith, some, long, late_old, late_new),
+    )
+
+pub moves-end : (old new : Reading) (before now : SourceTold) → old.ended ≡ false → NoFeed old.kept → GotEnd old new before now → MovesOn before now old new × (weight_of old < weight_of new)
+moves-end old new before now was none got =
+    let long : length new.kept ≡ length (with_feed old.kept old.kept) = ap length got.kept in
+    let more = with_feed-grows old.kept old.kept in
+    let late_old : late old.ended ≡ 0 = ap late was in
+    let late_new : late new.ended ≡ 1 = ap late got.ended in (
+      record {
+        came = [];
+        gave = got.gave;
+        met = met-end old.ended new.ended before now was got.ended got.came;
+        unfailed = got.unfailed;
+        grows = λ past lines has.
+            subst (λ (l : List ℕ). HasHanded l lines new) (sym (append-nil past))
+            (subst (λ (b : Bool). IsCut (arrived b past) lines new.kept) (sym got.ended)
+            (subst (λ (k : List ℕ). IsCut (arrived true past) lines k) (sym got.kept)
+            (cut-end past lines old.kept (subst (λ (b : Bool). IsCut (arrived b past) lines old.kept) was has) none)));
+      },
+      omega (arith, long, more, late_old, late_new),
+    )
+
+-- The search stops --
+
+pub stops-failed : (old new : Reading) (before now : SourceTold) → old.ended ≡ false → NoFeed old.kept → GotFault old new before now → StopsAt Failed before now old new
+stops-failed old new before now was none got = record {
+  same = got.same;
+  gave = got.gave;
+  met = met-open old.ended new.ended before now was (ap (λ (r : Reading). r.ended) got.same ∙ was) got.ends;
+  reads = got.failed;
+  lacks = (was, none);
+}
+
+pub stops-ended : (told : SourceTold) (r : Reading) → r.ended ≡ true → NoFeed r.kept → StopsAt Ended told told r r
+stops-ended told r ended none = record {
+  same = refl;
+  gave = Gave-start told.left;
+  met = met-same r.ended told;
+  reads = unfailed-same told;
+  lacks = (ended, none);
+}
+
+pub stops-long : (told : SourceTold) (r s : Reading) (next : NextLine) → next ≡ TooLong → s ≡ r → NoFeed r.kept → longest_line < length r.kept → StopsAt next told told r s
+stops-long told r s next is same none long = subst (λ (n : NextLine). StopsAt n told told r s) (sym is) (record {
+  same = same;
+  gave = Gave-start told.left;
+  met = subst (λ (t : Reading). MetEnd r.ended t.ended told told) (sym same) (met-same r.ended told);
+  reads = unfailed-same told;
+  lacks = (none, long);
+})
+
+pub stops-later : (next : NextLine) (first before now : SourceTold) (a b c : Reading) → MovesOn first before a b → StopsAt next before now b c → StopsLater next first now a c
+stops-later next first before now a b c moves stops = record { between = before; read = b; moves = moves; stops = stops }
+
+-- What comes --
+
+reads-then : (next : NextLine) (first before now : SourceTold) (came : List ℕ) → Gave first.left before.left came → Unfailed first before → EndsReads next before now → EndsReads next first now
+reads-then Line first before now came gave one two = unfailed-then first before now one two
+reads-then TooLong first before now came gave one two = unfailed-then first before now one two
+reads-then Ended first before now came gave one two = unfailed-then first before now one two
+reads-then Failed first before now came gave one two = failed-stop first before now came gave one two
+
+-- one that is too long already, whatever comes
+long-comes : (r : Reading) (past : List ℕ) (lines : List (List ℕ)) → NoFeed r.kept → longest_line < length r.kept → HasHanded past lines r → (line : List ℕ) → ComesAs TooLong line past lines r
+long-comes r past lines none long has line more fits =
+    let b = all_lines-begin r.kept more none (omega (arith, long)) in (
+      r.kept ++ b.0,
+      b.1,
+      lines-by r.ended past lines r.kept more has fits ∙ ap (λ (l : List (List ℕ)). lines ++ l) b.2,
+      (let more_long = length-append r.kept b.0 in omega (arith, long, more_long)),
+    )
+
+ended-by : (ended : Bool) (past : List ℕ) (lines : List (List ℕ)) (kept : List ℕ) → ended ≡ true → IsCut (arrived ended past) lines kept → NoFeed kept → lines ≡ all_lines past
+ended-by true past lines kept is cut none = cut-ended past lines kept cut none
+ended-by false past lines kept is cut none = absurd cc
+
+lacks-comes : (next : NextLine) (r : Reading) (line past : List ℕ) (lines : List (List ℕ)) → LacksLine next r → HasHanded past lines r → ComesAs next line past lines r
+lacks-comes Line r line past lines lacks has = absurd lacks
+lacks-comes TooLong r line past lines lacks has = long-comes r past lines lacks.0 lacks.1 has line
+lacks-comes Ended r line past lines lacks has = (lacks.0, ended-by r.ended past lines r.kept lacks.0 has lacks.1)
+lacks-comes Failed r line past lines lacks has = cut-whole past lines r.kept (subst (λ (b : Bool). IsCut (arrived b past) lines r.kept) lacks.0 has) lacks.1
+
+pub next-stops : (next : NextLine) (line : List ℕ) (before now : SourceTold) (old new : Reading) → StopsLater next before now old new → NextComes next line before now old new
+next-stops next line before now old new s =
+    let m = s.moves in
+    let t = s.stops in
+    let same : new ≡ s.read = t.same in
+    record {
+      came = m.came;
+      gave = subst (λ (l : List ℕ). Gave before.left now.left l) (append-nil m.came) (gave-then before.left s.between.left now.left m.came [] m.gave t.gave);
+      met = met-then old.ended s.read.ended new.ended before s.between now m.came m.gave m.met t.met;
+      reads = reads-then next before s.between now m.came m.gave m.unfailed t.reads;
+      comes = λ past lines has. subst (ComesAs next line (past ++ m.came) lines) (sym same) (lacks-comes next s.read line (past ++ m.came) lines t.lacks (m.grows past lines has));
+    }
+
+takes-comes : (next : NextLine) (line past : List ℕ) (lines : List (List ℕ)) (r s : Reading) → Takes next line r s → HasHanded past lines r → ComesAs next line past lines s
+takes-comes Line line past lines r s (cut, none, ended, short) has =
+    (subst (λ (b : Bool). IsCut (arrived b past) (lines ++ line ∷ []) s.kept) (sym ended) (cut-line (arrived r.ended past) lines r.kept line s.kept has cut none), short)
+takes-comes TooLong line past lines r s (same, (long, rest, cut, none, far)) has = λ more fits. (
+  long,
+  all_lines (rest ++ more),
+  lines-by r.ended past lines r.kept more has (λ ended. fits (ap (λ (t : Reading). t.ended) same ∙ ended))
+      ∙ ap (λ (l : List (List ℕ)). lines ++ l) (ap (λ (k : List ℕ). all_lines (k ++ more)) cut ∙ ap all_lines (append_assoc long (10 ∷ rest) more) ∙ all_lines-line long (rest ++ more) none),
+  far,
+)
+takes-comes Ended line past lines r s takes has = absurd takes
+takes-comes Failed line past lines r s takes has = absurd takes
+
+takes-reads : (next : NextLine) (line : List ℕ) (r s : Reading) (before now : SourceTold) → Takes next line r s → Unfailed before now → EndsReads next before now
+takes-reads Line line r s before now takes un = un
+takes-reads TooLong line r s before now takes un = un
+takes-reads Ended line r s before now takes un = absurd takes
+takes-reads Failed line r s before now takes un = absurd takes
+
+takes-ended : (next : NextLine) (line : List ℕ) (r s : Reading) → Takes next line r s → s.ended ≡ r.ended
+takes-ended Line line r s (cut, none, ended, short) = ended
+takes-ended TooLong line r s (same, long) = ap (λ (t : Reading). t.ended) same
+takes-ended Ended line r s takes = absurd takes
+takes-ended Failed line r s takes = absurd takes
+
+pub next-takes : (next : NextLine) (line : List ℕ) (before now : SourceTold) (old read new : Reading) → MovesOn before now old read → Takes next line read new → NextComes next line before now old new
+next-takes next line before now old read new m takes = record {
+  came = m.came;
+  gave = m.gave;
+  met = subst (λ (b : Bool). MetEnd old.ended b before now) (sym (takes-ended next line read new takes)) m.met;
+  reads = takes-reads next line read new before now takes m.unfailed;
+  comes = λ past lines has. takes-comes next line (past ++ m.came) lines read new takes (m.grows past lines has);
+}
+
+-- A line in the block --
+
+-- one that was held, and whose line feed was passed
+pub took-line : (cut left line held after : List ℕ) (old new : Reading) (i : ℕ) → old.kept ≡ cut ++ left → has_feed cut ≡ false → EndsLine left i → line ≡ cut ++ take i left → held ≡ drop i left → after ≡ drop 1 held
+    → new.kept ≡ after → new.ended ≡ old.ended → length line ≤ longest_line → Takes Line line old new
+took-line cut left line held after old new i is none ends line_is passed behind now ended short = (
+  is ∙ line-cut cut line left new.kept i ends line_is (now ∙ behind ∙ ap (drop 1) passed ∙ sym (drop-twice i 1 (i + 1) left refl)),
+  line-none cut line left i none ends line_is,
+  ended,
+  short,
+)
+
+-- one that can't be held
+pub took-long : (cut left : List ℕ) (old new : Reading) (next : NextLine) (i : ℕ) (line : List ℕ) → next ≡ TooLong → new ≡ old → old.kept ≡ cut ++ left → has_feed cut ≡ false → EndsLine left i → longest_line < length cut + i → Takes next line old new
+took-long cut left old new next i line next_is same is none ends long = subst (λ (n : NextLine). Takes n line old new) (sym next_is) (
+  same,
+  (
+    cut ++ take i left,
+    drop (i + 1) left,
+    is ∙ line-cut cut (cut ++ take i left) left (drop (i + 1) left) i ends refl refl,
+    line-none cut (cut ++ take i left) left i none ends refl,
+    (let some : length (take i left) ≡ i = length-take-le i left (let within = ends.within in omega (arith, within)) in
+        let all = length-append cut (take i left) in
+        omega (arith, long, all, some)),
+  ),
+)
+
+-- How much is read --
+
+-- so much is read at most while no line is whole
+abbrev pub heaviest_of : ℕ
+heaviest_of = longest_line + BLOCK + 1
+
+late-few : (b : Bool) → late b ≤ 1
+late-few true = omega arith
+late-few false = omega arith
+
+pub weight-light : (r : Reading) (cut left : List ℕ) → r.kept ≡ cut ++ left → length cut ≤ longest_line → length left ≤ BLOCK → weight_of r ≤ heaviest_of
+weight-light r cut left is short small =
+    let long : length r.kept ≡ length cut + length left = ap length is ∙ length-append cut left in
+    let few = late-few r.ended in
+    omega (arith, long, short, small, few)

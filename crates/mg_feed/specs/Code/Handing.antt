@@ -1,0 +1,64 @@
+-- The steps of a call that hands out a line.
+use Rattle.std.specs.Prelude.{◌≡◌, ◌<◌, ◌≤◌, ◌+◌, ◌∷◌, ◌++◌, ⊤, ℕ, List, [], length, Bool, true, false, Option, None, Some}
+use Rattle.mg_edge.specs.Edge.{SourceTold}
+use Rattle.mg_edge.specs.Runs.{Gave}
+use Rattle.mg_feed.specs.Lines.{NoFeed}
+use Rattle.mg_feed.specs.Accepted.{longest_line}
+use Rattle.mg_feed.specs.Fed.{Reading}
+use Rattle.mg_feed.specs.Ran.{MetEnd}
+use Rattle.mg_feed.specs.Handed.{MovesOn, EndsReads}
+use Rattle.mg_feed.specs.Code.LineEnd.{EndsLine}
+use Rattle.mg_feed.specs.Code.Moves.{late}
+use Rattle.mg_feed.specs.declared.lines.NextLine.{NextLine}
+use Rattle.mg_feed.specs.declared.lines.NextLine.TheVariants.{Line, TooLong, Ended, Failed}
+use Rattle.mg_feed.specs.declared.lines.Found.{Found}
+use Rattle.mg_feed.specs.declared.lines.Found.TheVariants.{At, Stop}
+
+-- why no line is handed out of what was read
+abbrev pub LacksLine : NextLine → Reading → Type 0
+LacksLine Line read = ⊥
+LacksLine TooLong read = NoFeed read.kept × (longest_line < length read.kept)
+LacksLine Ended read = (read.ended ≡ true) × NoFeed read.kept
+LacksLine Failed read = (read.ended ≡ false) × NoFeed read.kept
+
+-- The search stops, and what was read is as it was.
+pub record StopsAt (next : NextLine) (before now : SourceTold) (old new : Reading) : Type 0 where
+  pub same : new ≡ old
+  pub gave : Gave before.left now.left []
+  pub met : MetEnd old.ended new.ended before now
+  pub reads : EndsReads next before now
+  pub lacks : LacksLine next old
+
+-- how much was read
+abbrev pub weight_of : Reading → ℕ
+weight_of read = length read.kept + late read.ended
+
+-- one step: more was read, or the search stops
+abbrev pub StepsOn : Option NextLine → SourceTold → SourceTold → Reading → Reading → Type 0
+StepsOn None before now old new = MovesOn before now old new × (weight_of old < weight_of new)
+StepsOn (Some next) before now old new = StopsAt next before now old new
+
+-- and all of them: what is left in the block has the line feed, or more was read and then the search stopped
+pub record StopsLater (next : NextLine) (before now : SourceTold) (old new : Reading) : Type 0 where
+  pub between : SourceTold
+  pub read : Reading
+  pub moves : MovesOn before between old read
+  pub stops : StopsAt next between now read new
+
+abbrev pub Finds : Found → List ℕ → SourceTold → SourceTold → Reading → Reading → Type 0
+Finds (At end) left before now old new = MovesOn before now old new × EndsLine left end
+Finds (Stop next) left before now old new = StopsLater next before now old new
+
+-- the line whose line feed was found is handed out, or is too long
+abbrev pub Takes : NextLine → List ℕ → Reading → Reading → Type 0
+Takes Line line old new = (old.kept ≡ line ++ 10 ∷ new.kept) × NoFeed line × (new.ended ≡ old.ended) × (length line ≤ longest_line)
+Takes TooLong line old new = (new ≡ old) × ((long : List ℕ) × (rest : List ℕ) × (old.kept ≡ long ++ 10 ∷ rest) × NoFeed long × (longest_line < length long))
+Takes Ended line old new = ⊥
+Takes Failed line old new = ⊥
+
+-- how many lines are handed out then
+abbrev pub counted_by : NextLine → ℕ → ℕ → ℕ
+counted_by Line count number = number
+counted_by TooLong count number = count
+counted_by Ended count number = count
+counted_by Failed count number = count

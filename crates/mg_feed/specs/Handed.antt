@@ -1,0 +1,54 @@
+-- How the lines of an input are handed out, one after the other, whatever they say.
+use Rattle.std.specs.Prelude.{◌≡◌, ◌<◌, ◌≤◌, ◌+◌, ℕ, List, [], ◌∷◌, ◌++◌, length, true}
+use Rattle.mg_edge.specs.Edge.{SourceTold}
+use Rattle.mg_edge.specs.Runs.{Gave}
+use Rattle.mg_feed.specs.Lines.{IsCut, all_lines, whole_lines}
+use Rattle.mg_feed.specs.Accepted.{longest_line}
+use Rattle.mg_feed.specs.Fed.{Reading}
+use Rattle.mg_feed.specs.Came.{arrived}
+use Rattle.mg_feed.specs.Ran.{MetEnd, Unfailed, ReadFailed}
+use Rattle.mg_feed.specs.declared.lines.NextLine.{NextLine}
+use Rattle.mg_feed.specs.declared.lines.NextLine.TheVariants.{Line, TooLong, Ended, Failed}
+
+-- Of the bytes that came these lines were handed out, and what stands behind them is kept.
+abbrev pub HasHanded : List ℕ → List (List ℕ) → Reading → Type 0
+HasHanded came lines read = IsCut (arrived read.ended came) lines read.kept
+
+-- Bytes came, and none of a line was handed out meanwhile.
+pub record MovesOn (before now : SourceTold) (old new : Reading) : Type 0 where
+  pub came : List ℕ
+  pub gave : Gave before.left now.left came
+  pub met : MetEnd old.ended new.ended before now
+  pub unfailed : Unfailed before now
+  pub grows : (past : List ℕ) (lines : List (List ℕ)) → HasHanded past lines old → HasHanded (past ++ came) lines new
+
+-- what became of the reads: none failed, but for the last where there is no line for that
+abbrev pub EndsReads : NextLine → SourceTold → SourceTold → Type 0
+EndsReads Line before now = Unfailed before now
+EndsReads TooLong before now = Unfailed before now
+EndsReads Ended before now = Unfailed before now
+EndsReads Failed before now = ReadFailed before now
+
+-- What comes behind the lines of the bytes that came: a line, which is handed out; a line that is too long, whatever bytes may follow, of
+-- which there are none where the source has ended; nothing, since the source has ended; or nothing whole before a read failed.
+abbrev pub ComesAs : NextLine → List ℕ → List ℕ → List (List ℕ) → Reading → Type 0
+ComesAs Line line came lines read = HasHanded came (lines ++ line ∷ []) read × (length line ≤ longest_line)
+ComesAs TooLong line came lines read =
+    (more : List ℕ) → (read.ended ≡ true → more ≡ []) → (long : List ℕ) × (rest : List (List ℕ)) × (all_lines (came ++ more) ≡ lines ++ long ∷ rest) × (longest_line < length long)
+ComesAs Ended line came lines read = (read.ended ≡ true) × (lines ≡ all_lines came)
+ComesAs Failed line came lines read = lines ≡ whole_lines came
+
+-- The next line was asked for.
+pub record NextComes (answer : NextLine) (line : List ℕ) (before now : SourceTold) (old new : Reading) : Type 0 where
+  pub came : List ℕ
+  pub gave : Gave before.left now.left came
+  pub met : MetEnd old.ended new.ended before now
+  pub reads : EndsReads answer before now
+  pub comes : (past : List ℕ) (lines : List (List ℕ)) → HasHanded past lines old → ComesAs answer line (past ++ came) lines new
+
+-- how many lines are handed out then
+abbrev pub counted_with : NextLine → ℕ → ℕ
+counted_with Line count = count + 1
+counted_with TooLong count = count
+counted_with Ended count = count
+counted_with Failed count = count

@@ -1,0 +1,176 @@
+ghost use Rattle.std.specs.Prelude.{◌≡◌, ◌≢◌, IfOk};
+
+use crate::LineFault;
+use crate::reader::Reader;
+use mg_edge::{Got, Source};
+use std::alloc::{AllocError, Global};
+
+/// What comes next of an input.
+#[derive(Clone, Copy, Debug, PartialEq, Eq)]
+pub enum NextLine {
+    /// A line, which is kept until the next one is asked for.
+    Line,
+    /// A line that is longer than a packet line may be. It isn't kept, and nothing is read behind it.
+    TooLong,
+    /// The source answered `End`, and no line is left.
+    Ended,
+    /// A read failed, and no line is left that was whole before it.
+    Failed,
+}
+
+// What a search for the end of the next line came to.
+#[derive(Clone, Copy)]
+enum Found {
+    /// Its line feed is at this place of the block.
+    At(usize),
+    /// There is none.
+    Stop(NextLine),
+}
+
+/// Hands out the lines of an input one after the other, whatever they say, and counts them.
+#[derive(Drop)]
+pub struct Lines {
+    reader: Reader,
+    line: Vec<u8>,
+    number: u64,
+}
+
+// The answer where a line can't be held.
+fn too_long(fault: LineFault) -> Result<NextLine, AllocError>
+    ensures { IfOk result (λ next. (next ≡ NextLine.TooLong) × (fault ≢ LineFault.OutOfMemory)) }
+{
+    if fault == LineFault::OutOfMemory {
+        Err(AllocError)
+    } else {
+        Ok(NextLine::TooLong)
+    }
+}
+
+impl Lines {
+    ghost use Rattle.std.specs.Prelude.{◌≡◌, ◌+◌, ◌<◌, ◌^◌, [], false, IfOk, OnErr};
+    ghost use Rattle.mg_feed.specs.Lines.{NoFeed};
+    ghost use Rattle.mg_feed.specs.Fed.{Reading};
+    ghost use Rattle.mg_feed.specs.Handed.{NextComes, counted_with, MovesOn};
+    ghost use Rattle.mg_feed.specs.LinesSeen.{line_of, number_of, reading};
+    ghost use Rattle.mg_feed.specs.Code.LineEnd.{EndsLine};
+    ghost use Rattle.mg_feed.specs.Code.Readers.{left_of, reading_of};
+    ghost use Rattle.mg_feed.specs.Code.Handing.{Finds, StepsOn, Takes, counted_by};
+
+    /// The lines of an input of which nothing was read yet.
+    pub fn new(alloc: Global) -> Result<Lines, AllocError>
+        ensures unread { IfOk result (λ lines. reading lines ≡ record { kept = []; ended = false }) }
+        ensures none { IfOk result (λ lines. number_of lines ≡ 0) }
+    {
+        let reader = Reader::new(alloc)?;
+        Ok(Lines {
+            reader,
+            line: Vec::new(alloc),
+            number: 0,
+        })
+    }
+
+    /// The line that was handed out last, without its line feed.
+    pub fn line(&self) -> &[u8]
+        ensures { result.now ≡ line_of self.now }
+    {
+        self.line.as_slice()
+    }
+
+    /// How many lines were handed out.
+    pub fn number(&self) -> u64
+        ensures { result ≡ number_of self.now }
+    {
+        self.number
+    }
+
+    /// Hands out the next line, or tells why there is none. Once the source answered `End` it isn't read again. At want of memory what
+    /// was read is kept; 2^64 - 1 lines are as many as there is memory to count.
+    pub fn next<S: Source>(&mut self, source: &mut S) -> Result<NextLine, AllocError>
+        ensures comes { IfOk result (λ next. NextComes next (line_of self.new) (S.told source.old) (S.told source.new) (reading self.old) (reading self.new)) }
+        ensures number { IfOk result (λ next. number_of self.new ≡ counted_with next (number_of self.old)) }
+        ensures few { IfOk result (λ next. number_of self.old + 1 < 2 ^ 64) }
+        ensures kept { OnErr result (MovesOn (S.told source.old) (S.told source.new) (reading self.old) (reading self.new)) }
+    {
+        let Some(number) = self.number.checked_add(1) else {
+            return Err(AllocError);
+        };
+        let found = self.find(source)?;
+        match found {
+            Found::At(end) => {
+                let next = self.take(end, number)?;
+                Ok(next)
+            }
+            Found::Stop(next) => Ok(next),
+        }
+    }
+
+    // Reads until the next line has come whole, or there is none.
+    fn find<S: Source>(&mut self, source: &mut S) -> Result<Found, AllocError>
+        ensures finds { IfOk result (λ found. Finds found (left_of self.new.reader) (S.told source.old) (S.told source.new) (reading_of self.old.reader) (reading_of self.new.reader)) }
+        ensures kept { OnErr result (MovesOn (S.told source.old) (S.told source.new) (reading_of self.old.reader) (reading_of self.new.reader)) }
+        ensures number { self.new.number ≡ self.old.number }
+    {
+        'reads: loop {
+            if let Some(end) = self.reader.line_end() {
+                return Ok(Found::At(end));
+            }
+            let step = self.read_on(source)?;
+            match step {
+                Some(next) => return Ok(Found::Stop(next)),
+                None => {}
+            }
+        }
+    }
+
+    // Reads the next block, where no line feed is left in this one.
+    fn read_on<S: Source>(&mut self, source: &mut S) -> Result<Option<NextLine>, AllocError>
+        requires { NoFeed (left_of self.old.reader) }
+        ensures steps { IfOk result (λ next. StepsOn next (S.told source.old) (S.told source.new) (reading_of self.old.reader) (reading_of self.new.reader)) }
+        ensures kept { OnErr result (reading_of self.new.reader ≡ reading_of self.old.reader) }
+        ensures same { OnErr result (S.told source.new ≡ S.told source.old) }
+        ensures number { self.new.number ≡ self.old.number }
+    {
+        if self.reader.ended {
+            return Ok(Some(NextLine::Ended));
+        }
+        if let Err(fault) = self.reader.hold_rest() {
+            let next = too_long(fault)?;
+            return Ok(Some(next));
+        }
+        Ok(self.fill(source))
+    }
+
+    // Reads the next block.
+    fn fill<S: Source>(&mut self, source: &mut S) -> Option<NextLine>
+        requires passed { left_of self.old.reader ≡ [] }
+        requires open { self.old.reader.ended ≡ false }
+        ensures steps { StepsOn result (S.told source.old) (S.told source.new) (reading_of self.old.reader) (reading_of self.new.reader) }
+        ensures number { self.new.number ≡ self.old.number }
+    {
+        match self.reader.fill(source) {
+            Got::Bytes(_) => None,
+            Got::End => None,
+            Got::Failed => Some(NextLine::Failed),
+        }
+    }
+
+    // Hands out the line whose line feed is at this place of the block, and which has this number.
+    fn take(&mut self, end: usize, number: u64) -> Result<NextLine, AllocError>
+        requires { EndsLine (left_of self.old.reader) end }
+        ensures takes { IfOk result (λ next. Takes next self.new.line.items (reading_of self.old.reader) (reading_of self.new.reader)) }
+        ensures kept { OnErr result (reading_of self.new.reader ≡ reading_of self.old.reader) }
+        ensures number { IfOk result (λ next. self.new.number ≡ counted_by next self.old.number number) }
+    {
+        match self.reader.hold(end) {
+            Ok(()) => {
+                self.reader.hand_over(&mut self.line);
+                self.number = number;
+                Ok(NextLine::Line)
+            }
+            Err(fault) => {
+                let next = too_long(fault)?;
+                Ok(next)
+            }
+        }
+    }
+}
