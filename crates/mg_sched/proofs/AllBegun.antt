@@ -44,6 +44,7 @@ begins_none net = record {
     ended = λ e. e;
     outputs = λ output. grown_by_itself (laid_at engine output);
   });
+  gone = λ place engine now at at_now output. subst (λ (v : EngineView). (laid_at v output).gone ≤ (laid_at engine output).gone) (same_Some engine now (sym at ∙ at_now)) (omega arith);
 }
 
 pub begins_on : (a b c : NetView) → Begins a b → Begins b c → Begins a c
@@ -59,6 +60,13 @@ begins_on a b c h k =
           let long = h.places in
           let mid = found b.engines place (omega (arith, within, long)) in
           grows_on engine mid.0 now (h.grow place engine mid.0 at mid.1) (k.grow place mid.0 now mid.1 at_now);
+      gone = λ place engine now at at_now output.
+          let within = slice_get_within a.engines place engine at in
+          let long = h.places in
+          let mid = found b.engines place (omega (arith, within, long)) in
+          let first = h.gone place engine mid.0 at mid.1 output in
+          let second = k.gone place mid.0 now mid.1 at_now output in
+          omega (arith, first, second);
     }
 
 pub still_some : (before now : NetView) → StandsForSome before → Keeps before now → StandsForSome now

@@ -128,6 +128,7 @@ cell_stands job net node engine engine_now intake intake_now desk_now limits h r
           joined_by old.old g e into.old i old.first old.outputs old.gone into.stays (h.edges e number place old.old into.old at_edge from old.at into.at);
       limits = knows;
       spare = h.spare;
+      kept = h.kept;
       begun = h.begun;
       not_wound = h.not_wound;
     }
@@ -174,6 +175,7 @@ arrival_stands job net place intake intake_now limits h there lawful claimed joi
       ];
       limits = knows;
       spare = h.spare;
+      kept = h.kept;
       begun = h.begun;
       not_wound = h.not_wound;
     }

@@ -276,6 +276,7 @@ parts_of_net job before now running b stands =
         limits = h.limits.of_plan;
         counts = λ number e q engine at_e at_q low at going. (h.limits.queues number e q at_e at_q).counts engine low at ∙ ap not going;
         spare = h.spare;
+        kept = h.kept;
       };
     }
 

@@ -140,14 +140,14 @@ spare_later first later spare g h =
 -- Nets.
 
 -- what stands at the place of a graph input, behind the nodes
-record IsExtendedAt (more : Inputs) (before : NetView) (input : ℕ) (engine : EngineView) : Type 0 where
-  old : EngineView
-  old_at : slice_get before.engines (length before.plan.nodes + input) ≡ Some old
-  piece : StreamPrefix Plain
-  piece_at : slice_get more.streams input ≡ Some piece
-  is : engine ≡ extended old piece
+pub record IsExtendedAt (more : Inputs) (before : NetView) (input : ℕ) (engine : EngineView) : Type 0 where
+  pub old : EngineView
+  pub old_at : slice_get before.engines (length before.plan.nodes + input) ≡ Some old
+  pub piece : StreamPrefix Plain
+  pub piece_at : slice_get more.streams input ≡ Some piece
+  pub is : engine ≡ extended old piece
 
-extended_at : (more : Inputs) (first later : LoggedJob) (before now : NetView) (input : ℕ) (engine : EngineView) → GoesOnWith more first later → Extends more before now → StandsFor first before
+pub extended_at : (more : Inputs) (first later : LoggedJob) (before now : NetView) (input : ℕ) (engine : EngineView) → GoesOnWith more first later → Extends more before now → StandsFor first before
     → slice_get now.engines (length before.plan.nodes + input) ≡ Some engine → IsExtendedAt more before input engine
 unfolding StandsFor
 extended_at more first later before now input engine g x h at =
@@ -198,6 +198,7 @@ stands_so more first later before now g x h = record {
         record { waiting = knows.waiting; counts = (λ engine less engine_at. knows.counts engine less (sym (x.nodes e.node less) ∙ engine_at)) });
   };
   spare = spare_later first later before.spare g.grows h.spare;
+  kept = h.kept;
   begun = h.begun;
   not_wound = h.not_wound;
 }

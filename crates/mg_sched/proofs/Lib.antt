@@ -41,6 +41,9 @@ pub mod HeldIn
 pub mod StreamOutputs
 pub mod Trimming
 pub mod TrimKeeps
+pub mod KeptStreams
+pub mod NothingGone
+pub mod RestingLooks
 pub mod IdleStays
 pub mod WoundNets
 pub mod ExtendedNets
@@ -74,3 +77,4 @@ pub mod EdgesInPlace
 pub mod StreamLooks
 pub mod RunsOn
 pub mod HeardOn
+pub mod Alike

@@ -1,12 +1,13 @@
 -- A net that was made stands for its job: no node is begun, and nothing came.
 use Rattle.std.proofs.Common.{◌≡◌, ℕ, zero, suc, ◌+◌, ◌-◌, ◌≤◌, ◌==◌, if◌then◌else◌, List, [], ◌∷◌, ◌++◌, length, replicate, Bool, true, false, nat_lt, not, Some, slice_get, get_or, inl, inr, subst, ap, sym, refl, ◌∙◌, arith}
 use Rattle.std.proofs.lemmas.Bool.{lt-ltb, le-ltb}
+use Rattle.std.proofs.lemmas.List.{length-replicate}
 use Rattle.std.proofs.lemmas.Option.{slice_get_within, get_or_from_slice_get}
 use Rattle.mg_time.specs.Time.{pre_stream}
 use Rattle.mg_value.specs.Payload.{Plain}
 use Rattle.mg_value.specs.Prefix.{Stamped, StreamPrefix, IsPrefix, empty_prefix}
 use Rattle.mg_stream.specs.Queue.{Waiting, IsLike, empty_queue}
-use Rattle.mg_stream.specs.Pool.{empty_backlog, queue_of}
+use Rattle.mg_stream.specs.Pool.{Backlog, empty_backlog, queue_of}
 use Rattle.mg_loopback.specs.Loopback.{Held, queue_at, IsFresh as IsFreshLoop}
 use Rattle.mg_policy.specs.Inbox.{Gathered}
 use Rattle.mg_calc.specs.declared.edge.Edge.{Edge}
@@ -28,12 +29,15 @@ use Rattle.mg_node.specs.Fresh.{own_told, fresh_engine}
 use Rattle.mg_node.specs.Intakes.{HoldsNone}
 use Rattle.mg_node.specs.Lawful.{of_input, LawfulEngine, AgreeBy}
 use Rattle.mg_node.specs.Leading.{output_at}
-use Rattle.mg_node.specs.Outputs.{input_engine, kept_whole}
+use Rattle.mg_node.specs.Outputs.{laid_at, input_engine, kept_whole}
 use Rattle.mg_node.specs.Ports.{port_queue}
 use Rattle.mg_node.proofs.Lemmas.{at_each, fresh_unbegun, input_lawful, some_same}
 use Rattle.mg_throttle.specs.declared.queue.Queue.{Queue}
 use Rattle.mg_throttle.specs.Throttle.{QueueLimits, IsOf, limit_of, new_queue}
 use Rattle.mg_sched.specs.Views.{DeskView, NetView}
+use Rattle.mg_sched.specs.Places.{place_of}
+use Rattle.mg_sched.specs.Writers.{output_of}
+use Rattle.mg_sched.specs.Looks.{HasFrom}
 use Rattle.mg_sched.specs.StandsFor.{HasWorks, IsCell, KnowsQueue, IsNetOf, StandsFor}
 use Rattle.mg_sched.specs.Made.{job_of, BoxesFit, IsMade}
 use Rattle.mg_sched.specs.Code.Made.{AtPlaces, IsEngineAt, IsIntakeAt, IsDeskAt, HasParts, IsLeft, first_holder}
@@ -82,6 +86,25 @@ gives_all plan inputs told engines place engine e is count all there = elim (bel
       subst (λ (v : EngineView). GivesAll (output_at v e)) (sym ((all place engine there).input (place - length plan.nodes) s.0 (omega (arith, more)) s.1))
       (gives_input s.0 (e.stream - get_or plan.inputs (place - length plan.nodes) 0) (at_each IsPrefix inputs.streams _ s.0 is.inputs.prefixes s.1)))
 ]
+
+gives_at : (plan : Plan) (inputs : Inputs) (told : ℕ → PlanNode → HolderView) (engines : List EngineView) (place k : ℕ) (engine : EngineView) → IsJob (record { plan = plan; inputs = inputs })
+    → length engines ≡ length plan.nodes + length plan.inputs → AtPlaces (IsEngineAt plan inputs.streams told) engines → slice_get engines place ≡ Some engine → GivesAll (laid_at engine k)
+gives_at plan inputs told engines place k engine is count all there = elim (below place (length plan.nodes)) [
+  | inl less ↦ (let node = there_at plan.nodes place less.1 in
+      subst (λ (v : EngineView). GivesAll (laid_at v k)) (sym ((all place engine there).node node.0 node.1)) (gives_none (length node.0.outputs) k))
+  | inr past ↦ (let most = slice_get_within engines place engine there in let same = is.inputs.streams in let more = past.1 in
+      let s = there_at inputs.streams (place - length plan.nodes) (omega (arith, most, same, more, count)) in
+      subst (λ (v : EngineView). GivesAll (laid_at v k)) (sym ((all place engine there).input (place - length plan.nodes) s.0 (omega (arith, more)) s.1))
+      (gives_input s.0 k (at_each IsPrefix inputs.streams _ s.0 is.inputs.prefixes s.1)))
+]
+
+whole_new : (plan : Plan) (inputs : Inputs) (told : ℕ → PlanNode → HolderView) (net : NetView) → IsJob (record { plan = plan; inputs = inputs }) → HasParts plan inputs told net → (stream : ℕ) → HasFrom net stream 0
+whole_new plan inputs told net is parts stream output at =
+    let port = output_of at.producer in
+    let gives = gives_at plan inputs told net.engines (place_of net.plan at.producer) port at.engine is parts.engine_count parts.engines at.engine_is in
+    let own = ap (λ (b : Backlog Plain). b.gone) (get_or_from_slice_get at.engine.outputs port output empty_backlog at.output_is) in
+    let none = gives.gone in
+    omega (arith, own, none)
 
 -- Intakes.
 
@@ -193,6 +216,7 @@ net_of plan inputs boxes net is fit parts left begun wound = record {
         subst (KnowsQueue net e) (some_same _ _ q new queue_at) (new_knows plan inputs (λ _ node. first_holder (given_of boxes) node) net e parts);
   };
   spare = spare plan inputs boxes net.spare fit left;
+  kept = ap (λ (bs : List Bool). length bs) parts.kept ∙ length-replicate (length plan.streams) false ∙ ap (λ (p : Plan). length p.streams) (sym parts.plan_is);
   begun = omega (arith, begun);
   not_wound = wound;
 }
@@ -212,6 +236,8 @@ net_made plan inputs boxes net is fit parts left begun wound = record {
   begun = begun;
   fresh = λ consumer intake there. (parts.intakes consumer intake there).fresh;
   limits = parts.queues;
+  kept = parts.kept;
+  whole = whole_new plan inputs (λ _ node. first_holder (given_of boxes) node) net is parts;
   unused = λ place told lies. placed boxes place told (left.others place told lies).0;
 }
 
@@ -231,4 +257,5 @@ joined_made plan inputs boxes before net is fit parts same count engines left be
   desks = subst (λ (ds : List DeskView). AtPlaces (IsDeskAt plan) ds) (sym (ap (λ (n : NetView). n.desks) same)) parts.desks;
   of = subst (λ (l : QueueLimits). IsOf plan l) (sym (ap (λ (n : NetView). n.limits) same)) parts.of;
   queues = ap (λ (n : NetView). n.limits.queues) same ∙ parts.queues;
+  kept = ap (λ (n : NetView). n.kept) same ∙ parts.kept;
 }) left (ap (λ (n : NetView). n.begun) same ∙ begun) (ap (λ (n : NetView). n.wound) same ∙ wound)

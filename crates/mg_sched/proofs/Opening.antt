@@ -192,6 +192,7 @@ opened_stands job net engine engine_now limits begun h within there next s knows
       ];
       limits = knows;
       spare = h.spare;
+      kept = h.kept;
       begun = by_next next;
       not_wound = h.not_wound;
     }
@@ -326,13 +327,44 @@ set_grows engines node engine now there grows place g g_now at at_now = elim (ca
   | inr other ↦ (let same : g ≡ g_now = same_Some g g_now (sym at ∙ sym (get_other engines node place now other) ∙ at_now) in subst (λ (v : EngineView). EngineGrows g v) same (same_engine g))
 ]
 
-begins_by : (net : NetView) (engine engine_now : EngineView) (limits : QueueLimits) (begun : ℕ) → slice_get net.engines net.begun ≡ Some engine → EngineGrows engine engine_now → net.begun ≤ begun → Begins net (with_opened net net.begun engine_now limits begun)
-begins_by net engine engine_now limits begun at grows more = record {
+-- and nothing of what is laid is given up
+set_gone : (engines : List EngineView) (node : ℕ) (engine now : EngineView) → slice_get engines node ≡ Some engine → ((output : ℕ) → (laid_at now output).gone ≡ 0) → (place : ℕ) (g g_now : EngineView) → slice_get engines place ≡ Some g
+    → slice_get (set engines node now) place ≡ Some g_now → (output : ℕ) → (laid_at g_now output).gone ≤ (laid_at g output).gone
+set_gone engines node engine now there none place g g_now at at_now output = elim (cases_eq place node) [
+  | inl here ↦
+      (let new : g_now ≡ now = put_there engines node now g_now (ap (slice_get (set engines node now)) (sym here) ∙ at_now) in
+      let gone = ap (λ (v : EngineView). (laid_at v output).gone) new ∙ none output in
+      omega (arith, gone))
+  | inr other ↦
+      (let same : g ≡ g_now = same_Some g g_now (sym at ∙ sym (get_other engines node place now other) ∙ at_now) in
+      let gone = ap (λ (v : EngineView). (laid_at v output).gone) same in
+      omega (arith, gone))
+]
+
+begins_by : (net : NetView) (engine engine_now : EngineView) (limits : QueueLimits) (begun : ℕ) → slice_get net.engines net.begun ≡ Some engine → EngineGrows engine engine_now → ((output : ℕ) → (laid_at engine_now output).gone ≡ 0) → net.begun ≤ begun
+    → Begins net (with_opened net net.begun engine_now limits begun)
+begins_by net engine engine_now limits begun at grows none more = record {
   more = more;
   parts = refl;
   places = length-set net.engines net.begun engine_now;
   grow = set_grows net.engines net.begun engine engine_now at grows;
+  gone = set_gone net.engines net.begun engine engine_now at none;
 }
+
+-- an engine that stays unbegun, or is begun, has given up nothing
+unbegun_whole : (net : NetView) (sides : List (Option Plain)) (engine now : EngineView) → StandsForSome net → net.begun < length net.plan.nodes → slice_get net.engines net.begun ≡ Some engine → AreSides net sides → StaysUnbegun sides engine now
+    → (output : ℕ) → (laid_at now output).gone ≡ 0
+unbegun_whole net sides engine now h within at are stays =
+    let n = next_of h.job net sides engine h.stands within at are in
+    let new = unbegun_parts h.job net.begun n.node sides now n.there n.is (stays h.job net.begun n.node n.there n.is n.unbegun) in
+    (unbegun_none n.node net.begun new.told sides now new.unbegun).gone
+
+begun_whole : (net : NetView) (sides : List (Option Plain)) (engine now : EngineView) → StandsForSome net → net.begun < length net.plan.nodes → slice_get net.engines net.begun ≡ Some engine → AreSides net sides → IsBegunThen sides engine now
+    → (output : ℕ) → (laid_at now output).gone ≡ 0
+begun_whole net sides engine now h within at are begun =
+    let n = next_of h.job net sides engine h.stands within at are in
+    let old = unbegun_parts h.job net.begun n.node sides engine n.there n.is n.unbegun in
+    (begun_none n.node net.begun old.told sides now (begun n.node net.begun old.told (is_new h.job net.begun n.node old.told old.handed) old.unbegun)).gone
 
 -- The same of a net as it is kept.
 
@@ -352,10 +384,12 @@ unbegun_stands job shown net sides engine now is some h within value are grows s
     subst (λ (v : NetView). StandsFor job (with_engine v v.begun now)) (sym is)
     (unbegun_net job net sides engine now h within (begun_engine shown net engine is some within value) (sides_are shown net sides is are) grows stays)
 
-pub unbegun_begins : (shown net : NetView) (engine now : EngineView) → shown ≡ net → StandsForSome net → net.begun < length net.plan.nodes → engine ≡ get_or shown.engines shown.begun engine → EngineGrows engine now → Begins net (with_engine shown shown.begun now)
-unbegun_begins shown net engine now is some within value grows =
+pub unbegun_begins : (shown net : NetView) (sides : List (Option Plain)) (engine now : EngineView) → shown ≡ net → StandsForSome net → net.begun < length net.plan.nodes → engine ≡ get_or shown.engines shown.begun engine → AreSides shown sides → EngineGrows engine now
+    → StaysUnbegun sides engine now → Begins net (with_engine shown shown.begun now)
+unbegun_begins shown net sides engine now is some within value are grows stays =
+    let at = begun_engine shown net engine is some within value in
     subst (λ (v : NetView). Begins net (with_engine v v.begun now)) (sym is)
-    (begins_by net engine now net.limits net.begun (begun_engine shown net engine is some within value) grows (omega arith))
+    (begins_by net engine now net.limits net.begun at grows (unbegun_whole net sides engine now some within at (sides_are shown net sides is are) stays) (omega arith))
 
 -- what it is once the queues of a node that failed are stopped
 abbrev pub Stopped : NetView → EngineView → NetView → Type 0
@@ -370,11 +404,12 @@ stopped_is shown net now new is some within stopped =
     let it = found (set net.engines net.begun now) net.begun (omega (arith, there, long)) in
     s now (it.1 ∙ ap Some (put_there net.engines net.begun now it.0 it.1))
 
-pub begun_begins : (shown net : NetView) (engine now : EngineView) (new : NetView) → shown ≡ net → StandsForSome net → net.begun < length net.plan.nodes → engine ≡ get_or shown.engines shown.begun engine → EngineGrows engine now → Stopped shown now new
-    → Begins net new
-begun_begins shown net engine now new is some within value grows stopped =
+pub begun_begins : (shown net : NetView) (sides : List (Option Plain)) (engine now : EngineView) (new : NetView) → shown ≡ net → StandsForSome net → net.begun < length net.plan.nodes → engine ≡ get_or shown.engines shown.begun engine → AreSides shown sides
+    → EngineGrows engine now → IsBegunThen sides engine now → Stopped shown now new → Begins net new
+begun_begins shown net sides engine now new is some within value are grows begun stopped =
+    let at = begun_engine shown net engine is some within value in
     subst (λ (v : NetView). Begins net v) (sym (stopped_is shown net now new is some within stopped))
-    (begins_by net engine now (stopped_by net.begun now net.limits) (net.begun + 1) (begun_engine shown net engine is some within value) grows (omega arith))
+    (begins_by net engine now (stopped_by net.begun now net.limits) (net.begun + 1) at grows (begun_whole net sides engine now some within at (sides_are shown net sides is are) begun) (omega arith))
 
 pub begun_next : (shown net : NetView) (now : EngineView) (new : NetView) → shown ≡ net → StandsForSome net → net.begun < length net.plan.nodes → Stopped shown now new → new.begun ≡ net.begun + 1
 begun_next shown net now new is some within stopped = ap (λ (v : NetView). v.begun) (stopped_is shown net now new is some within stopped)

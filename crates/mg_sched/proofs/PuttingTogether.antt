@@ -115,7 +115,7 @@ with_other_limits job net limits noted stops h t = record {
   agree = h.agree;
   none_out = h.none_out;
   edges = h.edges;
-  rest = record { given = h.rest.given; desks = h.rest.desks; empty = h.rest.empty; limits = t.of_plan; counts = t.goes_on; spare = h.rest.spare };
+  rest = record { given = h.rest.given; desks = h.rest.desks; empty = h.rest.empty; limits = t.of_plan; counts = t.goes_on; spare = h.rest.spare; kept = h.rest.kept };
 }
 
 pub told_parts : (start now : NetView) (noted stops : ℕ) → AreParts (parts_in start) → ToldTo noted stops start now → AreParts (parts_in now)
@@ -311,6 +311,7 @@ net_stands job parts net put h =
       edges = h.edges;
       limits = subst KnowsLimits put.made put.knows;
       spare = h.rest.spare;
+      kept = h.rest.kept;
       begun = omega arith;
       not_wound = refl;
     })

@@ -28,6 +28,7 @@ relax_stands job effect before now h r = elim r [
     edges = h.edges;
     limits = relaxed_knows before h.limits;
     spare = h.spare;
+    kept = h.kept;
     begun = h.begun;
     not_wound = h.not_wound;
   })

@@ -103,7 +103,7 @@ by_producer job net solution number (Node n port) h running solves w =
       extended = subst (IsExtendedBy (stream_of has.laid port)) (stream_there solution node.outputs port number w.2) (stream_extends has.laid (streams_at solution node.outputs) port has.extended);
     }
 
-one_laid : (job : LoggedJob) (net : NetView) (solution : List (StreamPrefix Plain)) (number : ℕ) → StandsFor job net → IsRunning net → Solves job solution → number < length net.plan.streams → (s : StreamPrefix Plain) × IsLaid net solution number s
+pub one_laid : (job : LoggedJob) (net : NetView) (solution : List (StreamPrefix Plain)) (number : ℕ) → StandsFor job net → IsRunning net → Solves job solution → number < length net.plan.streams → (s : StreamPrefix Plain) × IsLaid net solution number s
 one_laid job net solution number h running solves within =
     let it = producer_there net.plan (valid net (record { job = job; stands = h })) number within in
     let by = by_producer job net solution number it.0.producer h running solves it.2 in (

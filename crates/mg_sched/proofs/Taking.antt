@@ -138,6 +138,7 @@ net_stands job net intake now set_now h there takes =
       ];
       limits = collected_knows net now valid h.limits ports;
       spare = h.spare;
+      kept = h.kept;
       begun = h.begun;
       not_wound = h.not_wound;
     }

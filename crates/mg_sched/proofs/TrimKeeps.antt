@@ -1,5 +1,5 @@
 -- A trim gives up what all edges have got, and keeps what a net stands for.
-use Rattle.std.proofs.Common.{◌≡◌, ℕ, zero, suc, ◌+◌, ◌-◌, ◌≤◌, Bool, true, false, not, List, length, min, max, fold, drop, replicate, get_or, length-drop, Some, slice_get, nat_lt, ap, sym, refl, subst, ◌∙◌, arith}
+use Rattle.std.proofs.Common.{◌≡◌, ℕ, zero, suc, ◌+◌, ◌-◌, ◌≤◌, Bool, true, false, not, if◌then◌else◌, List, length, min, max, fold, drop, replicate, get_or, length-drop, Some, slice_get, nat_lt, ap, sym, refl, subst, ◌∙◌, arith}
 use Rattle.std.proofs.lemmas.List.{ext_get_or}
 use Rattle.std.proofs.lemmas.Option.{same_Some, none-some, slice_get_within, get_or_from_slice_get}
 use Rattle.mg_value.specs.Payload.{Plain}
@@ -17,7 +17,7 @@ use Rattle.mg_node.specs.Outputs.{without_first}
 use Rattle.mg_node.specs.Ports.{port_queue}
 use Rattle.mg_sched.specs.Views.{DeskView, NetView}
 use Rattle.mg_sched.specs.StandsFor.{IsEngine, IsCell, IsJoined, IsNetOf, StandsFor, StandsForSome}
-use Rattle.mg_sched.specs.Trims.{came_of, got_by_all, TrimsEngine, Trims}
+use Rattle.mg_sched.specs.Trims.{came_of, got_by_all, is_kept, goes_of, TrimsEngine, Trims}
 use Rattle.mg_sched.specs.Code.Outputs.{HasOutput, HaveOutputs, AreLaid, AreWithin, AllGiven}
 use Rattle.mg_sched.proofs.Finding.{found, valid}
 use Rattle.mg_sched.proofs.StreamOutputs.{IsBare, bare, have_outputs, laid_below, edge_laid}
@@ -25,18 +25,30 @@ use Rattle.mg_sched.proofs.Trimming.{came_there, least_low, least_came, given_ye
 use Rattle.mg_node.proofs.Lemmas.{window_out}
 use Rattle.mg_sched.proofs.Works.{works_kept}
 
+-- a number of which nothing is left where its stream is kept is no greater
+kept_low : (b : Bool) (n m : ℕ) → n ≤ m → (if b then 0 else n) ≤ m
+kept_low true n m low = omega arith
+kept_low false n m low = low
+
+-- the numbers of a net: what is laid, lowered, and none where the stream is kept
+abbrev pub AreGot : NetView → List ℕ → List ℕ → Type 0
+AreGot net laid got = (s : ℕ) → get_or got s 0 ≡ (if is_kept net s then 0 else fold min (get_or laid s 0) (came_of net.intakes net.plan.edges s))
+
+goes_low : (net : NetView) (s : ℕ) (o : Backlog Plain) → goes_of net s o ≤ o.gone + length o.packets
+goes_low net s o = kept_low (is_kept net s) (got_by_all net s o) (o.gone + length o.packets) (least_low (o.gone + length o.packets) (came_of net.intakes net.plan.edges s))
+
 -- numbers that are what is laid and were lowered are within what is laid
-pub lowered_within : (net : NetView) (laid got : List ℕ) → HaveOutputs net.plan net.engines → AreLaid net.engines (length net.plan.streams) laid → ((s : ℕ) → get_or got s 0 ≡ fold min (get_or laid s 0) (came_of net.intakes net.plan.edges s)) → AreWithin net.engines got
+pub lowered_within : (net : NetView) (laid got : List ℕ) → HaveOutputs net.plan net.engines → AreLaid net.engines (length net.plan.streams) laid → AreGot net laid got → AreWithin net.engines got
 lowered_within net laid got have are lowered place port engine at within =
     let s : ℕ = engine.first + port in
     let own = are place port engine at within (laid_below net.plan s place port (have.each place port engine at within)) in
-    let low = least_low (get_or laid s 0) (came_of net.intakes net.plan.edges s) in
+    let low = kept_low (is_kept net s) (fold min (get_or laid s 0) (came_of net.intakes net.plan.edges s)) (get_or laid s 0) (least_low (get_or laid s 0) (came_of net.intakes net.plan.edges s)) in
     let is = lowered s in
     omega (arith, own, low, is)
 
 -- so each engine gives up what all have got
 pub trims : (before now : NetView) (laid got : List ℕ) → now ≡ record before { engines = now.engines } → HaveOutputs before.plan before.engines → AreLaid before.engines (length before.plan.streams) laid
-    → ((s : ℕ) → get_or got s 0 ≡ fold min (get_or laid s 0) (came_of before.intakes before.plan.edges s)) → AllGiven got (length before.plan.streams) before.engines now.engines → Trims before now
+    → AreGot before laid got → AllGiven got (length before.plan.streams) before.engines now.engines → Trims before now
 trims before now laid got parts have are lowered all = record {
   parts = parts;
   places = all.count;
@@ -50,7 +62,7 @@ trims before now laid got parts have are lowered all = record {
             let within = slice_get_within e.outputs port o in_it in
             let below = laid_below before.plan s place port (have.each place port e at within) in
             let count = are place port e at within below ∙ ap (λ (b : Backlog Plain). b.gone + length b.packets) (get_or_from_slice_get e.outputs port o empty_backlog in_it) in
-            let number = lowered s ∙ ap (λ (n : ℕ). fold min n (came_of before.intakes before.plan.edges s)) count in
+            let number = lowered s ∙ ap (λ (n : ℕ). if is_kept before s then 0 else fold min n (came_of before.intakes before.plan.edges s)) count in
             g.outputs port o o_now in_it in_it_now ∙ given_yes got (length before.plan.streams) s o below ∙ ap (λ (n : ℕ). without_first n o) number);
       });
 }
@@ -73,9 +85,9 @@ bare_stays net node e e_now b t =
     let o_now = found e_now.outputs i less in
     let is : o.0 ≡ empty_backlog = all_copies (length node.outputs) i empty_backlog o.0 (ap (λ (bs : List (Backlog Plain)). slice_get bs i) (sym b.outputs) ∙ o.1) in
     let none : o.0.gone + length o.0.packets ≡ 0 = ap (λ (x : Backlog Plain). x.gone + length x.packets) is in
-    let low = least_low (o.0.gone + length o.0.packets) (came_of net.intakes net.plan.edges (e.first + i)) in
+    let low = goes_low net (e.first + i) o.0 in
     get_or_from_slice_get e_now.outputs i o_now.0 empty_backlog o_now.1 ∙ t.outputs i o.0 o_now.0 o.1 o_now.1
-    ∙ none_kept (got_by_all net (e.first + i) o.0) o.0 (omega (arith, low, none)) is ∙ sym (get_or_from_slice_get e.outputs i o.0 empty_backlog o.1))) in
+    ∙ none_kept (goes_of net (e.first + i) o.0) o.0 (omega (arith, low, none)) is ∙ sym (get_or_from_slice_get e.outputs i o.0 empty_backlog o.1))) in
     t.rest ∙ ap (λ (bs : List (Backlog Plain)). (let v : EngineView = record e { outputs = bs } in v)) same
 
 -- it stays lawful, begun or not
@@ -108,11 +120,12 @@ joined_stays net number port edge e e_now i at has to t joined =
     let place : edge.stream - e.first ≡ port = omega (arith, is) in
     let place_now : edge.stream - e_now.first ≡ port = omega (arith, is, first) in
     let was : get_or e.outputs (edge.stream - e.first) empty_backlog ≡ o.0 = ap (λ (k : ℕ). get_or e.outputs k empty_backlog) place ∙ get_or_from_slice_get e.outputs port o.0 empty_backlog o.1 in
-    let n : ℕ = got_by_all net (e.first + port) o.0 in
+    let n : ℕ = goes_of net (e.first + port) o.0 in
     let now_is : get_or e_now.outputs (edge.stream - e_now.first) empty_backlog ≡ without_first n o.0 =
     ap (λ (k : ℕ). get_or e_now.outputs k empty_backlog) place_now ∙ get_or_from_slice_get e_now.outputs port o_now.0 empty_backlog o_now.1 ∙ t.outputs port o.0 o_now.0 o.1 o_now.1 in
-    let low : n ≤ o.0.gone + length o.0.packets = least_low (o.0.gone + length o.0.packets) (came_of net.intakes net.plan.edges (e.first + port)) in
+    let low : n ≤ o.0.gone + length o.0.packets = goes_low net (e.first + port) o.0 in
     let came : n ≤ count_of (port_queue i.waits edge.port) =
+    kept_low (is_kept net (e.first + port)) (got_by_all net (e.first + port) o.0) (count_of (port_queue i.waits edge.port))
     (let c = least_came net.intakes net.plan.edges number (o.0.gone + length o.0.packets) (e.first + port) edge at (sym is) in let there = came_there net.intakes edge i to in omega (arith, c, there)) in
     let all = same_count n o.0 low in
     let more = joined.came.count in
@@ -173,17 +186,18 @@ trim_stands job before now h t lawful =
             });
       };
       spare = h.spare;
+      kept = h.kept;
       begun = h.begun;
       not_wound = h.not_wound;
     })
 
 -- The same of a net as it is kept.
 
-pub net_within : (shown net : NetView) (laid got : List ℕ) → shown ≡ net → StandsForSome net → AreLaid shown.engines (length shown.plan.streams) laid → ((s : ℕ) → get_or got s 0 ≡ fold min (get_or laid s 0) (came_of shown.intakes shown.plan.edges s)) → AreWithin shown.engines got
+pub net_within : (shown net : NetView) (laid got : List ℕ) → shown ≡ net → StandsForSome net → AreLaid shown.engines (length shown.plan.streams) laid → AreGot shown laid got → AreWithin shown.engines got
 net_within shown net laid got is h are lowered = lowered_within shown laid got (subst (λ (v : NetView). HaveOutputs v.plan v.engines) (sym is) (have_outputs h.job net h.stands)) are lowered
 
 pub net_trims : (shown before now : NetView) (laid got : List ℕ) → shown ≡ before → StandsForSome before → now ≡ record shown { engines = now.engines } → AreLaid shown.engines (length shown.plan.streams) laid
-    → ((s : ℕ) → get_or got s 0 ≡ fold min (get_or laid s 0) (came_of shown.intakes shown.plan.edges s)) → AllGiven got (length shown.plan.streams) shown.engines now.engines → Trims before now
+    → AreGot shown laid got → AllGiven got (length shown.plan.streams) shown.engines now.engines → Trims before now
 net_trims shown before now laid got is h parts are lowered all = subst (λ (v : NetView). Trims v now) is (trims shown now laid got parts (subst (λ (v : NetView). HaveOutputs v.plan v.engines) (sym is) (have_outputs h.job before h.stands)) are lowered all)
 
 pub net_stands : (shown before now : NetView) (got : List ℕ) → shown ≡ before → Trims before now → AllGiven got (length shown.plan.streams) shown.engines now.engines → (job : LoggedJob) → StandsFor job before → StandsFor job now

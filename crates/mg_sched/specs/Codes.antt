@@ -34,16 +34,16 @@ limits_code =
 
 abbrev pub rest_code : Coded RestView
 rest_code =
-    code_by (List (Option Plain) × (List DeskView × (QueueLimits × List (Option CalculatorTold))))
-    (coded× (coded_list (coded_option plain_code)) (coded× (coded_list desk_code) (coded× limits_code (coded_list (coded_option told_code)))))
-    (λ r. (r.given, (r.desks, (r.limits, r.spare)))) (λ p. record { given = p.0; desks = p.1.0; limits = p.1.1.0; spare = p.1.1.1 }) (λ _. refl)
+    code_by (List (Option Plain) × (List DeskView × (QueueLimits × (List (Option CalculatorTold) × List Bool))))
+    (coded× (coded_list (coded_option plain_code)) (coded× (coded_list desk_code) (coded× limits_code (coded× (coded_list (coded_option told_code)) (coded_list coded_bool)))))
+    (λ r. (r.given, (r.desks, (r.limits, (r.spare, r.kept))))) (λ p. record { given = p.0; desks = p.1.0; limits = p.1.1.0; spare = p.1.1.1.0; kept = p.1.1.1.1 }) (λ _. refl)
 
 abbrev pub net_code : Coded NetView
 net_code =
-    code_by ((Plan × List (Option Plain)) × ((List EngineView × (List IntakeView × List DeskView)) × (QueueLimits × (List (Option CalculatorTold) × (ℕ × ℕ)))))
+    code_by ((Plan × List (Option Plain)) × ((List EngineView × (List IntakeView × List DeskView)) × (QueueLimits × ((List (Option CalculatorTold) × List Bool) × (ℕ × ℕ)))))
     (coded× (coded× plan_code (coded_list (coded_option plain_code)))
     (coded× (coded× (coded_list engine_code) (coded× (coded_list intake_code) (coded_list desk_code)))
-    (coded× limits_code (coded× (coded_list (coded_option told_code)) (coded× coded_ℕ coded_ℕ)))))
-    (λ n. ((n.plan, n.given), ((n.engines, (n.intakes, n.desks)), (n.limits, (n.spare, (n.begun, n.wound))))))
-    (λ p. record { plan = p.0.0; given = p.0.1; engines = p.1.0.0; intakes = p.1.0.1.0; desks = p.1.0.1.1; limits = p.1.1.0; spare = p.1.1.1.0; begun = p.1.1.1.1.0; wound = p.1.1.1.1.1 })
+    (coded× limits_code (coded× (coded× (coded_list (coded_option told_code)) (coded_list coded_bool)) (coded× coded_ℕ coded_ℕ)))))
+    (λ n. ((n.plan, n.given), ((n.engines, (n.intakes, n.desks)), (n.limits, ((n.spare, n.kept), (n.begun, n.wound))))))
+    (λ p. record { plan = p.0.0; given = p.0.1; engines = p.1.0.0; intakes = p.1.0.1.0; desks = p.1.0.1.1; limits = p.1.1.0; spare = p.1.1.1.0.0; kept = p.1.1.1.0.1; begun = p.1.1.1.1.0; wound = p.1.1.1.1.1 })
     (λ _. refl)

@@ -1,5 +1,5 @@
 -- A net comes apart, into its engines and intakes by their places, its plan, and what stays of it; and it is put together of them again.
-use Rattle.std.specs.Prelude.{◌≡◌, ℕ, ◌+◌, ◌<◌, ◌≤◌, true, false, List, [], ◌∷◌, length, Option, Some, None, slice_get}
+use Rattle.std.specs.Prelude.{◌≡◌, ℕ, ◌+◌, ◌<◌, ◌≤◌, Bool, true, false, List, [], ◌∷◌, length, Option, Some, None, slice_get}
 use Rattle.mg_value.specs.Payload.{Plain}
 use Rattle.mg_calc.specs.declared.edge.Edge.{Edge}
 use Rattle.mg_calc.specs.declared.plan.Plan.{Plan}
@@ -19,13 +19,14 @@ use Rattle.mg_sched.specs.Views.{DeskView, NetView}
 use Rattle.mg_sched.specs.Places.{source_of, with_limits}
 use Rattle.mg_sched.specs.StandsFor.{IsJoined, KnowsLimits, HasSpare}
 
--- what stays of a net whose plan and parts are away: the side packets that are handed in, its desks, its limits, and the places of the
--- calculators that were handed in
+-- what stays of a net whose plan and parts are away: the side packets that are handed in, its desks, its limits, the places of the
+-- calculators that were handed in, and of which streams all is kept
 pub record RestView : Type 0 where
   pub given : List (Option Plain)
   pub desks : List DeskView
   pub limits : QueueLimits
   pub spare : List (Option CalculatorTold)
+  pub kept : List Bool
 
 -- what a net comes apart into
 pub record PartsView : Type 0 where
@@ -40,7 +41,7 @@ parts_in net = record {
   plan = net.plan;
   engines = net.engines;
   intakes = net.intakes;
-  rest = record { given = net.given; desks = net.desks; limits = net.limits; spare = net.spare };
+  rest = record { given = net.given; desks = net.desks; limits = net.limits; spare = net.spare; kept = net.kept };
 }
 
 -- Works that lie on desks come back.
@@ -82,6 +83,7 @@ pub record IsRestOf (job : LoggedJob) (plan : Plan) (engines : List EngineView) 
   pub counts : (number : ℕ) (e : Edge) (q : Queue) (engine : EngineView) → slice_get plan.edges number ≡ Some e → slice_get rest.limits.queues number ≡ Some q
       → e.node < length plan.nodes → slice_get engines e.node ≡ Some engine → has_ended engine ≡ false → q.counts ≡ true
   pub spare : HasSpare job rest.spare
+  pub kept : length rest.kept ≡ length plan.streams
 
 -- parts are those of one net for a job: there is one at each place, each is lawful, the engine and the intake of a node agree, no work
 -- is out, and at each edge no more came to the port than was laid at the output, which keeps what hasn't come
@@ -129,6 +131,7 @@ net_of parts = record {
   desks = parts.rest.desks;
   limits = parts.rest.limits;
   spare = parts.rest.spare;
+  kept = parts.rest.kept;
   begun = length parts.plan.nodes;
   wound = 0;
 }

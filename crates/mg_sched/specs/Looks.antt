@@ -1,5 +1,5 @@
 -- A look at a stream of a net: at what is laid at its output.
-use Rattle.std.specs.Prelude.{◌≡◌, ℕ, List, Some, slice_get}
+use Rattle.std.specs.Prelude.{◌≡◌, ◌≤◌, ℕ, List, Some, slice_get}
 use Rattle.mg_value.specs.Payload.{Plain}
 use Rattle.mg_stream.specs.Pool.{Backlog}
 use Rattle.mg_calc.specs.declared.plan.Plan.{Plan}
@@ -19,3 +19,7 @@ pub record IsOutputAmong (plan : Plan) (engines : List EngineView) (stream : ℕ
 
 abbrev pub IsOutputOf : NetView → ℕ → Backlog Plain → Type 0
 IsOutputOf net stream output = IsOutputAmong net.plan net.engines stream output
+
+-- the packets of a stream are there from a number on: at most so many first ones are given up
+abbrev pub HasFrom : NetView → ℕ → ℕ → Type 0
+HasFrom net stream number = (output : Backlog Plain) → IsOutputOf net stream output → output.gone ≤ number

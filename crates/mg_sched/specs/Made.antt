@@ -1,6 +1,6 @@
 -- How a net is made: no node is begun, nothing is claimed, and each calculator that was handed in is with its node, or lies in its
 -- place where no node uses it.
-use Rattle.std.specs.Prelude.{◌≡◌, ℕ, zero, List, length, map, All, Some, IfSome, IsSomeAnd, slice_get}
+use Rattle.std.specs.Prelude.{◌≡◌, ℕ, zero, false, List, length, map, replicate, All, Some, IfSome, IsSomeAnd, slice_get}
 use Rattle.mg_calc.specs.declared.inputs.Inputs.{Inputs}
 use Rattle.mg_calc.specs.declared.plan.Plan.{Plan}
 use Rattle.mg_calc.specs.declared.plan_node.PlanNode.{PlanNode}
@@ -13,6 +13,7 @@ use Rattle.mg_node.specs.Intakes.{IsFresh}
 use Rattle.mg_throttle.specs.Throttle.{limit_of, new_queue}
 use Rattle.mg_sched.specs.Views.{NetView}
 use Rattle.mg_sched.specs.StandsFor.{StandsFor}
+use Rattle.mg_sched.specs.Looks.{HasFrom}
 
 -- the job of a plan and its inputs, with these calculators
 abbrev pub job_of : Plan → Inputs → List CalculatorTold → LoggedJob
@@ -27,11 +28,14 @@ pub record FitsNew (node : PlanNode) (box : CalculatorTold) : Type 0 where
 abbrev pub BoxesFit : Plan → List CalculatorTold → Type 0
 BoxesFit plan boxes = All (λ node. IfSome node.box_number (λ number. IsSomeAnd (slice_get boxes number) (FitsNew node))) plan.nodes
 
--- a net that was made: it stands for the job, no node is begun, nothing came, and the limits are the plan's
+-- a net that was made: it stands for the job, no node is begun, nothing came, nothing was given up and no stream is kept, and the limits
+-- are the plan's
 pub record IsMade (plan : Plan) (inputs : Inputs) (boxes : List CalculatorTold) (net : NetView) : Type 0 where
   pub stands : StandsFor (job_of plan inputs boxes) net
   pub begun : net.begun ≡ zero
   pub fresh : (consumer : ℕ) (intake : IntakeView) → slice_get net.intakes consumer ≡ Some intake → IsFresh plan consumer intake
+  pub whole : (stream : ℕ) → HasFrom net stream 0
+  pub kept : net.kept ≡ replicate (length plan.streams) false
   pub limits : net.limits.queues ≡ map (new_queue (length plan.nodes) (limit_of plan.limit)) plan.edges
   -- those that no node uses lie in their places as they were
   pub unused : (place : ℕ) (told : CalculatorTold) → slice_get net.spare place ≡ Some (Some told) → slice_get boxes place ≡ Some told

@@ -91,6 +91,7 @@ pub record IsNetOf (job : LoggedJob) (net : NetView) : Type 0 where
       → slice_get net.engines place ≡ Some engine → slice_get net.intakes e.node ≡ Some intake → IsJoined engine e intake
   pub limits : KnowsLimits net
   pub spare : HasSpare job net.spare
+  pub kept : length net.kept ≡ length net.plan.streams
   pub begun : net.begun ≤ length net.plan.nodes
   pub not_wound : net.wound ≡ 0
 

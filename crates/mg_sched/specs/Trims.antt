@@ -1,6 +1,6 @@
 -- How a net gives up packets that all have got: of each stream the first ones that have come to the ports of all its edges, and all
--- that is laid where it has no edge. Nothing else changes.
-use Rattle.std.specs.Prelude.{◌≡◌, ◌==◌, ℕ, ◌+◌, List, length, map, filter, min, Some, slice_get, option_map, unwrap_or}
+-- that is laid where it has no edge; but nothing of a stream that is kept. Nothing else changes.
+use Rattle.std.specs.Prelude.{◌≡◌, ◌≢◌, ◌==◌, ℕ, ◌+◌, Bool, true, false, List, length, map, filter, min, Some, slice_get, slice_index_or, option_map, unwrap_or, if◌then◌else◌}
 use Rattle.std.specs.List.{fold}
 use Rattle.mg_value.specs.Payload.{Plain}
 use Rattle.mg_stream.specs.Queue.{count_of}
@@ -23,15 +23,29 @@ came_of intakes edges stream = map (came_along intakes) (filter (λ e. e.stream 
 abbrev pub got_by_all : NetView → ℕ → Backlog Plain → ℕ
 got_by_all net stream output = fold min (output.gone + length output.packets) (came_of net.intakes net.plan.edges stream)
 
+-- of a stream all that is laid is kept
+abbrev pub is_kept : NetView → ℕ → Bool
+is_kept net stream = slice_index_or net.kept stream false
+
+-- how many of its first packets are given up
+abbrev pub goes_of : NetView → ℕ → Backlog Plain → ℕ
+goes_of net stream output = if is_kept net stream then 0 else got_by_all net stream output
+
 -- each output of an engine gives these up, or as many as it had given up before, and nothing else of the engine changes
 pub record TrimsEngine (net : NetView) (engine engine_now : EngineView) : Type 0 where
   pub rest : engine_now ≡ record engine { outputs = engine_now.outputs }
   pub count : length engine_now.outputs ≡ length engine.outputs
   pub outputs : (port : ℕ) (output output_now : Backlog Plain) → slice_get engine.outputs port ≡ Some output → slice_get engine_now.outputs port ≡ Some output_now
-      → output_now ≡ without_first (got_by_all net (engine.first + port) output) output
+      → output_now ≡ without_first (goes_of net (engine.first + port) output) output
 
 -- and so do all engines
 pub record Trims (before now : NetView) : Type 0 where
   pub parts : now ≡ record before { engines = now.engines }
   pub places : length now.engines ≡ length before.engines
   pub engines : (place : ℕ) (engine engine_now : EngineView) → slice_get before.engines place ≡ Some engine → slice_get now.engines place ≡ Some engine_now → TrimsEngine before engine engine_now
+
+-- From now on nothing of a stream is given up, and nothing else changes.
+pub record Keeps (stream : ℕ) (before now : NetView) : Type 0 where
+  pub parts : now ≡ record before { kept = now.kept }
+  pub kept : is_kept now stream ≡ true
+  pub others : (other : ℕ) → other ≢ stream → is_kept now other ≡ is_kept before other

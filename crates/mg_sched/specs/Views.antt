@@ -1,5 +1,5 @@
 -- What contracts see of a net: a record of plain data.
-use Rattle.std.specs.Prelude.{ℕ, List, Option}
+use Rattle.std.specs.Prelude.{ℕ, Bool, List, Option}
 use Rattle.mg_value.specs.Payload.{Plain}
 use Rattle.mg_calc.specs.declared.plan.Plan.{Plan}
 use Rattle.mg_calc.specs.Told.{CalculatorTold}
@@ -25,6 +25,8 @@ pub record NetView : Type 0 where
   pub limits : QueueLimits
   -- the places of the calculators that were handed in: those that no node uses lie here
   pub spare : List (Option CalculatorTold)
+  -- of each stream whether all that is laid of it is kept, also what all have got
+  pub kept : List Bool
   -- how many of the nodes are begun, from the first on, and how many are wound up
   pub begun : ℕ
   pub wound : ℕ

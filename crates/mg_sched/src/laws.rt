@@ -2,6 +2,7 @@
 ghost use Rattle.std.specs.Prelude.{◌≡◌, ◌⊎◌, ℕ, ◌+◌, ◌-◌, ◌<◌, ◌≤◌, Bool, true, false, List, length, map, All, Option, Some, None, slice_get};
 ghost use Rattle.mg_value.specs.Payload.{Plain};
 ghost use Rattle.mg_value.specs.Prefix.{Stamped, StreamPrefix};
+ghost use Rattle.mg_value.specs.Extension.{IsExtendedBy};
 ghost use Rattle.mg_value.specs.Settled.{settled_sets, inputs_of};
 ghost use Rattle.mg_value.specs.declared.policy.Policy.TheVariants.{Default};
 ghost use Rattle.mg_stream.specs.Queue.{StandsFor as IsQueueOf};
@@ -11,6 +12,9 @@ ghost use Rattle.mg_calc.specs.Equations.{stream_of};
 ghost use Rattle.mg_calc.specs.Told.{CalculatorTold};
 ghost use Rattle.mg_calc.specs.Shape.{IsOuter};
 ghost use Rattle.mg_calc.specs.Meaning.{count_of, fault_of, counts, faults, weight};
+ghost use Rattle.mg_calc.specs.declared.inputs.Inputs.{Inputs};
+ghost use Rattle.mg_stream.specs.Pool.{Backlog};
+ghost use Rattle.mg_node.specs.Looking.{kept_packet};
 ghost use Rattle.mg_node.specs.Views.{IntakeView, EngineView};
 ghost use Rattle.mg_node.specs.Outputs.{laid_at};
 ghost use Rattle.mg_node.specs.Intakes.{next_set_of};
@@ -20,11 +24,15 @@ ghost use Rattle.mg_node.specs.Had.{HadCalls, HadFront};
 ghost use Rattle.mg_node.specs.Batches.{Grows};
 ghost use Rattle.mg_sched.specs.Views.{NetView};
 ghost use Rattle.mg_sched.specs.Places.{place_of};
-ghost use Rattle.mg_sched.specs.StandsFor.{StandsFor, IsRunning};
+ghost use Rattle.mg_sched.specs.StandsFor.{StandsFor, StandsForSome, IsRunning};
 ghost use Rattle.mg_sched.specs.AtRest.{IsAtRest};
 ghost use Rattle.mg_sched.specs.Sweeps.{Becomes};
 ghost use Rattle.mg_sched.specs.Taking.{collector_of, taken_out, TakesOut, settled_outputs, HasAllOutputs, LeavesNodes};
 ghost use Rattle.mg_sched.specs.WindsUp.{WindsUpNet};
+ghost use Rattle.mg_sched.specs.Begins.{Begins};
+ghost use Rattle.mg_sched.specs.Extends.{MayGoOnWith, Extends};
+ghost use Rattle.mg_sched.specs.Trims.{is_kept, Trims};
+ghost use Rattle.mg_sched.specs.Looks.{IsOutputOf, HasFrom};
 ghost use Rattle.mg_sched.specs.GivesBack.{given_back, StoodFor};
 ghost use Rattle.mg_sched.specs.Reports.{claimed_in, stream_end, report_of};
 ghost use Rattle.mg_sched.specs.ComesApart.{PartsView, ArePartsOf, IsInPlace};
@@ -142,4 +150,48 @@ pub fn what_comes_back_had_a_front()
         → StoodFor job net → (later ≡ job) ⊎ Grows job later → Solves later solution
         → slice_get net.plan.nodes number ≡ Some node → node.box_number ≡ Some place → IsOuter node.law
         → (told : CalculatorTold) × (slice_get (given_back net) place ≡ Some told) × HadFront later solution node told }
+{}
+
+/// What is laid of each stream of a net that stands for a job, with the packets that were given up, is a prefix that the solution's stream
+/// extends, wherever the net is on its way.
+pub fn streams_are_extended_by_the_solution()
+    ensures { (job : LoggedJob) (net : NetView) (solution : List (StreamPrefix Plain)) (number : ℕ) (stream : PlanStream) (engine : EngineView)
+        → StandsFor job net → IsRunning net → Solves job solution
+        → slice_get net.plan.streams number ≡ Some stream → slice_get net.engines (place_of net.plan stream.producer) ≡ Some engine
+        → (laid : StreamPrefix Plain) × IsQueueOf (laid_at engine (number - engine.first)) laid × IsExtendedBy laid (stream_of solution number) }
+{}
+
+/// Two nets at rest that stand for one job are alike, in whatever order the steps of each were made: their reports are equal, with their
+/// counts and faults and how far each stream came; what is laid of each stream is one stream; and where as many sets were taken of the
+/// graph's outputs, the next one is the same.
+pub fn nets_at_rest_for_one_job_are_alike()
+    ensures report { (job : LoggedJob) (net other : NetView) → StandsFor job net → IsRunning net → IsAtRest net
+        → StandsFor job other → IsRunning other → IsAtRest other → report_of net ≡ report_of other }
+    ensures streams { (job : LoggedJob) (net other : NetView) (number : ℕ) (stream : PlanStream) (engine twin : EngineView)
+        → StandsFor job net → IsRunning net → IsAtRest net → StandsFor job other → IsRunning other → IsAtRest other
+        → slice_get net.plan.streams number ≡ Some stream
+        → slice_get net.engines (place_of net.plan stream.producer) ≡ Some engine → slice_get other.engines (place_of other.plan stream.producer) ≡ Some twin
+        → (laid : StreamPrefix Plain) × IsQueueOf (laid_at engine (number - engine.first)) laid × IsQueueOf (laid_at twin (number - twin.first)) laid }
+    ensures outputs { (job : LoggedJob) (net other : NetView) (intake twin : IntakeView)
+        → StandsFor job net → IsRunning net → IsAtRest net → StandsFor job other → IsRunning other → IsAtRest other
+        → collector_of net ≡ Some intake → collector_of other ≡ Some twin → intake.claimed ≡ twin.claimed
+        → next_set_of intake.waits ≡ next_set_of twin.waits }
+{}
+
+/// What can be read of a stream stays there: no step gives up anything of it, nor does the begin of nodes, nor further input, nor a trim
+/// where the stream is kept, nor what leaves the nodes as they are.
+pub fn what_is_kept_stays()
+    ensures begins { (before now : NetView) (stream number : ℕ) → Begins before now → HasFrom before stream number → HasFrom now stream number }
+    ensures steps { (before now : NetView) (stream number : ℕ) → Becomes before now → HasFrom before stream number → HasFrom now stream number }
+    ensures further { (more : Inputs) (before now : NetView) (stream number : ℕ) → MayGoOnWith more before → Extends more before now → HasFrom before stream number → HasFrom now stream number }
+    ensures trims { (before now : NetView) (stream number : ℕ) → StandsForSome before → Trims before now → is_kept before stream ≡ true → HasFrom before stream number → HasFrom now stream number }
+    ensures leaves { (before now : NetView) (stream number : ℕ) → LeavesNodes before now → HasFrom before stream number → HasFrom now stream number }
+{}
+
+/// What is read of a stream of a net at rest is the solution's: a packet that isn't given up, and the bound.
+pub fn what_is_read_at_rest_is_the_solution()
+    ensures packet { (job : LoggedJob) (net : NetView) (solution : List (StreamPrefix Plain)) (stream number : ℕ) (output : Backlog Plain) → StandsFor job net → IsRunning net → IsAtRest net → Solves job solution
+        → IsOutputOf net stream output → HasFrom net stream number → kept_packet output number ≡ slice_get (stream_of solution stream).packets number }
+    ensures bound { (job : LoggedJob) (net : NetView) (solution : List (StreamPrefix Plain)) (stream : ℕ) (output : Backlog Plain) → StandsFor job net → IsRunning net → IsAtRest net → Solves job solution
+        → IsOutputOf net stream output → output.bound ≡ (stream_of solution stream).bound }
 {}

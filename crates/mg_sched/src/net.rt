@@ -4,6 +4,7 @@ mod carrying;
 mod claiming;
 mod extending;
 mod joining;
+mod keeping;
 mod leaving;
 mod looking;
 mod looking_over;
@@ -38,8 +39,9 @@ pub struct Net<C: Calculator> {
     // The number of the first edge into each consumer, and of the feeder that each node is, if it is a source.
     first_edges: Vec<u32>,
     own_feeders: Vec<Option<u32>>,
-    // A number for each stream, for `trim` alone.
+    // A number for each stream, for `trim` alone, and whether all of it is kept.
     got: Vec<u64>,
+    kept: Vec<bool>,
     // The places of the calculators that were handed in, and the list in which they came, which is empty.
     spare: Vec<Option<C>>,
     boxes: Vec<C>,
@@ -91,6 +93,7 @@ pub struct NetRest<C: Calculator> {
     limits: Limits,
     spare: Vec<Option<C>>,
     boxes: Vec<C>,
+    kept: Vec<bool>,
 }
 
 impl<C: Calculator> Model for NetRest<C> {
@@ -107,6 +110,7 @@ impl<C: Calculator> Model for NetRest<C> {
       desks = r.desks.items;
       limits = r.limits;
       spare = map (option_map C.told) r.spare.items;
+      kept = r.kept.items;
     } };
 
     ghost invariant = { λ r. (vec_len r.boxes ≡ 0) × (vec_len r.spare ≤ vec_capacity r.boxes) };
@@ -130,6 +134,7 @@ impl<C: Calculator> Model for Net<C> {
       desks = n.desks.items;
       limits = n.limits;
       spare = map (option_map C.told) n.spare.items;
+      kept = n.kept.items;
       begun = n.begun;
       wound = n.wound;
     } };

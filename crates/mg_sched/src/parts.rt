@@ -1,5 +1,5 @@
 //! What a net is made of, before the calculators that are handed in are with their nodes.
-ghost use Rattle.std.specs.Prelude.{◌≡◌, ◌+◌, ◌<◌, ◌≤◌, [], List, Some, IfOk, All, length, map, slice_get, vec_len, vec_capacity};
+ghost use Rattle.std.specs.Prelude.{◌≡◌, ◌+◌, ◌<◌, ◌≤◌, [], List, Some, IfOk, All, length, map, replicate, false, slice_get, vec_len, vec_capacity};
 ghost use Rattle.mg_value.specs.Prefix.{IsPrefix};
 ghost use Rattle.mg_calc.specs.declared.plan_node.PlanNode.{PlanNode};
 ghost use Rattle.mg_calc.specs.Plan.{IsValid};
@@ -9,7 +9,7 @@ ghost use Rattle.mg_sched.specs.Code.Made.{AtPlaces, IsEngineAt, IsIntakeAt, IsD
 ghost use Rattle.mg_sched.specs.Code.Tables.{AreTables};
 
 use crate::desk::Desk;
-use crate::tables::{first_edges, own_feeders, stream_numbers};
+use crate::tables::{first_edges, none_kept, own_feeders, stream_numbers};
 use mg_calc::{Calculator, GivenList, Plan, TryClone};
 use mg_node::{Engine, Intake};
 use mg_route::{Builtin, Holder};
@@ -40,6 +40,7 @@ pub(crate) struct Rules {
     pub(crate) first_edges: Vec<u32>,
     pub(crate) own_feeders: Vec<Option<u32>>,
     pub(crate) got: Vec<u64>,
+    pub(crate) kept: Vec<bool>,
 }
 
 // The engine of a node, with a calculator of the node's own kind.
@@ -179,15 +180,18 @@ pub(crate) fn rules_of(alloc: Global, plan: &Plan) -> Result<Rules, AllocError>
     ensures queues { IfOk result (λ r. r.limits.queues ≡ map (new_queue (length plan.now.nodes) (limit_of plan.now.limit)) plan.now.edges) }
     ensures tables { IfOk result (λ r. AreTables plan.now r.first_edges.items r.own_feeders.items) }
     ensures got { IfOk result (λ r. vec_len r.got ≡ length plan.now.streams) }
+    ensures kept { IfOk result (λ r. r.kept.items ≡ replicate (length plan.now.streams) false) }
 {
     let limits = Limits::new(alloc, plan, plan.limit)?;
     let first_edges = first_edges(alloc, plan)?;
     let own_feeders = own_feeders(alloc, plan)?;
     let got = stream_numbers(alloc, plan)?;
+    let kept = none_kept(alloc, plan)?;
     Ok(Rules {
         limits,
         first_edges,
         own_feeders,
         got,
+        kept,
     })
 }

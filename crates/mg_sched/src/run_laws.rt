@@ -15,6 +15,7 @@ ghost use Rattle.mg_sched.specs.Acts.{IsEventOf, Acts};
 ghost use Rattle.mg_sched.specs.Made.{job_of};
 ghost use Rattle.mg_sched.specs.Reports.{stream_end, report_of};
 ghost use Rattle.mg_sched.specs.Runs.{IsRun, IsRunAtRest};
+ghost use Rattle.mg_sched.specs.Sweeps.{Becomes};
 
 /// No event is a run from a net to itself, an event that does something is one, and a run that begins where another one ended goes on
 /// with it.
@@ -33,6 +34,14 @@ pub fn runs_stand_for_their_job()
         → StandsFor job now }
     ensures moves { (job : LoggedJob) (events : List Event) (before now : NetView) → IsRun events before now → IsRunning before → StandsFor job before
         → events ≢ [] → now ≢ before }
+{}
+
+/// Whatever steps a net makes, whether they do something or find nothing to do or no memory, it stands for its job at the end as it did
+/// at the begin; so it does after every list of events.
+pub fn steps_keep_what_a_net_stands_for()
+    ensures running { (before now : NetView) → Becomes before now → IsRunning before → IsRunning now }
+    ensures stands { (job : LoggedJob) (before now : NetView) → Becomes before now → IsRunning before → StandsFor job before → StandsFor job now }
+    ensures run { (events : List Event) (before now : NetView) → IsRun events before now → Becomes before now }
 {}
 
 /// Whatever its events are, a run of a job at rest has come to the job's solution: the net reports how many sets each node has there,

@@ -1,6 +1,6 @@
 //! Tables of a plan.
 
-ghost use Rattle.std.specs.Prelude.{◌≡◌, ◌+◌, map, length, IfOk, vec_len};
+ghost use Rattle.std.specs.Prelude.{◌≡◌, ◌+◌, map, length, replicate, false, IfOk, vec_len};
 ghost use Rattle.mg_calc.specs.Plan.{IsValid, numbers};
 ghost use Rattle.mg_sched.specs.Places.{first_edge};
 ghost use Rattle.mg_sched.specs.Code.Tables.{AreOwnFeeders};
@@ -49,4 +49,11 @@ pub(crate) fn stream_numbers(alloc: Global, plan: &Plan) -> Result<Vec<u64>, All
     ensures { IfOk result (λ v. vec_len v ≡ length plan.now.streams) }
 {
     vec![in alloc; 0u64; plan.streams.len() as usize]
+}
+
+/// For each stream that nothing but what waits is kept of it.
+pub(crate) fn none_kept(alloc: Global, plan: &Plan) -> Result<Vec<bool>, AllocError>
+    ensures { IfOk result (λ v. v.items ≡ replicate (length plan.now.streams) false) }
+{
+    vec![in alloc; false; plan.streams.len() as usize]
 }

@@ -1,5 +1,5 @@
 -- What a net is made of: its parts before any node is begun, at their places, and what lies where calculators were handed in.
-use Rattle.std.specs.Prelude.{◌≡◌, ℕ, ◌+◌, ◌<◌, nat_lt, List, [], map, length, All, Option, Some, None, IfSome, IsSome, IsSomeAnd, option_map, unwrap_or, slice_get, slice_index_or, true, if◌then◌else◌}
+use Rattle.std.specs.Prelude.{◌≡◌, ℕ, ◌+◌, ◌<◌, nat_lt, List, [], map, length, replicate, false, All, Option, Some, None, IfSome, IsSome, IsSomeAnd, option_map, unwrap_or, slice_get, slice_index_or, true, if◌then◌else◌}
 use Rattle.std.specs.Option.{option_and_then}
 use Rattle.mg_value.specs.Payload.{Plain}
 use Rattle.mg_value.specs.Prefix.{StreamPrefix}
@@ -79,3 +79,4 @@ pub record HasParts (plan : Plan) (inputs : Inputs) (told : ℕ → PlanNode →
   pub desks : AtPlaces (IsDeskAt plan) net.desks
   pub of : IsOf plan net.limits
   pub queues : net.limits.queues ≡ map (new_queue (length plan.nodes) (limit_of plan.limit)) plan.edges
+  pub kept : net.kept ≡ replicate (length plan.streams) false

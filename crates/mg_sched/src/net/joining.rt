@@ -34,6 +34,7 @@ fn joined<C: Calculator>(parts: NetParts<C>) -> Net<C>
         limits,
         spare,
         boxes,
+        kept,
     } = rest;
     let begun = plan.nodes.len();
     Net {
@@ -47,6 +48,7 @@ fn joined<C: Calculator>(parts: NetParts<C>) -> Net<C>
         first_edges,
         own_feeders,
         got,
+        kept,
         spare,
         boxes,
         begun,

@@ -38,6 +38,7 @@ fn parts_of<C: Calculator>(
       desks = p.cells.desks.items;
       limits = p.rules.limits;
       spare = [];
+      kept = p.rules.kept.items;
       begun = zero;
       wound = zero;
     })) }
@@ -71,6 +72,7 @@ fn joined<C: Calculator>(alloc: Global, plan: &Plan, parts: Parts<C>, boxes: Vec
       desks = parts.cells.desks.items;
       limits = parts.rules.limits;
       spare = [];
+      kept = parts.rules.kept.items;
       begun = zero;
       wound = zero;
     }) → IsMade plan.now inputs (map C.told boxes.items) result }
@@ -91,6 +93,7 @@ fn joined<C: Calculator>(alloc: Global, plan: &Plan, parts: Parts<C>, boxes: Vec
         first_edges,
         own_feeders,
         got,
+        kept,
     } = rules;
     let mut boxes = boxes;
     lay_out(&mut boxes, &mut places);
@@ -106,6 +109,7 @@ fn joined<C: Calculator>(alloc: Global, plan: &Plan, parts: Parts<C>, boxes: Vec
         first_edges,
         own_feeders,
         got,
+        kept,
         spare: places,
         boxes,
         begun: 0,

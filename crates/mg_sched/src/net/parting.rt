@@ -49,6 +49,7 @@ impl<C: Calculator> Net<C> {
             first_edges,
             own_feeders,
             got,
+            kept,
             spare,
             boxes,
             ..
@@ -69,6 +70,7 @@ impl<C: Calculator> Net<C> {
                 limits,
                 spare,
                 boxes,
+                kept,
             },
         }
     }

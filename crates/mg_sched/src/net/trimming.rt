@@ -1,5 +1,5 @@
 //! How packets that all edges of their streams have got are given up. Nothing here takes memory.
-ghost use Rattle.std.specs.Prelude.{◌≡◌, ◌<◌, ◌^◌, ℕ, length, min, Some, slice_index_or};
+ghost use Rattle.std.specs.Prelude.{◌≡◌, ◌<◌, ◌^◌, ℕ, Bool, false, length, min, Some, slice_index_or, if◌then◌else◌};
 ghost use Rattle.std.specs.List.{fold};
 ghost use Rattle.mg_node.specs.Job.{LoggedJob};
 ghost use Rattle.mg_sched.specs.StandsFor.{StandsFor, StandsForSome};
@@ -57,6 +57,24 @@ fn lower(got: &mut [u64], edges: &[Edge], intakes: &[Intake])
     }
 }
 
+// A number, or none where a stream is kept.
+fn spared(number: u64, kept: bool) -> u64
+    ensures { result ≡ (if kept then 0 else number) }
+{
+    if kept { 0 } else { number }
+}
+
+// Sets the number of each stream that is kept to none.
+fn spare(got: &mut [u64], kept: &[bool])
+    requires { length got.old ≡ length kept.now }
+    ensures spared { (stream : ℕ) → slice_index_or got.new stream 0 ≡ (if slice_index_or kept.now stream false then 0 else slice_index_or got.old stream 0) }
+    ensures count { length got.new ≡ length got.old }
+{
+    for stream in 0..kept.len() {
+        got[stream] = spared(got[stream], kept[stream]);
+    }
+}
+
 // Gives up of each stream the first packets, by its number.
 fn give_up<C: Calculator>(engines: &mut [Engine<C>], plan: &Plan, got: &[u64])
     requires streams { length got.now ≡ length plan.now.streams }
@@ -71,8 +89,8 @@ fn give_up<C: Calculator>(engines: &mut [Engine<C>], plan: &Plan, got: &[u64])
 }
 
 impl<C: Calculator> Net<C> {
-    /// Gives up the packets that all edges of their streams have got, and those of streams without edges. It looks at each stream and
-    /// each edge once.
+    /// Gives up the packets that all edges of their streams have got, and those of streams without edges; but none of a stream that is
+    /// kept. It looks at each stream and each edge once.
     pub fn trim(&mut self)
         requires stands { StandsForSome self.old }
         ensures trims { Trims self.old self.new }
@@ -82,6 +100,7 @@ impl<C: Calculator> Net<C> {
     {
         set_laid(&mut self.got, &self.plan, &self.engines);
         lower(&mut self.got, self.plan.edges.as_slice(), &self.intakes);
+        spare(&mut self.got, &self.kept);
         give_up(&mut self.engines, &self.plan, &self.got);
     }
 }

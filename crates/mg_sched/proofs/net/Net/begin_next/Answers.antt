@@ -12,7 +12,8 @@ begin-requires g c = may_begin_next c.args.self.now c.in_ok-sides.sides c.index_
     (sides_are _ c.args.self.now c.in_ok-sides.sides c.self.view_is c.in_ok-sides.ensures)
 
 pub returns-in_err-begin-clause-begins : goal.returns-in_err-begin-clause-begins
-returns-in_err-begin-clause-begins g c = unbegun_begins _ c.args.self.now c.index_mut.result.now c.begin.new.self c.self.view_is c.requires.stands c.requires.there c.index_mut.ensures.value c.in_err-begin.ensures.grows
+returns-in_err-begin-clause-begins g c = unbegun_begins _ c.args.self.now c.in_ok-sides.sides c.index_mut.result.now c.begin.new.self c.self.view_is c.requires.stands c.requires.there c.index_mut.ensures.value c.in_ok-sides.ensures
+    c.in_err-begin.ensures.grows c.in_err-begin.ensures.lawful_unbegun
 
 pub returns-in_err-begin-clause-stands : goal.returns-in_err-begin-clause-stands
 returns-in_err-begin-clause-stands g c = λ job h. unbegun_stands job _ c.args.self.now c.in_ok-sides.sides c.index_mut.result.now c.begin.new.self c.self.view_is c.requires.stands h c.requires.there c.index_mut.ensures.value c.in_ok-sides.ensures
@@ -28,7 +29,8 @@ pub stop_ended-requires-clause-reached : goal.stop_ended-requires-clause-reached
 stop_ended-requires-clause-reached g c = reached_there _ c.args.self.now c.self.view_is c.requires.stands c.requires.there
 
 pub returns-clause-begins : goal.returns-clause-begins
-returns-clause-begins g c = begun_begins _ c.args.self.now c.index_mut.result.now c.begin.new.self c.stop_ended.new.self c.self.view_is c.requires.stands c.requires.there c.index_mut.ensures.value c.in_ok-begin.ensures.grows c.stop_ended.ensures
+returns-clause-begins g c = begun_begins _ c.args.self.now c.in_ok-sides.sides c.index_mut.result.now c.begin.new.self c.stop_ended.new.self c.self.view_is c.requires.stands c.requires.there c.index_mut.ensures.value c.in_ok-sides.ensures
+    c.in_ok-begin.ensures.grows c.in_ok-begin.ensures.begun c.stop_ended.ensures
 
 pub returns-clause-next : goal.returns-clause-next
 returns-clause-next g c = begun_next _ c.args.self.now c.begin.new.self c.stop_ended.new.self c.self.view_is c.requires.stands c.requires.there c.stop_ended.ensures

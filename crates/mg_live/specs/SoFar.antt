@@ -1,0 +1,31 @@
+-- Rounds under way: what free nodes have taken so far, over what has come after each batch of the input. Of the batches the newest
+-- stands first.
+use Rattle.std.specs.Prelude.{◌≡◌, List, [], ◌∷◌, ⊤}
+use Rattle.mg_value.specs.Extension.{AreExtendedBy}
+use Rattle.mg_calc.specs.declared.inputs.Inputs.{Inputs}
+use Rattle.mg_calc.specs.declared.plan.Plan.{Plan}
+use Rattle.mg_calc.specs.Plan.{InputsFit}
+use Rattle.mg_calc.specs.Equations.{IsJob}
+use Rattle.mg_free.specs.declared.plan.FreePlan.{FreePlan}
+use Rattle.mg_free.specs.Rounds.{Taken, none_taken, core_inputs, core_job, IsRound}
+
+pub data SoFar (split : FreePlan) : List Inputs → List Taken → Type 0 where
+  -- the first batch has come, and nothing is taken
+  begins : {inputs : Inputs} → SoFar split (inputs ∷ []) (none_taken split)
+  -- a round took something or closed something
+  goes : {inputs : Inputs} {earlier : List Inputs} {before after : List Taken} → SoFar split (inputs ∷ earlier) before → IsRound split inputs before after → ¬ (after ≡ before)
+      → SoFar split (inputs ∷ earlier) after
+  -- a round did nothing, and a batch more has come
+  comes : {inputs more : Inputs} {earlier : List Inputs} {takens : List Taken} → SoFar split (inputs ∷ earlier) takens → IsRound split inputs takens takens → SoFar split (more ∷ inputs ∷ earlier) takens
+
+-- what has come after each batch: it fits the plan, and extends what came before
+abbrev pub HaveCome : Plan → List Inputs → Type 0
+HaveCome plan [] = ⊤
+HaveCome plan (inputs ∷ []) = InputsFit plan inputs
+HaveCome plan (inputs ∷ before ∷ earlier) = InputsFit plan inputs × (before.sides ≡ inputs.sides) × AreExtendedBy before.streams inputs.streams × HaveCome plan (before ∷ earlier)
+
+-- the core goes on: what comes to it makes a job, which extends the one before
+pub record CoreGoesOn (split : FreePlan) (inputs more : Inputs) (before after : List Taken) : Type 0 where
+  pub is_job : IsJob (core_job split more after)
+  pub sides : inputs.sides ≡ more.sides
+  pub extended : AreExtendedBy (core_inputs split inputs before).streams (core_inputs split more after).streams

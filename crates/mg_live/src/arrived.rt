@@ -1,0 +1,8 @@
+use mg_time::Timestamp;
+
+/// An arrival as it is told: at which port a packet arrived, and the packet's timestamp.
+#[derive(Clone, Copy, Debug)]
+pub struct Arrived {
+    pub port: u32,
+    pub at: Timestamp,
+}

@@ -1,0 +1,47 @@
+//! Laws of rounds that are under way: each function does nothing, and its contract is the law.
+ghost use Rattle.std.specs.Prelude.{◌≡◌, ◌∷◌, ◌++◌, List, length, max, reverse};
+ghost use Rattle.mg_calc.specs.declared.inputs.Inputs.{Inputs};
+ghost use Rattle.mg_calc.specs.declared.plan.Plan.{Plan};
+ghost use Rattle.mg_calc.specs.Plan.{IsValidWithFree, InputsFit};
+ghost use Rattle.mg_calc.specs.Equations.{IsJob, IsSolution};
+ghost use Rattle.mg_value.specs.Payload.{Plain};
+ghost use Rattle.mg_value.specs.Prefix.{StreamPrefix};
+ghost use Rattle.mg_value.specs.Extension.{IsExtendedBy};
+ghost use Rattle.mg_free.specs.declared.plan.FreePlan.{FreePlan};
+ghost use Rattle.mg_free.specs.Core.{split_of};
+ghost use Rattle.mg_free.specs.Rounds.{Taken, none_taken, core_job, IsRound, AllRounds};
+ghost use Rattle.mg_free.specs.Turns.{HasCome};
+ghost use Rattle.mg_live.specs.Takes.{MayAllTurn, piece_behind};
+ghost use Rattle.mg_live.specs.SoFar.{SoFar, HaveCome, CoreGoesOn};
+
+/// Rounds that are under way come to all rounds of the run, once one does nothing and no batch is left. Then in the solution of the core
+/// the log of each free node is lawful, and each free output is what its node's log lays.
+pub fn rounds_so_far_are_rounds()
+    ensures all { (split : FreePlan) (inputs : Inputs) (earlier : List Inputs) (takens : List Taken) → SoFar split (inputs ∷ earlier) takens → IsRound split inputs takens takens
+        → AllRounds split (reverse (inputs ∷ earlier)) (none_taken split) takens }
+    ensures come { (plan : Plan) (inputs : Inputs) (earlier : List Inputs) (takens : List Taken) → IsValidWithFree plan → HaveCome plan (inputs ∷ earlier)
+        → SoFar (split_of plan) (inputs ∷ earlier) takens → IsRound (split_of plan) inputs takens takens → HasCome (split_of plan) inputs takens }
+{}
+
+/// While rounds are under way what comes to the core is a job; a round goes on from it, and so does a batch more.
+pub fn rounds_go_on()
+    ensures job { (plan : Plan) (inputs : Inputs) (earlier : List Inputs) (takens : List Taken) → IsValidWithFree plan → HaveCome plan (inputs ∷ earlier) → SoFar (split_of plan) (inputs ∷ earlier) takens
+        → IsJob (core_job (split_of plan) inputs takens) }
+    ensures round { (plan : Plan) (inputs : Inputs) (earlier : List Inputs) (before after : List Taken) → IsValidWithFree plan → HaveCome plan (inputs ∷ earlier)
+        → SoFar (split_of plan) (inputs ∷ earlier) before → IsRound (split_of plan) inputs before after → CoreGoesOn (split_of plan) inputs inputs before after }
+    ensures batch { (plan : Plan) (inputs more : Inputs) (earlier : List Inputs) (takens : List Taken) → IsValidWithFree plan → HaveCome plan (more ∷ inputs ∷ earlier)
+        → SoFar (split_of plan) (inputs ∷ earlier) takens → CoreGoesOn (split_of plan) inputs more takens takens }
+{}
+
+/// In the solution for what has come to the core each free node may have its turn.
+pub fn free_nodes_may_have_their_turns()
+    ensures { (plan : Plan) (inputs : Inputs) (earlier : List Inputs) (takens : List Taken) (streams : List (StreamPrefix Plain)) → IsValidWithFree plan → HaveCome plan (inputs ∷ earlier)
+        → SoFar (split_of plan) (inputs ∷ earlier) takens → IsSolution (core_job (split_of plan) inputs takens) streams → MayAllTurn streams (split_of plan).free takens }
+{}
+
+/// What a free node hands on goes behind what it handed on before: an output that was extended is what it was with the piece behind it,
+/// and the bound of the piece is the bound then.
+pub fn pieces_go_behind()
+    ensures packets { (before after : StreamPrefix Plain) → IsExtendedBy before after → before.packets ++ (piece_behind (length before.packets) after).packets ≡ after.packets }
+    ensures bound { (before after : StreamPrefix Plain) → IsExtendedBy before after → max before.bound (piece_behind (length before.packets) after).bound ≡ after.bound }
+{}

@@ -1,0 +1,151 @@
+ghost use Rattle.std.specs.Prelude.{◌≡◌, ◌<◌, ◌++◌, List, Some, IfOk, OnOk, length, map, replicate, slice_get};
+ghost use Rattle.mg_value.specs.Payload.{Plain};
+ghost use Rattle.mg_value.specs.Prefix.{StreamPrefix, empty_prefix};
+ghost use Rattle.mg_free.specs.declared.node.FreeNode.{FreeNode as FreeNodeView};
+ghost use Rattle.mg_free.specs.Rounds.{Taken};
+ghost use Rattle.mg_live.specs.declared.taker.Taker.{Taker as TakerView};
+ghost use Rattle.mg_live.specs.Takes.{HaveTaken, MayRound, Did, turns_of, nothing_taken, handed_of, outputs_so_far, pieces_behind, told};
+
+use crate::{Arrived, Streams, Taker};
+use mg_free::{FreeNode, FreeNodeList};
+use mg_time::Timestamp;
+use mg_value::{PacketList, Prefix, PrefixList};
+use std::alloc::{AllocError, Global};
+
+/// The free nodes of a graph that runs, each with what is kept of it.
+#[derive(Drop)]
+pub struct LiveNodes {
+    free: FreeNodeList,
+    takers: Vec<Taker>,
+}
+
+// Free nodes that have taken nothing.
+fn takers_of(alloc: Global, frees: &[FreeNode]) -> Result<Vec<Taker>, AllocError>
+    ensures taken { IfOk result (λ takers. HaveTaken frees.now (nothing_taken frees.now) takers.items) }
+    ensures handed { IfOk result (λ takers. handed_of takers.items ≡ replicate (length frees.now) 0) }
+{
+    let mut takers = Vec::with_capacity(alloc, frees.len())?;
+    for free in frees {
+        takers.push(Taker::new(alloc, free)?)?;
+    }
+    Ok(takers)
+}
+
+// A round: each free node has its turn, in order. Tells whether something was done.
+fn round<S: Streams>(
+    frees: &[FreeNode],
+    takers: &mut [Taker],
+    streams: &S,
+) -> Result<bool, AllocError>
+    requires { MayRound S.are S.has_from streams.now frees.now takers.old }
+    ensures taken { (ss : List (StreamPrefix Plain)) (takens : List Taken) → S.are streams.now ss → HaveTaken frees.now takens takers.old
+        → OnOk result (HaveTaken frees.now (turns_of ss frees.now takens) takers.new) }
+    ensures did { (ss : List (StreamPrefix Plain)) (takens : List Taken) → S.are streams.now ss → HaveTaken frees.now takens takers.old
+        → IfOk result (λ did. Did did takens (turns_of ss frees.now takens)) }
+    ensures handed { handed_of takers.new ≡ handed_of takers.old }
+{
+    let mut did = false;
+    for place in 0..frees.len() {
+        did |= takers[place].turn(&frees[place], streams)?;
+    }
+    Ok(did)
+}
+
+// The arrivals so far at the node of a place.
+fn log_at(takers: &[Taker], place: usize) -> &[Arrived]
+    requires { place < length takers.now }
+    ensures { (taker : TakerView) → slice_get takers.now place ≡ Some taker → result.now ≡ taker.log.items }
+{
+    takers[place].log()
+}
+
+// Prefixes of which nothing is known, so many.
+fn nothings(alloc: Global, count: u32) -> Result<Vec<Prefix>, AllocError>
+    ensures { IfOk result (λ nothings. nothings.items ≡ replicate count empty_prefix) }
+{
+    let mut nothings = Vec::new(alloc);
+    for place in 0..count {
+        let _ = place;
+        nothings.push(Prefix {
+            packets: PacketList::from_vec(Vec::new(alloc))?,
+            bound: Timestamp::PRE_STREAM,
+        })?;
+    }
+    Ok(nothings)
+}
+
+// Behind some pieces what came to each output.
+fn hand_on(
+    alloc: Global,
+    before: Vec<Prefix>,
+    takers: &mut [Taker],
+) -> Result<Vec<Prefix>, AllocError>
+    ensures pieces { (frees : List FreeNodeView) (takens : List Taken) → HaveTaken frees takens takers.old
+        → IfOk result (λ pieces. pieces.items ≡ before.items ++ pieces_behind (handed_of takers.old) (outputs_so_far frees takens)) }
+    ensures taken { (frees : List FreeNodeView) (takens : List Taken) → HaveTaken frees takens takers.old → OnOk result (HaveTaken frees takens takers.new) }
+    ensures handed { (frees : List FreeNodeView) (takens : List Taken) → HaveTaken frees takens takers.old
+        → OnOk result (handed_of takers.new ≡ map (λ s. length s.packets) (outputs_so_far frees takens)) }
+{
+    let mut pieces = before;
+    for place in 0..takers.len() {
+        pieces.push(takers[place].hand_on(alloc)?)?;
+    }
+    Ok(pieces)
+}
+
+impl LiveNodes {
+    /// Free nodes that have taken nothing.
+    pub fn new(alloc: Global, free: FreeNodeList) -> Result<LiveNodes, AllocError>
+        ensures free { IfOk result (λ live. live.free ≡ free) }
+        ensures taken { IfOk result (λ live. HaveTaken free (nothing_taken free) live.takers.items) }
+        ensures handed { IfOk result (λ live. handed_of live.takers.items ≡ replicate (length free) 0) }
+    {
+        let takers = takers_of(alloc, free.as_slice())?;
+        Ok(LiveNodes { free, takers })
+    }
+
+    /// A round, in streams that have come to rest: each free node has its turn, in order. Tells whether something was done. Its cost
+    /// is the ports of the free nodes and the packets that they take. At want of memory some have had their turns.
+    pub fn round<S: Streams>(&mut self, streams: &S) -> Result<bool, AllocError>
+        requires { MayRound S.are S.has_from streams.now self.old.free self.old.takers.items }
+        ensures free { self.new.free ≡ self.old.free }
+        ensures taken { (ss : List (StreamPrefix Plain)) (takens : List Taken) → S.are streams.now ss → HaveTaken self.old.free takens self.old.takers.items
+            → OnOk result (HaveTaken self.old.free (turns_of ss self.old.free takens) self.new.takers.items) }
+        ensures did { (ss : List (StreamPrefix Plain)) (takens : List Taken) → S.are streams.now ss → HaveTaken self.old.free takens self.old.takers.items
+            → IfOk result (λ did. Did did takens (turns_of ss self.old.free takens)) }
+        ensures handed { handed_of self.new.takers.items ≡ handed_of self.old.takers.items }
+    {
+        let did = round(self.free.as_slice(), &mut self.takers, streams)?;
+        Ok(did)
+    }
+
+    /// What came to the outputs of the free nodes since this was asked before, as further input of a core: nothing at the graph's own
+    /// inputs, of which there are so many, and behind them a piece for each free node, in order.
+    pub fn hand_on(&mut self, alloc: Global, own: u32) -> Result<PrefixList, AllocError>
+        ensures free { self.new.free ≡ self.old.free }
+        ensures pieces { (takens : List Taken) → HaveTaken self.old.free takens self.old.takers.items
+            → IfOk result (λ pieces. pieces ≡ replicate own empty_prefix ++ pieces_behind (handed_of self.old.takers.items) (outputs_so_far self.old.free takens)) }
+        ensures taken { (takens : List Taken) → HaveTaken self.old.free takens self.old.takers.items → OnOk result (HaveTaken self.old.free takens self.new.takers.items) }
+        ensures handed { (takens : List Taken) → HaveTaken self.old.free takens self.old.takers.items
+            → OnOk result (handed_of self.new.takers.items ≡ map (λ s. length s.packets) (outputs_so_far self.old.free takens)) }
+    {
+        let before = nothings(alloc, own)?;
+        let pieces = hand_on(alloc, before, &mut self.takers)?;
+        Ok(PrefixList::from_vec(pieces)?)
+    }
+
+    /// How many free nodes there are.
+    pub fn len(&self) -> usize
+        ensures { result ≡ length self.now.takers.items }
+    {
+        self.takers.as_slice().len()
+    }
+
+    /// The arrivals at a free node so far, by the place of the node among them.
+    pub fn log(&self, place: usize) -> &[Arrived]
+        requires { place < length self.now.takers.items }
+        ensures { (takens : List Taken) (taken : Taken) → HaveTaken self.now.free takens self.now.takers.items → slice_get takens place ≡ Some taken → result.now ≡ map told taken.log }
+    {
+        log_at(&self.takers, place)
+    }
+}

@@ -1,0 +1,217 @@
+ghost use Rattle.std.specs.Prelude.{◌≡◌, ◌<◌, ◌==◌, ◌++◌, ◌∷◌, ℕ, List, [], Some, None, IfOk, OnOk, false, length, slice_get, option_map, option_copied, replicate, drop, map, OnErr, if◌then◌else◌};
+ghost use Rattle.mg_time.specs.Time.{done};
+ghost use Rattle.mg_value.specs.Payload.{Plain};
+ghost use Rattle.mg_value.specs.Prefix.{StreamPrefix};
+ghost use Rattle.mg_value.specs.Settled.{port_of};
+ghost use Rattle.mg_calc.specs.Equations.{stream_of};
+ghost use Rattle.mg_free.specs.declared.node.FreeNode.{FreeNode as FreeNodeView};
+ghost use Rattle.mg_free.specs.Free.{MayArrive};
+ghost use Rattle.mg_free.specs.Logs.{arrived_at, has_ended as have_ended, ending};
+ghost use Rattle.mg_free.specs.Rounds.{Taken, output_so_far, free_inputs, next_arrivals, last_of, turn};
+ghost use Rattle.mg_live.specs.Takes.{told, HasTaken, HasHanded, MayTurnIn, Did, piece_behind};
+
+use crate::{Arrived, Streams};
+use mg_free::{FreeLaw, FreeNode, FreeState};
+use mg_time::Timestamp;
+use mg_value::{Packet, PacketList, Prefix};
+use std::alloc::{AllocError, Global};
+
+/// What is kept of a free node while a graph runs: what it has come to, how many packets arrived at each port, its arrivals as they
+/// are told, whether its output is closed, and how many packets of the output were handed on.
+#[derive(Drop)]
+pub struct Taker {
+    state: FreeState,
+    counts: Vec<u64>,
+    log: Vec<Arrived>,
+    closed: bool,
+    handed: usize,
+}
+
+// So many zeros.
+fn zeros(alloc: Global, count: u32) -> Result<Vec<u64>, AllocError>
+    ensures { IfOk result (λ zeros. zeros.items ≡ replicate count 0) }
+{
+    vec![in alloc; 0u64; count as usize]
+}
+
+// The packets from a place on. Payloads are shared.
+fn packets_from(alloc: Global, packets: &[Packet], from: usize) -> Result<PacketList, AllocError>
+    ensures { IfOk result (λ rest. rest ≡ drop from packets.now) }
+{
+    let mut rest = Vec::new(alloc);
+    for place in from..packets.len() {
+        rest.push(packets[place].try_clone()?)?;
+    }
+    Ok(PacketList::from_vec(rest)?)
+}
+
+// How many ports a node has after whose ends its output ends, the first ones.
+fn ending_ports(free: &FreeNode) -> u32
+    ensures { (streams : List (StreamPrefix Plain)) → result ≡ length (ending free.now.law (free_inputs streams free.now)) }
+{
+    match free.law {
+        FreeLaw::FirstCome { .. } => free.inputs.len(),
+        FreeLaw::Limiter { .. } => free.inputs.len().min(1),
+    }
+}
+
+// Whether a stream has ended.
+fn is_done<S: Streams>(streams: &S, stream: u32) -> bool
+    requires { (ss : List (StreamPrefix Plain)) × S.are streams.now ss × (stream < length ss) }
+    ensures { (ss : List (StreamPrefix Plain)) → S.are streams.now ss → result ≡ ((stream_of ss stream).bound == done) }
+{
+    streams.bound(stream) == Timestamp::DONE
+}
+
+// Whether the streams have ended after whose ends the output ends.
+fn has_ended<S: Streams>(free: &FreeNode, streams: &S) -> bool
+    requires { (ss : List (StreamPrefix Plain)) × S.are streams.now ss × ((port stream : ℕ) → slice_get free.now.inputs port ≡ Some stream → stream < length ss) }
+    ensures { (ss : List (StreamPrefix Plain)) → S.are streams.now ss → result ≡ have_ended free.now.law (free_inputs ss free.now) }
+{
+    let inputs = free.inputs.as_slice();
+    for port in 0..ending_ports(free) {
+        if !is_done(streams, inputs[port as usize]) {
+            return false;
+        }
+    }
+    true
+}
+
+impl Taker {
+    /// A free node that has taken nothing.
+    pub fn new(alloc: Global, free: &FreeNode) -> Result<Taker, AllocError>
+        ensures taken { IfOk result (λ taker. HasTaken free.now (record { log = []; closed = false }) taker) }
+        ensures handed { IfOk result (λ taker. HasHanded free.now (record { log = []; closed = false }) taker) }
+    {
+        let state = FreeState::new(alloc, free)?;
+        let counts = zeros(alloc, free.inputs.len())?;
+        Ok(Taker {
+            state,
+            counts,
+            log: Vec::new(alloc),
+            closed: false,
+            handed: 0,
+        })
+    }
+
+    /// The node's turn: it takes the next packet of the last port that has one; without one it closes its output, once the streams
+    /// have ended after whose ends the output ends. Tells whether it did something. Its cost is its ports and one packet.
+    pub fn turn<S: Streams>(&mut self, free: &FreeNode, streams: &S) -> Result<bool, AllocError>
+        requires { MayTurnIn S.are S.has_from streams.now free.now self.old }
+        ensures taken { (ss : List (StreamPrefix Plain)) (taken : Taken) → S.are streams.now ss → HasTaken free.now taken self.old
+            → OnOk result (HasTaken free.now (turn ss free.now taken) self.new) }
+        ensures did { (ss : List (StreamPrefix Plain)) (taken : Taken) → S.are streams.now ss → HasTaken free.now taken self.old
+            → IfOk result (λ did. Did did taken (turn ss free.now taken)) }
+        ensures handed { self.new.handed ≡ self.old.handed }
+    {
+        let Some(port) = self.last_port(free, streams) else {
+            return Ok(self.close_at_end(free, streams));
+        };
+        let Some(packet) = self.next_at(free, streams, port) else {
+            unreachable!()
+        };
+        self.take(free, port, packet)?;
+        Ok(true)
+    }
+
+    // The last port at which a packet waits, if there is one.
+    fn last_port<S: Streams>(&self, free: &FreeNode, streams: &S) -> Option<u32>
+        requires { MayTurnIn S.are S.has_from streams.now free.now self.now }
+        ensures { (ss : List (StreamPrefix Plain)) (taken : Taken) → S.are streams.now ss → HasTaken free.now taken self.now
+            → result ≡ option_map (λ a. a.port) (last_of (next_arrivals ss free.now taken)) }
+    {
+        let mut port = free.inputs.len();
+        'ports: while port > 0 {
+            port -= 1;
+            if self.next_at(free, streams, port).is_some() {
+                return Some(port);
+            }
+        }
+        None
+    }
+
+    // The packet of a port that arrives next, if there is one.
+    fn next_at<'s, S: Streams>(
+        &self,
+        free: &FreeNode,
+        streams: &'s S,
+        port: u32,
+    ) -> Option<&'s Packet>
+        requires port { port < length free.now.inputs }
+        requires may { MayTurnIn S.are S.has_from streams.now free.now self.now }
+        ensures { (ss : List (StreamPrefix Plain)) (taken : Taken) → S.are streams.now ss → HasTaken free.now taken self.now
+            → option_copied result ≡ slice_get (port_of (free_inputs ss free.now) port).packets (length (arrived_at port taken.log)) }
+    {
+        let stream = free.inputs.as_slice()[port as usize];
+        streams.packet(stream, self.counts[port as usize])
+    }
+
+    // Takes a packet that arrives at a port.
+    fn take(&mut self, free: &FreeNode, port: u32, packet: &Packet) -> Result<(), AllocError>
+        requires port { port < length free.now.inputs }
+        requires some { (taken : Taken) × HasTaken free.now taken self.old }
+        requires may { MayArrive self.old.state.law self.old.state.flow (record { port = port; packet = packet.now }) }
+        ensures taken { (taken : Taken) → HasTaken free.now taken self.old
+            → OnOk result (HasTaken free.now (record { log = taken.log ++ record { port = port; packet = packet.now } ∷ []; closed = taken.closed }) self.new) }
+        ensures handed { self.new.handed ≡ self.old.handed }
+    {
+        let _ = free;
+        let _ = self.state.arrive(port, packet)?;
+        self.log.push(Arrived {
+            port,
+            at: packet.at,
+        })?;
+        self.counts[port as usize] += 1;
+        Ok(())
+    }
+
+    // Closes the output, where it is open, once the streams have ended after whose ends it ends. Tells whether it did.
+    fn close_at_end<S: Streams>(&mut self, free: &FreeNode, streams: &S) -> bool
+        requires { MayTurnIn S.are S.has_from streams.now free.now self.old }
+        ensures taken { (ss : List (StreamPrefix Plain)) (taken : Taken) → S.are streams.now ss → HasTaken free.now taken self.old
+            → last_of (next_arrivals ss free.now taken) ≡ None → HasTaken free.now (turn ss free.now taken) self.new }
+        ensures did { (ss : List (StreamPrefix Plain)) (taken : Taken) → S.are streams.now ss → HasTaken free.now taken self.old
+            → last_of (next_arrivals ss free.now taken) ≡ None → Did result taken (turn ss free.now taken) }
+        ensures handed { self.new.handed ≡ self.old.handed }
+    {
+        if self.closed || !has_ended(free, streams) {
+            return false;
+        }
+        self.closed = true;
+        true
+    }
+
+    /// The arrivals so far, as they are told.
+    pub fn log(&self) -> &[Arrived]
+        ensures items { result.now ≡ self.now.log.items }
+        ensures told { (free : FreeNodeView) (taken : Taken) → HasTaken free taken self.now → result.now ≡ map told taken.log }
+    {
+        &self.log
+    }
+
+    /// What came to the output since this was asked before, with the bound as it is now. At want of memory it counts as not asked.
+    pub fn hand_on(&mut self, alloc: Global) -> Result<Prefix, AllocError>
+        ensures piece { (free : FreeNodeView) (taken : Taken) → HasTaken free taken self.old → IfOk result (λ piece. piece ≡ piece_behind self.old.handed (output_so_far free taken)) }
+        ensures handed { (free : FreeNodeView) (taken : Taken) → HasTaken free taken self.old → OnOk result (HasHanded free taken self.new) }
+        ensures taken { (free : FreeNodeView) (taken : Taken) → HasTaken free taken self.old → HasTaken free taken self.new }
+        ensures unchanged { OnErr result (self.new.handed ≡ self.old.handed) }
+    {
+        let output = self.state.output();
+        let bound = bound_of(output, self.closed);
+        let count = output.packets.len() as usize;
+        let packets = packets_from(alloc, output.packets.as_slice(), self.handed)?;
+        self.handed = count;
+        Ok(Prefix { packets, bound })
+    }
+}
+
+// The bound of an output that may be closed.
+fn bound_of(output: &Prefix, closed: bool) -> Timestamp
+    ensures { result ≡ (if closed then done else output.now.bound) }
+{
+    if closed {
+        Timestamp::DONE
+    } else {
+        output.bound
+    }
+}

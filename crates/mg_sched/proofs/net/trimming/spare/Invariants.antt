@@ -1,0 +1,6 @@
+-- The numbers of the first streams are none where these are kept.
+use Rattle.mg_sched.proofs.KeptStreams.{Spared}
+use Rattle.mg_sched.proofs.net.trimming.spare.Given as goal
+
+abbrev pub invariant-loop-stream : goal.invariant-loop-stream
+invariant-loop-stream l = Spared l.kept l.initial.got l.got l.stream

@@ -1,0 +1,30 @@
+//! Streams of which nothing is given up. Nothing here takes memory.
+ghost use Rattle.std.specs.Prelude.{◌≡◌, ◌<◌, true, length, slice_set};
+ghost use Rattle.mg_node.specs.Job.{LoggedJob};
+ghost use Rattle.mg_sched.specs.StandsFor.{StandsFor, StandsForSome};
+ghost use Rattle.mg_sched.specs.Trims.{Keeps};
+
+use super::Net;
+use mg_calc::Calculator;
+
+// Sets a place of some marks.
+fn mark(marks: &mut [bool], place: usize)
+    requires { place < length marks.old }
+    ensures { marks.new ≡ slice_set marks.old place true }
+{
+    marks[place] = true;
+}
+
+impl<C: Calculator> Net<C> {
+    /// Keeps all that is laid of a stream from now on: `trim` gives up nothing of it any more. What was given up before stays so.
+    pub fn keep(&mut self, stream: u32)
+        requires stream { stream < length self.old.plan.streams }
+        requires stands { StandsForSome self.old }
+        ensures keeps { Keeps stream self.old self.new }
+
+        // What stands for a job still stands for it.
+        ensures stands { (job : LoggedJob) → StandsFor job self.old → StandsFor job self.new }
+    {
+        mark(&mut self.kept, stream as usize);
+    }
+}

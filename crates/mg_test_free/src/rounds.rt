@@ -1,0 +1,199 @@
+//! Rounds of one free node in streams that stay as they are.
+ghost use Rattle.std.specs.Prelude.{◌≡◌, IfOk, OnOk, slice_get, option_copied, ⊤};
+ghost use Rattle.std.specs.List.{range_with_len};
+ghost use Rattle.mg_calc.specs.Equations.{stream_of};
+ghost use Rattle.mg_free.specs.Free.{ports_of as the_ports};
+ghost use Rattle.mg_test_free.specs.Ready.{IsReady, IsOneNode};
+
+use mg_free::{FreeLaw, FreeNode, FreeNodeList};
+use mg_live::{LiveNodes, Streams};
+use mg_tables::{Calls, assert_rows, packet_of, text_of, time_of};
+use mg_time::Timestamp;
+use mg_value::{BlockList, NumberList, Packet, Prefix, PrefixList, are_prefixes};
+use std::alloc::{AllocError, Global};
+use std::fmt::Write;
+use std::test::Fail;
+
+// Streams as they are written, one for each input.
+#[derive(Drop)]
+struct Given {
+    streams: PrefixList,
+}
+
+// The packet of a stream, by its number.
+fn packet_in(streams: &[Prefix], stream: u32, number: u64) -> Option<&Packet>
+    ensures { option_copied result ≡ slice_get (stream_of streams.now stream).packets number }
+{
+    let prefix = streams.get(stream as usize)?;
+    prefix.packets.as_slice().get(number as usize)
+}
+
+impl Streams for Given {
+    ghost are = { λ g streams. streams ≡ g.streams };
+
+    ghost has_from = { λ g stream number. ⊤ };
+
+    fn packet(&self, stream: u32, number: u64) -> Option<&Packet> {
+        packet_in(self.streams.as_slice(), stream, number)
+    }
+
+    fn bound(&self, stream: u32) -> Timestamp {
+        let prefix = &self.streams.as_slice()[stream as usize];
+        prefix.bound
+    }
+}
+
+// A law with its number, its streams between bars, each with its packets' times and its bound; after `=` the arrivals, each a port, `@` and a
+// time, and what the node hands on.
+fn rows() -> &'static str {
+    r#"limiter 1|10 20 Done|10 Done=1@10 0@10 0@20 | 10 bound Done
+limiter 1|10 20 30 31|PreStream=0@10 0@20 0@30 | 10 bound 31
+limiter 2|10 20 30 Done|5 Done=1@5 0@10 0@20 0@30 | 10 20 bound Done
+limiter 1|Done|PreStream=| bound Done
+first 2|10 Done|20 Done=1@20 0@10 | 20 bound Done
+first 2|20 Done|10 20 Done=1@10 1@20 0@20 | 10 20 bound Done
+first 1|10 20 21=0@10 0@20 | 10 20 bound 21"#
+}
+
+fn law_of(word: &str, number: u32) -> FreeLaw {
+    if word == "limiter" {
+        FreeLaw::Limiter { most: number }
+    } else {
+        FreeLaw::FirstCome { lanes: number }
+    }
+}
+
+// How many inputs a law has.
+fn ports_of(law: FreeLaw) -> u32
+    ensures { result ≡ the_ports law }
+{
+    match law {
+        FreeLaw::FirstCome { lanes } => lanes,
+        FreeLaw::Limiter { .. } => 2,
+    }
+}
+
+// The numbers below a count.
+fn numbers_of(alloc: Global, count: u32) -> Result<NumberList, AllocError>
+    ensures { IfOk result (λ numbers. numbers ≡ range_with_len 0 count) }
+{
+    let mut numbers = Vec::new(alloc);
+    for number in 0..count {
+        numbers.push(number)?;
+    }
+    Ok(NumberList::from_vec(numbers)?)
+}
+
+// A free node that reads the first streams.
+fn one_node(alloc: Global, law: FreeLaw) -> Result<FreeNodeList, AllocError>
+    ensures { IfOk result (λ frees. IsOneNode law frees) }
+{
+    let inputs = numbers_of(alloc, ports_of(law))?;
+    let free = FreeNode {
+        node: 0,
+        law,
+        inputs,
+        output: 0,
+    };
+    Ok(FreeNodeList::from_vec(vec![in alloc; free]?)?)
+}
+
+// The node of a law that reads these streams, before its first round.
+fn ready(alloc: Global, law: FreeLaw, given: &Given) -> Result<LiveNodes, Fail>
+    ensures { IfOk result (λ live. IsReady live.free live.takers.items given.now.streams) }
+{
+    if given.streams.len() != ports_of(law) || !are_prefixes(&given.streams) {
+        return Err(Fail::from("no streams of the law"));
+    }
+    let frees = one_node(alloc, law)?;
+    Ok(LiveNodes::new(alloc, frees)?)
+}
+
+// Has rounds until one does nothing.
+fn run(live: &mut LiveNodes, given: &Given) -> Result<(), Fail>
+    requires { IsReady live.old.free live.old.takers.items given.now.streams }
+    ensures { OnOk result (IsReady live.new.free live.new.takers.items given.now.streams) }
+{
+    'rounds: for _ in 0..10 {
+        if !live.round(given)? {
+            return Ok(());
+        }
+    }
+    Err(Fail::from("no end"))
+}
+
+// A stream as it is written: the times of its packets, and its bound.
+fn stream_in(alloc: Global, text: &str) -> Result<Prefix, Fail> {
+    let mut packets = Vec::new(alloc);
+    let mut bound = Timestamp::PRE_STREAM;
+    let mut words = text.split(' ').peekable();
+    while let Some(word) = words.next() {
+        if words.peek().is_none() {
+            bound = time_of(alloc, word)?;
+        } else {
+            packets.push(packet_of(alloc, format!(in alloc; "{word} 1")?.as_str())?)?;
+        }
+    }
+    Ok(Prefix {
+        packets: BlockList::from_vec(packets)?,
+        bound,
+    })
+}
+
+fn show_handed(text: &mut String, alloc: Global, live: &mut LiveNodes) -> Result<(), Fail> {
+    for piece in live.hand_on(alloc, 0)?.as_slice() {
+        for packet in piece.packets.as_slice() {
+            write!(text, "{} ", text_of(alloc, packet.at)?)?;
+        }
+        write!(text, "bound {}", text_of(alloc, piece.bound)?)?;
+    }
+    Ok(())
+}
+
+// A law and its streams as they are written.
+fn read_call(alloc: Global, call: &str) -> Result<(FreeLaw, Given), Fail> {
+    let mut parts = call.split('|');
+    let law = parts.next().ok_or("no law")?;
+    let (word, number) = law.split_once(' ').ok_or("no number")?;
+    let law = law_of(word, number.parse::<u32>()?);
+    let mut streams = Vec::new(alloc);
+    for part in parts {
+        streams.push(stream_in(alloc, part)?)?;
+    }
+    Ok((
+        law,
+        Given {
+            streams: PrefixList::from_vec(streams)?,
+        },
+    ))
+}
+
+// The arrivals, and then what the node hands on.
+fn show(alloc: Global, live: &mut LiveNodes) -> Result<String, Fail> {
+    let mut text = String::new(alloc);
+    for place in 0..live.len() {
+        for arrived in live.log(place) {
+            write!(text, "{}@{} ", arrived.port, text_of(alloc, arrived.at)?)?;
+        }
+    }
+    text.push_str("| ")?;
+    show_handed(&mut text, alloc, live)?;
+    Ok(text)
+}
+
+#[derive(Drop)]
+struct Turning;
+
+impl Calls for Turning {
+    fn answer(&mut self, alloc: Global, call: &str) -> Result<String, Fail> {
+        let (law, given) = read_call(alloc, call)?;
+        let mut live = ready(alloc, law, &given)?;
+        run(&mut live, &given)?;
+        show(alloc, &mut live)
+    }
+}
+
+#[test]
+fn free_nodes_have_their_turns(rt: HostRuntime) -> Result<(), Fail> {
+    assert_rows(rt.alloc(), &mut Turning, rows())
+}
