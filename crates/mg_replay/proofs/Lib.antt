@@ -1,0 +1,4 @@
+pub mod WholeLines
+pub mod PacketLines
+pub mod JobLines
+pub mod EventLines

@@ -1,0 +1,18 @@
+-- Lines that stand where packet lines do.
+use Rattle.std.specs.Prelude.{◌≡◌, ℕ, Bool, true, false, List, [], ◌∷◌, ◌++◌, Option, None, Some, codes, if◌then◌else◌}
+use Rattle.std.specs.Str.{bytes_eq}
+use Rattle.mg_value.specs.Payload.{Plain}
+use Rattle.mg_value.specs.Prefix.{Stamped}
+use Rattle.mg_feed.specs.View.{View}
+use Rattle.mg_feed.specs.Stands.{Stands}
+use Rattle.mg_replay.specs.Opening.{packet_refusal}
+use Rattle.mg_replay.specs.declared.trace_end.TraceFault.{TraceFault}
+
+-- what a line says of how an input ended
+abbrev pub ends_so : List ℕ → Option Bool
+ends_so line = if bytes_eq line (codes "ended") then Some true else (if bytes_eq line (codes "frozen") then Some false else None)
+
+-- a line was taken behind others, or is refused
+abbrev pub Takes : Option TraceFault → List ℕ → View → View → Type 0
+Takes None line old new = (lines : List (List ℕ)) (gone : List (List (Stamped Plain))) → Stands lines gone old → (packet_refusal old.graph lines line ≡ None) × Stands (lines ++ line ∷ []) gone new × (new.graph ≡ old.graph)
+Takes (Some fault) line old new = (lines : List (List ℕ)) (gone : List (List (Stamped Plain))) → Stands lines gone old → packet_refusal old.graph lines line ≡ Some fault

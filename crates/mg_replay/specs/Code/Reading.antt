@@ -1,0 +1,101 @@
+-- A recorded run while it is read.
+use Rattle.std.specs.Prelude.{◌≡◌, ◌⊎◌, ℕ, ◌+◌, ◌≤◌, true, false, List, [], ◌++◌, codes, Option, None, Some}
+use Rattle.std.specs.Str.{bytes_eq}
+use Rattle.mg_edge.specs.Edge.{SourceTold}
+use Rattle.mg_edge.specs.Runs.{Gave}
+use Rattle.mg_calc.specs.declared.event.Event.{Event}
+use Rattle.mg_calc.specs.declared.event.Effect.TheVariants.{Did, Idle}
+use Rattle.mg_calc.specs.declared.inputs.Inputs.{Inputs}
+use Rattle.mg_calc.specs.declared.plan.Plan.{Plan}
+use Rattle.mg_calc.specs.Told.{CalculatorTold}
+use Rattle.mg_feed.specs.View.{View}
+use Rattle.mg_feed.specs.Lines.{all_lines}
+use Rattle.mg_feed.specs.Fed.{Reading}
+use Rattle.mg_feed.specs.Ran.{MetEnd}
+use Rattle.mg_feed.specs.Handed.{HasHanded, NextComes}
+use Rattle.mg_feed.specs.Accepted.{most_lines}
+use Rattle.mg_feed.specs.declared.lines.NextLine.{NextLine}
+use Rattle.mg_feed.specs.declared.lines.NextLine.TheVariants.{Line, TooLong, Ended, Failed}
+use Rattle.mg_trace.specs.Event.{IsEventOf, event_line}
+use Rattle.mg_trace.specs.Job.{end_word}
+use Rattle.mg_sched.specs.Views.{NetView}
+use Rattle.mg_sched.specs.Acts.{Acts}
+use Rattle.mg_sched.specs.AtRest.{IsAtRest}
+use Rattle.mg_answer.specs.Devices.{device}
+use Rattle.mg_replay.specs.Opening.{is_end_word}
+use Rattle.mg_replay.specs.Code.Packets.{Takes}
+use Rattle.mg_replay.specs.declared.trace_end.TraceFault.{TraceFault}
+use Rattle.mg_replay.specs.declared.trace_end.TraceFault.TheVariants.{BadEvent, IdleEvent, NotAtRest, NoEnd, AfterEnd}
+use Rattle.mg_replay.specs.Replay.{IsIdleEvent, MayGoOn, WasRead}
+use Rattle.mg_replay.specs.declared.trace_end.TraceEnd.{TraceEnd}
+use Rattle.mg_replay.specs.declared.trace_end.TraceEnd.TheVariants.{Accepted, Refused, Failed as Failed_at}
+use Rattle.mg_replay.specs.declared.opening.Opened.{Opened}
+use Rattle.mg_replay.specs.declared.opening.Opened.TheVariants.{Job, Stopped}
+use Rattle.mg_replay.specs.Reading.{IsOpening, Opens, IsMaking}
+
+-- Bytes came, and whatever comes behind them, the lines that were handed out before stand in front of all lines.
+pub record ComesBehind (before now : SourceTold) (old new : Reading) : Type 0 where
+  pub came : List ℕ
+  pub gave : Gave before.left now.left came
+  pub met : MetEnd old.ended new.ended before now
+  pub in_front : (past : List ℕ) (lines : List (List ℕ)) → HasHanded past lines old → (more : List ℕ) → (new.ended ≡ true → more ≡ []) → (rest : List (List ℕ)) × (all_lines ((past ++ came) ++ more) ≡ lines ++ rest)
+
+-- how the reading stops where no line is handed out, behind so many
+abbrev pub StopsBy : NextLine → ℕ → TraceFault → Option TraceEnd → Type 0
+StopsBy Line lines long stop = stop ≡ None
+StopsBy TooLong lines long stop = stop ≡ Some (Refused (lines + 1) long)
+StopsBy Ended lines long stop = stop ≡ Some (Refused (lines + 1) NoEnd)
+StopsBy Failed lines long stop = stop ≡ Some (Failed_at lines)
+
+-- what a line that doesn't end the packet lines came to
+abbrev pub TakesOther : Option Opened → List ℕ → ℕ → View → View → Type 0
+TakesOther None line number old new = Takes None line old new
+TakesOther (Some (Job ended)) line number old new = ⊥
+TakesOther (Some (Stopped end)) line number old new = (cause : TraceFault) × (end ≡ Refused number cause) × Takes (Some cause) line old new
+
+-- what a line that was handed out came to: it was taken as a packet line; or it ends these, or isn't good, and the feed stays as it was or
+-- isn't used any more
+abbrev pub TakesLine : Option Opened → List ℕ → ℕ → View → View → Type 0
+TakesLine None line number old new = (is_end_word line ≡ false) × Takes None line old new
+TakesLine (Some (Job ended)) line number old new = (line ≡ end_word ended) × (new ≡ old)
+TakesLine (Some (Stopped end)) line number old new = (is_end_word line ≡ false) × ((cause : TraceFault) × (end ≡ Refused number cause) × Takes (Some cause) line old new)
+
+-- one line more was read
+abbrev pub OpensOn : Option Opened → Plan → SourceTold → SourceTold → Reading → ℕ → View → View → Type 0
+OpensOn None plan first now read number old view = IsOpening plan first now read number view × (view.lines ≡ old.lines + 1) × (view.lines ≤ most_lines)
+OpensOn (Some opened) plan first now read number old view = Opens opened plan first now read number view
+
+-- one line more was read, or the reading ended
+abbrev pub MakesOn : Option TraceEnd → Plan → List CalculatorTold → Inputs → SourceTold → SourceTold → Reading → ℕ → NetView → Type 0
+MakesOn None plan boxes inputs first now read number net = IsMaking plan boxes inputs first now read number net
+MakesOn (Some end) plan boxes inputs first now read number net = WasRead plan boxes (device first now) (Some inputs) end
+
+-- what the line of a number behind a run came to: its event was made, or it is refused
+abbrev pub MakesLine : Option TraceEnd → Plan → List ℕ → ℕ → NetView → NetView → Type 0
+MakesLine None plan line number before now = (event : Event) × IsEventOf plan event × (line ≡ event_line event) × Acts event Did before now
+MakesLine (Some end) plan line number before now =
+    (((event : Event) → ¬ (IsEventOf plan event × (line ≡ event_line event))) × (end ≡ Refused number BadEvent)) ⊎ IsIdleEvent plan before number line end
+
+-- what stands behind the last line of a run, by what comes next
+abbrev pub StopsBehind : NextLine → ℕ → TraceEnd → Type 0
+StopsBehind Line number end = end ≡ Refused (number + 1) AfterEnd
+StopsBehind TooLong number end = end ≡ Refused (number + 1) AfterEnd
+StopsBehind Ended number end = end ≡ Accepted
+StopsBehind Failed number end = end ≡ Failed_at number
+
+-- how the reading ends at the last line of a run, which has this number: the net isn't at rest, or nothing is handed out behind it, or a line
+abbrev pub EndsRun : TraceEnd → SourceTold → SourceTold → Reading → Reading → ℕ → NetView → NetView → Type 0
+EndsRun end before now old new number net net_now =
+    (MayGoOn net × (end ≡ Refused number NotAtRest) × (now ≡ before) × (new ≡ old))
+    ⊎ (IsAtRest net × (net_now ≡ net) × ((next : NextLine) × (line : List ℕ) × NextComes next line before now old new × StopsBehind next number end))
+
+-- what an event that is made comes to
+abbrev pub MakesEvent : Option TraceEnd → Event → ℕ → NetView → NetView → Type 0
+MakesEvent None event number before now = Acts event Did before now
+MakesEvent (Some end) event number before now = Acts event Idle before before × (end ≡ Refused number IdleEvent)
+
+-- what a line behind a run comes to: it ends the run, or its event is made
+abbrev pub TakesEvent : Option TraceEnd → Plan → List ℕ → ℕ → SourceTold → SourceTold → Reading → Reading → ℕ → NetView → NetView → Type 0
+TakesEvent stop plan line number before now old new count net net_now =
+    ((line ≡ codes "end") × ((end : TraceEnd) × (stop ≡ Some end) × EndsRun end before now old new number net net_now))
+    ⊎ ((bytes_eq line (codes "end") ≡ false) × MakesLine stop plan line number net net_now × (now ≡ before) × (new ≡ old) × (count ≡ number))

@@ -1,0 +1,141 @@
+-- What the lines of a recorded run come to. The first ones tell its job. Behind them stands a line for each event, and each event is made,
+-- on a net on which the events before it were made, from where the runs of the job begin. The last line is `end`. It is accepted where the
+-- net is at rest then, and nothing stands behind it.
+use Rattle.std.specs.Prelude.{◌≡◌, ◌≢◌, ◌⊎◌, ℕ, ◌+◌, ◌<◌, Bool, true, false, List, [], ◌∷◌, ◌++◌, length, map, codes, Option, None, Some}
+use Rattle.mg_edge.specs.Edge.{SourceTold}
+use Rattle.mg_edge.specs.Runs.{Gave}
+use Rattle.mg_calc.specs.declared.event.Event.{Event}
+use Rattle.mg_calc.specs.declared.event.Effect.TheVariants.{Did, Idle}
+use Rattle.mg_calc.specs.declared.inputs.Inputs.{Inputs}
+use Rattle.mg_calc.specs.declared.plan.Plan.{Plan}
+use Rattle.mg_calc.specs.Told.{CalculatorTold}
+use Rattle.mg_sched.specs.Views.{NetView}
+use Rattle.mg_sched.specs.Acts.{Acts}
+use Rattle.mg_sched.specs.Acts as nets
+use Rattle.mg_sched.specs.AtRest.{IsAtRest}
+use Rattle.mg_sched.specs.Runs.{IsRun, IsBegun}
+use Rattle.mg_feed.specs.Graph.{inputs_of}
+use Rattle.mg_feed.specs.Lines.{all_lines, whole_lines}
+use Rattle.mg_feed.specs.Accepted.{longest_line}
+use Rattle.mg_feed.specs.Ran.{EndCame, MetEnd, Unfailed, ReadFailed}
+use Rattle.mg_trace.specs.Event.{IsEventOf, event_line}
+use Rattle.mg_trace.specs.Job.{end_word}
+use Rattle.mg_answer.specs.Devices.{Device}
+use Rattle.mg_replay.specs.Opening.{is_end_word, packet_refusal, ArePackets, inputs_with}
+use Rattle.mg_replay.specs.declared.trace_end.TraceFault.{TraceFault}
+use Rattle.mg_replay.specs.declared.trace_end.TraceFault.TheVariants.{BadEvent, IdleEvent, NotAtRest, NoEnd, AfterEnd}
+use Rattle.mg_replay.specs.declared.trace_end.TraceEnd.{TraceEnd}
+use Rattle.mg_replay.specs.declared.trace_end.TraceEnd.TheVariants.{Accepted, Refused, Failed}
+
+-- The lines of the job --
+
+-- The reading stops behind these packet lines, and no node was begun: the lines end there, or the next one isn't good.
+abbrev pub StopsEarlyAt : Plan → List (List ℕ) → List (List ℕ) → TraceEnd → Type 0
+StopsEarlyAt plan given [] end = end ≡ Refused (length given + 1) NoEnd
+StopsEarlyAt plan given (line ∷ more) end =
+    (is_end_word line ≡ false) × ((cause : TraceFault) × (packet_refusal (inputs_of plan) given line ≡ Some cause) × (end ≡ Refused (length given + 1) cause))
+
+pub record StopsEarly (plan : Plan) (lines : List (List ℕ)) (end : TraceEnd) : Type 0 where
+  pub given : List (List ℕ)
+  pub tail : List (List ℕ)
+  pub packets : ArePackets (inputs_of plan) [] given
+  pub lines_are : lines ≡ given ++ tail
+  pub stops : StopsEarlyAt plan given tail end
+
+-- The lines of events --
+
+-- Lines led a net to where it is: they are the packet lines of a job, the word behind them, and the lines of the events of a run from where
+-- the job's runs begin.
+pub record HasRun (plan : Plan) (boxes : List CalculatorTold) (lines : List (List ℕ)) (inputs : Inputs) (net : NetView) : Type 0 where
+  pub given : List (List ℕ)
+  pub packets : ArePackets (inputs_of plan) [] given
+  pub inputs_are : inputs ≡ inputs_with plan given inputs.ended
+  pub begun : NetView
+  pub begins : IsBegun plan inputs boxes begun
+  pub events : List Event
+  pub run : IsRun events begun net
+  pub lines_are : lines ≡ given ++ end_word inputs.ended ∷ map event_line events
+
+-- A line is neither the last line of a run nor the line of an event of the plan, or is longer than a line may be.
+pub record IsNoEvent (plan : Plan) (number : ℕ) (line : List ℕ) (end : TraceEnd) : Type 0 where
+  pub bad : ((line ≢ codes "end") × ((event : Event) → ¬ (IsEventOf plan event × (line ≡ event_line event)))) ⊎ (longest_line < length line)
+  pub is : end ≡ Refused number BadEvent
+
+-- A line is that of an event that does nothing.
+pub record IsIdleEvent (plan : Plan) (net : NetView) (number : ℕ) (line : List ℕ) (end : TraceEnd) : Type 0 where
+  pub event : Event
+  pub is_event : IsEventOf plan event
+  pub line_is : line ≡ event_line event
+  pub idle : Acts event Idle net net
+  pub is : end ≡ Refused number IdleEvent
+
+-- A net may go on: one of its events would do something.
+pub record MayGoOn (net : NetView) : Type 0 where
+  pub event : Event
+  pub is_event : nets.IsEventOf net event
+  pub there : NetView
+  pub acts : Acts event Did net there
+
+-- What stands behind the last line of a run.
+abbrev pub EndsAt : ℕ → List (List ℕ) → TraceEnd → Type 0
+EndsAt number [] end = end ≡ Accepted
+EndsAt number (line ∷ more) end = end ≡ Refused (number + 1) AfterEnd
+
+-- A line is the last line of a run. Some event may still do something; or the net is at rest.
+pub record IsEnd (net : NetView) (number : ℕ) (line : List ℕ) (more : List (List ℕ)) (end : TraceEnd) : Type 0 where
+  pub line_is : line ≡ codes "end"
+  pub ends : (MayGoOn net × (end ≡ Refused number NotAtRest)) ⊎ (IsAtRest net × EndsAt number more end)
+
+-- The reading stops where the net is so, and the next line has this number.
+abbrev pub StopsAt : Plan → NetView → ℕ → List (List ℕ) → TraceEnd → Type 0
+StopsAt plan net number [] end = end ≡ Refused number NoEnd
+StopsAt plan net number (line ∷ more) end = IsNoEvent plan number line end ⊎ (IsIdleEvent plan net number line end ⊎ IsEnd net number line more end)
+
+pub record StopsLater (plan : Plan) (boxes : List CalculatorTold) (lines : List (List ℕ)) (inputs : Inputs) (end : TraceEnd) : Type 0 where
+  pub front : List (List ℕ)
+  pub tail : List (List ℕ)
+  pub net : NetView
+  pub has_run : HasRun plan boxes front inputs net
+  pub lines_are : lines ≡ front ++ tail
+  pub stops : StopsAt plan net (length front + 1) tail end
+
+-- All lines --
+
+-- What the lines of an input that ends behind them come to: the nodes of a job were begun, which has these inputs, or of none.
+abbrev pub ComesTo : Plan → List CalculatorTold → List (List ℕ) → Option Inputs → TraceEnd → Type 0
+ComesTo plan boxes lines None end = StopsEarly plan lines end
+ComesTo plan boxes lines (Some inputs) end = StopsLater plan boxes lines inputs end
+
+-- More lines may come: none so far is refused. The last of them may be that of a run, which led to rest.
+pub record GoesOn (plan : Plan) (boxes : List CalculatorTold) (lines : List (List ℕ)) (inputs : Inputs) : Type 0 where
+  pub front : List (List ℕ)
+  pub net : NetView
+  pub has_run : HasRun plan boxes front inputs net
+  pub lines_are : (lines ≡ front) ⊎ ((lines ≡ front ++ codes "end" ∷ []) × IsAtRest net)
+
+abbrev pub MayComeTo : Plan → List CalculatorTold → List (List ℕ) → Option Inputs → Type 0
+MayComeTo plan boxes lines None = ArePackets (inputs_of plan) [] lines
+MayComeTo plan boxes lines (Some inputs) = GoesOn plan boxes lines inputs
+
+-- The input --
+
+-- What the bytes that came say of the whole input. It ended after them; or one of their lines is refused, whatever bytes may follow, of which
+-- there are none where the source has ended; or a read failed after them, and none of their whole lines is refused.
+abbrev pub CameAs : TraceEnd → Plan → List CalculatorTold → Device SourceTold → List ℕ → Option Inputs → Type 0
+CameAs Accepted plan boxes input came job = EndCame input.before input.now × ComesTo plan boxes (all_lines came) job Accepted
+CameAs (Refused line cause) plan boxes input came job =
+    (ended : Bool) × MetEnd false ended input.before input.now × ((more : List ℕ) → (ended ≡ true → more ≡ []) → ComesTo plan boxes (all_lines (came ++ more)) job (Refused line cause))
+CameAs (Failed lines) plan boxes input came job = (lines ≡ length (whole_lines came)) × MayComeTo plan boxes (whole_lines came) job
+
+-- a read failed exactly where that is how the reading ended
+abbrev pub FailsAs : TraceEnd → SourceTold → SourceTold → Type 0
+FailsAs Accepted before now = Unfailed before now
+FailsAs (Refused line cause) before now = Unfailed before now
+FailsAs (Failed lines) before now = ReadFailed before now
+
+-- A recorded run was read so, with these calculators.
+pub record WasRead (plan : Plan) (boxes : List CalculatorTold) (input : Device SourceTold) (job : Option Inputs) (end : TraceEnd) : Type 0 where
+  pub came : List ℕ
+  pub gave : Gave input.before.left input.now.left came
+  pub by : CameAs end plan boxes input came job
+  pub faults : FailsAs end input.before input.now

@@ -1,0 +1,119 @@
+//! How the lines of a recorded run's job are read.
+ghost use Rattle.std.specs.Prelude.{◌≡◌, ◌+◌, ◌<◌, ◌≤◌, ◌^◌, None, IfOk, length};
+ghost use Rattle.mg_edge.specs.Edge.{SourceTold};
+ghost use Rattle.mg_calc.specs.declared.plan.Plan.{Plan};
+ghost use Rattle.mg_feed.specs.FeedSeen.{seen};
+ghost use Rattle.mg_feed.specs.LinesSeen.{reading, number_of};
+ghost use Rattle.mg_feed.specs.Accepted.{longest_line, most_lines};
+ghost use Rattle.mg_replay.specs.Reading.{IsOpening, IsSomeOpening, Opens};
+ghost use Rattle.mg_replay.specs.Code.Reading.{StopsBy, TakesOther, TakesLine, OpensOn};
+
+use crate::packets::{end_word, take_packet};
+use crate::{TraceEnd, TraceFault};
+use mg_edge::Source;
+use mg_feed::{Feed, LineFault, Lines, NextLine};
+use std::alloc::AllocError;
+
+/// What the reading of a job's lines came to.
+#[derive(Clone, Copy)]
+pub enum Opened {
+    /// Its packet lines have ended, and its input ended well (`true`) or was frozen.
+    Job(bool),
+    /// The reading stopped.
+    Stopped(TraceEnd),
+}
+
+/// How the reading stops where no further line is handed out behind so many, and what such a line would be refused by that is too long.
+pub fn stopped_at(next: NextLine, lines: u64, long: TraceFault) -> Option<TraceEnd>
+    requires { lines + 1 < 2 ^ 64 }
+    ensures { StopsBy next lines long result }
+{
+    match next {
+        NextLine::Line => None,
+        NextLine::TooLong => Some(TraceEnd::Refused {
+            line: lines + 1,
+            cause: long,
+        }),
+        NextLine::Ended => Some(TraceEnd::Refused {
+            line: lines + 1,
+            cause: TraceFault::NoEnd,
+        }),
+        NextLine::Failed => Some(TraceEnd::Failed { lines }),
+    }
+}
+
+/// Reads the lines of a recorded run's job: packet lines, which a feed takes, up to the line `ended` or `frozen`.
+///
+/// Answers which of the two it was, or how the reading stopped: the first line that is neither of them and no good packet line is refused,
+/// with its number; or the lines end there, or a read failed.
+///
+/// It leaves the feed with what the packet lines gave, and the lines behind the one that ended them. Where the reading stopped, or memory
+/// ran out, neither is of further use.
+pub fn read_job<S: Source>(
+    feed: &mut Feed,
+    lines: &mut Lines,
+    input: &mut S,
+) -> Result<Opened, AllocError>
+    requires { IsSomeOpening (S.told input.old) (reading lines.old) (number_of lines.old) (seen feed.old) }
+    ensures { IfOk result (λ opened. (plan : Plan) (first : SourceTold) → IsOpening plan first (S.told input.old) (reading lines.old) (number_of lines.old) (seen feed.old)
+        → Opens opened plan first (S.told input.new) (reading lines.new) (number_of lines.new) (seen feed.new)) }
+{
+    'packets: loop {
+        let read = next_packet(feed, lines, input)?;
+        match read {
+            Some(opened) => return Ok(opened),
+            None => {}
+        }
+    }
+}
+
+// Reads the next line, and takes it if it is a packet line.
+fn next_packet<S: Source>(
+    feed: &mut Feed,
+    lines: &mut Lines,
+    input: &mut S,
+) -> Result<Option<Opened>, AllocError>
+    requires { IsSomeOpening (S.told input.old) (reading lines.old) (number_of lines.old) (seen feed.old) }
+    ensures opens { IfOk result (λ opened. (plan : Plan) (first : SourceTold) → IsOpening plan first (S.told input.old) (reading lines.old) (number_of lines.old) (seen feed.old)
+        → OpensOn opened plan first (S.told input.new) (reading lines.new) (number_of lines.new) (seen feed.old) (seen feed.new)) }
+    ensures fewer { IfOk result (λ opened. opened ≡ None → ((seen feed.old).lines < (seen feed.new).lines) × ((seen feed.new).lines ≤ most_lines)) }
+{
+    let before = lines.number();
+    let next = lines.next(input)?;
+    match stopped_at(next, before, TraceFault::Line(LineFault::TooLong)) {
+        Some(end) => Ok(Some(Opened::Stopped(end))),
+        None => {
+            let opened = take_line(feed, lines.line(), lines.number())?;
+            Ok(opened)
+        }
+    }
+}
+
+// Takes a line of a number, if it is a packet line.
+fn take_line(feed: &mut Feed, line: &[u8], number: u64) -> Result<Option<Opened>, AllocError>
+    requires { length line.now ≤ longest_line }
+    ensures { IfOk result (λ opened. TakesLine opened line.now number (seen feed.old) (seen feed.new)) }
+{
+    match end_word(line) {
+        Some(ended) => Ok(Some(Opened::Job(ended))),
+        None => {
+            let opened = take_other(feed, line, number)?;
+            Ok(opened)
+        }
+    }
+}
+
+// Takes a line that doesn't end the packet lines.
+fn take_other(feed: &mut Feed, line: &[u8], number: u64) -> Result<Option<Opened>, AllocError>
+    requires { length line.now ≤ longest_line }
+    ensures { IfOk result (λ opened. TakesOther opened line.now number (seen feed.old) (seen feed.new)) }
+{
+    let refusal = take_packet(feed, line)?;
+    match refusal {
+        Some(cause) => Ok(Some(Opened::Stopped(TraceEnd::Refused {
+            line: number,
+            cause,
+        }))),
+        None => Ok(None),
+    }
+}

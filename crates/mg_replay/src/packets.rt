@@ -1,0 +1,71 @@
+//! The lines of a recorded run that may be packet lines.
+ghost use Rattle.std.specs.Prelude.{◌≡◌, ◌≢◌, ◌≤◌, Some, IfOk, length};
+ghost use Rattle.mg_feed.specs.Accepted.{longest_line};
+ghost use Rattle.mg_feed.specs.Form.{is_blank};
+ghost use Rattle.mg_feed.specs.FeedSeen.{seen};
+ghost use Rattle.mg_replay.specs.Opening.{may_say_packet};
+ghost use Rattle.mg_replay.specs.Code.Packets.{ends_so, Takes};
+
+use crate::TraceFault;
+use mg_feed::{Feed, LineFault};
+use std::alloc::AllocError;
+
+// Whether a byte is blank in a line.
+fn is_blank(byte: u8) -> bool
+    ensures { result ≡ is_blank byte }
+{
+    byte == b' ' || byte == b'\t' || byte == b'\r'
+}
+
+// Whether a line opens an object, perhaps behind blanks, or is of blanks alone.
+fn may_say_packet(line: &[u8]) -> bool
+    ensures { result ≡ may_say_packet line.now }
+{
+    for byte in line {
+        if !is_blank(*byte) {
+            return *byte == b'{';
+        }
+    }
+    true
+}
+
+/// What a line says of how the input of a job ended, if it says that.
+pub fn end_word(line: &[u8]) -> Option<bool>
+    ensures { result ≡ ends_so line.now }
+{
+    if line == b"ended".as_slice() {
+        Some(true)
+    } else if line == b"frozen".as_slice() {
+        Some(false)
+    } else {
+        None
+    }
+}
+
+/// Takes a line that stands where packet lines do, or tells why it isn't good.
+pub fn take_packet(feed: &mut Feed, line: &[u8]) -> Result<Option<TraceFault>, AllocError>
+    requires { length line.now ≤ longest_line }
+    ensures { IfOk result (λ fault. Takes fault line.now (seen feed.old) (seen feed.new)) }
+{
+    if !may_say_packet(line) {
+        return Ok(Some(TraceFault::BadEvent));
+    }
+    match feed.line(line) {
+        Ok(()) => Ok(None),
+        Err(fault) => {
+            let cause = refused(fault)?;
+            Ok(cause)
+        }
+    }
+}
+
+// A line isn't good, unless memory ran out.
+fn refused(fault: LineFault) -> Result<Option<TraceFault>, AllocError>
+    ensures { IfOk result (λ cause. (cause ≡ Some (TraceFault.Line fault)) × (fault ≢ LineFault.OutOfMemory)) }
+{
+    if fault == LineFault::OutOfMemory {
+        Err(AllocError)
+    } else {
+        Ok(Some(TraceFault::Line(fault)))
+    }
+}
