@@ -1,12 +1,11 @@
--- The levels of a net's nodes, and what a worker's seats are after several calls.
-use Rattle.std.proofs.Common.{List, ◌≡◌, ℕ, ◌<◌, ◌∙◌, Option, length, ap, sym, refl, subst, Contains}
-use Rattle.std.proofs.lemmas.List.Elements.{All-contains}
+-- What a worker's seats are after several calls, and what it works with.
+use Rattle.std.proofs.Common.{◌≡◌, ℕ, ◌<◌, ◌≤◌, ◌+◌, ◌∙◌, Option, Some, None, IfSome, Contains, length, ap, sym, refl, subst, arith}
 use Rattle.mg_calc.specs.declared.calculator.Calculator.{Ghosts}
 use Rattle.mg_calc.specs.declared.plan.Plan.{Plan}
-use Rattle.mg_calc.specs.Plan.{HasEachOnce}
+use Rattle.mg_calc.specs.Plan.{IsValid, HasEachOnce}
+use Rattle.mg_levels.specs.Levels.{order_of, IsSeatOf}
 use Rattle.mg_levels.specs.declared.levels.Levels.{Levels}
 use Rattle.mg_levels.specs.declared.seat.LevelSeat.{LevelSeat}
-use Rattle.mg_levels.specs.Levels.{order_of}
 use Rattle.mg_sched.specs.Views.{NetView}
 use Rattle.mg_sched.specs.StandsFor.{StandsForSome}
 use Rattle.mg_sched.specs.ComesApart.{parts_in}
@@ -16,52 +15,65 @@ use Rattle.mg_turns.specs.declared.view.View.{View}
 use Rattle.mg_turns.specs.Calls.{key_of}
 use Rattle.mg_turns.specs.declared.shared.SharedNet.{SharedNet}
 use Rattle.mg_turns.specs.declared.seat.NetSeat.{NetSeat}
-use Rattle.mg_workers.specs.Shared.{KeptView, IsSharedOf}
+use Rattle.mg_workers.specs.Shared.{KeptView, IsSharedOf, StaysShared}
 use Rattle.mg_workers.specs.Became.{Became}
 use Rattle.mg_workers.specs.Woven.{frame_of}
 use Rattle.mg_crew.specs.Leaves.{GoesOn}
-use Rattle.mg_crew.specs.Code.Seats.{StaysShared, IsAtWork, StaysAtWork, IsPlaceAt, AreLevelsOf}
+use Rattle.mg_crew.specs.declared.putting.Place.{Place}
+use Rattle.mg_crew.specs.declared.shop.Tools.{Tools}
+use Rattle.mg_crew.specs.Code.Places.{IsPlaceAt, IsAnyOf}
+use Rattle.mg_crew.specs.Code.Seats.{AreToolsOf, IsAtWork, StaysAtWork}
 use Rattle.mg_crew.proofs.Sharing.{stays_itself, stays_on}
 
--- a node that stands in the order is one of the net's
-pub node_below : (count : ℕ) (order : List ℕ) (node : ℕ) → HasEachOnce count order → Contains order node → node < count
-node_below count order node h there = All-contains (λ n. n < count) order node h.below there
+-- the plan that is kept aside is the net's, and is valid
+pub kept_plan : (before : NetView) (key : FrameView) (kept : KeptView) → IsSharedOf before key kept → kept.plan ≡ key.plan
+kept_plan before key kept of = ap (λ (k : KeptView). k.plan) of.stays ∙ sym (ap (λ (f : FrameView). f.plan) of.shared)
 
--- the plan that is kept aside has an order of its nodes
-pub kept_order : (before : NetView) (key : FrameView) (kept : KeptView) → StandsForSome before → IsSharedOf before key kept → HasEachOnce (length kept.plan.nodes) kept.plan.order
-kept_order before key kept some of =
+pub kept_valid : (before : NetView) (key : FrameView) (kept : KeptView) → StandsForSome before → IsSharedOf before key kept → IsValid kept.plan
+kept_valid before key kept some of =
     let parts = of.of some.job some.stands in
     let is : kept.plan ≡ some.job.job.plan = ap (λ (k : KeptView). k.plan) of.stays ∙ parts.plan in
-    subst (λ (p : Plan). HasEachOnce (length p.nodes) p.order) (sym is) parts.is_job.plan.order
+    subst IsValid (sym is) parts.is_job.plan
 
-pub kept_nodes : (before : NetView) (key : FrameView) (kept : KeptView) → IsSharedOf before key kept → length kept.plan.nodes ≡ nodes_in key
-kept_nodes before key kept of = ap (λ (k : KeptView). length k.plan.nodes) of.stays ∙ sym (ap nodes_in of.shared)
+-- what is made of the plan of a net is for that net
+pub tools_for : {X : Type 0} (net : SharedNet X) (plan : Plan) (tools : Tools) → plan ≡ (key_of net).plan → HasEachOnce (length plan.nodes) (order_of tools.levels)
+    → tools.chart.from.places ≡ length plan.nodes + length plan.inputs → tools.chart.from.edges ≡ length plan.edges → AreToolsOf net tools
+tools_for net plan tools same order places edges =
+    let nodes : length plan.nodes ≡ nodes_in (key_of net) = ap (λ (p : Plan). length p.nodes) same in
+    record {
+      ordered = subst (λ (n : ℕ). HasEachOnce n (order_of tools.levels)) nodes order;
+      places = omega (arith, places, nodes);
+      edges = edges ∙ ap (λ (p : Plan). length p.edges) same;
+    }
 
-pub levels_of_kept : {X : Type 0} (net : SharedNet X) (before : NetView) (kept : KeptView) (levels : Levels) → IsSharedOf before (key_of net) kept
-    → HasEachOnce (length kept.plan.nodes) (order_of levels) → AreLevelsOf net levels
-levels_of_kept net before kept levels of h = subst (λ (n : ℕ). HasEachOnce n (order_of levels)) (kept_nodes before (key_of net) kept of) h
+-- a place that has a seat and no node
+pub first_place : (levels : Levels) (place : Place) (seat : LevelSeat) → place.seat ≡ Some seat → place.kept ≡ None → IsSeatOf levels seat → IsPlaceAt levels place
+first_place levels place seat has none of = record {
+  seat = subst (λ (o : Option LevelSeat). IsAnyOf levels o) (sym has) of;
+  kept = subst (λ (o : Option ℕ). IfSome o (λ node. Contains (order_of levels) node)) (sym none) tt;
+}
 
 -- a net that nothing was done to
 pub became_itself : (net : NetView) → Became net net
 became_itself net = record { stands = λ job h. h; taken = refl; plan = refl; spare = refl }
 
-module _ {X : Type 0} {g : Ghosts X} (net : SharedNet X) (levels : Levels) where
+module _ {X : Type 0} {g : Ghosts X} (net : SharedNet X) (tools : Tools) where
   -- a worker that goes on after some calls
-  pub at_work_still : (before now : NetSeat X g) (place later : Option LevelSeat) → IsAtWork net levels before place → StaysAtWork net levels before now later → IsAtWork net levels now later
-  at_work_still before now place later h k = record { shared = k.stays.shared; ordered = h.ordered; placed = k.placed }
+  pub at_work_still : (before now : NetSeat X g) (place later : Place) → IsAtWork net tools before place → StaysAtWork net tools before now later → IsAtWork net tools now later
+  at_work_still before now place later h k = record { shared = k.stays.shared; fits = h.fits; placed = k.placed }
 
-  pub stays_at_work : (seat : NetSeat X g) (place : Option LevelSeat) → IsAtWork net levels seat place → StaysAtWork net levels seat seat place
+  pub stays_at_work : (seat : NetSeat X g) (place : Place) → IsAtWork net tools seat place → StaysAtWork net tools seat seat place
   stays_at_work seat place h = record { stays = stays_itself net seat h.shared; placed = h.placed }
 
   -- several calls one after the other
-  pub works_on : (first second third : NetSeat X g) (place later : Option LevelSeat) → StaysAtWork net levels first second place → StaysAtWork net levels second third later → StaysAtWork net levels first third later
+  pub works_on : (first second third : NetSeat X g) (place later : Place) → StaysAtWork net tools first second place → StaysAtWork net tools second third later → StaysAtWork net tools first third later
   works_on first second third place later h k = record { stays = stays_on net first second third h.stays k.stays; placed = k.placed }
 
-  -- a call on the seat at the net alone, and on that at the levels alone
-  pub seat_stays : (first second third : NetSeat X g) (place : Option LevelSeat) → StaysAtWork net levels first second place → StaysShared net second third → StaysAtWork net levels first third place
+  -- a call on the seat at the net alone, and on the place alone
+  pub seat_stays : (first second third : NetSeat X g) (place : Place) → StaysAtWork net tools first second place → StaysShared net second third → StaysAtWork net tools first third place
   seat_stays first second third place h k = record { stays = stays_on net first second third h.stays k; placed = h.placed }
 
-  pub place_stays : (first second : NetSeat X g) (place later : Option LevelSeat) → StaysAtWork net levels first second place → IsPlaceAt levels later → StaysAtWork net levels first second later
+  pub place_stays : (first second : NetSeat X g) (place later : Place) → StaysAtWork net tools first second place → IsPlaceAt tools.levels later → StaysAtWork net tools first second later
   place_stays first second place later h k = record { stays = h.stays; placed = k }
 
 -- a net that is put together of the parts that were shared

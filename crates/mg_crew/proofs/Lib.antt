@@ -1,3 +1,4 @@
+mod Charted
 mod Sharing
 mod Levelled
 mod Sent

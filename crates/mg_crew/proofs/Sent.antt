@@ -12,9 +12,9 @@ use Rattle.crossbeam_queue.proofs.array_queue.Slotted.TheSendSync as Slotted
 use Rattle.crossbeam_utils.proofs.cache_padded.CachePadded.TheSendSync as Padded
 use Rattle.std.specs.contracts.option.Option as Maybe
 use Rattle.mg_calc.specs.declared.calculator.Calculator.{Ghosts}
-use Rattle.mg_node.proofs.Sent.{maybe_field, maybe}
-use Rattle.mg_levels.specs.contracts.order.Order as Order
-use Rattle.mg_levels.specs.contracts.order.Order.TheInside as OrderInside
+use Rattle.mg_node.proofs.Sent.{maybe_field}
+use Rattle.mg_ready.specs.contracts.order.Order as Order
+use Rattle.mg_ready.specs.contracts.order.Order.TheInside as OrderInside
 use Rattle.mg_levels.specs.contracts.hand.Hand as Hand
 use Rattle.mg_levels.specs.contracts.levels.Levels as Levels
 use Rattle.mg_levels.specs.contracts.seat.LevelSeat as LevelSeat
@@ -22,6 +22,10 @@ use Rattle.mg_turns.specs.contracts.seat.NetSeat as NetSeat
 use Rattle.mg_turns.specs.contracts.shared.SharedNet as SharedNet
 use Rattle.mg_turns.proofs.Sent.{net_seat, net}
 use Rattle.mg_crew.specs.contracts.chart.Chart as Chart
+use Rattle.mg_crew.specs.contracts.leads.Leads as Leads
+use Rattle.mg_crew.specs.contracts.leads.Leads.TheInside as LeadsInside
+use Rattle.mg_crew.specs.contracts.marks.Marks as Marks
+use Rattle.mg_crew.specs.contracts.putting.Place as Place
 use Rattle.mg_crew.specs.contracts.board.Board as Board
 use Rattle.mg_crew.specs.contracts.shop.Tools as Tools
 
@@ -37,26 +41,38 @@ levels = search (order, Slotted.the_sync, Slotted.the_field_sync, heap.send, hea
 hand : IsSend (Hand.the_field).row
 hand = search (Seat.the_send, sendable, crosses) depth 40 fits 50000
 
-pub level_seat : IsSend (LevelSeat.the_field).row
+level_seat : IsSend (LevelSeat.the_field).row
 level_seat = search (hand, sendable, crosses) depth 40 fits 20000
 
 level_row : IsSend LevelSeat.the_row
 level_row = search (hand, sendable, crosses) depth 40 fits 20000
 
-pub place : IsSend (Maybe.the_field LevelSeat.the_row).row
-place = maybe_field LevelSeat.the_row level_row
+seat : IsSend (Maybe.the_field LevelSeat.the_row).row
+seat = maybe_field LevelSeat.the_row level_row
 
-pub place_row : IsSend (Maybe.the_row LevelSeat.the_row)
-place_row = maybe LevelSeat.the_row level_row
+place : IsSend (Place.the_field).row
+place = search (seat, sendable, crosses) depth 40 fits 20000
+
+pub place_row : IsSend Place.the_row
+place_row = recorded_send (Place.the_field).row _ _ Place.the_type.to_one place
 
 board : IsSync (Board.the_field).row
 board = search (Padded.the_field_sync, sendable, crosses) depth 40 fits 20000
 
+leads_inside : IsSync LeadsInside.the_row
+leads_inside = search (sendable, crosses) depth 40 fits 20000
+
+leads : IsSync (Leads.the_field).row
+leads = search (leads_inside, sendable) depth 40 fits 20000
+
 chart : IsSync (Chart.the_field).row
-chart = search (sendable, crosses) depth 40 fits 20000
+chart = search (leads, sendable, crosses) depth 40 fits 20000
+
+marks : IsSync (Marks.the_field).row
+marks = search (sendable, crosses) depth 40 fits 20000
 
 pub tools : IsSync (Tools.the_field).row
-tools = search (levels, board, chart, sendable) depth 20 fits 20000
+tools = search (levels, board, chart, marks, sendable) depth 20 fits 20000
 
 pub tools_row : IsSync Tools.the_row
 tools_row = recorded_sync (Tools.the_field).row _ _ Tools.the_type.to_one tools

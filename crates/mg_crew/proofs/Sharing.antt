@@ -15,8 +15,8 @@ use Rattle.mg_turns.specs.Standings.{Keeps}
 use Rattle.mg_turns.specs.declared.view.View.{View}
 use Rattle.mg_turns.specs.declared.shared.SharedNet.{SharedNet}
 use Rattle.mg_turns.specs.declared.seat.NetSeat.{NetSeat}
-use Rattle.mg_workers.specs.Shared.{IsShared}
-use Rattle.mg_crew.specs.Code.Seats.{StaysShared, IsSharedWith, FitsWork, FitsOutcome, HasWork}
+use Rattle.mg_workers.specs.Shared.{IsShared, StaysShared, IsSharedWith}
+use Rattle.mg_crew.specs.Code.Seats.{FitsWork, FitsOutcome, HasWork}
 
 -- The work that a seat has after a call.
 

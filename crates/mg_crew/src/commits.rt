@@ -1,6 +1,7 @@
 //! What becomes of a work that was claimed by itself.
 ghost use Rattle.mg_turns.specs.Calls.{key_of};
-ghost use Rattle.mg_crew.specs.Code.Seats.{IsSharedWith, StaysShared, FitsWork, FitsOutcome};
+ghost use Rattle.mg_workers.specs.Shared.{IsSharedWith, StaysShared};
+ghost use Rattle.mg_crew.specs.Code.Seats.{FitsWork, FitsOutcome};
 
 use crate::shop::Shop;
 use mg_calc::Calculator;

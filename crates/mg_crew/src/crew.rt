@@ -2,23 +2,38 @@
 ghost use Rattle.std.specs.Prelude.{◌≡◌, ◌≤◌, ◌^◌};
 ghost use Rattle.std.specs.Thread.{IsSync, IsSend};
 ghost use Rattle.mg_turns.specs.Calls.{view_of};
-ghost use Rattle.mg_crew.specs.Code.Seats.{StaysShared, IsAtWork, HasPortion};
+ghost use Rattle.mg_workers.specs.Shared.{StaysShared};
+ghost use Rattle.mg_crew.specs.Code.Places.{HasPortion};
+ghost use Rattle.mg_crew.specs.Code.Seats.{IsAtWork, StaysAtWork};
 
-use crate::putting::split;
-use crate::rounds::go_on;
+use crate::putting::{Place, split};
+use crate::rounds::{go_on, look_over};
 use crate::shop::Shop;
 use mg_calc::Calculator;
 use mg_edge::Gate;
-use mg_levels::LevelSeat;
 use mg_turns::NetSeat;
 use std::sync::Wait;
-use std::thread;
 use std::thread::{Threads, join};
 
-// Waits until there is something to do, and tells whether there is.
-fn wait<C: Calculator, R: Wait, G: Gate>(rt: &R, shop: &Shop<'_, C, G>, seen: u64) -> bool {
-    shop.tools.board.rest();
-    shop.tools.board.wait(rt, seen)
+// What a worker does that found nothing to do: it waits until there is something new, and tells whether there is. The last one to come
+// here looks over everything in place of that, and where it finds nothing all end.
+fn rest<C: Calculator, R: Wait, G: Gate>(
+    rt: &R,
+    shop: &Shop<'_, C, G>,
+    seat: &mut NetSeat<C>,
+    place: &mut Place,
+    seen: u64,
+) -> bool
+    requires at_work { IsAtWork shop.now.net.now shop.now.tools.now seat.old place.old }
+    ensures { StaysAtWork shop.now.net.now shop.now.tools.now seat.old seat.new place.new }
+{
+    if !shop.tools.board.rest() {
+        return shop.tools.board.wait(rt, seen);
+    }
+    let came = look_over(rt, shop, seat, place);
+    let found = !came.is_nothing();
+    shop.tools.board.settle(found);
+    found
 }
 
 // Works until no worker that has begun has anything to do.
@@ -26,23 +41,20 @@ fn work<C: Calculator, R: Wait, G: Gate>(
     rt: &R,
     shop: &Shop<'_, C, G>,
     seat: NetSeat<C>,
-    place: Option<LevelSeat>,
+    place: Place,
 ) -> NetSeat<C>
-    requires at_work { IsAtWork shop.now.net.now shop.now.tools.now.levels seat place }
+    requires at_work { IsAtWork shop.now.net.now shop.now.tools.now seat place }
     ensures { StaysShared shop.now.net.now seat result }
 {
     let mut seat = seat;
     let mut place = place;
     shop.tools.board.begin();
     for _ in rt.forever() {
-        let seen = shop.tools.board.done();
-        let came = go_on(rt, shop, &mut seat, &mut place);
-        if came.did {
+        let seen = shop.tools.board.news();
+        if go_on(rt, shop, &mut seat, &mut place) {
             continue;
         }
-        if came.busy {
-            thread::yield_now();
-        } else if !wait(rt, shop, seen) {
+        if !rest(rt, shop, &mut seat, &mut place, seen) {
             return seat;
         }
     }
@@ -55,11 +67,11 @@ pub(crate) fn crew<C: Calculator + Send, R: Threads + Wait + Sync, G: Gate + Syn
     rt: &R,
     shop: &Shop<'_, C, G>,
     seat: NetSeat<C>,
-    place: Option<LevelSeat>,
+    place: Place,
     workers: u32,
 ) -> NetSeat<C>
     requires bounds { IsSend C.row × IsSync R.row × IsSync G.row }
-    requires at_work { IsAtWork shop.now.net.now shop.now.tools.now.levels seat place }
+    requires at_work { IsAtWork shop.now.net.now shop.now.tools.now seat place }
     requires portion { (workers ≤ (view_of seat).portion) × ((view_of seat).portion ≤ 2 ^ 32) }
     requires place { HasPortion workers place }
     ensures { StaysShared shop.now.net.now seat result }
@@ -74,7 +86,7 @@ pub(crate) fn crew<C: Calculator + Send, R: Threads + Wait + Sync, G: Gate + Syn
     let their_place = split(alloc, &tools.levels, &mut place);
     let others = workers - 1;
     let many = move || -> NetSeat<C>
-        requires { IsSend C.row × IsSync R.row × IsSync G.row × IsAtWork net.now tools.now.levels mine place
+        requires { IsSend C.row × IsSync R.row × IsSync G.row × IsAtWork net.now tools.now mine place
             × (others ≤ (view_of mine).portion) × ((view_of mine).portion ≤ 2 ^ 32) × HasPortion others place }
         ensures { StaysShared net.entry.now mine result }
     {
@@ -87,7 +99,7 @@ pub(crate) fn crew<C: Calculator + Send, R: Threads + Wait + Sync, G: Gate + Syn
         crew(rt, &shop, mine, place, others)
     };
     let one = move || -> NetSeat<C>
-        requires { IsAtWork net.now tools.now.levels theirs their_place }
+        requires { IsAtWork net.now tools.now theirs their_place }
         ensures { StaysShared net.entry.now theirs result }
     {
         let shop = Shop {

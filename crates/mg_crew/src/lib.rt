@@ -5,6 +5,8 @@ mod board;
 mod chart;
 mod commits;
 mod crew;
+mod leads;
+mod marks;
 mod putting;
 mod rounds;
 mod running;

@@ -1,53 +1,141 @@
-//! The levels as workers use them: one that found no memory for a seat there does without.
+//! The levels as workers use them: a node is in them at most once, and who found no memory for a seat there does without.
 
-ghost use Rattle.std.specs.Prelude.{◌≡◌, ◌<◌, ◌+◌, ℕ, Contains, IfSome};
-ghost use Rattle.mg_levels.specs.Levels.{order_of};
-ghost use Rattle.mg_crew.specs.Code.Seats.{IsPlaceAt, HasPortion};
+ghost use Rattle.std.specs.Prelude.{◌≡◌, ◌+◌, ℕ, Contains, IfSome, Some, None};
+ghost use Rattle.mg_levels.specs.Levels.{order_of, portion_of, IsSeatOf};
+ghost use Rattle.mg_crew.specs.Code.Places.{IsPlaceAt, IsAnyOf, IsLeft, HasPortion};
 
+use crate::shop::Tools;
 use mg_levels::{LevelSeat, Levels};
 use std::alloc::Global;
 use std::sync::Wait;
 
-/// Puts a node in, unless its level is full. Then it is found by a round, or by the sweep.
-pub(crate) fn put<R: Wait>(rt: &R, levels: &Levels, place: &mut Option<LevelSeat>, node: u32)
-    requires place { IsPlaceAt levels.now place.old }
-    requires node { Contains (order_of levels.now) node }
-    ensures { IsPlaceAt levels.now place.new }
-{
-    if let Some(seat) = place {
-        levels.put(rt, seat, node);
+/// A worker's seat at the levels, if there was memory for one, and a node to which it comes back once it has taken another one.
+#[derive(Drop)]
+pub(crate) struct Place {
+    pub seat: Option<LevelSeat>,
+    pub kept: Option<u32>,
+}
+
+impl Place {
+    /// A seat at the levels, and no node.
+    pub(crate) fn new(seat: LevelSeat) -> Place
+        ensures { (result.seat ≡ Some seat) × (result.kept ≡ None) }
+    {
+        Place {
+            seat: Some(seat),
+            kept: None,
+        }
     }
 }
 
-/// Takes a node out.
-pub(crate) fn take<R: Wait>(rt: &R, levels: &Levels, place: &mut Option<LevelSeat>) -> Option<u32>
-    requires place { IsPlaceAt levels.now place.old }
-    ensures place { IsPlaceAt levels.now place.new }
-    ensures node { IfSome result (λ node. Contains (order_of levels.now) node) }
+// A seat for one more worker, if there is memory for it.
+fn split_seat(alloc: Global, levels: &Levels, seat: &mut Option<LevelSeat>) -> Option<LevelSeat>
+    requires seat { IsAnyOf levels.now seat.old }
+    requires portion { IsLeft 2 seat.old }
+    ensures seat { IsAnyOf levels.now seat.new }
+    ensures portion { (left : ℕ) → IsLeft (left + 1) seat.old → IsLeft left seat.new }
+    ensures other { IsAnyOf levels.now result }
 {
-    match place {
-        Some(seat) => levels.take(rt, seat),
+    match seat {
+        Some(seat) => match seat.split(alloc, levels, 1) {
+            Ok(other) => Some(other),
+            Err(_) => None,
+        },
         None => None,
     }
 }
 
-/// A seat for one more worker, if there is memory for it.
-pub(crate) fn split(
-    alloc: Global,
-    levels: &Levels,
-    place: &mut Option<LevelSeat>,
-) -> Option<LevelSeat>
+/// A place for one more worker.
+pub(crate) fn split(alloc: Global, levels: &Levels, place: &mut Place) -> Place
     requires place { IsPlaceAt levels.now place.old }
     requires portion { HasPortion 2 place.old }
     ensures place { IsPlaceAt levels.now place.new }
     ensures portion { (left : ℕ) → HasPortion (left + 1) place.old → HasPortion left place.new }
     ensures other { IsPlaceAt levels.now result }
 {
-    match place {
-        Some(seat) => match seat.split(alloc, levels, 1) {
-            Ok(other) => Some(other),
-            Err(_) => None,
-        },
+    let seat = split_seat(alloc, levels, &mut place.seat);
+    Place { seat, kept: None }
+}
+
+// Puts a node in that isn't in, and tells idle workers. One whose level is full is left to the worker that looks over all nodes.
+fn put_in<R: Wait>(rt: &R, tools: &Tools, seat: &mut LevelSeat, node: u32)
+    requires seat { IsSeatOf tools.now.levels seat.old }
+    requires node { Contains (order_of tools.now.levels) node }
+    ensures seat { IsSeatOf tools.now.levels seat.new }
+{
+    if tools.levels.put(rt, seat, node) {
+        tools.board.tell();
+    } else {
+        tools.marks.clear(node);
+    }
+}
+
+// Puts a node in, unless it is in.
+fn put_new<R: Wait>(rt: &R, tools: &Tools, seat: &mut LevelSeat, node: u32)
+    requires seat { IsSeatOf tools.now.levels seat.old }
+    requires node { Contains (order_of tools.now.levels) node }
+    ensures seat { IsSeatOf tools.now.levels seat.new }
+{
+    if tools.marks.set(node) {
+        put_in(rt, tools, seat, node);
+    }
+}
+
+/// Puts a node in, unless it is in.
+pub(crate) fn put<R: Wait>(rt: &R, tools: &Tools, place: &mut Place, node: u32)
+    requires place { IsPlaceAt tools.now.levels place.old }
+    requires node { Contains (order_of tools.now.levels) node }
+    ensures place { IsPlaceAt tools.now.levels place.new }
+{
+    if let Some(seat) = &mut place.seat {
+        put_new(rt, tools, seat, node);
+    }
+}
+
+// Puts in the node to which a worker was to come back, if there is one.
+fn put_kept<R: Wait>(rt: &R, tools: &Tools, place: &mut Place)
+    requires place { IsPlaceAt tools.now.levels place.old }
+    ensures place { IsPlaceAt tools.now.levels place.new }
+{
+    if let Some(node) = place.kept.take() {
+        put(rt, tools, place, node);
+    }
+}
+
+/// Keeps a node, to which the worker comes back once it has taken another one.
+pub(crate) fn keep<R: Wait>(rt: &R, tools: &Tools, place: &mut Place, node: u32)
+    requires place { IsPlaceAt tools.now.levels place.old }
+    requires node { Contains (order_of tools.now.levels) node }
+    ensures place { IsPlaceAt tools.now.levels place.new }
+{
+    put_kept(rt, tools, place);
+    place.kept = Some(node);
+}
+
+// Takes a node out of the levels.
+fn take_out<R: Wait>(rt: &R, tools: &Tools, place: &mut Place) -> Option<u32>
+    requires place { IsPlaceAt tools.now.levels place.old }
+    ensures place { IsPlaceAt tools.now.levels place.new }
+    ensures node { IfSome result (λ node. Contains (order_of tools.now.levels) node) }
+{
+    match &mut place.seat {
+        Some(seat) => tools.levels.take(rt, seat),
         None => None,
+    }
+}
+
+/// The next node: one that is taken out of the levels, into which the node goes that was kept; or that node, where they are empty.
+pub(crate) fn take<R: Wait>(rt: &R, tools: &Tools, place: &mut Place) -> Option<u32>
+    requires place { IsPlaceAt tools.now.levels place.old }
+    ensures place { IsPlaceAt tools.now.levels place.new }
+    ensures node { IfSome result (λ node. Contains (order_of tools.now.levels) node) }
+{
+    match take_out(rt, tools, place) {
+        Some(node) => {
+            tools.marks.clear(node);
+            put_kept(rt, tools, place);
+            Some(node)
+        }
+        None => place.kept.take(),
     }
 }

@@ -1,48 +1,24 @@
-//! What a worker does next: it takes nodes from the levels, and where that leads to nothing it makes a round over all nodes and edges.
+//! What a worker does next: it takes a node from the levels, and where they are empty it brings packets from the graph inputs.
 ghost use Rattle.mg_crew.specs.Code.Seats.{IsAtWork, StaysAtWork};
 
-use crate::putting::take;
+use crate::putting::{Place, take};
 use crate::serving::{serve, wake_all};
 use crate::shop::{Came, Shop};
 use mg_calc::Calculator;
 use mg_edge::Gate;
-use mg_levels::LevelSeat;
 use mg_turns::NetSeat;
 use std::sync::Wait;
-
-// How many nodes are taken from the levels one after the other.
-const NODES: u32 = 64;
-
-// Serves nodes that it takes from the levels.
-fn serve_taken<C: Calculator, R: Wait, G: Gate>(
-    rt: &R,
-    shop: &Shop<'_, C, G>,
-    seat: &mut NetSeat<C>,
-    place: &mut Option<LevelSeat>,
-) -> Came
-    requires at_work { IsAtWork shop.now.net.now shop.now.tools.now.levels seat.old place.old }
-    ensures { StaysAtWork shop.now.net.now shop.now.tools.now.levels seat.old seat.new place.new }
-{
-    let mut came = Came::nothing();
-    for _ in 0..NODES {
-        let Some(node) = take(rt, &shop.tools.levels, place) else {
-            return came;
-        };
-        let more = serve(rt, shop, seat, place, node);
-        came = came.and(&more);
-    }
-    came
-}
+use std::thread;
 
 // Serves all nodes, the last first.
 fn serve_all<C: Calculator, R: Wait, G: Gate>(
     rt: &R,
     shop: &Shop<'_, C, G>,
     seat: &mut NetSeat<C>,
-    place: &mut Option<LevelSeat>,
+    place: &mut Place,
 ) -> Came
-    requires at_work { IsAtWork shop.now.net.now shop.now.tools.now.levels seat.old place.old }
-    ensures { StaysAtWork shop.now.net.now shop.now.tools.now.levels seat.old seat.new place.new }
+    requires at_work { IsAtWork shop.now.net.now shop.now.tools.now seat.old place.old }
+    ensures { StaysAtWork shop.now.net.now shop.now.tools.now seat.old seat.new place.new }
 {
     let mut came = Came::nothing();
     for node in (0..shop.net.nodes()).rev() {
@@ -52,39 +28,100 @@ fn serve_all<C: Calculator, R: Wait, G: Gate>(
     came
 }
 
-// Brings packets along the edges that lead from graph inputs, and tells the others.
+// Brings packets from all graph inputs. Where some came, or a turn was out, there may be more.
+fn feed_all<C: Calculator, R: Wait, G: Gate>(
+    rt: &R,
+    shop: &Shop<'_, C, G>,
+    seat: &mut NetSeat<C>,
+    place: &mut Place,
+) -> Came
+    requires at_work { IsAtWork shop.now.net.now shop.now.tools.now seat.old place.old }
+    ensures { StaysAtWork shop.now.net.now shop.now.tools.now seat.old seat.new place.new }
+{
+    let mut came = Came::nothing();
+    for input in shop.net.nodes() as usize..shop.tools.chart.from.places() {
+        let more = wake_all(rt, shop, seat, place, input);
+        came = came.and(&more);
+    }
+    shop.tools.board.fed(&came);
+    came
+}
+
+// Brings packets from the graph inputs, unless another worker does, or none were left.
 fn feed<C: Calculator, R: Wait, G: Gate>(
     rt: &R,
     shop: &Shop<'_, C, G>,
     seat: &mut NetSeat<C>,
-    place: &mut Option<LevelSeat>,
+    place: &mut Place,
 ) -> Came
-    requires at_work { IsAtWork shop.now.net.now shop.now.tools.now.levels seat.old place.old }
-    ensures { StaysAtWork shop.now.net.now shop.now.tools.now.levels seat.old seat.new place.new }
+    requires at_work { IsAtWork shop.now.net.now shop.now.tools.now seat.old place.old }
+    ensures { StaysAtWork shop.now.net.now shop.now.tools.now seat.old seat.new place.new }
 {
-    let came = wake_all(rt, shop, seat, place, shop.tools.chart.inputs());
-    shop.tools.board.tell(came.did);
-    came
+    if !shop.tools.board.takes_inputs() {
+        return Came::nothing();
+    }
+    feed_all(rt, shop, seat, place)
 }
 
-/// Does what there is to do, and tells what came of it. Where nothing came of it, and no turn was out, there was nothing to do.
+/// Looks over all graph inputs and nodes. Where nothing came of it, and no other worker did anything meanwhile, nothing is left to do.
+pub(crate) fn look_over<C: Calculator, R: Wait, G: Gate>(
+    rt: &R,
+    shop: &Shop<'_, C, G>,
+    seat: &mut NetSeat<C>,
+    place: &mut Place,
+) -> Came
+    requires at_work { IsAtWork shop.now.net.now shop.now.tools.now seat.old place.old }
+    ensures { StaysAtWork shop.now.net.now shop.now.tools.now seat.old seat.new place.new }
+{
+    let fed = feed_all(rt, shop, seat, place);
+    let served = serve_all(rt, shop, seat, place);
+    fed.and(&served)
+}
+
+// What a worker does that has no node to serve. One without a seat at the levels goes by rounds.
+fn go_round<C: Calculator, R: Wait, G: Gate>(
+    rt: &R,
+    shop: &Shop<'_, C, G>,
+    seat: &mut NetSeat<C>,
+    place: &mut Place,
+) -> Came
+    requires at_work { IsAtWork shop.now.net.now shop.now.tools.now seat.old place.old }
+    ensures { StaysAtWork shop.now.net.now shop.now.tools.now seat.old seat.new place.new }
+{
+    if place.seat.is_some() {
+        feed(rt, shop, seat, place)
+    } else {
+        look_over(rt, shop, seat, place)
+    }
+}
+
+// Lets other threads run where turns were out, and nothing could be done. It tells whether there was anything to do.
+fn pause(came: Came) -> bool {
+    if came.is_busy() {
+        thread::yield_now();
+    }
+    !came.is_nothing()
+}
+
+/// Serves the next node, or brings packets from the graph inputs where there is none. It tells whether there was anything to do.
 pub(crate) fn go_on<C: Calculator, R: Wait, G: Gate>(
     rt: &R,
     shop: &Shop<'_, C, G>,
     seat: &mut NetSeat<C>,
-    place: &mut Option<LevelSeat>,
-) -> Came
-    requires at_work { IsAtWork shop.now.net.now shop.now.tools.now.levels seat.old place.old }
-    ensures { StaysAtWork shop.now.net.now shop.now.tools.now.levels seat.old seat.new place.new }
+    place: &mut Place,
+) -> bool
+    requires at_work { IsAtWork shop.now.net.now shop.now.tools.now seat.old place.old }
+    ensures { StaysAtWork shop.now.net.now shop.now.tools.now seat.old seat.new place.new }
 {
-    let taken = serve_taken(rt, shop, seat, place);
-    if taken.did {
-        return taken;
+    match take(rt, shop.tools, place) {
+        Some(node) => {
+            let came = serve(rt, shop, seat, place, node);
+            pause(came);
+            true
+        }
+        None => {
+            let came = go_round(rt, shop, seat, place);
+            pause(came)
+        }
     }
-    let fed = feed(rt, shop, seat, place);
-    if fed.did {
-        return fed;
-    }
-    let served = serve_all(rt, shop, seat, place);
-    served.and(&fed)
 }

@@ -1,15 +1,14 @@
 //! A net that is run by workers.
-ghost use Rattle.std.specs.Prelude.{◌≡◌, ◌^◌, length};
-ghost use Rattle.mg_calc.specs.Plan.{HasEachOnce};
+ghost use Rattle.std.specs.Prelude.{◌≡◌, ◌^◌};
+ghost use Rattle.mg_calc.specs.Plan.{IsValid};
 ghost use Rattle.mg_sched.specs.StandsFor.{StandsForSome, IsRunning};
-ghost use Rattle.mg_turns.specs.Parts.{nodes_in};
 ghost use Rattle.mg_turns.specs.Calls.{key_of, view_of};
-ghost use Rattle.mg_workers.specs.Shared.{IsShared};
+ghost use Rattle.mg_workers.specs.Shared.{IsShared, StaysShared};
 ghost use Rattle.mg_workers.specs.Became.{Became};
 ghost use Rattle.mg_crew.specs.Leaves.{Leaves};
-ghost use Rattle.mg_crew.specs.Code.Seats.{StaysShared};
 
 use crate::crew::crew;
+use crate::putting::Place;
 use crate::shop::{Shop, tools_of};
 use mg_calc::{Calculator, Plan};
 use mg_edge::Gate;
@@ -38,8 +37,8 @@ fn run_shared<C: Calculator + Send, R: Threads + Wait + Sync, G: Gate + Sync>(
 ) -> NetSeat<C>
     requires shared { IsShared net.now seat }
     requires whole { (view_of seat).portion ≡ 2 ^ 32 }
-    requires order { HasEachOnce (length plan.now.nodes) plan.now.order }
-    requires nodes { length plan.now.nodes ≡ nodes_in (key_of net.now) }
+    requires valid { IsValid plan.now }
+    requires plan { plan.now ≡ (key_of net.now).plan }
     ensures { StaysShared net.now seat result }
 {
     match tools_of(task.alloc, plan) {
@@ -50,7 +49,7 @@ fn run_shared<C: Calculator + Send, R: Threads + Wait + Sync, G: Gate + Sync>(
                 tools: &tools,
                 gate: task.gate,
             };
-            crew(rt, &shop, seat, Some(place), task.workers)
+            crew(rt, &shop, seat, Place::new(place), task.workers)
         }
         Err(_) => seat,
     }

@@ -1,9 +1,10 @@
-ghost use Rattle.std.specs.Prelude.{◌≡◌, ◌^◌, length, IfOk};
-ghost use Rattle.mg_calc.specs.Plan.{HasEachOnce};
+ghost use Rattle.std.specs.Prelude.{◌≡◌, ◌+◌, ◌^◌, length, IfOk};
+ghost use Rattle.mg_calc.specs.Plan.{IsValid, HasEachOnce};
 ghost use Rattle.mg_levels.specs.Levels.{order_of, portion_of, IsSeatOf};
 
 use crate::board::Board;
 use crate::chart::Chart;
+use crate::marks::Marks;
 use mg_calc::{Calculator, Plan};
 use mg_edge::Gate;
 use mg_levels::{LevelSeat, Levels};
@@ -15,6 +16,7 @@ use std::alloc::{AllocError, Global};
 pub(crate) struct Tools {
     pub chart: Chart,
     pub levels: Levels,
+    pub marks: Marks,
     pub board: Board,
 }
 
@@ -27,11 +29,11 @@ pub(crate) struct Shop<'a, C: Calculator, G: Gate> {
     pub gate: &'a G,
 }
 
-/// What came of a try: whether something was done, and whether a turn was out.
+/// What came of a try: whether something was done, and whether there may be more to do, as where a turn was out.
 #[derive(Clone, Copy)]
 pub(crate) struct Came {
     pub did: bool,
-    pub busy: bool,
+    pub more: bool,
 }
 
 impl Came {
@@ -39,7 +41,7 @@ impl Came {
     pub(crate) fn nothing() -> Came {
         Came {
             did: false,
-            busy: false,
+            more: false,
         }
     }
 
@@ -47,35 +49,54 @@ impl Came {
     pub(crate) fn busy() -> Came {
         Came {
             did: false,
-            busy: true,
+            more: true,
         }
     }
 
-    /// Something was done, or nothing.
+    /// Something was done, or nothing, and that was all.
     pub(crate) fn if_did(did: bool) -> Came {
-        Came { did, busy: false }
+        Came { did, more: false }
+    }
+
+    /// A work was done, and there may be another one; or none was done.
+    pub(crate) fn if_worked(did: bool) -> Came {
+        Came { did, more: did }
+    }
+
+    /// Whether there was nothing to do, and no turn was out.
+    pub(crate) fn is_nothing(&self) -> bool {
+        !self.did && !self.more
+    }
+
+    /// Whether turns were out, and nothing was done.
+    pub(crate) fn is_busy(&self) -> bool {
+        !self.did && self.more
     }
 
     /// What came of two tries.
     pub(crate) fn and(&self, other: &Came) -> Came {
         Came {
             did: self.did | other.did,
-            busy: self.busy | other.busy,
+            more: self.more | other.more,
         }
     }
 }
 
 /// The tools for a plan, and the first seat at the levels.
 pub(crate) fn tools_of(alloc: Global, plan: &Plan) -> Result<(Tools, LevelSeat), AllocError>
-    requires { HasEachOnce (length plan.now.nodes) plan.now.order }
+    requires { IsValid plan.now }
     ensures levels { IfOk result (λ r. HasEachOnce (length plan.now.nodes) (order_of r.0.levels)) }
+    ensures places { IfOk result (λ r. r.0.chart.from.places ≡ length plan.now.nodes + length plan.now.inputs) }
+    ensures edges { IfOk result (λ r. r.0.chart.from.edges ≡ length plan.now.edges) }
     ensures place { IfOk result (λ r. IsSeatOf r.0.levels r.1 × (portion_of r.1 ≡ 2 ^ 32)) }
 {
     let chart = Chart::new(alloc, plan)?;
+    let marks = Marks::new(alloc, plan.nodes.len())?;
     let (levels, seat) = Levels::new(alloc, &plan.order)?;
     let tools = Tools {
         chart,
         levels,
+        marks,
         board: Board::new(),
     };
     Ok((tools, seat))

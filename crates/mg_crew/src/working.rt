@@ -1,22 +1,26 @@
 //! How a worker does works of a node, raises the bounds of its outputs, and brings packets along an edge.
-ghost use Rattle.std.specs.Prelude.{◌≡◌, ◌<◌, length, IfOk, OnErr};
+ghost use Rattle.std.specs.Prelude.{◌≡◌, ◌<◌, Contains, length, IfOk, OnErr};
+ghost use Rattle.mg_levels.specs.Levels.{order_of};
 ghost use Rattle.mg_turns.specs.Parts.{nodes_in};
 ghost use Rattle.mg_turns.specs.Calls.{key_of, view_of};
-ghost use Rattle.mg_workers.specs.Shared.{IsShared};
-ghost use Rattle.mg_crew.specs.Code.Seats.{StaysShared, IsSharedWith, FitsWork, IsAtWork, StaysAtWork};
+ghost use Rattle.mg_workers.specs.Shared.{IsShared, StaysShared, IsSharedWith};
+ghost use Rattle.mg_crew.specs.Code.Places.{IsPlaceAt};
+ghost use Rattle.mg_crew.specs.Code.Seats.{FitsWork, IsAtWork, StaysAtWork};
 
 use crate::commits::finish;
-use crate::putting::put;
-use crate::shop::{Came, Shop};
+use crate::putting::{Place, put};
+use crate::shop::{Came, Shop, Tools};
 use mg_calc::Calculator;
 use mg_edge::Gate;
-use mg_levels::LevelSeat;
 use mg_node::{Claimed, Delivered, Work};
 use mg_turns::{NetSeat, SharedNet, Tried};
 use std::sync::Wait;
 
 // How many works of a node are done under one pair of turns.
 const WORKS: u32 = 64;
+
+// How many packets are brought along an edge under one pair of turns, at most.
+const PACKETS: u32 = 256;
 
 // Does works of a node while its turns are held.
 fn run<C: Calculator, G: Gate>(shop: &Shop<'_, C, G>, seat: &mut NetSeat<C>, node: u32) -> Came
@@ -26,7 +30,10 @@ fn run<C: Calculator, G: Gate>(shop: &Shop<'_, C, G>, seat: &mut NetSeat<C>, nod
 {
     let tried = shop.net.try_run(shop.alloc, seat, node, WORKS, shop.gate);
     match tried {
-        Tried::Done(done) => Came::if_did(done > 0),
+        Tried::Done(done) => Came {
+            did: done > 0,
+            more: done >= WORKS,
+        },
         Tried::Busy { .. } => Came::busy(),
     }
 }
@@ -46,7 +53,7 @@ fn claim<C: Calculator>(
 {
     match net.try_claim(seat, node) {
         Tried::Done(Claimed::Work(work)) => Ok(work),
-        Tried::Done(Claimed::Answered) => Err(Came::if_did(true)),
+        Tried::Done(Claimed::Answered) => Err(Came::if_worked(true)),
         Tried::Done(Claimed::NotReady) => Err(Came::nothing()),
         Tried::Done(Claimed::InFlightFull) => Err(Came::nothing()),
         Tried::Done(Claimed::Draining) => Err(Came::nothing()),
@@ -56,23 +63,35 @@ fn claim<C: Calculator>(
     }
 }
 
-// Does one work of a node. Before that it puts the node in, so that other workers do further ones meanwhile.
+// Puts a node in, so that other workers do further works of it meanwhile, unless there was no memory for one.
+fn share_node<R: Wait>(rt: &R, tools: &Tools, place: &mut Place, node: u32)
+    requires place { IsPlaceAt tools.now.levels place.old }
+    requires node { Contains (order_of tools.now.levels) node }
+    ensures place { IsPlaceAt tools.now.levels place.new }
+{
+    if !tools.board.is_short() {
+        put(rt, tools, place, node);
+    }
+}
+
+// Does one work of a node, and lets other workers do further ones meanwhile.
 fn fly<C: Calculator, R: Wait, G: Gate>(
     rt: &R,
     shop: &Shop<'_, C, G>,
     seat: &mut NetSeat<C>,
-    place: &mut Option<LevelSeat>,
+    place: &mut Place,
     node: u32,
 ) -> Came
-    requires at_work { IsAtWork shop.now.net.now shop.now.tools.now.levels seat.old place.old }
+    requires at_work { IsAtWork shop.now.net.now shop.now.tools.now seat.old place.old }
     requires node { node < nodes_in (key_of shop.now.net.now) }
-    ensures { StaysAtWork shop.now.net.now shop.now.tools.now.levels seat.old seat.new place.new }
+    ensures { StaysAtWork shop.now.net.now shop.now.tools.now seat.old seat.new place.new }
 {
     match claim(shop.net, seat, node) {
         Ok(work) => {
-            put(rt, &shop.tools.levels, place, node);
-            shop.tools.board.tell(true);
-            Came::if_did(finish(rt, shop, seat, work))
+            share_node(rt, shop.tools, place, node);
+            let did = finish(rt, shop, seat, work);
+            shop.tools.board.found_memory(did);
+            Came::if_worked(did)
         }
         Err(came) => came,
     }
@@ -83,12 +102,12 @@ pub(crate) fn work_at<C: Calculator, R: Wait, G: Gate>(
     rt: &R,
     shop: &Shop<'_, C, G>,
     seat: &mut NetSeat<C>,
-    place: &mut Option<LevelSeat>,
+    place: &mut Place,
     node: u32,
 ) -> Came
-    requires at_work { IsAtWork shop.now.net.now shop.now.tools.now.levels seat.old place.old }
+    requires at_work { IsAtWork shop.now.net.now shop.now.tools.now seat.old place.old }
     requires node { node < nodes_in (key_of shop.now.net.now) }
-    ensures { StaysAtWork shop.now.net.now shop.now.tools.now.levels seat.old seat.new place.new }
+    ensures { StaysAtWork shop.now.net.now shop.now.tools.now seat.old seat.new place.new }
 {
     if shop.tools.chart.flies(node) {
         fly(rt, shop, seat, place, node)
@@ -126,7 +145,10 @@ pub(crate) fn bring<C: Calculator, G: Gate>(
 {
     let tried = shop.net.try_append(seat, edge);
     match tried {
-        Tried::Done(Delivered::Moved { packets, raised }) => Came::if_did(packets > 0 || raised),
+        Tried::Done(Delivered::Moved { packets, raised }) => Came {
+            did: packets > 0 || raised,
+            more: packets >= PACKETS,
+        },
         Tried::Done(Delivered::OutOfMemory { packets }) => Came::if_did(packets > 0),
         Tried::Busy { .. } => Came::busy(),
     }

@@ -18,8 +18,8 @@ use Rattle.mg_turns.specs.Standings.{Keeps}
 use Rattle.mg_turns.specs.declared.view.View.{View}
 use Rattle.mg_turns.specs.declared.shared.SharedNet.{SharedNet}
 use Rattle.mg_turns.specs.declared.seat.NetSeat.{NetSeat}
-use Rattle.mg_workers.specs.Shared.{IsShared}
-use Rattle.mg_seats.specs.Held.{StaysShared, IsSharedWith, IsSameWork}
+use Rattle.mg_workers.specs.Shared.{IsShared, StaysShared, IsSharedWith}
+use Rattle.mg_seats.specs.Held.{IsSameWork}
 
 -- a seat that has no work before a call, and none after it
 pub stays_free : {X : Type 0} {g : Ghosts X} (net : SharedNet X) (before now : NetSeat X g) → IsShared net before → IsSeatOf net now → (view_of now).work ≡ (view_of before).work → IsShared net now

@@ -8,8 +8,8 @@ ghost use Rattle.mg_node.specs.Running.{SomeJobHas};
 ghost use Rattle.mg_turns.specs.Parts.{nodes_in, Fits};
 ghost use Rattle.mg_turns.specs.Sights.{has_after};
 ghost use Rattle.mg_turns.specs.Calls.{key_of, view_of};
-ghost use Rattle.mg_workers.specs.Shared.{IsShared};
-ghost use Rattle.mg_seats.specs.Held.{IsSharedWith, StaysShared, IsSameWork};
+ghost use Rattle.mg_workers.specs.Shared.{IsShared, IsSharedWith, StaysShared};
+ghost use Rattle.mg_seats.specs.Held.{IsSameWork};
 
 use mg_edge::StillGate;
 use mg_node::{Claimed, Delivered, Outcome, Work, perform};

@@ -4,8 +4,8 @@ ghost use Rattle.mg_node.specs.Job.{LoggedJob};
 ghost use Rattle.mg_node.specs.Lawful.{LawfulWork, LawfulOutcome};
 ghost use Rattle.mg_turns.specs.Parts.{nodes_in, Fits};
 ghost use Rattle.mg_turns.specs.Calls.{key_of, view_of};
-ghost use Rattle.mg_workers.specs.Shared.{IsShared};
-ghost use Rattle.mg_seats.specs.Held.{IsSharedWith, CameOf};
+ghost use Rattle.mg_workers.specs.Shared.{IsShared, IsSharedWith};
+ghost use Rattle.mg_seats.specs.Held.{CameOf};
 
 use crate::nets::{last_of, shared_of};
 use mg_calc::Phase;

@@ -1,8 +1,8 @@
-//! Two threads on one net, whose answers add up.
+//! Threads on one net, whose answers add up.
 ghost use Rattle.std.specs.Prelude.{◌≡◌, ◌<◌, ◌≤◌, ◌+◌, ◌*◌, ◌^◌};
+ghost use Rattle.std.specs.Thread.{IsSync};
 ghost use Rattle.mg_turns.specs.Calls.{view_of};
-ghost use Rattle.mg_workers.specs.Shared.{IsShared};
-ghost use Rattle.mg_seats.specs.Held.{StaysShared};
+ghost use Rattle.mg_workers.specs.Shared.{IsShared, StaysShared};
 
 use crate::nets::{last_of, shared_of};
 use mg_route::LawBox;
@@ -91,32 +91,37 @@ fn both(net: &SharedNet<LawBox>, one: Worked, other: Worked) -> Worked
     }
 }
 
-// Two threads work, each with a half of the whole.
-fn two<R: Threads + Sync>(
+// So many threads work side by side, and at least one. The seat that comes back has what all had.
+#[cycle(many)]
+fn many<R: Threads + Sync>(
     rt: &R,
     alloc: Global,
     net: &SharedNet<LawBox>,
     seat: NetSeat<LawBox>,
+    threads: u32,
     rounds: u32,
 ) -> Worked
+    requires bounds { IsSync R.row }
     requires shared { IsShared net.now seat }
-    requires whole { (view_of seat).portion ≡ 2 ^ 32 }
+    requires portion { (threads ≤ (view_of seat).portion) × ((view_of seat).portion ≤ 2 ^ 32) }
     ensures { StaysShared net.now seat result.seat }
 {
-    let mut first = seat;
-    let second = first.split(net, 1 << 31);
-    let (one, other) = join(
-        rt,
-        move || -> Worked
-            requires { IsShared net.now first }
-            ensures { StaysShared net.entry.now first result.seat }
-        { work(alloc, net, first, rounds) },
-        move || -> Worked
-            requires { IsShared net.now second }
-            ensures { StaysShared net.entry.now second result.seat }
-        { work(alloc, net, second, rounds) },
-    );
-    both(net, one, other)
+    if threads <= 1 {
+        return work(alloc, net, seat, rounds);
+    }
+    let mut mine = seat;
+    let theirs = mine.split(net, 1);
+    let others = threads - 1;
+    let most = move || -> Worked
+        requires { IsSync R.row × IsShared net.now mine × (others ≤ (view_of mine).portion) × ((view_of mine).portion ≤ 2 ^ 32) }
+        ensures { StaysShared net.entry.now mine result.seat }
+    { many(rt, alloc, net, mine, others, rounds) };
+    let last = move || -> Worked
+        requires { IsShared net.now theirs }
+        ensures { StaysShared net.entry.now theirs result.seat }
+    { work(alloc, net, theirs, rounds) };
+    let (all, other) = join(rt, most, last);
+    both(net, all, other)
 }
 
 // A source of 1,000 packets, and a node through which they go. Each has as many calls or sets, and Close.
@@ -127,22 +132,23 @@ node { calculator: "CountingSourceCalculator" output_stream: "in"
 node { calculator: "PassThroughCalculator" input_stream: "in" output_stream: "out" }"#
 }
 
-// Two threads work, and then one works off what they left.
+// Some threads work, and then one works off what they left.
 fn all_work<R: Threads + Sync>(
     rt: &R,
     alloc: Global,
     net: &SharedNet<LawBox>,
     seat: NetSeat<LawBox>,
+    threads: u32,
 ) -> Worked
     requires shared { IsShared net.now seat }
-    requires whole { (view_of seat).portion ≡ 2 ^ 32 }
+    requires portion { (threads ≤ (view_of seat).portion) × ((view_of seat).portion ≡ 2 ^ 32) }
     ensures { StaysShared net.now seat result.seat }
 {
     let Worked {
         seat,
         done,
         brought,
-    } = two(rt, alloc, net, seat, 40);
+    } = many(rt, alloc, net, seat, threads, 40);
     let Worked {
         seat,
         done: more,
@@ -155,20 +161,30 @@ fn all_work<R: Threads + Sync>(
     }
 }
 
-#[test]
-fn the_answers_of_two_threads_add_up(rt: HostRuntime) -> Result<(), Fail> {
-    let Shared { net, seat, kept } = shared_of(rt.alloc(), counting(), "")?;
+// What some threads answer adds up: as many works are committed as there are, and as many packets are brought.
+fn add_up<R: Threads + Sync>(rt: &R, alloc: Global, threads: u32) -> Result<(), Fail> {
+    let Shared { net, seat, kept } = shared_of(alloc, counting(), "")?;
     let Worked {
         seat,
         done,
         brought,
-    } = all_work(&rt, rt.alloc(), &net, seat);
+    } = all_work(rt, alloc, &net, seat, threads);
     if done != 2002 || brought != 2000 {
         return Err(Fail::new(format_args!("{done} works, {brought} packets")));
     }
-    let last = last_of(rt.alloc(), together(net, seat, kept), 1000)?;
+    let last = last_of(alloc, together(net, seat, kept), 1000)?;
     if last.as_str() != "999@999" {
         return Err(Fail::new(format_args!("{last} is the last")));
     }
     Ok(())
+}
+
+#[test]
+fn the_answers_of_two_threads_add_up(rt: HostRuntime) -> Result<(), Fail> {
+    add_up(&rt, rt.alloc(), 2)
+}
+
+#[test]
+fn the_answers_of_four_threads_add_up(rt: HostRuntime) -> Result<(), Fail> {
+    add_up(&rt, rt.alloc(), 4)
 }

@@ -54,7 +54,11 @@ module _ (m n₁ : Sat) (first : ℕ) (p : PartView) (one : Taken m first p n₁
         (inr (refl, p, finds m n₁ first p one, ap (λ (s : Sat). s.0) is), ap (λ (s : Sat). s.1) is)
 
 pub missed_first : (m n : Sat) (first second : ℕ) → n ≡ (missing m.0 first, m.1) → MissedPair m first second first n
-missed_first m n first second miss = (inl (refl, ap (λ (s : Sat). s.0) miss), ap (λ (s : Sat). s.1) miss)
+missed_first m n first second miss = (inl (inl refl, ap (λ (s : Sat). s.0) miss), ap (λ (s : Sat). s.1) miss)
+
+-- the second was held before the first was taken
+pub held_second : (m n : Sat) (first second : ℕ) → n ≡ (missing m.0 second, m.1) → MissedPair m first second second n
+held_second m n first second miss = (inl (inr refl, ap (λ (s : Sat). s.0) miss), ap (λ (s : Sat). s.1) miss)
 
 -- the intake is back, and the engine is given back with its new note
 pub engine_again : (n n₃ : Sat) (node : ℕ) (k f : PartView) (has : Option WorkView) → GivesClaim n node k f has → rest n.1 ≡ (2 * node + 1, None) ∷ rest (rest n.1) → Follows n.0.key (2 * node + 1) f

@@ -8,7 +8,7 @@ use Rattle.mg_node.specs.declared.delivered.Delivered.{Delivered}
 use Rattle.mg_turns.specs.Parts.{PartView, an_engine, an_intake}
 use Rattle.mg_turns.specs.Sights.{sight, Missed, MissedOne, left_one, left_two, joined}
 use Rattle.mg_turns.specs.Standings.{most_seen, KnowsToo, Keeps}
-use Rattle.mg_turns.specs.Calls.{TriesClaim, TriesRaise, TriesRun, TriesAppend, TriesCommit, TriesShelve}
+use Rattle.mg_turns.specs.Calls.{TriesClaim, TriesRaise, TriesRun, TriesAppend, TriesWaiting, TriesCommit, TriesShelve}
 use Rattle.mg_turns.specs.declared.view.View.{View}
 use Rattle.mg_turns.specs.declared.tried.Tried.{Tried}
 use Rattle.mg_turns.specs.declared.tried.Tried.TheVariants.{Done, Busy}
@@ -49,6 +49,10 @@ pub append_keeps : (result : Tried Delivered) (plan : Plan) (edge : Edge) (v w :
 append_keeps (Done r) plan edge v w h = two_keep v w _ (an_engine h.engine) (2 * edge.node) (an_intake h.intake_now) v.work h.left
 append_keeps (Busy word) plan edge v w h = missed_keeps _ (2 * edge.node) word v w h
 
+pub waiting_keeps : (result : Tried ℕ) (edge : Edge) (v w : View) → TriesWaiting result edge v w → Keeps v w
+waiting_keeps (Done n) edge v w h = one_keeps v w (2 * edge.node) (an_intake h.intake) v.work h.left
+waiting_keeps (Busy word) edge v w h = only_missed_keeps (2 * edge.node) word v w h
+
 pub commit_keeps : {X : Type 0} (result : TriedCommit X) (outcome : OutcomeView) (v w : View) → TriesCommit result outcome v w → Keeps v w
 commit_keeps (Laid n) outcome v w h = one_keeps v w (2 * outcome.work.node + 1) (an_engine h.engine_now) _ h.left
 commit_keeps (CommitBusy word o) outcome v w h = only_missed_keeps (2 * outcome.work.node + 1) word v w h.0
@@ -77,6 +81,10 @@ run_work (Busy word) most node v w h = missed_work (2 * node + 1) (2 * node) wor
 pub append_work : (result : Tried Delivered) (plan : Plan) (edge : Edge) (v w : View) → TriesAppend result plan edge v w → w.work ≡ v.work
 append_work (Done r) plan edge v w h = ap (λ (x : View). x.work) h.left
 append_work (Busy word) plan edge v w h = missed_work _ (2 * edge.node) word v w h
+
+pub waiting_work : (result : Tried ℕ) (edge : Edge) (v w : View) → TriesWaiting result edge v w → w.work ≡ v.work
+waiting_work (Done n) edge v w h = ap (λ (x : View). x.work) h.left
+waiting_work (Busy word) edge v w h = ap (λ (x : View). x.work) h.1
 
 pub join_knows : (v u w : View) → w ≡ joined v u → KnowsToo v w × KnowsToo u w
 join_knows v u w is = subst (λ (x : View). KnowsToo v x × KnowsToo u x) (sym is) (λ number word. first_count number word v.seen u.seen, λ number word. both_count number word v.seen u.seen)

@@ -9,14 +9,14 @@ use lib.Seq.{set-get_or}
 use mathlib.Core.Option as maybe
 use mathlib.Core.Option.{none, some, some-injective, some-ne-none}
 use lib.ListN.{get_elem?}
-use Rattle.atomic_table.specs.Table.{State, opening, step, keeps, takes, Allows, rest}
+use Rattle.atomic_table.specs.Table.{State, opening, keeps, takes, Allows, rest}
 use Rattle.atomic_table.specs.Table as table
 use Rattle.atomic_table.proofs.Lists.{at_snoc, at_set, set_here, set_else}
 use Rattle.mg_node.specs.Views.{WorkView}
 use Rattle.mg_turns.specs.Parts.{PartView, FrameView, at, nodes_in, owner_in, tally_of, PartGrows, IsKind, Follows, Fits, AgreeParts, IsOutIn, IsMissingIn, source_at, JoinedParts}
 use Rattle.mg_turns.specs.Turns.{Turn, Sight}
 use Rattle.mg_turns.specs.Rule.{total, view, doubled, word_of, Sights, Lies, is_of, has_turn, first_view, InSlot, Noted, Shown, Ready, Orderly, Linked, Ruled}
-use Rattle.mg_turns.specs.Code.Plays.{Sat, turning, missing, left, Found, Took, HasTurn, Returns, Alike, Plainly, Lays, Claims, Brings, Kind, turn, tried}
+use Rattle.mg_turns.specs.Code.Plays.{Sat, turning, missing, left, Found, Took, HasTurn, Returns, Alike, Plainly, Lays, Claims, Brings, Kind, turn, tried_at, looked_at}
 use Rattle.mg_turns.proofs.Sums.{total-set, total-append, term_le, terms_le}
 use Rattle.mg_turns.proofs.Words.{nothing_past, no_word_of}
 use Rattle.mg_turns.proofs.Grows.{part_same, part_further, sights_further}
@@ -190,13 +190,36 @@ mine s o i j new v w t me first free sights (suc k) u at = dite (ℕ_discrete u.
     (λ z. absurd (omega (arith, has i k v u at z)))
     (λ ne. (ap (λ (y : ℕ). y / 2) (get_or-set_other s.words i u.word new 0 ne) ∙ o.tallies j k v u me at, kept s j v w u.word u.note me (sights u.word) (o.seen_held j k v u me at)))
 
-pub tries : (key : FrameView) (n id : ℕ) (m : Sat) (i : ℕ) → i < n → 0 < m.0.portion → has_turn i m.0 ≡ 0 → Allows (Ruled key) n id m i (λ y. bit_or y 1) (tried (step n i 1 0 none) m)
+-- a step that leaves a word as it was, by a seat that may have counted a miss
+unmoved : (key : FrameView) (s : State (Option PartView) View) → Ruled key s → (i id misses : ℕ) (missed : Option ℕ) (v : View) → i < length s.homes → 0 < v.portion → get_elem? s.views id ≡ some v
+    → Ruled key (record { words = set s.words i (get_or s.words i 0); homes = s.homes; views = set s.views id (view v.key v.portion misses v.splits missed v.turns v.work v.seen) })
+unmoved key s ro i id misses missed v near alive me =
+    let o : Orderly key s = ro.0 in let l : Linked key s.homes s.views = ro.1 in
+    let x : ℕ = get_or s.words i 0 in
+    let w : View = view v.key v.portion misses v.splits missed v.turns v.work v.seen in
+    let same = set-get_or s.words i 0 in (
+      changed key s o i id x v w s.homes me near refl refl alive refl (λ r _. refl)
+          (λ k u at. (ap (λ (l : List ℕ). get_or l u.word 0 / 2) same ∙ o.tallies id k v u me at, kept s id v w u.word u.note me (λ q h. h) (o.seen_held id k v u me at)))
+          (λ k u _ at some-turn. (refl, λ q h. h))
+          (λ r _ q h. h)
+          (λ q even at-i. kept s id v w i q me (λ p h. h) (o.seen_free i q near even at-i))
+          refl (λ r _. refl) (λ even. o.free i near even) (λ odd. o.taken i near odd),
+      links_miss key s.homes s.views l id v w me refl refl alive,
+    )
+
+pub looks : (key : FrameView) (n id : ℕ) (m : Sat) (i : ℕ) → i < n → 0 < m.0.portion → Allows (Ruled key) n id m i (λ y. y) (looked_at i m)
+looks key n id m i inside alive s ro long me _ =
+    let near : i < length s.homes = omega arith in
+    dite (ℕ_discrete (get_or s.words i 0 % 2) 0)
+    (λ even. (m.0, keeps, tt, unmoved key s ro i id m.0.misses m.0.missed m.0 near alive me, (λ _. refl, λ odd. absurd (omega arith))))
+    (λ ne. (missing m.0 i, keeps, tt, unmoved key s ro i id (m.0.misses + 1) (Some i) m.0 near alive me, (λ even. absurd (ne even), λ _. refl)))
+
+pub tries : (key : FrameView) (n id : ℕ) (m : Sat) (i : ℕ) → i < n → 0 < m.0.portion → has_turn i m.0 ≡ 0 → Allows (Ruled key) n id m i (λ y. bit_or y 1) (tried_at i m)
 tries key n id m i inside alive free s ro long me _ =
     let o : Orderly key s = ro.0 in let l : Linked key s.homes s.views = ro.1 in
     let x : ℕ = get_or s.words i 0 in
     let near : i < length s.homes = omega arith in
     let wide = o.wide in
-    let same = set-get_or s.words i 0 in
     let key-is : m.0.key ≡ key = o.keyed id m.0 me alive in
     dite (ℕ_discrete (x % 2) 0)
     (λ even.
@@ -246,20 +269,12 @@ tries key n id m i inside alive free s ro long me _ =
       ),
     ))
     (λ ne.
-    let w : View = missing m.0 i in
     let odd : x % 2 ≡ 1 = omega arith in (
-      w,
+      missing m.0 i,
       keeps,
       tt,
-      (
-        subst (λ (y : ℕ). Orderly key (record { words = set s.words i y; homes = s.homes; views = set s.views id w })) (sym (or_odd x odd))
-            (changed key s o i id x m.0 w s.homes me near refl refl alive refl (λ r _. refl)
-            (λ k u at. (ap (λ (l : List ℕ). get_or l u.word 0 / 2) same ∙ o.tallies id k m.0 u me at, kept s id m.0 w u.word u.note me (λ q h. h) (o.seen_held id k m.0 u me at)))
-            (λ k u _ at some-turn. (refl, λ q h. h))
-            (λ r _ q h. h) (λ q e. absurd (ne e))
-            refl (λ r _. refl) (λ even. absurd (ne even)) (λ _. o.taken i near odd)),
-        links_miss key s.homes s.views l id m.0 w me refl refl alive,
-      ),
+      subst (λ (y : ℕ). Ruled key (record { words = set s.words i y; homes = s.homes; views = set s.views id (missing m.0 i) })) (sym (or_odd x odd))
+          (unmoved key s ro i id (m.0.misses + 1) (Some i) m.0 near alive me),
       (λ even. absurd (ne even), λ _. refl),
     ))
 

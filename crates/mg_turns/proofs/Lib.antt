@@ -9,6 +9,7 @@ pub mod Keeps
 pub mod Gives
 pub mod Shares
 pub mod Ends
+pub mod Apart
 pub mod Claims
 pub mod Backs
 pub mod ArrivesWithin
@@ -22,4 +23,5 @@ pub mod Committed
 pub mod Telling
 pub mod Brought
 pub mod Ways
+pub mod Counting
 pub mod Sent

@@ -1,7 +1,10 @@
 -- A seat may cross threads, and a net be shared by them, where the calculators may cross.
 use denote.RattleType.{RattleType}
 use denote.Struct.Declared.{shape}
-use denote.Param.Send.{IsSend, IsSync, struct_send, struct_sync, sendable}
+use denote.Struct.Field.{rows}
+use denote.Struct.Tuple.{TupleAt, type_at, parts}
+use denote.Param.Send.{IsSend, IsSync, AllSend, struct_send, struct_sync, recorded_send, recorded_sync, sendable}
+use Rattle.std.proofs.Common.{List, [], ◌∷◌}
 use Rattle.std.proofs.Crossing as heap
 use Rattle.std.proofs.Crossing.{crosses}
 use Rattle.std.specs.contracts.option.Option as Maybe
@@ -50,3 +53,17 @@ module _ (C : RattleType) (g : Ghosts C.Denot) (s : IsSend C) where
         slot heap.send heap.sync heap.frees,
     (search sendable, (search sendable, (search (way, way_field, sendable, crosses) depth 20 fits 20000, (Room.the_field_sync (Part.the_row C g) part, tt)))),
   )
+
+  pub net_seat_row : IsSend (NetSeat.the_row C g)
+  net_seat_row = recorded_send (NetSeat.the_field C g).row _ _ (NetSeat.the_type C g).to_one net_seat
+
+  pub net_row : IsSync (SharedNet.the_row C g)
+  net_row = recorded_sync (SharedNet.the_field C g).row _ _ (SharedNet.the_type C g).to_one net
+
+all_rows : (Ts : List RattleType) → AllSend Ts → AllSend (rows (parts Ts))
+all_rows [] s = tt
+all_rows (T ∷ Ts) s = (s.0, all_rows Ts s.1)
+
+-- A closure may cross threads where all that it captures may. Its name says nothing of that.
+pub closure : (Ts : List RattleType) → AllSend Ts → IsSend (TupleAt [] Ts)
+closure Ts s = recorded_send _ _ _ (type_at [] Ts).to_one (struct_send (shape (type_at [] Ts)) (all_rows Ts s))

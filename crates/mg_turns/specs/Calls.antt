@@ -1,5 +1,5 @@
 -- What the calls of a shared net say, by what the seat knew before and knows after.
-use Rattle.std.specs.Prelude.{◌≡◌, ℕ, ◌+◌, ◌*◌, ◌<◌, ◌≤◌, ◌⊎◌, ⊤, Bool, Option, None, Some}
+use Rattle.std.specs.Prelude.{◌≡◌, ℕ, ◌+◌, ◌*◌, ◌<◌, ◌≤◌, ◌⊎◌, ⊤, Bool, Option, None, Some, length}
 use Rattle.mg_calc.specs.declared.calculator.Calculator.{Ghosts}
 use Rattle.mg_calc.specs.declared.edge.Edge.{Edge}
 use Rattle.mg_calc.specs.declared.plan.Plan.{Plan}
@@ -109,6 +109,17 @@ pub record HasBrought (result : Delivered) (source : ℕ) (edge : Edge) (v w : V
 abbrev pub TriesAppend : Tried Delivered → Plan → Edge → View → View → Type 0
 TriesAppend (Done result) plan edge v w = HasBrought result (source_at plan edge) edge v w
 TriesAppend (Busy word) plan edge v w = Missed (source_at plan edge) (2 * edge.node) word v w
+
+-- so many packets wait at the port of an edge, in the intake that was found, which is left as it is
+pub record HasCounted (waiting : ℕ) (edge : Edge) (v w : View) : Type 0 where
+  pub intake : IntakeView
+  pub found : Finds v (2 * edge.node) (an_intake intake)
+  pub waits : waiting ≡ length (port_queue intake.waits edge.port).packets
+  pub left : w ≡ left_one v (2 * edge.node) (an_intake intake) v.work
+
+abbrev pub TriesWaiting : Tried ℕ → Edge → View → View → Type 0
+TriesWaiting (Done waiting) edge v w = HasCounted waiting edge v w
+TriesWaiting (Busy word) edge v w = MissedOne (2 * edge.node) word v w
 
 -- the work that a seat has is this one, whatever its calculator has done
 pub record HasOutcome (has : Option WorkView) (work : WorkView) : Type 0 where

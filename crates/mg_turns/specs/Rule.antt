@@ -1,5 +1,5 @@
 -- The rule of the table. The lowest bit of a word says that a seat has its turn.
-use Rattle.std.specs.Prelude.{◌≡◌, ◌≢◌, ℕ, ◌+◌, ◌*◌, ◌/◌, ◌%◌, ◌<◌, ◌≤◌, ◌==◌, ◌⊎◌, List, [], ◌∷◌, length, map, slice_index, slice_get, cond, Option, None, Some}
+use Rattle.std.specs.Prelude.{◌≡◌, ◌≢◌, ℕ, zero, suc, ◌+◌, ◌*◌, ◌/◌, ◌%◌, ◌<◌, ◌≤◌, ◌==◌, ◌⊎◌, List, [], ◌∷◌, length, map, drop, slice_index, slice_get, cond, Option, None, Some}
 use mathlib.Core.Option.{some, none}
 use mathlib.Core.Option as maybe
 use lib.ListN.{get_elem?}
@@ -109,3 +109,16 @@ pub record Ready (key : FrameView) : Type 0 where
 
 abbrev pub Ruled : FrameView → State (Option PartView) View → Type 0
 Ruled key s = Orderly key s × Linked key s.homes s.views
+
+-- The words of the parts stand eight apart in the table, so that those of two parts are never in one line of a cache. What stands
+-- between them says nothing.
+abbrev pub each_eighth : ℕ → List ℕ → List ℕ
+each_eighth zero words = []
+each_eighth (suc n) words = slice_index words 0 ∷ each_eighth n (drop 8 words)
+
+-- a table with the words of its parts alone
+abbrev pub parts_alone : FrameView → State (Option PartView) View → State (Option PartView) View
+parts_alone key s = record { words = each_eighth (length key.parts) s.words; homes = s.homes; views = s.views }
+
+abbrev pub RuledApart : FrameView → State (Option PartView) View → Type 0
+RuledApart key s = (length s.words ≡ 8 * length key.parts) × Ruled key (parts_alone key s)

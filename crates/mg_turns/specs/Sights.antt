@@ -18,11 +18,11 @@ pub record Finds (v : View) (word : ℕ) (p : PartView) : Type 0 where
 abbrev pub sight : ℕ → PartView → Sight
 sight word p = record { word = word; part = p }
 
--- the seat knows one word more as held: it counts one more miss, and names the word. A part that it had by then is back as it was
--- found, and the seat has a sight of it.
+-- one of two words was found held: the seat counts one more miss, and names the word. Where it had the first turn by then, that part is
+-- back as it was found, and the seat has a sight of it.
 abbrev pub Missed : ℕ → ℕ → ℕ → View → View → Type 0
 Missed first second word v w =
-    ((word ≡ first) × (w ≡ view v.key v.portion (v.misses + 1) v.splits (Some first) v.turns v.work v.seen))
+    (((word ≡ first) ⊎ (word ≡ second)) × (w ≡ view v.key v.portion (v.misses + 1) v.splits (Some word) v.turns v.work v.seen))
     ⊎ ((word ≡ second) × (p : PartView) × Finds v first p × (w ≡ view v.key v.portion (v.misses + 1) v.splits (Some second) v.turns v.work (sight first p ∷ v.seen)))
 
 -- the seat left the part of one word, and has this work

@@ -1,5 +1,5 @@
 //! The memory that a table of parts takes, and how the parts go in and come out again.
-ghost use Rattle.std.specs.Prelude.{◌≡◌, ◌≤◌, ◌^◌, [], length, map, replicate, zero, vec_capacity, IfOk, Some};
+ghost use Rattle.std.specs.Prelude.{◌≡◌, ◌≤◌, ◌*◌, ◌^◌, [], length, map, replicate, zero, vec_capacity, IfOk, Some};
 ghost use Rattle.mg_turns.specs.Rule.{Ready};
 ghost use Rattle.mg_turns.specs.Code.Stored.{somes};
 ghost use Rattle.mg_turns.specs.Code.Ways.{way_of};
@@ -20,7 +20,7 @@ pub(crate) struct Rooms<C: Calculator> {
     pub room: Room<Part<C>>,
 }
 
-// So many words of parts to which nothing came.
+// So many words of 0.
 fn free_words(alloc: Global, size: usize) -> Result<Vec<u64>, AllocError>
     ensures { IfOk result (λ w. w.items ≡ replicate size zero) }
 {
@@ -36,13 +36,13 @@ impl<C: Calculator> Rooms<C> {
     pub fn new(alloc: Global, frame: &Frame<C>) -> Result<Rooms<C>, AllocError>
         requires ready { Ready frame.now }
         requires few { length frame.now.parts ≤ 2 ^ 32 }
-        ensures words { IfOk result (λ r. r.words.items ≡ replicate (length frame.now.parts) zero) }
+        ensures words { IfOk result (λ r. r.words.items ≡ replicate (8 * length frame.now.parts) zero) }
         ensures ways { IfOk result (λ r. r.ways.items ≡ map (way_of frame.now.plan) frame.now.plan.edges) }
         ensures slots { IfOk result (λ r. (r.slots.items ≡ []) × (length frame.now.parts ≤ vec_capacity r.slots)) }
         ensures room { IfOk result (λ r. r.room.table.shared.key ≡ length frame.now.parts) }
     {
         let size = frame.parts.len();
-        let words = free_words(alloc, size)?;
+        let words = free_words(alloc, 8 * size)?;
         let ways = ways_of(alloc, &frame.plan)?;
         let slots = Vec::with_capacity(alloc, size)?;
         let room = Room::new(alloc, size)?;

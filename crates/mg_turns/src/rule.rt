@@ -1,4 +1,4 @@
-ghost use Rattle.mg_turns.specs.Code.Plays.{tried, spent_view};
+ghost use Rattle.mg_turns.specs.Code.Plays.{looked, tried, spent_view};
 ghost use Rattle.mg_turns.specs.Sights.{kept_after, handed, joined};
 ghost use Rattle.std.specs.Prelude.{◌≡◌, ℕ};
 ghost use Rattle.atomic_table.specs.Table.{rest};
@@ -16,9 +16,9 @@ pub type Key<C> = Snapshot<Frame<C>>;
 pub struct Law;
 
 impl<C: Calculator> TableRule<Option<Part<C>>, View, Key<C>> for Law {
-    ghost use Rattle.mg_turns.specs.Rule.{Ruled, first_view};
+    ghost use Rattle.mg_turns.specs.Rule.{RuledApart, first_view};
 
-    ghost holds = { λ key. Ruled key.value };
+    ghost holds = { λ key. RuledApart key.value };
 
     ghost first = { λ key. first_view key.value };
 }
@@ -27,6 +27,12 @@ pub struct Try;
 
 impl<C: Calculator> Play<Option<Part<C>>, View> for Try {
     ghost then = { tried };
+}
+
+pub struct Look;
+
+impl<C: Calculator> Play<Option<Part<C>>, View> for Look {
+    ghost then = { looked };
 }
 
 /// The view of a seat after a step. A call picks it.

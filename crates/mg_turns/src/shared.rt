@@ -6,6 +6,7 @@ mod appending;
 mod claiming;
 mod committing;
 mod turning;
+mod waiting;
 
 use crate::memory::{Rooms, all_in, all_out};
 use crate::room::Room;
@@ -19,7 +20,8 @@ use mg_calc::Calculator;
 use std::alloc::Global;
 use std::snapshot::Snapshot;
 
-/// A net that threads share. Each of its parts has a word, which says whether a seat has the part's turn, and a slot.
+/// A net that threads share. Each of its parts has a word, which says whether a seat has the part's turn, and a slot. The words stand
+/// eight apart, so that those of two parts are never in one line of a cache.
 #[derive(Drop)]
 pub struct SharedNet<C: Calculator> {
     pub(crate) table: Table<Option<Part<C>>, View, Key<C>, Law, Global>,
@@ -29,7 +31,7 @@ pub struct SharedNet<C: Calculator> {
     // For the parts that come back.
     room: Room<Part<C>>,
     ghost roomy: { room.table.shared.key ≡ size },
-    ghost sized: { (table.shared.table_id.words ≡ size) × (table.shared.table_id.slots ≡ size) × (size ≤ 2 ^ 32) },
+    ghost sized: { (table.shared.table_id.words ≡ 8 * size) × (table.shared.table_id.slots ≡ size) × (size ≤ 2 ^ 32) },
     ghost framed: { (nodes_in table.shared.key.value ≡ nodes) × (length table.shared.key.value.parts ≡ size) × (2 * nodes < size) },
     ghost led: { ways.items ≡ map (way_of table.shared.key.value.plan) table.shared.key.value.plan.edges },
 }

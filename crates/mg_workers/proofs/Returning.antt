@@ -178,6 +178,7 @@ module _ (job : LoggedJob) (ps : PartsView) (h : ArePartsOf job ps) (v : View) (
           let old = found ps.engines e.node (omega (arith, low, c)) in
           h.rest.counts number e q old.0 at_e at_q low old.1 (going_before old.0 engine (grew e.node old.0 engine low old.1 there) going);
       spare = h.rest.spare;
+      kept = h.rest.kept;
     };
   }
 

@@ -45,8 +45,19 @@ abbrev pub Took : Sat → ℕ → ℕ → Sat → Type 0
 Took m word r n = (p : PartView) × (n ≡ (turning m.0 (turn m.0.key word p ∷ m.0.turns), (word, Some p) ∷ m.1)) × Found word p m.0 × (r ≡ word_of m.0.key word p)
 
 -- the turn of a free word is taken, and a held one is missed
+abbrev pub tried_at : ℕ → Sat → ℕ → Sat → Type 0
+tried_at word m r n = (r % 2 ≡ 0 → Took m word r n) × (r % 2 ≡ 1 → n ≡ (missing m.0 word, m.1))
+
+-- the words stand eight apart
 abbrev pub tried : Play
-tried st m r n = (r % 2 ≡ 0 → Took m st.word r n) × (r % 2 ≡ 1 → n ≡ (missing m.0 st.word, m.1))
+tried st = tried_at (st.word / 8)
+
+-- a word is looked at: a held one is missed
+abbrev pub looked_at : ℕ → Sat → ℕ → Sat → Type 0
+looked_at word m r n = (r % 2 ≡ 0 → n ≡ m) × (r % 2 ≡ 1 → n ≡ (missing m.0 word, m.1))
+
+abbrev pub looked : Play
+looked st = looked_at (st.word / 8)
 
 -- the same turns, whose notes may have grown
 abbrev pub Alike : List Turn → List Turn → Type 0

@@ -54,7 +54,7 @@ impl<C: Calculator> SharedNet<C> {
     }
 
     // The edge of a number, with the word of its engine.
-    fn way(&self, number: u32) -> Way
+    pub(super) fn way(&self, number: u32) -> Way
         requires { number < length (key_of self.now).plan.edges }
         ensures edge { slice_get (key_of self.now).plan.edges number ≡ Some result.edge }
         ensures source { result.source ≡ source_at (key_of self.now).plan result.edge }

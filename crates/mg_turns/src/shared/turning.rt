@@ -1,5 +1,5 @@
 //! How turns are taken, and how they are given back with their parts.
-ghost use Rattle.std.specs.Prelude.{◌≡◌, ◌≢◌, ◌<◌, ◌≤◌, ◌+◌, ◌*◌, ◌-◌, ◌%◌, ◌∷◌, MatchOption, MatchResult, IfSome, None, Some, length};
+ghost use Rattle.std.specs.Prelude.{◌≡◌, ◌≢◌, ◌<◌, ◌≤◌, ◌+◌, ◌*◌, ◌-◌, ◌%◌, ◌∷◌, MatchBool, MatchOption, MatchResult, IfSome, None, Some, length};
 ghost use Rattle.atomic_table.specs.Table.{rest};
 ghost use Rattle.mg_turns.specs.Parts.{Follows, an_engine, an_intake};
 ghost use Rattle.mg_turns.specs.Rule.{word_of, has_turn};
@@ -9,13 +9,30 @@ ghost use Rattle.mg_turns.specs.Code.Plays.{Took, Holds, HasTurn, Returns, Kind,
 use super::SharedNet;
 use crate::Part;
 use crate::held::{Held, HeldCell, Pair, counted};
-use crate::rule::{After, Give, Try};
+use crate::rule::{After, Give, Look, Try};
 use crate::seat::Seat;
 use mg_calc::Calculator;
 use mg_node::Claimed;
 use std::marker::Brand;
 
+// Where a word stands in the table.
+fn place(word: u32) -> usize
+    ensures { result ≡ 8 * word }
+{
+    8 * word as usize
+}
+
 impl<C: Calculator> SharedNet<C> {
+    // Looks whether another seat has the turn of a word, and counts a miss if so.
+    fn is_held(&self, seat: &mut Seat<C>, word: u32) -> bool
+        requires { (seat.old.table_id ≡ self.now.table.shared.table_id) × (word < self.now.size) × (0 < seat.old.me.0.portion) }
+        ensures id { seat.new.table_id ≡ seat.old.table_id }
+        ensures held { MatchBool result (seat.new.me ≡ (missing seat.old.me.0 word, seat.old.me.1)) (seat.new.me ≡ seat.old.me) }
+    {
+        let found = self.table.shared.load::<Look>(seat, place(word));
+        found % 2 == 1
+    }
+
     // Takes the turn of a word, or counts a miss. It tells what the word was.
     fn try_turn(&self, seat: &mut Seat<C>, word: u32) -> u64
         requires { (seat.old.table_id ≡ self.now.table.shared.table_id) × (word < self.now.size) × (0 < seat.old.me.0.portion) × (has_turn word seat.old.me.0 ≡ 0) }
@@ -23,7 +40,8 @@ impl<C: Calculator> SharedNet<C> {
         ensures taken { result % 2 ≡ 0 → Took seat.old.me word result seat.new.me }
         ensures missed { result % 2 ≡ 1 → seat.new.me ≡ (missing seat.old.me.0 word, seat.old.me.1) }
     {
-        self.table.shared.fetch_or::<Try>(seat, word as usize, 1)
+        let found = self.table.shared.fetch_or::<Try>(seat, place(word), 1);
+        found
     }
 
     // Takes the part out of the slot of the turn that was taken last.
@@ -59,12 +77,7 @@ impl<C: Calculator> SharedNet<C> {
     }
 
     // Takes the turns of an engine and an intake, in this order, with their parts. Where the second is missed, the first is given back.
-    pub(super) fn take_pair(
-        &self,
-        seat: &mut Seat<C>,
-        engine: u32,
-        intake: u32,
-    ) -> Result<Pair<C>, u32>
+    fn take_both(&self, seat: &mut Seat<C>, engine: u32, intake: u32) -> Result<Pair<C>, u32>
         requires id { (seat.old.table_id ≡ self.now.table.shared.table_id) × (engine < self.now.size) × (intake < self.now.size) × (engine ≢ intake) }
         requires idle { (0 < seat.old.me.0.portion) × (length seat.old.me.0.turns ≡ 0) }
         ensures id { seat.new.table_id ≡ seat.old.table_id }
@@ -83,6 +96,25 @@ impl<C: Calculator> SharedNet<C> {
         })
     }
 
+    // The same, but where the second is held by now, the first isn't taken at all.
+    pub(super) fn take_pair(
+        &self,
+        seat: &mut Seat<C>,
+        engine: u32,
+        intake: u32,
+    ) -> Result<Pair<C>, u32>
+        requires id { (seat.old.table_id ≡ self.now.table.shared.table_id) × (engine < self.now.size) × (intake < self.now.size) × (engine ≢ intake) }
+        requires idle { (0 < seat.old.me.0.portion) × (length seat.old.me.0.turns ≡ 0) }
+        ensures id { seat.new.table_id ≡ seat.old.table_id }
+        ensures taken { MatchResult result (λ p. TakenPair seat.old.me engine p.engine.part p.engine.word intake p.intake.part p.intake.word seat.new.me) (λ word. MissedPair seat.old.me engine intake word seat.new.me) }
+    {
+        if self.is_held(seat, intake) {
+            return Err(intake);
+        }
+        let pair = self.take_both(seat, engine, intake)?;
+        Ok(pair)
+    }
+
     // Gives back the turn that was taken last, and the part. The view is then the one that the call picks.
     fn give_back<N: After>(&self, seat: &mut Seat<C>, word: u32, held: Held<C>)
         requires id { (seat.old.table_id ≡ self.now.table.shared.table_id) × (word < self.now.size) }
@@ -96,7 +128,7 @@ impl<C: Calculator> SharedNet<C> {
     {
         let Held { part, word: new } = held;
         drop(self.table.shared.exchange(seat, word as usize, Some(part)));
-        self.table.shared.store::<Give<N>>(seat, word as usize, new)
+        self.table.shared.store::<Give<N>>(seat, place(word), new)
     }
 
     // Gives a part back of which nothing was claimed or laid.

@@ -1,7 +1,8 @@
 use Rattle.std.proofs.Common.{sym, subst}
 use Rattle.mg_node.specs.Views.{WorkView, OutcomeView}
 use Rattle.mg_turns.specs.Calls.{key_of}
-use Rattle.mg_crew.specs.Code.Seats.{IsSharedWith, FitsWork}
+use Rattle.mg_workers.specs.Shared.{IsSharedWith}
+use Rattle.mg_crew.specs.Code.Seats.{FitsWork}
 use Rattle.mg_crew.proofs.Sharing.{some_job_has, performed_work}
 use Rattle.mg_crew.proofs.commits.finish.Goals as goal
 

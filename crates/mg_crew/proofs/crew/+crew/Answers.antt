@@ -9,10 +9,9 @@ use denote.Param.Send.{IsSend, IsSync, AllSend, shr_send, param_send, sendable}
 use mir.Syntax.{named}
 use Rattle.std.proofs.Common.{List, [], ◌∷◌}
 use Rattle.std.specs.contracts.alloc.Global as Global
-use Rattle.std.specs.contracts.option.Option as Maybe
-use Rattle.mg_levels.specs.contracts.seat.LevelSeat as LevelSeat
 use Rattle.mg_turns.specs.contracts.seat.NetSeat as NetSeat
 use Rattle.mg_turns.specs.contracts.shared.SharedNet as SharedNet
+use Rattle.mg_crew.specs.contracts.putting.Place as Place
 use Rattle.mg_crew.specs.contracts.shop.Tools as Tools
 use Rattle.mg_crew.proofs.Sent.{closure, net_row, tools_row, seat_row, place_row}
 use Rattle.mg_crew.proofs.crew.+crew.Lts-crew as Lts
@@ -28,7 +27,7 @@ captured g a b c d =
     ∷ ShrRef (named 0) c (param 2 g.row.G)
     ∷ ShrRef (named 0) d (param 1 g.row.R)
     ∷ NetSeat.the_row (param 0 g.row.C) g.C.Calculator
-    ∷ Maybe.the_row LevelSeat.the_row
+    ∷ Place.the_row
     ∷ u32-field.row
     ∷ []
 

@@ -1,14 +1,12 @@
-use Rattle.std.proofs.Common.{subst, ℕ}
-use Rattle.mg_calc.specs.Plan.{HasEachOnce}
-use Rattle.mg_levels.specs.Levels.{order_of}
+use Rattle.mg_crew.proofs.Levelled.{tools_for, first_place}
 use Rattle.mg_crew.proofs.Sharing.{stays_itself}
 use Rattle.mg_crew.proofs.running.run_shared.Goals as goal
 
 pub crew-requires-clause-at_work : goal.crew-requires-clause-at_work
 crew-requires-clause-at_work g c κs within = record {
   shared = c.requires.shared;
-  ordered = subst (λ (n : ℕ). HasEachOnce n (order_of c.in-Ok.tools.levels)) c.requires.nodes c.in-Ok.ensures.levels;
-  placed = c.in-Ok.ensures.place.0;
+  fits = tools_for c.args.net.now c.args.plan.now c.in-Ok.tools c.requires.plan c.in-Ok.ensures.levels c.in-Ok.ensures.places c.in-Ok.ensures.edges;
+  placed = first_place c.in-Ok.tools.levels c.new.result c.in-Ok.place c.new.ensures.0 c.new.ensures.1 c.in-Ok.ensures.place.0;
 }
 
 pub returns-in-Err : goal.returns-in-Err

@@ -1,14 +1,13 @@
-use Rattle.std.proofs.Common.{◌∙◌, ap, inl, inr, length, sym, subst}
-use Rattle.mg_calc.specs.declared.plan.Plan.{Plan}
-use Rattle.mg_calc.specs.Plan.{HasEachOnce}
-use Rattle.mg_crew.proofs.Levelled.{kept_order, kept_nodes, goes_on}
+use Rattle.std.proofs.Common.{◌∙◌, inl, inr, sym, subst}
+use Rattle.mg_calc.specs.Plan.{IsValid}
+use Rattle.mg_crew.proofs.Levelled.{kept_plan, kept_valid, goes_on}
 use Rattle.mg_crew.proofs.running.run_workers.Goals as goal
 
-pub run_shared-seat-requires-clause-order : goal.run_shared-seat-requires-clause-order
-run_shared-seat-requires-clause-order g c κs within = subst (λ (p : Plan). HasEachOnce (length p.nodes) p.order) (sym c.plan.ensures) (kept_order _ _ _ c.requires.stands c.in-Ok.ensures.of)
+pub run_shared-seat-requires-clause-valid : goal.run_shared-seat-requires-clause-valid
+run_shared-seat-requires-clause-valid g c κs within = subst IsValid (sym c.plan.ensures) (kept_valid _ _ _ c.requires.stands c.in-Ok.ensures.of)
 
-pub run_shared-seat-requires-clause-nodes : goal.run_shared-seat-requires-clause-nodes
-run_shared-seat-requires-clause-nodes g c κs within = ap (λ (p : Plan). length p.nodes) c.plan.ensures ∙ kept_nodes _ _ _ c.in-Ok.ensures.of
+pub run_shared-seat-requires-clause-plan : goal.run_shared-seat-requires-clause-plan
+run_shared-seat-requires-clause-plan g c κs within = c.plan.ensures ∙ kept_plan _ _ _ c.in-Ok.ensures.of
 
 pub unshare-requires-clause-whole : goal.unshare-requires-clause-whole
 unshare-requires-clause-whole g c = c.run_shared-seat.ensures.portion ∙ c.in-Ok.ensures.whole

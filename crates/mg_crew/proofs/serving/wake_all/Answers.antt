@@ -1,8 +1,28 @@
-use Rattle.mg_crew.proofs.Levelled.{stays_at_work, works_on}
+use Rattle.std.proofs.Common.{◌<◌, ℕ, Option, IfSome, sym, subst}
+use Rattle.mg_sched.proofs.Sweeping.{edges_left, fewer_edges, second_of}
+use Rattle.mg_crew.proofs.Levelled.{at_work_still, stays_at_work, works_on}
 use Rattle.mg_crew.proofs.serving.wake_all.Goals as goal
 
-pub loop-lead-init : goal.loop-lead-init
-loop-lead-init g c = stays_at_work _ _ _ _ c.requires.at_work
+pub edges-init : goal.edges-init
+edges-init g c = record { stays = stays_at_work _ _ _ _ c.requires.at_work; there = c.first-cursor.ensures }
 
-pub loop-lead-preserved : goal.loop-lead-preserved
-loop-lead-preserved g c = works_on _ _ _ _ _ _ _ c.loop-lead.invariant c.wake-more.ensures
+pub wake-more-requires-clause-at_work : goal.wake-more-requires-clause-at_work
+wake-more-requires-clause-at_work g c = at_work_still _ _ _ _ _ _ c.requires.at_work c.edges.invariant.stays
+
+pub wake-more-requires-clause-edge : goal.wake-more-requires-clause-edge
+wake-more-requires-clause-edge g c = subst (λ (o : Option ℕ). IfSome o (λ e. e < c.args.shop.now.tools.now.chart.from.edges)) c.in-Some.is c.edges.invariant.there
+
+pub next-cursor-requires : goal.next-cursor-requires
+next-cursor-requires g c = subst (λ (o : Option ℕ). IfSome o (λ e. e < c.args.shop.now.tools.now.chart.from.edges)) c.in-Some.is c.edges.invariant.there
+
+pub edges-smaller : goal.edges-smaller
+edges-smaller g c =
+    (let count = c.args.shop.now.tools.now.chart.from.edges in
+    let there = subst (λ (o : Option ℕ). IfSome o (λ e. e < count)) c.in-Some.is c.edges.invariant.there in
+    subst (λ (o : Option ℕ). edges_left count c.next-cursor.result < edges_left count o) (sym c.in-Some.is) (fewer_edges count c.in-Some.edge c.next-cursor.result there c.next-cursor.ensures))
+
+pub edges-preserved : goal.edges-preserved
+edges-preserved g c = record {
+  stays = works_on _ _ _ _ _ _ _ c.edges.invariant.stays c.wake-more.ensures;
+  there = second_of c.next-cursor.result c.in-Some.edge c.args.shop.now.tools.now.chart.from.edges c.next-cursor.ensures;
+}

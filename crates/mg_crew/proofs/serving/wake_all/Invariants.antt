@@ -1,5 +1,14 @@
+-- Each edge stands behind the last one.
+use Rattle.std.proofs.Common.{◌<◌, IfSome}
+use Rattle.mg_sched.proofs.Sweeping.{edges_left}
 use Rattle.mg_crew.specs.Code.Seats.{StaysAtWork}
 use Rattle.mg_crew.proofs.serving.wake_all.Given as goal
 
-abbrev pub invariant-loop-lead : goal.invariant-loop-lead
-invariant-loop-lead g l = StaysAtWork l.shop.net.now l.shop.tools.now.levels l.initial.seat l.seat l.place
+abbrev pub invariant-edges : goal.invariant-edges
+invariant-edges g l = record {
+  stays : StaysAtWork l.shop.net.now l.shop.tools.now l.fn.seat l.seat l.place;
+  there : IfSome l.cursor (λ e. e < l.shop.tools.now.chart.from.edges);
+}
+
+abbrev pub decreases-edges : goal.decreases-edges
+decreases-edges g l = edges_left l.shop.tools.now.chart.from.edges l.cursor

@@ -1,4 +1,4 @@
-use Rattle.mg_seats.specs.Held.{StaysShared}
+use Rattle.mg_workers.specs.Shared.{StaysShared}
 use Rattle.mg_test_turns.proofs.threads.run_all.Given as goal
 
 abbrev pub invariant-loop-node : goal.invariant-loop-node

@@ -1,4 +1,4 @@
-use Rattle.mg_seats.specs.Held.{StaysShared}
+use Rattle.mg_workers.specs.Shared.{StaysShared}
 use Rattle.mg_test_turns.proofs.threads.work.Given as goal
 
 abbrev pub invariant-loop : goal.invariant-loop

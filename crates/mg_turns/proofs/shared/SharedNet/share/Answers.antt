@@ -1,13 +1,13 @@
 use Rattle.std.proofs.Common.{ap, ◌∙◌, map, Some}
 use Rattle.mg_turns.specs.Parts.{FrameView}
-use Rattle.mg_turns.proofs.Keeps.{starts}
-use Rattle.mg_turns.proofs.Shares.{no_words, back_again}
+use Rattle.mg_turns.proofs.Apart.{starts_apart}
+use Rattle.mg_turns.proofs.Shares.{back_again}
 use Rattle.mg_turns.proofs.shared.SharedNet.share.Goals as goal
 
 pub new-requires-2 : goal.new-requires-2
 new-requires-2 g c =
     let parts = ap (λ (f : FrameView). map Some f.parts) c.frame.view_is in
-    rw c.of-key.ensures (starts c.args.frame _ _ (c.deref.ensures.value ∙ (c.in-Ok.ensures.words ∙ no_words c.args.frame.parts)) (c.all_in-slots.ensures ∙ parts) c.requires.ready)
+    rw c.of-key.ensures (starts_apart c.args.frame _ _ (c.deref.ensures.value ∙ c.in-Ok.ensures.words) (c.all_in-slots.ensures ∙ parts) c.requires.ready)
 
 pub returns-clause-unchanged : goal.returns-clause-unchanged
 returns-clause-unchanged g c =

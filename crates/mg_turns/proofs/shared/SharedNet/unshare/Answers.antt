@@ -3,18 +3,19 @@ use Rattle.std.specs.Mem.Slots.{slots_counts, slots_filled}
 use mathlib.Core.Logic.{dite}
 use native.Mathlib.Decide.{ℕ_discrete}
 use Rattle.mg_turns.specs.Calls.{key_of}
-use Rattle.mg_turns.proofs.Ends.{settled, not_none, one_more, came_back}
+use Rattle.mg_turns.proofs.Apart.{settled_apart}
+use Rattle.mg_turns.proofs.Ends.{not_none, one_more, came_back}
 use Rattle.mg_turns.proofs.shared.SharedNet.unshare.Goals as goal
 
 pub unreachable-requires : goal.unreachable-requires
 unreachable-requires g c =
-    let all = settled _ _ _ _ _ c.requires.whole c.args.seat.idle.1 c.requires.free c.close_with-closed.ensures.values.2 in
+    let all = settled_apart _ _ _ _ _ c.requires.whole c.args.seat.idle.1 c.requires.free c.close_with-closed.ensures.values.2 in
     let n = slots_counts c.close_with-closed.result.slots in
     not_none _ _ _ _ _ (all.homes c.loop-i.i (omega (arith, n.0, all.count, c.close_with-closed.ensures.counts.1, c.args.self.sized.1, c.loop-i-test.true))) c.loop-i.invariant.items c.take.ensures.value c.in-None.is
 
 pub loop-i-preserved : goal.loop-i-preserved
 loop-i-preserved g c =
-    let all = settled _ _ _ _ _ c.requires.whole c.args.seat.idle.1 c.requires.free c.close_with-closed.ensures.values.2 in
+    let all = settled_apart _ _ _ _ _ c.requires.whole c.args.seat.idle.1 c.requires.free c.close_with-closed.ensures.values.2 in
     let n = slots_counts c.close_with-closed.result.slots in
     let o = c.take.ensures.others in
     let v = c.loop-i.invariant in
@@ -33,7 +34,7 @@ loop-i-preserved g c =
 
 pub returns : goal.returns
 returns g c =
-    let all = settled _ _ _ _ _ c.requires.whole c.args.seat.idle.1 c.requires.free c.close_with-closed.ensures.values.2 in
+    let all = settled_apart _ _ _ _ _ c.requires.whole c.args.seat.idle.1 c.requires.free c.close_with-closed.ensures.values.2 in
     let n = slots_counts c.close_with-closed.result.slots in
     let v = c.loop-i.invariant in
     let long : c.args.self.size ≡ length (key_of c.args.self).parts = omega (arith, n.0, all.count, c.close_with-closed.ensures.counts.1, c.args.self.sized.1) in

@@ -1,0 +1,6 @@
+-- The consumers of the edges so far.
+use Rattle.std.proofs.Common.{◌≡◌, vec_len}
+use Rattle.mg_crew.proofs.chart.consumers_of.Given as goal
+
+abbrev pub invariant-loop-number : goal.invariant-loop-number
+invariant-loop-number l = vec_len l.consumers ≡ l.number

@@ -1,5 +1,0 @@
-use Rattle.mg_crew.specs.Code.Seats.{StaysAtWork}
-use Rattle.mg_crew.proofs.rounds.serve_taken.Given as goal
-
-abbrev pub invariant-loop : goal.invariant-loop
-invariant-loop g l = StaysAtWork l.shop.net.now l.shop.tools.now.levels l.initial.seat l.seat l.place
