@@ -13,7 +13,7 @@ use Rattle.mg_node.specs.Extending.{joined}
 use Rattle.mg_sched.specs.Views.{NetView}
 use Rattle.mg_sched.specs.StandsFor.{StandsFor, IsRunning}
 use Rattle.mg_sched.specs.Extends.{GoesOnWith, MayGoOnWith, Extends}
-use Rattle.mg_test_nets.specs.Driven.{IsDriven}
+use Rattle.mg_nets.specs.Driven.{IsDriven}
 use Rattle.mg_test_nets.specs.Behind.{IsBehind, HasBehind}
 
 -- Streams.

@@ -1,5 +1,3 @@
-pub mod Driving
-pub mod Handing
 pub mod Growing
 pub mod PiecesBehind
 pub mod CarriedParts

@@ -4,21 +4,13 @@
 #![tactic(auto)]
 
 #[cfg(test)]
-mod boxes;
-#[cfg(test)]
 mod carrying;
 #[cfg(test)]
-mod cases;
-#[cfg(test)]
-mod chance;
-#[cfg(test)]
-mod driver;
+mod driving;
 #[cfg(test)]
 mod ending;
 #[cfg(test)]
 mod events;
-#[cfg(test)]
-mod graphs;
 #[cfg(test)]
 mod lines;
 #[cfg(test)]
@@ -30,13 +22,7 @@ mod parting;
 #[cfg(test)]
 mod pieces;
 #[cfg(test)]
-mod plans;
-#[cfg(test)]
 mod rest;
-#[cfg(test)]
-mod seeds;
-#[cfg(test)]
-mod shown;
 #[cfg(test)]
 mod solutions;
 #[cfg(test)]

@@ -1,16 +1,18 @@
 //! Nets whose input comes line by line.
 ghost use Rattle.std.specs.Prelude.{IfOk};
 ghost use Rattle.mg_calc.specs.Plan.{IsValid, OutersFit};
-ghost use Rattle.mg_test_nets.specs.Driven.{IsDriven};
-ghost use Rattle.mg_test_nets.specs.Handed.{two_outers};
+ghost use Rattle.mg_nets.specs.Driven.{IsDriven};
+ghost use Rattle.mg_nets.specs.Handed.{two_outers};
 
-use crate::driver::{Driver, driver_of, driver_over, extend, held, trim};
-use crate::ending::{assert_end, told};
-use crate::graphs::{adding, counting, merging, stalling, summing};
-use crate::plans::plan_of;
-use crate::rest::{all_taken, settle};
+use crate::driving::extend;
+use crate::ending::assert_end;
+use crate::rest::settle;
 use mg_calc::{Inputs, Plan};
 use mg_feed::Feed;
+use mg_nets::{
+    Driver, adding, all_taken, counting, driver_of, driver_over, held, merging, plan_of, stalling,
+    summing, told, trim,
+};
 use std::alloc::Global;
 use std::process::Abort;
 use std::test::Fail;

@@ -1,10 +1,12 @@
 //! What a net has of its streams: a packet by its number, until it is given up, and the bound.
-ghost use Rattle.mg_test_nets.specs.Driven.{IsDriven};
+ghost use Rattle.mg_nets.specs.Driven.{IsDriven};
 
-use crate::driver::{Driver, driver_of, show_bound, show_packet, sweep, trim};
-use crate::graphs::passing;
+use crate::driving::{show_bound, show_packet};
 use crate::rest::make_each;
 use mg_calc::{Effect, Event};
+use mg_edge::StillGate;
+use mg_nets::{Driver, driver_of, passing, sweep, trim};
+use mg_sched::Deaf;
 use std::alloc::Global;
 use std::test::Fail;
 
@@ -71,7 +73,7 @@ fn assert_given_up(alloc: Global, driver: &mut Driver) -> Result<(), Fail>
 {
     trim(driver);
     assert_streams(alloc, driver, "- - - | Done", "- 2@20 - | 21")?;
-    sweep(driver)?;
+    sweep(driver, &StillGate, &mut Deaf)?;
     trim(driver);
     assert_streams(alloc, driver, "- - - | Done", "- - - | Done")
 }

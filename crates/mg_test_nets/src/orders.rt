@@ -1,10 +1,7 @@
 //! Nets at random: whatever the order of the steps is, the graph's outputs are the same once nothing is left to do, and so is all that
 //! the net tells.
-use crate::cases::{CASES, Case, case_of};
-use crate::chance::Chance;
-use crate::driver::driver_of;
-use crate::graphs::limited;
 use crate::rest::{assert_rest, wander};
+use mg_nets::{CASES, Case, Chance, case_of, driver_of, limited};
 use std::alloc::Global;
 use std::process::Abort;
 use std::test::Fail;

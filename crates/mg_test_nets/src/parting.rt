@@ -1,14 +1,12 @@
 //! Nets that come apart on their way and are put together again, with works on their desks and in their windows: they come to the same
 //! as if they hadn't, also where something went along an edge meanwhile.
 ghost use Rattle.std.specs.Prelude.{IfOk};
-ghost use Rattle.mg_test_nets.specs.Driven.{IsDriven};
+ghost use Rattle.mg_nets.specs.Driven.{IsDriven};
 
-use crate::cases::{CASES, Case, case_of, summed, throttled};
-use crate::chance::Chance;
-use crate::driver::{Driver, driver_of, part_and_join};
-use crate::graphs::limited;
+use crate::driving::part_and_join;
 use crate::rest::{assert_rest, make_each, wander};
 use mg_calc::{Effect, Event};
+use mg_nets::{CASES, Case, Chance, Driver, case_of, driver_of, limited, summed, throttled};
 use std::alloc::Global;
 use std::process::Abort;
 use std::test::Fail;

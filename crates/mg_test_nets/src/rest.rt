@@ -1,13 +1,11 @@
 //! Nets that are driven until nothing is left to do.
-ghost use Rattle.mg_test_nets.specs.Driven.{IsDriven};
+ghost use Rattle.mg_nets.specs.Driven.{IsDriven};
 
-use crate::cases::{Case, is_wanted};
-use crate::chance::Chance;
-use crate::driver::{Driver, act, held, take_out, trim};
-use crate::ending::{assert_end, told};
+use crate::driving::act;
+use crate::ending::assert_end;
 use crate::events::{event_at, event_count};
 use mg_calc::{Effect, Event};
-use mg_tables::show_set_at;
+use mg_nets::{Case, Chance, Driver, come_out, is_wanted};
 use std::alloc::Global;
 use std::process::Abort;
 use std::test::Fail;
@@ -85,33 +83,6 @@ pub(crate) fn is_at_rest(driver: &mut Driver) -> Result<bool, Fail>
     let count = event_count(&driver.plan);
     let did = pass(driver, count)?;
     Ok(!did)
-}
-
-/// All sets of the outputs that are there, a blank behind each.
-pub(crate) fn all_taken(alloc: Global, driver: &mut Driver) -> Result<String, Fail>
-    requires { IsDriven driver.old.plan driver.old.inputs driver.old.net }
-    ensures { IsDriven driver.new.plan driver.new.inputs driver.new.net }
-{
-    let mut shown = String::new(alloc);
-    for _ in 0..1000u32 {
-        let Some(set) = take_out(alloc, driver)? else {
-            return Ok(shown);
-        };
-        write!(shown, "{} ", show_set_at(alloc, &set)?)?;
-    }
-    Err(Fail::from("there is always a set"))
-}
-
-/// What comes out of a net at rest; and then, once all that can be is given up, how many packets are in it, and how far it has come.
-pub(crate) fn come_out(alloc: Global, driver: &mut Driver) -> Result<String, Fail>
-    requires { IsDriven driver.old.plan driver.old.inputs driver.old.net }
-    ensures { IsDriven driver.new.plan driver.new.inputs driver.new.net }
-{
-    let sets = all_taken(alloc, driver)?;
-    trim(driver);
-    let told = told(alloc, driver)?;
-    let held = held(driver);
-    Ok(format!(in alloc; "{}| {held} | {}", sets.as_str(), told.as_str())?)
 }
 
 // What comes out of a net once nothing is left to do.

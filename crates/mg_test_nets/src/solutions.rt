@@ -1,10 +1,9 @@
 //! What the plain program computes of a graph, as a net at rest shows it.
 ghost use Rattle.mg_calc.specs.Plan.{IsValid};
 
-use crate::plans::plan_of;
-use crate::shown::{show_packets, show_report};
 use mg_calc::Plan;
 use mg_equations::{Streams, solve};
+use mg_nets::{plan_of, show_packets, show_report};
 use mg_plans::{do_fit, inputs_of};
 use mg_sched::{Report, StreamEnd, StreamEndList};
 use mg_value::{BlockList, PrefixList};

@@ -1,13 +1,14 @@
 //! Nets that are swept: whatever the limit of the queues is, what comes out is the same, and nothing is left to do.
-ghost use Rattle.mg_test_nets.specs.Driven.{IsDriven};
+ghost use Rattle.mg_nets.specs.Driven.{IsDriven};
 
-use crate::cases::{CASES, Case, case_of, is_wanted};
-use crate::driver::{Driver, driver_of, sweep};
 use crate::ending::assert_end;
-use crate::graphs::limited;
-use crate::rest::{come_out, is_at_rest};
-use crate::seeds::{Drawn, draw_graph};
+use crate::rest::is_at_rest;
 use crate::solutions::solved;
+use mg_edge::StillGate;
+use mg_nets::{
+    CASES, Case, Drawn, Driver, case_of, come_out, draw_graph, driver_of, is_wanted, limited, sweep,
+};
+use mg_sched::Deaf;
 use std::alloc::Global;
 use std::process::Abort;
 use std::test::Fail;
@@ -23,7 +24,7 @@ fn swept(alloc: Global, driver: &mut Driver) -> Result<String, Fail>
     requires { IsDriven driver.old.plan driver.old.inputs driver.old.net }
     ensures { IsDriven driver.new.plan driver.new.inputs driver.new.net }
 {
-    sweep(driver)?;
+    sweep(driver, &StillGate, &mut Deaf)?;
     if !is_at_rest(driver)? {
         return Err(Fail::from("a sweep left something to do"));
     }

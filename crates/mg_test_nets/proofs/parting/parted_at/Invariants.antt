@@ -1,4 +1,4 @@
-use Rattle.mg_test_nets.specs.Driven.{IsDriven}
+use Rattle.mg_nets.specs.Driven.{IsDriven}
 use Rattle.mg_test_nets.proofs.parting.parted_at.Given as goal
 
 abbrev pub invariant-loop : goal.invariant-loop

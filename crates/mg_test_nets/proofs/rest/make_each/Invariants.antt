@@ -1,4 +1,4 @@
-use Rattle.mg_test_nets.specs.Driven.{IsDriven}
+use Rattle.mg_nets.specs.Driven.{IsDriven}
 use Rattle.mg_test_nets.proofs.rest.make_each.Given as goal
 
 abbrev pub invariant-loop-event : goal.invariant-loop-event

@@ -1,0 +1,79 @@
+//! The calculators that are handed in.
+ghost use Rattle.std.specs.Prelude.{◌≡◌, [], IfOk};
+ghost use Rattle.mg_calc.specs.Shape.{untagged};
+ghost use Rattle.mg_nets.specs.Handed.{tally_shape, tally_outer, new_tally, two_outers, two_tallies};
+
+use mg_calc::{Law, OuterShape, PortKind, PortKindList, Shape};
+use mg_route::LawBox;
+use mg_value::{BlockList, Kind, MgText};
+use std::alloc::Global;
+use std::test::Fail;
+
+// One untagged port of a kind.
+fn port(alloc: Global, kind: Kind) -> Result<PortKindList, Fail>
+    ensures { IfOk result (λ ports. ports ≡ untagged 1 kind) }
+{
+    let tag = MgText::new(alloc, "")?;
+    let port = PortKind {
+        tag,
+        index: 0,
+        kind,
+    };
+    Ok(BlockList::from_vec(vec![in alloc; port]?)?)
+}
+
+fn no_ports(alloc: Global) -> Result<PortKindList, Fail>
+    ensures { IfOk result (λ ports. ports ≡ []) }
+{
+    Ok(BlockList::from_vec(Vec::new(alloc))?)
+}
+
+fn shape(alloc: Global) -> Result<Shape, Fail>
+    ensures { IfOk result (λ shape. shape ≡ tally_shape) }
+{
+    let inputs = port(alloc, Kind::Any)?;
+    let outputs = port(alloc, Kind::Int)?;
+    let sides = no_ports(alloc)?;
+    let name = MgText::new(alloc, "TallyCalculator")?;
+    Ok(Shape {
+        name,
+        inputs,
+        outputs,
+        sides,
+        offset: Some(0),
+        stateless: false,
+    })
+}
+
+fn outer(alloc: Global) -> Result<OuterShape, Fail>
+    ensures { IfOk result (λ outer. outer ≡ tally_outer) }
+{
+    Ok(OuterShape {
+        shape: shape(alloc)?,
+        law: Law::Tally,
+    })
+}
+
+fn tally(alloc: Global) -> Result<LawBox, Fail>
+    ensures { IfOk result (λ tally. tally ≡ new_tally) }
+{
+    Ok(LawBox::new(alloc, outer(alloc)?, true)?)
+}
+
+/// What is known of them.
+pub(crate) fn outers(alloc: Global) -> Result<Vec<OuterShape>, Fail>
+    ensures { IfOk result (λ outers. outers.items ≡ two_outers) }
+{
+    let first = outer(alloc)?;
+    let second = outer(alloc)?;
+    Ok(vec![in alloc; first, second]?)
+}
+
+/// Two calculators that count the sets which they are shown, and tell their calls.
+pub(crate) fn tallies(alloc: Global) -> Result<Vec<LawBox>, Fail>
+    ensures { IfOk result (λ tallies. tallies.items ≡ two_tallies) }
+{
+    let first = tally(alloc)?;
+    let second = tally(alloc)?;
+    Ok(vec![in alloc; first, second]?)
+}

@@ -1,0 +1,147 @@
+//! Graphs, packet lines, and what comes of a net over them.
+use crate::graphs::{
+    adding, choosing, counting, merging, one_two_three, passing, stalling, summing, tallying,
+    throttling,
+};
+
+/// A graph over packet lines.
+#[derive(Clone, Copy)]
+pub struct Case {
+    pub graph: &'static str,
+    pub lines: &'static str,
+    /// The limit of the queues under which it is tried.
+    pub limit: i32,
+    /// What comes out of it at rest, as `come_out` shows it: one of these.
+    pub wanted: &'static str,
+    /// The calls of the two calculators that come back at its end.
+    pub calls: &'static str,
+}
+
+/// How many cases there are.
+pub const CASES: u32 = 9;
+
+/// The case of a number.
+pub fn case_of(number: u32) -> Case {
+    match number {
+        0 => passed(),
+        1 => merged(),
+        2 => chosen(),
+        3 => summed(),
+        4 => stalled(),
+        5 => added(),
+        6 => counted(),
+        7 => tallied(),
+        _ => throttled(),
+    }
+}
+
+/// Whether something is one of what is wanted.
+pub fn is_wanted(case: &Case, shown: &str) -> bool {
+    case.wanted.split('\n').any(|one| one == shown)
+}
+
+// The packet is laid and taken, and all are closed.
+fn passed() -> Case {
+    Case {
+        graph: passing(),
+        lines: r#"{"stream":"in","ts":5,"value":7}"#,
+        limit: 100,
+        wanted: "7@5 | 0 | 1 ; 1@Done 1@Done ;",
+        calls: ";;",
+    }
+}
+
+// The packets at 10 are one set, and the first one goes on. All that is laid is claimed or taken, so nothing is left.
+fn merged() -> Case {
+    Case {
+        graph: merging(),
+        lines: r#"{"at":10,"packets":{"a":1,"b":5}}
+{"stream":"b","ts":20,"value":7}
+{"stream":"a","ts":30,"value":3}"#,
+        limit: 100,
+        wanted: "1@10 7@20 3@30 | 0 | 3 ; 2@Done 2@Done 3@Done ;",
+        calls: ";;",
+    }
+}
+
+// The second choice is of no stream, and its node stops at it, with its output raised to its time. The first choice waits for the
+// packets of b, and with the second one all go that have come. Where those of a come only then, both wait there in vain.
+fn chosen() -> Case {
+    Case {
+        graph: choosing(),
+        lines: r#"{"at":10,"packets":{"a":1,"b":2,"sel":1}}
+{"at":20,"packets":{"a":3,"b":4,"sel":2}}"#,
+        limit: 100,
+        wanted: "2@10 | 0 | 2 ; 2@Done 2@Done 2@Done 1@20 ; 0 at 20 BadSelect
+2@10 | 2 | 2 ; 2@Done 2@Done 2@Done 1@20 ; 0 at 20 BadSelect",
+        calls: ";;",
+    }
+}
+
+/// Of three answers the first is nothing. The last sum waits at LOOP: it would answer a packet behind 30.
+pub fn summed() -> Case {
+    Case {
+        graph: summing(),
+        lines: one_two_three(),
+        limit: 100,
+        wanted: "1@10 3@20 6@30 | 1 | 3 3 ; 3@Done 2@Done 3@Done ;",
+        calls: ";;",
+    }
+}
+
+// The first sum is odd and doesn't come back, so the packets at 20 and 30 wait at MAIN and at the sum, which has come to 20.
+fn stalled() -> Case {
+    Case {
+        graph: stalling(),
+        lines: one_two_three(),
+        limit: 100,
+        wanted: "1@10 | 4 | 1 1 1 ; 3@Done 0@20 1@20 0@PreStream ;",
+        calls: ";;",
+    }
+}
+
+/// None of three packets passes the filter.
+pub fn throttled() -> Case {
+    Case {
+        graph: throttling(),
+        lines: "",
+        limit: 1,
+        wanted: "0@0 1@1 2@2 | 0 | 3 3 3 ; 3@Done 0@Done 3@Done ;",
+        calls: ";;",
+    }
+}
+
+// Each packet is ten more.
+fn added() -> Case {
+    Case {
+        graph: adding(),
+        lines: r#"{"stream":"in","ts":1,"value":5}
+{"stream":"in","ts":2,"value":6}"#,
+        limit: 100,
+        wanted: "15@1 16@2 | 0 | 2 ; 2@Done 2@Done ;",
+        calls: ";;",
+    }
+}
+
+// The first calculator is shown all three packets, the other the even one.
+fn counted() -> Case {
+    Case {
+        graph: counting(),
+        lines: one_two_three(),
+        limit: 100,
+        wanted: "1@10 - 2@20 1@20 3@30 - | 0 | 3 3 1 ; 3@Done 3@Done 1@Done 1@Done ;",
+        calls: " begun 10 20 30 finished; begun 20 finished;",
+    }
+}
+
+// A calculator that is handed in is shown both packets.
+fn tallied() -> Case {
+    Case {
+        graph: tallying(),
+        lines: r#"{"stream":"in","ts":1,"value":"a"}
+{"stream":"in","ts":4,"value":"b"}"#,
+        limit: 100,
+        wanted: "1@1 2@4 | 0 | 2 ; 2@Done 2@Done ;",
+        calls: " begun 1 4 finished;;",
+    }
+}

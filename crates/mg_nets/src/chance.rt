@@ -1,0 +1,35 @@
+//! Numbers at random.
+
+/// Numbers of a linear congruence, each of which follows from the one before. The first follows from the seed, and isn't drawn: it
+/// differs too little from those of the seeds beside it.
+#[derive(Drop)]
+pub struct Chance {
+    number: u64,
+}
+
+// The next number of the congruence.
+fn next(number: u64) -> u64 {
+    number
+        .wrapping_mul(6364136223846793005)
+        .wrapping_add(1442695040888963407)
+}
+
+// One of so many places, by the higher half of a number.
+fn place_of(number: u64, places: u32) -> u32 {
+    if places == 0 {
+        return 0;
+    }
+    ((number / 4294967296) as u32) % places
+}
+
+impl Chance {
+    pub fn new(seed: u64) -> Chance {
+        Chance { number: next(seed) }
+    }
+
+    /// One of so many places.
+    pub fn below(&mut self, places: u32) -> u32 {
+        self.number = next(self.number);
+        place_of(self.number, places)
+    }
+}

@@ -1,0 +1,124 @@
+//! A net with its plan and its inputs.
+ghost use Rattle.std.specs.Prelude.{◌≡◌, IfOk};
+ghost use Rattle.mg_calc.specs.Plan.{IsValid, OutersFit};
+ghost use Rattle.mg_calc.specs.Equations.{IsJob};
+ghost use Rattle.mg_nets.specs.Driven.{IsDriven, StandsOver};
+ghost use Rattle.mg_nets.specs.Handed.{two_outers};
+
+use crate::boxes::tallies;
+use crate::plans::plan_of;
+use mg_calc::{Inputs, Plan};
+use mg_edge::Gate;
+use mg_plans::{do_fit, inputs_of};
+use mg_route::LawBox;
+use mg_sched::{Hears, Net, Report};
+use mg_value::InputSet;
+use std::alloc::Global;
+use std::test::Fail;
+
+/// A net whose nodes are begun, the plan that it is of, and the inputs that it was given.
+#[derive(Drop)]
+pub struct Driver {
+    pub plan: Plan,
+    pub inputs: Inputs,
+    pub net: Net<LawBox>,
+}
+
+// The net of a plan over inputs. Two calculators are handed in, and no node is begun.
+#[tactic(auto, using(crate::proofs::Driving::made_plan))]
+fn net_of(alloc: Global, plan: &Plan, inputs: &Inputs) -> Result<Net<LawBox>, Fail>
+    requires job { IsJob (record { plan = plan.now; inputs = inputs.now }) }
+    requires fit { OutersFit plan.now two_outers }
+    ensures of_plan { IfOk result (λ n. n.plan ≡ plan.now) }
+    ensures stands { IfOk result (λ n. StandsOver plan.now inputs.now n) }
+{
+    let boxes = tallies(alloc)?;
+    match Net::new(alloc, plan, inputs, boxes) {
+        Ok(net) => Ok(net),
+        Err(_) => Err(Fail::from("no memory")),
+    }
+}
+
+// The net of a plan over inputs, with its nodes begun.
+fn begun(alloc: Global, plan: &Plan, inputs: &Inputs) -> Result<Net<LawBox>, Fail>
+    requires job { IsJob (record { plan = plan.now; inputs = inputs.now }) }
+    requires fit { OutersFit plan.now two_outers }
+    ensures { IfOk result (λ n. IsDriven plan.now inputs.now n) }
+{
+    let mut net = net_of(alloc, plan, inputs)?;
+    net.begin()?;
+    Ok(net)
+}
+
+/// The net of a plan over inputs, with its nodes begun.
+pub fn driver_over(alloc: Global, plan: Plan, inputs: Inputs) -> Result<Driver, Fail>
+    requires valid { IsValid plan }
+    requires fit { OutersFit plan two_outers }
+    ensures { IfOk result (λ d. IsDriven d.plan d.inputs d.net) }
+{
+    if !do_fit(&plan, &inputs) {
+        return Err(Fail::from("inputs don't fit"));
+    }
+    let net = begun(alloc, &plan, &inputs)?;
+    Ok(Driver { plan, inputs, net })
+}
+
+/// The net of a graph over packet lines, with its nodes begun.
+pub fn driver_of(alloc: Global, graph: &str, lines: &str) -> Result<Driver, Fail>
+    ensures { IfOk result (λ d. IsDriven d.plan d.inputs d.net) }
+{
+    let plan = plan_of(alloc, graph)?;
+    let inputs = inputs_of(alloc, &plan, lines, true)?;
+    driver_over(alloc, plan, inputs)
+}
+
+/// Makes steps until none would do anything, each Process call through a gate. Each step that does something is told.
+pub fn sweep<G: Gate, H: Hears>(driver: &mut Driver, gate: &G, hearer: &mut H) -> Result<(), Fail>
+    requires { IsDriven driver.old.plan driver.old.inputs driver.old.net }
+    ensures { IsDriven driver.new.plan driver.new.inputs driver.new.net }
+{
+    match driver.net.sweep(gate, hearer) {
+        Ok(()) => Ok(()),
+        Err(_) => Err(Fail::from("no memory")),
+    }
+}
+
+/// The next set of the graph's outputs, if there is one.
+pub(crate) fn take_out(alloc: Global, driver: &mut Driver) -> Result<Option<InputSet>, Fail>
+    requires { IsDriven driver.old.plan driver.old.inputs driver.old.net }
+    ensures { IsDriven driver.new.plan driver.new.inputs driver.new.net }
+{
+    let mut set = InputSet::new(alloc, driver.plan.outputs.len())?;
+    if driver.net.take_out(&mut set) {
+        return Ok(Some(set));
+    }
+    Ok(None)
+}
+
+/// Gives up the packets that all have got.
+pub fn trim(driver: &mut Driver)
+    requires { IsDriven driver.old.plan driver.old.inputs driver.old.net }
+    ensures { IsDriven driver.new.plan driver.new.inputs driver.new.net }
+{
+    driver.net.trim();
+}
+
+/// How many packets are in the net.
+pub fn held(driver: &Driver) -> u64 {
+    driver.net.held()
+}
+
+/// How far the net has come.
+pub(crate) fn report(alloc: Global, driver: &Driver) -> Result<Report, Fail> {
+    Ok(driver.net.report(alloc)?)
+}
+
+/// Winds the net up: how far it has come then, and the calculators that were handed in.
+pub(crate) fn end(alloc: Global, driver: Driver) -> Result<(Report, Vec<LawBox>), Fail>
+    requires { IsDriven driver.plan driver.inputs driver.net }
+{
+    let Driver { mut net, .. } = driver;
+    net.wind_up()?;
+    let report = net.report(alloc)?;
+    Ok((report, net.give_back()))
+}

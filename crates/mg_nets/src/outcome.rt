@@ -1,0 +1,51 @@
+//! What comes out of a net, what it tells, and what it gives back at its end.
+ghost use Rattle.mg_nets.specs.Driven.{IsDriven};
+
+use crate::driver::{Driver, end, held, report, take_out, trim};
+use crate::shown::{show_boxes, show_report};
+use mg_tables::show_set_at;
+use std::alloc::Global;
+use std::test::Fail;
+
+/// All sets of the outputs that are there, a blank behind each.
+pub fn all_taken(alloc: Global, driver: &mut Driver) -> Result<String, Fail>
+    requires { IsDriven driver.old.plan driver.old.inputs driver.old.net }
+    ensures { IsDriven driver.new.plan driver.new.inputs driver.new.net }
+{
+    let mut shown = String::new(alloc);
+    for _ in 0..1000u32 {
+        let Some(set) = take_out(alloc, driver)? else {
+            return Ok(shown);
+        };
+        write!(shown, "{} ", show_set_at(alloc, &set)?)?;
+    }
+    Err(Fail::from("there is always a set"))
+}
+
+/// What a net tells of how far it has come.
+pub fn told(alloc: Global, driver: &Driver) -> Result<String, Fail> {
+    let report = report(alloc, driver)?;
+    show_report(alloc, &report)
+}
+
+/// What comes out of a net at rest; and then, once all that can be is given up, how many packets are in it, and how far it has come.
+pub fn come_out(alloc: Global, driver: &mut Driver) -> Result<String, Fail>
+    requires { IsDriven driver.old.plan driver.old.inputs driver.old.net }
+    ensures { IsDriven driver.new.plan driver.new.inputs driver.new.net }
+{
+    let sets = all_taken(alloc, driver)?;
+    trim(driver);
+    let told = told(alloc, driver)?;
+    let held = held(driver);
+    Ok(format!(in alloc; "{}| {held} | {}", sets.as_str(), told.as_str())?)
+}
+
+/// What a net tells once it is wound up, and the calls of the calculators that come back.
+pub fn ended(alloc: Global, driver: Driver) -> Result<(String, String), Fail>
+    requires { IsDriven driver.plan driver.inputs driver.net }
+{
+    let (report, boxes) = end(alloc, driver)?;
+    let report = show_report(alloc, &report)?;
+    let boxes = show_boxes(alloc, boxes.as_slice())?;
+    Ok((report, boxes))
+}

@@ -1,5 +1,0 @@
-use Rattle.mg_test_nets.specs.Driven.{IsDriven}
-use Rattle.mg_test_nets.proofs.rest.all_taken.Given as goal
-
-abbrev pub invariant-loop : goal.invariant-loop
-invariant-loop l = IsDriven l.driver.plan l.driver.inputs l.driver.net

@@ -1,0 +1,89 @@
+//! The steps of a net that is driven event by event, and what it has of its streams.
+ghost use Rattle.std.specs.Prelude.{◌≡◌, true};
+ghost use Rattle.mg_sched.specs.Views.{NetView};
+ghost use Rattle.mg_sched.specs.Acts.{IsEventOf};
+ghost use Rattle.mg_nets.specs.Driven.{IsDriven};
+
+use crate::carrying::carry;
+use crate::pieces::longer;
+use mg_calc::{Effect, Event, Inputs, Plan};
+use mg_edge::StillGate;
+use mg_nets::Driver;
+use mg_sched::Net;
+use mg_tables::{show_packet_at, text_of};
+use std::alloc::Global;
+use std::test::Fail;
+
+// Whether an event's node or edge is of a plan.
+fn is_event_of(plan: &Plan, event: Event) -> bool
+    ensures { (net : NetView) → net.plan ≡ plan.now → result ≡ true → IsEventOf net event }
+{
+    match event {
+        Event::Deliver { edge } => edge < plan.edges.len(),
+        Event::Advance { node } => node < plan.nodes.len(),
+        Event::Claim { node } => node < plan.nodes.len(),
+        Event::Perform { node, .. } => node < plan.nodes.len(),
+        Event::Commit { node, .. } => node < plan.nodes.len(),
+        Event::Relax => true,
+    }
+}
+
+/// Makes a step.
+pub(crate) fn act(driver: &mut Driver, event: Event) -> Result<Effect, Fail>
+    requires { IsDriven driver.old.plan driver.old.inputs driver.old.net }
+    ensures { IsDriven driver.new.plan driver.new.inputs driver.new.net }
+{
+    if !is_event_of(&driver.plan, event) {
+        return Err(Fail::from("no such node or edge"));
+    }
+    Ok(driver.net.act(event, &StillGate))
+}
+
+/// Goes on with a further piece of the inputs.
+pub(crate) fn extend(alloc: Global, driver: &mut Driver, piece: &Inputs) -> Result<(), Fail>
+    requires { IsDriven driver.old.plan driver.old.inputs driver.old.net }
+    ensures { IsDriven driver.new.plan driver.new.inputs driver.new.net }
+{
+    let inputs = longer(alloc, &driver.inputs, piece)?;
+    driver.net.extend(piece)?;
+    driver.inputs = inputs;
+    Ok(())
+}
+
+/// Takes the net apart, and puts it together again of its parts. Meanwhile what a port hasn't got goes along the edge of a number, if
+/// there is one.
+pub(crate) fn part_and_join(driver: Driver, edge: u32) -> Driver
+    requires { IsDriven driver.plan driver.inputs driver.net }
+    ensures { IsDriven result.plan result.inputs result.net }
+{
+    let Driver { plan, inputs, net } = driver;
+    let mut parts = net.apart();
+    carry(parts.plan.plan(), &parts.engines, &mut parts.intakes, edge);
+    let net = Net::put_together(parts);
+    Driver { plan, inputs, net }
+}
+
+/// The packet of a stream, by its number, if it is there.
+pub(crate) fn show_packet(
+    alloc: Global,
+    driver: &Driver,
+    stream: u32,
+    number: u64,
+) -> Result<String, Fail>
+    requires { IsDriven driver.now.plan driver.now.inputs driver.now.net }
+{
+    match driver.net.packet(stream, number) {
+        Some(packet) => show_packet_at(alloc, packet),
+        None => Ok(String::from_str(alloc, "-")?),
+    }
+}
+
+/// The bound of a stream, if there is one.
+pub(crate) fn show_bound(alloc: Global, driver: &Driver, stream: u32) -> Result<String, Fail>
+    requires { IsDriven driver.now.plan driver.now.inputs driver.now.net }
+{
+    if stream >= driver.plan.streams.len() {
+        return Ok(String::from_str(alloc, "-")?);
+    }
+    text_of(alloc, driver.net.bound(stream))
+}

@@ -1,0 +1,67 @@
+//! Each Process call goes through the gate once, whoever makes it.
+use crate::running::rested;
+use mg_edge::Gate;
+use mg_nets::told;
+use std::alloc::Global;
+use std::sync::Wait;
+use std::sync::atomic::{AtomicU64, Ordering};
+use std::test::*;
+use std::thread::Threads;
+
+// Counts its calls.
+#[derive(Drop)]
+struct Counts {
+    entered: AtomicU64,
+    left: AtomicU64,
+}
+
+impl Counts {
+    fn new() -> Counts {
+        Counts {
+            entered: AtomicU64::new(0),
+            left: AtomicU64::new(0),
+        }
+    }
+}
+
+impl Gate for Counts {
+    fn enter(&self, _node: u32, _number: u64) {
+        self.entered.fetch_add(1, Ordering::SeqCst);
+    }
+
+    fn leave(&self, _node: u32, _number: u64) {
+        self.left.fetch_add(1, Ordering::SeqCst);
+    }
+}
+
+// Packets that come too early are left out.
+fn thinning() -> &'static str {
+    r#"input_stream: "in" output_stream: "out"
+node { calculator: "PacketThinnerCalculator" input_stream: "in" output_stream: "out"
+  node_options: { [type.googleapis.com/mediapipe.PacketThinnerCalculatorOptions] { period: 10 } } }"#
+}
+
+// Five packets, of which two come too early.
+fn five_packets() -> &'static str {
+    r#"{"stream":"in","ts":0,"value":1}
+{"stream":"in","ts":4,"value":2}
+{"stream":"in","ts":10,"value":3}
+{"stream":"in","ts":19,"value":4}
+{"stream":"in","ts":20,"value":5}"#
+}
+
+// How far the net comes that two workers run through a gate.
+fn thinned<R: Threads + Wait + Sync>(rt: &R, alloc: Global, gate: &Counts) -> Result<String, Fail> {
+    let driver = rested(rt, alloc, thinning(), five_packets(), 2, gate)?;
+    told(alloc, &driver)
+}
+
+#[test]
+fn gate_counts(rt: HostRuntime) -> Result<(), Fail> {
+    let gate = Counts::new();
+    let text = thinned(&rt, rt.alloc(), &gate)?;
+    assert_eq!(rt; text.as_str(), "5 ; 5@Done 3@Done ;");
+    assert_eq!(rt; gate.entered.load(Ordering::SeqCst), 5);
+    assert_eq!(rt; gate.left.load(Ordering::SeqCst), 5);
+    Ok(())
+}
