@@ -11,6 +11,8 @@ use std::alloc::{AllocError, Global};
 use std::env;
 use std::io::ErrorKind;
 use std::process::ExitCode;
+use std::sync::Wait;
+use std::thread::Threads;
 
 /// How many boxes of each kind are handed in.
 const TALLIES: usize = 4;
@@ -22,7 +24,7 @@ const BEGIN_CLONE_LOOPS: usize = 2;
 const END_LOOPS: usize = 6;
 
 fn main(rt: HostRuntime) -> ExitCode {
-    let status = match status_of(&rt) {
+    let status = match status_of(&rt, &rt) {
         Ok(status) => status,
         Err(_) => {
             note_out_of_memory(&mut WriterSink::new(rt.stderr()));
@@ -32,9 +34,13 @@ fn main(rt: HostRuntime) -> ExitCode {
     ExitCode::from(status.number())
 }
 
-fn status_of(rt: &HostRuntime) -> Result<Status, AllocError> {
+// The status of the call. Its threads are had of the runtime that `main` alone has whole.
+fn status_of<R: Threads + Wait + Sync>(
+    threads: &R,
+    rt: &HostRuntime,
+) -> Result<Status, AllocError> {
     let words = words(rt)?;
-    call(rt, words.as_slice())
+    call(threads, rt, words.as_slice())
 }
 
 // The words after the program's name. Where one isn't UTF-8 there are none, which is no command either.
@@ -63,7 +69,11 @@ fn loop_box(alloc: Global, number: usize) -> Result<BatchBox, AllocError> {
 }
 
 // The top call over the files below the current folder and the standard streams, with boxes of its own.
-fn call(rt: &HostRuntime, words: &[MgText]) -> Result<Status, AllocError> {
+fn call<R: Threads + Wait + Sync>(
+    threads: &R,
+    rt: &HostRuntime,
+    words: &[MgText],
+) -> Result<Status, AllocError> {
     let alloc = rt.alloc();
     let mut boxes = Vec::new(alloc);
     for _ in 0..TALLIES {
@@ -78,6 +88,7 @@ fn call(rt: &HostRuntime, words: &[MgText]) -> Result<Status, AllocError> {
         return Err(AllocError);
     };
     Ok(run_words(
+        threads,
         alloc,
         words,
         &mut FolderStore::new(files),

@@ -13,3 +13,5 @@ pub mod PacketsRan
 pub mod EventsPut
 pub mod RecordedRuns
 pub mod TracesRan
+pub mod NoNodes
+pub mod Working

@@ -4,3 +4,4 @@ pub mod Lines
 pub mod Ending
 pub mod Packets
 pub mod Tracing
+pub mod Nothing

@@ -6,7 +6,6 @@ ghost use Rattle.mg_node.specs.Job.{LoggedJob, Solves};
 ghost use Rattle.mg_node.specs.Intakes.{HasSet};
 ghost use Rattle.mg_sched.specs.Views.{NetView};
 ghost use Rattle.mg_sched.specs.StandsFor.{StandsFor, StandsForSome, IsRunning};
-ghost use Rattle.mg_sched.specs.AtRest.{IsAtRest};
 ghost use Rattle.mg_sched.specs.Extends.{GoesOnWith, MayGoOnWith};
 ghost use Rattle.mg_sched.specs.Taking.{TakesOut, taken_out};
 ghost use Rattle.mg_sched.specs.Reports.{report_of};
@@ -27,16 +26,6 @@ pub trait Driven {
     fn begin(&mut self) -> Result<(), AllocError>
         requires stands { StandsForSome (net self.old) }
         ensures running { OnOk result (IsRunning (net self.new)) }
-        ensures keeps { Keeps (net self.old) (net self.new) }
-        ensures taken { taken_out (net self.new) ≡ taken_out (net self.old) }
-        ensures stands { (job : LoggedJob) → StandsFor job (net self.old) → StandsFor job (net self.new) };
-
-    /// Lets the nodes run until none can go further. It takes no set of the outputs.
-    fn to_rest(&mut self) -> Result<(), AllocError>
-        requires running { IsRunning (net self.old) }
-        requires stands { StandsForSome (net self.old) }
-        ensures rest { OnOk result (IsAtRest (net self.new)) }
-        ensures running { IsRunning (net self.new) }
         ensures keeps { Keeps (net self.old) (net self.new) }
         ensures taken { taken_out (net self.new) ≡ taken_out (net self.old) }
         ensures stands { (job : LoggedJob) → StandsFor job (net self.old) → StandsFor job (net self.new) };

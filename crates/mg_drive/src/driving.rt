@@ -12,11 +12,14 @@ ghost use Rattle.mg_drive.specs.Nets.{Keeps};
 ghost use Rattle.mg_drive.specs.Batches.{IsMore};
 ghost use Rattle.mg_drive.specs.Code.Running.{Start, job_with, IsTold, IsToldSome, IsSomeTold, IsUnderWay, IsSomeRun, IsSomeMore, WentOn, HasRested, IsAllTaken, IsOver, IsShort};
 
-use crate::{Batches, Driven, Ends, Telling};
-use mg_edge::{Sink, Source};
+use crate::{Batches, Driven, Ends, ManyThreads, Telling};
+use mg_calc::Calculator;
+use mg_edge::{Gate, Sink, Source};
 use mg_feed::{BatchEnd, FeedEnd};
 use mg_value::InputSet;
 use std::alloc::AllocError;
+use std::sync::Wait;
+use std::thread::Threads;
 
 // Reads the next batch, and goes on with it. What all parts of the net have got is given up before.
 fn next_batch<N: Driven, B: Batches, S: Source>(
@@ -68,24 +71,24 @@ fn take_all<N: Driven, T: Telling, K: Sink>(
 }
 
 // Drives a net to rest, and tells all sets that its outputs then have.
-fn advance<N: Driven, T: Telling, K: Sink>(
-    net: &mut N,
+fn advance<R: Threads + Wait + Sync, G: Gate + Sync, C: Calculator + Send, T: Telling, K: Sink>(
+    net: &mut ManyThreads<'_, C, R, G>,
     set: &mut InputSet,
     telling: &mut T,
     output: &mut K,
 ) -> Result<(), AllocError>
-    requires places { length set.old ≡ length (N.net net.old).plan.outputs }
-    requires running { IsRunning (N.net net.old) }
-    requires told { IsSomeTold T.has_told (K.told output.old) (N.net net.old) telling.old }
-    ensures places { length set.new ≡ length (N.net net.new).plan.outputs }
-    ensures running { IsRunning (N.net net.new) }
-    ensures keeps { Keeps (N.net net.old) (N.net net.new) }
-    ensures stands { (job : LoggedJob) → StandsFor job (N.net net.old) → StandsFor job (N.net net.new) }
-    ensures told { OnOk result ((job : LoggedJob) (first : SinkTold) → StandsFor job (N.net net.old) → IsTold T.has_told job.job first (K.told output.old) (taken_out (N.net net.old)) telling.old
-        → IsTold T.has_told job.job first (K.told output.new) (taken_out (N.net net.new)) telling.new) }
-    ensures front { OnErr result ((job : LoggedJob) (first : SinkTold) → StandsFor job (N.net net.old) → IsTold T.has_told job.job first (K.told output.old) (taken_out (N.net net.old)) telling.old
+    requires places { length set.old ≡ length net.old.one.net.plan.outputs }
+    requires running { IsRunning net.old.one.net }
+    requires told { IsSomeTold T.has_told (K.told output.old) net.old.one.net telling.old }
+    ensures places { length set.new ≡ length net.new.one.net.plan.outputs }
+    ensures running { IsRunning net.new.one.net }
+    ensures keeps { Keeps net.old.one.net net.new.one.net }
+    ensures stands { (job : LoggedJob) → StandsFor job net.old.one.net → StandsFor job net.new.one.net }
+    ensures told { OnOk result ((job : LoggedJob) (first : SinkTold) → StandsFor job net.old.one.net → IsTold T.has_told job.job first (K.told output.old) (taken_out net.old.one.net) telling.old
+        → IsTold T.has_told job.job first (K.told output.new) (taken_out net.new.one.net) telling.new) }
+    ensures front { OnErr result ((job : LoggedJob) (first : SinkTold) → StandsFor job net.old.one.net → IsTold T.has_told job.job first (K.told output.old) (taken_out net.old.one.net) telling.old
         → IsToldSome T.has_told job.job first (K.told output.new)) }
-    ensures rested { OnOk result ((job : LoggedJob) → StandsFor job (N.net net.old) → HasRested job (N.net net.new) × IsAllTaken job (N.net net.new)) }
+    ensures rested { OnOk result ((job : LoggedJob) → StandsFor job net.old.one.net → HasRested job net.new.one.net × IsAllTaken job net.new.one.net) }
 {
     net.to_rest()?;
     take_all(net, set, telling, output)?;
@@ -94,20 +97,28 @@ fn advance<N: Driven, T: Telling, K: Sink>(
 
 /// Begins a net, and drives it over the first batch, which it has, and over all that come behind it. What it answers is how the input
 /// ended; the net is at rest then, and all sets of its outputs are told.
-pub fn drive<N: Driven, B: Batches, T: Telling, S: Source, K: Sink>(
-    net: &mut N,
+pub fn drive<
+    R: Threads + Wait + Sync,
+    G: Gate + Sync,
+    C: Calculator + Send,
+    B: Batches,
+    T: Telling,
+    S: Source,
+    K: Sink,
+>(
+    net: &mut ManyThreads<'_, C, R, G>,
     ends: &mut Ends<B, T>,
     first: BatchEnd,
     input: &mut S,
     output: &mut K,
 ) -> Result<FeedEnd, AllocError>
-    requires under_way { (plan : Plan) × IsSomeRun B.gives T.has_told plan first (S.told input.old) (K.told output.old) ends.old.batches ends.old.telling (N.net net.old) }
-    requires places { length ends.old.set ≡ length (N.net net.old).plan.outputs }
-    ensures over { IfOk result (λ end. (start : Start B) → IsUnderWay B.gives T.has_told start first (S.told input.old) (K.told output.old) ends.old.batches ends.old.telling (N.net net.old)
-        → IsOver B.gives T.has_told start end (S.told input.new) (K.told output.new) ends.new.batches ends.new.telling (N.net net.new)) }
-    ensures short { OnErr result ((start : Start B) → IsUnderWay B.gives T.has_told start first (S.told input.old) (K.told output.old) ends.old.batches ends.old.telling (N.net net.old)
-        → IsShort B.gives T.has_told T.form start (S.told input.new) (K.told output.new) (N.net net.new)) }
-    ensures keeps { Keeps (N.net net.old) (N.net net.new) }
+    requires under_way { (plan : Plan) × IsSomeRun B.gives T.has_told plan first (S.told input.old) (K.told output.old) ends.old.batches ends.old.telling net.old.one.net }
+    requires places { length ends.old.set ≡ length net.old.one.net.plan.outputs }
+    ensures over { IfOk result (λ end. (start : Start B) → IsUnderWay B.gives T.has_told start first (S.told input.old) (K.told output.old) ends.old.batches ends.old.telling net.old.one.net
+        → IsOver B.gives T.has_told start end (S.told input.new) (K.told output.new) ends.new.batches ends.new.telling net.new.one.net) }
+    ensures short { OnErr result ((start : Start B) → IsUnderWay B.gives T.has_told start first (S.told input.old) (K.told output.old) ends.old.batches ends.old.telling net.old.one.net
+        → IsShort B.gives T.has_told T.form start (S.told input.new) (K.told output.new) net.new.one.net) }
+    ensures keeps { Keeps net.old.one.net net.new.one.net }
     ensures unread { B.reads ≡ false → S.told input.new ≡ S.told input.old }
 {
     net.begin()?;

@@ -4,6 +4,7 @@
 #![tactic(auto)]
 
 mod batches;
+mod crew;
 mod driven;
 mod driving;
 mod ends;
@@ -11,6 +12,8 @@ mod event_text;
 mod finishing;
 mod lines;
 mod made;
+mod many_threads;
+mod nothing;
 mod one_thread;
 mod recording;
 mod running;
@@ -20,6 +23,7 @@ mod told_sums;
 mod tracing;
 
 pub use batches::{Batch, Batches};
+pub use crew::Crew;
 pub use driven::Driven;
 pub use driving::drive;
 pub use ends::Ends;
@@ -27,6 +31,7 @@ pub use event_text::EventText;
 pub use finishing::finish;
 pub use lines::run_lines;
 pub use made::{Made, run_made};
+pub use many_threads::ManyThreads;
 pub use one_thread::OneThread;
 pub use recording::record_run;
 pub use running::{run_batches, run_net};

@@ -14,12 +14,14 @@ ghost use Rattle.mg_drive.specs.Leaves.{HadCalls, HadSome, RunLeaves};
 ghost use Rattle.mg_drive.specs.Code.Ending.{CameBack};
 ghost use Rattle.mg_drive.specs.Code.Lines.{has_ended as the_end, HadMemory, IsRead, HasBatch, IsNew, LinesGave, lines_left};
 
-use crate::{Batch, Batches, run_batches};
+use crate::{Batch, Batches, Crew, run_batches};
 use mg_answer::{Devices, OutputText, Run, Status, is_ended, note_out_of_memory, ran_out};
 use mg_calc::Calculator;
 use mg_edge::{Gate, Sink, Source};
 use mg_feed::{BatchEnd, Feed};
 use std::alloc::AllocError;
+use std::sync::Wait;
+use std::thread::Threads;
 
 // How many lines that name a stream a batch has.
 const BATCH: u32 = 4096;
@@ -74,14 +76,21 @@ impl Batches for Feed {
 
 /// Runs the graph of a plan over packet lines, with the calculators that are handed in, and leaves these in their places. It reads
 /// batches of lines, drives a net over them, and writes the sets of its outputs as they come; at the input's end, its first fault or
-/// its first line that isn't good it writes the notes, with the report behind them where it is asked for. Each Process call goes
-/// through the gate.
+/// its first line that isn't good it writes the notes, with the report behind them where it is asked for. As many
+/// workers as the plan says run the net before each sweep. Each Process call goes through the crew's gate.
 ///
 /// Once a write to the output has failed nothing more is written to it. The run goes on all the same, and the notes are written and say
 /// so. Where memory runs out they say that alone.
-pub fn run_lines<G: Gate, C: Calculator, S: Source, K: Sink, E: Sink>(
+pub fn run_lines<
+    R: Threads + Wait + Sync,
+    G: Gate + Sync,
+    C: Calculator + Send,
+    S: Source,
+    K: Sink,
+    E: Sink,
+>(
     run: &Run<'_>,
-    gate: &G,
+    crew: &Crew<'_, R, G>,
     boxes: &mut Vec<C>,
     devices: &mut Devices<'_, '_, '_, S, K, E>,
 ) -> Status
@@ -95,7 +104,7 @@ pub fn run_lines<G: Gate, C: Calculator, S: Source, K: Sink, E: Sink>(
     ensures left { RunLeaves run.now.plan.now result (told_by S.told K.told E.told devices.old devices.new).input (device (map C.told boxes.old.items) (map C.told boxes.new.items)) }
     ensures same { SameDevices devices.old devices.new }
 {
-    match run_whole(run, gate, boxes, devices) {
+    match run_whole(run, crew, boxes, devices) {
         Ok(status) => status,
         Err(_) => {
             note_out_of_memory(devices.notes);
@@ -105,9 +114,16 @@ pub fn run_lines<G: Gate, C: Calculator, S: Source, K: Sink, E: Sink>(
 }
 
 // Makes a feed and a text, and runs the graph over the lines.
-fn run_whole<G: Gate, C: Calculator, S: Source, K: Sink, E: Sink>(
+fn run_whole<
+    R: Threads + Wait + Sync,
+    G: Gate + Sync,
+    C: Calculator + Send,
+    S: Source,
+    K: Sink,
+    E: Sink,
+>(
     run: &Run<'_>,
-    gate: &G,
+    crew: &Crew<'_, R, G>,
     boxes: &mut Vec<C>,
     devices: &mut Devices<'_, '_, '_, S, K, E>,
 ) -> Result<Status, AllocError>
@@ -122,7 +138,7 @@ fn run_whole<G: Gate, C: Calculator, S: Source, K: Sink, E: Sink>(
     ensures same { SameDevices devices.old devices.new }
 {
     let ends = ends_of(run)?;
-    let status = run_batches(run, gate, boxes, ends.0, ends.1, devices)?;
+    let status = run_batches(run, crew, boxes, ends.0, ends.1, devices)?;
     Ok(status)
 }
 

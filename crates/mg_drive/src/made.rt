@@ -13,12 +13,14 @@ ghost use Rattle.mg_drive.specs.Leaves.{HadCallsOf, HadFronts, GeneratedLeaves};
 ghost use Rattle.mg_drive.specs.Code.Ending.{CameBack};
 ghost use Rattle.mg_drive.specs.Code.Packets.{AreWaiting, WereGiven};
 
-use crate::{Batch, Batches, run_batches};
+use crate::{Batch, Batches, Crew, run_batches};
 use mg_answer::{Devices, OutputSummary, Run, Status, note_out_of_memory};
 use mg_calc::{Calculator, Inputs};
 use mg_edge::{Gate, Sink, Source};
 use mg_feed::{BatchEnd, FeedEnd, generate};
 use std::alloc::AllocError;
+use std::sync::Wait;
+use std::thread::Threads;
 
 /// Packets that are made before a run, all of which are its one batch.
 #[derive(Drop)]
@@ -49,13 +51,21 @@ impl Batches for Made {
 
 /// Runs the graph of a plan over so many packets that are made, with the calculators that are handed in, and leaves these in their
 /// places. It drives a net over all of them to rest, sums up the sets of its outputs, and writes the summary and then the notes, with
-/// the report behind them where it is asked for. Each Process call goes through the gate. The input is left as it was.
+/// the report behind them where it is asked for. As many workers as the plan says run the net
+/// before it is swept. Each Process call goes through the crew's gate. The input is left as it was.
 ///
 /// Where a write of the summary fails, the notes are written all the same, and say so. Where memory runs out they say that alone.
-pub fn run_made<G: Gate, C: Calculator, S: Source, K: Sink, E: Sink>(
+pub fn run_made<
+    R: Threads + Wait + Sync,
+    G: Gate + Sync,
+    C: Calculator + Send,
+    S: Source,
+    K: Sink,
+    E: Sink,
+>(
     run: &Run<'_>,
     number: u32,
-    gate: &G,
+    crew: &Crew<'_, R, G>,
     boxes: &mut Vec<C>,
     devices: &mut Devices<'_, '_, '_, S, K, E>,
 ) -> Status
@@ -70,7 +80,7 @@ pub fn run_made<G: Gate, C: Calculator, S: Source, K: Sink, E: Sink>(
     ensures left { GeneratedLeaves run.now.plan.now number result (device (map C.told boxes.old.items) (map C.told boxes.new.items)) }
     ensures same { SameDevices devices.old devices.new }
 {
-    match run_whole(run, number, gate, boxes, devices) {
+    match run_whole(run, number, crew, boxes, devices) {
         Ok(status) => status,
         Err(_) => {
             note_out_of_memory(devices.notes);
@@ -80,10 +90,17 @@ pub fn run_made<G: Gate, C: Calculator, S: Source, K: Sink, E: Sink>(
 }
 
 // Makes the packets and a summary, and runs the graph over them.
-fn run_whole<G: Gate, C: Calculator, S: Source, K: Sink, E: Sink>(
+fn run_whole<
+    R: Threads + Wait + Sync,
+    G: Gate + Sync,
+    C: Calculator + Send,
+    S: Source,
+    K: Sink,
+    E: Sink,
+>(
     run: &Run<'_>,
     number: u32,
-    gate: &G,
+    crew: &Crew<'_, R, G>,
     boxes: &mut Vec<C>,
     devices: &mut Devices<'_, '_, '_, S, K, E>,
 ) -> Result<Status, AllocError>
@@ -99,7 +116,7 @@ fn run_whole<G: Gate, C: Calculator, S: Source, K: Sink, E: Sink>(
     ensures same { SameDevices devices.old devices.new }
 {
     let ends = ends_of(run, number)?;
-    let status = run_batches(run, gate, boxes, ends.0, ends.1, devices)?;
+    let status = run_batches(run, crew, boxes, ends.0, ends.1, devices)?;
     Ok(status)
 }
 

@@ -1,3 +1,10 @@
+ghost use Rattle.std.specs.Prelude.{◌≡◌, OnOk};
+ghost use Rattle.mg_node.specs.Job.{LoggedJob};
+ghost use Rattle.mg_sched.specs.StandsFor.{StandsFor, StandsForSome, IsRunning};
+ghost use Rattle.mg_sched.specs.AtRest.{IsAtRest};
+ghost use Rattle.mg_sched.specs.Taking.{taken_out};
+ghost use Rattle.mg_drive.specs.Nets.{Keeps};
+
 use crate::Driven;
 use mg_calc::{Calculator, Inputs};
 use mg_edge::Gate;
@@ -11,16 +18,27 @@ pub struct OneThread<'a, C: Calculator, G: Gate> {
     pub gate: &'a G,
 }
 
+impl<'a, C: Calculator, G: Gate> OneThread<'a, C, G> {
+    /// Sweeps the net until no node can go further. It takes no set of the outputs.
+    pub fn to_rest(&mut self) -> Result<(), AllocError>
+        requires running { IsRunning self.old.net }
+        requires stands { StandsForSome self.old.net }
+        ensures rest { OnOk result (IsAtRest self.new.net) }
+        ensures running { IsRunning self.new.net }
+        ensures keeps { Keeps self.old.net self.new.net }
+        ensures taken { taken_out self.new.net ≡ taken_out self.old.net }
+        ensures stands { (job : LoggedJob) → StandsFor job self.old.net → StandsFor job self.new.net }
+    {
+        self.net.sweep(self.gate, &mut Deaf)?;
+        Ok(())
+    }
+}
+
 impl<'a, C: Calculator, G: Gate> Driven for OneThread<'a, C, G> {
     ghost net = { λ t. t.net };
 
     fn begin(&mut self) -> Result<(), AllocError> {
         self.net.begin()?;
-        Ok(())
-    }
-
-    fn to_rest(&mut self) -> Result<(), AllocError> {
-        self.net.sweep(self.gate, &mut Deaf)?;
         Ok(())
     }
 

@@ -11,7 +11,7 @@ ghost use Rattle.mg_drive.specs.Nets.{Keeps};
 ghost use Rattle.mg_drive.specs.Code.Running.{Start, IsUnderWay, IsSomeRun, IsShort};
 ghost use Rattle.mg_drive.specs.Code.Ending.{CameBack, since, HasEnded, HasRun, RanShort};
 
-use crate::{Batch, Batches, Driven, Ends, OneThread, Telling, drive, finish};
+use crate::{Batch, Batches, Crew, Ends, ManyThreads, OneThread, Telling, drive, finish};
 use mg_answer::{Devices, Run, Status};
 use mg_calc::Calculator;
 use mg_edge::{Gate, Sink, Source};
@@ -20,25 +20,36 @@ use mg_sched::Net;
 use mg_value::InputSet;
 use std::alloc::AllocError;
 use std::mem;
+use std::sync::Wait;
+use std::thread::Threads;
 
 /// Runs a net that was made over the first batch, and ends the run.
-pub fn run_net<N: Driven, B: Batches, T: Telling, S: Source, K: Sink, E: Sink>(
+pub fn run_net<
+    R: Threads + Wait + Sync,
+    G: Gate + Sync,
+    C: Calculator + Send,
+    B: Batches,
+    T: Telling,
+    S: Source,
+    K: Sink,
+    E: Sink,
+>(
     run: &Run<'_>,
-    net: &mut N,
+    net: &mut ManyThreads<'_, C, R, G>,
     ends: Ends<B, T>,
     first: BatchEnd,
     devices: &mut Devices<'_, '_, '_, S, K, E>,
 ) -> Result<Status, AllocError>
-    requires under_way { IsSomeRun B.gives T.has_told run.now.plan.now first (S.told devices.old.input.now) (K.told devices.old.output.now) ends.batches ends.telling (N.net net.old) }
-    requires places { length ends.set ≡ length (N.net net.old).plan.outputs }
+    requires under_way { IsSomeRun B.gives T.has_told run.now.plan.now first (S.told devices.old.input.now) (K.told devices.old.output.now) ends.batches ends.telling net.old.one.net }
+    requires places { length ends.set ≡ length net.old.one.net.plan.outputs }
     ensures ended { IfOk result (λ status. (start : Start B) → start.plan ≡ run.now.plan.now
-        → IsUnderWay B.gives T.has_told start first (S.told devices.old.input.now) (K.told devices.old.output.now) ends.batches ends.telling (N.net net.old)
-        → HasEnded B.gives T.form run.now.report start status (S.told devices.new.input.now) (K.told devices.new.output.now) (told_by S.told K.told E.told devices.old devices.new).notes (N.net net.new)) }
+        → IsUnderWay B.gives T.has_told start first (S.told devices.old.input.now) (K.told devices.old.output.now) ends.batches ends.telling net.old.one.net
+        → HasEnded B.gives T.form run.now.report start status (S.told devices.new.input.now) (K.told devices.new.output.now) (told_by S.told K.told E.told devices.old devices.new).notes net.new.one.net) }
     ensures short { OnErr result ((start : Start B) → start.plan ≡ run.now.plan.now
-        → IsUnderWay B.gives T.has_told start first (S.told devices.old.input.now) (K.told devices.old.output.now) ends.batches ends.telling (N.net net.old)
-        → IsShort B.gives T.has_told T.form start (S.told devices.new.input.now) (K.told devices.new.output.now) (N.net net.new)) }
+        → IsUnderWay B.gives T.has_told start first (S.told devices.old.input.now) (K.told devices.old.output.now) ends.batches ends.telling net.old.one.net
+        → IsShort B.gives T.has_told T.form start (S.told devices.new.input.now) (K.told devices.new.output.now) net.new.one.net) }
     ensures unnoted { OnErr result (E.told devices.new.notes.now ≡ E.told devices.old.notes.now) }
-    ensures keeps { Keeps (N.net net.old) (N.net net.new) }
+    ensures keeps { Keeps net.old.one.net net.new.one.net }
     ensures unread { B.reads ≡ false → S.told devices.new.input.now ≡ S.told devices.old.input.now }
     ensures same { SameDevices devices.old devices.new }
 {
@@ -49,10 +60,19 @@ pub fn run_net<N: Driven, B: Batches, T: Telling, S: Source, K: Sink, E: Sink>(
     Ok(status)
 }
 
-// Makes the net of the first batch, runs it on this thread, and takes the calculators out of it again.
-fn run_made_net<G: Gate, C: Calculator, B: Batches, T: Telling, S: Source, K: Sink, E: Sink>(
+// Makes the net of the first batch, runs it with the plan's number of workers, and takes the calculators out of it again.
+fn run_made_net<
+    R: Threads + Wait + Sync,
+    G: Gate + Sync,
+    C: Calculator + Send,
+    B: Batches,
+    T: Telling,
+    S: Source,
+    K: Sink,
+    E: Sink,
+>(
     run: &Run<'_>,
-    gate: &G,
+    crew: &Crew<'_, R, G>,
     boxes: &mut Vec<C>,
     ends: Ends<B, T>,
     first: Batch,
@@ -75,9 +95,25 @@ fn run_made_net<G: Gate, C: Calculator, B: Batches, T: Telling, S: Source, K: Si
     let handed = mem::replace(boxes, Vec::new(run.alloc));
     match Net::new(run.alloc, run.plan, &first.inputs, handed) {
         Ok(net) => {
-            let mut driven = OneThread { net, gate };
+            let mut driven = ManyThreads {
+                one: OneThread {
+                    net,
+                    gate: crew.gate,
+                },
+                rt: crew.rt,
+                alloc: run.alloc,
+                workers: run.plan.workers,
+                fresh: true,
+            };
             let ran = run_net(run, &mut driven, ends, first.end, devices);
-            let OneThread { net, gate: _ } = driven;
+            let ManyThreads {
+                one,
+                rt: _,
+                alloc: _,
+                workers: _,
+                fresh: _,
+            } = driven;
+            let OneThread { net, gate: _ } = one;
             *boxes = net.give_back();
             ran
         }
@@ -88,11 +124,20 @@ fn run_made_net<G: Gate, C: Calculator, B: Batches, T: Telling, S: Source, K: Si
     }
 }
 
-/// Runs the graph of a plan over batches, with the calculators that are handed in, and leaves these in their places. All sets of its
-/// outputs are told, and at the end the notes are written.
-pub fn run_batches<G: Gate, C: Calculator, B: Batches, T: Telling, S: Source, K: Sink, E: Sink>(
+/// Runs the graph of a plan over batches, by as many workers as the plan says, with the calculators that are handed in, and leaves these
+/// in their places. All sets of its outputs are told, and at the end the notes are written.
+pub fn run_batches<
+    R: Threads + Wait + Sync,
+    G: Gate + Sync,
+    C: Calculator + Send,
+    B: Batches,
+    T: Telling,
+    S: Source,
+    K: Sink,
+    E: Sink,
+>(
     run: &Run<'_>,
-    gate: &G,
+    crew: &Crew<'_, R, G>,
     boxes: &mut Vec<C>,
     batches: B,
     telling: T,
@@ -116,6 +161,6 @@ pub fn run_batches<G: Gate, C: Calculator, B: Batches, T: Telling, S: Source, K:
         set,
     };
     let first = ends.batches.next(devices.input)?;
-    let status = run_made_net(run, gate, boxes, ends, first, devices)?;
+    let status = run_made_net(run, crew, boxes, ends, first, devices)?;
     Ok(status)
 }

@@ -11,6 +11,8 @@ use mg_run::{run_words, tally_box};
 use mg_value::MgText;
 use serde_json::Value;
 use std::alloc::{AllocError, Global};
+use std::sync::Wait;
+use std::thread::Threads;
 
 // The room of a sink where a case gives none: more than most texts take.
 const ROOM: u64 = 1 << 20;
@@ -54,7 +56,13 @@ struct Devices {
 }
 
 /// Makes one of a case's calls. The status is the one to exit with.
-pub fn make_call(alloc: Global, texts: &Texts, case: &Value, choice: Choice) -> Result<Outcome> {
+pub fn make_call<R: Threads + Wait + Sync>(
+    rt: &R,
+    alloc: Global,
+    texts: &Texts,
+    case: &Value,
+    choice: Choice,
+) -> Result<Outcome> {
     let words = words_of(alloc, case, choice)?;
     let mut devices = Devices {
         store: store_of(alloc, texts, case, choice)?,
@@ -72,6 +80,7 @@ pub fn make_call(alloc: Global, texts: &Texts, case: &Value, choice: Choice) -> 
     let end: Box<dyn Calculator + Send> = Box::new(alloc, end_loop_box(alloc, true)?)?;
     boxes.push(end)?;
     let status = run_words(
+        rt,
         alloc,
         &words,
         &mut devices.store,

@@ -8,6 +8,8 @@ use crate::text::{Texts, bytes_of};
 use anyhow::{Result, ensure};
 use serde_json::Value;
 use std::alloc::Global;
+use std::sync::Wait;
+use std::thread::Threads;
 
 // The keys of a case.
 const KEYS: [&str; 21] = [
@@ -47,14 +49,19 @@ pub enum Verdict {
 
 /// Reads a line, keeps the text that it names, and makes the calls of its case. An error says why it is no line of a
 /// table. A line that says so of a text passes where that text is refused.
-pub fn judge(alloc: Global, texts: &mut Texts, line: &str) -> Result<Verdict> {
+pub fn judge<R: Threads + Wait + Sync>(
+    rt: &R,
+    alloc: Global,
+    texts: &mut Texts,
+    line: &str,
+) -> Result<Verdict> {
     let said = read(alloc, line)?;
     let Some(refused) = text(&said, "refused")? else {
-        return act(alloc, texts, &said);
+        return act(rt, alloc, texts, &said);
     };
     knows(&said, &["refused"])?;
     let is_refused = match read(alloc, refused) {
-        Ok(said) => act(alloc, texts, &said).is_err(),
+        Ok(said) => act(rt, alloc, texts, &said).is_err(),
         Err(_) => true,
     };
     ensure!(is_refused, "taken for a line of a table: {refused}");
@@ -62,10 +69,15 @@ pub fn judge(alloc: Global, texts: &mut Texts, line: &str) -> Result<Verdict> {
 }
 
 // Does what a line says: a case's calls, or a text's naming.
-fn act(alloc: Global, texts: &mut Texts, said: &Value) -> Result<Verdict> {
+fn act<R: Threads + Wait + Sync>(
+    rt: &R,
+    alloc: Global,
+    texts: &mut Texts,
+    said: &Value,
+) -> Result<Verdict> {
     if let Some(name) = text(said, "case")? {
         knows(said, &KEYS)?;
-        return judge_case(alloc, texts, name, said);
+        return judge_case(rt, alloc, texts, name, said);
     }
     if let Some(name) = text(said, "text")? {
         knows(said, &["text", "is"])?;
@@ -100,13 +112,19 @@ fn name_text(alloc: Global, texts: &mut Texts, name: &str, said: &Value) -> Resu
     Ok(())
 }
 
-fn judge_case(alloc: Global, texts: &Texts, name: &str, case: &Value) -> Result<Verdict> {
+fn judge_case<R: Threads + Wait + Sync>(
+    rt: &R,
+    alloc: Global,
+    texts: &Texts,
+    name: &str,
+    case: &Value,
+) -> Result<Verdict> {
     let wanted = wanted_of(alloc, texts, case)?;
     for number in 0..usize::MAX {
         let Some(choice) = choice_of(alloc, case, number)? else {
             break;
         };
-        let came = make_call(alloc, texts, case, choice)?;
+        let came = make_call(rt, alloc, texts, case, choice)?;
         if let Some(how) = difference(alloc, case, &wanted, &came)? {
             let how = format!(in alloc; "{name}: call {number}: {choice}{how}")?;
             return Ok(Verdict::Failed(how));

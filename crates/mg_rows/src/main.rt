@@ -20,7 +20,7 @@ fn main(rt: HostRuntime) -> io::Result<()> {
     let (mut number, mut passed, mut failed) = (0u64, 0u64, 0u64);
     for line in rt.lines(alloc) {
         number = number.saturating_add(1);
-        match judge(alloc, &mut texts, line?.as_str()) {
+        match judge(&rt, alloc, &mut texts, line?.as_str()) {
             Ok(Verdict::Said) => {}
             Ok(Verdict::Passed) => passed = passed.saturating_add(1),
             Ok(Verdict::Failed(how)) => {

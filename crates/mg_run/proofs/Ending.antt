@@ -16,7 +16,7 @@ use Rattle.mg_drive.proofs.TracesRan.{traced_ended}
 use Rattle.mg_run.specs.Command.{reads_input}
 use Rattle.mg_run.specs.Task.{Task}
 use Rattle.mg_run.specs.Files.{Files, graphs, no_graphs}
-use Rattle.mg_run.specs.Answer.{Job, refuse, show, run_plan, solve, generate, trace, run_job, solve_job, check_job, generate_job, trace_job, verb_job, expanded_job, files_job, free_refusal, unless_refused, with_limit}
+use Rattle.mg_run.specs.Answer.{Job, refuse, show, run_plan, solve, generate, trace, run_job, solve_job, check_job, generate_job, trace_job, verb_job, expanded_job, files_job, free_refusal, unless_refused, with_limit, as_asked}
 use Rattle.mg_run.specs.Devices.{Device, Devices, run_of, Untouched, HasEnded}
 use Rattle.mg_run.specs.Call.{Did, IsJob, CallDid, Called, IsOneOf}
 use Rattle.mg_run.specs.Code.Job.{MayRead}
@@ -34,7 +34,7 @@ check-unread (Err fault) may = may
 generate-unread : (order : Order) (checked : Result Plan CheckFault) → MayRead (generate_job order checked) → ⊥
 generate-unread order (Ok plan) may = by (free_refusal (codes "generate") plan) may
   where
-    by : (note : Option (List ℕ)) → MayRead (unless_refused note (generate order.report order.number (with_limit order.limit plan))) → ⊥
+    by : (note : Option (List ℕ)) → MayRead (unless_refused note (generate order.report order.number (as_asked order plan))) → ⊥
     by None may = may
     by (Some note) may = may
 generate-unread order (Err fault) may = may
@@ -73,7 +73,7 @@ NeedsNone (trace report plan) = ⊥
 run-reads : (order : Order) (checked : Result Plan CheckFault) → NeedsNone (run_job order checked) → ⊥
 run-reads order (Ok plan) none = by (free_refusal (codes "run") plan) none
   where
-    by : (note : Option (List ℕ)) → NeedsNone (unless_refused note (run_plan order.report (with_limit order.limit plan))) → ⊥
+    by : (note : Option (List ℕ)) → NeedsNone (unless_refused note (run_plan order.report (as_asked order plan))) → ⊥
     by None none = none
     by (Some note) none = none
 run-reads order (Err fault) none = none

@@ -15,3 +15,5 @@ pub mod Getters
 pub mod Coming
 pub mod Handing
 pub mod LimitedPlans
+pub mod Unlimited
+pub mod AnyLimit

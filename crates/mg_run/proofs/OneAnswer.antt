@@ -9,7 +9,7 @@ use Rattle.mg_answer.proofs.OneAnswer.{one-answer, one-of}
 use Rattle.mg_drive.specs.Traced.{TracesEnded}
 use Rattle.mg_run.specs.Answer.{Answer, Job, refuse, show, run_plan, solve, generate, trace, IsAnswerOf, Records}
 
-one-of-run : (report : Bool) (plan : Plan) (input : List ℕ) (a b : Answer) → AnswersEnded report plan input a → AnswersEnded report plan input b → a ≡ b
+pub one-of-run : (report : Bool) (plan : Plan) (input : List ℕ) (a b : Answer) → AnswersEnded report plan input a → AnswersEnded report plan input b → a ≡ b
 one-of-run report plan input a b one two = one-answer report plan (ended_input (inputs_of plan) input) a b one two
 
 one-of-made : (report : Bool) (plan : Plan) (number : ℕ) (a b : Answer) → AnswersGenerated report plan number a → AnswersGenerated report plan number b → a ≡ b

@@ -1,6 +1,6 @@
 -- What the program answers: the output text, the notes and the status, by the command, by what its files are, and by the
 -- input's bytes. There is one answer (`src/laws.rt`).
-use Rattle.std.specs.Prelude.{◌≡◌, ℕ, ℤ, pos, negsuc, Bool, ◌==◌, List, [], ◌∷◌, codes, Option, None, Some, option_map, Result, Ok, Err, if◌then◌else◌}
+use Rattle.std.specs.Prelude.{◌≡◌, ℕ, ℤ, pos, negsuc, Bool, ◌==◌, List, [], ◌∷◌, codes, Option, None, Some, option_map, min, Result, Ok, Err, if◌then◌else◌}
 use Rattle.mg_text.specs.Canonical.{canonical}
 use Rattle.mg_config.specs.Config.{GraphView}
 use Rattle.mg_config.specs.Written.{tree_of}
@@ -19,6 +19,7 @@ pub use Rattle.mg_answer.specs.Answer.{Answer}
 use Rattle.mg_drive.specs.Traced.{TracesEnded}
 use Rattle.mg_free.specs.Core.{first_free}
 use Rattle.mg_run.specs.Notes.{expand_note, free_note}
+use Rattle.mg_run.specs.declared.limits.TheConstants.{MOST_WORKERS}
 use Rattle.mg_run.specs.declared.words.Order.{Order}
 use Rattle.mg_run.specs.declared.words.Verb.{Verb}
 use Rattle.mg_run.specs.declared.words.Verb.TheVariants.{Run, Solve, Check, Expand, Generate, Trace}
@@ -71,12 +72,21 @@ abbrev pub with_limit : Option ℤ → Plan → Plan
 with_limit None plan = plan
 with_limit (Some limit) plan = record plan { limit = limit_or limit plan.limit }
 
+-- A plan that is run by as many workers as the words ask for, where they do, and by 64 at most.
+abbrev pub with_workers : Option ℕ → Plan → Plan
+with_workers None plan = plan
+with_workers (Some workers) plan = record plan { workers = min workers MOST_WORKERS }
+
+-- a plan as it is run
+abbrev pub as_asked : Order → Plan → Plan
+as_asked order plan = with_workers order.workers (with_limit order.limit plan)
+
 abbrev pub run_job : Order → Result Plan CheckFault → Job
-run_job order (Ok plan) = unless_refused (free_refusal (codes "run") plan) (run_plan order.report (with_limit order.limit plan))
+run_job order (Ok plan) = unless_refused (free_refusal (codes "run") plan) (run_plan order.report (as_asked order plan))
 run_job order (Err fault) = refuse (check_note fault)
 
 abbrev pub generate_job : Order → Result Plan CheckFault → Job
-generate_job order (Ok plan) = unless_refused (free_refusal (codes "generate") plan) (generate order.report order.number (with_limit order.limit plan))
+generate_job order (Ok plan) = unless_refused (free_refusal (codes "generate") plan) (generate order.report order.number (as_asked order plan))
 generate_job order (Err fault) = refuse (check_note fault)
 
 abbrev pub trace_job : Order → Result Plan CheckFault → Job

@@ -59,20 +59,15 @@ line_of rows = record {
 abbrev pub keeps_rules : Line → Bool
 keeps_rules line = nat_le (length line.files) most_files && (is_some line.options.number || not (bytes_eq line.word (codes "generate")))
 
--- What isn't built yet: the option on workers.
-abbrev pub has_no_later_option : Options → Bool
-has_no_later_option options = not (is_some options.workers)
-
 -- The limit of queues that the options ask for, where they do; below 0 it is none. Of two the flag counts.
 abbrev pub limit_in : Options → Option ℤ
 limit_in options = if options.no_queue_limit then Some (negsuc 0) else option_map (λ size. pos (min size MOST_LIMIT)) options.max_queue_size
 
 abbrev pub order_in : Options → Verb → Order
-order_in options verb = record { verb = verb; limit = limit_in options; number = unwrap_or options.number 0; report = options.report }
+order_in options verb = record { verb = verb; limit = limit_in options; workers = options.workers; number = unwrap_or options.number 0; report = options.report }
 
 abbrev pub command_in : Line → Option Command
-command_in line =
-    if keeps_rules line && has_no_later_option line.options then option_map (λ verb. command (order_in line.options verb) line.files) (verb_of line.word) else None
+command_in line = if keeps_rules line then option_map (λ verb. command (order_in line.options verb) line.files) (verb_of line.word) else None
 
 -- What the words ask for --
 

@@ -19,14 +19,19 @@ use crate::outers::outers_of;
 use crate::words::{Asked, Order, USAGE, asked_of};
 use mg_answer::{Devices, Run, Status, note_out_of_memory, note_write_fault, solve_input};
 use mg_calc::{Calculator, OuterShape};
-use mg_drive::{run_lines, run_made, trace_lines};
+use mg_drive::{Crew, run_lines, run_made, trace_lines};
 use mg_edge::{Gate, Sink, Source, Store};
 use mg_feed::put_all;
 use mg_value::MgText;
 use std::alloc::Global;
+use std::sync::Wait;
+use std::thread::Threads;
 
-/// Does what the words of a command line say, and answers the status to exit with.
-pub fn run_words<S: Source, K: Sink, E: Sink, T: Store, G: Gate>(
+/// Does what the words of a command line say, and answers the status to exit with. A `run` and a `generate` call workers, so many as the
+/// option `--workers` says, or else the graph's `num_threads`, each in a thread of its own; with none of them the call waits for nobody.
+/// Their number changes nothing of what the call answers.
+pub fn run_words<R: Threads + Wait + Sync, S: Source, K: Sink, E: Sink, T: Store, G: Gate + Sync>(
+    rt: &R,
     alloc: Global,
     words: &[MgText],
     store: &mut T,
@@ -87,14 +92,22 @@ pub fn run_words<S: Source, K: Sink, E: Sink, T: Store, G: Gate>(
         output,
         notes,
     };
-    do_words(alloc, words, gate, boxes, store, &mut devices)
+    do_words(alloc, words, &Crew { rt, gate }, boxes, store, &mut devices)
 }
 
 // Judges the words, and does what they ask for.
-fn do_words<G: Gate, C: Calculator, S: Source, K: Sink, E: Sink, T: Store>(
+fn do_words<
+    R: Threads + Wait + Sync,
+    G: Gate + Sync,
+    C: Calculator + Send,
+    S: Source,
+    K: Sink,
+    E: Sink,
+    T: Store,
+>(
     alloc: Global,
     words: &[MgText],
-    gate: &G,
+    crew: &Crew<'_, R, G>,
     boxes: &mut Vec<C>,
     store: &mut T,
     devices: &mut Devices<'_, '_, '_, S, K, E>,
@@ -105,7 +118,7 @@ fn do_words<G: Gate, C: Calculator, S: Source, K: Sink, E: Sink, T: Store>(
     ensures same { SameDevices devices.old devices.new }
 {
     match asked_of(alloc, words) {
-        Ok(asked) => do_asked(alloc, asked, gate, boxes, store, devices),
+        Ok(asked) => do_asked(alloc, asked, crew, boxes, store, devices),
         Err(_) => {
             note_out_of_memory(devices.notes);
             Status::OutOfMemory
@@ -113,10 +126,18 @@ fn do_words<G: Gate, C: Calculator, S: Source, K: Sink, E: Sink, T: Store>(
     }
 }
 
-fn do_asked<G: Gate, C: Calculator, S: Source, K: Sink, E: Sink, T: Store>(
+fn do_asked<
+    R: Threads + Wait + Sync,
+    G: Gate + Sync,
+    C: Calculator + Send,
+    S: Source,
+    K: Sink,
+    E: Sink,
+    T: Store,
+>(
     alloc: Global,
     asked: Asked,
-    gate: &G,
+    crew: &Crew<'_, R, G>,
     boxes: &mut Vec<C>,
     store: &mut T,
     devices: &mut Devices<'_, '_, '_, S, K, E>,
@@ -132,7 +153,7 @@ fn do_asked<G: Gate, C: Calculator, S: Source, K: Sink, E: Sink, T: Store>(
                 order,
                 files: &files,
             };
-            do_command(alloc, &ordered, gate, boxes, store, devices)
+            do_command(alloc, &ordered, crew, boxes, store, devices)
         }
         Asked::Help => told(devices.output, devices.notes, help_text()),
         Asked::Version => told(devices.output, devices.notes, version_text()),
@@ -164,10 +185,18 @@ struct Ordered<'a> {
 }
 
 // Does what a command says, with these calculators at hand.
-fn do_command<G: Gate, C: Calculator, S: Source, K: Sink, E: Sink, T: Store>(
+fn do_command<
+    R: Threads + Wait + Sync,
+    G: Gate + Sync,
+    C: Calculator + Send,
+    S: Source,
+    K: Sink,
+    E: Sink,
+    T: Store,
+>(
     alloc: Global,
     ordered: &Ordered<'_>,
-    gate: &G,
+    crew: &Crew<'_, R, G>,
     boxes: &mut Vec<C>,
     store: &mut T,
     devices: &mut Devices<'_, '_, '_, S, K, E>,
@@ -184,7 +213,7 @@ fn do_command<G: Gate, C: Calculator, S: Source, K: Sink, E: Sink, T: Store>(
                 files: ordered.files,
                 outers: &outers,
             };
-            serve(alloc, &duty, gate, boxes, store, devices)
+            serve(alloc, &duty, crew, boxes, store, devices)
         }
         Err(_) => {
             note_out_of_memory(devices.notes);
@@ -202,10 +231,18 @@ struct Duty<'a> {
 }
 
 // Loads all files, and does what the verb has to do with them.
-fn serve<G: Gate, C: Calculator, S: Source, K: Sink, E: Sink, T: Store>(
+fn serve<
+    R: Threads + Wait + Sync,
+    G: Gate + Sync,
+    C: Calculator + Send,
+    S: Source,
+    K: Sink,
+    E: Sink,
+    T: Store,
+>(
     alloc: Global,
     duty: &Duty<'_>,
-    gate: &G,
+    crew: &Crew<'_, R, G>,
     boxes: &mut Vec<C>,
     store: &mut T,
     devices: &mut Devices<'_, '_, '_, S, K, E>,
@@ -220,7 +257,7 @@ fn serve<G: Gate, C: Calculator, S: Source, K: Sink, E: Sink, T: Store>(
 {
     match load_all(alloc, store, duty.files) {
         Ok(contents) => match job_of(alloc, duty.order, duty.outers, duty.files, contents) {
-            Ok(job) => do_job(alloc, job, gate, boxes, devices),
+            Ok(job) => do_job(alloc, job, crew, boxes, devices),
             Err(_) => {
                 note_out_of_memory(devices.notes);
                 Status::OutOfMemory
@@ -237,10 +274,17 @@ fn serve<G: Gate, C: Calculator, S: Source, K: Sink, E: Sink, T: Store>(
     }
 }
 
-fn do_job<G: Gate, C: Calculator, S: Source, K: Sink, E: Sink>(
+fn do_job<
+    R: Threads + Wait + Sync,
+    G: Gate + Sync,
+    C: Calculator + Send,
+    S: Source,
+    K: Sink,
+    E: Sink,
+>(
     alloc: Global,
     job: Job,
-    gate: &G,
+    crew: &Crew<'_, R, G>,
     boxes: &mut Vec<C>,
     devices: &mut Devices<'_, '_, '_, S, K, E>,
 ) -> Status
@@ -263,7 +307,7 @@ fn do_job<G: Gate, C: Calculator, S: Source, K: Sink, E: Sink>(
                 plan: &plan,
                 report,
             },
-            gate,
+            crew,
             boxes,
             devices,
         ),
@@ -282,7 +326,7 @@ fn do_job<G: Gate, C: Calculator, S: Source, K: Sink, E: Sink>(
                 report,
             },
             number,
-            gate,
+            crew,
             boxes,
             devices,
         ),
@@ -292,7 +336,7 @@ fn do_job<G: Gate, C: Calculator, S: Source, K: Sink, E: Sink>(
                 plan: &plan,
                 report,
             },
-            gate,
+            crew.gate,
             boxes,
             devices,
         ),

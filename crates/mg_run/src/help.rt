@@ -45,7 +45,6 @@ options:\n\
 \x20 --report             note what each node and each stream did\n\
 \x20 -h, --help           write this text\n\
 \x20 -V, --version        write the version\n\
-This version has no --workers yet.\n\
 \n\
 statuses:\n\
 \x20 0  all went well\n\

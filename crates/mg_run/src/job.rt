@@ -17,6 +17,7 @@ use crate::check_note::{check_note, check_text};
 use crate::fault::Fault;
 use crate::files::graphs_of;
 use crate::free_note::free_note;
+use crate::limits::MOST_WORKERS;
 use crate::note::expand_note;
 use crate::words::{Order, Verb};
 use mg_calc::{OuterShape, Plan};
@@ -190,7 +191,7 @@ fn run_job(
     match check(alloc, graph, outers) {
         Ok(plan) => match free_note(alloc, b"run", &plan)? {
             Some(note) => Ok(Job::Refuse(note)),
-            None => Ok(Job::Run(order.report, limited(order.limit, plan))),
+            None => Ok(Job::Run(order.report, as_asked(order, plan))),
         },
         Err(fault) => Ok(Job::Refuse(check_note(alloc, &fault)?)),
     }
@@ -212,7 +213,7 @@ fn generate_job(
         Ok(plan) => match free_note(alloc, b"generate", &plan)? {
             Some(note) => Ok(Job::Refuse(note)),
             None => {
-                let plan = limited(order.limit, plan);
+                let plan = as_asked(order, plan);
                 Ok(Job::Generate(order.report, order.number, plan))
             }
         },
@@ -269,6 +270,37 @@ fn with_limit(limit: i32, plan: Plan) -> Plan
     let mut plan = plan;
     plan.limit = limit_or(limit, plan.limit);
     plan
+}
+
+// A plan that is run by so many workers, where the words say so.
+fn with_workers(workers: Option<u32>, plan: Plan) -> Plan
+    ensures workers { result ≡ answers.with_workers workers plan }
+    ensures valid { IsValid plan → IsValid result }
+    ensures fit { (outers : List OuterShape) → OutersFit plan outers → OutersFit result outers }
+{
+    match workers {
+        Some(workers) => worked_by(workers, plan),
+        None => plan,
+    }
+}
+
+fn worked_by(workers: u32, plan: Plan) -> Plan
+    ensures workers { result ≡ answers.with_workers (Some workers) plan }
+    ensures valid { IsValid plan → IsValid result }
+    ensures fit { (outers : List OuterShape) → OutersFit plan outers → OutersFit result outers }
+{
+    let mut plan = plan;
+    plan.workers = workers.min(MOST_WORKERS);
+    plan
+}
+
+// A plan as it is run.
+fn as_asked(order: Order, plan: Plan) -> Plan
+    ensures asked { result ≡ answers.as_asked order plan }
+    ensures valid { IsValid plan → IsValid result }
+    ensures fit { (outers : List OuterShape) → OutersFit plan outers → OutersFit result outers }
+{
+    with_workers(order.workers, limited(order.limit, plan))
 }
 
 /// The text of a configuration.

@@ -1,5 +1,5 @@
 //! Laws of the definitions: each function does nothing, and its contract is the law.
-ghost use Rattle.std.specs.Prelude.{◌≡◌, ◌≤◌, ℕ, Bool, List, ◌∷◌, Ok, length};
+ghost use Rattle.std.specs.Prelude.{◌≡◌, ◌≤◌, ℕ, ℤ, Bool, List, ◌∷◌, Option, None, Ok, length};
 ghost use Rattle.mg_calc.specs.declared.plan.Plan.{Plan};
 ghost use Rattle.mg_calc.specs.Told.{CalculatorTold};
 ghost use Rattle.mg_text.specs.Answer.{max_len};
@@ -7,7 +7,8 @@ ghost use Rattle.mg_config.specs.Config.{GraphView};
 ghost use Rattle.mg_subgraph.specs.Expansion.{expansion_of};
 ghost use Rattle.mg_run.specs.File.{File, graph, IsFile};
 ghost use Rattle.mg_run.specs.Files.{Files, AreGraphs, AreFiles};
-ghost use Rattle.mg_run.specs.Answer.{Answer, Job, run_plan, trace, IsAnswerOf, Records, graph_text};
+ghost use Rattle.mg_run.specs.Task.{Task};
+ghost use Rattle.mg_run.specs.Answer.{Answer, Job, run_plan, solve, trace, job_of, with_limit, IsAnswerOf, Records, graph_text};
 
 /// A content is one file at most: so what the program answers to it is one answer.
 pub fn one_file()
@@ -27,6 +28,22 @@ pub fn one_answer()
     ensures ends { (job : Job) (boxes : List CalculatorTold) (input : List ℕ) (a b : Answer) → IsAnswerOf job boxes input a → IsAnswerOf job boxes input b → (a.notes ≡ b.notes) × (a.status ≡ b.status) }
     ensures as_run { (report : Bool) (plan : Plan) (boxes : List CalculatorTold) (input : List ℕ) (a b : Answer) → IsAnswerOf (trace report plan) boxes input a → IsAnswerOf (run_plan report plan) boxes input b
         → (a.notes ≡ b.notes) × (a.status ≡ b.status) }
+{}
+
+/// Neither the limit of queues nor the number of workers changes an answer: whatever the words ask for, the answer is that of the same words
+/// without these options. Of a recorded run the notes and the status are the same.
+pub fn limits_and_workers_change_no_answer()
+    ensures words { (task : Task) (files : Files) (boxes : List CalculatorTold) (input : List ℕ) (a : Answer) → ¬ Records (job_of task files)
+        → IsAnswerOf (job_of task files) boxes input a → IsAnswerOf (job_of (record task { order = record task.order { limit = None; workers = None } }) files) boxes input a }
+    ensures recorded { (report : Bool) (limit : Option ℤ) (plan : Plan) (boxes : List CalculatorTold) (input : List ℕ) (a b : Answer)
+        → IsAnswerOf (trace report (with_limit limit plan)) boxes input a → IsAnswerOf (run_plan report plan) boxes input b
+        → (a.notes ≡ b.notes) × (a.status ≡ b.status) }
+{}
+
+/// To run a graph, with whatever limit of queues, and to solve it is to answer the same.
+pub fn run_and_solve_answer_the_same()
+    ensures { (report : Bool) (limit : Option ℤ) (plan : Plan) (boxes : List CalculatorTold) (input : List ℕ) (a b : Answer)
+        → IsAnswerOf (run_plan report (with_limit limit plan)) boxes input a → IsAnswerOf (solve report plan) boxes input b → a ≡ b }
 {}
 
 /// The text of a graph says the same graph again, where it isn't too long for a file.

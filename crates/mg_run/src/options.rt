@@ -11,7 +11,7 @@ const MOST_LIMIT: u32 = 2_147_483_647;
 /// What the options of a command line say, of those that were used.
 #[derive(Clone, Copy, Debug, PartialEq, Eq)]
 pub struct Options {
-    /// How many threads work beside the one that calls, 0 to 64.
+    /// How many workers run the graph, 0 to 64.
     pub workers: Option<u32>,
     /// The limit of queues, 1 to 1,000,000 packets.
     pub max_queue_size: Option<u32>,
@@ -35,13 +35,6 @@ impl Options {
             no_queue_limit: flag_of(matches, "no-queue-limit"),
             report: flag_of(matches, "report"),
         }
-    }
-
-    /// Whether that on workers wasn't used, which is built later.
-    pub fn have_no_later(self) -> bool
-        ensures { result ≡ asking.has_no_later_option self }
-    {
-        self.workers.is_none()
     }
 
     /// The limit of queues that is asked for, as plans have it: below 0 there is none.

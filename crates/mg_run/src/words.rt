@@ -40,6 +40,8 @@ pub struct Order {
     pub verb: Verb,
     /// The limit of queues where the words say one, in packets; below 0 there is none. It is for runs alone.
     pub limit: Option<i32>,
+    /// How many workers run the graph where the words say so, 0 to 64. It is for runs that aren't recorded.
+    pub workers: Option<u32>,
     /// How many packets are made, where that is done, 0 to 1,000,000.
     pub number: u32,
     /// Whether the notes of a run or a solution end with a report.
@@ -111,11 +113,11 @@ fn asked_with(order: Option<Order>, files: Vec<MgText>) -> Asked
     }
 }
 
-// What is done, where the words are a command that is built so far.
+// What is done, where the words are a command.
 fn order_in(word: &str, files: usize, options: Options) -> Option<Order>
     ensures { (all : List (List ℕ)) → length all ≡ files → option_map (λ o. commands.command o all) result ≡ asking.command_in (record { word = word.now; files = all; options = options }) }
 {
-    if keeps_rules(word, files, options) && options.have_no_later() {
+    if keeps_rules(word, files, options) {
         ordered(verb_of(word), options)
     } else {
         None
@@ -129,6 +131,7 @@ fn ordered(verb: Option<Verb>, options: Options) -> Option<Order>
         Some(verb) => Some(Order {
             verb,
             limit: options.limit(),
+            workers: options.workers,
             number: options.number.unwrap_or(0),
             report: options.report,
         }),

@@ -7,7 +7,9 @@ use mg_calc::Calculator;
 use mg_edge::StillGate;
 use mg_run::{Status, run_words, tally_box};
 use std::alloc::Global;
+use std::sync::Wait;
 use std::test::Fail;
+use std::thread::Threads;
 
 /// How many boxes are handed in.
 const BOXES: usize = 4;
@@ -28,7 +30,12 @@ fn tell<C: Calculator>(
 }
 
 // What so many calls come to with the same four calculators, which tell their calls.
-fn told_of(alloc: Global, command: &str, calls: u32) -> Result<String, Fail> {
+fn told_of<R: Threads + Wait + Sync>(
+    rt: &R,
+    alloc: Global,
+    command: &str,
+    calls: u32,
+) -> Result<String, Fail> {
     let mut boxes = Vec::new(alloc);
     for _ in 0..BOXES {
         let tally: Box<dyn Calculator + Send> = Box::new(alloc, tally_box(alloc, true)?)?;
@@ -38,6 +45,7 @@ fn told_of(alloc: Global, command: &str, calls: u32) -> Result<String, Fail> {
     for _ in 0..calls {
         let mut outside = outside_of(alloc, command, counting(), two_packets())?;
         let status = run_words(
+            rt,
             alloc,
             &outside.words,
             &mut outside.store,
@@ -67,7 +75,14 @@ fn told_by_runs() -> &'static str {
 
 #[test]
 fn boxes_have_their_calls(rt: HostRuntime) -> Result<(), Fail> {
-    let told = told_of(rt.alloc(), "run", 2)?;
+    let told = told_of(&rt, rt.alloc(), "run", 2)?;
+    assert_text(told.as_str(), told_by_runs())
+}
+
+// Workers make the same calls.
+#[test]
+fn boxes_have_their_calls_by_workers(rt: HostRuntime) -> Result<(), Fail> {
+    let told = told_of(&rt, rt.alloc(), "run --workers 2", 2)?;
     assert_text(told.as_str(), told_by_runs())
 }
 
@@ -90,7 +105,7 @@ stream out packets=3 bound=Done
 
 #[test]
 fn boxes_have_their_calls_of_packets_that_are_made(rt: HostRuntime) -> Result<(), Fail> {
-    let told = told_of(rt.alloc(), "generate --report --number 3", 2)?;
+    let told = told_of(&rt, rt.alloc(), "generate --report --number 3", 2)?;
     assert_text(told.as_str(), told_by_generating())
 }
 
@@ -118,7 +133,7 @@ end
 
 #[test]
 fn boxes_have_their_calls_of_a_recorded_run(rt: HostRuntime) -> Result<(), Fail> {
-    let told = told_of(rt.alloc(), "trace", 1)?;
+    let told = told_of(&rt, rt.alloc(), "trace", 1)?;
     assert_text(told.as_str(), told_by_tracing())
 }
 
@@ -133,6 +148,6 @@ fn told_by_solve() -> &'static str {
 
 #[test]
 fn solve_calls_none(rt: HostRuntime) -> Result<(), Fail> {
-    let told = told_of(rt.alloc(), "solve", 1)?;
+    let told = told_of(&rt, rt.alloc(), "solve", 1)?;
     assert_text(told.as_str(), told_by_solve())
 }

@@ -5,7 +5,9 @@ use mg_edge::{Gate, MemorySink, MemorySource, MemoryStore, Sink, Source};
 use mg_run::{Status, run_words};
 use mg_value::MgText;
 use std::alloc::Global;
+use std::sync::Wait;
 use std::test::Fail;
+use std::thread::Threads;
 
 /// How many bytes each sink in memory takes.
 const ROOM: usize = 4096;
@@ -75,7 +77,8 @@ pub(crate) fn show_came(
 }
 
 /// Does this with a graph, for which no calculators are handed in.
-pub(crate) fn status_of<S: Source, K: Sink, E: Sink, G: Gate>(
+pub(crate) fn status_of<R: Threads + Wait + Sync, S: Source, K: Sink, E: Sink, G: Gate + Sync>(
+    rt: &R,
     alloc: Global,
     command: &str,
     graph: &str,
@@ -88,7 +91,7 @@ pub(crate) fn status_of<S: Source, K: Sink, E: Sink, G: Gate>(
     let mut store = store_of(alloc, graph)?;
     let mut boxes: Vec<Box<dyn Calculator + Send>> = Vec::new(alloc);
     Ok(run_words(
-        alloc, &words, &mut store, input, output, notes, &mut boxes, gate,
+        rt, alloc, &words, &mut store, input, output, notes, &mut boxes, gate,
     ))
 }
 

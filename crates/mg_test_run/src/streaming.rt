@@ -5,8 +5,10 @@ use crate::graphs::passing;
 use crate::outside::{assert_text, sink, status_of};
 use mg_edge::{Got, MemorySource, Put, Sink, Source, StillGate};
 use std::alloc::Global;
+use std::sync::Wait;
 use std::sync::atomic::{AtomicBool, Ordering};
 use std::test::Fail;
+use std::thread::Threads;
 
 // How many bytes a line has, with its line feed.
 const LINE: usize = 37;
@@ -79,7 +81,7 @@ fn source<'a>(alloc: Global, has_taken: &'a AtomicBool) -> Result<Impatient<'a>,
 }
 
 // The status and the notes of a call over many packets, and how many bytes it wrote.
-fn came_by(alloc: Global, command: &str) -> Result<String, Fail> {
+fn came_by<R: Threads + Wait + Sync>(rt: &R, alloc: Global, command: &str) -> Result<String, Fail> {
     let has_taken = AtomicBool::new(false);
     let mut input = source(alloc, &has_taken)?;
     let mut output = Noting {
@@ -88,6 +90,7 @@ fn came_by(alloc: Global, command: &str) -> Result<String, Fail> {
     };
     let mut notes = sink(alloc)?;
     let status = status_of(
+        rt,
         alloc,
         command,
         passing(),
@@ -102,13 +105,19 @@ fn came_by(alloc: Global, command: &str) -> Result<String, Fail> {
 
 #[test]
 fn streams_as_it_goes(rt: HostRuntime) -> Result<(), Fail> {
-    let came = came_by(rt.alloc(), "run")?;
+    let came = came_by(&rt, rt.alloc(), "run")?;
+    assert_text(came.as_str(), "0 380000 ")
+}
+
+#[test]
+fn streams_as_it_goes_with_workers(rt: HostRuntime) -> Result<(), Fail> {
+    let came = came_by(&rt, rt.alloc(), "run --workers 2")?;
     assert_text(came.as_str(), "0 380000 ")
 }
 
 // It reads all of its input first, so that the source fails.
 #[test]
 fn solve_writes_at_the_end(rt: HostRuntime) -> Result<(), Fail> {
-    let came = came_by(rt.alloc(), "solve")?;
+    let came = came_by(&rt, rt.alloc(), "solve")?;
     assert_text(came.as_str(), "7 311296 read fault after line 8192\n")
 }

@@ -4,8 +4,10 @@ use crate::graphs::{five_packets, thinned, thinning};
 use crate::outside::{assert_text, outside_of, show_came, status_of};
 use mg_edge::Gate;
 use std::alloc::Global;
+use std::sync::Wait;
 use std::sync::atomic::{AtomicU64, Ordering};
 use std::test::Fail;
+use std::thread::Threads;
 
 // Counts its calls, and those that don't come in turn: node 0 with the numbers from 0 on, in and out again.
 #[derive(Drop)]
@@ -51,9 +53,15 @@ impl Gate for Counts {
 }
 
 // The status and the texts that a command comes to through a gate, over five packets where it reads any.
-fn came_through(alloc: Global, command: &str, gate: &Counts) -> Result<String, Fail> {
+fn came_through<R: Threads + Wait + Sync>(
+    rt: &R,
+    alloc: Global,
+    command: &str,
+    gate: &Counts,
+) -> Result<String, Fail> {
     let mut outside = outside_of(alloc, command, thinning(), five_packets())?;
     let status = status_of(
+        rt,
         alloc,
         command,
         thinning(),
@@ -70,7 +78,17 @@ fn came_through(alloc: Global, command: &str, gate: &Counts) -> Result<String, F
 fn gate_counts(rt: HostRuntime) -> Result<(), Fail> {
     let alloc = rt.alloc();
     let gate = Counts::new();
-    let came = came_through(alloc, "run", &gate)?;
+    let came = came_through(&rt, alloc, "run", &gate)?;
+    assert_text(came.as_str(), thinned())?;
+    assert_text(gate.show(alloc)?.as_str(), "5 5 0")
+}
+
+// Workers show a node its sets in the same turn.
+#[test]
+fn gate_counts_with_workers(rt: HostRuntime) -> Result<(), Fail> {
+    let alloc = rt.alloc();
+    let gate = Counts::new();
+    let came = came_through(&rt, alloc, "run --workers 2", &gate)?;
     assert_text(came.as_str(), thinned())?;
     assert_text(gate.show(alloc)?.as_str(), "5 5 0")
 }
@@ -80,7 +98,7 @@ fn gate_counts(rt: HostRuntime) -> Result<(), Fail> {
 fn gate_counts_packets_that_are_made(rt: HostRuntime) -> Result<(), Fail> {
     let alloc = rt.alloc();
     let gate = Counts::new();
-    let came = came_through(alloc, "generate --number 7", &gate)?;
+    let came = came_through(&rt, alloc, "generate --number 7", &gate)?;
     assert_text(came.as_str(), "0\nout packets=7 first=0 last=60 sum=21\n")?;
     assert_text(gate.show(alloc)?.as_str(), "7 7 0")
 }

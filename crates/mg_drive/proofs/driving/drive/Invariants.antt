@@ -8,12 +8,12 @@ use Rattle.mg_drive.proofs.driving.drive.Given as goal
 
 abbrev pub invariant-batches : goal.invariant-batches
 invariant-batches g l = record {
-  places : length l.ends.set ≡ length (g.N.Driven.net l.net).plan.outputs;
-  running : IsRunning (g.N.Driven.net l.net);
-  keeps : Keeps (g.N.Driven.net l.fn.net) (g.N.Driven.net l.net);
+  places : length l.ends.set ≡ length l.net.one.net.plan.outputs;
+  running : IsRunning l.net.one.net;
+  keeps : Keeps l.fn.net.one.net l.net.one.net;
   unread : g.B.Batches.reads ≡ false → g.S.Source.told l.input ≡ g.S.Source.told l.fn.input;
-  under_way : (start : Start g.row.B.Denot) → IsUnderWay g.B.Batches.gives g.T.Telling.has_told start l.fn.first (g.S.Source.told l.fn.input) (g.K.Sink.told l.fn.output) l.fn.ends.batches l.fn.ends.telling (g.N.Driven.net l.fn.net)
-      → IsUnderWay g.B.Batches.gives g.T.Telling.has_told start l.last (g.S.Source.told l.input) (g.K.Sink.told l.output) l.ends.batches l.ends.telling (g.N.Driven.net l.net);
+  under_way : (start : Start g.row.B.Denot) → IsUnderWay g.B.Batches.gives g.T.Telling.has_told start l.fn.first (g.S.Source.told l.fn.input) (g.K.Sink.told l.fn.output) l.fn.ends.batches l.fn.ends.telling l.fn.net.one.net
+      → IsUnderWay g.B.Batches.gives g.T.Telling.has_told start l.last (g.S.Source.told l.input) (g.K.Sink.told l.output) l.ends.batches l.ends.telling l.net.one.net;
 }
 
 abbrev pub decreases-batches : goal.decreases-batches

@@ -24,7 +24,7 @@ pub returns-in_err-ends-clause-back : goal.returns-in_err-ends-clause-back
 returns-in_err-ends-clause-back g c = same_back c.args.run.now.plan.now (map g.C.Calculator.told c.args.boxes.now.items) (map g.C.Calculator.told c.args.boxes.now.items) refl
 
 pub run_batches-requires-clause-nothing : goal.run_batches-requires-clause-nothing
-run_batches-requires-clause-nothing g c = λ sink. none_told c.args.run.now.plan.now c.in_ok-ends.ends.1 sink c.in_ok-ends.ensures.text
+run_batches-requires-clause-nothing g c κs within = λ sink. none_told c.args.run.now.plan.now c.in_ok-ends.ends.1 sink c.in_ok-ends.ensures.text
 
 pub returns-in_err-status-clause-short : goal.returns-in_err-status-clause-short
 returns-in_err-status-clause-short g c =

@@ -27,10 +27,10 @@ pub returns-in_err-ends-clause-back : goal.returns-in_err-ends-clause-back
 returns-in_err-ends-clause-back g c = same_back c.args.run.now.plan.now (map g.C.Calculator.told c.args.boxes.now.items) (map g.C.Calculator.told c.args.boxes.now.items) refl
 
 pub run_batches-requires-clause-fresh : goal.run_batches-requires-clause-fresh
-run_batches-requires-clause-fresh g c = are_waiting c.args.run.now.plan.now c.args.number c.in_ok-ends.ends.0.packets c.in_ok-ends.ensures.packets (made_is_job c.args.run.now.plan.now c.args.number c.requires.valid c.ranges.number.fits)
+run_batches-requires-clause-fresh g c κs within = are_waiting c.args.run.now.plan.now c.args.number c.in_ok-ends.ends.0.packets c.in_ok-ends.ensures.packets (made_is_job c.args.run.now.plan.now c.args.number c.requires.valid c.ranges.number.fits)
 
 pub run_batches-requires-clause-nothing : goal.run_batches-requires-clause-nothing
-run_batches-requires-clause-nothing g c = λ sink. none_summed c.args.run.now.plan.now c.in_ok-ends.ends.1 sink c.in_ok-ends.ensures.names c.in_ok-ends.ensures.nothing
+run_batches-requires-clause-nothing g c κs within = λ sink. none_summed c.args.run.now.plan.now c.in_ok-ends.ends.1 sink c.in_ok-ends.ensures.names c.in_ok-ends.ensures.nothing
 
 pub returns-in_err-status-clause-short : goal.returns-in_err-status-clause-short
 returns-in_err-status-clause-short g c =

@@ -20,10 +20,10 @@ pub returns-in_err-first-clause-back : goal.returns-in_err-first-clause-back
 returns-in_err-first-clause-back g c = same_back c.args.run.now.plan.now (map g.C.Calculator.told c.args.boxes.now.items) (map g.C.Calculator.told c.args.boxes.now.items) refl
 
 pub run_made_net-requires-clause-job : goal.run_made_net-requires-clause-job
-run_made_net-requires-clause-job g c = (c.in_ok-first.ensures.first c.args.run.now.plan.now c.requires.valid c.requires.fresh).is_job
+run_made_net-requires-clause-job g c κs within = (c.in_ok-first.ensures.first c.args.run.now.plan.now c.requires.valid c.requires.fresh).is_job
 
 pub run_made_net-requires-clause-first : goal.run_made_net-requires-clause-first
-run_made_net-requires-clause-first g c =
+run_made_net-requires-clause-first g c κs within =
     (c.args.batches, (g.S.Source.told c.args.devices.now.input.now, (c.in_ok-first.ensures.first c.args.run.now.plan.now c.requires.valid c.requires.fresh).given))
 
 pub returns-in_err-status-clause-short : goal.returns-in_err-status-clause-short

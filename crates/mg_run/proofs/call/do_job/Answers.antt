@@ -6,7 +6,7 @@ use Rattle.mg_run.proofs.Handing.{boxes_fit}
 use Rattle.mg_run.proofs.call.do_job.Goals as goal
 
 pub run_lines-requires-clause-boxes : goal.run_lines-requires-clause-boxes
-run_lines-requires-clause-boxes g c =
+run_lines-requires-clause-boxes g c κs within =
     let can = subst (λ (job : Job). CanBeDone (outers_told (map g.C.Calculator.told c.args.boxes.now.items)) (job_view job)) c.in-Run.is c.requires.can in
     boxes_fit c.in-Run.plan (map g.C.Calculator.told c.args.boxes.now.items) can.1 c.requires.lawful
 
@@ -16,6 +16,6 @@ trace_lines-requires-clause-boxes g c =
     boxes_fit c.in-Trace.plan (map g.C.Calculator.told c.args.boxes.now.items) can.1 c.requires.lawful
 
 pub run_made-requires-clause-boxes : goal.run_made-requires-clause-boxes
-run_made-requires-clause-boxes g c =
+run_made-requires-clause-boxes g c κs within =
     let can = subst (λ (job : Job). CanBeDone (outers_told (map g.C.Calculator.told c.args.boxes.now.items)) (job_view job)) c.in-Generate.is c.requires.can in
     boxes_fit c.in-Generate.plan (map g.C.Calculator.told c.args.boxes.now.items) can.1 c.requires.lawful

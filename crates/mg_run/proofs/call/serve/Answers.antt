@@ -41,8 +41,8 @@ returns-in-Err-OutOfMemory-clause-called g c =
     (device (g.S.Source.told c.args.devices.now.input.now) (g.S.Source.told c.args.devices.now.input.now)) (g.K.Sink.told c.args.devices.now.output.now)
     (device (g.E.Sink.told c.args.devices.now.notes.now) (g.E.Sink.told c.note_out_of_memory-in-Err-OutOfMemory.new.notes)) (map g.C.Calculator.told c.args.boxes.now.items) c.note_out_of_memory-in-Err-OutOfMemory.ensures
 
-pub do_job-requires : goal.do_job-requires
-do_job-requires g c = record {
-  can = subst (λ (outers : List OuterShape). CanBeDone outers (job_view c.in-Ok-job_of.job)) c.requires.told c.in-Ok-job_of.ensures.valid;
-  lawful = subst (λ (outers : List OuterShape). All MayBeHandedIn outers) c.requires.told c.requires.lawful;
-}
+pub do_job-requires-clause-can : goal.do_job-requires-clause-can
+do_job-requires-clause-can g c κs within = subst (λ (outers : List OuterShape). CanBeDone outers (job_view c.in-Ok-job_of.job)) c.requires.told c.in-Ok-job_of.ensures.valid
+
+pub do_job-requires-clause-lawful : goal.do_job-requires-clause-lawful
+do_job-requires-clause-lawful g c κs within = subst (λ (outers : List OuterShape). All MayBeHandedIn outers) c.requires.told c.requires.lawful

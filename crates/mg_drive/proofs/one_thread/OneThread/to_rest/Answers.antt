@@ -1,5 +1,5 @@
 use Rattle.mg_drive.proofs.Looping.{becomes_keeps}
-use Rattle.mg_drive.proofs.one_thread.OneThreadDriven.to_rest.Goals as goal
+use Rattle.mg_drive.proofs.one_thread.OneThread.to_rest.Goals as goal
 
 pub returns-in_err-sweep-clause-keeps : goal.returns-in_err-sweep-clause-keeps
 returns-in_err-sweep-clause-keeps g c = becomes_keeps c.args.self.now.net c.sweep.new.self c.in_err-sweep.ensures.becomes

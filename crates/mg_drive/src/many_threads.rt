@@ -1,0 +1,99 @@
+ghost use Rattle.std.specs.Prelude.{◌≡◌, OnOk};
+ghost use Rattle.mg_node.specs.Job.{LoggedJob};
+ghost use Rattle.mg_sched.specs.StandsFor.{StandsFor, StandsForSome, IsRunning};
+ghost use Rattle.mg_sched.specs.AtRest.{IsAtRest};
+ghost use Rattle.mg_sched.specs.Taking.{taken_out};
+ghost use Rattle.mg_workers.specs.Became.{Became};
+ghost use Rattle.mg_drive.specs.Nets.{Keeps};
+
+use crate::nothing::net_of_nothing;
+use crate::{Driven, OneThread};
+use mg_calc::{Calculator, Inputs};
+use mg_crew::run_workers;
+use mg_edge::Gate;
+use mg_sched::Report;
+use mg_value::InputSet;
+use std::alloc::{AllocError, Global};
+use std::mem;
+use std::sync::Wait;
+use std::thread::Threads;
+
+// How many packets a net has to hold before workers are called. What it does with fewer is left to the thread that drives it.
+const LEAST: u64 = 1;
+
+/// A net that workers run side by side, so many of them, and of which the thread that drives it does what they leave undone.
+pub struct ManyThreads<'a, C: Calculator, R, G: Gate> {
+    pub one: OneThread<'a, C, G>,
+    pub rt: &'a R,
+    pub alloc: Global,
+    pub workers: u32,
+    /// Whether the net has never been brought to rest. Its sources may have something to bring then.
+    pub fresh: bool,
+}
+
+impl<'a, C: Calculator + Send, R: Threads + Wait + Sync, G: Gate + Sync> ManyThreads<'a, C, R, G> {
+    // Lets the workers run the net, where it may be worth that. Meanwhile a net of no node stands in its place.
+    fn work(&mut self)
+        requires running { IsRunning self.old.one.net }
+        requires stands { StandsForSome self.old.one.net }
+        ensures running { IsRunning self.new.one.net }
+        ensures became { Became self.old.one.net self.new.one.net }
+    {
+        if self.workers == 0 || !self.fresh && self.one.net.held() < LEAST {
+            return;
+        }
+        self.fresh = false;
+        let Ok(nothing) = net_of_nothing(self.alloc) else {
+            return;
+        };
+        let net = mem::replace(&mut self.one.net, nothing);
+        self.one.net = run_workers(self.rt, self.alloc, net, self.workers, self.one.gate);
+    }
+
+    /// Lets the workers run the net, and then sweeps it until no node can go further. It takes no set of the outputs.
+    pub fn to_rest(&mut self) -> Result<(), AllocError>
+        requires running { IsRunning self.old.one.net }
+        requires stands { StandsForSome self.old.one.net }
+        ensures rest { OnOk result (IsAtRest self.new.one.net) }
+        ensures running { IsRunning self.new.one.net }
+        ensures keeps { Keeps self.old.one.net self.new.one.net }
+        ensures taken { taken_out self.new.one.net ≡ taken_out self.old.one.net }
+        ensures stands { (job : LoggedJob) → StandsFor job self.old.one.net → StandsFor job self.new.one.net }
+    {
+        self.work();
+        self.one.to_rest()?;
+        Ok(())
+    }
+}
+
+impl<'a, C: Calculator, R, G: Gate> Driven for ManyThreads<'a, C, R, G> {
+    ghost net = { λ t. t.one.net };
+
+    fn begin(&mut self) -> Result<(), AllocError> {
+        self.one.begin()?;
+        Ok(())
+    }
+
+    fn extend(&mut self, more: &Inputs) -> Result<(), AllocError> {
+        self.one.extend(more)?;
+        Ok(())
+    }
+
+    fn trim(&mut self) {
+        self.one.trim();
+    }
+
+    fn take_out(&mut self, into: &mut InputSet) -> bool {
+        self.one.take_out(into)
+    }
+
+    fn report(&self, alloc: Global) -> Result<Report, AllocError> {
+        let report = self.one.report(alloc)?;
+        Ok(report)
+    }
+
+    fn wind_up(&mut self) -> Result<(), AllocError> {
+        self.one.wind_up()?;
+        Ok(())
+    }
+}
