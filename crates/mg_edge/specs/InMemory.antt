@@ -1,5 +1,5 @@
 -- The objects in memory, as their contracts see them, and what each call answers and leaves.
-use Rattle.std.specs.Prelude.{ℕ, ◌-◌, min, List, [], ◌++◌, length, take, drop, ◌||◌, ◌==◌, nat_eq, if◌then◌else◌, Bool, Option, None, Some}
+use Rattle.std.specs.Prelude.{ℕ, ◌-◌, ◌^◌, min, List, [], ◌++◌, length, take, drop, ◌||◌, ◌==◌, nat_eq, if◌then◌else◌, Bool, Option, None, Some}
 use Rattle.std.specs.List.{list_any}
 use Rattle.mg_edge.specs.declared.source.Got.{Got}
 use Rattle.mg_edge.specs.declared.source.Got.TheVariants.{Bytes, End, Failed}
@@ -55,18 +55,24 @@ after_got source Failed =
 
 -- A sink in memory --
 
--- The bytes taken, how many it has room for in all, the numbers of the writes that fail, and how many writes and
--- faults there were.
+-- The bytes taken, how many it has room for in all, the most that one write takes, the numbers of the writes that
+-- fail, and how many writes and faults there were.
 pub record SinkState : Type 0 where
   pub taken : List ℕ
   pub room : ℕ
+  pub most : ℕ
   pub failing : List ℕ
   pub writes : ℕ
   pub faults : ℕ
 
--- A sink that has taken nothing yet.
+-- A sink that has taken nothing yet, and takes so many bytes at a write at most.
+abbrev pub slow_sink : ℕ → ℕ → List ℕ → SinkState
+slow_sink room most failing =
+    record { taken = []; room = room; most = most; failing = failing; writes = 0; faults = 0 }
+
+-- One that takes as many bytes at a write as there can be.
 abbrev pub empty_sink : ℕ → List ℕ → SinkState
-empty_sink room failing = record { taken = []; room = room; failing = failing; writes = 0; faults = 0 }
+empty_sink room failing = slow_sink room (2 ^ 64 - 1) failing
 
 abbrev pub sink_told : SinkState → SinkTold
 sink_told sink = record { taken = Some sink.taken; faults = sink.faults }
@@ -77,7 +83,7 @@ write_fails sink = list_any (λ number. nat_eq number sink.writes) sink.failing 
 
 -- What the next write of so many bytes answers.
 abbrev pub next_put : SinkState → ℕ → Put
-next_put sink len = if write_fails sink then PutFailed else Took (min len (sink.room - length sink.taken))
+next_put sink len = if write_fails sink then PutFailed else Took (min (min len sink.most) (sink.room - length sink.taken))
 
 -- What a write of a piece leaves that answers this.
 abbrev pub after_put : SinkState → List ℕ → Put → SinkState

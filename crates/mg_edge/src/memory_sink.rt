@@ -1,17 +1,19 @@
-ghost use Rattle.std.specs.Prelude.{◌≡◌, ◌<◌, length, IfOk, Some};
+ghost use Rattle.std.specs.Prelude.{◌≡◌, ◌<◌, ◌≤◌, length, IfOk, Some};
 ghost use Rattle.mg_edge.specs.Edge.{TakesWithin, WriteAppends, WriteFaultCounts};
-ghost use Rattle.mg_edge.specs.InMemory.{SinkState, empty_sink, sink_told, next_put, after_put};
+ghost use Rattle.mg_edge.specs.InMemory.{SinkState, empty_sink, slow_sink, sink_told, next_put, after_put};
 
 use crate::{Put, Sink};
 use std::alloc::{AllocError, Global};
 use std::marker::Model;
 
 /// A sink in memory with a fixed room, which fails at the writes that it is told to. Contracts see it as the bytes
-/// taken, the room, the numbers of the writes that fail, and how many writes and faults there were.
+/// taken, the room, the most that one write takes, the numbers of the writes that fail, and how many writes and faults
+/// there were.
 #[derive(Drop)]
 pub struct MemorySink {
     taken: Vec<u8>,
     room: usize,
+    most: usize,
     failing: Vec<u64>,
     writes: u64,
     faults: u64,
@@ -26,12 +28,13 @@ impl Model for MemorySink {
     ghost view = { λ s. record {
       taken = s.taken.items;
       room = s.room;
+      most = s.most;
       failing = s.failing.items;
       writes = s.writes;
       faults = s.faults;
     } };
 
-    ghost invariant = { λ s. (vec_len s.taken ≤ s.room) × (s.room ≤ vec_capacity s.taken) };
+    ghost invariant = { λ s. (vec_len s.taken ≤ s.room) × (s.room ≤ vec_capacity s.taken) × (1 ≤ s.most) };
 }
 
 impl MemorySink {
@@ -40,9 +43,24 @@ impl MemorySink {
     pub fn new(alloc: Global, room: usize, failing: &[u64]) -> Result<MemorySink, AllocError>
         ensures { IfOk result (λ sink. sink ≡ empty_sink room failing.now) }
     {
+        MemorySink::slow(alloc, room, usize::MAX, failing)
+    }
+
+    /// A sink as [`new`](MemorySink::new) makes it, of which one write takes at most `most` bytes, which is at least 1:
+    /// as a pipe or a socket takes what there is room for, and leaves the rest to the next write.
+    pub fn slow(
+        alloc: Global,
+        room: usize,
+        most: usize,
+        failing: &[u64],
+    ) -> Result<MemorySink, AllocError>
+        requires { 1 ≤ most }
+        ensures { IfOk result (λ sink. sink ≡ slow_sink room most failing.now) }
+    {
         Ok(MemorySink {
             taken: Vec::with_capacity(alloc, room)?,
             room,
+            most,
             failing: failing.to_vec(alloc)?,
             writes: 0,
             faults: 0,
@@ -89,7 +107,7 @@ impl Sink for MemorySink {
             self.faults = self.faults.saturating_add(1);
             return Put::Failed;
         }
-        let count = piece.len().min(left);
+        let count = piece.len().min(self.most).min(left);
         let Ok(()) = self.taken.extend_from_slice(&piece[..count]) else {
             unreachable!()
         };

@@ -1,8 +1,10 @@
-//! Sources, sinks and stores over the system: what a row of calls answers.
+//! Sources, sinks and stores over the system, and a slow sink: what a row of calls answers.
 
 ghost use Rattle.std.specs.Prelude.{IfOk, ◌≤◌};
 
-use mg_edge::{FolderStore, Got, Loaded, Put, ReaderSource, Sink, Source, Store, WriterSink};
+use mg_edge::{
+    FolderStore, Got, Loaded, MemorySink, Put, ReaderSource, Sink, Source, Store, WriterSink,
+};
 use mg_tables::{Calls, assert_rows};
 use std::alloc::Global;
 use std::io::{Cursor, ErrorKind, Read, Write};
@@ -136,4 +138,10 @@ fn a_writer_is_a_sink(rt: HostRuntime) -> Result<(), Fail> {
     assert_rows(rt.alloc(), &mut sink, "abc=3")?;
     let mut moody = Writes(WriterSink::new(Moody { calls: 0 }));
     assert_rows(rt.alloc(), &mut moody, "abc=1\nabc=Failed\nabc=Failed")
+}
+
+#[test]
+fn a_slow_sink_takes_little(rt: HostRuntime) -> Result<(), Fail> {
+    let mut sink = Writes(MemorySink::slow(rt.alloc(), 3, 2, &[1])?);
+    assert_rows(rt.alloc(), &mut sink, "abc=2\nc=Failed\ncd=1\nd=Failed")
 }
