@@ -22,7 +22,7 @@ use Rattle.mg_answer.specs.Told.{status_of}
 use Rattle.mg_answer.specs.Answer.{Read, Form, Telling, by_lines, output_in, Answer, ended_input, inputs_by, job_of, notes_at, failed_notes, answer_of, IsAnswer, AnswersEnded}
 use Rattle.mg_answer.specs.Devices.{Device, device, RunDevices, run_devices, Untouched, TookFront, Noted, HasRisen, Unrisen, NoneFailed}
 use Rattle.mg_answer.specs.Status.{IsOneOf}
-use Rattle.mg_answer.specs.Ran.{CameAs, CameTo, RanAll, RanShort, TookSome, Ran, IsAnswered}
+use Rattle.mg_answer.specs.Ran.{CameAs, CameTo, ReadSome, RanAll, RanShort, TookSome, Ran, IsAnswered}
 use Rattle.mg_answer.specs.Put.{TextView, HasPut}
 use Rattle.mg_answer.specs.Frozen.{frozen_notes, frozen_answer, WroteFrozen}
 use Rattle.mg_answer.specs.Wrote.{Meets, MetShort, WroteBy, Wrote}
@@ -34,6 +34,7 @@ use Rattle.mg_answer.specs.Gathered.{Gathered}
 use Rattle.mg_answer.specs.declared.status.Status.{Status}
 use Rattle.mg_answer.specs.declared.status.Status.TheVariants.{Good, StoreFault, Usage, GraphRefused, LineRefused, NodeFault, Stalled, ReadFault, WriteFault, OutOfMemory}
 use Rattle.mg_answer.proofs.Writing.{front-sent, put-sent}
+use Rattle.mg_answer.proofs.Gathering.{read-came}
 use Rattle.mg_answer.proofs.Telling.{open-stalled, bounds-told}
 
 -- The answer --
@@ -275,6 +276,19 @@ ran-read report plan ReadFault all ran some = (ran.read, ran.input)
 ran-read report plan WriteFault all ran some = (ran.read, ran.input)
 ran-read report plan OutOfMemory all ran some = absurd (some refl)
 
+-- it was read once, also where memory ran out
+pub ran-once : (report : Bool) (plan : Plan) (status : Status) (all : RunDevices) → Ran report plan status all → ReadSome (inputs_of plan) all.input
+ran-once report plan Good all ran = read-came (inputs_of plan) all.input ran.read ran.input
+ran-once report plan LineRefused all ran = read-came (inputs_of plan) all.input ran.read ran.input
+ran-once report plan StoreFault all ran = read-came (inputs_of plan) all.input ran.read ran.input
+ran-once report plan Usage all ran = read-came (inputs_of plan) all.input ran.read ran.input
+ran-once report plan GraphRefused all ran = read-came (inputs_of plan) all.input ran.read ran.input
+ran-once report plan NodeFault all ran = read-came (inputs_of plan) all.input ran.read ran.input
+ran-once report plan Stalled all ran = read-came (inputs_of plan) all.input ran.read ran.input
+ran-once report plan ReadFault all ran = read-came (inputs_of plan) all.input ran.read ran.input
+ran-once report plan WriteFault all ran = read-came (inputs_of plan) all.input ran.read ran.input
+ran-once report plan OutOfMemory all ran = ran.2
+
 abbrev pub ended_statuses : List Status
 ended_statuses = Good ∷ NodeFault ∷ Stalled ∷ []
 
@@ -324,7 +338,7 @@ ran-ended report plan OutOfMemory all ran one = absurd (no-one OutOfMemory (inr 
 pub steady-risen : (a b : ℕ) → b ≡ a → HasRisen a b → ⊥
 steady-risen a b steady risen = absurd (omega (arith, steady, risen))
 
-one-unrisen : (a b : ℕ) → b ≡ one_more a → Unrisen a b → ⊥
+pub one-unrisen : (a b : ℕ) → b ≡ one_more a → Unrisen a b → ⊥
 one-unrisen a b more un = absurd (omega (arith, more, un.0, un.1))
 
 pub rose-unrisen : (a b : ℕ) → Rose a b → Unrisen a b → ⊥
@@ -379,7 +393,7 @@ write-risen report plan OutOfMemory all ran risen = inr (inl refl)
 -- The whole input --
 
 -- where the input tells its bytes, and no read failed, what was read is what an input comes to that ends after them
-none-left : (ended : Bool) (before now : SourceTold) (bytes left : List ℕ) → before.left ≡ Some bytes → now.left ≡ Some left → MetEnd false ended before now → ended ≡ true → left ≡ []
+pub none-left : (ended : Bool) (before now : SourceTold) (bytes left : List ℕ) → before.left ≡ Some bytes → now.left ≡ Some left → MetEnd false ended before now → ended ≡ true → left ≡ []
 none-left true before now bytes left is is_left met e = let none : now.left ≡ Some [] = subst (λ (o : Option (List ℕ)). IfSome o (λ _. now.left ≡ Some [])) is met.none in cc
 none-left false before now bytes left is is_left met e = cc
 

@@ -1,7 +1,8 @@
 -- What a feed that read an input hands to a graph.
-use Rattle.std.proofs.Common.{◌≡◌, ◌≢◌, ℕ, List, [], length, Bool, false, Option, refl, sym, ap, ◌∙◌, subst}
+use Rattle.std.proofs.Common.{◌≡◌, ◌≢◌, ◌⊎◌, inl, inr, ℕ, List, [], length, Bool, false, Option, refl, sym, ap, ◌∙◌, subst}
 use Rattle.mg_edge.specs.Edge.{SourceTold}
 use Rattle.mg_edge.specs.Runs.{Gave}
+use Rattle.mg_edge.proofs.Runs.{Gave-start}
 use Rattle.mg_value.specs.Payload.{Plain}
 use Rattle.mg_value.specs.Prefix.{StreamPrefix}
 use Rattle.mg_calc.specs.declared.inputs.Inputs.{Inputs}
@@ -11,15 +12,18 @@ use Rattle.mg_feed.specs.Given.{ended_streams}
 use Rattle.mg_feed.specs.Stands.{Stands, AllGood, nothing_taken}
 use Rattle.mg_feed.specs.Fed.{Fed, Reading}
 use Rattle.mg_feed.specs.Came.{Came}
-use Rattle.mg_feed.specs.Ran.{MetEnd, FailedBy}
+use Rattle.mg_feed.specs.Ran.{MetEnd, late, Spends, Unfailed, ReadFailed, FailedBy}
+use Rattle.mg_feed.specs.Once.{StopsInTime, ReadsOnce}
 use Rattle.mg_feed.specs.Batch.{EndsAs, HasRead}
-use Rattle.mg_feed.proofs.Coming.{came-nothing}
+use Rattle.mg_feed.proofs.Accepting.{good-ends, good-few}
+use Rattle.mg_feed.proofs.Coming.{stops-nothing, came-nothing}
+use Rattle.mg_feed.proofs.Moving.{spends-late, unfailed-same}
 use Rattle.mg_feed.proofs.Holding.{given-untaken}
 use Rattle.mg_feed.specs.declared.feed_end.FeedEnd.{FeedEnd}
 use Rattle.mg_feed.specs.declared.feed_end.FeedEnd.TheVariants.{Ended, Failed, Refused, OutOfMemory}
 use Rattle.mg_answer.specs.Answer.{Read, end_by, is_ended}
 use Rattle.mg_answer.specs.Devices.{Device, device}
-use Rattle.mg_answer.specs.Ran.{CameAs, CameTo}
+use Rattle.mg_answer.specs.Ran.{CameAs, CameTo, ReadSome}
 use Rattle.mg_answer.specs.Gathered.{Gathered}
 
 abbrev read_of : List (List ℕ) → FeedEnd → Read
@@ -41,16 +45,63 @@ came-as OutOfMemory graph before now came lines ended some ends met = absurd (so
 
 pub came-by : (graph : GraphInputs) (input : Device SourceTold) (came : List ℕ) (lines : List (List ℕ)) (end : FeedEnd) (ended : Bool) → Gave input.before.left input.now.left came
     → EndsAs end graph [] came lines ended → MetEnd false ended input.before input.now → FailedBy end input.before input.now → end ≢ OutOfMemory
-    → CameTo graph input (record { lines = lines; end = end })
-came-by graph input came lines end ended gave ends met failed some =
-    record { came = came; gave = gave; by = came-as end graph input.before input.now came lines ended some ends met; faults = failed }
+    → ReadsOnce graph input.before input.now came → CameTo graph input (record { lines = lines; end = end })
+came-by graph input came lines end ended gave ends met failed some once = record {
+  came = came;
+  gave = gave;
+  by = came-as end graph input.before input.now came lines ended some ends met;
+  faults = failed;
+  once = once;
+  few = good-few graph lines (good-ends end graph came lines ended ends some);
+}
+
+-- how the reads went, by how the call ended
+faults-by : (end : FeedEnd) (before now : SourceTold) → FailedBy end before now → Unfailed before now ⊎ ReadFailed before now
+faults-by Ended before now failed = inl failed
+faults-by (Failed lines) before now failed = inr failed
+faults-by (Refused line cause) before now failed = inl failed
+faults-by OutOfMemory before now failed = inl failed
+
+-- nothing was read
+pub read-none : (graph : GraphInputs) (told : SourceTold) → ReadSome graph (device told told)
+read-none graph told = record {
+  came = [];
+  gave = Gave-start told.left;
+  once = record { stops = stops-nothing graph []; reads = spends-late false told.left told.reads };
+  faults = inl (unfailed-same told);
+}
+
+-- an input that came to something was read so
+pub read-came : (graph : GraphInputs) (input : Device SourceTold) (read : Read) → CameTo graph input read → ReadSome graph input
+read-came graph input read c = record { came = c.came; gave = c.gave; once = c.once; faults = faults-by read.end input.before input.now c.faults }
+
+-- what a feed that was new read
+once-read : (graph : GraphInputs) (end : FeedEnd) (before now : SourceTold) (old new : Fed) → old.view.graph ≡ graph → new.view.graph ≡ graph
+    → Stands [] (nothing_taken graph) old.view → old.read ≡ record { kept = []; ended = false } → (read : HasRead end before now old new)
+    → Spends (late old.read.ended) 1 before.left now.left before.reads now.reads → ReadsOnce graph before now read.came
+once-read graph end before now old new is_old is_new stands unread read spent = record {
+  stops = subst (λ (g : GraphInputs). StopsInTime g [] read.came) is_new
+      (read.accepted [] [] [] (nothing_taken graph) (came-nothing [] (nothing_taken graph) old unread stands)).0.stops;
+  reads = subst (λ (r : Reading). Spends (late r.ended) 1 before.left now.left before.reads now.reads) unread spent;
+}
+
+-- also where there was no memory
+pub some-read : (graph : GraphInputs) (end : FeedEnd) (before now : SourceTold) (old new : Fed) → old.view.graph ≡ graph → new.view.graph ≡ graph
+    → Stands [] (nothing_taken graph) old.view → old.read ≡ record { kept = []; ended = false } → HasRead end before now old new → FailedBy end before now
+    → Spends (late old.read.ended) 1 before.left now.left before.reads now.reads → ReadSome graph (device before now)
+some-read graph end before now old new is_old is_new stands unread read failed spent = record {
+  came = read.came;
+  gave = read.gave;
+  once = once-read graph end before now old new is_old is_new stands unread read spent;
+  faults = faults-by end before now failed;
+}
 
 -- the bytes that came, and the lines that were accepted of them
 pub came-to : (graph : GraphInputs) (end : FeedEnd) (before now : SourceTold) (old new : Fed) → end ≢ OutOfMemory → old.view.graph ≡ graph → new.view.graph ≡ graph
     → Stands [] (nothing_taken graph) old.view → old.read ≡ record { kept = []; ended = false } → HasRead end before now old new
-    → MetEnd old.read.ended new.read.ended before now → FailedBy end before now
+    → MetEnd old.read.ended new.read.ended before now → FailedBy end before now → Spends (late old.read.ended) 1 before.left now.left before.reads now.reads
     → (lines : List (List ℕ)) × CameTo graph (device before now) (record { lines = lines; end = end }) × AllGood graph [] lines × (new.view.given ≡ given_by graph lines)
-came-to graph end before now old new some is_old is_new stands unread read met failed =
+came-to graph end before now old new some is_old is_new stands unread read met failed spent =
     let first : Came [] [] [] (nothing_taken graph) old = came-nothing [] (nothing_taken graph) old unread stands in
     let both = read.accepted [] [] [] (nothing_taken graph) first in
     let came = both.0 in
@@ -60,7 +111,8 @@ came-to graph end before now old new some is_old is_new stands unread read met f
     let given : new.view.given ≡ given_by new.view.graph read.taken = given-untaken read.taken new.view now_stands in
     let is_given : new.view.given ≡ given_by graph read.taken = given ∙ ap (λ g. given_by g read.taken) is_new in (
       read.taken,
-      came-by graph (device before now) read.came read.taken end new.read.ended read.gave ends met' failed some,
+      came-by graph (device before now) read.came read.taken end new.read.ended read.gave ends met' failed some
+          (once-read graph end before now old new is_old is_new stands unread read spent),
       subst (λ (g : GraphInputs). AllGood g [] read.taken) is_new came.stands.good,
       is_given,
     )
@@ -75,11 +127,11 @@ inputs-same inputs ss sides ended a b c =
 
 pub gathered : (graph : GraphInputs) (end : FeedEnd) (before now : SourceTold) (old new : Fed) (b : Bool) (inputs : Inputs) → end ≢ OutOfMemory → old.view.graph ≡ graph → new.view.graph ≡ graph
     → Stands [] (nothing_taken graph) old.view → old.read ≡ record { kept = []; ended = false } → HasRead end before now old new
-    → MetEnd old.read.ended new.read.ended before now → FailedBy end before now → b ≡ is_ended end
+    → MetEnd old.read.ended new.read.ended before now → FailedBy end before now → Spends (late old.read.ended) 1 before.left now.left before.reads now.reads → b ≡ is_ended end
     → inputs.streams ≡ ended_streams b new.view.given.streams → inputs.sides ≡ new.view.given.sides → inputs.ended ≡ b
     → Gathered graph (device before now) end inputs
-gathered graph end before now old new b inputs some is_old is_new stands unread read met failed is_b streams sides ended =
-    let it = came-to graph end before now old new some is_old is_new stands unread read met failed in
+gathered graph end before now old new b inputs some is_old is_new stands unread read met failed spent is_b streams sides ended =
+    let it = came-to graph end before now old new some is_old is_new stands unread read met failed spent in
     let given = it.3 in
     record {
       read = record { lines = it.0; end = end };

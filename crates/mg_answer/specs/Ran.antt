@@ -1,11 +1,13 @@
 -- What a run came to, by its status.
-use Rattle.std.specs.Prelude.{◌≡◌, ℕ, ◌⊎◌, ◌++◌, List, [], ◌∷◌, Bool, true, false, IfSome}
+use Rattle.std.specs.Prelude.{◌≡◌, ◌≤◌, ℕ, ◌⊎◌, ◌++◌, List, [], ◌∷◌, length, Bool, true, false, IfSome}
 use Rattle.mg_edge.specs.Edge.{SourceTold, SinkTold}
 use Rattle.mg_edge.specs.Runs.{Gave}
 use Rattle.mg_calc.specs.declared.plan.Plan.{Plan}
 use Rattle.mg_feed.specs.Graph.{GraphInputs, inputs_of}
 use Rattle.mg_feed.specs.Lines.{whole_lines}
-use Rattle.mg_feed.specs.Ran.{EndCame, MetEnd, FailedBy}
+use Rattle.mg_feed.specs.Accepted.{most_lines}
+use Rattle.mg_feed.specs.Ran.{EndCame, MetEnd, Unfailed, ReadFailed, FailedBy}
+use Rattle.mg_feed.specs.Once.{ReadsOnce}
 use Rattle.mg_feed.specs.declared.feed_end.FeedEnd.{FeedEnd}
 use Rattle.mg_feed.specs.declared.feed_end.FeedEnd.TheVariants.{Ended, Failed, Refused, OutOfMemory as no_lines}
 use Rattle.mg_value.specs.Payload.{Plain}
@@ -33,12 +35,22 @@ CameAs (Refused line cause) graph input came read =
 CameAs no_lines graph input came read = ⊥
 
 -- An input was read to its end, to its first line that isn't good, or until a read failed, and came to this. A read failed
--- exactly in the last of these cases, and nothing was read after it.
+-- exactly in the last of these cases, and nothing was read after it. It was read once, and no further than to the block in which its
+-- first line that isn't good ends.
 pub record CameTo (graph : GraphInputs) (input : Device SourceTold) (read : Read) : Type 0 where
   pub came : List ℕ
   pub gave : Gave input.before.left input.now.left came
   pub by : CameAs read.end graph input came read
   pub faults : FailedBy read.end input.before input.now
+  pub once : ReadsOnce graph input.before input.now came
+  pub few : length read.lines ≤ most_lines
+
+-- Some of an input was read, once and no further, or none of it: no read failed, or the last one did.
+pub record ReadSome (graph : GraphInputs) (input : Device SourceTold) : Type 0 where
+  pub came : List ℕ
+  pub gave : Gave input.before.left input.now.left came
+  pub once : ReadsOnce graph input.before input.now came
+  pub faults : Unfailed input.before input.now ⊎ ReadFailed input.before input.now
 
 -- The run --
 
@@ -70,10 +82,10 @@ pub record TookSome (plan : Plan) (input : Device SourceTold) (output : Device S
 abbrev pub RanOut : Plan → RunDevices → Type 0
 RanOut plan devices = Untouched devices.output ⊎ TookSome plan devices.input devices.output
 
--- A run ended with this status. Where memory ran out the notes say that alone.
+-- A run ended with this status. Where memory ran out the notes say that alone, and so far as the input was read, it was read once.
 abbrev pub Ran : Bool → Plan → Status → RunDevices → Type 0
 Ran report plan WriteFault devices = RanShort report plan devices
-Ran report plan OutOfMemory devices = RanOut plan devices × Noted devices.notes memory_note
+Ran report plan OutOfMemory devices = RanOut plan devices × Noted devices.notes memory_note × ReadSome (inputs_of plan) devices.input
 Ran report plan status devices = RanAll report plan status devices
 
 -- Memory ran out: after the input was read, and the output took a front of the answer's text over what it came to; or while it

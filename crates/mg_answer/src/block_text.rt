@@ -17,9 +17,10 @@ pub trait Puts {
     /// The bytes that it puts.
     ghost says: { Self → List ℕ };
 
-    /// Puts it at a text's end. After an `Err` a part of it may stand there.
+    /// Puts it at a text's end. After an `Err` the text is as it was.
     fn put_at(&self, text: &mut Vec<u8>) -> Result<(), AllocError>
-        ensures { OnOk result (text.new.items ≡ text.old.items ++ says self.now) };
+        ensures put { OnOk result (text.new.items ≡ text.old.items ++ says self.now) }
+        ensures unchanged { OnErr result (text.new.items ≡ text.old.items) };
 }
 
 /// A text that is put part by part: its bytes are written once there is a block of 64 KiB, so that memory doesn't grow with it. Once a
@@ -65,11 +66,12 @@ impl BlockText {
     }
 
     /// Puts a part, and writes what isn't written once it has a block of bytes. After a failed write it puts nothing more. After an
-    /// `Err` nothing of the part was written, but some of it may be kept: let the text go then.
+    /// `Err` nothing of the part was put: the text and the output are as they were.
     pub fn put<P: Puts, K: Sink>(&mut self, part: &P, output: &mut K) -> Result<(), AllocError>
         ensures put { OnOk result ((first : SinkTold) (text : List ℕ) → HasPutIn first (K.told output.old) self.old text
             → HasPutIn first (K.told output.new) self.new (text ++ P.says part.now)) }
         ensures unwritten { OnErr result (K.told output.new ≡ K.told output.old) }
+        ensures unchanged { OnErr result (self.new ≡ self.old) }
     {
         if self.failed {
             return Ok(());

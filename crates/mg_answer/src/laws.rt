@@ -18,6 +18,7 @@ ghost use Rattle.mg_feed.specs.Lines.{all_lines};
 ghost use Rattle.mg_feed.specs.Accepted.{given_by, accepted, first_refused_after};
 ghost use Rattle.mg_feed.specs.Stands.{AllGood};
 ghost use Rattle.mg_feed.specs.Ran.{EndCame, MetEnd, FailedBy};
+ghost use Rattle.mg_feed.specs.Once.{ReadsOnce};
 ghost use Rattle.mg_feed.specs.Batch.{EndsAs};
 ghost use Rattle.mg_answer.specs.Text.{output_of};
 ghost use Rattle.mg_answer.specs.Summary.{summary_of};
@@ -118,11 +119,12 @@ pub fn sets_are_few()
 {}
 
 /// What batches in a row came to: bytes that the source gave, lines that were accepted of them, and an end that these lines
-/// and the source's calls have.
+/// and the source's calls have, and that it was read once.
 pub fn what_batches_came_to()
     ensures { (graph : GraphInputs) (input : Device SourceTold) (came : List ℕ) (lines : List (List ℕ)) (end : FeedEnd) (ended : Bool)
         → Gave input.before.left input.now.left came → EndsAs end graph [] came lines ended → MetEnd false ended input.before input.now
-        → FailedBy end input.before input.now → end ≢ ends.OutOfMemory → CameTo graph input (record { lines = lines; end = end }) }
+        → FailedBy end input.before input.now → end ≢ ends.OutOfMemory → ReadsOnce graph input.before input.now came
+        → CameTo graph input (record { lines = lines; end = end }) }
 {}
 
 /// The output text of lines so far is a front of the text of a whole input that begins with them, where no side packet comes behind

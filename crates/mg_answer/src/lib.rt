@@ -35,6 +35,7 @@ pub use notes::put_end;
 pub use outcomes::{Outcomes, StreamEnd};
 pub use output_summary::OutputSummary;
 pub use output_text::OutputText;
+pub use pieces::put_number;
 pub use reading::{WholeInput, read_whole};
 pub use run::Run;
 pub use shown::put_shown;

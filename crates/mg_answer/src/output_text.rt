@@ -68,12 +68,13 @@ impl OutputText {
     }
 
     /// Puts the lines of a set, and writes what isn't written once it has a block of bytes. After a failed write it puts
-    /// nothing more. After an `Err` nothing of the set was written, but a part of it may be kept: let the text go then.
+    /// nothing more. After an `Err` nothing of the set was put: the text and the output are as they were.
     pub fn put_set<K: Sink>(&mut self, set: &InputSet, output: &mut K) -> Result<(), AllocError>
         ensures names { self.new.names ≡ self.old.names }
         ensures put { OnOk result ((first : SinkTold) (text : List ℕ) → HasPut first (K.told output.old) self.old text
             → HasPut first (K.told output.new) self.new (text ++ set_text self.old.names set.now)) }
         ensures unwritten { OnErr result (K.told output.new ≡ K.told output.old) }
+        ensures unchanged { OnErr result (self.new ≡ self.old) }
     {
         let lines = SetLines {
             writers: self.writers.as_slice(),

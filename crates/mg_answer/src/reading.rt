@@ -1,11 +1,12 @@
 //! The whole input of a run, which is read at once.
-ghost use Rattle.std.specs.Prelude.{◌≡◌, ◌≢◌, [], false, IfOk};
+ghost use Rattle.std.specs.Prelude.{◌≡◌, ◌≢◌, [], false, IfOk, OnErr};
 ghost use Rattle.mg_calc.specs.Plan.{IsValid, InputsFit};
 ghost use Rattle.mg_feed.specs.Graph.{inputs_of};
 ghost use Rattle.mg_feed.specs.Stands.{Stands, nothing_taken};
 ghost use Rattle.mg_feed.specs.FeedSeen.{seen, fed};
 ghost use Rattle.mg_answer.specs.Devices.{device};
 ghost use Rattle.mg_answer.specs.Gathered.{Gathered};
+ghost use Rattle.mg_answer.specs.Ran.{ReadSome};
 
 use crate::told::{is_ended, ran_out};
 use mg_calc::{Inputs, Plan};
@@ -28,6 +29,7 @@ pub fn read_whole<S: Source>(
 ) -> Result<WholeInput, AllocError>
     requires { IsValid plan.now }
     ensures gathered { IfOk result (λ whole. Gathered (inputs_of plan.now) (device (S.told input.old) (S.told input.new)) whole.end whole.inputs) }
+    ensures short { OnErr result (ReadSome (inputs_of plan.now) (device (S.told input.old) (S.told input.new))) }
     ensures fits { IfOk result (λ whole. InputsFit plan.now whole.inputs) }
 {
     let feed = Feed::new(alloc, plan)?;
@@ -42,7 +44,8 @@ pub fn read_whole<S: Source>(
 fn read_feed<S: Source>(mut feed: Feed, input: &mut S) -> WholeInput
     requires stands { Stands [] (nothing_taken (seen feed).graph) (seen feed) }
     requires unread { (fed feed).read ≡ record { kept = []; ended = false } }
-    ensures { result.end ≢ FeedEnd.OutOfMemory → Gathered (seen feed).graph (device (S.told input.old) (S.told input.new)) result.end result.inputs }
+    ensures read { ReadSome (seen feed).graph (device (S.told input.old) (S.told input.new)) }
+    ensures gathered { result.end ≢ FeedEnd.OutOfMemory → Gathered (seen feed).graph (device (S.told input.old) (S.told input.new)) result.end result.inputs }
 {
     let end = feed.read_all(input);
     let inputs = feed.into_inputs(is_ended(end));

@@ -1,11 +1,11 @@
 //! The lines of sets, at a text's end.
-ghost use Rattle.std.specs.Prelude.{◌≡◌, ◌<◌, ◌^◌, ◌++◌, All, length, IfOk, OnOk};
+ghost use Rattle.std.specs.Prelude.{◌≡◌, ◌<◌, ◌^◌, ◌++◌, ℕ, List, All, length, IfOk, OnOk, OnErr};
 ghost use Rattle.std.specs.Option.{option_copied};
 ghost use Rattle.mg_answer.specs.Text.{name_of, output_names, packet_text, set_text};
 
 use crate::Puts;
 use mg_calc::Plan;
-use mg_feed::LineWriter;
+use mg_feed::{LineWriter, whole_or_none};
 use mg_value::{InputSet, MgText, Packet};
 use std::alloc::{AllocError, Global};
 
@@ -49,15 +49,17 @@ impl<'w, 's> Puts for SetLines<'w, 's> {
     ghost says = { λ lines. set_text lines.writers.now lines.set.now };
 
     fn put_at(&self, text: &mut Vec<u8>) -> Result<(), AllocError> {
-        push_set(text, self.writers, self.set)?;
-        Ok(())
+        let len = text.len();
+        let put = push_set(text, self.writers, self.set);
+        whole_or_none(text, len, put)
     }
 }
 
-// Puts the lines of a set at a text's end.
+// Puts the lines of a set at a text's end. After an `Err` some of them may stand there.
 fn push_set(text: &mut Vec<u8>, writers: &[LineWriter], set: &InputSet) -> Result<(), AllocError>
     requires { length writers.now < 2 ^ 32 }
-    ensures { OnOk result (text.new.items ≡ text.old.items ++ set_text writers.now set.now) }
+    ensures put { OnOk result (text.new.items ≡ text.old.items ++ set_text writers.now set.now) }
+    ensures part { OnErr result ((part : List ℕ) × (text.new.items ≡ text.old.items ++ part)) }
 {
     for (port, writer) in writers.iter().enumerate() {
         push_packet(text, writer, set.get(port as u32))?;
@@ -71,7 +73,8 @@ fn push_packet(
     writer: &LineWriter,
     packet: Option<&Packet>,
 ) -> Result<(), AllocError>
-    ensures { OnOk result (text.new.items ≡ text.old.items ++ packet_text writer.now (option_copied packet.entry)) }
+    ensures put { OnOk result (text.new.items ≡ text.old.items ++ packet_text writer.now (option_copied packet.entry)) }
+    ensures unchanged { OnErr result (text.new.items ≡ text.old.items) }
 {
     match packet {
         Some(packet) => writer.push_line(text, packet),

@@ -10,7 +10,7 @@ ghost use Rattle.mg_answer.specs.Wrote.{Wrote};
 ghost use Rattle.mg_answer.specs.Devices.{device, HasRisen, NoneFailed, TookFront};
 ghost use Rattle.mg_answer.specs.Held.{told_by, SameDevices};
 ghost use Rattle.mg_answer.specs.Status.{IsOneOf};
-ghost use Rattle.mg_answer.specs.Ran.{Ran, RanOut, CameTo, IsAnswered};
+ghost use Rattle.mg_answer.specs.Ran.{Ran, RanOut, CameTo, ReadSome, IsAnswered};
 ghost use Rattle.mg_answer.specs.Code.Answered.{WroteSome};
 ghost use Rattle.mg_feed.specs.Graph.{inputs_of};
 ghost use Rattle.mg_answer.specs.Answer.{Read, by_lines};
@@ -39,8 +39,10 @@ pub fn solve_input<S: Source, K: Sink, E: Sink>(
     // What each status means: the answer's, unless a write failed or memory ran out.
     ensures ran { Ran run.now.report run.now.plan.now result (told_by S.told K.told E.told devices.old devices.new) }
 
-    // Unless memory ran out, the input was read to its end, its first line that isn't good, or its first fault.
+    // Unless memory ran out, the input was read to its end, its first line that isn't good, or its first fault; and it was read
+    // once, and no further.
     ensures read { result ≢ Status.OutOfMemory → (read : Read) × CameTo (inputs_of run.now.plan.now) (told_by S.told K.told E.told devices.old devices.new).input read }
+    ensures once { ReadSome (inputs_of run.now.plan.now) (told_by S.told K.told E.told devices.old devices.new).input }
 
     // A run that went well, or in which a node failed or a stream never closed, met the input's end.
     ensures ended { IsOneOf result (Status.Good ∷ Status.NodeFault ∷ Status.Stalled ∷ []) → EndCame (S.told devices.old.input.now) (S.told devices.new.input.now) }
@@ -86,6 +88,7 @@ fn solve_read<S: Source, K: Sink, E: Sink>(
 ) -> Result<Status, AllocError>
     requires { IsValid run.now.plan.now }
     ensures ran { IfOk result (λ status. Ran run.now.report run.now.plan.now status (told_by S.told K.told E.told devices.old devices.new)) }
+    ensures read { OnErr result (ReadSome (inputs_of run.now.plan.now) (told_by S.told K.told E.told devices.old devices.new).input) }
     ensures short { OnErr result (RanOut run.now.plan.now (told_by S.told K.told E.told devices.old devices.new)) }
     ensures unnoted { OnErr result (E.told devices.new.notes.now ≡ E.told devices.old.notes.now) }
     ensures same { SameDevices devices.old devices.new }

@@ -1,12 +1,16 @@
 -- The longest run of good lines, and the first line behind it.
-use Rattle.std.proofs.Common.{◌≡◌, ℕ, ◌+◌, ◌<◌, List, [], ◌∷◌, ◌++◌, length, Option, None, Some, refl, sym, ap, ◌∙◌, append_assoc, append-nil}
-use Rattle.std.proofs.lemmas.Bool.{lt-ltb}
+use Rattle.std.proofs.Common.{◌≡◌, ◌≢◌, ℕ, ◌+◌, ◌<◌, ◌≤◌, List, [], ◌∷◌, ◌++◌, length, nat_lt, nat_le, Bool, true, false, if◌then◌else◌, Option, None, Some, refl, sym, ap, ◌∙◌, subst, arith, append_assoc, append-nil, length-append}
+use Rattle.std.proofs.lemmas.Bool.{lt-ltb, leb-false}
 use Rattle.mg_feed.specs.Graph.{GraphInputs}
-use Rattle.mg_feed.specs.Accepted.{Before, longest_line, refusal, line_refusal, if_good, refused_at, accepted_after, first_refused_after}
+use Rattle.mg_feed.specs.Accepted.{Before, longest_line, most_lines, refusal, line_refusal, if_good, refused_at, accepted_after, first_refused_after}
+use Rattle.mg_feed.specs.Lines.{all_lines, whole_lines}
 use Rattle.mg_feed.specs.Came.{Judged}
+use Rattle.mg_feed.specs.Batch.{EndsAs}
 use Rattle.mg_feed.specs.Stands.{AllGood}
 use Rattle.mg_feed.specs.declared.line_fault.LineFault.{LineFault}
-use Rattle.mg_feed.specs.declared.line_fault.LineFault.TheVariants.{TooLong}
+use Rattle.mg_feed.specs.declared.line_fault.LineFault.TheVariants.{TooLong, TooManyLines}
+use Rattle.mg_feed.specs.declared.feed_end.FeedEnd.{FeedEnd}
+use Rattle.mg_feed.specs.declared.feed_end.FeedEnd.TheVariants.{Ended, Failed, Refused, OutOfMemory}
 
 -- of lines that are all good the last ones are, and the first ones
 pub good-behind : (graph : GraphInputs) (before xs ys : List (List ℕ)) → AllGood graph before (xs ++ ys) → AllGood graph (before ++ xs) ys
@@ -62,3 +66,28 @@ judged-stop graph first lines line more all fault number good bad is count =
 -- a line that is too long isn't good, wherever it stands
 pub long-refused : (b : Before) (line : List ℕ) → longest_line < length line → line_refusal b line ≡ Some TooLong
 long-refused b line long = rw (lt-ltb longest_line (length line) long) refl
+
+-- accepted lines are no more than an input may have
+not-many : (long many : Bool) (later : Option LineFault) → (if long then Some TooLong else (if many then Some TooManyLines else later)) ≡ None → many ≡ false
+not-many true many later is = cc
+not-many false true later is = cc
+not-many false false later is = refl
+
+good-within : (graph : GraphInputs) (before lines : List (List ℕ)) → length before ≤ most_lines → AllGood graph before lines → length (before ++ lines) ≤ most_lines
+good-within graph before [] few good = rw append-nil few
+good-within graph before (line ∷ lines) few good =
+    let none : nat_le most_lines (length before) ≡ false = not-many (nat_lt longest_line (length line)) (nat_le most_lines (length before)) _ good.0 in
+    let fewer : length before < most_lines = leb-false most_lines (length before) none in
+    subst (λ (l : List (List ℕ)). length l ≤ most_lines) (append_assoc before (line ∷ []) lines)
+    (good-within graph (before ++ line ∷ []) lines (omega (arith, fewer, length-append before (line ∷ []))) good.1)
+
+pub good-few : (graph : GraphInputs) (lines : List (List ℕ)) → AllGood graph [] lines → length lines ≤ most_lines
+good-few graph lines good = good-within graph [] lines (omega arith) good
+
+-- the lines of an input that came to an end are all good
+pub good-ends : (end : FeedEnd) (graph : GraphInputs) (came : List ℕ) (lines : List (List ℕ)) (ended : Bool) → EndsAs end graph [] came lines ended → end ≢ OutOfMemory → AllGood graph [] lines
+good-ends Ended graph came lines ended ends some = subst (λ (l : List (List ℕ)). AllGood graph [] l) ends.2.0 (good-accepted graph [] (all_lines came))
+good-ends (Failed number) graph came lines ended ends some = subst (λ (l : List (List ℕ)). AllGood graph [] l) ends.2.0 (good-accepted graph [] (whole_lines came))
+good-ends (Refused number cause) graph came lines ended ends some =
+    subst (λ (l : List (List ℕ)). AllGood graph [] l) (ends [] (λ met. refl)).0 (good-accepted graph [] (all_lines (came ++ [])))
+good-ends OutOfMemory graph came lines ended ends some = absurd (some refl)

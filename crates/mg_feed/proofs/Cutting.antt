@@ -94,7 +94,8 @@ pub cut-whole : (bytes : List ℕ) (lines : List (List ℕ)) (rest : List ℕ) �
 cut-whole bytes lines rest cut none =
     sym (ap whole_lines cut.is ∙ whole_lines-fed lines rest cut.whole ∙ ap (λ l. lines ++ l) (no_feed-whole rest none) ∙ append-nil lines)
 
-cut-rest : (bytes : List ℕ) (lines : List (List ℕ)) (rest : List ℕ) → IsCut bytes lines rest → NoFeed rest → rest_of bytes ≡ rest
+-- what they leave open
+pub cut-rest : (bytes : List ℕ) (lines : List (List ℕ)) (rest : List ℕ) → IsCut bytes lines rest → NoFeed rest → rest_of bytes ≡ rest
 cut-rest bytes lines rest cut none = ap rest_of cut.is ∙ rest_of-fed lines rest cut.whole ∙ no_feed-rest rest none
 
 -- The end --

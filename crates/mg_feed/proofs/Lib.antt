@@ -27,3 +27,4 @@ pub mod Trees
 pub mod Frames
 pub mod ChangingPlaces
 pub mod LinesOut
+pub mod WholeOrNone

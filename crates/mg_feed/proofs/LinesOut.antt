@@ -12,9 +12,9 @@ use Rattle.mg_feed.specs.Ran.{MetEnd, Unfailed}
 use Rattle.mg_feed.specs.Handed.{HasHanded, MovesOn, EndsReads, ComesAs, NextComes}
 use Rattle.mg_feed.specs.Code.LineEnd.{EndsLine, has_feed}
 use Rattle.mg_feed.specs.Code.Filled.{GotBytes, GotEnd, GotFault}
-use Rattle.mg_feed.specs.Code.Moves.{late}
-use Rattle.mg_feed.specs.Code.Handing.{LacksLine, StopsAt, StopsLater, Takes, weight_of}
-use Rattle.mg_feed.specs.declared.reader.TheConstants.{BLOCK}
+use Rattle.mg_feed.specs.Ran.{late}
+use Rattle.mg_feed.specs.Code.Handing.{LacksLine, SearchStops, StopsLater, Takes, weight_of}
+use Rattle.mg_feed.specs.Once.{longest_block}
 use Rattle.mg_feed.specs.declared.lines.NextLine.{NextLine}
 use Rattle.mg_feed.specs.declared.lines.NextLine.TheVariants.{Line, TooLong, Ended, Failed}
 use Rattle.mg_feed.proofs.Cutting.{cut-more, cut-line, cut-whole, cut-end, cut-ended, all_lines-line, all_lines-begin}
@@ -88,7 +88,7 @@ moves-end old new before now was none got =
 
 -- The search stops --
 
-pub stops-failed : (old new : Reading) (before now : SourceTold) → old.ended ≡ false → NoFeed old.kept → GotFault old new before now → StopsAt Failed before now old new
+pub stops-failed : (old new : Reading) (before now : SourceTold) → old.ended ≡ false → NoFeed old.kept → GotFault old new before now → SearchStops Failed before now old new
 stops-failed old new before now was none got = record {
   same = got.same;
   gave = got.gave;
@@ -97,7 +97,7 @@ stops-failed old new before now was none got = record {
   lacks = (was, none);
 }
 
-pub stops-ended : (told : SourceTold) (r : Reading) → r.ended ≡ true → NoFeed r.kept → StopsAt Ended told told r r
+pub stops-ended : (told : SourceTold) (r : Reading) → r.ended ≡ true → NoFeed r.kept → SearchStops Ended told told r r
 stops-ended told r ended none = record {
   same = refl;
   gave = Gave-start told.left;
@@ -106,8 +106,8 @@ stops-ended told r ended none = record {
   lacks = (ended, none);
 }
 
-pub stops-long : (told : SourceTold) (r s : Reading) (next : NextLine) → next ≡ TooLong → s ≡ r → NoFeed r.kept → longest_line < length r.kept → StopsAt next told told r s
-stops-long told r s next is same none long = subst (λ (n : NextLine). StopsAt n told told r s) (sym is) (record {
+pub stops-long : (told : SourceTold) (r s : Reading) (next : NextLine) → next ≡ TooLong → s ≡ r → NoFeed r.kept → longest_line < length r.kept → SearchStops next told told r s
+stops-long told r s next is same none long = subst (λ (n : NextLine). SearchStops n told told r s) (sym is) (record {
   same = same;
   gave = Gave-start told.left;
   met = subst (λ (t : Reading). MetEnd r.ended t.ended told told) (sym same) (met-same r.ended told);
@@ -115,7 +115,7 @@ stops-long told r s next is same none long = subst (λ (n : NextLine). StopsAt n
   lacks = (none, long);
 })
 
-pub stops-later : (next : NextLine) (first before now : SourceTold) (a b c : Reading) → MovesOn first before a b → StopsAt next before now b c → StopsLater next first now a c
+pub stops-later : (next : NextLine) (first before now : SourceTold) (a b c : Reading) → MovesOn first before a b → SearchStops next before now b c → StopsLater next first now a c
 stops-later next first before now a b c moves stops = record { between = before; read = b; moves = moves; stops = stops }
 
 -- What comes --
@@ -224,13 +224,13 @@ took-long cut left old new next i line next_is same is none ends long = subst (�
 
 -- so much is read at most while no line is whole
 abbrev pub heaviest_of : ℕ
-heaviest_of = longest_line + BLOCK + 1
+heaviest_of = longest_line + longest_block + 1
 
 late-few : (b : Bool) → late b ≤ 1
 late-few true = omega arith
 late-few false = omega arith
 
-pub weight-light : (r : Reading) (cut left : List ℕ) → r.kept ≡ cut ++ left → length cut ≤ longest_line → length left ≤ BLOCK → weight_of r ≤ heaviest_of
+pub weight-light : (r : Reading) (cut left : List ℕ) → r.kept ≡ cut ++ left → length cut ≤ longest_line → length left ≤ longest_block → weight_of r ≤ heaviest_of
 weight-light r cut left is short small =
     let long : length r.kept ≡ length cut + length left = ap length is ∙ length-append cut left in
     let few = late-few r.ended in

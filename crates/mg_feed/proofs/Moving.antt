@@ -11,10 +11,10 @@ use Rattle.mg_feed.specs.Lines.{with_feed, but_last}
 use Rattle.mg_feed.specs.Accepted.{Before, names_stream, line_refusal, longest_line, most_lines}
 use Rattle.mg_feed.specs.View.{before_seen}
 use Rattle.mg_feed.specs.Fed.{Fed}
-use Rattle.mg_feed.specs.Ran.{EndCame, MetEnd, Unfailed, ReadFailed, FailedBy, ReadsWithin}
+use Rattle.mg_feed.specs.Ran.{EndCame, MetEnd, late, Spends, Unfailed, ReadFailed, FailedBy}
+use Rattle.mg_feed.specs.Once.{longest_block}
 use Rattle.mg_feed.specs.Batch.{EndsAs, HasRead, HasReadBatch, naming}
-use Rattle.mg_feed.specs.Code.Moves.{Grows, TookLine, Moved, Stopped, late, Spends, weight, heaviest}
-use Rattle.mg_feed.specs.declared.reader.TheConstants.{BLOCK}
+use Rattle.mg_feed.specs.Code.Moves.{Grows, TookLine, Moved, Stopped, weight, heaviest}
 use Rattle.mg_feed.specs.declared.line_fault.LineFault.{LineFault}
 use Rattle.mg_feed.specs.declared.line_fault.LineFault.TheVariants.{TooLong}
 use Rattle.mg_feed.specs.declared.feed_end.FeedEnd.{FeedEnd}
@@ -182,7 +182,7 @@ late-one true = omega arith
 late-one false = omega arith
 
 -- so heavy is a feed at most
-pub weight-most : (f : Fed) (cut left : List ℕ) → f.view.lines ≤ most_lines → f.read.kept ≡ cut ++ left → length cut ≤ longest_line → length left ≤ BLOCK → weight f ≤ heaviest
+pub weight-most : (f : Fed) (cut left : List ℕ) → f.view.lines ≤ most_lines → f.read.kept ≡ cut ++ left → length cut ≤ longest_line → length left ≤ longest_block → weight f ≤ heaviest
 weight-most f cut left lines is short small =
     let kept : length f.read.kept ≡ length cut + length left = ap length is ∙ length-append cut left in
     let one = late-one f.read.ended in
@@ -194,21 +194,10 @@ weight-most f cut left lines is short small =
 pub naming-push : (taken : List (List ℕ)) (line : List ℕ) → naming (taken ++ line ∷ []) ≡ naming taken + naming (line ∷ [])
 naming-push taken line = sum_by-append _ taken (line ∷ [])
 
-pub within-from : (a b : ℕ) (first now : Option (List ℕ)) (reads nows : Option ℕ) → b ≤ 1 → Spends a b first now reads nows → ReadsWithin 1 first now reads nows
-within-from a b None now reads nows le spends = tt
-within-from a b (Some bytes) now None nows le spends = tt
-within-from a b (Some bytes) now (Some was) nows le (rest, is, told, counted, few) = (rest, is, told, counted, omega (arith, few, le))
-
-pub reads-more : (first now : SourceTold) (a b : Fed) (came : List ℕ) (taken : List (List ℕ)) → Moved first now a b came taken
-    → ReadsWithin 1 first.left now.left first.reads now.reads
-reads-more first now a b came taken m =
-    within-from (late a.read.ended) (late b.read.ended) first.left now.left first.reads now.reads (late-one b.read.ended) m.spent
-
 pub reads-stop : (end : FeedEnd) (first before now : SourceTold) (a b c : Fed) (came : List ℕ) (taken : List (List ℕ)) → Moved first before a b came taken → Stopped end before now b c
-    → ReadsWithin 1 first.left now.left first.reads now.reads
+    → Spends (late a.read.ended) 1 first.left now.left first.reads now.reads
 reads-stop end first before now a b c came taken m s =
-    within-from (late a.read.ended) 1 first.left now.left first.reads now.reads (omega arith)
-    (spends-then (late a.read.ended) (late b.read.ended) 1 first.left before.left now.left first.reads before.reads now.reads m.spent s.spent)
+    spends-then (late a.read.ended) (late b.read.ended) 1 first.left before.left now.left first.reads before.reads now.reads m.spent s.spent
 
 pub met-stop : (end : FeedEnd) (first before now : SourceTold) (a b c : Fed) (came : List ℕ) (taken : List (List ℕ)) → Moved first before a b came taken → Stopped end before now b c
     → MetEnd a.read.ended c.read.ended first now

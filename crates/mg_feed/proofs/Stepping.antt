@@ -1,5 +1,5 @@
 -- What the code's steps come to.
-use Rattle.std.proofs.Common.{◌≡◌, ◌≢◌, inl, inr, ℕ, ◌+◌, ◌<◌, List, [], ◌∷◌, ◌++◌, take, drop, length, Bool, true, false, None, Some, refl, sym, ap, ◌∙◌, subst, arith, append_assoc, length-append}
+use Rattle.std.proofs.Common.{◌≡◌, ◌≢◌, inl, inr, ℕ, ◌+◌, ◌<◌, ◌≤◌, List, [], ◌∷◌, ◌++◌, take, drop, length, Bool, true, false, None, Some, refl, sym, ap, ◌∙◌, subst, arith, append_assoc, append-nil, length-append}
 use Rattle.std.proofs.lemmas.List.{length-take-le}
 use Rattle.mg_edge.specs.Edge.{SourceTold}
 use Rattle.mg_edge.proofs.Runs.{Gave-start}
@@ -7,11 +7,11 @@ use Rattle.mg_feed.specs.Lines.{NoFeed}
 use Rattle.mg_feed.specs.Accepted.{longest_line, line_refusal, names_stream, with_line}
 use Rattle.mg_feed.specs.View.{before_seen, with_next}
 use Rattle.mg_feed.specs.Fed.{Fed}
-use Rattle.mg_feed.specs.Ran.{EndCame, MetEnd, FailedBy}
+use Rattle.mg_feed.specs.Ran.{EndCame, MetEnd, late, FailedBy}
 use Rattle.mg_feed.specs.Batch.{HasCause}
 use Rattle.mg_feed.specs.Code.LineEnd.{EndsLine, has_feed}
 use Rattle.mg_feed.specs.Code.Filled.{GotBytes, GotEnd, GotFault}
-use Rattle.mg_feed.specs.Code.Moves.{Moved, Ends, Stopped, StopsBy, TookLine, NextLine, late}
+use Rattle.mg_feed.specs.Code.Moves.{Moved, Ends, Stopped, StopsBy, TookLine, NextLine}
 use Rattle.mg_feed.specs.declared.line_fault.LineFault.{LineFault}
 use Rattle.mg_feed.specs.declared.line_fault.LineFault.TheVariants.{OutOfMemory as no_memory, TooLong}
 use Rattle.mg_feed.specs.declared.feed_end.FeedEnd.{FeedEnd}
@@ -30,11 +30,11 @@ met-open a b before now was is same = rw (was, is) same
 pub met-end : (a b : Bool) (before now : SourceTold) → a ≡ false → b ≡ true → EndCame before now → MetEnd a b before now
 met-end a b before now was is same = rw (was, is) same
 
-pub moved-bytes : (old new : Fed) (before now : SourceTold) → new.view ≡ old.view → old.read.ended ≡ false → (got : GotBytes old.read new.read before now)
-    → Moved before now old new got.bytes []
-moved-bytes old new before now view was got = record {
+pub moved-bytes : (old new : Fed) (before now : SourceTold) → new.view ≡ old.view → old.read.ended ≡ false → NoFeed old.read.kept → length old.read.kept ≤ longest_line
+    → (got : GotBytes old.read new.read before now) → Moved before now old new got.bytes []
+moved-bytes old new before now view was none short got = record {
   gave = got.gave;
-  grows = grows-bytes old new got.bytes view was got.ended got.kept;
+  grows = grows-bytes old new got.bytes view was got.ended got.kept none short got.few;
   graph = ap (λ v. v.graph) view;
   number = let same : new.view.lines ≡ old.view.lines = ap (λ v. v.lines) view in omega (arith, same);
   met = met-open old.read.ended new.read.ended before now was got.ended got.ends;
@@ -105,6 +105,10 @@ stopped-by end old new told fault lines count (inr refused) same ends =
 -- what is kept where no line feed is left
 pub kept-none : (cut left : List ℕ) → has_feed cut ≡ false → NoFeed left → NoFeed (cut ++ left)
 kept-none cut left none more = no_feed-append cut left (no_feed-of cut none) more
+
+-- and where nothing is left of the block
+pub kept-short : (cut left : List ℕ) → left ≡ [] → length cut ≤ longest_line → length (cut ++ left) ≤ longest_line
+kept-short cut left passed short = rw (passed, append-nil cut) short
 
 -- a line feed of the block ends the bytes that were kept before it
 pub line-cut : (cut line left after : List ℕ) (i : ℕ) → EndsLine left i → line ≡ cut ++ take i left → after ≡ drop (i + 1) left → cut ++ left ≡ line ++ 10 ∷ after

@@ -8,9 +8,9 @@ use Rattle.mg_feed.specs.Graph.{GraphInputs}
 use Rattle.mg_feed.specs.Lines.{all_lines, whole_lines, but_last}
 use Rattle.mg_feed.specs.Accepted.{names_stream, longest_line}
 use Rattle.mg_feed.specs.Fed.{Fed}
+use Rattle.mg_feed.specs.Once.{longest_block}
 use Rattle.mg_feed.specs.Came.{Came, Judged}
-use Rattle.mg_feed.specs.Ran.{Unfailed, FailedBy}
-use Rattle.mg_feed.specs.declared.reader.TheConstants.{BLOCK}
+use Rattle.mg_feed.specs.Ran.{late, Unfailed, FailedBy}
 use Rattle.mg_feed.specs.declared.line_fault.LineFault.TheVariants.{OutOfMemory as no_memory}
 use Rattle.mg_feed.specs.declared.feed_end.FeedEnd.{FeedEnd}
 use Rattle.mg_feed.specs.declared.feed_end.FeedEnd.TheVariants.{Ended, Failed, Refused, OutOfMemory}
@@ -47,7 +47,7 @@ pub record HasRead (end : FeedEnd) (before now : SourceTold) (old new : Fed) : T
 
 -- the most bytes that a feed keeps: those of a line that isn't whole yet, and a block
 abbrev pub most_kept : ℕ
-most_kept = longest_line + BLOCK
+most_kept = longest_line + longest_block
 
 -- Batches --
 
@@ -72,6 +72,11 @@ BatchHasCause (End end) = HasCause end
 abbrev pub BatchFailedBy : BatchEnd → SourceTold → SourceTold → Type 0
 BatchFailedBy More before now = Unfailed before now
 BatchFailedBy (End end) before now = FailedBy end before now
+
+-- how many reads gave no byte by the end of a batch, at most: the one that answered `End`, or one that failed
+abbrev pub idle_by : BatchEnd → Bool → ℕ
+idle_by More ended = late ended
+idle_by (End end) ended = 1
 
 -- A call that reads a batch.
 pub record HasReadBatch (most : ℕ) (end : BatchEnd) (before now : SourceTold) (old new : Fed) : Type 0 where

@@ -15,8 +15,9 @@ pub mod Stands
 pub mod OldText
 pub mod Sent
 pub mod Fed
-pub mod Came
 pub mod Ran
+pub mod Once
+pub mod Came
 pub mod Batch
 pub mod Handed
 pub mod LinesSeen

@@ -16,12 +16,18 @@ MetEnd true false before now = ⊥
 MetEnd false true before now = EndCame before now
 MetEnd false false before now = now.ends ≡ before.ends
 
--- Where the source tells its bytes and its reads, there were at most so many more reads than bytes.
-abbrev pub ReadsWithin : ℕ → Option (List ℕ) → Option (List ℕ) → Option ℕ → Option ℕ → Type 0
-ReadsWithin more None left was reads = ⊤
-ReadsWithin more (Some bytes) left None reads = ⊤
-ReadsWithin more (Some bytes) left (Some was) reads =
-    (rest : List ℕ) × (now : ℕ) × (left ≡ Some rest) × (reads ≡ Some now) × (now + length rest ≤ was + length bytes + more)
+-- how many reads gave no byte, where none failed: the one that answered `End`
+abbrev pub late : Bool → ℕ
+late true = 1
+late false = 0
+
+-- Where the source tells its bytes and its reads: with each read at least one byte came, but for some reads, of which `was_idle`
+-- were before and `idle` are by now.
+abbrev pub Spends : ℕ → ℕ → Option (List ℕ) → Option (List ℕ) → Option ℕ → Option ℕ → Type 0
+Spends was_idle idle None left was reads = ⊤
+Spends was_idle idle (Some bytes) left None reads = ⊤
+Spends was_idle idle (Some bytes) left (Some was) reads =
+    (rest : List ℕ) × (now : ℕ) × (left ≡ Some rest) × (reads ≡ Some now) × (now + length rest + was_idle ≤ was + length bytes + idle)
 
 -- No read failed.
 pub record Unfailed (before now : SourceTold) : Type 0 where

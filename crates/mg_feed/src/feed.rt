@@ -26,8 +26,8 @@ impl Feed {
     ghost use Rattle.mg_feed.specs.Given.{ended_streams};
     ghost use Rattle.mg_feed.specs.Stands.{Stands, nothing_taken, taken_with};
     ghost use Rattle.mg_feed.specs.FeedSeen.{seen, fed};
-    ghost use Rattle.mg_feed.specs.Ran.{MetEnd, ReadsWithin, FailedBy};
-    ghost use Rattle.mg_feed.specs.Batch.{HasRead, HasReadBatch, most_kept, HasCause, BatchHasCause, BatchFailedBy};
+    ghost use Rattle.mg_feed.specs.Ran.{MetEnd, late, Spends, FailedBy};
+    ghost use Rattle.mg_feed.specs.Batch.{HasRead, HasReadBatch, most_kept, HasCause, BatchHasCause, BatchFailedBy, idle_by};
     ghost use Rattle.mg_feed.specs.Accepted.{most_lines};
     ghost use Rattle.mg_feed.specs.Lines.{NoFeed};
     ghost use Rattle.mg_feed.specs.Code.LineEnd.{EndsLine};
@@ -98,13 +98,14 @@ impl Feed {
         collected.into_inputs(alloc, ended)
     }
 
-    /// Reads a source to its end, its first fault or the first line that isn't good, and takes the lines.
+    /// Reads a source to its end, its first fault or the first line that isn't good, and takes the lines. Behind the block in which
+    /// that line ends nothing is read, also where there is no memory.
     pub fn read_all<S: Source>(&mut self, source: &mut S) -> FeedEnd
         ensures read { HasRead result (S.told source.old) (S.told source.new) (fed self.old) (fed self.new) }
         ensures end { MetEnd (fed self.old).read.ended (fed self.new).read.ended (S.told source.old) (S.told source.new) }
         ensures fault { FailedBy result (S.told source.old) (S.told source.new) }
         ensures cause { HasCause result }
-        ensures reads { ReadsWithin 1 (S.told source.old).left (S.told source.new).left (S.told source.old).reads (S.told source.new).reads }
+        ensures reads { Spends (late (fed self.old).read.ended) 1 (S.told source.old).left (S.told source.new).left (S.told source.old).reads (S.told source.new).reads }
         ensures few { (seen self.new).lines ≤ most_lines }
         ensures small { length (fed self.new).read.kept ≤ most_kept }
         ensures graph { (seen self.new).graph ≡ (seen self.old).graph }
@@ -123,7 +124,7 @@ impl Feed {
         ensures end { MetEnd (fed self.old).read.ended (fed self.new).read.ended (S.told source.old) (S.told source.new) }
         ensures fault { BatchFailedBy result (S.told source.old) (S.told source.new) }
         ensures cause { BatchHasCause result }
-        ensures reads { ReadsWithin 1 (S.told source.old).left (S.told source.new).left (S.told source.old).reads (S.told source.new).reads }
+        ensures reads { Spends (late (fed self.old).read.ended) (idle_by result (fed self.new).read.ended) (S.told source.old).left (S.told source.new).left (S.told source.old).reads (S.told source.new).reads }
         ensures few { (seen self.new).lines ≤ most_lines }
         ensures small { length (fed self.new).read.kept ≤ most_kept }
         ensures graph { (seen self.new).graph ≡ (seen self.old).graph }

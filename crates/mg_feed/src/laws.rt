@@ -15,7 +15,7 @@ ghost use Rattle.mg_feed.specs.View.{View};
 ghost use Rattle.mg_feed.specs.Stands.{AllGood, Stands, nothing_taken, behind_all, taken_with, packets_of};
 ghost use Rattle.mg_feed.specs.Fed.{Fed};
 ghost use Rattle.mg_feed.specs.Came.{Came};
-ghost use Rattle.mg_feed.specs.Ran.{MetEnd, Unfailed, FailedBy};
+ghost use Rattle.mg_feed.specs.Ran.{MetEnd, Spends, Unfailed, FailedBy};
 ghost use Rattle.mg_feed.specs.Batch.{naming};
 ghost use Rattle.mg_feed.specs.declared.feed_end.FeedEnd.{FeedEnd};
 ghost use Rattle.mg_feed.specs.OldText.{old_given_by, AllGoodBefore};
@@ -90,12 +90,14 @@ pub fn accepted_lines_are_good()
 {}
 
 /// What several calls in a row did to the source, by what each of them did: one after the other gave their bytes, met its
-/// end, and no read failed, or one did in the last.
+/// end, with all reads but so many gave a byte, and no read failed, or one did in the last.
 pub fn batches_go_on()
     ensures gave { (first before now : Option (List ℕ)) (came more : List ℕ) → Gave first before came → Gave before now more
         → Gave first now (came ++ more) }
     ensures met { (a b c : Bool) (first before now : SourceTold) (came : List ℕ) → Gave first.left before.left came
         → MetEnd a b first before → MetEnd b c before now → MetEnd a c first now }
+    ensures reads { (a b c : ℕ) (first before now : Option (List ℕ)) (was between reads : Option ℕ) → Spends a b first before was between
+        → Spends b c before now between reads → Spends a c first now was reads }
     ensures unfailed { (first before now : SourceTold) → Unfailed first before → Unfailed before now → Unfailed first now }
     ensures failed { (end : FeedEnd) (first before now : SourceTold) (came : List ℕ) → Gave first.left before.left came
         → Unfailed first before → FailedBy end before now → FailedBy end first now }

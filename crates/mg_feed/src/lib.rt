@@ -4,6 +4,7 @@
 //! `specs/Batch.antt`; and how the lines of an input are handed out in `specs/Handed.antt`.
 #![tactic(auto)]
 
+mod all_or_nothing;
 mod collected;
 mod due;
 mod feed;
@@ -32,10 +33,11 @@ mod times;
 mod tokens;
 mod whole;
 
+pub use all_or_nothing::{push_bytes, whole_or_none};
 pub use feed::Feed;
 pub use feed_end::{BatchEnd, FeedEnd};
 pub use generating::generate;
-pub use limits::{LONGEST_LINE, MOST_LINES};
+pub use limits::{LONGEST_BLOCK, LONGEST_LINE, MOST_LINES};
 pub use line_fault::LineFault;
 pub use line_writer::{LineWriter, write_line};
 pub use lines::{Lines, NextLine};

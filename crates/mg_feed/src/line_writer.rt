@@ -1,11 +1,12 @@
-ghost use Rattle.std.specs.Prelude.{◌≡◌, ◌++◌, OnOk, IfOk};
+ghost use Rattle.std.specs.Prelude.{◌≡◌, ◌++◌, ℕ, List, OnOk, OnErr, IfOk};
 ghost use Rattle.serde_json.specs.Data.{string};
 ghost use Rattle.serde_json.specs.View.{view};
 ghost use Rattle.serde_json.specs.Written.{compact_text};
 ghost use Rattle.mg_feed.specs.Output.{line_text, time_data};
 ghost use Rattle.mg_feed.specs.Code.LineHead.{line_head, line_tail};
 
-use crate::payload_text::{push, push_number, push_payload};
+use crate::payload_text::{push_number, push_payload};
+use crate::{push_bytes, whole_or_none};
 use mg_time::Timestamp;
 use mg_value::{MgText, Packet};
 use serde_json::Value;
@@ -40,11 +41,14 @@ impl LineWriter {
         Ok(LineWriter { name: copy, head })
     }
 
-    /// Writes the line of a packet at the end of a text. After an `Err` the text may end with a part of the line.
+    /// Writes the line of a packet at the end of a text. After an `Err` the text is as it was.
     pub fn push_line(&self, text: &mut Vec<u8>, packet: &Packet) -> Result<(), AllocError>
-        ensures { OnOk result (text.new.items ≡ text.old.items ++ line_text self.now packet.now) }
+        ensures line { OnOk result (text.new.items ≡ text.old.items ++ line_text self.now packet.now) }
+        ensures unchanged { OnErr result (text.new.items ≡ text.old.items) }
     {
-        push_with_head(&self.head, text, packet)
+        let len = text.len();
+        let pushed = push_with_head(&self.head, text, packet);
+        whole_or_none(text, len, pushed)
     }
 }
 
@@ -64,9 +68,9 @@ fn head_of(alloc: Global, name: &MgText) -> Result<Vec<u8>, AllocError>
 {
     let quoted = text_value(alloc, name)?.to_string(alloc)?;
     let mut head = Vec::new(alloc);
-    push(&mut head, b"{\"stream\":")?;
-    push(&mut head, quoted.as_bytes())?;
-    push(&mut head, b",\"ts\":")?;
+    push_bytes(&mut head, b"{\"stream\":")?;
+    push_bytes(&mut head, quoted.as_bytes())?;
+    push_bytes(&mut head, b",\"ts\":")?;
     Ok(head)
 }
 
@@ -77,26 +81,28 @@ fn text_value(alloc: Global, name: &MgText) -> Result<Value, AllocError>
     Ok(Value::String(String::from_str(alloc, name.as_str())?))
 }
 
-// Writes a line that begins so.
+// Writes a line that begins so. After an `Err` the text may end with a part of it.
 fn push_with_head(head: &[u8], text: &mut Vec<u8>, packet: &Packet) -> Result<(), AllocError>
-    ensures { OnOk result (text.new.items ≡ text.old.items ++ (head.now ++ line_tail packet.now)) }
+    ensures line { OnOk result (text.new.items ≡ text.old.items ++ (head.now ++ line_tail packet.now)) }
+    ensures part { OnErr result ((part : List ℕ) × (text.new.items ≡ text.old.items ++ part)) }
 {
-    push(text, head)?;
+    push_bytes(text, head)?;
     push_time(text, packet.at)?;
-    push(text, b",\"value\":")?;
+    push_bytes(text, b",\"value\":")?;
     push_payload(text, &packet.payload)?;
-    push(text, b"}\n")?;
+    push_bytes(text, b"}\n")?;
     Ok(())
 }
 
 // Puts a timestamp as JSON at the end of a text.
 fn push_time(text: &mut Vec<u8>, at: Timestamp) -> Result<(), AllocError>
-    ensures { OnOk result (text.new.items ≡ text.old.items ++ compact_text (time_data at)) }
+    ensures put { OnOk result (text.new.items ≡ text.old.items ++ compact_text (time_data at)) }
+    ensures unchanged { OnErr result (text.new.items ≡ text.old.items) }
 {
     if at == Timestamp::PRE_STREAM {
-        push(text, b"\"PreStream\"")?;
+        push_bytes(text, b"\"PreStream\"")?;
     } else if at == Timestamp::POST_STREAM {
-        push(text, b"\"PostStream\"")?;
+        push_bytes(text, b"\"PostStream\"")?;
     } else {
         push_number(text, at.raw())?;
     }

@@ -2,17 +2,14 @@ ghost use Rattle.std.specs.Prelude.{◌≡◌, ◌<◌, ◌≤◌, false, length
 ghost use Rattle.mg_feed.specs.Lines.{NoFeed};
 ghost use Rattle.mg_feed.specs.Accepted.{longest_line};
 ghost use Rattle.mg_feed.specs.Code.LineEnd.{EndsLine, has_feed};
-ghost use Rattle.mg_feed.specs.declared.reader.TheConstants.{BLOCK};
+ghost use Rattle.mg_feed.specs.declared.limits.TheConstants.{LONGEST_BLOCK};
 
 use crate::LineFault;
-use crate::limits::LONGEST_LINE;
+use crate::limits::{LONGEST_BLOCK, LONGEST_LINE};
 use memchr::memchr;
 use mg_edge::{Got, Source};
 use std::alloc::{AllocError, Global};
 use std::mem;
-
-/// How many bytes are read at once.
-pub const BLOCK: usize = 65_536;
 
 /// Reads a source in blocks, and finds the lines. A line that lies whole in a block stays there.
 #[derive(Drop)]
@@ -26,7 +23,7 @@ pub struct Reader {
     // Whether the source answered `End`.
     pub ended: bool,
     ghost room: { 0 < vec_len block },
-    ghost small: { vec_len block ≤ BLOCK },
+    ghost small: { vec_len block ≤ LONGEST_BLOCK },
     ghost ahead: { at ≤ filled },
     ghost within: { filled ≤ vec_len block },
     ghost none: { has_feed cut.items ≡ false },
@@ -45,7 +42,7 @@ impl Reader {
     pub fn new(alloc: Global) -> Result<Reader, AllocError>
         ensures { IfOk result (λ reader. reading_of reader ≡ record { kept = []; ended = false }) }
     {
-        let block = zeros(alloc, BLOCK)?;
+        let block = zeros(alloc, LONGEST_BLOCK)?;
         Ok(Reader {
             block,
             at: 0,

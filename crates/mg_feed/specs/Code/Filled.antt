@@ -7,11 +7,13 @@ use Rattle.mg_edge.specs.declared.source.Got.TheVariants.{Bytes, End, Failed}
 use Rattle.mg_feed.specs.Lines.{with_feed}
 use Rattle.mg_feed.specs.Fed.{Reading}
 use Rattle.mg_feed.specs.Ran.{EndCame, Unfailed, ReadFailed}
+use Rattle.mg_feed.specs.Once.{longest_block}
 
 -- bytes came
 pub record GotBytes (old new : Reading) (before now : SourceTold) : Type 0 where
   pub bytes : List ℕ
   pub some : 1 ≤ length bytes
+  pub few : length bytes ≤ longest_block
   pub kept : new.kept ≡ old.kept ++ bytes
   pub ended : new.ended ≡ false
   pub gave : Gave before.left now.left bytes

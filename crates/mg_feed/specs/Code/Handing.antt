@@ -5,10 +5,9 @@ use Rattle.mg_edge.specs.Runs.{Gave}
 use Rattle.mg_feed.specs.Lines.{NoFeed}
 use Rattle.mg_feed.specs.Accepted.{longest_line}
 use Rattle.mg_feed.specs.Fed.{Reading}
-use Rattle.mg_feed.specs.Ran.{MetEnd}
+use Rattle.mg_feed.specs.Ran.{MetEnd, late}
 use Rattle.mg_feed.specs.Handed.{MovesOn, EndsReads}
 use Rattle.mg_feed.specs.Code.LineEnd.{EndsLine}
-use Rattle.mg_feed.specs.Code.Moves.{late}
 use Rattle.mg_feed.specs.declared.lines.NextLine.{NextLine}
 use Rattle.mg_feed.specs.declared.lines.NextLine.TheVariants.{Line, TooLong, Ended, Failed}
 use Rattle.mg_feed.specs.declared.lines.Found.{Found}
@@ -22,7 +21,7 @@ LacksLine Ended read = (read.ended ≡ true) × NoFeed read.kept
 LacksLine Failed read = (read.ended ≡ false) × NoFeed read.kept
 
 -- The search stops, and what was read is as it was.
-pub record StopsAt (next : NextLine) (before now : SourceTold) (old new : Reading) : Type 0 where
+pub record SearchStops (next : NextLine) (before now : SourceTold) (old new : Reading) : Type 0 where
   pub same : new ≡ old
   pub gave : Gave before.left now.left []
   pub met : MetEnd old.ended new.ended before now
@@ -36,14 +35,14 @@ weight_of read = length read.kept + late read.ended
 -- one step: more was read, or the search stops
 abbrev pub StepsOn : Option NextLine → SourceTold → SourceTold → Reading → Reading → Type 0
 StepsOn None before now old new = MovesOn before now old new × (weight_of old < weight_of new)
-StepsOn (Some next) before now old new = StopsAt next before now old new
+StepsOn (Some next) before now old new = SearchStops next before now old new
 
 -- and all of them: what is left in the block has the line feed, or more was read and then the search stopped
 pub record StopsLater (next : NextLine) (before now : SourceTold) (old new : Reading) : Type 0 where
   pub between : SourceTold
   pub read : Reading
   pub moves : MovesOn before between old read
-  pub stops : StopsAt next between now read new
+  pub stops : SearchStops next between now read new
 
 abbrev pub Finds : Found → List ℕ → SourceTold → SourceTold → Reading → Reading → Type 0
 Finds (At end) left before now old new = MovesOn before now old new × EndsLine left end

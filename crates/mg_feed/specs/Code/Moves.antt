@@ -1,5 +1,5 @@
 -- The steps of a call that reads lines.
-use Rattle.std.specs.Prelude.{◌≡◌, ◌≢◌, ◌⊎◌, ◌≤◌, ◌<◌, ◌+◌, ◌*◌, ⊤, ℕ, List, [], ◌∷◌, ◌++◌, length, Bool, true, false, Option, None, Some, Result, Ok, Err}
+use Rattle.std.specs.Prelude.{◌≡◌, ◌≢◌, ◌⊎◌, ◌<◌, ◌+◌, ◌*◌, ℕ, List, [], ◌∷◌, ◌++◌, length, Bool, None, Some, Result, Ok, Err}
 use Rattle.mg_value.specs.Payload.{Plain}
 use Rattle.mg_value.specs.Prefix.{Stamped}
 use Rattle.mg_edge.specs.Edge.{SourceTold}
@@ -8,10 +8,10 @@ use Rattle.mg_feed.specs.Lines.{NoFeed}
 use Rattle.mg_feed.specs.Accepted.{with_line, line_refusal, names_stream, longest_line, most_lines}
 use Rattle.mg_feed.specs.View.{before_seen, with_next}
 use Rattle.mg_feed.specs.Fed.{Fed}
+use Rattle.mg_feed.specs.Once.{longest_block}
 use Rattle.mg_feed.specs.Came.{Came}
-use Rattle.mg_feed.specs.Ran.{MetEnd, Unfailed, FailedBy}
+use Rattle.mg_feed.specs.Ran.{MetEnd, late, Spends, Unfailed, FailedBy}
 use Rattle.mg_feed.specs.Batch.{EndsAs, HasCause}
-use Rattle.mg_feed.specs.declared.reader.TheConstants.{BLOCK}
 use Rattle.mg_feed.specs.declared.line_fault.LineFault.{LineFault}
 use Rattle.mg_feed.specs.declared.line_fault.LineFault.TheVariants.{OutOfMemory as no_memory}
 use Rattle.mg_feed.specs.declared.feed_end.FeedEnd.{FeedEnd}
@@ -51,18 +51,6 @@ abbrev pub Grows : Fed → Fed → List ℕ → List (List ℕ) → Type 0
 Grows old new came taken = (first : List (List ℕ)) (past : List ℕ) (lines : List (List ℕ)) (gone : List (List (Stamped Plain)))
     → Came first past lines gone old → Came first (past ++ came) (lines ++ taken) gone new
 
--- one, once the source has ended
-abbrev pub late : Bool → ℕ
-late true = 1
-late false = 0
-
--- With each read at least one byte comes, but for the one that answers `End`.
-abbrev pub Spends : ℕ → ℕ → Option (List ℕ) → Option (List ℕ) → Option ℕ → Option ℕ → Type 0
-Spends a b None left was reads = ⊤
-Spends a b (Some bytes) left None reads = ⊤
-Spends a b (Some bytes) left (Some was) reads =
-    (rest : List ℕ) × (now : ℕ) × (left ≡ Some rest) × (reads ≡ Some now) × (now + length rest + a ≤ was + length bytes + b)
-
 -- what a feed and its source did so far, no read having failed
 pub record Moved (before now : SourceTold) (old new : Fed) (came : List ℕ) (taken : List (List ℕ)) : Type 0 where
   pub gave : Gave before.left now.left came
@@ -78,7 +66,7 @@ abbrev pub weight : Fed → ℕ
 weight f = f.view.lines * (longest_line + 2) + length f.read.kept + late f.read.ended
 
 abbrev pub heaviest : ℕ
-heaviest = most_lines * (longest_line + 2) + longest_line + BLOCK + 1
+heaviest = most_lines * (longest_line + 2) + longest_line + longest_block + 1
 
 -- what the end of the reading says of all that came
 abbrev pub Ends : FeedEnd → Fed → Type 0

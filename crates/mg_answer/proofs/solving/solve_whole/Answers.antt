@@ -6,4 +6,5 @@ pub returns-in-Err-clause-ran : goal.returns-in-Err-clause-ran
 returns-in-Err-clause-ran g c = (
   c.in-Err.ensures.short,
   noted-then (g.E.Sink.told c.args.devices.now.notes.now) (g.E.Sink.told c.solve_read.new.devices.notes.now) (g.E.Sink.told c.note_out_of_memory.new.notes) memory_note c.in-Err.ensures.unnoted c.note_out_of_memory.ensures,
+  c.in-Err.ensures.read,
 )

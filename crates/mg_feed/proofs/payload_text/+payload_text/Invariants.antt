@@ -2,6 +2,7 @@ use Rattle.std.proofs.Common.{◌≡◌, ◌+◌, ◌*◌, ◌++◌, ◌∷◌, 
 use Rattle.mg_value.specs.Plain.{depth, items_of, items_depth}
 use Rattle.mg_value.specs.Payload.{plain}
 use Rattle.mg_feed.proofs.ItemTexts.{left_text}
+use Rattle.mg_feed.proofs.WholeOrNone.{With}
 use Rattle.mg_feed.proofs.payload_text.+payload_text.Given as goal
 
 abbrev pub decreases-push_payload : goal.decreases-push_payload
@@ -13,4 +14,4 @@ decreases-push_items l = 2 * items_depth (items_of (map plain l.payloads.now)) +
 -- with the items that are left the text comes to the same
 abbrev pub invariant-push_items-loop-payload : goal.invariant-push_items-loop-payload
 invariant-push_items-loop-payload l =
-    l.text.items ++ left_text l.later (drop l.payload-index l.payloads) ≡ l.fn.text.items ++ 91 ∷ left_text false l.payloads
+    (l.text.items ++ left_text l.later (drop l.payload-index l.payloads) ≡ l.fn.text.items ++ 91 ∷ left_text false l.payloads) × With l.fn.text.items l.text.items

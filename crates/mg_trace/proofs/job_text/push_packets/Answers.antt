@@ -7,4 +7,4 @@ pub loop-packet-preserved : goal.loop-packet-preserved
 loop-packet-preserved c =
     packets-step c.args.name.now c.args.text.now.items c.loop-packet.text.items c.push_line.new.text.items c.args.packets.now c.loop-packet.packet-index c.packet-item.result
     c.loop-packet-test.true c.packet-item.is c.loop-packet.invariant
-    (c.in_ok-push_line.ensures ∙ ap (λ n. c.loop-packet.text.items ++ line_text n c.packet-item.result) c.in_ok-writer.ensures)
+    (c.in_ok-push_line.ensures.line ∙ ap (λ n. c.loop-packet.text.items ++ line_text n c.packet-item.result) c.in_ok-writer.ensures)

@@ -1,7 +1,7 @@
 use Rattle.std.proofs.Common.{[], ◌++◌, List, ℕ, refl, subst, arith, inl, append-nil}
 use Rattle.mg_feed.specs.FeedSeen.{fed}
 use Rattle.mg_feed.specs.Code.Moves.{Moved}
-use Rattle.mg_feed.proofs.Moving.{moved-same, moved-then, moved-on, byte-small, batch-more, batch-stop}
+use Rattle.mg_feed.proofs.Moving.{moved-same, moved-then, moved-on, byte-small, reads-stop, batch-more, batch-stop}
 use Rattle.mg_feed.proofs.feed.Feed.read_batch.Goals as goal
 
 pub lines-init : goal.lines-init
@@ -44,3 +44,13 @@ pub returns-clause-read : goal.returns-clause-read
 returns-clause-read g c =
     let (came, taken, moved, count, short) = c.lines.invariant.moved in
     batch-more c.args.most _ _ _ _ came taken moved (omega (arith, count, c.lines-test.false, c.lines.invariant.within)) short
+
+pub returns-in-Stop-clause-reads : goal.returns-in-Stop-clause-reads
+returns-in-Stop-clause-reads g c =
+    let (came, taken, moved, count, short) = c.lines.invariant.moved in
+    reads-stop c.in-Stop.end _ _ _ _ _ _ came taken moved c.in-Stop.ensures
+
+pub returns-clause-reads : goal.returns-clause-reads
+returns-clause-reads g c =
+    let (came, taken, moved, count, short) = c.lines.invariant.moved in
+    moved.spent

@@ -1,0 +1,30 @@
+-- How far an input is read: once, and no further than to the block in which its first line that isn't good ends.
+use Rattle.std.specs.Prelude.{◌≡◌, ◌≤◌, ℕ, List, [], ◌++◌, length}
+use Rattle.mg_edge.specs.Edge.{SourceTold}
+use Rattle.mg_feed.specs.Graph.{GraphInputs}
+use Rattle.mg_feed.specs.Lines.{whole_lines, rest_of}
+use Rattle.mg_feed.specs.Accepted.{longest_line}
+use Rattle.mg_feed.specs.Stands.{AllGood}
+use Rattle.mg_feed.specs.Ran.{Spends}
+use Rattle.mg_feed.specs.declared.limits.TheConstants.{LONGEST_BLOCK}
+
+-- the most bytes that are read at once
+abbrev pub longest_block : ℕ
+longest_block = LONGEST_BLOCK
+
+-- The bytes that came are some bytes and at most one block behind them. The whole lines of the bytes before the block are all good
+-- after the first lines, which came in another way, and the line that they leave open isn't too long yet. So a line that isn't good
+-- ends, or grows too long, in that block.
+pub record StopsInTime (graph : GraphInputs) (first : List (List ℕ)) (came : List ℕ) : Type 0 where
+  pub before : List ℕ
+  pub block : List ℕ
+  pub split : came ≡ before ++ block
+  pub few : length block ≤ longest_block
+  pub good : AllGood graph first (whole_lines before)
+  pub open_line : length (rest_of before) ≤ longest_line
+
+-- An input, of which these bytes came, was read no further than that, and by one read more than bytes came at most, where the source
+-- tells its bytes and its reads: the one that answered `End`, or that failed.
+pub record ReadsOnce (graph : GraphInputs) (before now : SourceTold) (came : List ℕ) : Type 0 where
+  pub stops : StopsInTime graph [] came
+  pub reads : Spends 0 1 before.left now.left before.reads now.reads
