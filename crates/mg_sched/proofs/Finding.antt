@@ -6,7 +6,7 @@ use Rattle.mg_calc.specs.declared.edge.Edge.{Edge}
 use Rattle.mg_calc.specs.Plan.{IsValid}
 use Rattle.mg_node.specs.Views.{IntakeView, EngineView}
 use Rattle.mg_node.specs.Job.{LoggedJob}
-use Rattle.mg_node.specs.Lawful.{AreCell}
+use Rattle.mg_node.specs.Lawful.{AreCell, LawfulEngine, LawfulIntake, Agree, of_node}
 use Rattle.mg_throttle.specs.Throttle.{IsOf}
 use Rattle.mg_sched.specs.Views.{DeskView, NetView}
 use Rattle.mg_sched.specs.StandsFor.{IsCell, StandsFor, StandsForSome, IsRunning}
@@ -49,6 +49,15 @@ are_cell net node engine intake h running there at to =
     let desk = found net.desks node (omega (arith, there, long)) in
     let c = cell_at h.job net node engine intake desk.0 h.stands running there at to desk.1 in
     record { job = h.job; number = node; lawful_engine = c.lawful_engine; lawful_intake = c.lawful_intake; agree = c.agree }
+
+-- each is lawful for the job
+pub parts_lawful : (net : NetView) (node : ℕ) (engine : EngineView) (intake : IntakeView) (h : StandsForSome net) → IsRunning net → node < length net.plan.nodes → slice_get net.engines node ≡ Some engine → slice_get net.intakes node ≡ Some intake
+    → LawfulEngine h.job (of_node node) engine × LawfulIntake h.job node intake × Agree engine intake
+parts_lawful net node engine intake h running there at to =
+    let long = (places net h).2 in
+    let desk = found net.desks node (omega (arith, there, long)) in
+    let c = cell_at h.job net node engine intake desk.0 h.stands running there at to desk.1 in
+    (c.lawful_engine, c.lawful_intake, c.agree)
 
 -- what was read at a place within is found there
 pub read_at : {X : Type 0} (xs : List X) (i : ℕ) (x : X) → i < length xs → x ≡ get_or xs i x → slice_get xs i ≡ Some x

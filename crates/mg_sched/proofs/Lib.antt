@@ -78,3 +78,4 @@ pub mod StreamLooks
 pub mod RunsOn
 pub mod HeardOn
 pub mod Alike
+pub mod WorkingAtOnce

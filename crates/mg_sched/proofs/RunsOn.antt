@@ -42,8 +42,8 @@ pub run_stands : (job : LoggedJob) (events : List Event) (before now : NetView) 
 run_stands job events before now run running stands = becomes_stands job before now running stands (run_becomes events before now run)
 
 -- each event leaves less to do
-less : (job : LoggedJob) (event : Event) (events : List Event) (before now : NetView) → IsRun (event ∷ events) before now → IsRunning before → StandsFor job before → left_in now < left_in before
-less job event events before now (next, of, acts, run) running stands =
+pub run_less : (job : LoggedJob) (event : Event) (events : List Event) (before now : NetView) → IsRun (event ∷ events) before now → IsRunning before → StandsFor job before → left_in now < left_in before
+run_less job event events before now (next, of, acts, run) running stands =
     let first : left_in next < left_in before = acts_less job event before next of running stands acts in
     let there : IsRunning next = acts_run event Did before next running acts in
     let rest : left_in now ≤ left_in next = becomes_no_more next now there (record { job = job; stands = acts_stand job event Did before next of running stands acts }) (run_becomes events next now run) in
@@ -52,7 +52,7 @@ less job event events before now (next, of, acts, run) running stands =
 pub run_moves : (job : LoggedJob) (events : List Event) (before now : NetView) → IsRun events before now → IsRunning before → StandsFor job before → events ≢ [] → now ≢ before
 run_moves job [] before now run running stands some = absurd (some refl)
 run_moves job (event ∷ events) before now run running stands some = λ same.
-    let fewer : left_in now < left_in before = less job event events before now run running stands in
+    let fewer : left_in now < left_in before = run_less job event events before now run running stands in
     let equal = ap left_in same in
     absurd (omega (arith, fewer, equal))
 

@@ -1,7 +1,6 @@
 -- What only the crate's own functions and proofs cite. Nobody who reads the public contracts needs these pages.
 pub mod Desks
 pub mod Tables
-pub mod Cells
 pub mod Made
 pub mod Longer
 pub mod Outputs
@@ -9,3 +8,4 @@ pub mod Agendas
 pub mod AtLimits
 pub mod Left
 pub mod Telling
+pub mod AtOnce

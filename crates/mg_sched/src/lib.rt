@@ -10,6 +10,7 @@ pub mod laws;
 mod net;
 mod net_parts;
 mod parts;
+mod reached;
 mod report;
 pub mod run_laws;
 mod sources;

@@ -16,6 +16,7 @@ mod taking;
 mod trimming;
 mod winding;
 mod working;
+mod working_at_once;
 mod working_long;
 
 use crate::desk::Desk;

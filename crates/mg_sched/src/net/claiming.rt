@@ -1,20 +1,18 @@
 //! How works are claimed.
 ghost use Rattle.std.specs.Prelude.{◌≡◌, ◌<◌, ◌≤◌, ◌+◌, ◌^◌, ℕ, length, slice_get, Some, true, false};
-ghost use Rattle.mg_node.specs.Job.{LoggedJob};
-ghost use Rattle.mg_node.specs.Lawful.{LawfulIntake};
-ghost use Rattle.mg_sched.specs.StandsFor.{IsCell, StandsForSome, IsRunning};
-ghost use Rattle.mg_sched.specs.Code.Cells.{SomeCell};
+ghost use Rattle.mg_sched.specs.StandsFor.{StandsForSome, IsRunning};
+ghost use Rattle.mg_sched.specs.Views.{DeskView};
+ghost use Rattle.mg_sched.specs.Code.AtOnce.{HandsOut, took_none, with_work};
 ghost use Rattle.mg_node.specs.Ports.{ports_in, port_queue};
 ghost use Rattle.mg_sched.specs.Places.{lengths_of, first_edge};
 ghost use Rattle.mg_calc.specs.declared.plan_node.PlanNode.{PlanNode};
 ghost use Rattle.mg_node.specs.Views.{IntakeView};
 ghost use Rattle.mg_sched.specs.Code.Tables.{IsFeederOf};
-ghost use Rattle.mg_sched.specs.Acts.{IsHeldSource, ClaimsBy, Claimed as ClaimedAt, ClaimsNext, all_noted, with_noted};
+ghost use Rattle.mg_sched.specs.Acts.{IsHeldSource, Claimed as ClaimedAt, ClaimsNext, all_noted, with_noted};
 
 use super::Net;
-use crate::desk::Desk;
 use mg_calc::{Calculator, Effect};
-use mg_node::{Claimed, Engine, Intake};
+use mg_node::{Claimed, Intake, Work};
 use mg_throttle::Limits;
 
 // Tells limits how many packets wait at each port of an intake, from the edge of a number on.
@@ -29,26 +27,18 @@ fn note_all(limits: &mut Limits, first: u32, intake: &Intake)
     }
 }
 
-// Claims the next work of a cell, and lays it on the desk.
-fn claim_cell<C: Calculator>(
-    engine: &mut Engine<C>,
-    intake: &mut Intake,
-    desk: &mut Desk<C>,
-) -> Effect
-    requires { SomeCell engine.old intake.old desk.old }
-    ensures claims { ClaimsBy result engine.old engine.new intake.old intake.new desk.old desk.new }
-    ensures lawful { (job : LoggedJob) (node : ℕ) → IsCell job true node engine.old intake.old desk.old → LawfulIntake job node intake.new }
+// Whether a claim took nothing from the intake.
+fn took_none<C: Calculator>(claimed: &Claimed<C>) -> bool
+    ensures { result ≡ took_none claimed.now }
 {
-    match engine.claim(intake) {
-        Claimed::Work(work) => {
-            desk.put(work);
-            Effect::Did
-        }
-        Claimed::Answered => Effect::Did,
-        Claimed::NotReady | Claimed::InFlightFull | Claimed::Draining | Claimed::Ended => {
-            Effect::Idle
-        }
-        Claimed::OutOfMemory => Effect::OutOfMemory,
+    match claimed {
+        Claimed::NotReady => true,
+        Claimed::InFlightFull => true,
+        Claimed::Draining => true,
+        Claimed::Ended => true,
+        Claimed::Work(_) => false,
+        Claimed::Answered => false,
+        Claimed::OutOfMemory => false,
     }
 }
 
@@ -102,14 +92,43 @@ impl<C: Calculator> Net<C> {
         requires running { IsRunning self.old }
         ensures { ClaimsNext node result self.old self.new }
     {
+        match self.hand_out(node) {
+            Claimed::Work(work) => {
+                self.put_on_desk(node, work);
+                Effect::Did
+            }
+            Claimed::Answered => Effect::Did,
+            Claimed::NotReady => Effect::Idle,
+            Claimed::InFlightFull => Effect::Idle,
+            Claimed::Draining => Effect::Idle,
+            Claimed::Ended => Effect::Idle,
+            Claimed::OutOfMemory => Effect::OutOfMemory,
+        }
+    }
+
+    // Claims the next work of a node, hands it out, and tells the limits how many packets wait.
+    pub(super) fn hand_out(&mut self, node: u32) -> Claimed<C>
+        requires there { node < length self.old.plan.nodes }
+        requires stands { StandsForSome self.old }
+        requires running { IsRunning self.old }
+        ensures { HandsOut node result self.old self.new }
+    {
         let place = node as usize;
-        let effect = claim_cell(
-            &mut self.engines[place],
-            &mut self.intakes[place],
-            &mut self.desks[place],
-        );
+        let claimed = self.engines[place].claim(&mut self.intakes[place]);
+        if took_none(&claimed) {
+            return claimed;
+        }
         self.note_ports(node);
-        effect
+        claimed
+    }
+
+    // Lays a work behind those on a node's desk.
+    pub(super) fn put_on_desk(&mut self, node: u32, work: Work<C>)
+        requires there { node < length self.old.desks }
+        requires room { (desk : DeskView) → slice_get self.old.desks node ≡ Some desk → length desk.works < desk.room }
+        ensures { (desk : DeskView) → slice_get self.old.desks node ≡ Some desk → self.new ≡ with_work self.old node desk work }
+    {
+        self.desks[node as usize].put(work);
     }
 
     // Tells the limits how many packets wait at each port of a consumer.

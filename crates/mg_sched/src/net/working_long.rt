@@ -44,6 +44,8 @@ impl<C: Calculator> Net<C> {
         self.plan.nodes.as_slice()[node as usize].inputs.is_empty()
     }
 
+    // Does all works of a node, one after the other, and then raises its outputs once: no further work comes of that. Tells whether
+    // something was done.
     fn work_until_idle<G: Gate, H: Hears>(
         &mut self,
         node: u32,
@@ -58,8 +60,28 @@ impl<C: Calculator> Net<C> {
         ensures heard_some { OnErr result (HeardSome H.has_heard hearer.old hearer.new self.old) }
         ensures goes { IfOk result (λ did. Goes did self.old self.new) }
     {
+        let worked = self.do_works(node, gate, hearer)?;
+        let raised = self.step(Event::Advance { node }, gate, hearer)?;
+        Ok(worked | raised)
+    }
+
+    // Does a node's works, one after the other, as long as there is one. Tells whether there was one.
+    fn do_works<G: Gate, H: Hears>(
+        &mut self,
+        node: u32,
+        gate: &G,
+        hearer: &mut H,
+    ) -> Result<bool, AllocError>
+        requires running { IsRunning self.old }
+        requires stands { StandsForSome self.old }
+        requires there { node < length self.old.plan.nodes }
+        ensures becomes { Becomes self.old self.new }
+        ensures heard { OnOk result (Heard H.has_heard hearer.old hearer.new self.old self.new) }
+        ensures heard_some { OnErr result (HeardSome H.has_heard hearer.old hearer.new self.old) }
+        ensures goes { IfOk result (λ did. Goes did self.old self.new) }
+    {
         let mut did = false;
-        'works: while self.work(node, gate, hearer)? {
+        'works: while self.work_on(node, gate, hearer)? {
             did = true;
         }
         Ok(did)
@@ -90,7 +112,8 @@ impl<C: Calculator> Net<C> {
         Ok(raised)
     }
 
-    // Claims a node's next work, and performs and commits what is claimed. Tells whether something was done.
+    // Lets a node's next work be done at once; only where there is none, performs and commits what is claimed. Tells whether something was
+    // done.
     fn work_on<G: Gate, H: Hears>(
         &mut self,
         node: u32,
@@ -106,10 +129,13 @@ impl<C: Calculator> Net<C> {
         ensures goes { IfOk result (λ did. Goes did self.old self.new) }
         ensures rest { IfOk result (λ did. did ≡ false → WorksRest self.new node) }
     {
-        let claimed = self.step(Event::Claim { node }, gate, hearer)?;
+        let worked = self.work_at_once(node, gate, hearer)?;
+        if worked {
+            return Ok(true);
+        }
         let performed = self.perform_all(node, gate, hearer)?;
         let committed = self.commit_all(node, gate, hearer)?;
-        Ok(claimed | performed | committed)
+        Ok(performed | committed)
     }
 
     // Performs a node's works that are claimed. Tells whether there was one.

@@ -1,75 +1,51 @@
-use Rattle.std.proofs.Common.{◌+◌, ◌<◌, ◌≤◌, length, ap, sym, subst, ◌∙◌, arith}
-use Rattle.mg_node.specs.Views.{IntakeView}
-use Rattle.mg_node.specs.Ports.{ports_in}
-use Rattle.mg_node.specs.Lawful.{LawfulIntake}
-use Rattle.mg_node.proofs.Lemmas.{few_packets, put_there}
-use Rattle.mg_sched.specs.Views.{NetView}
-use Rattle.mg_sched.specs.Places.{first_edge, with_engine, with_intake, with_desk, lengths_of}
-use Rattle.mg_sched.specs.Acts.{with_noted}
-use Rattle.mg_sched.proofs.Finding.{cell_at, engine_read, intake_read, desk_read, engine_fits, intake_fits, desk_fits, intake_there, put_here, put_long}
-use Rattle.mg_sched.proofs.Carrying.{ports_fit, queues_short}
+use Rattle.std.proofs.Common.{◌<◌, List, length, inl, inr, refl, sym, subst}
+use Rattle.mg_calc.specs.declared.event.Effect.TheVariants.{Did}
+use Rattle.mg_sched.specs.Views.{DeskView}
+use Rattle.mg_sched.specs.Acts.{ClaimsNext}
+use Rattle.mg_sched.proofs.Finding.{found, desk_there}
+use Rattle.mg_sched.proofs.WorkingAtOnce.{hands_work, hands_none, desks_kept, on_kept, desk_room}
 use Rattle.mg_sched.proofs.net.Net.claim_next.Goals as goal
 
-pub index_mut-requires : goal.index_mut-requires
-index_mut-requires g c = engine_fits _ c.args.self.now c.args.node _ c.self.view_is c.requires.stands c.requires.there c.self.inside.engines.ok.0
+pub put_on_desk-requires-clause-there : goal.put_on_desk-requires-clause-there
+put_on_desk-requires-clause-there g c =
+    subst (λ (ds : List DeskView). c.args.node < length ds) (sym (desks_kept c.args.node _ c.args.self.now c.hand_out.new.self c.in-Work.ensures)) (desk_there c.args.self.now c.args.node c.requires.stands c.requires.there)
 
-pub index_mut-requires-2 : goal.index_mut-requires-2
-index_mut-requires-2 g c = intake_fits _ c.args.self.now c.args.node _ c.self.view_is c.requires.stands c.requires.there c.self.inside.intakes.ok.0
+pub put_on_desk-requires-clause-room : goal.put_on_desk-requires-clause-room
+put_on_desk-requires-clause-room g c = λ desk on.
+    desk_room c.args.node c.in-Work.work c.args.self.now c.hand_out.new.self desk c.requires.stands c.requires.running c.requires.there c.in-Work.ensures on
 
-pub index_mut-requires-3 : goal.index_mut-requires-3
-index_mut-requires-3 g c = desk_fits _ c.args.self.now c.args.node _ c.self.view_is c.requires.stands c.requires.there c.self.inside.desks.ok.0
+pub returns-in-Work : goal.returns-in-Work
+returns-in-Work g c =
+    let desk = found c.args.self.now.desks c.args.node (desk_there c.args.self.now c.args.node c.requires.stands c.requires.there) in
+    let on = on_kept c.args.node _ c.args.self.now c.hand_out.new.self desk.0 c.in-Work.ensures desk.1 in
+    subst (ClaimsNext c.args.node Did c.args.self.now) (sym (c.put_on_desk.ensures desk.0 on)) (hands_work c.args.node c.in-Work.work c.args.self.now c.hand_out.new.self desk.0 c.in-Work.ensures desk.1)
 
-pub claim_cell-effect-requires : goal.claim_cell-effect-requires
-claim_cell-effect-requires g c = record {
-  job = c.requires.stands.job;
-  node = c.args.node;
-  cell = cell_at c.requires.stands.job c.args.self.now c.args.node _ _ _ c.requires.stands.stands c.requires.running c.requires.there
-      (engine_read _ c.args.self.now c.args.node _ c.self.view_is c.requires.stands c.requires.there c.index_mut.ensures.value)
-      (intake_read _ c.args.self.now c.args.node _ c.self.view_is c.requires.stands c.requires.there c.index_mut-2.ensures.value)
-      (desk_read _ c.args.self.now c.args.node _ c.self.view_is c.requires.stands c.requires.there c.index_mut-3.ensures.value);
-}
+pub returns-in-Answered : goal.returns-in-Answered
+returns-in-Answered g c =
+    let desk = found c.args.self.now.desks c.args.node (desk_there c.args.self.now c.args.node c.requires.stands c.requires.there) in
+    hands_none c.args.node _ _ c.args.self.now c.hand_out.new.self desk.0 c.in-Answered.ensures desk.1 (inr (c.in-Answered.ensures.claims, refl))
 
-pub note_ports-requires-clause-there : goal.note_ports-requires-clause-there
-note_ports-requires-clause-there g c =
-    (let within = subst (λ (v : NetView). c.args.node < length v.intakes) (sym c.self.view_is) (intake_there c.args.self.now c.args.node c.requires.stands c.requires.there) in
-    let long = put_long c.self.inside.intakes.items c.args.node c.claim_cell-effect.new.intake in
-    omega (arith, within, long))
+pub returns-in-NotReady : goal.returns-in-NotReady
+returns-in-NotReady g c =
+    let desk = found c.args.self.now.desks c.args.node (desk_there c.args.self.now c.args.node c.requires.stands c.requires.there) in
+    hands_none c.args.node _ _ c.args.self.now c.hand_out.new.self desk.0 c.in-NotReady.ensures desk.1 (inl c.in-NotReady.ensures.claims, refl)
 
-pub note_ports-requires-clause-queues : goal.note_ports-requires-clause-queues
-note_ports-requires-clause-queues g c = λ intake at.
-    (let lawful : LawfulIntake c.requires.stands.job c.args.node c.claim_cell-effect.new.intake = c.claim_cell-effect.ensures.lawful c.requires.stands.job c.args.node
-    (cell_at c.requires.stands.job c.args.self.now c.args.node _ _ _ c.requires.stands.stands c.requires.running c.requires.there
-    (engine_read _ c.args.self.now c.args.node _ c.self.view_is c.requires.stands c.requires.there c.index_mut.ensures.value)
-    (intake_read _ c.args.self.now c.args.node _ c.self.view_is c.requires.stands c.requires.there c.index_mut-2.ensures.value)
-    (desk_read _ c.args.self.now c.args.node _ c.self.view_is c.requires.stands c.requires.there c.index_mut-3.ensures.value)) in
-    let fit = subst (λ (v : NetView). first_edge v.plan c.args.node + ports_in c.claim_cell-effect.new.intake.waits ≤ length v.limits.queues) (sym c.self.view_is) (ports_fit c.args.self.now c.args.node c.claim_cell-effect.new.intake c.requires.stands c.requires.there lawful) in
-    subst (λ (i : IntakeView). first_edge c.self.inside.plan c.args.node + ports_in i.waits ≤ length c.self.inside.limits.queues) (sym (put_there c.self.inside.intakes.items c.args.node c.claim_cell-effect.new.intake intake at)) fit)
+pub returns-in-InFlightFull : goal.returns-in-InFlightFull
+returns-in-InFlightFull g c =
+    let desk = found c.args.self.now.desks c.args.node (desk_there c.args.self.now c.args.node c.requires.stands c.requires.there) in
+    hands_none c.args.node _ _ c.args.self.now c.hand_out.new.self desk.0 c.in-InFlightFull.ensures desk.1 (inr (inl c.in-InFlightFull.ensures.claims), refl)
 
-pub note_ports-requires-clause-short : goal.note_ports-requires-clause-short
-note_ports-requires-clause-short g c = subst (λ (v : NetView). length v.limits.queues < 4294967296) (sym c.self.view_is) (queues_short c.args.self.now c.requires.stands)
+pub returns-in-Draining : goal.returns-in-Draining
+returns-in-Draining g c =
+    let desk = found c.args.self.now.desks c.args.node (desk_there c.args.self.now c.args.node c.requires.stands c.requires.there) in
+    hands_none c.args.node _ _ c.args.self.now c.hand_out.new.self desk.0 c.in-Draining.ensures desk.1 (inr (inr (inl c.in-Draining.ensures.claims)), refl)
 
-pub note_ports-requires-clause-few : goal.note_ports-requires-clause-few
-note_ports-requires-clause-few g c = λ intake port at.
-    (let lawful : LawfulIntake c.requires.stands.job c.args.node c.claim_cell-effect.new.intake = c.claim_cell-effect.ensures.lawful c.requires.stands.job c.args.node
-    (cell_at c.requires.stands.job c.args.self.now c.args.node _ _ _ c.requires.stands.stands c.requires.running c.requires.there
-    (engine_read _ c.args.self.now c.args.node _ c.self.view_is c.requires.stands c.requires.there c.index_mut.ensures.value)
-    (intake_read _ c.args.self.now c.args.node _ c.self.view_is c.requires.stands c.requires.there c.index_mut-2.ensures.value)
-    (desk_read _ c.args.self.now c.args.node _ c.self.view_is c.requires.stands c.requires.there c.index_mut-3.ensures.value)) in
-    few_packets c.requires.stands.job c.args.node port intake (subst (λ (i : IntakeView). LawfulIntake c.requires.stands.job c.args.node i) (sym (put_there c.self.inside.intakes.items c.args.node c.claim_cell-effect.new.intake intake at)) lawful))
+pub returns-in-Ended : goal.returns-in-Ended
+returns-in-Ended g c =
+    let desk = found c.args.self.now.desks c.args.node (desk_there c.args.self.now c.args.node c.requires.stands c.requires.there) in
+    hands_none c.args.node _ _ c.args.self.now c.hand_out.new.self desk.0 c.in-Ended.ensures desk.1 (inr (inr (inr c.in-Ended.ensures.claims)), refl)
 
-pub returns : goal.returns
-returns g c = record {
-  engine = c.index_mut.result.now;
-  at = engine_read _ c.args.self.now c.args.node _ c.self.view_is c.requires.stands c.requires.there c.index_mut.ensures.value;
-  intake = c.index_mut-2.result.now;
-  to = intake_read _ c.args.self.now c.args.node _ c.self.view_is c.requires.stands c.requires.there c.index_mut-2.ensures.value;
-  desk = c.index_mut-3.result.now;
-  on = desk_read _ c.args.self.now c.args.node _ c.self.view_is c.requires.stands c.requires.there c.index_mut-3.ensures.value;
-  engine_now = c.claim_cell-effect.new.engine;
-  intake_now = c.claim_cell-effect.new.intake;
-  desk_now = c.claim_cell-effect.new.desk;
-  claims = c.claim_cell-effect.ensures.claims;
-  now_is = c.note_ports.ensures c.claim_cell-effect.new.intake
-      (put_here c.self.inside.intakes.items c.args.node c.claim_cell-effect.new.intake (subst (λ (v : NetView). c.args.node < length v.intakes) (sym c.self.view_is) (intake_there c.args.self.now c.args.node c.requires.stands c.requires.there)))
-      ∙ ap (λ (v : NetView). with_noted (with_desk (with_intake (with_engine v c.args.node c.claim_cell-effect.new.engine) c.args.node c.claim_cell-effect.new.intake) c.args.node c.claim_cell-effect.new.desk) (first_edge v.plan c.args.node) (lengths_of c.claim_cell-effect.new.intake.waits)) c.self.view_is;
-}
+pub returns-in-OutOfMemory : goal.returns-in-OutOfMemory
+returns-in-OutOfMemory g c =
+    let desk = found c.args.self.now.desks c.args.node (desk_there c.args.self.now c.args.node c.requires.stands c.requires.there) in
+    hands_none c.args.node _ _ c.args.self.now c.hand_out.new.self desk.0 c.in-OutOfMemory.ensures desk.1 (c.in-OutOfMemory.ensures.claims, refl)

@@ -1,43 +1,31 @@
-use Rattle.std.proofs.Common.{refl}
-use Rattle.mg_sched.specs.Sweeps.{itself}
+use Rattle.mg_calc.specs.declared.event.Event.TheVariants.{Advance}
 use Rattle.mg_sched.proofs.Becoming.{becomes_runs, becomes_some, becomes_trans}
-use Rattle.mg_sched.proofs.Sweeping.{goes_less, goes_same, goes_true, goes_false, still_there}
-use Rattle.mg_sched.proofs.HeardOn.{heard_none, heard_then, heard_then_some, on_err}
+use Rattle.mg_sched.proofs.Sweeping.{goes_then, steps_go, still_there}
+use Rattle.mg_sched.proofs.HeardOn.{heard_then, heard_then_some, on_err}
 use Rattle.mg_sched.proofs.net.Net.work_until_idle.Goals as goal
 
-pub works-init : goal.works-init
-works-init g c = record { becomes = itself; goes = refl; heard = heard_none g.H.Hears.has_heard c.args.hearer.now c.args.self.now }
+pub step-requires-clause-event : goal.step-requires-clause-event
+step-requires-clause-event g c = still_there c.args.node c.args.self.now c.do_works.new.self c.in_ok-worked.ensures.becomes c.requires.there
 
-pub work-requires-clause-running : goal.work-requires-clause-running
-work-requires-clause-running g c = becomes_runs c.args.self.now c.works.self c.requires.running c.works.invariant.becomes
+pub step-requires-clause-running : goal.step-requires-clause-running
+step-requires-clause-running g c = becomes_runs c.args.self.now c.do_works.new.self c.requires.running c.in_ok-worked.ensures.becomes
 
-pub work-requires-clause-stands : goal.work-requires-clause-stands
-work-requires-clause-stands g c = becomes_some c.args.self.now c.works.self c.requires.running c.requires.stands c.works.invariant.becomes
+pub step-requires-clause-stands : goal.step-requires-clause-stands
+step-requires-clause-stands g c = becomes_some c.args.self.now c.do_works.new.self c.requires.running c.requires.stands c.in_ok-worked.ensures.becomes
 
-pub work-requires-clause-there : goal.work-requires-clause-there
-work-requires-clause-there g c = still_there c.args.node c.args.self.now c.works.self c.works.invariant.becomes c.requires.there
-
-pub returns-in_err-work-clause-becomes : goal.returns-in_err-work-clause-becomes
-returns-in_err-work-clause-becomes g c = becomes_trans c.args.self.now c.works.self c.work.new.self c.works.invariant.becomes c.in_err-work.ensures.becomes
-
-pub works-smaller : goal.works-smaller
-works-smaller g c = goes_true c.in_ok-work.field-0 c.works.self c.work.new.self c.if-branch.true c.in_ok-work.ensures.goes
-
-pub works-preserved : goal.works-preserved
-works-preserved g c = record {
-  heard = heard_then g.H.Hears.has_heard c.args.hearer.now c.works.hearer c.work.new.hearer c.args.self.now c.works.self c.work.new.self c.works.invariant.heard c.in_ok-work.ensures.heard;
-  becomes = becomes_trans c.args.self.now c.works.self c.work.new.self c.works.invariant.becomes c.in_ok-work.ensures.becomes;
-  goes = goes_less c.works.did c.args.self.now c.works.self c.work.new.self c.works.invariant.goes (goes_true c.in_ok-work.field-0 c.works.self c.work.new.self c.if-branch.true c.in_ok-work.ensures.goes);
-}
+pub returns-in_err-raised-clause-becomes : goal.returns-in_err-raised-clause-becomes
+returns-in_err-raised-clause-becomes g c = becomes_trans c.args.self.now c.do_works.new.self c.step.new.self c.in_ok-worked.ensures.becomes c.in_err-raised.ensures.becomes
 
 pub returns-clause-becomes : goal.returns-clause-becomes
-returns-clause-becomes g c = becomes_trans c.args.self.now c.works.self c.work.new.self c.works.invariant.becomes c.in_ok-work.ensures.becomes
+returns-clause-becomes g c = becomes_trans c.args.self.now c.do_works.new.self c.step.new.self c.in_ok-worked.ensures.becomes c.in_ok-raised.ensures.becomes
 
 pub returns-clause-goes : goal.returns-clause-goes
-returns-clause-goes g c = goes_same c.works.did c.args.self.now c.works.self c.work.new.self c.works.invariant.goes (goes_false c.in_ok-work.field-0 c.works.self c.work.new.self c.if-branch.false c.in_ok-work.ensures.goes)
+returns-clause-goes g c =
+    goes_then c.in_ok-worked.worked c.in_ok-raised.raised c.args.self.now c.do_works.new.self c.step.new.self c.in_ok-worked.ensures.goes
+    (steps_go c.in_ok-raised.raised (Advance c.args.node) c.do_works.new.self c.step.new.self c.in_ok-raised.ensures.steps)
 
-pub returns-in_err-work-clause-heard_some : goal.returns-in_err-work-clause-heard_some
-returns-in_err-work-clause-heard_some g c = on_err c.from_residual.result (heard_then_some g.H.Hears.has_heard c.args.hearer.now c.works.hearer c.work.new.hearer c.args.self.now c.works.self c.works.invariant.heard c.in_err-work.ensures.heard_some)
+pub returns-in_err-raised-clause-heard_some : goal.returns-in_err-raised-clause-heard_some
+returns-in_err-raised-clause-heard_some g c = on_err c.from_residual-in_err-raised.result (heard_then_some g.H.Hears.has_heard c.args.hearer.now c.do_works.new.hearer c.step.new.hearer c.args.self.now c.do_works.new.self c.in_ok-worked.ensures.heard c.in_err-raised.ensures.heard_some)
 
 pub returns-clause-heard : goal.returns-clause-heard
-returns-clause-heard g c = heard_then g.H.Hears.has_heard c.args.hearer.now c.works.hearer c.work.new.hearer c.args.self.now c.works.self c.work.new.self c.works.invariant.heard c.in_ok-work.ensures.heard
+returns-clause-heard g c = heard_then g.H.Hears.has_heard c.args.hearer.now c.do_works.new.hearer c.step.new.hearer c.args.self.now c.do_works.new.self c.step.new.self c.in_ok-worked.ensures.heard c.in_ok-raised.ensures.heard

@@ -2,7 +2,7 @@
 use Rattle.mg_sched.specs.Sweeps.{Becomes}
 use Rattle.mg_sched.specs.Code.Left.{left_in, Goes}
 use Rattle.mg_sched.specs.Heard.{Heard}
-use Rattle.mg_sched.proofs.net.Net.work_until_idle.Given as goal
+use Rattle.mg_sched.proofs.net.Net.do_works.Given as goal
 
 abbrev pub invariant-works : goal.invariant-works
 invariant-works g l = record { becomes : Becomes l.fn.self l.self; goes : Goes l.did l.fn.self l.self; heard : Heard g.H.Hears.has_heard l.fn.hearer l.hearer l.fn.self l.self }

@@ -1,0 +1,93 @@
+-- How far a node's next work came at once: which steps a net has made.
+use Rattle.std.specs.Prelude.{◌≡◌, ℕ, ◌<◌, Bool, true, false, List, [], ◌∷◌, ◌++◌, length, Option, Some, None, slice_get}
+use Rattle.mg_calc.specs.declared.event.Event.{Event}
+use Rattle.mg_calc.specs.declared.event.Event.TheVariants.{Claim, Perform, Commit}
+use Rattle.mg_calc.specs.declared.event.Effect.TheVariants.{Idle, OutOfMemory}
+use Rattle.mg_node.specs.declared.claimed.Claimed.{Claimed}
+use Rattle.mg_node.specs.declared.claimed.Claimed.TheVariants.{NotReady, InFlightFull, Draining, Ended}
+use Rattle.mg_node.specs.Views.{IntakeView, WorkView, PerformedView, EngineView}
+use Rattle.mg_node.specs.Running.{IsPerformed}
+use Rattle.mg_node.specs.Claims.{Claims}
+use Rattle.mg_sched.specs.declared.reached.Reached.{Reached}
+use Rattle.mg_sched.specs.declared.reached.Reached.TheVariants.{Nothing, NotClaimed, Answered, Claimed as OnlyClaimed, Performed, Committed}
+use Rattle.mg_sched.specs.Views.{DeskView, NetView}
+use Rattle.mg_sched.specs.Places.{lengths_of, first_edge, with_engine, with_intake, with_desk}
+use Rattle.mg_sched.specs.Acts.{Acts, with_noted}
+use Rattle.mg_sched.specs.Runs.{IsRun}
+use Rattle.mg_sched.specs.StandsFor.{StandsForSome, IsRunning}
+
+-- a node's engine claims of its intake, and the limits hear how many packets wait now at each of its ports; what is handed out lies on
+-- no desk
+pub record HandsOut {C : Type 0} (node : ℕ) (claimed : Claimed C) (before now : NetView) : Type 0 where
+  pub engine : EngineView
+  pub at : slice_get before.engines node ≡ Some engine
+  pub intake : IntakeView
+  pub to : slice_get before.intakes node ≡ Some intake
+  pub engine_now : EngineView
+  pub intake_now : IntakeView
+  pub claims : Claims {C = C} claimed engine engine_now intake intake_now
+  pub now_is : now ≡ with_noted (with_intake (with_engine before node engine_now) node intake_now) (first_edge before.plan node) (lengths_of intake_now.waits)
+
+-- a claim took nothing
+abbrev pub took_none : {C : Type 0} → Claimed C → Bool
+took_none NotReady = true
+took_none InFlightFull = true
+took_none Draining = true
+took_none Ended = true
+took_none claimed = false
+
+-- a net with a work behind those on a desk
+abbrev pub with_work : NetView → ℕ → DeskView → WorkView → NetView
+with_work net node desk work = with_desk net node (record desk { works = desk.works ++ work ∷ [] })
+
+-- with it a net would stand for a job
+pub record IsHandedOut (net : NetView) (node : ℕ) (work : WorkView) : Type 0 where
+  pub desk : DeskView
+  pub on : slice_get net.desks node ≡ Some desk
+  pub stands : StandsForSome (with_work net node desk work)
+  pub running : IsRunning (with_work net node desk work)
+  pub there : node < length net.plan.nodes
+
+-- and it was performed
+pub record IsPerformedOut (net : NetView) (node number : ℕ) (performed : PerformedView) : Type 0 where
+  pub work : WorkView
+  pub out : IsHandedOut net node work
+  pub done : IsPerformed work performed
+  pub number_is : number ≡ work.number
+
+-- the steps behind the claim of a work, as far as it came
+abbrev pub steps_after : ℕ → Reached → List Event
+steps_after node (Performed number) = Perform node number ∷ []
+steps_after node (Committed number) = Perform node number ∷ Commit node number ∷ []
+steps_after node reached = []
+
+-- all steps that were made
+abbrev pub steps_of : ℕ → Reached → List Event
+steps_of node Nothing = []
+steps_of node NotClaimed = []
+steps_of node reached = Claim node ∷ steps_after node reached
+
+-- what came of a work that lay on its desk
+abbrev pub ComesOn : ℕ → Reached → NetView → NetView → Type 0
+ComesOn node Nothing before now = ⊥
+ComesOn node NotClaimed before now = ⊥
+ComesOn node reached before now = IsRun (steps_after node reached) before now
+
+-- what came of a node's next work
+abbrev pub Comes : ℕ → Reached → NetView → NetView → Type 0
+Comes node Nothing before now = (now ≡ before) × Acts (Claim node) Idle before before
+Comes node NotClaimed before now = Acts (Claim node) OutOfMemory before now
+Comes node reached before now = IsRun (steps_of node reached) before now
+
+-- whether something was done; none where there was no memory for the next step
+abbrev pub did_of : Reached → Option Bool
+did_of Nothing = Some false
+did_of NotClaimed = None
+did_of Answered = Some true
+did_of OnlyClaimed = None
+did_of (Performed number) = None
+did_of (Committed number) = Some true
+
+-- it has heard these events behind those that it had heard
+abbrev pub HearsMore : {H : Type 0} → (H → H → List Event → Type 0) → H → H → List Event → Type 0
+HearsMore {H} has_heard before now more = (began : H) (events : List Event) → has_heard began before events → has_heard began now (events ++ more)

@@ -1,0 +1,138 @@
+//! How a node's next work is claimed, performed and committed at once, and lies nowhere between.
+ghost use Rattle.std.specs.Prelude.{◌≡◌, ◌<◌, length, slice_get, Some, None, IfOk, OnOk, OnErr};
+ghost use Rattle.mg_calc.specs.declared.event.Event.TheVariants.{Claim as ToClaim};
+ghost use Rattle.mg_node.specs.Views.{WorkView};
+ghost use Rattle.mg_node.specs.Running.{IsPerformed};
+ghost use Rattle.mg_sched.specs.Views.{DeskView};
+ghost use Rattle.mg_sched.specs.StandsFor.{StandsForSome, IsRunning};
+ghost use Rattle.mg_sched.specs.Sweeps.{Becomes};
+ghost use Rattle.mg_sched.specs.Heard.{Heard, HeardSome};
+ghost use Rattle.mg_sched.specs.Code.AtOnce.{IsHandedOut, IsPerformedOut, with_work, ComesOn, Comes, steps_of, did_of, HearsMore};
+ghost use Rattle.mg_sched.specs.Code.Left.{Steps};
+
+use super::Net;
+use crate::Hears;
+use crate::reached::Reached;
+use mg_calc::{Calculator, Event};
+use mg_edge::Gate;
+use mg_node::{Claimed, Outcome, Performed, Work, perform};
+use std::alloc::AllocError;
+
+// Hears the steps that were made.
+fn hear<H: Hears>(hearer: &mut H, node: u32, reached: &Reached)
+    ensures { HearsMore H.has_heard hearer.old hearer.new (steps_of node reached.now) }
+{
+    match reached {
+        Reached::Nothing => {}
+        Reached::NotClaimed => {}
+        Reached::Answered => hearer.hear(Event::Claim { node }),
+        Reached::Claimed => hearer.hear(Event::Claim { node }),
+        Reached::Performed(number) => {
+            hearer.hear(Event::Claim { node });
+            let number = *number;
+            hearer.hear(Event::Perform { node, number });
+        }
+        Reached::Committed(number) => {
+            hearer.hear(Event::Claim { node });
+            let number = *number;
+            hearer.hear(Event::Perform { node, number });
+            hearer.hear(Event::Commit { node, number });
+        }
+    }
+}
+
+// Whether something was done, where there was memory for the next step.
+fn did(reached: &Reached) -> Result<bool, AllocError>
+    ensures some { IfOk result (λ did. did_of reached.now ≡ Some did) }
+    ensures none { OnErr result (did_of reached.now ≡ None) }
+{
+    match reached {
+        Reached::Nothing => Ok(false),
+        Reached::NotClaimed => Err(AllocError),
+        Reached::Answered => Ok(true),
+        Reached::Claimed => Err(AllocError),
+        Reached::Performed(_) => Err(AllocError),
+        Reached::Committed(_) => Ok(true),
+    }
+}
+
+impl<C: Calculator> Net<C> {
+    /// Claims a node's next work, and performs and commits it at once: it lies on the node's desk or in its window only where there is
+    /// no memory for the next step. Tells whether something was done.
+    pub(super) fn work_at_once<G: Gate, H: Hears>(
+        &mut self,
+        node: u32,
+        gate: &G,
+        hearer: &mut H,
+    ) -> Result<bool, AllocError>
+        requires running { IsRunning self.old }
+        requires stands { StandsForSome self.old }
+        requires there { node < length self.old.plan.nodes }
+        ensures becomes { Becomes self.old self.new }
+        ensures heard { OnOk result (Heard H.has_heard hearer.old hearer.new self.old self.new) }
+        ensures heard_some { OnErr result (HeardSome H.has_heard hearer.old hearer.new self.old) }
+        ensures steps { IfOk result (λ did. Steps did (ToClaim node) self.old self.new) }
+    {
+        let reached = self.turn(node, gate);
+        hear(hearer, node, &reached);
+        let did = did(&reached)?;
+        Ok(did)
+    }
+
+    // Claims a node's next work, unless it is a source that is throttled, and performs and commits it.
+    fn turn<G: Gate>(&mut self, node: u32, gate: &G) -> Reached
+        requires running { IsRunning self.old }
+        requires stands { StandsForSome self.old }
+        requires there { node < length self.old.plan.nodes }
+        ensures { Comes node result self.old self.new }
+    {
+        if self.is_held_source(node) {
+            return Reached::Nothing;
+        }
+        match self.hand_out(node) {
+            Claimed::Work(work) => self.finish(node, work, gate),
+            Claimed::Answered => Reached::Answered,
+            Claimed::NotReady => Reached::Nothing,
+            Claimed::InFlightFull => Reached::Nothing,
+            Claimed::Draining => Reached::Nothing,
+            Claimed::Ended => Reached::Nothing,
+            Claimed::OutOfMemory => Reached::NotClaimed,
+        }
+    }
+
+    // Performs and commits a work that is handed out.
+    fn finish<G: Gate>(&mut self, node: u32, work: Work<C>, gate: &G) -> Reached
+        requires { IsHandedOut self.old node work }
+        ensures { (desk : DeskView) → slice_get self.old.desks node ≡ Some desk → StandsForSome (with_work self.old node desk work)
+            → IsRunning (with_work self.old node desk work) → ComesOn node result (with_work self.old node desk work) self.new }
+    {
+        let number = work.number();
+        match perform(self.alloc, work, gate) {
+            Ok(performed) => self.lay(node, number, performed),
+            Err(work) => {
+                self.put_on_desk(node, work);
+                Reached::Claimed
+            }
+        }
+    }
+
+    // Commits a work that is handed out and was performed.
+    fn lay(&mut self, node: u32, number: u64, performed: Performed<C>) -> Reached
+        requires { IsPerformedOut self.old node number performed }
+        ensures { (desk : DeskView) (work : WorkView) → slice_get self.old.desks node ≡ Some desk → StandsForSome (with_work self.old node desk work)
+            → IsRunning (with_work self.old node desk work) → IsPerformed work performed → number ≡ work.number
+            → ComesOn node result (with_work self.old node desk work) self.new }
+    {
+        let engine = &mut self.engines[node as usize];
+        match engine.commit(Outcome::ran(performed)) {
+            Ok(_) => {
+                self.stop_ended(node);
+                Reached::Committed(number)
+            }
+            Err(outcome) => {
+                engine.shelve(outcome);
+                Reached::Performed(number)
+            }
+        }
+    }
+}
