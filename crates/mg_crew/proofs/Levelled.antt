@@ -1,8 +1,10 @@
 -- What a worker's seats are after several calls, and what it works with.
-use Rattle.std.proofs.Common.{◌≡◌, ℕ, ◌<◌, ◌≤◌, ◌+◌, ◌∙◌, Option, Some, None, IfSome, Contains, length, ap, sym, refl, subst, arith}
+use Rattle.std.proofs.Common.{◌≡◌, ℕ, ◌<◌, ◌+◌, ◌∙◌, Option, Some, None, IfSome, All, Contains, length, ap, sym, refl, subst, arith}
+use Rattle.std.proofs.lemmas.List.Elements.{All-weaker}
 use Rattle.mg_calc.specs.declared.calculator.Calculator.{Ghosts}
 use Rattle.mg_calc.specs.declared.plan.Plan.{Plan}
-use Rattle.mg_calc.specs.Plan.{IsValid, HasEachOnce}
+use Rattle.mg_calc.specs.Plan.{IsValid, HasEachOnce, sources}
+use Rattle.mg_throttle.proofs.Sources.{sources_below}
 use Rattle.mg_levels.specs.Levels.{order_of, IsSeatOf}
 use Rattle.mg_levels.specs.declared.levels.Levels.{Levels}
 use Rattle.mg_levels.specs.declared.seat.LevelSeat.{LevelSeat}
@@ -37,13 +39,17 @@ kept_valid before key kept some of =
 
 -- what is made of the plan of a net is for that net
 pub tools_for : {X : Type 0} (net : SharedNet X) (plan : Plan) (tools : Tools) → plan ≡ (key_of net).plan → HasEachOnce (length plan.nodes) (order_of tools.levels)
-    → tools.chart.from.places ≡ length plan.nodes + length plan.inputs → tools.chart.from.edges ≡ length plan.edges → AreToolsOf net tools
-tools_for net plan tools same order places edges =
+    → tools.chart.from.places ≡ length plan.nodes + length plan.inputs → tools.chart.into.places ≡ length plan.nodes + 1
+    → (tools.chart.from.edges ≡ length plan.edges) × (tools.chart.into.edges ≡ length plan.edges) → tools.chart.sources.items ≡ sources plan → AreToolsOf net tools
+tools_for net plan tools same order places consumers edges among =
     let nodes : length plan.nodes ≡ nodes_in (key_of net) = ap (λ (p : Plan). length p.nodes) same in
     record {
       ordered = subst (λ (n : ℕ). HasEachOnce n (order_of tools.levels)) nodes order;
       places = omega (arith, places, nodes);
-      edges = edges ∙ ap (λ (p : Plan). length p.edges) same;
+      consumers = omega (arith, consumers, nodes);
+      edges = edges.0 ∙ ap (λ (p : Plan). length p.edges) same;
+      entries = edges.1 ∙ sym edges.0;
+      sources = subst (All (λ node. Contains (order_of tools.levels) node)) (sym among) (All-weaker (λ node. node < length plan.nodes) (λ node. Contains (order_of tools.levels) node) order.there (sources plan) (sources_below plan.nodes));
     }
 
 -- a place that has a seat and no node
@@ -72,9 +78,6 @@ module _ {X : Type 0} {g : Ghosts X} (net : SharedNet X) (tools : Tools) where
   -- a call on the seat at the net alone, and on the place alone
   pub seat_stays : (first second third : NetSeat X g) (place : Place) → StaysAtWork net tools first second place → StaysShared net second third → StaysAtWork net tools first third place
   seat_stays first second third place h k = record { stays = stays_on net first second third h.stays k; placed = h.placed }
-
-  pub place_stays : (first second : NetSeat X g) (place later : Place) → StaysAtWork net tools first second place → IsPlaceAt tools.levels later → StaysAtWork net tools first second later
-  place_stays first second place later h k = record { stays = h.stays; placed = k }
 
 -- a net that is put together of the parts that were shared
 pub goes_on : (before now : NetView) (key : FrameView) (kept : KeptView) (v : View) → IsSharedOf before key kept → Unshared key v (frame_of (parts_in now)).parts → GoesOn before now

@@ -1,4 +1,5 @@
 mod Charted
+mod Noting
 mod Sharing
 mod Levelled
 mod Sent

@@ -35,9 +35,9 @@ impl Board {
         }
     }
 
-    /// A worker begins.
-    pub(crate) fn begin(&self) {
-        self.begun.fetch_add(1, SeqCst);
+    /// A worker begins. It tells whether it is the first.
+    pub(crate) fn begin(&self) -> bool {
+        self.begun.fetch_add(1, SeqCst) == 0
     }
 
     /// How often there was something new so far.
@@ -88,11 +88,16 @@ impl Board {
         !self.fed.load(SeqCst) && !self.fed.swap(true, SeqCst)
     }
 
-    /// Packets were brought from the graph inputs. Where something came of that there may be more, and nobody brings them now.
+    /// Packets were brought from the graph inputs. Where something came of that there may be more.
     pub(crate) fn fed(&self, came: &Came) {
         if !came.is_nothing() {
-            self.fed.store(false, SeqCst);
+            self.leave_inputs();
         }
+    }
+
+    /// There may be more packets at the graph inputs, and nobody brings them.
+    pub(crate) fn leave_inputs(&self) {
+        self.fed.store(false, SeqCst);
     }
 
     /// A work found memory, or it didn't.

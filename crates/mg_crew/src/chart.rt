@@ -1,10 +1,11 @@
 ghost use Rattle.std.specs.Prelude.{◌≡◌, ◌+◌, ◌<◌, All, IfOk, IfSome, Some, length, vec_len};
-ghost use Rattle.mg_calc.specs.Plan.{IsValid};
+ghost use Rattle.mg_calc.specs.Plan.{IsValid, sources, feeders};
 ghost use Rattle.mg_throttle.specs.Throttle.{producer_of};
+ghost use Rattle.mg_throttle.specs.Code.Reach.{sources_among};
 ghost use Rattle.mg_sched.specs.Places.{source_of};
 
 use crate::leads::Leads;
-use mg_calc::{Edge, Plan, Producer};
+use mg_calc::{Edge, Plan, PlanNode, Producer};
 use std::alloc::{AllocError, Global};
 
 /// What workers look up in a plan.
@@ -14,8 +15,15 @@ pub(crate) struct Chart {
     flies: Vec<bool>,
     /// The edges by the places from which they lead: the nodes, and behind them the graph inputs.
     pub from: Leads,
+    /// The edges by their consumers: the nodes, and behind them the collector.
+    pub into: Leads,
     // The consumer of each edge.
     consumers: Vec<u32>,
+    // The nodes without inputs, in order, and for each place the number of the feeder there, if one is.
+    sources: Vec<u32>,
+    feeders: Vec<Option<u32>>,
+    /// How many feeders there are.
+    pub feeder_count: usize,
     ghost counted: { vec_len consumers ≡ from.edges },
 }
 
@@ -57,30 +65,94 @@ fn place_of(plan: &Plan, number: u32) -> Option<u32>
 }
 
 // The places from which the edges lead. There is no memory for one past 32 bits.
-fn sources_of(alloc: Global, plan: &Plan) -> Result<Vec<u32>, AllocError>
+fn starts_of(alloc: Global, plan: &Plan) -> Result<Vec<u32>, AllocError>
     requires { IsValid plan.now }
     ensures each { IfOk result (λ v. length v.items ≡ length plan.now.edges) }
     ensures below { IfOk result (λ v. All (λ place. place < length plan.now.nodes + length plan.now.inputs) v.items) }
 {
-    let mut sources = Vec::new(alloc);
+    let mut starts = Vec::new(alloc);
     for number in 0..plan.edges.len() {
         match place_of(plan, number) {
-            Some(place) => sources.push(place)?,
+            Some(place) => starts.push(place)?,
             None => return Err(AllocError),
         }
     }
-    Ok(sources)
+    Ok(starts)
+}
+
+// The consumer of the edge of a number.
+fn consumer_of(plan: &Plan, number: u32) -> u32
+    requires valid { IsValid plan.now }
+    requires there { number < length plan.now.edges }
+    ensures { result < length plan.now.nodes + 1 }
+{
+    plan.edges.as_slice()[number as usize].node
 }
 
 // The consumers of the edges.
 fn consumers_of(alloc: Global, plan: &Plan) -> Result<Vec<u32>, AllocError>
-    ensures { IfOk result (λ v. vec_len v ≡ length plan.now.edges) }
+    requires { IsValid plan.now }
+    ensures each { IfOk result (λ v. vec_len v ≡ length plan.now.edges) }
+    ensures items { IfOk result (λ v. length v.items ≡ length plan.now.edges) }
+    ensures below { IfOk result (λ v. All (λ node. node < length plan.now.nodes + 1) v.items) }
 {
     let mut consumers = Vec::new(alloc);
     for number in 0..plan.edges.len() {
-        consumers.push(plan.edges.as_slice()[number as usize].node)?;
+        consumers.push(consumer_of(plan, number))?;
     }
     Ok(consumers)
+}
+
+// The edges by their consumers.
+#[derive(Drop)]
+struct Entries {
+    consumers: Vec<u32>,
+    into: Leads,
+}
+
+// Where the edges lead.
+fn entries_of(alloc: Global, plan: &Plan) -> Result<Entries, AllocError>
+    requires { IsValid plan.now }
+    ensures each { IfOk result (λ e. vec_len e.consumers ≡ length plan.now.edges) }
+    ensures places { IfOk result (λ e. e.into.places ≡ length plan.now.nodes + 1) }
+    ensures edges { IfOk result (λ e. e.into.edges ≡ length plan.now.edges) }
+{
+    let consumers = consumers_of(alloc, plan)?;
+    let places = plan.nodes.len() as usize + 1;
+    let into = Leads::new(alloc, places, consumers.as_slice())?;
+    Ok(Entries { consumers, into })
+}
+
+// The nodes without inputs, in order.
+fn sources_among(alloc: Global, nodes: &[PlanNode], _count: u32) -> Result<Vec<u32>, AllocError>
+    requires { length nodes.now ≡ _count }
+    ensures { IfOk result (λ v. v.items ≡ sources_among nodes.now) }
+{
+    let mut found = Vec::new(alloc);
+    for (number, node) in nodes.iter().enumerate() {
+        if node.inputs.is_empty() {
+            found.push(number as u32)?;
+        }
+    }
+    Ok(found)
+}
+
+// For each place the number of the feeder there: those of the graph inputs stand before those of the nodes without inputs.
+fn feeders_of(alloc: Global, plan: &Plan) -> Result<Vec<Option<u32>>, AllocError> {
+    let mut feeders = Vec::new(alloc);
+    let mut next = plan.inputs.len();
+    for node in plan.nodes.as_slice() {
+        if !node.inputs.is_empty() {
+            feeders.push(None)?;
+            continue;
+        }
+        feeders.push(Some(next))?;
+        next = next.checked_add(1).ok_or(AllocError)?;
+    }
+    for input in 0..plan.inputs.len() {
+        feeders.push(Some(input))?;
+    }
+    Ok(feeders)
 }
 
 // Where the edges lead from.
@@ -89,10 +161,34 @@ fn leads_of(alloc: Global, plan: &Plan) -> Result<Leads, AllocError>
     ensures places { IfOk result (λ l. l.places ≡ length plan.now.nodes + length plan.now.inputs) }
     ensures edges { IfOk result (λ l. l.edges ≡ length plan.now.edges) }
 {
-    let sources = sources_of(alloc, plan)?;
+    let starts = starts_of(alloc, plan)?;
     let places = plan.nodes.len() as usize + plan.inputs.len() as usize;
-    let leads = Leads::new(alloc, places, sources.as_slice())?;
+    let leads = Leads::new(alloc, places, starts.as_slice())?;
     Ok(leads)
+}
+
+// The nodes without inputs, and the numbers of all feeders.
+#[derive(Drop)]
+struct Sources {
+    sources: Vec<u32>,
+    feeders: Vec<Option<u32>>,
+}
+
+// Who feeds a graph.
+fn sources_of(alloc: Global, plan: &Plan) -> Result<Sources, AllocError>
+    ensures { IfOk result (λ s. s.sources.items ≡ sources plan.now) }
+{
+    let sources = sources_among(alloc, plan.nodes.as_slice(), plan.nodes.len())?;
+    let feeders = feeders_of(alloc, plan)?;
+    Ok(Sources { sources, feeders })
+}
+
+// How many feeders a plan has, whose nodes without inputs are these.
+fn feeders_in(plan: &Plan, among: &[u32]) -> usize
+    requires { among.now ≡ sources plan.now }
+    ensures { result ≡ length (feeders plan.now) }
+{
+    plan.inputs.len() as usize + among.len()
 }
 
 impl Chart {
@@ -100,16 +196,40 @@ impl Chart {
     pub(crate) fn new(alloc: Global, plan: &Plan) -> Result<Chart, AllocError>
         requires { IsValid plan.now }
         ensures places { IfOk result (λ c. c.from.places ≡ length plan.now.nodes + length plan.now.inputs) }
-        ensures edges { IfOk result (λ c. c.from.edges ≡ length plan.now.edges) }
+        ensures consumers { IfOk result (λ c. c.into.places ≡ length plan.now.nodes + 1) }
+        ensures edges { IfOk result (λ c. (c.from.edges ≡ length plan.now.edges) × (c.into.edges ≡ length plan.now.edges)) }
+        ensures sources { IfOk result (λ c. c.sources.items ≡ sources plan.now) }
+        ensures feeders { IfOk result (λ c. c.feeder_count ≡ length (feeders plan.now)) }
     {
         let flies = flies_of(alloc, plan)?;
-        let consumers = consumers_of(alloc, plan)?;
         let from = leads_of(alloc, plan)?;
+        let Entries { consumers, into } = entries_of(alloc, plan)?;
+        let Sources { sources, feeders } = sources_of(alloc, plan)?;
+        let feeder_count = feeders_in(plan, sources.as_slice());
         Ok(Chart {
             flies,
             from,
+            into,
             consumers,
+            sources,
+            feeders,
+            feeder_count,
         })
+    }
+
+    /// The nodes without inputs, in order.
+    pub(crate) fn sources(&self) -> &[u32]
+        ensures { result.now ≡ self.now.sources.items }
+    {
+        self.sources.as_slice()
+    }
+
+    /// The number of the feeder at a place, if one is there.
+    pub(crate) fn feeder(&self, place: usize) -> Option<u32> {
+        match self.feeders.get(place) {
+            Some(feeder) => *feeder,
+            None => None,
+        }
     }
 
     /// Whether several works of a node may run at once.

@@ -9,6 +9,7 @@ ghost use Rattle.mg_crew.specs.Code.Seats.{IsAtWork, StaysAtWork};
 use crate::putting::{Place, split};
 use crate::rounds::{go_on, look_over};
 use crate::shop::Shop;
+use crate::throttling::{begin, relax};
 use mg_calc::Calculator;
 use mg_edge::Gate;
 use mg_turns::NetSeat;
@@ -16,7 +17,7 @@ use std::sync::Wait;
 use std::thread::{Threads, join};
 
 // What a worker does that found nothing to do: it waits until there is something new, and tells whether there is. The last one to come
-// here looks over everything in place of that, and where it finds nothing all end.
+// here relaxes the limits of full queues in place of that, or else looks over everything, and where it finds nothing all end.
 fn rest<C: Calculator, R: Wait, G: Gate>(
     rt: &R,
     shop: &Shop<'_, C, G>,
@@ -29,6 +30,10 @@ fn rest<C: Calculator, R: Wait, G: Gate>(
 {
     if !shop.tools.board.rest() {
         return shop.tools.board.wait(rt, seen);
+    }
+    if relax(rt, shop.tools, place) {
+        shop.tools.board.settle(true);
+        return true;
     }
     let came = look_over(rt, shop, seat, place);
     let found = !came.is_nothing();
@@ -48,7 +53,7 @@ fn work<C: Calculator, R: Wait, G: Gate>(
 {
     let mut seat = seat;
     let mut place = place;
-    shop.tools.board.begin();
+    begin(rt, shop.tools, &mut place);
     for _ in rt.forever() {
         let seen = shop.tools.board.news();
         if go_on(rt, shop, &mut seat, &mut place) {

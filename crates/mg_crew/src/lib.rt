@@ -5,6 +5,7 @@ mod board;
 mod chart;
 mod commits;
 mod crew;
+mod gauge;
 mod leads;
 mod marks;
 mod putting;
@@ -12,6 +13,8 @@ mod rounds;
 mod running;
 mod serving;
 mod shop;
+mod throttle;
+mod throttling;
 mod working;
 
 pub use running::run_workers;

@@ -66,7 +66,7 @@ fn put_in<R: Wait>(rt: &R, tools: &Tools, seat: &mut LevelSeat, node: u32)
     if tools.levels.put(rt, seat, node) {
         tools.board.tell();
     } else {
-        tools.marks.clear(node);
+        tools.marks.inside.clear(node);
     }
 }
 
@@ -76,7 +76,7 @@ fn put_new<R: Wait>(rt: &R, tools: &Tools, seat: &mut LevelSeat, node: u32)
     requires node { Contains (order_of tools.now.levels) node }
     ensures seat { IsSeatOf tools.now.levels seat.new }
 {
-    if tools.marks.set(node) {
+    if tools.marks.inside.set(node) {
         put_in(rt, tools, seat, node);
     }
 }
@@ -132,7 +132,7 @@ pub(crate) fn take<R: Wait>(rt: &R, tools: &Tools, place: &mut Place) -> Option<
 {
     match take_out(rt, tools, place) {
         Some(node) => {
-            tools.marks.clear(node);
+            tools.marks.inside.clear(node);
             put_kept(rt, tools, place);
             Some(node)
         }

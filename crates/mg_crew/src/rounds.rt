@@ -4,6 +4,7 @@ ghost use Rattle.mg_crew.specs.Code.Seats.{IsAtWork, StaysAtWork};
 use crate::putting::{Place, take};
 use crate::serving::{serve, wake_all};
 use crate::shop::{Came, Shop};
+use crate::throttling::is_throttled;
 use mg_calc::Calculator;
 use mg_edge::Gate;
 use mg_turns::NetSeat;
@@ -28,7 +29,7 @@ fn serve_all<C: Calculator, R: Wait, G: Gate>(
     came
 }
 
-// Brings packets from all graph inputs. Where some came, or a turn was out, there may be more.
+// Brings packets from all graph inputs that aren't throttled. Where some came, or a turn was out, there may be more.
 fn feed_all<C: Calculator, R: Wait, G: Gate>(
     rt: &R,
     shop: &Shop<'_, C, G>,
@@ -40,6 +41,9 @@ fn feed_all<C: Calculator, R: Wait, G: Gate>(
 {
     let mut came = Came::nothing();
     for input in shop.net.nodes() as usize..shop.tools.chart.from.places() {
+        if is_throttled(rt, shop.tools, input) {
+            continue;
+        }
         let more = wake_all(rt, shop, seat, place, input);
         came = came.and(&more);
     }

@@ -56,8 +56,9 @@ fn run_shared<C: Calculator + Send, R: Threads + Wait + Sync, G: Gate + Sync>(
 }
 
 /// Lets so many workers run a net whose nodes are begun, side by side, until none of them finds anything to do (MediaPipe,
-/// Synchronization). What they leave undone, for want of memory too, is left to a sweep. Nobody says that they come far: without memory
-/// for sharing the net, or with no workers, nothing is done.
+/// Synchronization). Full queues hold feeders back, until nothing else can be done (Real-time Streams). What workers leave undone, for
+/// want of memory too, is left to a sweep. Nobody says that they come far: without memory for sharing the net, or with no workers,
+/// nothing is done.
 pub fn run_workers<C: Calculator + Send, R: Threads + Wait + Sync, G: Gate + Sync>(
     rt: &R,
     alloc: Global,

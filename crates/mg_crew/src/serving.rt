@@ -6,13 +6,15 @@ ghost use Rattle.mg_crew.specs.Code.Seats.{IsAtWork, StaysAtWork};
 
 use crate::putting::{Place, keep, put};
 use crate::shop::{Came, Shop};
+use crate::throttling::{is_held, note, note_worked};
 use crate::working::{bring, raise, work_at};
 use mg_calc::Calculator;
 use mg_edge::Gate;
 use mg_turns::NetSeat;
 use std::sync::Wait;
 
-// Brings packets along an edge, and puts in the node that this woke.
+// Brings packets along an edge, notes how many wait there, and puts in the node that this woke. So whatever was noted, the node is served
+// later, and it is noted anew.
 fn wake<C: Calculator, R: Wait, G: Gate>(
     rt: &R,
     shop: &Shop<'_, C, G>,
@@ -29,6 +31,7 @@ fn wake<C: Calculator, R: Wait, G: Gate>(
     if !came.did || node >= shop.net.nodes() {
         return came;
     }
+    note(rt, shop, seat, place, edge);
     put(rt, shop.tools, place, node);
     came
 }
@@ -55,8 +58,86 @@ pub(crate) fn wake_all<C: Calculator, R: Wait, G: Gate>(
     came
 }
 
+// Brings what a node laid, and marks the node where not all of it could be brought.
+fn bring_laid<C: Calculator, R: Wait, G: Gate>(
+    rt: &R,
+    shop: &Shop<'_, C, G>,
+    seat: &mut NetSeat<C>,
+    place: &mut Place,
+    node: u32,
+) -> Came
+    requires at_work { IsAtWork shop.now.net.now shop.now.tools.now seat.old place.old }
+    requires node { node < nodes_in (key_of shop.now.net.now) }
+    ensures { StaysAtWork shop.now.net.now shop.now.tools.now seat.old seat.new place.new }
+{
+    let came = wake_all(rt, shop, seat, place, node as usize);
+    shop.tools.marks.behind.put(node, came.more);
+    came
+}
+
+// Does works of a node, unless it is a source that is throttled, and notes what waits there then.
+fn work<C: Calculator, R: Wait, G: Gate>(
+    rt: &R,
+    shop: &Shop<'_, C, G>,
+    seat: &mut NetSeat<C>,
+    place: &mut Place,
+    node: u32,
+) -> Came
+    requires at_work { IsAtWork shop.now.net.now shop.now.tools.now seat.old place.old }
+    requires node { node < nodes_in (key_of shop.now.net.now) }
+    ensures { StaysAtWork shop.now.net.now shop.now.tools.now seat.old seat.new place.new }
+{
+    if is_held(rt, shop.tools, node) {
+        return Came::nothing();
+    }
+    let came = work_at(rt, shop, seat, place, node);
+    note_worked(rt, shop, seat, place, node);
+    came
+}
+
 // Does works of a node, raises the bounds of its outputs, and brings what was laid along the edges that lead from it. Where the node's
 // turns are out another worker serves it.
+fn go_through<C: Calculator, R: Wait, G: Gate>(
+    rt: &R,
+    shop: &Shop<'_, C, G>,
+    seat: &mut NetSeat<C>,
+    place: &mut Place,
+    node: u32,
+) -> Came
+    requires at_work { IsAtWork shop.now.net.now shop.now.tools.now seat.old place.old }
+    requires node { node < nodes_in (key_of shop.now.net.now) }
+    ensures { StaysAtWork shop.now.net.now shop.now.tools.now seat.old seat.new place.new }
+{
+    let worked = work(rt, shop, seat, place, node);
+    if worked.is_busy() {
+        return worked;
+    }
+    let raised = raise(shop, seat, node);
+    let brought = bring_laid(rt, shop, seat, place, node);
+    worked.and(&raised).and(&brought)
+}
+
+// Brings what a node laid earlier, where not all of that could be brought.
+fn catch_up<C: Calculator, R: Wait, G: Gate>(
+    rt: &R,
+    shop: &Shop<'_, C, G>,
+    seat: &mut NetSeat<C>,
+    place: &mut Place,
+    node: u32,
+) -> Came
+    requires at_work { IsAtWork shop.now.net.now shop.now.tools.now seat.old place.old }
+    requires node { node < nodes_in (key_of shop.now.net.now) }
+    ensures { StaysAtWork shop.now.net.now shop.now.tools.now seat.old seat.new place.new }
+{
+    if shop.tools.marks.behind.is_set(node) {
+        bring_laid(rt, shop, seat, place, node)
+    } else {
+        Came::nothing()
+    }
+}
+
+// Serves a node once all is brought that it laid before. So while a consumer's turn is out, no more waits to be brought than a node lays
+// in one visit, however long the consumer's works take.
 fn visit<C: Calculator, R: Wait, G: Gate>(
     rt: &R,
     shop: &Shop<'_, C, G>,
@@ -68,13 +149,12 @@ fn visit<C: Calculator, R: Wait, G: Gate>(
     requires node { node < nodes_in (key_of shop.now.net.now) }
     ensures { StaysAtWork shop.now.net.now shop.now.tools.now seat.old seat.new place.new }
 {
-    let worked = work_at(rt, shop, seat, place, node);
-    if worked.is_busy() {
-        return worked;
+    let late = catch_up(rt, shop, seat, place, node);
+    if late.more {
+        return late;
     }
-    let raised = raise(shop, seat, node);
-    let brought = wake_all(rt, shop, seat, place, node as usize);
-    worked.and(&raised).and(&brought)
+    let came = go_through(rt, shop, seat, place, node);
+    late.and(&came)
 }
 
 /// Serves a node, and comes back to it where there may be more to do, or a turn was out.

@@ -1,10 +1,12 @@
 ghost use Rattle.std.specs.Prelude.{◌≡◌, ◌+◌, ◌^◌, length, IfOk};
-ghost use Rattle.mg_calc.specs.Plan.{IsValid, HasEachOnce};
+ghost use Rattle.mg_calc.specs.Plan.{IsValid, HasEachOnce, sources, feeders};
 ghost use Rattle.mg_levels.specs.Levels.{order_of, portion_of, IsSeatOf};
 
 use crate::board::Board;
 use crate::chart::Chart;
+use crate::gauge::Gauge;
 use crate::marks::Marks;
+use crate::throttle::Throttle;
 use mg_calc::{Calculator, Plan};
 use mg_edge::Gate;
 use mg_levels::{LevelSeat, Levels};
@@ -16,8 +18,22 @@ use std::alloc::{AllocError, Global};
 pub(crate) struct Tools {
     pub chart: Chart,
     pub levels: Levels,
-    pub marks: Marks,
+    pub marks: NodeMarks,
+    /// What holds feeders back, where queues have limits.
+    pub throttle: Option<Throttle>,
     pub board: Board,
+}
+
+/// What is marked of nodes. No contract rests on it.
+#[derive(Drop)]
+pub(crate) struct NodeMarks {
+    /// Which nodes are in the levels, so that none is in twice: a node whose mark is set is in, or about to be, or was taken out by a
+    /// worker that has yet to look at it.
+    pub inside: Marks,
+    /// The sources that wait to be let go.
+    pub held: Marks,
+    /// The nodes that laid packets which couldn't all be brought yet.
+    pub behind: Marks,
 }
 
 /// What all workers have in common.
@@ -82,21 +98,50 @@ impl Came {
     }
 }
 
+// What holds feeders back, where the queues of a plan, with so many feeders, have limits.
+fn throttle_of(alloc: Global, plan: &Plan, count: usize) -> Result<Option<Throttle>, AllocError>
+    requires valid { IsValid plan.now }
+    requires feeders { count ≡ length (feeders plan.now) }
+{
+    if plan.limit < 0 {
+        return Ok(None);
+    }
+    let gauge = Gauge::new(alloc, plan, count)?;
+    let throttle = Throttle::new(alloc, gauge, plan.limit as u64, plan.edges.len())?;
+    Ok(Some(throttle))
+}
+
+// Of so many nodes none is in the levels, and all are held.
+fn marks_of(alloc: Global, nodes: u32) -> Result<NodeMarks, AllocError> {
+    let inside = Marks::new(alloc, nodes, false)?;
+    let held = Marks::new(alloc, nodes, true)?;
+    let behind = Marks::new(alloc, nodes, false)?;
+    Ok(NodeMarks {
+        inside,
+        held,
+        behind,
+    })
+}
+
 /// The tools for a plan, and the first seat at the levels.
 pub(crate) fn tools_of(alloc: Global, plan: &Plan) -> Result<(Tools, LevelSeat), AllocError>
     requires { IsValid plan.now }
     ensures levels { IfOk result (λ r. HasEachOnce (length plan.now.nodes) (order_of r.0.levels)) }
     ensures places { IfOk result (λ r. r.0.chart.from.places ≡ length plan.now.nodes + length plan.now.inputs) }
-    ensures edges { IfOk result (λ r. r.0.chart.from.edges ≡ length plan.now.edges) }
+    ensures consumers { IfOk result (λ r. r.0.chart.into.places ≡ length plan.now.nodes + 1) }
+    ensures edges { IfOk result (λ r. (r.0.chart.from.edges ≡ length plan.now.edges) × (r.0.chart.into.edges ≡ length plan.now.edges)) }
+    ensures sources { IfOk result (λ r. r.0.chart.sources.items ≡ sources plan.now) }
     ensures place { IfOk result (λ r. IsSeatOf r.0.levels r.1 × (portion_of r.1 ≡ 2 ^ 32)) }
 {
     let chart = Chart::new(alloc, plan)?;
-    let marks = Marks::new(alloc, plan.nodes.len())?;
+    let throttle = throttle_of(alloc, plan, chart.feeder_count)?;
+    let marks = marks_of(alloc, plan.nodes.len())?;
     let (levels, seat) = Levels::new(alloc, &plan.order)?;
     let tools = Tools {
         chart,
         levels,
         marks,
+        throttle,
         board: Board::new(),
     };
     Ok((tools, seat))

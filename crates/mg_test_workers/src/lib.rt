@@ -1,10 +1,12 @@
 //! The tests of nets that workers run: that all is done before any sweep, that two Process calls meet, that each call goes through the
-//! gate once, and that what comes out is the same for each number of workers. There is nothing else here, so that no other crate is
-//! proved a second time with its tests.
+//! gate once, that full queues hold sources back, and that what comes out is the same for each number of workers. There is nothing else
+//! here, so that no other crate is proved a second time with its tests.
 #![tactic(auto)]
 
 #[cfg(test)]
 mod gates;
+#[cfg(test)]
+mod limits;
 #[cfg(test)]
 mod meeting;
 #[cfg(test)]

@@ -13,8 +13,8 @@ use std::sync::Wait;
 use std::test::Fail;
 use std::thread::Threads;
 
-// How many workers are tried.
-const WORKERS: [u32; 4] = [1, 2, 4, 8];
+/// How many workers are tried.
+pub(crate) const WORKERS: [u32; 4] = [1, 2, 4, 8];
 
 // The limits of queues that are tried. Below 0 there is none.
 const LIMITS: [i32; 4] = [1, 2, 100, -1];

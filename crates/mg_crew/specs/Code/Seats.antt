@@ -1,5 +1,5 @@
 -- What each call of a worker keeps: its seat at the net, and its seat at the levels.
-use Rattle.std.specs.Prelude.{◌≡◌, ◌<◌, ◌≤◌, length}
+use Rattle.std.specs.Prelude.{◌≡◌, ◌≤◌, length, All, Contains}
 use Rattle.mg_calc.specs.Plan.{HasEachOnce}
 use Rattle.mg_calc.specs.declared.calculator.Calculator.{Ghosts}
 use Rattle.mg_levels.specs.Levels.{order_of}
@@ -22,11 +22,18 @@ FitsOutcome key outcome = (job : LoggedJob) → Fits job key → LawfulOutcome j
 abbrev pub FitsWork : FrameView → WorkView → Type 0
 FitsWork key work = (job : LoggedJob) → Fits job key → LawfulWork job work
 
+-- the sources that stand in the chart are nodes of the levels
+abbrev pub HasSources : Tools → Type 0
+HasSources tools = All (λ node. Contains (order_of tools.levels) node) tools.chart.sources.items
+
 -- what workers share is of a net: the levels have each of its nodes once, and the chart has its edges
 pub record AreToolsOf {X : Type 0} (net : SharedNet X) (tools : Tools) : Type 0 where
   pub ordered : HasEachOnce (nodes_in (key_of net)) (order_of tools.levels)
   pub places : nodes_in (key_of net) ≤ tools.chart.from.places
+  pub consumers : nodes_in (key_of net) ≤ tools.chart.into.places
   pub edges : tools.chart.from.edges ≡ length (key_of net).plan.edges
+  pub entries : tools.chart.into.edges ≡ tools.chart.from.edges
+  pub sources : HasSources tools
 
 -- a worker has a seat of a net and a place at its levels, and it has no work
 pub record IsAtWork {X : Type 0} {g : Ghosts X} (net : SharedNet X) (tools : Tools) (seat : NetSeat X g) (place : Place) : Type 0 where

@@ -1,4 +1,4 @@
-use Rattle.mg_sched.proofs.Leading.{stream_within, source_within}
+use Rattle.mg_sched.proofs.Leading.{stream_within}
 use Rattle.mg_crew.proofs.Charted.{some_within}
 use Rattle.mg_crew.proofs.chart.place_of.Goals as goal
 

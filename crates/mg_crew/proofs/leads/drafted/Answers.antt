@@ -1,4 +1,4 @@
-use Rattle.std.proofs.Common.{ℕ, ◌≡◌, ◌+◌, ◌-◌, ◌<◌, length, ◌∙◌, subst, arith, vec_len}
+use Rattle.std.proofs.Common.{ℕ, ◌≡◌, ◌+◌, ◌-◌, ◌<◌, length, ◌∙◌, subst, arith}
 use Rattle.mg_sched.specs.Code.Agendas.{LeadOn}
 use Rattle.mg_sched.proofs.LeadingOn.{lead_none, lead_more_by}
 use Rattle.mg_crew.proofs.leads.drafted.Goals as goal

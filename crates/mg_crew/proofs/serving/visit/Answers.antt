@@ -1,8 +1,8 @@
-use Rattle.mg_crew.proofs.Sharing.{stays_on}
+use Rattle.mg_crew.proofs.Levelled.{at_work_still, works_on}
 use Rattle.mg_crew.proofs.serving.visit.Goals as goal
 
-pub wake_all-brought-requires-clause-at_work : goal.wake_all-brought-requires-clause-at_work
-wake_all-brought-requires-clause-at_work g c = record { shared = c.raise-raised.ensures.shared; fits = c.requires.at_work.fits; placed = c.work_at-worked.ensures.placed }
+pub go_through-came-requires-clause-at_work : goal.go_through-came-requires-clause-at_work
+go_through-came-requires-clause-at_work g c = at_work_still _ _ _ _ _ _ c.requires.at_work c.catch_up-late.ensures
 
 pub returns : goal.returns
-returns g c = record { stays = stays_on _ _ _ _ (stays_on _ _ _ _ c.work_at-worked.ensures.stays c.raise-raised.ensures) c.wake_all-brought.ensures.stays; placed = c.wake_all-brought.ensures.placed }
+returns g c = works_on _ _ _ _ _ _ _ c.catch_up-late.ensures c.go_through-came.ensures

@@ -1,0 +1,8 @@
+use Rattle.mg_crew.proofs.Levelled.{at_work_still, works_on}
+use Rattle.mg_crew.proofs.serving.work.Goals as goal
+
+pub note_worked-requires-clause-at_work : goal.note_worked-requires-clause-at_work
+note_worked-requires-clause-at_work g c = at_work_still _ _ _ _ _ _ c.requires.at_work c.work_at-came.ensures
+
+pub returns : goal.returns
+returns g c = works_on _ _ _ _ _ _ _ c.work_at-came.ensures c.note_worked.ensures

@@ -1,0 +1,58 @@
+ghost use Rattle.std.specs.Prelude.{◌≡◌, ◌≤◌, length};
+ghost use Rattle.mg_calc.specs.Plan.{IsValid, feeders};
+
+use mg_calc::Plan;
+use mg_throttle::Limits;
+use std::alloc::{AllocError, Global};
+
+/// The limits of queues as workers know them. They lie behind a lock, so that nothing is known of them but how many there are: a queue
+/// that isn't there is never full, and a feeder that isn't there is never throttled.
+#[derive(Drop)]
+pub(crate) struct Gauge {
+    limits: Limits,
+    queues: u32,
+    feeders: usize,
+    ghost sized: { queues ≡ length limits.queues },
+    ghost fed: { feeders ≤ limits.feeders },
+}
+
+impl Gauge {
+    /// The limits of a plan, which has so many feeders. Its queues are empty.
+    pub(crate) fn new(alloc: Global, plan: &Plan, count: usize) -> Result<Gauge, AllocError>
+        requires valid { IsValid plan.now }
+        requires feeders { count ≡ length (feeders plan.now) }
+    {
+        let limits = Limits::new(alloc, plan, plan.limit)?;
+        let gauge = Gauge {
+            limits,
+            queues: plan.edges.len(),
+            feeders: count,
+        };
+        Ok(gauge)
+    }
+
+    /// Whether a feeder isn't throttled.
+    pub(crate) fn may_feed(&self, feeder: u32) -> bool {
+        if feeder as usize >= self.feeders {
+            return true;
+        }
+        self.limits.may_feed(feeder)
+    }
+
+    /// Notes how many packets wait in the queue of an edge, and tells whether it is full.
+    pub(crate) fn note(&mut self, edge: u32, packets: u64) -> bool {
+        if edge >= self.queues || packets == u64::MAX {
+            return false;
+        }
+        self.limits.note(edge, packets);
+        match self.limits.limit(edge) {
+            Some(limit) => limit <= packets,
+            None => false,
+        }
+    }
+
+    /// Relaxes the limits of full queues, and tells whether there was one.
+    pub(crate) fn relax(&mut self) -> bool {
+        self.limits.relax()
+    }
+}

@@ -1,0 +1,176 @@
+//! How workers hold feeders back while queues are full, and let them go.
+ghost use Rattle.std.specs.Prelude.{◌<◌, All, Contains, length};
+ghost use Rattle.mg_levels.specs.Levels.{order_of};
+ghost use Rattle.mg_turns.specs.Parts.{nodes_in};
+ghost use Rattle.mg_turns.specs.Calls.{key_of};
+ghost use Rattle.mg_workers.specs.Shared.{IsShared, StaysShared};
+ghost use Rattle.mg_crew.specs.Code.Places.{IsPlaceAt};
+ghost use Rattle.mg_crew.specs.Code.Seats.{HasSources, IsAtWork, StaysAtWork};
+
+use crate::putting::{Place, put};
+use crate::shop::{Shop, Tools};
+use mg_calc::Calculator;
+use mg_edge::Gate;
+use mg_turns::{NetSeat, Tried};
+use std::sync::Wait;
+
+// Puts those of some sources in that are held.
+fn put_held<R: Wait>(rt: &R, tools: &Tools, place: &mut Place, sources: &[u32])
+    requires place { IsPlaceAt tools.now.levels place.old }
+    requires sources { All (λ node. Contains (order_of tools.now.levels) node) sources.now }
+    ensures place { IsPlaceAt tools.now.levels place.new }
+{
+    for k in 0..sources.len() {
+        if !tools.marks.held.clear(sources[k]) {
+            continue;
+        }
+        put(rt, tools, place, sources[k]);
+    }
+}
+
+// Lets those go that are held: sources, and who brings packets from the graph inputs.
+fn let_go<R: Wait>(rt: &R, tools: &Tools, place: &mut Place)
+    requires place { IsPlaceAt tools.now.levels place.old }
+    requires sources { HasSources tools.now }
+    ensures place { IsPlaceAt tools.now.levels place.new }
+{
+    tools.board.leave_inputs();
+    put_held(rt, tools, place, tools.chart.sources());
+    tools.board.tell();
+}
+
+/// A worker begins. The first one lets the sources go, all of which are held at first.
+pub(crate) fn begin<R: Wait>(rt: &R, tools: &Tools, place: &mut Place)
+    requires place { IsPlaceAt tools.now.levels place.old }
+    requires sources { HasSources tools.now }
+    ensures place { IsPlaceAt tools.now.levels place.new }
+{
+    if tools.board.begin() {
+        let_go(rt, tools, place);
+    }
+}
+
+// How many packets wait at the end of an edge, unless the turn is out. Who has it tells that.
+fn waiting<C: Calculator, G: Gate>(
+    shop: &Shop<'_, C, G>,
+    seat: &mut NetSeat<C>,
+    edge: u32,
+) -> Option<u64>
+    requires shared { IsShared shop.now.net.now seat.old }
+    requires edge { edge < length (key_of shop.now.net.now).plan.edges }
+    ensures { StaysShared shop.now.net.now seat.old seat.new }
+{
+    let tried = shop.net.try_waiting(seat, edge);
+    match tried {
+        Tried::Done(waiting) => Some(waiting),
+        Tried::Busy { .. } => None,
+    }
+}
+
+/// Notes how many packets wait at the end of an edge. Where its queue was full, and isn't any more, those go on that are held.
+pub(crate) fn note<C: Calculator, R: Wait, G: Gate>(
+    rt: &R,
+    shop: &Shop<'_, C, G>,
+    seat: &mut NetSeat<C>,
+    place: &mut Place,
+    edge: u32,
+)
+    requires at_work { IsAtWork shop.now.net.now shop.now.tools.now seat.old place.old }
+    requires edge { edge < shop.now.tools.now.chart.from.edges }
+    ensures { StaysAtWork shop.now.net.now shop.now.tools.now seat.old seat.new place.new }
+{
+    let Some(throttle) = &shop.tools.throttle else {
+        return;
+    };
+    let Some(packets) = waiting(shop, seat, edge) else {
+        return;
+    };
+    if throttle.note(rt, edge, packets) {
+        let_go(rt, shop.tools, place);
+    }
+}
+
+// Whether the queue of an edge was full when it was noted last.
+fn is_full(tools: &Tools, edge: u32) -> bool {
+    let Some(throttle) = &tools.throttle else {
+        return false;
+    };
+    throttle.is_full(edge)
+}
+
+// Notes anew how many packets wait at the end of an edge whose queue was full.
+fn note_if_full<C: Calculator, R: Wait, G: Gate>(
+    rt: &R,
+    shop: &Shop<'_, C, G>,
+    seat: &mut NetSeat<C>,
+    place: &mut Place,
+    edge: u32,
+)
+    requires at_work { IsAtWork shop.now.net.now shop.now.tools.now seat.old place.old }
+    requires edge { edge < shop.now.tools.now.chart.from.edges }
+    ensures { StaysAtWork shop.now.net.now shop.now.tools.now seat.old seat.new place.new }
+{
+    if is_full(shop.tools, edge) {
+        note(rt, shop, seat, place, edge);
+    }
+}
+
+/// Notes how many packets wait at a node that worked, where its queues were full.
+pub(crate) fn note_worked<C: Calculator, R: Wait, G: Gate>(
+    rt: &R,
+    shop: &Shop<'_, C, G>,
+    seat: &mut NetSeat<C>,
+    place: &mut Place,
+    node: u32,
+)
+    requires at_work { IsAtWork shop.now.net.now shop.now.tools.now seat.old place.old }
+    requires node { node < nodes_in (key_of shop.now.net.now) }
+    ensures { StaysAtWork shop.now.net.now shop.now.tools.now seat.old seat.new place.new }
+{
+    let mut cursor = shop.tools.chart.into.first(node as usize);
+    'edges: while let Some(edge) = cursor {
+        note_if_full(rt, shop, seat, place, edge);
+        cursor = shop.tools.chart.into.next(edge);
+    }
+}
+
+/// Whether the feeder at a place of the chart is throttled.
+pub(crate) fn is_throttled<R: Wait>(rt: &R, tools: &Tools, at: usize) -> bool {
+    let Some(throttle) = &tools.throttle else {
+        return false;
+    };
+    let Some(feeder) = tools.chart.feeder(at) else {
+        return false;
+    };
+    !throttle.may_feed(rt, feeder)
+}
+
+/// Whether a node is a source that is throttled. It is held then until it is let go. It is marked before the limits are asked, so that
+/// nobody who lets it go passes it over.
+pub(crate) fn is_held<R: Wait>(rt: &R, tools: &Tools, node: u32) -> bool {
+    if tools.chart.feeder(node as usize).is_none() {
+        return false;
+    }
+    tools.marks.held.set(node);
+    if is_throttled(rt, tools, node as usize) {
+        return true;
+    }
+    tools.marks.held.clear(node);
+    false
+}
+
+/// Relaxes the limits of full queues, so that those go on that are held, and tells whether there was one.
+pub(crate) fn relax<R: Wait>(rt: &R, tools: &Tools, place: &mut Place) -> bool
+    requires place { IsPlaceAt tools.now.levels place.old }
+    requires sources { HasSources tools.now }
+    ensures place { IsPlaceAt tools.now.levels place.new }
+{
+    let Some(throttle) = &tools.throttle else {
+        return false;
+    };
+    if !throttle.relax(rt) {
+        return false;
+    }
+    let_go(rt, tools, place);
+    true
+}
