@@ -8,8 +8,8 @@ use mg_time::Timestamp;
 use mg_value::{InputSet, Packet, Payload, Policy};
 use std::alloc::{AllocError, Global};
 use std::env;
-use std::process::ExitCode;
 use std::sync::Arc;
+use std::test::Fail;
 
 /// What is to be measured.
 #[derive(Clone, Copy)]
@@ -19,18 +19,13 @@ struct Load {
     waiting: u32,
 }
 
-/// Reads how much is wanted, and writes how many sets were claimed.
-pub fn run(rt: &HostRuntime) -> ExitCode {
+/// Reads how much is wanted, and tells how many sets were claimed.
+pub fn run(rt: &HostRuntime) -> Result<u64, Fail> {
     let Some(load) = load_of(rt) else {
-        return ExitCode::from(2);
+        return Err(Fail::from("three numbers are wanted"));
     };
-    match claimed(rt.alloc(), load) {
-        Ok(count) => match println!(rt; "{count}") {
-            Ok(()) => ExitCode::SUCCESS,
-            Err(_) => ExitCode::from(8),
-        },
-        Err(AllocError) => ExitCode::from(9),
-    }
+    let count = claimed(rt.alloc(), load)?;
+    Ok(u64::from(count))
 }
 
 // The three numbers after the program's name.

@@ -1,18 +1,12 @@
 //! Packet lines are read batch by batch, and each packet is written again as a line of the stream `out`.
 
-ghost use Rattle.std.specs.Prelude.{[], IfSome};
-ghost use Rattle.mg_calc.specs.Plan.{IsValid, OutersFit};
-
-use mg_calc::{Inputs, OuterShape, Plan};
-use mg_check::check;
-use mg_config::read;
+use mg_calc::Inputs;
 use mg_edge::{ReaderSource, Sink, Source, WriterSink};
 use mg_feed::{BatchEnd, Feed, FeedEnd, LineWriter, put_all};
-use mg_free::first_free;
-use mg_text::parse;
+use mg_nets::plan_of;
 use mg_value::{MgText, Packet};
 use std::alloc::Global;
-use std::process::ExitCode;
+use std::test::Fail;
 
 /// How many lines are read at once.
 const BATCH: u32 = 4096;
@@ -28,51 +22,41 @@ struct Output<K> {
     sink: K,
 }
 
-/// Reads standard input to its end. The status is 1 where anything is refused.
-pub fn run(rt: &HostRuntime) -> ExitCode {
+/// Reads standard input to its end.
+pub fn run(rt: &HostRuntime) -> Result<(), Fail> {
+    let mut feed = feed_of(rt.alloc())?;
     let mut source = ReaderSource::new(rt.stdin());
-    match copy(rt.alloc(), &mut source, WriterSink::new(rt.stdout())) {
-        Some(()) => ExitCode::SUCCESS,
-        None => ExitCode::from(1),
+    match copy(
+        rt.alloc(),
+        &mut feed,
+        &mut source,
+        WriterSink::new(rt.stdout()),
+    ) {
+        Some(()) => Ok(()),
+        None => Err(Fail::from("a line or a device failed")),
     }
 }
 
 // Copies the packets of all lines.
-fn copy<S: Source, K: Sink + Drop>(alloc: Global, source: &mut S, sink: K) -> Option<()> {
-    let mut feed = feed_of(alloc)?;
+fn copy<S: Source, K: Sink + Drop>(
+    alloc: Global,
+    feed: &mut Feed,
+    source: &mut S,
+    sink: K,
+) -> Option<()> {
     let mut output = output_of(alloc, sink)?;
-    copy_batches(&mut feed, source, &mut output)?;
+    copy_batches(feed, source, &mut output)?;
     flush(&mut output)
 }
 
 // The feed of a graph with one input.
-fn feed_of(alloc: Global) -> Option<Feed> {
+fn feed_of(alloc: Global) -> Result<Feed, Fail> {
     let plan = plan_of(alloc, graph())?;
-    Feed::new(alloc, &plan).ok()
+    Ok(Feed::new(alloc, &plan)?)
 }
 
 fn graph() -> &'static str {
     r#"input_stream: "in" output_stream: "out" node { calculator: "PassThroughCalculator" input_stream: "in" output_stream: "out" }"#
-}
-
-/// The plan of a graph's text, if it is valid, has no free node, and no calculator has to be handed in.
-pub(crate) fn plan_of(alloc: Global, text: &str) -> Option<Plan>
-    ensures valid { IfSome result IsValid }
-    ensures fit { IfSome result (λ plan. OutersFit plan []) }
-{
-    let tree = parse(alloc, text.as_bytes()).ok()?;
-    let graph = read(alloc, &tree).ok()?;
-    let outers: &[OuterShape] = &[];
-    if graph.nodes.len() > 4096 {
-        return None;
-    }
-    let Ok(plan) = check(alloc, &graph, outers) else {
-        return None;
-    };
-    match first_free(&plan) {
-        Some(_) => None,
-        None => Some(plan),
-    }
 }
 
 fn output_of<K: Sink + Drop>(alloc: Global, sink: K) -> Option<Output<K>> {

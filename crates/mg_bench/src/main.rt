@@ -1,22 +1,40 @@
-//! Three loops for the scripts of bench/ to time. With the word `lines` the packet lines of standard input are read and
+//! Five loops for the scripts of bench/ to time. With the word `lines` the packet lines of standard input are read and
 //! written again (`bench/lines`); with the word `chain` and two numbers packets go through a chain of nodes (`bench/chain`);
-//! with three numbers input sets go through an inbox (`bench/inbox`).
+//! with the word `workers` and four numbers workers run such a chain (`bench/workers`); with the word `turns`, two numbers and two
+//! words the calls of a shared net are made on one seat, or the events of a net (`bench/turns`); with three numbers input sets
+//! go through an inbox (`bench/inbox`).
 #![tactic(auto)]
 
 mod chain;
 mod inbox;
 mod lines;
+mod turns;
+mod workers;
 
 use std::env;
-use std::process::ExitCode;
+use std::sync::Wait;
+use std::test::Fail;
+use std::thread::Threads;
 
-fn main(rt: HostRuntime) -> ExitCode {
+fn main(rt: HostRuntime) -> Result<(), Fail> {
     if wants(&rt, "lines") {
-        lines::run(&rt)
-    } else if wants(&rt, "chain") {
-        chain::run(&rt)
+        return lines::run(&rt);
+    }
+    let count = count(&rt, &rt)?;
+    println!(rt; "{count}")?;
+    Ok(())
+}
+
+// What a loop tells that counts.
+fn count<R: Threads + Wait + Sync>(threads: &R, rt: &HostRuntime) -> Result<u64, Fail> {
+    if wants(rt, "chain") {
+        chain::run(rt)
+    } else if wants(rt, "workers") {
+        workers::run(threads, rt)
+    } else if wants(rt, "turns") {
+        turns::run(rt)
     } else {
-        inbox::run(&rt)
+        inbox::run(rt)
     }
 }
 

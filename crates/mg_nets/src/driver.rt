@@ -1,14 +1,16 @@
 //! A net with its plan and its inputs.
-ghost use Rattle.std.specs.Prelude.{◌≡◌, IfOk};
+ghost use Rattle.std.specs.Prelude.{◌≡◌, true, IfOk};
 ghost use Rattle.mg_calc.specs.Plan.{IsValid, OutersFit};
 ghost use Rattle.mg_calc.specs.Equations.{IsJob};
+ghost use Rattle.mg_sched.specs.Views.{NetView};
+ghost use Rattle.mg_sched.specs.Acts.{IsEventOf};
 ghost use Rattle.mg_nets.specs.Driven.{IsDriven, StandsOver};
 ghost use Rattle.mg_nets.specs.Handed.{two_outers};
 
 use crate::boxes::tallies;
 use crate::plans::plan_of;
-use mg_calc::{Inputs, Plan};
-use mg_edge::Gate;
+use mg_calc::{Effect, Event, Inputs, Plan};
+use mg_edge::{Gate, StillGate};
 use mg_plans::{do_fit, inputs_of};
 use mg_route::LawBox;
 use mg_sched::{Hears, Net, Report};
@@ -70,6 +72,31 @@ pub fn driver_of(alloc: Global, graph: &str, lines: &str) -> Result<Driver, Fail
     let plan = plan_of(alloc, graph)?;
     let inputs = inputs_of(alloc, &plan, lines, true)?;
     driver_over(alloc, plan, inputs)
+}
+
+// Whether an event's node or edge is of a plan.
+fn is_event_of(plan: &Plan, event: Event) -> bool
+    ensures { (net : NetView) → net.plan ≡ plan.now → result ≡ true → IsEventOf net event }
+{
+    match event {
+        Event::Deliver { edge } => edge < plan.edges.len(),
+        Event::Advance { node } => node < plan.nodes.len(),
+        Event::Claim { node } => node < plan.nodes.len(),
+        Event::Perform { node, .. } => node < plan.nodes.len(),
+        Event::Commit { node, .. } => node < plan.nodes.len(),
+        Event::Relax => true,
+    }
+}
+
+/// Makes a step.
+pub fn act(driver: &mut Driver, event: Event) -> Result<Effect, Fail>
+    requires { IsDriven driver.old.plan driver.old.inputs driver.old.net }
+    ensures { IsDriven driver.new.plan driver.new.inputs driver.new.net }
+{
+    if !is_event_of(&driver.plan, event) {
+        return Err(Fail::from("no such node or edge"));
+    }
+    Ok(driver.net.act(event, &StillGate))
 }
 
 /// Makes steps until none would do anything, each Process call through a gate. Each step that does something is told.

@@ -14,7 +14,7 @@ mod shown;
 
 pub use cases::{CASES, Case, case_of, is_wanted, summed, throttled};
 pub use chance::Chance;
-pub use driver::{Driver, driver_of, driver_over, held, sweep, trim};
+pub use driver::{Driver, act, driver_of, driver_over, held, sweep, trim};
 pub use graphs::{adding, counting, limited, merging, passing, stalling, summing};
 pub use outcome::{all_taken, come_out, ended, told};
 pub use plans::plan_of;

@@ -1,43 +1,14 @@
-//! The steps of a net that is driven event by event, and what it has of its streams.
-ghost use Rattle.std.specs.Prelude.{◌≡◌, true};
-ghost use Rattle.mg_sched.specs.Views.{NetView};
-ghost use Rattle.mg_sched.specs.Acts.{IsEventOf};
+//! Nets that go on with further inputs, or are taken apart and put together again; and what a net has of its streams.
 ghost use Rattle.mg_nets.specs.Driven.{IsDriven};
 
 use crate::carrying::carry;
 use crate::pieces::longer;
-use mg_calc::{Effect, Event, Inputs, Plan};
-use mg_edge::StillGate;
+use mg_calc::Inputs;
 use mg_nets::Driver;
 use mg_sched::Net;
 use mg_tables::{show_packet_at, text_of};
 use std::alloc::Global;
 use std::test::Fail;
-
-// Whether an event's node or edge is of a plan.
-fn is_event_of(plan: &Plan, event: Event) -> bool
-    ensures { (net : NetView) → net.plan ≡ plan.now → result ≡ true → IsEventOf net event }
-{
-    match event {
-        Event::Deliver { edge } => edge < plan.edges.len(),
-        Event::Advance { node } => node < plan.nodes.len(),
-        Event::Claim { node } => node < plan.nodes.len(),
-        Event::Perform { node, .. } => node < plan.nodes.len(),
-        Event::Commit { node, .. } => node < plan.nodes.len(),
-        Event::Relax => true,
-    }
-}
-
-/// Makes a step.
-pub(crate) fn act(driver: &mut Driver, event: Event) -> Result<Effect, Fail>
-    requires { IsDriven driver.old.plan driver.old.inputs driver.old.net }
-    ensures { IsDriven driver.new.plan driver.new.inputs driver.new.net }
-{
-    if !is_event_of(&driver.plan, event) {
-        return Err(Fail::from("no such node or edge"));
-    }
-    Ok(driver.net.act(event, &StillGate))
-}
 
 /// Goes on with a further piece of the inputs.
 pub(crate) fn extend(alloc: Global, driver: &mut Driver, piece: &Inputs) -> Result<(), Fail>

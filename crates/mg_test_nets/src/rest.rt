@@ -1,11 +1,10 @@
 //! Nets that are driven until nothing is left to do.
 ghost use Rattle.mg_nets.specs.Driven.{IsDriven};
 
-use crate::driving::act;
 use crate::ending::assert_end;
 use crate::events::{event_at, event_count};
 use mg_calc::{Effect, Event};
-use mg_nets::{Case, Chance, Driver, come_out, is_wanted};
+use mg_nets::{Case, Chance, Driver, act, come_out, is_wanted};
 use std::alloc::Global;
 use std::process::Abort;
 use std::test::Fail;

@@ -1,0 +1,5 @@
+use Rattle.mg_nets.specs.Driven.{IsDriven}
+use Rattle.mg_bench.proofs.turns.round_by_net.Given as goal
+
+abbrev pub invariant-loop-call : goal.invariant-loop-call
+invariant-loop-call l = IsDriven l.driver.plan l.driver.inputs l.driver.net

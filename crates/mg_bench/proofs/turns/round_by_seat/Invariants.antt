@@ -1,0 +1,5 @@
+use Rattle.mg_workers.specs.Shared.{IsShared}
+use Rattle.mg_bench.proofs.turns.round_by_seat.Given as goal
+
+abbrev pub invariant-loop-call : goal.invariant-loop-call
+invariant-loop-call l = IsShared l.net l.seat

@@ -1,0 +1,286 @@
+//! A node behind a source is served round by round: by the calls on a shared net, which one seat makes, or by the events of the net alone.
+//! What a round is made of is a word, with a letter for each call: `s`, so many sets of the source; `d`, a delivery to the node; `c`, a
+//! claim of the node that finds nothing; `w`, a set of the node, claimed, performed and committed by itself; `h`, a set that is claimed
+//! and put back; `r`, so many sets of the node under one pair of turns; and `u`, the node's outputs are raised.
+ghost use Rattle.std.specs.Prelude.{◌≡◌, OnSome};
+ghost use Rattle.mg_turns.specs.Parts.{nodes_in};
+ghost use Rattle.mg_turns.specs.Calls.{key_of};
+ghost use Rattle.mg_workers.specs.Shared.{IsShared};
+ghost use Rattle.mg_nets.specs.Driven.{IsDriven};
+
+use crate::chain::chain;
+use mg_calc::{Effect, Event};
+use mg_nets::{Driver, act, driver_of};
+use mg_node::Outcome;
+use mg_route::LawBox;
+use mg_seats::{
+    Shared, append, claim, commit, performed, raise, run as run_sets, shared_net, shelve,
+};
+use mg_turns::{NetSeat, SharedNet};
+use std::alloc::Global;
+use std::env;
+use std::test::Fail;
+
+/// What is to be measured.
+#[derive(Drop)]
+struct Load {
+    rounds: u32,
+    sets: u32,
+    shared: bool,
+    calls: String,
+}
+
+/// How many works were claimed of the source and of the node.
+#[derive(Drop)]
+struct Claims {
+    source: u64,
+    node: u64,
+}
+
+/// Reads what is wanted, and tells how much was done: works that were committed, and deliveries and raises that changed something.
+pub fn run(rt: &HostRuntime) -> Result<u64, Fail> {
+    let Some(load) = load_of(rt) else {
+        return Err(Fail::from("two numbers and two words are wanted"));
+    };
+    let alloc = rt.alloc();
+    let packets = load.rounds.saturating_mul(load.sets).saturating_add(1);
+    let graph = chain(alloc, 1, packets, 1_000_000)?;
+    let driver = driver_of(alloc, &graph, "")?;
+    if load.shared {
+        by_seat(alloc, driver, &load)
+    } else {
+        by_net(driver, &load)
+    }
+}
+
+// The words after the word `turns`: rounds, sets, `seat` or `net`, and the calls of a round.
+fn load_of(rt: &HostRuntime) -> Option<Load> {
+    let mut words = env::args(rt).ok()?.skip(2);
+    let rounds = words.next()?.parse().ok()?;
+    let sets = words.next()?.parse().ok()?;
+    let shared = words.next()?.as_str() == "seat";
+    let calls = words.next()?;
+    Some(Load {
+        rounds,
+        sets,
+        shared,
+        calls,
+    })
+}
+
+// By one seat.
+fn by_seat(alloc: Global, driver: Driver, load: &Load) -> Result<u64, Fail>
+    requires { IsDriven driver.plan driver.inputs driver.net }
+{
+    let Driver { net, .. } = driver;
+    let shared = shared_net(alloc, net)?;
+    match rounds_by_seat(alloc, shared, load) {
+        Some(done) => Ok(done),
+        None => Err(Fail::from("a call came to nothing")),
+    }
+}
+
+// All rounds.
+fn rounds_by_seat(alloc: Global, shared: Shared, load: &Load) -> Option<u64>
+    requires { IsShared shared.net shared.seat }
+{
+    let Shared { net, mut seat, .. } = shared;
+    if net.nodes() != 2 {
+        return None;
+    }
+    let mut done = 0_u64;
+    for _ in 0..load.rounds {
+        let more = round_by_seat(alloc, &net, &mut seat, load)?;
+        done = done.saturating_add(more);
+    }
+    Some(done)
+}
+
+// One round.
+fn round_by_seat(
+    alloc: Global,
+    net: &SharedNet<LawBox>,
+    seat: &mut NetSeat<LawBox>,
+    load: &Load,
+) -> Option<u64>
+    requires shared { IsShared net.now seat.old }
+    requires two { nodes_in (key_of net.now) ≡ 2 }
+    ensures shared { OnSome result (IsShared net.now seat.new) }
+{
+    let mut done = 0_u64;
+    for call in load.calls.as_bytes() {
+        let more = call_by_seat(alloc, net, seat, *call, load.sets)?;
+        done = done.saturating_add(more);
+    }
+    Some(done)
+}
+
+// One call.
+fn call_by_seat(
+    alloc: Global,
+    net: &SharedNet<LawBox>,
+    seat: &mut NetSeat<LawBox>,
+    call: u8,
+    sets: u32,
+) -> Option<u64>
+    requires shared { IsShared net.now seat.old }
+    requires two { nodes_in (key_of net.now) ≡ 2 }
+    ensures shared { OnSome result (IsShared net.now seat.new) }
+{
+    match call {
+        b's' => Some(u64::from(run_sets(alloc, net, seat, 0, sets))),
+        b'd' => bring(net, seat),
+        b'c' => find_nothing(net, seat),
+        b'w' => work(alloc, net, seat),
+        b'h' => put_back(net, seat),
+        b'r' => Some(u64::from(run_sets(alloc, net, seat, 1, sets))),
+        b'u' => lift(net, seat),
+        _ => None,
+    }
+}
+
+// A delivery to the node.
+fn bring(net: &SharedNet<LawBox>, seat: &mut NetSeat<LawBox>) -> Option<u64>
+    requires shared { IsShared net.now seat.old }
+    ensures shared { IsShared net.now seat.new }
+{
+    match append(net, seat, 0) {
+        Some((packets, _)) => Some(u64::from(packets > 0)),
+        None => None,
+    }
+}
+
+// The node's outputs are raised.
+fn lift(net: &SharedNet<LawBox>, seat: &mut NetSeat<LawBox>) -> Option<u64>
+    requires shared { IsShared net.now seat.old }
+    requires two { nodes_in (key_of net.now) ≡ 2 }
+    ensures shared { IsShared net.now seat.new }
+{
+    match raise(net, seat, 1) {
+        Some(moved) => Some(u64::from(moved)),
+        None => None,
+    }
+}
+
+// A claim of the node that finds nothing.
+fn find_nothing(net: &SharedNet<LawBox>, seat: &mut NetSeat<LawBox>) -> Option<u64>
+    requires shared { IsShared net.now seat.old }
+    requires two { nodes_in (key_of net.now) ≡ 2 }
+    ensures shared { OnSome result (IsShared net.now seat.new) }
+{
+    match claim(net, seat, 1) {
+        Ok(_) => None,
+        Err(_) => Some(0),
+    }
+}
+
+// A set of the node that is claimed, performed and committed.
+fn work(alloc: Global, net: &SharedNet<LawBox>, seat: &mut NetSeat<LawBox>) -> Option<u64>
+    requires shared { IsShared net.now seat.old }
+    requires two { nodes_in (key_of net.now) ≡ 2 }
+    ensures shared { OnSome result (IsShared net.now seat.new) }
+{
+    let Ok(work) = claim(net, seat, 1) else {
+        return None;
+    };
+    let Some(outcome) = performed(alloc, work) else {
+        return None;
+    };
+    let laid = commit(net, seat, outcome)?;
+    Some(u64::from(laid))
+}
+
+// A set of the node that is claimed, and put back as it is.
+fn put_back(net: &SharedNet<LawBox>, seat: &mut NetSeat<LawBox>) -> Option<u64>
+    requires shared { IsShared net.now seat.old }
+    requires two { nodes_in (key_of net.now) ≡ 2 }
+    ensures shared { OnSome result (IsShared net.now seat.new) }
+{
+    let Ok(work) = claim(net, seat, 1) else {
+        return None;
+    };
+    if shelve(net, seat, Outcome::unrun(work)) {
+        Some(0)
+    } else {
+        None
+    }
+}
+
+// By the net alone.
+fn by_net(driver: Driver, load: &Load) -> Result<u64, Fail>
+    requires { IsDriven driver.plan driver.inputs driver.net }
+{
+    let mut driver = driver;
+    let mut claims = Claims { source: 0, node: 0 };
+    let mut done = 0_u64;
+    for _ in 0..load.rounds {
+        let more = round_by_net(&mut driver, &mut claims, load)?;
+        done = done.saturating_add(more);
+    }
+    Ok(done)
+}
+
+// One round.
+fn round_by_net(driver: &mut Driver, claims: &mut Claims, load: &Load) -> Result<u64, Fail>
+    requires { IsDriven driver.old.plan driver.old.inputs driver.old.net }
+    ensures { IsDriven driver.new.plan driver.new.inputs driver.new.net }
+{
+    let mut done = 0_u64;
+    for call in load.calls.as_bytes() {
+        let more = call_by_net(driver, claims, *call, load.sets)?;
+        done = done.saturating_add(more);
+    }
+    Ok(done)
+}
+
+// The events of one call. A set can't be put back.
+fn call_by_net(driver: &mut Driver, claims: &mut Claims, call: u8, sets: u32) -> Result<u64, Fail>
+    requires { IsDriven driver.old.plan driver.old.inputs driver.old.net }
+    ensures { IsDriven driver.new.plan driver.new.inputs driver.new.net }
+{
+    match call {
+        b's' => works(driver, 0, &mut claims.source, sets),
+        b'd' => make(driver, Event::Deliver { edge: 0 }),
+        b'c' => make(driver, Event::Claim { node: 1 }),
+        b'w' => works(driver, 1, &mut claims.node, 1),
+        b'r' => works(driver, 1, &mut claims.node, sets),
+        b'u' => make(driver, Event::Advance { node: 1 }),
+        _ => Err(Fail::from("no such event")),
+    }
+}
+
+// So many sets of a node, each claimed, performed and committed.
+fn works(driver: &mut Driver, node: u32, number: &mut u64, sets: u32) -> Result<u64, Fail>
+    requires { IsDriven driver.old.plan driver.old.inputs driver.old.net }
+    ensures { IsDriven driver.new.plan driver.new.inputs driver.new.net }
+{
+    let mut done = 0_u64;
+    for _ in 0..sets {
+        let more = work_by_net(driver, node, *number)?;
+        *number = number.wrapping_add(1);
+        done = done.saturating_add(more);
+    }
+    Ok(done)
+}
+
+// A set of a node, by its number.
+fn work_by_net(driver: &mut Driver, node: u32, number: u64) -> Result<u64, Fail>
+    requires { IsDriven driver.old.plan driver.old.inputs driver.old.net }
+    ensures { IsDriven driver.new.plan driver.new.inputs driver.new.net }
+{
+    make(driver, Event::Claim { node })?;
+    make(driver, Event::Perform { node, number })?;
+    make(driver, Event::Commit { node, number })
+}
+
+// Makes an event, and tells whether it did anything.
+fn make(driver: &mut Driver, event: Event) -> Result<u64, Fail>
+    requires { IsDriven driver.old.plan driver.old.inputs driver.old.net }
+    ensures { IsDriven driver.new.plan driver.new.inputs driver.new.net }
+{
+    match act(driver, event)? {
+        Effect::Did => Ok(1),
+        Effect::Idle => Ok(0),
+        Effect::OutOfMemory => Err(Fail::from("no memory")),
+    }
+}
