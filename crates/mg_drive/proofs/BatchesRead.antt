@@ -11,12 +11,12 @@ use Rattle.mg_feed.specs.Accepted.{State, given_by, most_lines}
 use Rattle.mg_feed.specs.Given.{ended_streams}
 use Rattle.mg_feed.specs.Stands.{Stands, nothing_taken, taken_with, packets_of}
 use Rattle.mg_feed.specs.Fed.{Fed, Reading}
-use Rattle.mg_feed.specs.Ran.{MetEnd, Unfailed}
-use Rattle.mg_feed.specs.Batch.{EndsAs, Fills, naming, HasReadBatch, BatchEndsAs, BatchFailedBy}
+use Rattle.mg_feed.specs.Ran.{MetEnd, late, Spends, Unfailed}
+use Rattle.mg_feed.specs.Batch.{EndsAs, Fills, naming, HasReadBatch, BatchEndsAs, BatchFailedBy, idle_by}
 use Rattle.mg_feed.specs.declared.feed_end.BatchEnd.{BatchEnd}
 use Rattle.mg_feed.specs.declared.feed_end.BatchEnd.TheVariants.{More, End}
 use Rattle.mg_feed.proofs.Coming.{came-nothing, came-taken}
-use Rattle.mg_feed.proofs.Moving.{gave-then, met-then, unfailed-same, unfailed-then, failed-by, naming-few}
+use Rattle.mg_feed.proofs.Moving.{gave-then, met-then, spends-same, spends-then, unfailed-same, unfailed-then, failed-by, naming-few}
 use Rattle.mg_feed.proofs.Holding.{given-untaken}
 use Rattle.mg_feed.proofs.Growing.{naming-names}
 use Rattle.mg_feed.proofs.Joining.{taken-all}
@@ -46,6 +46,7 @@ nothing_read plan first fed graph stands unread = record {
   came = came-nothing [] (packets_of (given_by (inputs_of plan) []).streams) fed unread
       (subst (λ (gone : List (List (Stamped Plain))). Stands [] gone fed.view) (sym (none_given (inputs_of plan))) stands);
   met = subst (λ (r : Reading). MetEnd false r.ended first first) (sym unread) refl;
+  spent = subst (λ (r : Reading). Spends 0 (late r.ended) first.left first.left first.reads first.reads) (sym unread) (spends-same 0 first.left first.reads);
   so = unfailed-same first;
 }
 
@@ -69,11 +70,12 @@ fills_some (End end) most taken some fills more = absurd more
 
 pub batch_read : (plan : Plan) (first before now : SourceTold) (most : ℕ) (end : BatchEnd) (old mid new : Fed) (inputs : Inputs) (b : Bool) (past : List ℕ) (lines : List (List ℕ))
     → 0 < most → HadMemory end → IsRead plan first More before old past lines
-    → HasReadBatch most end before now old mid → MetEnd old.read.ended mid.read.ended before now → BatchFailedBy end before now → mid.view.lines ≤ most_lines → mid.view.graph ≡ old.view.graph
+    → HasReadBatch most end before now old mid → MetEnd old.read.ended mid.read.ended before now → BatchFailedBy end before now
+    → Spends (late old.read.ended) (idle_by end mid.read.ended) before.left now.left before.reads now.reads → mid.view.lines ≤ most_lines → mid.view.graph ≡ old.view.graph
     → b ≡ has_ended end → inputs.streams ≡ ended_streams b mid.view.given.streams → inputs.sides ≡ mid.view.given.sides → inputs.ended ≡ b
     → ((ls : List (List ℕ)) (gone : List (List (Stamped Plain))) → Stands ls gone mid.view → Stands ls (taken_with gone mid.view.given.streams) new.view)
     → new.view.graph ≡ mid.view.graph → new.read ≡ mid.read → HasBatch plan first end inputs now new past lines
-batch_read plan first before now most end old mid new inputs b past lines some had was read met failed few mid_graph is_b streams sides ended takes new_graph new_read =
+batch_read plan first before now most end old mid new inputs b past lines some had was read met failed spent few mid_graph is_b streams sides ended takes new_graph new_read =
     let both = read.accepted [] past lines (packets_of (given_by (inputs_of plan) lines).streams) was.came in
     let came = both.0 in
     let graph : mid.view.graph ≡ inputs_of plan = mid_graph ∙ was.graph in
@@ -87,9 +89,11 @@ batch_read plan first before now most end old mid new inputs b past lines some h
       is_read = record {
         graph = new_graph ∙ graph;
         gave = gave-then first.left before.left now.left past read.came was.gave read.gave;
-        came = came-taken [] (past ++ read.came) all (packets_of (given_by (inputs_of plan) lines).streams) (packets_of (given_by (inputs_of plan) all).streams) mid new came new_read
+        came = came-taken [] (past ++ read.came) all (packets_of (given_by (inputs_of plan) lines).streams) (packets_of (given_by (inputs_of plan) all).streams) mid new came new_read new_graph
             (subst (λ (gone : List (List (Stamped Plain))). Stands all gone new.view) taken_is (takes all (packets_of (given_by (inputs_of plan) lines).streams) came.stands));
         met = subst (λ (r : Reading). MetEnd false r.ended first now) (sym new_read) (met-then false old.read.ended mid.read.ended first before now past was.gave was.met met);
+        spent = subst (λ (r : Reading). Spends 0 (idle_by end r.ended) first.left now.left first.reads now.reads) (sym new_read)
+            (spends-then 0 (late old.read.ended) (idle_by end mid.read.ended) first.left before.left now.left first.reads before.reads now.reads was.spent spent);
         so = reads_on end plan first before now mid new old.view.graph past read.came lines read.taken had was.graph new_read was.gave was.so failed both.1;
       };
       view = mid.view;

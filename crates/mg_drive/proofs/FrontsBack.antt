@@ -92,13 +92,13 @@ none_had job boxes is fit =
     }
 
 -- whether Close is the last of a node's calls
-abbrev closes_at : Phase → Bool
+abbrev pub closes_at : Phase → Bool
 closes_at Open = false
 closes_at (SourceCall number) = true
 closes_at (Process at) = true
 closes_at Close = true
 
-abbrev closes : Option Failure → Bool
+abbrev pub closes : Option Failure → Bool
 closes None = true
 closes (Some failure) = closes_at failure.phase
 
@@ -116,14 +116,14 @@ last_is None = refl
 last_is (Some failure) = last_at failure.phase failure.cause
 
 -- all of a node's calls are a front of them
-all_first : (job : Job) (streams : List (StreamPrefix Plain)) (node : PlanNode) → log_of job streams node ≡ first_calls job streams node (suc (length (map (λ e. Shown e.at e.set) (shown_sets job streams node)))) (closes (outcome_of job streams node).fault)
+pub all_first : (job : Job) (streams : List (StreamPrefix Plain)) (node : PlanNode) → log_of job streams node ≡ first_calls job streams node (suc (length (map (λ e. Shown e.at e.set) (shown_sets job streams node)))) (closes (outcome_of job streams node).fault)
 all_first job streams node =
     let shown : List Call = map (λ e. Shown e.at e.set) (shown_sets job streams node) in
     let fault = (outcome_of job streams node).fault in
     ap (λ (last : List Call). (Begun ∷ shown) ++ last) (last_is fault) ∙ ap (λ (calls : List Call). calls ++ finish (closes fault)) (sym (take-length (Begun ∷ shown)))
 
 -- so those that had all had a front
-pub all_are_fronts : (job : Job) (boxes : Device (List CalculatorTold)) → HadCallsOf job boxes → HadFronts job boxes
+abbrev pub all_are_fronts : (job : Job) (boxes : Device (List CalculatorTold)) → HadCallsOf job boxes → HadFronts job boxes
 all_are_fronts job boxes had = record {
   streams = had.streams;
   solution = had.solution;

@@ -8,6 +8,7 @@ pub mod Reported
 pub mod RunsEnd
 pub mod BoxesBack
 pub mod FrontsBack
+pub mod OneRuns
 pub mod LinesRan
 pub mod PacketsRan
 pub mod EventsPut

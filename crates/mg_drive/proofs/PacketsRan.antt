@@ -15,12 +15,10 @@ use Rattle.mg_feed.specs.declared.feed_end.BatchEnd.TheVariants.{More, End}
 use Rattle.mg_answer.specs.Answer.{totals, by_summary, output_in, generated_job}
 use Rattle.mg_answer.specs.Text.{output_names}
 use Rattle.mg_answer.specs.Summary.{SummaryView, HasSummed}
-use Rattle.mg_answer.specs.Devices.{Device, device, RunDevices}
+use Rattle.mg_answer.specs.Devices.{Device, device}
 use Rattle.mg_answer.specs.Wrote.{Wrote}
-use Rattle.mg_answer.specs.Ran.{RanGenerated, GeneratedSome}
 use Rattle.mg_answer.specs.declared.status.Status.{Status}
 use Rattle.mg_answer.proofs.Writing.{front-none}
-use Rattle.mg_answer.proofs.Generating.{generated-ran}
 use Rattle.mg_answer.proofs.GeneratedFits.{generated-fit}
 use Rattle.mg_node.specs.Job.{LoggedJob}
 use Rattle.mg_sched.specs.Views.{NetView}
@@ -29,11 +27,13 @@ use Rattle.mg_sched.specs.GivesBack.{given_back, StoodFor}
 use Rattle.mg_sched.proofs.Solved.{solved}
 use Rattle.mg_drive.specs.Batches.{IsFirst, logged}
 use Rattle.mg_drive.specs.Told.{HasSums}
-use Rattle.mg_drive.specs.Leaves.{HadCallsOf, HadFronts}
+use Rattle.mg_drive.specs.Leaves.{HadCallsOf}
+use Rattle.mg_drive.specs.OneRun.{CameBack, OneRun, OneShort, OneMade}
 use Rattle.mg_drive.specs.Code.Running.{IsToldSome, FrontIn}
 use Rattle.mg_drive.specs.Code.Packets.{WereGiven}
 use Rattle.mg_drive.proofs.BoxesBack.{logs_of}
 use Rattle.mg_drive.proofs.FrontsBack.{fronts_now}
+use Rattle.mg_drive.proofs.OneRuns.{one_run, one_short}
 
 -- Packets --
 
@@ -73,53 +73,34 @@ given_made plan number packets end inputs are given = some_same inputs (generate
 end_same : (end : FeedEnd) → End end ≡ End Ended → end ≡ Ended
 end_same end same = cc
 
--- The answer was written --
-
-pub packets_ran : (report : Bool) (plan : Plan) (number : ℕ) (packets : Option Inputs) (devices : RunDevices) (status : Status) (end : FeedEnd) (inputs : Inputs) → packets ≡ Some (generated_job plan number).inputs
-    → WereGiven packets (End end) inputs → Wrote (by_summary report) (record { plan = plan; inputs = inputs }) end status devices.output devices.notes → RanGenerated report plan number status devices
-packets_ran report plan number packets devices status end inputs are given wrote =
-    generated-ran report plan number status devices
-    (subst (λ (e : FeedEnd). Wrote (by_summary report) (generated_job plan number) e status devices.output devices.notes) (end_same end given.ended)
-    (subst (λ (i : Inputs). Wrote (by_summary report) (record { plan = plan; inputs = i }) end status devices.output devices.notes) (given_made plan number packets (End end) inputs are given) wrote))
-
-pub packets_had : (plan : Plan) (number : ℕ) (packets : Option Inputs) (boxes : Device (List CalculatorTold)) (end : BatchEnd) (inputs : Inputs) → packets ≡ Some (generated_job plan number).inputs
-    → WereGiven packets end inputs → HadCallsOf (record { plan = plan; inputs = inputs }) boxes → HadCallsOf (generated_job plan number) boxes
-packets_had plan number packets boxes end inputs are given had = subst (λ (i : Inputs). HadCallsOf (record { plan = plan; inputs = i }) boxes) (given_made plan number packets end inputs are given) had
+-- they were run
+pub packets_ran : (report : Bool) (plan : Plan) (number : ℕ) (packets : Option Inputs) (output notes : Device SinkTold) (boxes : Device (List CalculatorTold)) (status : Status) (end : FeedEnd) (inputs : Inputs) → packets ≡ Some (generated_job plan number).inputs
+    → WereGiven packets (End end) inputs → CameBack plan boxes.before boxes.now → Wrote (by_summary report) (record { plan = plan; inputs = inputs }) end status output notes → HadCallsOf (record { plan = plan; inputs = inputs }) boxes
+    → OneMade report plan number status output notes boxes
+packets_ran report plan number packets output notes boxes status end inputs are given back wrote had =
+    subst (λ (e : FeedEnd). OneRun (by_summary report) (generated_job plan number) e status output notes boxes) (end_same end given.ended)
+    (subst (λ (i : Inputs). OneRun (by_summary report) (record { plan = plan; inputs = i }) end status output notes boxes) (given_made plan number packets (End end) inputs are given)
+    (one_run (by_summary report) (record { plan = plan; inputs = inputs }) end status output notes boxes back wrote had))
 
 -- Memory ran out --
 
 -- nothing was written
-pub front_unwritten : (sink : SinkTold) (job : Job) → FrontIn totals sink sink job
+front_unwritten : (sink : SinkTold) (job : Job) → FrontIn totals sink sink job
 front_unwritten sink job = λ streams solution. front-none sink (output_in totals job.plan streams)
 
-pub front_sums : (job : LoggedJob) (first now : SinkTold) → IsJob job.job → IsToldSome HasSums job.job first now ⊎ FrontIn totals first now job.job → FrontIn totals first now job.job
+front_sums : (job : LoggedJob) (first now : SinkTold) → IsJob job.job → IsToldSome HasSums job.job first now ⊎ FrontIn totals first now job.job → FrontIn totals first now job.job
 front_sums job first now is (inr front) = front
 front_sums job first now is (inl some) =
     let found = solved job is in
     let same = (some.is_told.told found.0 found.1.solution).unwritten in
     subst (λ (s : SinkTold). FrontIn totals first s job.job) (sym same) (front_unwritten first job.job)
 
--- a front of the summary was taken
-pub short_made : (plan : Plan) (number : ℕ) (devices : RunDevices) → IsJob (generated_job plan number) → FrontIn totals devices.output.before devices.output.now (generated_job plan number) → GeneratedSome plan number devices.output
-short_made plan number devices is front =
-    let found = solved (record { job = generated_job plan number; logs = [] }) is in
-    record { streams = found.0; solution = found.1.solution; front = front found.0 found.1.solution }
-
--- where none was written
-pub short_none : (plan : Plan) (number : ℕ) (devices : RunDevices) → IsJob (generated_job plan number) → devices.output.now ≡ devices.output.before → GeneratedSome plan number devices.output
-short_none plan number devices is same =
-    short_made plan number devices is (subst (λ (s : SinkTold). FrontIn totals devices.output.before s (generated_job plan number)) (sym same) (front_unwritten devices.output.before (generated_job plan number)))
-
-pub packets_short : (plan : Plan) (number : ℕ) (packets : Option Inputs) (devices : RunDevices) (end : BatchEnd) (inputs : Inputs) → packets ≡ Some (generated_job plan number).inputs → WereGiven packets end inputs
-    → IsJob (record { plan = plan; inputs = inputs }) → IsToldSome HasSums (record { plan = plan; inputs = inputs }) devices.output.before devices.output.now ⊎ FrontIn totals devices.output.before devices.output.now (record { plan = plan; inputs = inputs })
-    → GeneratedSome plan number devices.output
-packets_short plan number packets devices end inputs are given is front =
-    let same = given_made plan number packets end inputs are given in
-    short_made plan number devices (subst (λ (i : Inputs). IsJob (record { plan = plan; inputs = i })) same is)
-    (subst (λ (i : Inputs). FrontIn totals devices.output.before devices.output.now (record { plan = plan; inputs = i })) same (front_sums (logged plan inputs []) devices.output.before devices.output.now is front))
-
-pub packets_some : (plan : Plan) (number : ℕ) (packets : Option Inputs) (boxes now : List CalculatorTold) (net : NetView) (end : BatchEnd) (inputs : Inputs) → BoxesFit plan boxes → packets ≡ Some (generated_job plan number).inputs
-    → WereGiven packets end inputs → IsJob (record { plan = plan; inputs = inputs }) → StoodFor (logged plan inputs (logs_of boxes)) net → now ≡ given_back net → HadFronts (generated_job plan number) (device boxes now)
-packets_some plan number packets boxes now net end inputs fit are given is stood back =
-    subst (λ (i : Inputs). HadFronts (record { plan = plan; inputs = i }) (device boxes now)) (given_made plan number packets end inputs are given)
-    (fronts_now boxes now (logged plan inputs (logs_of boxes)) net fit refl stood is back)
+-- a front of the summary was taken, and each calculator had a front of its calls
+pub packets_short : (plan : Plan) (number : ℕ) (packets : Option Inputs) (output : Device SinkTold) (boxes now : List CalculatorTold) (net : NetView) (end : BatchEnd) (inputs : Inputs) → BoxesFit plan boxes → packets ≡ Some (generated_job plan number).inputs
+    → WereGiven packets end inputs → IsJob (record { plan = plan; inputs = inputs })
+    → IsToldSome HasSums (record { plan = plan; inputs = inputs }) output.before output.now ⊎ FrontIn totals output.before output.now (record { plan = plan; inputs = inputs })
+    → StoodFor (logged plan inputs (logs_of boxes)) net → now ≡ given_back net → CameBack plan boxes now → OneShort totals (generated_job plan number) output (device boxes now)
+packets_short plan number packets output boxes now net end inputs fit are given is front stood back came =
+    subst (λ (i : Inputs). OneShort totals (record { plan = plan; inputs = i }) output (device boxes now)) (given_made plan number packets end inputs are given)
+    (one_short totals (record { plan = plan; inputs = inputs }) output (device boxes now) came (fronts_now boxes now (logged plan inputs (logs_of boxes)) net fit refl stood is back)
+    (front_sums (logged plan inputs []) output.before output.now is front))

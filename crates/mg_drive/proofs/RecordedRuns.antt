@@ -11,7 +11,7 @@ use Rattle.mg_feed.specs.Graph.{inputs_of}
 use Rattle.mg_feed.specs.declared.feed_end.FeedEnd.{FeedEnd}
 use Rattle.mg_trace.specs.Job.{job_text}
 use Rattle.mg_trace.specs.Trace.{events_text, trace_text}
-use Rattle.mg_answer.specs.Answer.{Form, in_place, Read, Answer, Telling, by_lines, by_text, inputs_by, answer_of, failed_notes}
+use Rattle.mg_answer.specs.Answer.{Form, in_place, by_lines, by_text, inputs_by, answer_of, failed_notes}
 use Rattle.mg_answer.specs.Answer as answers
 use Rattle.mg_answer.specs.Devices.{Device, device, run_devices, Untouched, TookFront}
 use Rattle.mg_answer.specs.Put.{TextView, BlockView, HasPutIn}
@@ -43,7 +43,7 @@ use Rattle.mg_drive.specs.Code.Tracing.{plan_job, HasRecorded, HasRecordedSome, 
 use Rattle.mg_drive.proofs.Jobs.{valid_plan}
 use Rattle.mg_drive.proofs.RunsEnd.{had_of}
 use Rattle.mg_drive.proofs.BoxesBack.{logs_of, all_had_now}
-use Rattle.mg_drive.proofs.FrontsBack.{fronts_now}
+use Rattle.mg_drive.proofs.FrontsBack.{all_are_fronts, fronts_now}
 
 -- Events --
 
@@ -308,12 +308,15 @@ short_read plan inputs input end output notes boxes gathered j = by j.took
 
 pub some_read : (plan : Plan) (inputs : Inputs) (input : Device SourceTold) (end : FeedEnd) (output : Device SinkTold) (boxes now : List CalculatorTold) → BoxesFit plan boxes → IsJob (plan_job plan inputs) → Gathered (inputs_of plan) input end inputs
     → JobShort plan inputs output (device boxes now) → HadSome plan input (device boxes now)
-some_read plan inputs input end output boxes now fit is gathered j = inl (record {
+some_read plan inputs input end output boxes now fit is gathered j = inr (record {
   read = gathered.read;
   came = gathered.came;
   fronts = subst (λ (i : Inputs). HadFronts (plan_job plan i) (device boxes now)) gathered.given
       (fronts_now boxes now (logged plan inputs (logs_of boxes)) j.net fit refl j.stood is j.back);
 })
+
+pub all_are_some : (plan : Plan) (input : Device SourceTold) (boxes : Device (List CalculatorTold)) → HadCalls plan input boxes → HadSome plan input boxes
+all_are_some plan input boxes h = inr (record { read = h.read; came = h.came; fronts = all_are_fronts (answers.job_of plan h.read) boxes h.had })
 
 -- a text that was put whole, of which nothing is written yet
 pub opened : (sink : SinkTold) (blocks : BlockView) (text : List ℕ) → blocks ≡ record { kept = text; failed = false } → HasPutIn sink sink blocks text

@@ -1,5 +1,5 @@
 -- What a run leaves of the calculators that are handed in.
-use Rattle.std.specs.Prelude.{◌≡◌, ◌≢◌, ◌⊎◌, ℕ, ◌≤◌, List, ◌∷◌, ◌++◌, map, take, length, All, Bool, true, [], Some, IfSome, option_map, slice_get, if◌then◌else◌}
+use Rattle.std.specs.Prelude.{◌≡◌, ◌≢◌, ◌⊎◌, ℕ, ◌≤◌, List, ◌∷◌, ◌++◌, map, take, length, All, Bool, true, [], Some, option_map, slice_get, if◌then◌else◌}
 use Rattle.mg_value.specs.Payload.{Plain}
 use Rattle.mg_value.specs.Prefix.{StreamPrefix}
 use Rattle.mg_edge.specs.Edge.{SourceTold}
@@ -11,8 +11,8 @@ use Rattle.mg_calc.specs.Equations.{Job, IsSolution, outcome_of}
 use Rattle.mg_calc.specs.Meaning.{shown_sets, log_of}
 use Rattle.mg_calc.specs.Told.{CalculatorTold}
 use Rattle.mg_feed.specs.Graph.{inputs_of}
-use Rattle.mg_answer.specs.Answer.{Read, ended_input, job_of, generated_job}
-use Rattle.mg_answer.specs.Devices.{Device}
+use Rattle.mg_answer.specs.Answer.{Read, job_of}
+use Rattle.mg_answer.specs.Devices.{Device, Untouched}
 use Rattle.mg_answer.specs.Ran.{CameTo}
 use Rattle.mg_answer.specs.declared.status.Status.{Status}
 use Rattle.mg_answer.specs.declared.status.Status.TheVariants.{OutOfMemory}
@@ -75,21 +75,14 @@ pub record HadFrontsOfRead (plan : Plan) (input : Device SourceTold) (boxes : De
   pub came : CameTo (inputs_of plan) input read
   pub fronts : HadFronts (job_of plan read) boxes
 
--- Memory ran out: so it is over what the input came to; or, where the input tells its bytes, over an input that ends after them.
+-- Memory ran out: none had a call, or the input was read, and so it is over what it came to.
 abbrev pub HadSome : Plan → Device SourceTold → Device (List CalculatorTold) → Type 0
-HadSome plan input boxes = HadFrontsOfRead plan input boxes ⊎ IfSome input.before.left (λ bytes. HadFronts (job_of plan (ended_input (inputs_of plan) bytes)) boxes)
+HadSome plan input boxes = Untouched boxes ⊎ HadFrontsOfRead plan input boxes
 
--- All come back in their order. One that no node uses had no call. The others had all of theirs, and where memory ran out a front of
--- them, perhaps with Close behind it.
+-- What a recorded run leaves. All come back in their order. One that no node uses had no call. The others had all of theirs, and where
+-- memory ran out a front of them, perhaps with Close behind it.
 pub record RunLeaves (plan : Plan) (status : Status) (input : Device SourceTold) (boxes : Device (List CalculatorTold)) : Type 0 where
   pub count : length boxes.now ≡ length boxes.before
   pub unused : (place : ℕ) → All (λ node. ¬ (node.box_number ≡ Some place)) plan.nodes → slice_get boxes.now place ≡ slice_get boxes.before place
   pub used : status ≢ OutOfMemory → HadCalls plan input boxes
   pub short : status ≡ OutOfMemory → HadSome plan input boxes
-
--- What a run over packets that are made leaves.
-pub record GeneratedLeaves (plan : Plan) (number : ℕ) (status : Status) (boxes : Device (List CalculatorTold)) : Type 0 where
-  pub count : length boxes.now ≡ length boxes.before
-  pub unused : (place : ℕ) → All (λ node. ¬ (node.box_number ≡ Some place)) plan.nodes → slice_get boxes.now place ≡ slice_get boxes.before place
-  pub used : status ≢ OutOfMemory → HadCallsOf (generated_job plan number) boxes
-  pub short : status ≡ OutOfMemory → HadFronts (generated_job plan number) boxes

@@ -43,8 +43,8 @@ fn next_batch<N: Driven, B: Batches, S: Source>(
     Ok(batch.end)
 }
 
-// Takes the sets of the graph's outputs, as many as there are, and tells them.
-fn take_all<N: Driven, T: Telling, K: Sink>(
+/// Takes the sets of the graph's outputs, as many as there are, and tells them.
+pub fn take_all<N: Driven, T: Telling, K: Sink>(
     net: &mut N,
     set: &mut InputSet,
     telling: &mut T,

@@ -4,6 +4,7 @@ ghost use Rattle.mg_edge.specs.Edge.{SinkTold};
 ghost use Rattle.mg_calc.specs.Equations.{Job};
 ghost use Rattle.mg_node.specs.Job.{LoggedJob};
 ghost use Rattle.mg_answer.specs.Answer.{Form};
+ghost use Rattle.mg_answer.specs.Frozen.{WroteFrozen};
 ghost use Rattle.mg_answer.specs.Wrote.{Wrote};
 ghost use Rattle.mg_answer.specs.Devices.{device};
 ghost use Rattle.mg_sched.specs.StandsFor.{StandsFor};
@@ -12,7 +13,7 @@ ghost use Rattle.mg_drive.specs.Code.Running.{HasRested, SomeRested, FrontIn};
 ghost use Rattle.mg_drive.specs.Code.Ending.{IsWhole, told_end, TellsNet};
 
 use crate::Driven;
-use mg_answer::{Outcomes, OutputText, Run, Status, StreamEnd, conclude};
+use mg_answer::{Outcomes, OutputText, Run, Status, StreamEnd, conclude, conclude_frozen};
 use mg_edge::Sink;
 use mg_feed::FeedEnd;
 use std::alloc::{AllocError, Global};
@@ -39,6 +40,29 @@ pub fn finish<N: Driven, K: Sink, E: Sink>(
     let outcomes = outcomes_of(run.alloc, net)?;
     net.wind_up()?;
     let status = conclude(run, end, &outcomes, text, output, notes)?;
+    Ok(status)
+}
+
+/// The same for a run whose input was frozen.
+pub fn finish_frozen<N: Driven, K: Sink, E: Sink>(
+    run: &Run<'_>,
+    net: &mut N,
+    text: OutputText,
+    output: &mut K,
+    notes: &mut E,
+) -> Result<Status, AllocError>
+    requires rested { SomeRested run.now.plan.now (N.net net.old) }
+    ensures wrote { IfOk result (λ status. (form : Form) (job : LoggedJob) (first : SinkTold) → job.job.plan ≡ run.now.plan.now → StandsFor job (N.net net.old) → HasRested job (N.net net.old)
+        → IsWhole form first (K.told output.old) job.job text
+        → WroteFrozen (record { form = form; report = run.now.report }) job.job status (device first (K.told output.new)) (device (E.told notes.old) (E.told notes.new))) }
+    ensures front { OnErr result ((form : Form) (job : Job) (first : SinkTold) → IsWhole form first (K.told output.old) job text → FrontIn form first (K.told output.new) job) }
+    ensures unnoted { OnErr result (E.told notes.new ≡ E.told notes.old) }
+    ensures since { (N.net net.new ≡ N.net net.old) ⊎ WindsUpNet (N.net net.old) (N.net net.new) }
+    ensures wound { OnOk result (WindsUpNet (N.net net.old) (N.net net.new) × ((N.net net.new).wound ≡ length (N.net net.old).plan.nodes)) }
+{
+    let outcomes = outcomes_of(run.alloc, net)?;
+    net.wind_up()?;
+    let status = conclude_frozen(run, &outcomes, text, output, notes)?;
     Ok(status)
 }
 

@@ -1,5 +1,5 @@
 //! Runs over packet lines.
-ghost use Rattle.std.specs.Prelude.{◌≡◌, ◌↔◌, true, false, ℕ, List, [], map, IfOk, OnOk, OnErr};
+ghost use Rattle.std.specs.Prelude.{◌≡◌, ◌↔◌, true, false, ℕ, List, [], map, IfOk, OnErr};
 ghost use Rattle.mg_edge.specs.Edge.{SourceTold};
 ghost use Rattle.mg_calc.specs.declared.plan.Plan.{Plan};
 ghost use Rattle.mg_calc.specs.Plan.{IsValid};
@@ -8,10 +8,8 @@ ghost use Rattle.mg_answer.specs.Text.{output_names};
 ghost use Rattle.mg_answer.specs.Put.{nothing_put};
 ghost use Rattle.mg_answer.specs.Devices.{device};
 ghost use Rattle.mg_answer.specs.Held.{told_by, SameDevices};
-ghost use Rattle.mg_answer.specs.Ran.{RanOn, RanShortOf};
 ghost use Rattle.mg_sched.specs.Made.{BoxesFit};
-ghost use Rattle.mg_drive.specs.Leaves.{HadCalls, HadSome, RunLeaves};
-ghost use Rattle.mg_drive.specs.Code.Ending.{CameBack};
+ghost use Rattle.mg_drive.specs.OneRun.{OneReading, ShortIn, RanOverLines};
 ghost use Rattle.mg_drive.specs.Code.Lines.{has_ended as the_end, HadMemory, IsRead, HasBatch, IsNew, LinesGave, lines_left};
 
 use crate::{Batch, Batches, Crew, run_batches};
@@ -97,11 +95,8 @@ pub fn run_lines<
     requires valid { IsValid run.now.plan.now }
     requires boxes { BoxesFit run.now.plan.now (map C.told boxes.old.items) }
 
-    // What each status means: the answer's, unless a write failed or memory ran out.
-    ensures ran { RanOn run.now.report run.now.plan.now result (told_by S.told K.told E.told devices.old devices.new) }
-
-    // What it leaves of the calculators.
-    ensures left { RunLeaves run.now.plan.now result (told_by S.told K.told E.told devices.old devices.new).input (device (map C.told boxes.old.items) (map C.told boxes.new.items)) }
+    // There are one reading of the input, one job and one solution, and all that is seen is theirs; or memory ran out.
+    ensures ran { RanOverLines run.now.report run.now.plan.now result (told_by S.told K.told E.told devices.old devices.new) (device (map C.told boxes.old.items) (map C.told boxes.new.items)) }
     ensures same { SameDevices devices.old devices.new }
 {
     match run_whole(run, crew, boxes, devices) {
@@ -129,12 +124,9 @@ fn run_whole<
 ) -> Result<Status, AllocError>
     requires valid { IsValid run.now.plan.now }
     requires boxes { BoxesFit run.now.plan.now (map C.told boxes.old.items) }
-    ensures ran { IfOk result (λ status. RanOn run.now.report run.now.plan.now status (told_by S.told K.told E.told devices.old devices.new)) }
-    ensures short { OnErr result (RanShortOf run.now.plan.now (told_by S.told K.told E.told devices.old devices.new)) }
+    ensures ran { IfOk result (λ status. OneReading run.now.report run.now.plan.now status (told_by S.told K.told E.told devices.old devices.new) (device (map C.told boxes.old.items) (map C.told boxes.new.items))) }
+    ensures short { OnErr result (ShortIn run.now.plan.now (told_by S.told K.told E.told devices.old devices.new).input (told_by S.told K.told E.told devices.old devices.new).output (device (map C.told boxes.old.items) (map C.told boxes.new.items))) }
     ensures unnoted { OnErr result (E.told devices.new.notes.now ≡ E.told devices.old.notes.now) }
-    ensures used { OnOk result (HadCalls run.now.plan.now (told_by S.told K.told E.told devices.old devices.new).input (device (map C.told boxes.old.items) (map C.told boxes.new.items))) }
-    ensures fronts { OnErr result (HadSome run.now.plan.now (told_by S.told K.told E.told devices.old devices.new).input (device (map C.told boxes.old.items) (map C.told boxes.new.items))) }
-    ensures back { CameBack run.now.plan.now (map C.told boxes.old.items) (map C.told boxes.new.items) }
     ensures same { SameDevices devices.old devices.new }
 {
     let ends = ends_of(run)?;

@@ -1,5 +1,5 @@
 //! Runs over packets that are made.
-ghost use Rattle.std.specs.Prelude.{◌≡◌, [], false, map, Some, IfOk, OnOk, OnErr};
+ghost use Rattle.std.specs.Prelude.{◌≡◌, [], false, map, Some, IfOk, OnErr};
 ghost use Rattle.mg_edge.specs.Edge.{SourceTold};
 ghost use Rattle.mg_calc.specs.Plan.{IsValid};
 ghost use Rattle.mg_answer.specs.Text.{output_names};
@@ -7,10 +7,8 @@ ghost use Rattle.mg_answer.specs.Summary.{HasSummed};
 ghost use Rattle.mg_answer.specs.Answer.{generated_job};
 ghost use Rattle.mg_answer.specs.Devices.{device};
 ghost use Rattle.mg_answer.specs.Held.{told_by, SameDevices};
-ghost use Rattle.mg_answer.specs.Ran.{RanGenerated, GeneratedSome};
 ghost use Rattle.mg_sched.specs.Made.{BoxesFit};
-ghost use Rattle.mg_drive.specs.Leaves.{HadCallsOf, HadFronts, GeneratedLeaves};
-ghost use Rattle.mg_drive.specs.Code.Ending.{CameBack};
+ghost use Rattle.mg_drive.specs.OneRun.{OneMade, ShortInMade, RanOverPackets};
 ghost use Rattle.mg_drive.specs.Code.Packets.{AreWaiting, WereGiven};
 
 use crate::{Batch, Batches, Crew, run_batches};
@@ -72,12 +70,9 @@ pub fn run_made<
     requires valid { IsValid run.now.plan.now }
     requires boxes { BoxesFit run.now.plan.now (map C.told boxes.old.items) }
 
-    // What each status means: the answer's, unless a write failed or memory ran out. No input has a part in it.
-    ensures ran { RanGenerated run.now.report run.now.plan.now number result (told_by S.told K.told E.told devices.old devices.new) }
+    // There are one job and one solution, and all that is seen is theirs; or memory ran out. No input has a part in it.
+    ensures ran { RanOverPackets run.now.report run.now.plan.now number result (told_by S.told K.told E.told devices.old devices.new).output (told_by S.told K.told E.told devices.old devices.new).notes (device (map C.told boxes.old.items) (map C.told boxes.new.items)) }
     ensures unread { S.told devices.new.input.now ≡ S.told devices.old.input.now }
-
-    // What it leaves of the calculators.
-    ensures left { GeneratedLeaves run.now.plan.now number result (device (map C.told boxes.old.items) (map C.told boxes.new.items)) }
     ensures same { SameDevices devices.old devices.new }
 {
     match run_whole(run, number, crew, boxes, devices) {
@@ -106,12 +101,9 @@ fn run_whole<
 ) -> Result<Status, AllocError>
     requires valid { IsValid run.now.plan.now }
     requires boxes { BoxesFit run.now.plan.now (map C.told boxes.old.items) }
-    ensures ran { IfOk result (λ status. RanGenerated run.now.report run.now.plan.now number status (told_by S.told K.told E.told devices.old devices.new)) }
-    ensures short { OnErr result (GeneratedSome run.now.plan.now number (told_by S.told K.told E.told devices.old devices.new).output) }
+    ensures ran { IfOk result (λ status. OneMade run.now.report run.now.plan.now number status (told_by S.told K.told E.told devices.old devices.new).output (told_by S.told K.told E.told devices.old devices.new).notes (device (map C.told boxes.old.items) (map C.told boxes.new.items))) }
+    ensures short { OnErr result (ShortInMade run.now.plan.now number (told_by S.told K.told E.told devices.old devices.new).output (device (map C.told boxes.old.items) (map C.told boxes.new.items))) }
     ensures unnoted { OnErr result (E.told devices.new.notes.now ≡ E.told devices.old.notes.now) }
-    ensures used { OnOk result (HadCallsOf (generated_job run.now.plan.now number) (device (map C.told boxes.old.items) (map C.told boxes.new.items))) }
-    ensures fronts { OnErr result (HadFronts (generated_job run.now.plan.now number) (device (map C.told boxes.old.items) (map C.told boxes.new.items))) }
-    ensures back { CameBack run.now.plan.now (map C.told boxes.old.items) (map C.told boxes.new.items) }
     ensures unread { S.told devices.new.input.now ≡ S.told devices.old.input.now }
     ensures same { SameDevices devices.old devices.new }
 {

@@ -3,5 +3,7 @@ pub mod Opening
 pub mod Replay
 pub mod Reading
 pub mod Note
+pub mod Leaves
+pub mod Replayed
 -- What only the code's own functions say to one another. Nothing above rests on it.
 pub mod Code

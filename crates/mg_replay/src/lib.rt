@@ -6,9 +6,11 @@ mod events;
 mod noting;
 mod opening;
 mod packets;
+mod replaying;
 mod trace_end;
 
 pub use events::replay_events;
 pub use noting::note_end;
 pub use opening::{Opened, read_job};
+pub use replaying::replay_lines;
 pub use trace_end::{TraceEnd, TraceFault};

@@ -4,8 +4,7 @@ ghost use Rattle.mg_answer.specs.Devices.{device};
 ghost use Rattle.mg_replay.specs.Note.{trace_note, trace_status, WroteNote};
 
 use crate::{TraceEnd, TraceFault};
-use itoa::Buffer;
-use mg_answer::{Status, put_end};
+use mg_answer::{Status, put_end, put_number};
 use mg_edge::Sink;
 use mg_feed::{FeedEnd, put_all};
 use std::alloc::{AllocError, Global};
@@ -70,12 +69,4 @@ fn put_word(text: &mut Vec<u8>, line: u64, word: &[u8]) -> Result<(), AllocError
     text.extend_from_slice(b": ")?;
     text.extend_from_slice(word)?;
     text.extend_from_slice(b"\n")
-}
-
-// Puts a number's digits at a text's end.
-fn put_number(text: &mut Vec<u8>, number: u64) -> Result<(), AllocError>
-    ensures { OnOk result (text.new.items ≡ text.old.items ++ decimal number) }
-{
-    let mut digits = Buffer::new();
-    text.extend_from_slice(digits.format(number).as_bytes())
 }

@@ -1,33 +1,27 @@
 -- What a call came to.
-use Rattle.std.proofs.Common.{◌≡◌, ◌≢◌, ℕ, List, [], ◌∷◌, Bool, Option, None, Some, IfSome, ◌⊎◌, inl, inr, refl, ap, ◌∙◌, subst, arith}
+use Rattle.std.proofs.Common.{◌≡◌, ◌≢◌, ℕ, List, [], Bool, Option, None, Some, IfSome, ◌⊎◌, inl, inr, refl, ap, ◌∙◌, subst, arith}
 use Rattle.mg_edge.specs.Edge.{SourceTold, SinkTold, StoreTold, Rose, one_more}
 use Rattle.mg_calc.specs.Told.{CalculatorTold}
 use Rattle.mg_edge.proofs.Runs.{TookAll-start}
-use Rattle.mg_run.proofs.Together.{one-reading}
+use Rattle.mg_run.proofs.Readings.{no-status, lines-no-store, lines-no-usage, packets-no-store, packets-no-usage, lines-noted, packets-noted, lines-answered, packets-answered}
 use Rattle.mg_run.proofs.Loading.{of-loads}
 use Rattle.mg_run.specs.Task.{Task}
 use Rattle.mg_run.specs.Files.{Files, AreFiles}
-use Rattle.mg_run.specs.Loads.{AreLoaded, LoadedAll, loads_of}
+use Rattle.mg_run.specs.Loads.{LoadedAll}
 use Rattle.mg_calc.specs.declared.plan.Plan.{Plan}
 use Rattle.mg_answer.specs.Answer as answers
-use Rattle.mg_answer.specs.Told.{status_of}
 use Rattle.mg_calc.specs.Meaning.{faults, stalled}
-use Rattle.mg_calc.specs.declared.node_fault.NodeFault.{NodeFault as Fault}
-use Rattle.mg_feed.specs.declared.feed_end.FeedEnd.{FeedEnd}
-use Rattle.mg_feed.specs.declared.feed_end.FeedEnd.TheVariants.{Ended, Failed, Refused, OutOfMemory as no_lines}
-use Rattle.mg_answer.specs.Text.{output_of}
 use Rattle.mg_answer.specs.Notes.{memory_note}
 use Rattle.mg_answer.specs.Devices as running_devices
 use Rattle.mg_answer.specs.Ran as running
 use Rattle.mg_answer.proofs.Answering.{ran-answered}
-use Rattle.mg_answer.proofs.RunningOn.{on-answered}
-use Rattle.mg_answer.proofs.Generating.{generated-answered}
 use Rattle.mg_drive.specs.Traced.{TracedAll}
 use Rattle.mg_drive.proofs.TracesRan.{traced_told, traced_answered}
-use Rattle.mg_run.specs.Answer.{Answer, Job, refuse, show, run_plan, solve, generate, trace, job_of}
-use Rattle.mg_run.specs.Devices.{Device, device, Devices, devices, run_of, Untouched, Unrisen, NoneFailed, TookFront, TookText, Noted}
+use Rattle.mg_replay.proofs.Answered.{replayed_otherwise, replayed_answered}
+use Rattle.mg_run.specs.Answer.{Answer, Job, refuse, show, run_plan, solve, generate, trace, replay, job_of}
+use Rattle.mg_run.specs.Devices.{Device, device, Devices, devices, run_of, Untouched, Unrisen, NoneFailed, TookText, Noted}
 use Rattle.mg_answer.specs.Wrote.{Meets}
-use Rattle.mg_run.specs.Call.{Written, WasShown, Did, IsJob, CallDid, Short, ShortRun, ShortGenerated, CallShort, Called, MetAnswer, IsAnswered}
+use Rattle.mg_run.specs.Call.{Written, WasShown, Did, IsJob, CallDid, CallShort, Called, MetAnswer, IsAnswered}
 use Rattle.mg_answer.specs.declared.status.Status.{Status}
 use Rattle.mg_answer.specs.declared.status.Status.TheVariants.{Good, StoreFault, Usage, GraphRefused, LineRefused, NodeFault, Stalled, ReadFault, WriteFault, OutOfMemory}
 
@@ -40,33 +34,9 @@ if-any : {X : Type 0} (o : Option X) (P : X → Type 0) → ((x : X) → P x) �
 if-any None P all = tt
 if-any (Some x) P all = all x
 
-front-none : (output : SinkTold) (text : List ℕ) → TookFront (device output output) text
-front-none output text = ([], (text, refl), TookAll-start output.taken)
-
--- nothing was written of a job
-short-none : (job : Job) (store : Device StoreTold) (input : Device SourceTold) (output : SinkTold) (notes : Device SinkTold) (boxes : Device (List CalculatorTold))
-    → Short job (devices store input (device output output) notes boxes)
-short-none (refuse note) store input output notes boxes = front-none output []
-short-none (show text) store input output notes boxes = front-none output text
-short-none (run_plan report plan) store input output notes boxes =
-    inr (if-any input.before.left _ (λ bytes streams solution. front-none output (output_of plan streams)))
-short-none (solve report plan) store input output notes boxes = inl refl
-short-none (generate report number plan) store input output notes boxes = inl refl
-short-none (trace report plan) store input output notes boxes = inl refl
-
-pub short-nothing : (task : Task) (store : Device StoreTold) (input : Device SourceTold) (output : SinkTold) (notes : Device SinkTold) (boxes : List CalculatorTold)
-    → Noted notes memory_note → CallShort task (devices store input (device output output) notes (device boxes boxes))
-short-nothing task store input output notes boxes noted = record {
-  noted = noted;
-  front = if-any (loads_of store.before.content task.files) _ (λ contents files are. short-none (job_of task files) store input output notes (device boxes boxes));
-  called = inl refl;
-}
-
--- what files of these contents are doesn't matter: there is one job
-short-files : (task : Task) (contents : List (List ℕ)) (job : Job) (all : Devices) → IsJob task contents job → Short job all
-    → (files : Files) → AreFiles task.files contents files → Short (job_of task files) all
-short-files task contents job all (files, are, same) took =
-    λ other other_are. subst (λ (j : Job). Short j all) (same ∙ ap (job_of task) (one-reading task.files contents files other are other_are)) took
+pub short-nothing : (task : Task) (store : Device StoreTold) (input : SourceTold) (output : SinkTold) (notes : Device SinkTold) (boxes : List CalculatorTold)
+    → Noted notes memory_note → CallShort task (devices store (device input input) (device output output) notes (device boxes boxes))
+short-nothing task store input output notes boxes noted = record { noted = noted; by = inl (record { unread = refl; unwritten = refl; uncalled = refl }) }
 
 -- The statuses of what was done.
 not-shown : (text : List ℕ) (status : Status) (all : Devices) → status ≢ Good → status ≢ WriteFault → WasShown text status all → ⊥
@@ -76,28 +46,9 @@ not-shown text status all not_good not_failed shown = by shown.written
     by (inl good) = not_good good.0
     by (inr failed) = not_failed failed.0
 
--- no run ends so: its status is one that is told of an input, or a write failed, or memory ran out
-no-status : (status : Status) (end : FeedEnd) (fs : List Fault) (ns : List ℕ) → (status ≡ StoreFault) ⊎ (status ≡ Usage) → status ≡ status_of end fs ns → ⊥
-no-status status Ended [] [] (inl store) is = cc
-no-status status Ended [] (n ∷ ns) (inl store) is = cc
-no-status status Ended (f ∷ fs) ns (inl store) is = cc
-no-status status (Failed lines) fs ns (inl store) is = cc
-no-status status (Refused line cause) fs ns (inl store) is = cc
-no-status status no_lines fs ns (inl store) is = cc
-no-status status Ended [] [] (inr usage) is = cc
-no-status status Ended [] (n ∷ ns) (inr usage) is = cc
-no-status status Ended (f ∷ fs) ns (inr usage) is = cc
-no-status status (Failed lines) fs ns (inr usage) is = cc
-no-status status (Refused line cause) fs ns (inr usage) is = cc
-no-status status no_lines fs ns (inr usage) is = cc
-
 not-ran : (report : Bool) (plan : Plan) (status : Status) (all : running_devices.RunDevices) → (status ≡ StoreFault) ⊎ (status ≡ Usage) → running.RanAll report plan status all → ⊥
 not-ran report plan status all other ran =
     no-status status ran.read.end (faults (answers.job_of plan ran.read) ran.is.streams) (stalled ran.is.streams) other (ran.met.told ∙ ap (λ (a : Answer). a.status) ran.is.is)
-
-not-generated : (report : Bool) (plan : Plan) (number : ℕ) (status : Status) (all : running_devices.RunDevices) → (status ≡ StoreFault) ⊎ (status ≡ Usage) → running.GeneratedAll report plan number status all → ⊥
-not-generated report plan number status all other ran =
-    no-status status Ended (faults (answers.generated_job plan number) ran.is.streams) (stalled ran.is.streams) other (ran.met.told ∙ ap (λ (a : Answer). a.status) ran.is.is)
 
 not-traced : (report : Bool) (plan : Plan) (boxes : List CalculatorTold) (status : Status) (all : running_devices.RunDevices) → (status ≡ StoreFault) ⊎ (status ≡ Usage) → TracedAll report plan boxes status all → ⊥
 not-traced report plan boxes status all other ran =
@@ -107,29 +58,20 @@ not-traced report plan boxes status all other ran =
 did-store : (job : Job) (all : Devices) → Did job StoreFault all → ⊥
 did-store (refuse note) all did = let e = did.ended in cc
 did-store (show text) all did = not-shown text StoreFault all (λ e. cc) (λ e. cc) did
-did-store (run_plan report plan) all did = not-ran report plan StoreFault (run_of all) (inl refl) did.ran
+did-store (run_plan report plan) all did = lines-no-store report plan (run_of all) all.boxes did
 did-store (solve report plan) all did = not-ran report plan StoreFault (run_of all) (inl refl) did.ran
-did-store (generate report number plan) all did = not-generated report plan number StoreFault (run_of all) (inl refl) did.ran
+did-store (generate report number plan) all did = packets-no-store report plan number all.output all.notes all.boxes did.ran
 did-store (trace report plan) all did = not-traced report plan all.boxes.before StoreFault (run_of all) (inl refl) did.ran
+did-store (replay report plan) all did = replayed_otherwise StoreFault report plan (run_of all) all.boxes (inl refl) did.replayed
 
 did-usage : (job : Job) (all : Devices) → Did job Usage all → ⊥
 did-usage (refuse note) all did = let e = did.ended in cc
 did-usage (show text) all did = not-shown text Usage all (λ e. cc) (λ e. cc) did
-did-usage (run_plan report plan) all did = not-ran report plan Usage (run_of all) (inr refl) did.ran
+did-usage (run_plan report plan) all did = lines-no-usage report plan (run_of all) all.boxes did
 did-usage (solve report plan) all did = not-ran report plan Usage (run_of all) (inr refl) did.ran
-did-usage (generate report number plan) all did = not-generated report plan number Usage (run_of all) (inr refl) did.ran
+did-usage (generate report number plan) all did = packets-no-usage report plan number all.output all.notes all.boxes did.ran
 did-usage (trace report plan) all did = not-traced report plan all.boxes.before Usage (run_of all) (inr refl) did.ran
-
-did-short : (job : Job) (all : Devices) → Did job OutOfMemory all → Short job all
-did-short (refuse note) all did = let e = did.ended in absurd (differ e)
-  where
-    differ : OutOfMemory ≡ GraphRefused → ⊥
-    differ e = cc
-did-short (show text) all did = absurd (not-shown text OutOfMemory all (λ e. cc) (λ e. cc) did)
-did-short (run_plan report plan) all did = did.ran.0
-did-short (solve report plan) all did = did.ran.0
-did-short (generate report number plan) all did = inr did.ran.0
-did-short (trace report plan) all did = did.ran.0
+did-usage (replay report plan) all did = replayed_otherwise Usage report plan (run_of all) all.boxes (inr refl) did.replayed
 
 did-noted : (job : Job) (all : Devices) → Did job OutOfMemory all → Noted all.notes memory_note
 did-noted (refuse note) all did = let e = did.ended in absurd (differ e)
@@ -137,52 +79,11 @@ did-noted (refuse note) all did = let e = did.ended in absurd (differ e)
     differ : OutOfMemory ≡ GraphRefused → ⊥
     differ e = cc
 did-noted (show text) all did = absurd (not-shown text OutOfMemory all (λ e. cc) (λ e. cc) did)
-did-noted (run_plan report plan) all did = did.ran.1
+did-noted (run_plan report plan) all did = lines-noted report plan (run_of all) all.boxes did
 did-noted (solve report plan) all did = did.ran.1
-did-noted (generate report number plan) all did = did.ran.1
+did-noted (generate report number plan) all did = packets-noted report plan number all.output all.notes all.boxes did.ran
 did-noted (trace report plan) all did = did.ran.1
-
--- what is left of the calculators that are handed in
-short-boxes : (job : Job) (task : Task) (contents : List (List ℕ)) (all : Devices) → LoadedAll task.files contents all.store → IsJob task contents job → Did job OutOfMemory all
-    → Untouched all.boxes ⊎ (ShortRun task all ⊎ ShortGenerated task all)
-short-boxes (refuse note) task contents all loaded due did = inl did.uncalled
-short-boxes (show text) task contents all loaded due did = inl did.uncalled
-short-boxes (solve report plan) task contents all loaded due did = inl did.uncalled
-short-boxes (run_plan report plan) task contents all loaded due did = inr (inl (record {
-  contents = contents;
-  loaded = loaded;
-  report = report;
-  plan = plan;
-  due = inl due;
-  left = did.left;
-}))
-short-boxes (trace report plan) task contents all loaded due did = inr (inl (record {
-  contents = contents;
-  loaded = loaded;
-  report = report;
-  plan = plan;
-  due = inr due;
-  left = did.left;
-}))
-short-boxes (generate report number plan) task contents all loaded due did = inr (inr (record {
-  contents = contents;
-  loaded = loaded;
-  report = report;
-  number = number;
-  plan = plan;
-  due = due;
-  left = did.left;
-}))
-
-call-short : (job : Job) (task : Task) (contents : List (List ℕ)) (all : Devices) → AreLoaded all.store.before.content task.files contents → IsJob task contents job
-    → LoadedAll task.files contents all.store → Did job OutOfMemory all → CallShort task all
-call-short job task contents all given due loaded did = record {
-  noted = did-noted job all did;
-  front = of-loads all.store.before.content task.files contents
-      (λ known. (files : Files) → AreFiles task.files known files → Short (job_of task files) all)
-      given (short-files task contents job all due (did-short job all did));
-  called = short-boxes job task contents all loaded due did;
-}
+did-noted (replay report plan) all did = did.replayed.1
 
 pub called-did : (job : Job) (status : Status) (task : Task) (contents : List (List ℕ)) (all : Devices)
     → LoadedAll task.files contents all.store → IsJob task contents job → Did job status all → Called status task all
@@ -195,7 +96,8 @@ called-did job NodeFault task contents all loaded due did = record { contents = 
 called-did job Stalled task contents all loaded due did = record { contents = contents; loaded = loaded; job = job; due = due; did = did }
 called-did job ReadFault task contents all loaded due did = record { contents = contents; loaded = loaded; job = job; due = due; did = did }
 called-did job WriteFault task contents all loaded due did = record { contents = contents; loaded = loaded; job = job; due = due; did = did }
-called-did job OutOfMemory task contents all loaded due did = call-short job task contents all loaded.given due loaded did
+called-did job OutOfMemory task contents all loaded due did =
+    record { noted = did-noted job all did; by = inr (record { contents = contents; loaded = loaded; job = job; due = due; did = did }) }
 
 -- What follows --
 
@@ -234,14 +136,16 @@ did-answer (refuse note) status all did none some =
 did-answer (show text) status all did none some =
     if-any all.input.before.left (λ r. MetAnswer (show text) r status all) (λ r. (show_answer text, refl, shown-answer text status all did none))
 did-answer (run_plan report plan) status all did none some =
-    on-answered report plan status (run_of all) did.ran (none-run all none) some
+    lines-answered report plan status (run_of all) all.boxes did (none-run all none) some
 did-answer (solve report plan) status all did none some =
     ran-answered report plan status (run_of all) did.ran (none-run all none) some
 did-answer (generate report number plan) status all did none some =
     if-any all.input.before.left (λ r. MetAnswer (generate report number plan) r status all)
-    (λ r. generated-answered report plan number status (run_of all) did.ran none.output none.notes some)
+    (λ r. packets-answered report plan number status (run_of all) all.boxes did.ran (none-run all none) some)
 did-answer (trace report plan) status all did none some =
     traced_answered report plan all.boxes.before status (run_of all) did.ran (none-run all none) some
+did-answer (replay report plan) status all did none some =
+    replayed_answered report plan status (run_of all) all.boxes did.replayed (none-run all none) some
 
 -- The answer of the job is that of the files' bytes and the input's.
 job-answered : (task : Task) (contents : List (List ℕ)) (status : Status) (job : Job) (input : Option (List ℕ)) (all : Devices) → IsJob task contents job

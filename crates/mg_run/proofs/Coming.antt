@@ -1,5 +1,5 @@
 -- What a call came to, by what its words ask for.
-use Rattle.std.proofs.Common.{codes, Option, None, Some, ◌≡◌, ◌≢◌, ◌↔◌, ◌⊎◌, inl, inr, refl, sym, ap, ◌∙◌, subst, ℕ, Bool, true, false, List, [], ◌∷◌, map, length, Result, Ok, Err, IfSome}
+use Rattle.std.proofs.Common.{Option, ◌≡◌, ◌≢◌, ◌↔◌, ◌⊎◌, inl, inr, refl, sym, ap, ◌∙◌, subst, ℕ, Bool, true, false, List, [], ◌∷◌, map, length, Result, Ok, Err, IfSome}
 use Rattle.std.proofs.lemmas.Bool.{false≢true}
 use Rattle.mg_subgraph.proofs.Steps.{length-map}
 use Rattle.mg_config.specs.Config.{GraphView}
@@ -13,21 +13,25 @@ use Rattle.mg_calc.specs.declared.shape.OuterShape.{OuterShape}
 use Rattle.mg_calc.specs.Told.{CalculatorTold}
 use Rattle.mg_run.specs.Task.{Task, task}
 use Rattle.mg_run.specs.Files.{Files, graphs, no_graphs}
-use Rattle.mg_run.specs.Answer.{Job, refuse, show, run_plan, solve, generate, trace, solve_job, check_job, verb_job, expanded_job, files_job, free_refusal, unless_refused}
-use Rattle.mg_run.specs.Words.{Asked, asks_usage, asks_text, asks_command, command_by}
-use Rattle.mg_run.specs.Devices.{Device, device, Devices, devices, Untouched, HasEnded, HasRisen, NoneFailed, Noted}
+use Rattle.mg_run.specs.Answer.{Job, refuse, show, run_plan, solve, generate, trace, replay, check_job, way_job, verb_job, expanded_job, files_job}
+use Rattle.mg_words.specs.Words.{Asked, asks_usage, asks_text, asks_command, command_by}
+use Rattle.mg_run.specs.Devices.{Device, device, Devices, devices, run_of, Untouched, HasEnded, HasRisen, NoneFailed, Noted}
 use Rattle.mg_answer.specs.Notes.{memory_note}
 use Rattle.mg_answer.proofs.Answering.{noted-from}
-use Rattle.mg_run.specs.Notes.{usage_note}
-use Rattle.mg_run.specs.Call.{Written, WasUsage, WasTold, Did, IsJob, CallDid, ShortRun, ShortGenerated, Came, Called, IsAnswered, IsOneOf}
-use Rattle.mg_run.specs.Command.{Command, reads_input, calls_boxes}
-use Rattle.mg_run.specs.declared.words.Order.{Order}
-use Rattle.mg_run.specs.declared.words.Verb.{Verb}
-use Rattle.mg_run.specs.declared.words.Verb.TheVariants.{Run, Solve, Check, Expand, Generate, Trace}
+use Rattle.mg_words.specs.Help.{usage_note}
+use Rattle.mg_run.specs.Call.{Written, WasUsage, WasTold, Did, IsJob, CallDid, DidNothing, Came, Called, IsAnswered, IsOneOf}
+use Rattle.mg_words.specs.Command.{Command, reads_input, calls_boxes}
+use Rattle.mg_words.specs.declared.words.Order.{Order}
+use Rattle.mg_words.specs.declared.words.Verb.{Verb}
+use Rattle.mg_words.specs.declared.words.Verb.TheVariants.{Check, Expand, Use}
+use Rattle.mg_words.specs.declared.words.Way.{Way}
+use Rattle.mg_words.specs.declared.words.Way.TheVariants.{Run, Solve, Generate, Trace, Replay}
 use Rattle.mg_answer.specs.declared.status.Status.{Status}
 use Rattle.mg_answer.specs.declared.status.Status.TheVariants.{Good, StoreFault, Usage, GraphRefused, LineRefused, NodeFault, Stalled, ReadFault, WriteFault, OutOfMemory}
 use Rattle.mg_feed.specs.Sent.{Sent}
+use Rattle.mg_run.proofs.Readings.{lines-boxes, packets-boxes}
 use Rattle.mg_run.proofs.Calling.{short-nothing, answered-from}
+use Rattle.mg_run.proofs.Planned.{planned}
 use Rattle.mg_run.proofs.Ending.{ended_statuses, called-ended}
 use Rattle.mg_run.proofs.Risen.{store-risen, read-risen, write-risen, risen-steady}
 
@@ -36,7 +40,7 @@ pub came-nothing : (outers : List OuterShape) (asked : Asked) (store : StoreTold
     → Came outers asked OutOfMemory (devices (device store store) (device input input) (device output output) notes (device boxes boxes))
 came-nothing outers asks_usage store input output notes boxes noted = record { noted = inr (refl, noted); unloaded = refl; unread = refl; unwritten = refl; uncalled = refl }
 came-nothing outers (asks_text text) store input output notes boxes noted = record { written = inr (refl, refl, noted); unloaded = refl; unread = refl; uncalled = refl }
-came-nothing outers (asks_command command) store input output notes boxes noted = short-nothing (task command outers) (device store store) (device input input) output notes boxes noted
+came-nothing outers (asks_command command) store input output notes boxes noted = short-nothing (task command outers) (device store store) input output notes boxes noted
 
 -- The words were no command, and the note says so.
 pub usage-came : (outers : List OuterShape) (asked : Asked) (all : Devices) (done : Bool) → asked ≡ asks_usage → Sent done all.notes.before all.notes.now usage_note
@@ -175,20 +179,20 @@ came-noted outers asked status all came is = noted-by outers asked all (subst (�
 did-boxes : (job : Job) (status : Status) (all : Devices) → Did job status all → length all.boxes.now ≡ length all.boxes.before
 did-boxes (refuse note) status all did = ap length did.uncalled
 did-boxes (show text) status all did = ap length did.uncalled
-did-boxes (run_plan report plan) status all did = did.left.count
+did-boxes (run_plan report plan) status all did = lines-boxes report plan status (run_of all) all.boxes did
 did-boxes (solve report plan) status all did = ap length did.uncalled
-did-boxes (generate report number plan) status all did = did.left.count
+did-boxes (generate report number plan) status all did = packets-boxes report plan number status all.output all.notes all.boxes did.ran
 did-boxes (trace report plan) status all did = did.left.count
+did-boxes (replay report plan) status all did = did.left.count
 
-short-boxes : (task : Task) (all : Devices) → Untouched all.boxes ⊎ (ShortRun task all ⊎ ShortGenerated task all) → length all.boxes.now ≡ length all.boxes.before
-short-boxes task all (inl untouched) = ap length untouched
-short-boxes task all (inr (inl short)) = short.left.count
-short-boxes task all (inr (inr short)) = short.left.count
+short-boxes : (task : Task) (all : Devices) → DidNothing all ⊎ CallDid OutOfMemory task all → length all.boxes.now ≡ length all.boxes.before
+short-boxes task all (inl nothing) = ap length nothing.uncalled
+short-boxes task all (inr called) = did-boxes called.job OutOfMemory all called.did
 
 called-boxes : (status : Status) (task : Task) (all : Devices) → Called status task all → length all.boxes.now ≡ length all.boxes.before
 called-boxes StoreFault task all called = ap length called.uncalled
 called-boxes Usage task all called = elim called [ ]
-called-boxes OutOfMemory task all called = short-boxes task all called.called
+called-boxes OutOfMemory task all called = short-boxes task all called.by
 called-boxes Good task all called = did-boxes called.job Good all called.did
 called-boxes GraphRefused task all called = did-boxes called.job GraphRefused all called.did
 called-boxes LineRefused task all called = did-boxes called.job LineRefused all called.did
@@ -214,26 +218,24 @@ IsRun (run_plan report plan) = Unit {0}
 IsRun (solve report plan) = ⊥
 IsRun (generate report number plan) = Unit {0}
 IsRun (trace report plan) = Unit {0}
+IsRun (replay report plan) = Unit {0}
 
 check-no-run : (checked : Result Plan CheckFault) → IsRun (check_job checked) → ⊥
 check-no-run (Ok plan) runs = runs
 check-no-run (Err fault) runs = runs
 
-solve-no-run : (report : Bool) (checked : Result Plan CheckFault) → IsRun (solve_job report checked) → ⊥
-solve-no-run report (Ok plan) runs = by (free_refusal (codes "solve") plan) runs
-  where
-    by : (note : Option (List ℕ)) → IsRun (unless_refused note (solve report plan)) → ⊥
-    by None runs = runs
-    by (Some note) runs = runs
-solve-no-run report (Err fault) runs = runs
+way-no-run : (way : Way) (order : Order) (plan : Plan) → calls_boxes (Use way) ≡ false → IsRun (way_job way order plan) → ⊥
+way-no-run Run order plan is runs = false≢true (sym is)
+way-no-run Solve order plan is runs = runs
+way-no-run Generate order plan is runs = false≢true (sym is)
+way-no-run Trace order plan is runs = false≢true (sym is)
+way-no-run Replay order plan is runs = false≢true (sym is)
 
 verb-no-run : (verb : Verb) (order : Order) (outers : List OuterShape) (g : GraphView) → calls_boxes verb ≡ false → IsRun (verb_job verb order outers g) → ⊥
-verb-no-run Run order outers g is runs = false≢true (sym is)
-verb-no-run Solve order outers g is runs = solve-no-run order.report (check_of outers g) runs
 verb-no-run Check order outers g is runs = check-no-run (check_of outers g) runs
 verb-no-run Expand order outers g is runs = runs
-verb-no-run Generate order outers g is runs = false≢true (sym is)
-verb-no-run Trace order outers g is runs = false≢true (sym is)
+verb-no-run (Use way) order outers g is runs =
+    planned (λ job. IsRun job → ⊥) way order (check_of outers g) (λ note calls. calls) (λ plan calls. way-no-run way order plan is calls) runs
 
 expanded-no-run : (order : Order) (outers : List OuterShape) (expanded : Result GraphView ExpandFault) → calls_boxes order.verb ≡ false → IsRun (expanded_job order outers expanded) → ⊥
 expanded-no-run order outers (Ok g) is runs = verb-no-run order.verb order outers g is runs
@@ -254,23 +256,19 @@ did-uncalled (run_plan report plan) status all none did = absurd (none tt)
 did-uncalled (solve report plan) status all none did = did.uncalled
 did-uncalled (generate report number plan) status all none did = absurd (none tt)
 did-uncalled (trace report plan) status all none did = absurd (none tt)
+did-uncalled (replay report plan) status all none did = absurd (none tt)
 
 call-uncalled : (status : Status) (task : Task) (all : Devices) → calls_boxes task.order.verb ≡ false → CallDid status task all → Untouched all.boxes
 call-uncalled status task all is called = did-uncalled called.job status all (due-no-run task called.contents called.job is called.due) called.did
 
-short-no-run : (task : Task) (contents : List (List ℕ)) (report : Bool) (plan : Plan) → calls_boxes task.order.verb ≡ false → IsJob task contents (run_plan report plan) ⊎ IsJob task contents (trace report plan) → ⊥
-short-no-run task contents report plan is (inl due) = due-no-run task contents (run_plan report plan) is due tt
-short-no-run task contents report plan is (inr due) = due-no-run task contents (trace report plan) is due tt
-
-short-uncalled : (task : Task) (all : Devices) → calls_boxes task.order.verb ≡ false → Untouched all.boxes ⊎ (ShortRun task all ⊎ ShortGenerated task all) → Untouched all.boxes
-short-uncalled task all is (inl untouched) = untouched
-short-uncalled task all is (inr (inl short)) = absurd (short-no-run task short.contents short.report short.plan is short.due)
-short-uncalled task all is (inr (inr short)) = absurd (due-no-run task short.contents (generate short.report short.number short.plan) is short.due tt)
+short-uncalled : (task : Task) (all : Devices) → calls_boxes task.order.verb ≡ false → DidNothing all ⊎ CallDid OutOfMemory task all → Untouched all.boxes
+short-uncalled task all is (inl nothing) = nothing.uncalled
+short-uncalled task all is (inr called) = call-uncalled OutOfMemory task all is called
 
 called-uncalled : (status : Status) (task : Task) (all : Devices) → calls_boxes task.order.verb ≡ false → Called status task all → Untouched all.boxes
 called-uncalled StoreFault task all is called = called.uncalled
 called-uncalled Usage task all is called = elim called [ ]
-called-uncalled OutOfMemory task all is called = short-uncalled task all is called.called
+called-uncalled OutOfMemory task all is called = short-uncalled task all is called.by
 called-uncalled Good task all is called = call-uncalled Good task all is called
 called-uncalled GraphRefused task all is called = call-uncalled GraphRefused task all is called
 called-uncalled LineRefused task all is called = call-uncalled LineRefused task all is called

@@ -1,5 +1,5 @@
 -- Who reads the input, and that it met its end.
-use Rattle.std.proofs.Common.{codes, Option, None, Some, ◌≡◌, ℕ, List, [], ◌∷◌, true, false, Bool, Result, Ok, Err, ◌⊎◌, inl, inr, refl, sym, subst, arith}
+use Rattle.std.proofs.Common.{◌≡◌, ℕ, List, [], ◌∷◌, true, false, Result, Ok, Err, ◌⊎◌, inl, inr, refl, sym, subst, arith}
 use Rattle.std.proofs.lemmas.Bool.{false≢true}
 use Rattle.mg_edge.specs.Edge.{SourceTold}
 use Rattle.mg_feed.specs.Ran.{EndCame}
@@ -11,18 +11,22 @@ use Rattle.mg_check.specs.declared.fault.CheckFault.{CheckFault}
 use Rattle.mg_subgraph.specs.Expansion.{expansion_of}
 use Rattle.mg_subgraph.specs.declared.fault.ExpandFault.{ExpandFault}
 use Rattle.mg_answer.proofs.Answering.{ran-ended}
-use Rattle.mg_answer.proofs.RunningOn.{on-ended}
+use Rattle.mg_run.proofs.Readings.{lines-ended}
 use Rattle.mg_drive.proofs.TracesRan.{traced_ended}
-use Rattle.mg_run.specs.Command.{reads_input}
+use Rattle.mg_replay.proofs.Answered.{replayed_ended}
+use Rattle.mg_words.specs.Command.{reads_input}
 use Rattle.mg_run.specs.Task.{Task}
 use Rattle.mg_run.specs.Files.{Files, graphs, no_graphs}
-use Rattle.mg_run.specs.Answer.{Job, refuse, show, run_plan, solve, generate, trace, run_job, solve_job, check_job, generate_job, trace_job, verb_job, expanded_job, files_job, free_refusal, unless_refused, with_limit, as_asked}
+use Rattle.mg_run.specs.Answer.{Job, refuse, show, run_plan, solve, generate, trace, replay, check_job, way_job, verb_job, expanded_job, files_job}
 use Rattle.mg_run.specs.Devices.{Device, Devices, run_of, Untouched, HasEnded}
 use Rattle.mg_run.specs.Call.{Did, IsJob, CallDid, Called, IsOneOf}
 use Rattle.mg_run.specs.Code.Job.{MayRead}
-use Rattle.mg_run.specs.declared.words.Order.{Order}
-use Rattle.mg_run.specs.declared.words.Verb.{Verb}
-use Rattle.mg_run.specs.declared.words.Verb.TheVariants.{Run, Solve, Check, Expand, Generate, Trace}
+use Rattle.mg_run.proofs.Planned.{planned}
+use Rattle.mg_words.specs.declared.words.Order.{Order}
+use Rattle.mg_words.specs.declared.words.Verb.{Verb}
+use Rattle.mg_words.specs.declared.words.Verb.TheVariants.{Check, Expand, Use}
+use Rattle.mg_words.specs.declared.words.Way.{Way}
+use Rattle.mg_words.specs.declared.words.Way.TheVariants.{Run, Solve, Generate, Trace, Replay}
 use Rattle.mg_answer.specs.declared.status.Status.{Status}
 use Rattle.mg_answer.specs.declared.status.Status.TheVariants.{Good, StoreFault, Usage, GraphRefused, LineRefused, NodeFault, Stalled, ReadFault, WriteFault, OutOfMemory}
 
@@ -31,21 +35,18 @@ check-unread : (checked : Result Plan CheckFault) → MayRead (check_job checked
 check-unread (Ok plan) may = may
 check-unread (Err fault) may = may
 
-generate-unread : (order : Order) (checked : Result Plan CheckFault) → MayRead (generate_job order checked) → ⊥
-generate-unread order (Ok plan) may = by (free_refusal (codes "generate") plan) may
-  where
-    by : (note : Option (List ℕ)) → MayRead (unless_refused note (generate order.report order.number (as_asked order plan))) → ⊥
-    by None may = may
-    by (Some note) may = may
-generate-unread order (Err fault) may = may
+way-unread : (way : Way) (order : Order) (plan : Plan) → reads_input (Use way) ≡ false → MayRead (way_job way order plan) → ⊥
+way-unread Run order plan is may = false≢true (sym is)
+way-unread Solve order plan is may = false≢true (sym is)
+way-unread Generate order plan is may = may
+way-unread Trace order plan is may = false≢true (sym is)
+way-unread Replay order plan is may = false≢true (sym is)
 
 graph-unread : (verb : Verb) (order : Order) (outers : List OuterShape) (g : GraphView) → reads_input verb ≡ false → MayRead (verb_job verb order outers g) → ⊥
-graph-unread Run order outers g is may = false≢true (sym is)
-graph-unread Solve order outers g is may = false≢true (sym is)
 graph-unread Check order outers g is may = check-unread (check_of outers g) may
 graph-unread Expand order outers g is may = may
-graph-unread Generate order outers g is may = generate-unread order (check_of outers g) may
-graph-unread Trace order outers g is may = false≢true (sym is)
+graph-unread (Use way) order outers g is may =
+    planned (λ job. MayRead job → ⊥) way order (check_of outers g) (λ note reads. reads) (λ plan reads. way-unread way order plan is reads) may
 
 expanded-unread : (order : Order) (outers : List OuterShape) (expanded : Result GraphView ExpandFault) → reads_input order.verb ≡ false → MayRead (expanded_job order outers expanded) → ⊥
 expanded-unread order outers (Ok g) is may = graph-unread order.verb order outers g is may
@@ -69,38 +70,20 @@ NeedsNone (run_plan report plan) = ⊥
 NeedsNone (solve report plan) = ⊥
 NeedsNone (generate report number plan) = Unit {0}
 NeedsNone (trace report plan) = ⊥
+NeedsNone (replay report plan) = ⊥
 
-run-reads : (order : Order) (checked : Result Plan CheckFault) → NeedsNone (run_job order checked) → ⊥
-run-reads order (Ok plan) none = by (free_refusal (codes "run") plan) none
-  where
-    by : (note : Option (List ℕ)) → NeedsNone (unless_refused note (run_plan order.report (as_asked order plan))) → ⊥
-    by None none = none
-    by (Some note) none = none
-run-reads order (Err fault) none = none
-
-trace-reads : (order : Order) (checked : Result Plan CheckFault) → NeedsNone (trace_job order checked) → ⊥
-trace-reads order (Ok plan) none = by (free_refusal (codes "trace") plan) none
-  where
-    by : (note : Option (List ℕ)) → NeedsNone (unless_refused note (trace order.report (with_limit order.limit plan))) → ⊥
-    by None none = none
-    by (Some note) none = none
-trace-reads order (Err fault) none = none
-
-solve-reads : (report : Bool) (checked : Result Plan CheckFault) → NeedsNone (solve_job report checked) → ⊥
-solve-reads report (Ok plan) none = by (free_refusal (codes "solve") plan) none
-  where
-    by : (note : Option (List ℕ)) → NeedsNone (unless_refused note (solve report plan)) → ⊥
-    by None none = none
-    by (Some note) none = none
-solve-reads report (Err fault) none = none
+way-reads : (way : Way) (order : Order) (plan : Plan) → reads_input (Use way) ≡ true → NeedsNone (way_job way order plan) → ⊥
+way-reads Run order plan is none = none
+way-reads Solve order plan is none = none
+way-reads Generate order plan is none = false≢true is
+way-reads Trace order plan is none = none
+way-reads Replay order plan is none = none
 
 graph-reads : (verb : Verb) (order : Order) (outers : List OuterShape) (g : GraphView) → reads_input verb ≡ true → NeedsNone (verb_job verb order outers g) → ⊥
-graph-reads Run order outers g is none = run-reads order (check_of outers g) none
-graph-reads Solve order outers g is none = solve-reads order.report (check_of outers g) none
 graph-reads Check order outers g is none = false≢true is
 graph-reads Expand order outers g is none = false≢true is
-graph-reads Generate order outers g is none = false≢true is
-graph-reads Trace order outers g is none = trace-reads order (check_of outers g) none
+graph-reads (Use way) order outers g is none =
+    planned (λ job. NeedsNone job → ⊥) way order (check_of outers g) (λ note needs. needs) (λ plan needs. way-reads way order plan is needs) none
 
 expanded-reads : (order : Order) (outers : List OuterShape) (expanded : Result GraphView ExpandFault) → reads_input order.verb ≡ true → NeedsNone (expanded_job order outers expanded) → ⊥
 expanded-reads order outers (Ok g) is none = graph-reads order.verb order outers g is none
@@ -139,12 +122,14 @@ did-ended : (task : Task) (contents : List (List ℕ)) (job : Job) (status : Sta
 did-ended task contents (refuse note) status all due did reads one = absurd (refused-ended status did.ended one)
 did-ended task contents (show text) status all due did reads one = absurd (due-reads task contents (show text) due reads tt)
 did-ended task contents (run_plan report plan) status all due did reads one =
-    end-came all.input (on-ended report plan status (run_of all) did.ran one)
+    end-came all.input (lines-ended report plan status (run_of all) all.boxes did (short-ended status) one)
 did-ended task contents (solve report plan) status all due did reads one =
     end-came all.input (ran-ended report plan status (run_of all) did.ran one)
 did-ended task contents (generate report number plan) status all due did reads one = absurd (due-reads task contents (generate report number plan) due reads tt)
 did-ended task contents (trace report plan) status all due did reads one =
     end-came all.input (traced_ended report plan all.boxes.before status (run_of all) did.ran one)
+did-ended task contents (replay report plan) status all due did reads one =
+    end-came all.input (replayed_ended report plan status (run_of all) all.boxes did.replayed one)
 
 call-ended : (status : Status) (task : Task) (all : Devices) → CallDid status task all → reads_input task.order.verb ≡ true → IsOneOf status ended_statuses → HasEnded all.input
 call-ended status task all called reads one = did-ended task called.contents called.job status all called.due called.did reads one

@@ -7,7 +7,7 @@ use Rattle.mg_feed.specs.declared.feed_end.FeedEnd.TheVariants.{Ended}
 use Rattle.mg_answer.specs.Answer.{ended_input, by_summary, generated_job, AnswersEnded, AnswersGenerated}
 use Rattle.mg_answer.proofs.OneAnswer.{one-answer, one-of}
 use Rattle.mg_drive.specs.Traced.{TracesEnded}
-use Rattle.mg_run.specs.Answer.{Answer, Job, refuse, show, run_plan, solve, generate, trace, IsAnswerOf, Records}
+use Rattle.mg_run.specs.Answer.{Answer, Job, refuse, show, run_plan, solve, generate, trace, replay, IsAnswerOf, Records, Replays}
 
 pub one-of-run : (report : Bool) (plan : Plan) (input : List ℕ) (a b : Answer) → AnswersEnded report plan input a → AnswersEnded report plan input b → a ≡ b
 one-of-run report plan input a b one two = one-answer report plan (ended_input (inputs_of plan) input) a b one two
@@ -15,13 +15,14 @@ one-of-run report plan input a b one two = one-answer report plan (ended_input (
 one-of-made : (report : Bool) (plan : Plan) (number : ℕ) (a b : Answer) → AnswersGenerated report plan number a → AnswersGenerated report plan number b → a ≡ b
 one-of-made report plan number a b one two = one-of (by_summary report) (generated_job plan number) Ended a b one two
 
-pub one-of-job : (job : Job) (boxes : List CalculatorTold) (input : List ℕ) (a b : Answer) → ¬ Records job → IsAnswerOf job boxes input a → IsAnswerOf job boxes input b → a ≡ b
-one-of-job (refuse note) boxes input a b other one two = one ∙ sym two
-one-of-job (show text) boxes input a b other one two = one ∙ sym two
-one-of-job (run_plan report plan) boxes input a b other one two = one-of-run report plan input a b one two
-one-of-job (solve report plan) boxes input a b other one two = one-of-run report plan input a b one two
-one-of-job (generate report number plan) boxes input a b other one two = one-of-made report plan number a b one two
-one-of-job (trace report plan) boxes input a b other one two = absurd (other tt)
+pub one-of-job : (job : Job) (boxes : List CalculatorTold) (input : List ℕ) (a b : Answer) → ¬ Records job → ¬ Replays job → IsAnswerOf job boxes input a → IsAnswerOf job boxes input b → a ≡ b
+one-of-job (refuse note) boxes input a b other given one two = one ∙ sym two
+one-of-job (show text) boxes input a b other given one two = one ∙ sym two
+one-of-job (run_plan report plan) boxes input a b other given one two = one-of-run report plan input a b one two
+one-of-job (solve report plan) boxes input a b other given one two = one-of-run report plan input a b one two
+one-of-job (generate report number plan) boxes input a b other given one two = one-of-made report plan number a b one two
+one-of-job (trace report plan) boxes input a b other given one two = absurd (other tt)
+one-of-job (replay report plan) boxes input a b other given one two = absurd (given tt)
 
 -- what two answers end with is the same
 abbrev pub EndAlike : Answer → Answer → Type 0
@@ -40,10 +41,11 @@ two-traces report plan boxes input a b one two =
     let first = ends-as-run report plan boxes input a two.of_run one two.is_answer in
     (first.0 ∙ sym (ap (λ (x : Answer). x.notes) two.is), first.1 ∙ sym (ap (λ (x : Answer). x.status) two.is))
 
-pub one-end : (job : Job) (boxes : List CalculatorTold) (input : List ℕ) (a b : Answer) → IsAnswerOf job boxes input a → IsAnswerOf job boxes input b → EndAlike a b
-one-end (refuse note) boxes input a b one two = alike a b (one ∙ sym two)
-one-end (show text) boxes input a b one two = alike a b (one ∙ sym two)
-one-end (run_plan report plan) boxes input a b one two = alike a b (one-of-run report plan input a b one two)
-one-end (solve report plan) boxes input a b one two = alike a b (one-of-run report plan input a b one two)
-one-end (generate report number plan) boxes input a b one two = alike a b (one-of-made report plan number a b one two)
-one-end (trace report plan) boxes input a b one two = two-traces report plan boxes input a b one two
+pub one-end : (job : Job) (boxes : List CalculatorTold) (input : List ℕ) (a b : Answer) → ¬ Replays job → IsAnswerOf job boxes input a → IsAnswerOf job boxes input b → EndAlike a b
+one-end (refuse note) boxes input a b given one two = alike a b (one ∙ sym two)
+one-end (show text) boxes input a b given one two = alike a b (one ∙ sym two)
+one-end (run_plan report plan) boxes input a b given one two = alike a b (one-of-run report plan input a b one two)
+one-end (solve report plan) boxes input a b given one two = alike a b (one-of-run report plan input a b one two)
+one-end (generate report number plan) boxes input a b given one two = alike a b (one-of-made report plan number a b one two)
+one-end (trace report plan) boxes input a b given one two = two-traces report plan boxes input a b one two
+one-end (replay report plan) boxes input a b given one two = absurd (given tt)

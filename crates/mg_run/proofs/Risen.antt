@@ -3,10 +3,10 @@ use Rattle.std.proofs.Common.{◌≡◌, ℕ, List, [], ◌∷◌, ◌⊎◌, in
 use Rattle.mg_edge.specs.Edge.{SourceTold, SinkTold}
 use Rattle.mg_run.specs.Task.{Task}
 use Rattle.mg_answer.proofs.Answering.{read-risen as run-read-risen, write-risen as run-write-risen}
-use Rattle.mg_answer.proofs.RunningOn.{on-read-risen as run-on-read, on-write-risen as run-on-write}
-use Rattle.mg_answer.proofs.Generating.{generated-risen}
+use Rattle.mg_run.proofs.Readings.{lines-read-risen, lines-write-risen, packets-write-risen}
 use Rattle.mg_drive.proofs.TracesRan.{traced_read_risen, traced_write_risen}
-use Rattle.mg_run.specs.Answer.{Job, refuse, show, run_plan, solve, generate, trace}
+use Rattle.mg_replay.proofs.Answered.{replayed_read_risen, replayed_write_risen}
+use Rattle.mg_run.specs.Answer.{Job, refuse, show, run_plan, solve, generate, trace, replay}
 use Rattle.mg_run.specs.Devices.{Device, Devices, run_of, Untouched, HasRisen}
 use Rattle.mg_run.specs.Call.{Written, WasShown, Did, Called, IsOneOf}
 use Rattle.mg_answer.specs.declared.status.Status.{Status}
@@ -41,10 +41,11 @@ read_statuses = ReadFault ∷ WriteFault ∷ OutOfMemory ∷ []
 read-did : (job : Job) (status : Status) (all : Devices) → Did job status all → HasRisen all.input.before.faults all.input.now.faults → IsOneOf status read_statuses
 read-did (refuse note) status all did risen = absurd (risen-unread all.input risen did.unread)
 read-did (show text) status all did risen = absurd (risen-unread all.input risen did.unread)
-read-did (run_plan report plan) status all did risen = run-on-read report plan status (run_of all) did.ran risen
+read-did (run_plan report plan) status all did risen = lines-read-risen report plan status (run_of all) all.boxes did risen
 read-did (solve report plan) status all did risen = run-read-risen report plan status (run_of all) did.ran risen
 read-did (generate report number plan) status all did risen = absurd (risen-unread all.input risen did.unread)
 read-did (trace report plan) status all did risen = traced_read_risen report plan all.boxes.before status (run_of all) did.ran risen
+read-did (replay report plan) status all did risen = replayed_read_risen report plan status (run_of all) all.boxes did.replayed risen
 
 pub read-risen : (status : Status) (task : Task) (all : Devices) → Called status task all → HasRisen all.input.before.faults all.input.now.faults → IsOneOf status read_statuses
 read-risen Good task all called risen = read-did called.job Good all called.did risen
@@ -83,11 +84,12 @@ write-status status one = inr (inr one)
 write-did : (job : Job) (status : Status) (all : Devices) → Did job status all → EitherRisen all → IsOneOf status write_statuses
 write-did (refuse note) status all did risen = inr (inl did.ended)
 write-did (show text) status all did risen = write-shown text status all did risen
-write-did (run_plan report plan) status all did risen = write-status status (run-on-write report plan status (run_of all) did.ran risen)
+write-did (run_plan report plan) status all did risen = write-status status (lines-write-risen report plan status (run_of all) all.boxes did risen)
 write-did (solve report plan) status all did risen = write-status status (run-write-risen report plan status (run_of all) did.ran risen)
 write-did (generate report number plan) status all did risen =
-    write-status status (generated-risen report plan number status (run_of all) did.ran risen)
+    write-status status (packets-write-risen report plan number status (run_of all) all.boxes did.ran risen)
 write-did (trace report plan) status all did risen = write-status status (traced_write_risen report plan all.boxes.before status (run_of all) did.ran risen)
+write-did (replay report plan) status all did risen = write-status status (replayed_write_risen report plan status (run_of all) all.boxes did.replayed risen)
 
 pub write-risen : (status : Status) (task : Task) (all : Devices) → Called status task all → EitherRisen all → IsOneOf status write_statuses
 write-risen Good task all called risen = write-did called.job Good all called.did risen

@@ -1,22 +1,32 @@
 -- The equations, and what is told of their solution, don't look at the limit of a plan's queues nor at the number of its workers.
-use Rattle.std.proofs.Common.{◌≡◌, ℕ, ℤ, zero, suc, List, ◌++◌, map, option_map, refl, sym, ap, subst, ◌∙◌}
+use Rattle.std.proofs.Common.{◌≡◌, ℕ, ℤ, zero, suc, List, ◌∷◌, ◌++◌, map, take, option_map, refl, sym, ap, subst, ◌∙◌}
 use Rattle.std.specs.List.{flat_map, filter_map}
 use Rattle.mg_value.specs.Payload.{Plain}
 use Rattle.mg_value.specs.Prefix.{StreamPrefix}
+use Rattle.mg_value.specs.Settled.{TimedSet, settled_sets}
 use Rattle.mg_calc.specs.declared.law.Law.{Law}
 use Rattle.mg_calc.specs.declared.law.Law.TheVariants.{Count, SideOnce, Constants, Loopback}
 use Rattle.mg_calc.specs.declared.node_fault.NodeFault.{NodeFault}
 use Rattle.mg_calc.specs.declared.plan.Plan.{Plan}
 use Rattle.mg_calc.specs.declared.plan_node.PlanNode.{PlanNode}
-use Rattle.mg_calc.specs.Equations.{Job, outcome_by, outcome_of, next_round, round, IsSolution, MeetsEquations}
-use Rattle.mg_calc.specs.Meaning.{numbered, faults, counts, stalled}
+use Rattle.mg_calc.specs.declared.call.Call.{Call}
+use Rattle.mg_calc.specs.declared.call.Call.TheVariants.{Begun, Shown}
+use Rattle.mg_calc.specs.Equations.{Job, inputs_of, outcome_by, outcome_of, next_round, round, IsSolution, MeetsEquations}
+use Rattle.mg_calc.specs.Meaning.{numbered, faults, counts, stalled, last_call, log_of}
+use Rattle.mg_calc.specs.Outcome.{Outcome}
+use Rattle.mg_calc.specs.Told.{CalculatorTold}
+use Rattle.mg_edge.specs.Edge.{SinkTold}
 use Rattle.mg_feed.specs.declared.feed_end.FeedEnd.{FeedEnd}
 use Rattle.mg_answer.specs.Told.{status_of}
 use Rattle.mg_answer.specs.Notes.{end_note, fault_note, status_notes, bounds_of}
 use Rattle.mg_answer.specs.Report.{report_by, end_of, asked_report}
-use Rattle.mg_answer.specs.Answer.{Telling, Form, packet_lines, totals, in_place, output_in, Answer, answer_of, IsAnswerOf}
+use Rattle.mg_answer.specs.Answer.{Telling, Form, packet_lines, totals, in_place, output_in, Answer, answer_of, failed_notes, IsAnswerOf}
+use Rattle.mg_answer.specs.Devices.{Device}
+use Rattle.mg_answer.specs.Wrote.{WroteBy}
 use Rattle.mg_answer.specs.declared.status.Status.{Status}
-use Rattle.mg_answer.specs.declared.status.Status.TheVariants.{Stalled}
+use Rattle.mg_answer.specs.declared.status.Status.TheVariants.{Stalled, WriteFault}
+use Rattle.mg_drive.specs.Leaves.{HadItsCalls}
+use Rattle.mg_drive.specs.OneRun.{OneRun}
 
 -- a plan, and a job, with other limits
 abbrev pub limited_plan : Plan → ℤ → ℕ → Plan
@@ -98,4 +108,41 @@ unlimited_answer telling job limit workers end answer a = record {
   streams = a.streams;
   solution = unlimited job limit workers a.streams a.solution;
   is = a.is ∙ answer_same telling job limit workers end a.streams;
+}
+
+-- A run as one thing.
+abbrev failed_by : Telling → Plan → FeedEnd → List NodeFault → List ℕ → List (StreamPrefix Plain) → List ℕ
+failed_by telling plan end fs cs streams =
+    (end_note end ++ flat_map (fault_note plan) fs ++ status_notes WriteFault plan (bounds_of streams) (stalled streams)) ++ asked_report telling.report (report_by plan cs (map end_of streams))
+
+failed_same : (telling : Telling) (job : Job) (limit : ℤ) (workers : ℕ) (end : FeedEnd) (xs : List (StreamPrefix Plain)) → failed_notes telling (limited job limit workers) end xs ≡ failed_notes telling job end xs
+failed_same telling job limit workers end xs =
+    ap (λ fs. failed_by telling (limited_plan job.plan limit workers) end fs (counts (limited job limit workers) xs) xs) (faults_same job limit workers xs)
+    ∙ ap (λ cs. failed_by telling job.plan end (faults job xs) cs xs) (counts_same job limit workers xs)
+
+log_same : (job : Job) (limit : ℤ) (workers : ℕ) (xs : List (StreamPrefix Plain)) (node : PlanNode) → log_of (limited job limit workers) xs node ≡ log_of job xs node
+log_same job limit workers xs node =
+    ap (λ (o : Outcome). (Begun ∷ map (λ (e : TimedSet Plain). Shown e.at e.set) (take o.taken (settled_sets node.policy (inputs_of xs node)))) ++ last_call o.fault) (outcome_same job limit workers xs node)
+
+had_same : (job : Job) (limit : ℤ) (workers : ℕ) (xs : List (StreamPrefix Plain)) (node : PlanNode) (before now : CalculatorTold) → HadItsCalls (limited job limit workers) xs node before now → HadItsCalls job xs node before now
+had_same job limit workers xs node before now h = record {
+  log = h.log ∙ ap (λ (more : List Call). option_map (λ (calls : List Call). calls ++ more) before.log) (log_same job limit workers xs node);
+  state = h.state ∙ ap (λ (o : Outcome). o.state) (outcome_same job limit workers xs node);
+  law = h.law;
+  shape = h.shape;
+}
+
+pub unlimited_run : (telling : Telling) (job : Job) (limit : ℤ) (workers : ℕ) (end : FeedEnd) (status : Status) (output notes : Device SinkTold) (boxes : Device (List CalculatorTold))
+    → OneRun telling (limited job limit workers) end status output notes boxes → OneRun telling job end status output notes boxes
+unlimited_run telling job limit workers end status output notes boxes r = record {
+  streams = r.streams;
+  solution = unlimited job limit workers r.streams r.solution;
+  wrote = subst (λ (a : Answer). WroteBy status a (failed_notes telling job end r.streams) output notes) (answer_same telling job limit workers end r.streams)
+      (subst (λ (f : List ℕ). WroteBy status (answer_of telling (limited job limit workers) end r.streams) f output notes) (failed_same telling job limit workers end r.streams) r.wrote);
+  had = record {
+    back = record { count = r.had.back.count; unused = r.had.back.unused };
+    used = λ number place node there has.
+        (let at = r.had.used number place node there has in
+        record { before = at.before; now = at.now; was = at.was; is = at.is; holds = had_same job limit workers r.streams node at.before at.now at.holds });
+  };
 }

@@ -17,12 +17,16 @@ use Rattle.mg_run.specs.CheckNotes.{check_note, check_text}
 use Rattle.mg_answer.specs.Answer.{AnswersEnded, AnswersGenerated}
 pub use Rattle.mg_answer.specs.Answer.{Answer}
 use Rattle.mg_drive.specs.Traced.{TracesEnded}
+use Rattle.mg_feed.specs.Lines.{all_lines}
+use Rattle.mg_replay.specs.Replayed.{AnswersTrace}
 use Rattle.mg_free.specs.Core.{first_free}
 use Rattle.mg_run.specs.Notes.{expand_note, free_note}
-use Rattle.mg_run.specs.declared.limits.TheConstants.{MOST_WORKERS}
-use Rattle.mg_run.specs.declared.words.Order.{Order}
-use Rattle.mg_run.specs.declared.words.Verb.{Verb}
-use Rattle.mg_run.specs.declared.words.Verb.TheVariants.{Run, Solve, Check, Expand, Generate, Trace}
+use Rattle.mg_words.specs.declared.limits.TheConstants.{MOST_WORKERS}
+use Rattle.mg_words.specs.declared.words.Order.{Order}
+use Rattle.mg_words.specs.declared.words.Verb.{Verb}
+use Rattle.mg_words.specs.declared.words.Verb.TheVariants.{Check, Expand, Use}
+use Rattle.mg_words.specs.declared.words.Way.{Way}
+use Rattle.mg_words.specs.declared.words.Way.TheVariants.{Run, Solve, Generate, Trace, Replay}
 use Rattle.mg_answer.specs.declared.status.Status.TheVariants.{Good, GraphRefused}
 
 -- The graphs --
@@ -34,8 +38,8 @@ graph_text g = canonical (tree_of g)
 -- What is to be done --
 
 -- A file, the expansion or the graph is refused, with a note; or a text is the output; or the graph of this plan is run; or it is
--- solved; or it is run over so many packets that are made; or it is run, and the run is recorded. The notes of the last four end with a
--- report or not.
+-- solved; or it is run over so many packets that are made; or it is run, and the run is recorded; or a recorded run of it is made again.
+-- The notes of the last five end with a report or not.
 pub data Job : Type 0 where
   refuse : List ℕ → Job
   show : List ℕ → Job
@@ -43,9 +47,9 @@ pub data Job : Type 0 where
   solve : Bool → Plan → Job
   generate : Bool → ℕ → Plan → Job
   trace : Bool → Plan → Job
+  replay : Bool → Plan → Job
 
--- A graph that is checked has a text that is written, or it is refused; one that is run or solved is checked before,
--- and has no free nodes.
+-- A graph that is checked has a text that is written, or it is refused. One whose plan is used is checked before, and has no free nodes.
 abbrev pub check_job : Result Plan CheckFault → Job
 check_job (Ok plan) = show (check_text plan)
 check_job (Err fault) = refuse (check_note fault)
@@ -57,10 +61,6 @@ free_refusal verb plan = option_map (free_note verb) (first_free plan)
 abbrev pub unless_refused : Option (List ℕ) → Job → Job
 unless_refused None job = job
 unless_refused (Some note) job = refuse note
-
-abbrev pub solve_job : Bool → Result Plan CheckFault → Job
-solve_job report (Ok plan) = unless_refused (free_refusal (codes "solve") plan) (solve report plan)
-solve_job report (Err fault) = refuse (check_note fault)
 
 -- the limit that the words ask for; 0 asks for the plan's own
 abbrev pub limit_or : ℤ → ℤ → ℤ
@@ -81,25 +81,29 @@ with_workers (Some workers) plan = record plan { workers = min workers MOST_WORK
 abbrev pub as_asked : Order → Plan → Plan
 as_asked order plan = with_workers order.workers (with_limit order.limit plan)
 
-abbrev pub run_job : Order → Result Plan CheckFault → Job
-run_job order (Ok plan) = unless_refused (free_refusal (codes "run") plan) (run_plan order.report (as_asked order plan))
-run_job order (Err fault) = refuse (check_note fault)
+-- A plan is used in one of these ways: what the note of a refusal names, and what there is to do. A recorded run has no workers.
+abbrev pub way_word : Way → List ℕ
+way_word Run = codes "run"
+way_word Solve = codes "solve"
+way_word Generate = codes "generate"
+way_word Trace = codes "trace"
+way_word Replay = codes "replay"
 
-abbrev pub generate_job : Order → Result Plan CheckFault → Job
-generate_job order (Ok plan) = unless_refused (free_refusal (codes "generate") plan) (generate order.report order.number (as_asked order plan))
-generate_job order (Err fault) = refuse (check_note fault)
+abbrev pub way_job : Way → Order → Plan → Job
+way_job Run order plan = run_plan order.report (as_asked order plan)
+way_job Solve order plan = solve order.report plan
+way_job Generate order plan = generate order.report order.number (as_asked order plan)
+way_job Trace order plan = trace order.report (with_limit order.limit plan)
+way_job Replay order plan = replay order.report (with_limit order.limit plan)
 
-abbrev pub trace_job : Order → Result Plan CheckFault → Job
-trace_job order (Ok plan) = unless_refused (free_refusal (codes "trace") plan) (trace order.report (with_limit order.limit plan))
-trace_job order (Err fault) = refuse (check_note fault)
+abbrev pub plan_job : Way → Order → Result Plan CheckFault → Job
+plan_job way order (Ok plan) = unless_refused (free_refusal (way_word way) plan) (way_job way order plan)
+plan_job way order (Err fault) = refuse (check_note fault)
 
 abbrev pub verb_job : Verb → Order → List OuterShape → GraphView → Job
-verb_job Run order outers g = run_job order (check_of outers g)
-verb_job Solve order outers g = solve_job order.report (check_of outers g)
 verb_job Check order outers g = check_job (check_of outers g)
 verb_job Expand order outers g = show (graph_text g)
-verb_job Generate order outers g = generate_job order (check_of outers g)
-verb_job Trace order outers g = trace_job order (check_of outers g)
+verb_job (Use way) order outers g = plan_job way order (check_of outers g)
 
 abbrev pub graph_job : Order → List OuterShape → GraphView → Job
 graph_job order outers g = verb_job order.verb order outers g
@@ -123,8 +127,9 @@ job_of task files = files_job task.order task.outers files
 -- The answers --
 
 -- An answer is that of a job where an input of these bytes ends well, and these calculators are handed in. To run a graph and to solve it
--- is to answer the same, and to record a run is to answer the same but for the output, which is a trace of any run of the job. Where packets
--- are made no input matters.
+-- is to answer the same, and to record a run is to answer the same but for the output, which is a trace of any run of the job. To make a
+-- recorded run again is to answer what its job's run answers, where the input's lines are such a run to rest, and else to refuse a line of it.
+-- Where packets are made no input matters.
 abbrev pub IsAnswerOf : Job → List CalculatorTold → List ℕ → Answer → Type 0
 IsAnswerOf (refuse note) boxes input given = given ≡ record { output = []; notes = note; status = GraphRefused }
 IsAnswerOf (show text) boxes input given = given ≡ record { output = text; notes = []; status = Good }
@@ -132,6 +137,7 @@ IsAnswerOf (run_plan report plan) boxes input given = AnswersEnded report plan i
 IsAnswerOf (solve report plan) boxes input given = AnswersEnded report plan input given
 IsAnswerOf (generate report number plan) boxes input given = AnswersGenerated report plan number given
 IsAnswerOf (trace report plan) boxes input given = TracesEnded report plan boxes input given
+IsAnswerOf (replay report plan) boxes input given = AnswersTrace report plan boxes (all_lines input) given
 
 -- a job's answer is a recorded run, of which there may be many
 abbrev pub Records : Job → Type 0
@@ -141,3 +147,14 @@ Records (run_plan report plan) = ⊥
 Records (solve report plan) = ⊥
 Records (generate report number plan) = ⊥
 Records (trace report plan) = Unit {0}
+Records (replay report plan) = ⊥
+
+-- a job makes a recorded run again: its answer is of the events that the input's lines tell
+abbrev pub Replays : Job → Type 0
+Replays (refuse note) = ⊥
+Replays (show text) = ⊥
+Replays (run_plan report plan) = ⊥
+Replays (solve report plan) = ⊥
+Replays (generate report number plan) = ⊥
+Replays (trace report plan) = ⊥
+Replays (replay report plan) = Unit {0}

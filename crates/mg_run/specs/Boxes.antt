@@ -6,7 +6,7 @@ use Rattle.mg_calc.specs.declared.shape.Shape.{Shape}
 use Rattle.mg_calc.specs.declared.shape.OuterShape.{OuterShape}
 use Rattle.mg_calc.specs.Shape.{untagged, IsOuter}
 use Rattle.mg_calc.specs.Told.{CalculatorTold}
-pub use Rattle.mg_drive.specs.Leaves.{RunLeaves, GeneratedLeaves}
+pub use Rattle.mg_drive.specs.Leaves.{RunLeaves}
 
 -- a TallyCalculator: one input of any kind, and one output, on which it counts the sets that it is shown
 abbrev pub tally_shape : Shape

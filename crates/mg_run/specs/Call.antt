@@ -1,19 +1,23 @@
 -- What a call came to, by its status.
-use Rattle.std.specs.Prelude.{◌≡◌, ℕ, ◌⊎◌, Bool, List, [], IfSome}
+use Rattle.std.specs.Prelude.{◌≡◌, ℕ, ◌⊎◌, Bool, List, IfSome}
 use Rattle.mg_calc.specs.declared.plan.Plan.{Plan}
 use Rattle.mg_calc.specs.declared.shape.OuterShape.{OuterShape}
 use Rattle.mg_run.specs.Task.{Task, task}
-use Rattle.mg_run.specs.Words.{Asked, asks_usage, asks_text, asks_command}
+use Rattle.mg_words.specs.Words.{Asked, asks_usage, asks_text, asks_command}
 use Rattle.mg_run.specs.Files.{Files, AreFiles}
 use Rattle.mg_run.specs.Loads.{LoadedAll, FailedAt, loads_of}
-use Rattle.mg_run.specs.Notes.{usage_note, store_note}
+use Rattle.mg_run.specs.Notes.{store_note}
+use Rattle.mg_words.specs.Help.{usage_note}
 use Rattle.mg_answer.specs.Notes.{write_note, memory_note}
 use Rattle.mg_answer.specs.Ran as runs
 use Rattle.mg_answer.specs.Wrote.{Meets}
-use Rattle.mg_drive.specs.Traced.{Traced, TracedOut}
-use Rattle.mg_run.specs.Boxes.{RunLeaves, GeneratedLeaves}
-use Rattle.mg_run.specs.Answer.{Answer, Job, refuse, show, run_plan, solve, generate, trace, job_of, IsAnswerOf}
-use Rattle.mg_run.specs.Devices.{Devices, run_of, Untouched, TookFront, TookText, TookPart, Noted}
+use Rattle.mg_drive.specs.Traced.{Traced}
+use Rattle.mg_replay.specs.Leaves.{AllBack}
+use Rattle.mg_replay.specs.Replayed.{ReplayedBy}
+use Rattle.mg_drive.specs.OneRun.{RanOverLines, RanOverPackets}
+use Rattle.mg_run.specs.Boxes.{RunLeaves}
+use Rattle.mg_run.specs.Answer.{Answer, Job, refuse, show, run_plan, solve, generate, trace, replay, job_of, IsAnswerOf}
+use Rattle.mg_run.specs.Devices.{Devices, run_of, Untouched, TookText, TookPart, Noted}
 pub use Rattle.mg_answer.specs.Status.{IsOneOf}
 use Rattle.mg_answer.specs.declared.status.Status.{Status}
 use Rattle.mg_answer.specs.declared.status.Status.TheVariants.{Good, StoreFault, Usage, GraphRefused, WriteFault, OutOfMemory}
@@ -67,11 +71,6 @@ pub record WasShown (text : List ℕ) (status : Status) (devices : Devices) : Ty
 
 -- A run --
 
--- The graph of this plan was run over the input, and written as its outputs settled. What each status of a run means is said in mg_answer.
-pub record RanGraph (report : Bool) (plan : Plan) (status : Status) (devices : Devices) : Type 0 where
-  pub ran : runs.RanOn report plan status (run_of devices)
-  pub left : RunLeaves plan status devices.input devices.boxes
-
 -- The graph of this plan was solved.
 pub record SolvedGraph (report : Bool) (plan : Plan) (status : Status) (devices : Devices) : Type 0 where
   pub ran : runs.Ran report plan status (run_of devices)
@@ -80,8 +79,7 @@ pub record SolvedGraph (report : Bool) (plan : Plan) (status : Status) (devices 
 -- The graph of this plan was run over so many packets that are made, and a summary of its outputs was written. The input was left as it
 -- was.
 pub record GeneratedGraph (report : Bool) (number : ℕ) (plan : Plan) (status : Status) (devices : Devices) : Type 0 where
-  pub ran : runs.RanGenerated report plan number status (run_of devices)
-  pub left : GeneratedLeaves plan number status devices.boxes
+  pub ran : RanOverPackets report plan number status devices.output devices.notes devices.boxes
   pub unread : Untouched devices.input
 
 -- The graph of this plan was run over the input, and a trace of the run was written.
@@ -89,15 +87,22 @@ pub record TracedGraph (report : Bool) (plan : Plan) (status : Status) (devices 
   pub ran : Traced report plan devices.boxes.before status (run_of devices)
   pub left : RunLeaves plan status devices.input devices.boxes
 
+-- A recorded run of the graph of this plan was made again.
+pub record ReplayedGraph (report : Bool) (plan : Plan) (status : Status) (devices : Devices) : Type 0 where
+  pub replayed : ReplayedBy status report plan (run_of devices) devices.boxes
+  pub left : AllBack plan devices.boxes
+
 -- A call --
 
+-- what was done, by what there was to do; a graph that is run over the input is written as its outputs settle
 abbrev pub Did : Job → Status → Devices → Type 0
 Did (refuse note) status devices = WasRefused note status devices
 Did (show text) status devices = WasShown text status devices
-Did (run_plan report plan) status devices = RanGraph report plan status devices
+Did (run_plan report plan) status devices = RanOverLines report plan status (run_of devices) devices.boxes
 Did (solve report plan) status devices = SolvedGraph report plan status devices
 Did (generate report number plan) status devices = GeneratedGraph report number plan status devices
 Did (trace report plan) status devices = TracedGraph report plan status devices
+Did (replay report plan) status devices = ReplayedGraph report plan status devices
 
 -- what a command has to do with the contents of its files
 abbrev pub IsJob : Task → List (List ℕ) → Job → Type 0
@@ -111,41 +116,16 @@ pub record CallDid (status : Status) (task : Task) (devices : Devices) : Type 0 
   pub due : IsJob task contents job
   pub did : Did job status devices
 
--- Memory ran out: the output took a front of what is written where there is enough of it.
-abbrev pub Short : Job → Devices → Type 0
-Short (refuse note) devices = TookFront devices.output []
-Short (show text) devices = TookFront devices.output text
-Short (run_plan report plan) devices = runs.RanShortOf plan (run_of devices)
-Short (solve report plan) devices = runs.RanOut plan (run_of devices)
-Short (generate report number plan) devices = Untouched devices.output ⊎ runs.GeneratedSome plan number devices.output
-Short (trace report plan) devices = TracedOut plan devices.boxes.before (run_of devices)
+-- Nothing was read, written or called.
+pub record DidNothing (devices : Devices) : Type 0 where
+  pub unread : Untouched devices.input
+  pub unwritten : Untouched devices.output
+  pub uncalled : Untouched devices.boxes
 
--- Memory ran out in the run of a graph, recorded or not. What is left of the calculators that are handed in is what a run leaves.
-pub record ShortRun (task : Task) (devices : Devices) : Type 0 where
-  pub contents : List (List ℕ)
-  pub loaded : LoadedAll task.files contents devices.store
-  pub report : Bool
-  pub plan : Plan
-  pub due : IsJob task contents (run_plan report plan) ⊎ IsJob task contents (trace report plan)
-  pub left : RunLeaves plan OutOfMemory devices.input devices.boxes
-
--- So it is where the graph was run over packets that are made.
-pub record ShortGenerated (task : Task) (devices : Devices) : Type 0 where
-  pub contents : List (List ℕ)
-  pub loaded : LoadedAll task.files contents devices.store
-  pub report : Bool
-  pub number : ℕ
-  pub plan : Plan
-  pub due : IsJob task contents (generate report number plan)
-  pub left : GeneratedLeaves plan number OutOfMemory devices.boxes
-
--- Memory ran out. Where the store tells the files' bytes, the output took a front of what is due; and no calculator that is handed in
--- had a call, unless a graph was run. The note says that memory ran out, and there is no other.
+-- Memory ran out: before it was known what there is to do, or while that was done. The note says that, and there is no other.
 pub record CallShort (task : Task) (devices : Devices) : Type 0 where
   pub noted : Noted devices.notes memory_note
-  pub front : IfSome (loads_of devices.store.before.content task.files) (λ contents.
-      (files : Files) → AreFiles task.files contents files → Short (job_of task files) devices)
-  pub called : Untouched devices.boxes ⊎ (ShortRun task devices ⊎ ShortGenerated task devices)
+  pub by : DidNothing devices ⊎ CallDid OutOfMemory task devices
 
 -- A call with a command ended with this status.
 abbrev pub Called : Status → Task → Devices → Type 0

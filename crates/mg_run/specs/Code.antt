@@ -1,4 +1,3 @@
 -- What the code's own functions say to one another.
-pub mod Asked
 pub mod Job
 pub mod Reads

@@ -1,9 +1,5 @@
 -- What the program means: whoever wants to know what is proved reads these files.
-pub mod CommandLine
-pub mod Command
 pub mod Task
-pub mod Help
-pub mod Words
 pub mod File
 pub mod Notes
 pub mod CheckNotes
@@ -13,5 +9,6 @@ pub mod Devices
 pub mod Loads
 pub mod Boxes
 pub mod Call
+pub mod Headline
 -- What only the code's own functions say to one another. Nothing above rests on it.
 pub mod Code

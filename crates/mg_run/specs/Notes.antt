@@ -12,10 +12,7 @@ use Rattle.mg_subgraph.specs.declared.fault.ExpandFault.TheVariants.{TypeTwice, 
 use Rattle.mg_subgraph.specs.declared.fault.ExpandFault.TheVariants as expansions
 use Rattle.mg_answer.specs.Shown.{shown}
 
--- The words or a file --
-
-abbrev pub usage_note : List ℕ
-usage_note = codes "usage: mg run|solve|check|expand|generate|trace [--workers N] [--max-queue-size N] [--no-queue-limit] [--number N] [--report] GRAPH [SUBGRAPH...]\n"
+-- A file --
 
 abbrev pub store_note : List ℕ → List ℕ
 store_note file = codes "store: " ++ shown file ++ codes "\n"

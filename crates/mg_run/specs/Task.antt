@@ -1,8 +1,8 @@
 -- What is to be done: a command, with the calculators that are handed in.
 use Rattle.std.specs.Prelude.{ℕ, List}
 use Rattle.mg_calc.specs.declared.shape.OuterShape.{OuterShape}
-use Rattle.mg_run.specs.Command.{Command}
-use Rattle.mg_run.specs.declared.words.Order.{Order}
+use Rattle.mg_words.specs.Command.{Command}
+use Rattle.mg_words.specs.declared.words.Order.{Order}
 
 pub record Task : Type 0 where
   pub order : Order

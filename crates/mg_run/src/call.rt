@@ -1,28 +1,29 @@
 ghost use Rattle.std.specs.Prelude.{◌≡◌, ◌≢◌, ◌↔◌, true, false, All, ◌⊎◌, ℕ, List, ◌∷◌, [], IfSome, length, map};
 ghost use Rattle.mg_check.specs.Check.{IsOuterShape};
-ghost use Rattle.mg_run.specs.Command.{command, reads_input, calls_boxes};
+ghost use Rattle.mg_words.specs.Command.{command, reads_input, calls_boxes};
 ghost use Rattle.mg_run.specs.Boxes.{outers_told, MayBeHandedIn};
 ghost use Rattle.mg_run.specs.Task.{task};
-ghost use Rattle.mg_run.specs.Words.{asks_usage, asks_text, asked_of, command_by, command_of};
+ghost use Rattle.mg_words.specs.Words.{asks_usage, asks_text, asked_of, command_by, command_of};
 ghost use Rattle.mg_run.specs.Devices.{Device, device, with_run, told_at, told_apart, told_by, SameDevices, Untouched, HasEnded, HasRisen, NoneFailed, TookText, TookPart, Noted};
+ghost use Rattle.mg_run.specs.Headline.{RunsGraph, ran_statuses, Headline};
 ghost use Rattle.mg_run.specs.Call.{WasUsage, WasTold, Came, Called, Did, IsAnswered, IsOneOf};
 ghost use Rattle.mg_answer.specs.Notes.{write_note, memory_note};
-ghost use Rattle.mg_run.specs.Code.Asked.{asked_view};
+ghost use Rattle.mg_words.specs.Asked.{asked_view};
 ghost use Rattle.mg_run.specs.Code.Job.{job_view, MayRead, CanBeDone};
 ghost use Rattle.mg_edge.specs.Edge.{StoreTold};
 
 use crate::fault::Fault;
-use crate::help::{help_text, version_text};
 use crate::job::{Job, job_of};
 use crate::load::load_all;
 use crate::outers::outers_of;
-use crate::words::{Asked, Order, USAGE, asked_of};
 use mg_answer::{Devices, Run, Status, note_out_of_memory, note_write_fault, solve_input};
 use mg_calc::{Calculator, OuterShape};
 use mg_drive::{Crew, run_lines, run_made, trace_lines};
 use mg_edge::{Gate, Sink, Source, Store};
 use mg_feed::put_all;
+use mg_replay::replay_lines;
 use mg_value::MgText;
+use mg_words::{Asked, Order, asked_of, help_text, usage_text, version_text};
 use std::alloc::Global;
 use std::sync::Wait;
 use std::thread::Threads;
@@ -49,6 +50,13 @@ pub fn run_words<R: Threads + Wait + Sync, S: Source, K: Sink, E: Sink, T: Store
     // The help and the version are texts that are written.
     ensures told { (text : List ℕ) → asked_of words.now ≡ asks_text text → WasTold text result (told_apart T.told S.told K.told E.told (λ b. (Calculator-box b).told b.value)
         store.old store.new input.old input.new output.old output.new notes.old notes.new boxes.old boxes.new) }
+
+    // A `run` or a `generate` that nothing kept from its graph is one thing: there are one content of each file, one graph and its plan, one
+    // reading of the input and one solution, and the output, the notes, the status and the calls of every box are those of it. No limit of
+    // queues and no number of workers has a part in it.
+    ensures headline { IfSome (command_of words.now) (λ command. RunsGraph command.order.verb → IsOneOf result ran_statuses
+        → Headline (task command (outers_told (map (λ b. (Calculator-box b).told b.value) boxes.old.items))) result (told_apart T.told S.told K.told E.told (λ b. (Calculator-box b).told b.value)
+        store.old store.new input.old input.new output.old output.new notes.old notes.new boxes.old boxes.new)) }
 
     // What each other status means.
     ensures called { IfSome (command_of words.now) (λ command. Called result (task command (outers_told (map (λ b. (Calculator-box b).told b.value) boxes.old.items))) (told_apart T.told S.told K.told E.told (λ b. (Calculator-box b).told b.value)
@@ -158,7 +166,7 @@ fn do_asked<
         Asked::Help => told(devices.output, devices.notes, help_text()),
         Asked::Version => told(devices.output, devices.notes, version_text()),
         Asked::Usage => {
-            let _ = put_all(devices.notes, USAGE);
+            let _ = put_all(devices.notes, usage_text());
             Status::Usage
         }
     }
@@ -331,6 +339,16 @@ fn do_job<
             devices,
         ),
         Job::Trace(report, plan) => trace_lines(
+            &Run {
+                alloc,
+                plan: &plan,
+                report,
+            },
+            crew.gate,
+            boxes,
+            devices,
+        ),
+        Job::Replay(report, plan) => replay_lines(
             &Run {
                 alloc,
                 plan: &plan,

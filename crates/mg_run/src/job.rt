@@ -1,12 +1,11 @@
 //! What a command has to do with the contents of its files.
-ghost use Rattle.std.specs.Prelude.{◌≡◌, ◌≢◌, ◌≤◌, ℕ, pos, List, IfOk, IfErr, Ok, Err, Some, length, map, All};
+ghost use Rattle.std.specs.Prelude.{◌≡◌, ◌≤◌, ℕ, List, IfOk, IfErr, Ok, Err, length, map, All};
 ghost use Rattle.mg_config.specs.Config.{graph_view};
 ghost use Rattle.mg_config.specs.Sound.{IsSound, IsPrintable};
 ghost use Rattle.mg_calc.specs.declared.shape.OuterShape.{OuterShape};
-ghost use Rattle.mg_calc.specs.Plan.{IsValid, OutersFit};
 ghost use Rattle.mg_check.specs.Check.{check_of, IsOuterShape};
 ghost use Rattle.mg_subgraph.specs.Expansion.{expansion_of};
-ghost use Rattle.mg_run.specs.Command.{command};
+ghost use Rattle.mg_words.specs.Command.{command};
 ghost use Rattle.mg_run.specs.Task.{Task, task};
 ghost use Rattle.mg_run.specs.Answer as answers;
 ghost use Rattle.mg_run.specs.Code.Job.{job_view, CanBeDone};
@@ -17,15 +16,15 @@ use crate::check_note::{check_note, check_text};
 use crate::fault::Fault;
 use crate::files::graphs_of;
 use crate::free_note::free_note;
-use crate::limits::MOST_WORKERS;
 use crate::note::expand_note;
-use crate::words::{Order, Verb};
+use crate::way::{way_job, way_word};
 use mg_calc::{OuterShape, Plan};
 use mg_check::{CheckFault, check};
 use mg_config::{GraphConfig, write};
 use mg_subgraph::expand;
 use mg_text::print;
 use mg_value::MgText;
+use mg_words::{Order, Verb, Way};
 use std::alloc::{AllocError, Global};
 
 /// What there is to do.
@@ -43,6 +42,8 @@ pub enum Job {
     Generate(bool, u32, Plan),
     /// The graph of this plan is run, and the run is recorded, with a report or without.
     Trace(bool, Plan),
+    /// A recorded run of the graph of this plan is made again, with a report or without.
+    Replay(bool, Plan),
 }
 
 /// Reads the contents of the files of these names, and finds what the verb has to do with them, where these calculators
@@ -133,33 +134,9 @@ fn graph_job(
     ensures valid { IfOk result (λ job. CanBeDone outers.now (job_view job)) }
 {
     match order.verb {
-        Verb::Run => run_job(alloc, order, outers, &graph),
-        Verb::Solve => solve_job(alloc, order.report, outers, &graph),
         Verb::Check => check_job(alloc, outers, &graph),
         Verb::Expand => Ok(Job::Show(graph_text(alloc, graph)?)),
-        Verb::Generate => generate_job(alloc, order, outers, &graph),
-        Verb::Trace => trace_job(alloc, order, outers, &graph),
-    }
-}
-
-// A graph that has a plan without free nodes is solved, and any other is refused.
-fn solve_job(
-    alloc: Global,
-    report: bool,
-    outers: &[OuterShape],
-    graph: &GraphConfig,
-) -> Result<Job, AllocError>
-    requires few { length graph.now.nodes ≤ 4096 }
-    requires outers { All IsOuterShape outers.now }
-    ensures due { IfOk result (λ job. job_view job ≡ answers.solve_job report (check_of outers.now (graph_view graph.now))) }
-    ensures valid { IfOk result (λ job. CanBeDone outers.now (job_view job)) }
-{
-    match check(alloc, graph, outers) {
-        Ok(plan) => match free_note(alloc, b"solve", &plan)? {
-            Some(note) => Ok(Job::Refuse(note)),
-            None => Ok(Job::Solve(report, plan)),
-        },
-        Err(fault) => Ok(Job::Refuse(check_note(alloc, &fault)?)),
+        Verb::Use(way) => plan_job(alloc, way, order, outers, &graph),
     }
 }
 
@@ -176,131 +153,26 @@ fn check_job(alloc: Global, outers: &[OuterShape], graph: &GraphConfig) -> Resul
     }
 }
 
-// A graph that has a plan without free nodes is run, with the limit of queues that is asked for, and any other is refused.
-fn run_job(
+// A graph that has a plan without free nodes is run, solved or whatever else the way is, and any other is refused.
+fn plan_job(
     alloc: Global,
+    way: Way,
     order: Order,
     outers: &[OuterShape],
     graph: &GraphConfig,
 ) -> Result<Job, AllocError>
     requires few { length graph.now.nodes ≤ 4096 }
     requires outers { All IsOuterShape outers.now }
-    ensures due { IfOk result (λ job. job_view job ≡ answers.run_job order (check_of outers.now (graph_view graph.now))) }
+    ensures due { IfOk result (λ job. job_view job ≡ answers.plan_job way order (check_of outers.now (graph_view graph.now))) }
     ensures valid { IfOk result (λ job. CanBeDone outers.now (job_view job)) }
 {
     match check(alloc, graph, outers) {
-        Ok(plan) => match free_note(alloc, b"run", &plan)? {
+        Ok(plan) => match free_note(alloc, way_word(way).as_bytes(), &plan)? {
             Some(note) => Ok(Job::Refuse(note)),
-            None => Ok(Job::Run(order.report, as_asked(order, plan))),
+            None => Ok(way_job(way, order, plan)),
         },
         Err(fault) => Ok(Job::Refuse(check_note(alloc, &fault)?)),
     }
-}
-
-// The same over packets that are made.
-fn generate_job(
-    alloc: Global,
-    order: Order,
-    outers: &[OuterShape],
-    graph: &GraphConfig,
-) -> Result<Job, AllocError>
-    requires few { length graph.now.nodes ≤ 4096 }
-    requires outers { All IsOuterShape outers.now }
-    ensures due { IfOk result (λ job. job_view job ≡ answers.generate_job order (check_of outers.now (graph_view graph.now))) }
-    ensures valid { IfOk result (λ job. CanBeDone outers.now (job_view job)) }
-{
-    match check(alloc, graph, outers) {
-        Ok(plan) => match free_note(alloc, b"generate", &plan)? {
-            Some(note) => Ok(Job::Refuse(note)),
-            None => {
-                let plan = as_asked(order, plan);
-                Ok(Job::Generate(order.report, order.number, plan))
-            }
-        },
-        Err(fault) => Ok(Job::Refuse(check_note(alloc, &fault)?)),
-    }
-}
-
-// The same with a recorded run.
-fn trace_job(
-    alloc: Global,
-    order: Order,
-    outers: &[OuterShape],
-    graph: &GraphConfig,
-) -> Result<Job, AllocError>
-    requires few { length graph.now.nodes ≤ 4096 }
-    requires outers { All IsOuterShape outers.now }
-    ensures due { IfOk result (λ job. job_view job ≡ answers.trace_job order (check_of outers.now (graph_view graph.now))) }
-    ensures valid { IfOk result (λ job. CanBeDone outers.now (job_view job)) }
-{
-    match check(alloc, graph, outers) {
-        Ok(plan) => match free_note(alloc, b"trace", &plan)? {
-            Some(note) => Ok(Job::Refuse(note)),
-            None => Ok(Job::Trace(order.report, limited(order.limit, plan))),
-        },
-        Err(fault) => Ok(Job::Refuse(check_note(alloc, &fault)?)),
-    }
-}
-
-// A plan with a limit of queues, where there is one.
-fn limited(limit: Option<i32>, plan: Plan) -> Plan
-    ensures limit { result ≡ answers.with_limit limit plan }
-    ensures valid { IsValid plan → IsValid result }
-    ensures fit { (outers : List OuterShape) → OutersFit plan outers → OutersFit result outers }
-{
-    match limit {
-        Some(limit) => with_limit(limit, plan),
-        None => plan,
-    }
-}
-
-// A limit, or the plan's own where it is 0.
-fn limit_or(limit: i32, own: i32) -> i32
-    ensures limit { result ≡ answers.limit_or limit own }
-    ensures some { own ≢ pos 0 → result ≢ pos 0 }
-{
-    if limit == 0 { own } else { limit }
-}
-
-fn with_limit(limit: i32, plan: Plan) -> Plan
-    ensures limit { result ≡ answers.with_limit (Some limit) plan }
-    ensures valid { IsValid plan → IsValid result }
-    ensures fit { (outers : List OuterShape) → OutersFit plan outers → OutersFit result outers }
-{
-    let mut plan = plan;
-    plan.limit = limit_or(limit, plan.limit);
-    plan
-}
-
-// A plan that is run by so many workers, where the words say so.
-fn with_workers(workers: Option<u32>, plan: Plan) -> Plan
-    ensures workers { result ≡ answers.with_workers workers plan }
-    ensures valid { IsValid plan → IsValid result }
-    ensures fit { (outers : List OuterShape) → OutersFit plan outers → OutersFit result outers }
-{
-    match workers {
-        Some(workers) => worked_by(workers, plan),
-        None => plan,
-    }
-}
-
-fn worked_by(workers: u32, plan: Plan) -> Plan
-    ensures workers { result ≡ answers.with_workers (Some workers) plan }
-    ensures valid { IsValid plan → IsValid result }
-    ensures fit { (outers : List OuterShape) → OutersFit plan outers → OutersFit result outers }
-{
-    let mut plan = plan;
-    plan.workers = workers.min(MOST_WORKERS);
-    plan
-}
-
-// A plan as it is run.
-fn as_asked(order: Order, plan: Plan) -> Plan
-    ensures asked { result ≡ answers.as_asked order plan }
-    ensures valid { IsValid plan → IsValid result }
-    ensures fit { (outers : List OuterShape) → OutersFit plan outers → OutersFit result outers }
-{
-    with_workers(order.workers, limited(order.limit, plan))
 }
 
 /// The text of a configuration.

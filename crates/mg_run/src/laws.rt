@@ -1,5 +1,5 @@
 //! Laws of the definitions: each function does nothing, and its contract is the law.
-ghost use Rattle.std.specs.Prelude.{◌≡◌, ◌≤◌, ℕ, ℤ, Bool, List, ◌∷◌, Option, None, Ok, length};
+ghost use Rattle.std.specs.Prelude.{◌≡◌, ◌≤◌, ℕ, ℤ, Bool, List, ◌∷◌, Option, None, Some, Ok, length};
 ghost use Rattle.mg_calc.specs.declared.plan.Plan.{Plan};
 ghost use Rattle.mg_calc.specs.Told.{CalculatorTold};
 ghost use Rattle.mg_text.specs.Answer.{max_len};
@@ -7,8 +7,16 @@ ghost use Rattle.mg_config.specs.Config.{GraphView};
 ghost use Rattle.mg_subgraph.specs.Expansion.{expansion_of};
 ghost use Rattle.mg_run.specs.File.{File, graph, IsFile};
 ghost use Rattle.mg_run.specs.Files.{Files, AreGraphs, AreFiles};
+ghost use Rattle.mg_edge.specs.Edge.{SourceTold, StoreTold};
+ghost use Rattle.mg_feed.specs.Graph.{inputs_of};
+ghost use Rattle.mg_answer.specs.Answer.{Read, ended_input};
+ghost use Rattle.mg_answer.specs.Ran.{CameTo};
+ghost use Rattle.mg_answer.specs.declared.status.Status.{Status};
 ghost use Rattle.mg_run.specs.Task.{Task};
-ghost use Rattle.mg_run.specs.Answer.{Answer, Job, run_plan, solve, trace, job_of, with_limit, IsAnswerOf, Records, graph_text};
+ghost use Rattle.mg_run.specs.Devices.{Device, Devices, Unrisen};
+ghost use Rattle.mg_run.specs.Loads.{LoadedAll, loads_of};
+ghost use Rattle.mg_run.specs.Headline.{Headline};
+ghost use Rattle.mg_run.specs.Answer.{Answer, Job, run_plan, solve, trace, job_of, with_limit, IsAnswerOf, Records, Replays, graph_text};
 
 /// A content is one file at most: so what the program answers to it is one answer.
 pub fn one_file()
@@ -22,18 +30,20 @@ pub fn one_reading()
 {}
 
 /// To the bytes of an input the program has one answer at most, but for the events of a run that it records, which are those of any run
-/// of the job. Of a recorded run too there are one status and one text of notes, and they are those of the run.
+/// of the job. Of a recorded run too there are one status and one text of notes, and they are those of the run. What a recorded run comes to
+/// when it is made again isn't in it.
 pub fn one_answer()
-    ensures one { (job : Job) (boxes : List CalculatorTold) (input : List ℕ) (a b : Answer) → ¬ Records job → IsAnswerOf job boxes input a → IsAnswerOf job boxes input b → a ≡ b }
-    ensures ends { (job : Job) (boxes : List CalculatorTold) (input : List ℕ) (a b : Answer) → IsAnswerOf job boxes input a → IsAnswerOf job boxes input b → (a.notes ≡ b.notes) × (a.status ≡ b.status) }
+    ensures one { (job : Job) (boxes : List CalculatorTold) (input : List ℕ) (a b : Answer) → ¬ Records job → ¬ Replays job → IsAnswerOf job boxes input a → IsAnswerOf job boxes input b → a ≡ b }
+    ensures ends { (job : Job) (boxes : List CalculatorTold) (input : List ℕ) (a b : Answer) → ¬ Replays job → IsAnswerOf job boxes input a → IsAnswerOf job boxes input b → (a.notes ≡ b.notes) × (a.status ≡ b.status) }
     ensures as_run { (report : Bool) (plan : Plan) (boxes : List CalculatorTold) (input : List ℕ) (a b : Answer) → IsAnswerOf (trace report plan) boxes input a → IsAnswerOf (run_plan report plan) boxes input b
         → (a.notes ≡ b.notes) × (a.status ≡ b.status) }
 {}
 
 /// Neither the limit of queues nor the number of workers changes an answer: whatever the words ask for, the answer is that of the same words
-/// without these options. Of a recorded run the notes and the status are the same.
+/// without these options. Of a recorded run the notes and the status are the same. A recorded run is made again under the limit that the
+/// words ask for, so that isn't in it.
 pub fn limits_and_workers_change_no_answer()
-    ensures words { (task : Task) (files : Files) (boxes : List CalculatorTold) (input : List ℕ) (a : Answer) → ¬ Records (job_of task files)
+    ensures words { (task : Task) (files : Files) (boxes : List CalculatorTold) (input : List ℕ) (a : Answer) → ¬ Records (job_of task files) → ¬ Replays (job_of task files)
         → IsAnswerOf (job_of task files) boxes input a → IsAnswerOf (job_of (record task { order = record task.order { limit = None; workers = None } }) files) boxes input a }
     ensures recorded { (report : Bool) (limit : Option ℤ) (plan : Plan) (boxes : List CalculatorTold) (input : List ℕ) (a b : Answer)
         → IsAnswerOf (trace report (with_limit limit plan)) boxes input a → IsAnswerOf (run_plan report plan) boxes input b
@@ -59,4 +69,22 @@ pub fn texts_say_their_expansion()
 /// A graph is known by its text: two files that say graphs of the same text say the same graph.
 pub fn graphs_are_known_by_their_text()
     ensures { (a b : List ℕ) (g h : GraphView) → IsFile a (graph g) → IsFile b (graph h) → graph_text g ≡ graph_text h → g ≡ h }
+{}
+
+/// Devices that tell what they have pin what a run was of: the contents of the files are those that the store tells, and where no read
+/// failed, what came is the whole input.
+pub fn told_devices_pin_a_headline()
+    ensures contents { (names contents told : List (List ℕ)) (store : Device StoreTold) → LoadedAll names contents store → loads_of store.before.content names ≡ Some told → contents ≡ told }
+    ensures reading { (plan : Plan) (input : Device SourceTold) (read : Read) (bytes : List ℕ) → CameTo (inputs_of plan) input read → input.before.left ≡ Some bytes
+        → Unrisen input.before.faults input.now.faults → read ≡ ended_input (inputs_of plan) bytes }
+{}
+
+/// There is one headline: two calls with the same words and boxes, whose stores and inputs tell the same and of which no read failed, have
+/// the same plan, the same reading and the same solution, and so the same answer, whatever their limits and workers are.
+pub fn one_headline()
+    ensures { (task : Task) (status other_status : Status) (devices other : Devices) (contents : List (List ℕ)) (bytes : List ℕ) (a : Headline task status devices) (b : Headline task other_status other)
+        → loads_of devices.store.before.content task.files ≡ Some contents → loads_of other.store.before.content task.files ≡ Some contents
+        → devices.input.before.left ≡ Some bytes → other.input.before.left ≡ Some bytes
+        → Unrisen devices.input.before.faults devices.input.now.faults → Unrisen other.input.before.faults other.input.now.faults
+        → (a.plan ≡ b.plan) × (a.from ≡ b.from) × (a.run.streams ≡ b.run.streams) }
 {}

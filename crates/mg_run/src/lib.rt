@@ -4,22 +4,18 @@
 
 mod call;
 mod check_note;
-mod command_line;
 mod fault;
 mod files;
 mod free_note;
-mod help;
 mod job;
 pub mod laws;
-mod limits;
+mod limited;
 mod load;
 mod note;
-mod options;
 mod outers;
 mod tally;
-mod words;
+mod way;
 
 pub use call::run_words;
 pub use mg_answer::{Status, note_out_of_memory};
 pub use tally::tally_box;
-pub use words::{Order, Verb};

@@ -1,5 +1,5 @@
 -- How a run of a net ends, and what it leaves.
-use Rattle.std.specs.Prelude.{◌≡◌, ◌⊎◌, ℕ, Bool, List, map, length, All, Option, Some, slice_get}
+use Rattle.std.specs.Prelude.{◌≡◌, ◌⊎◌, ℕ, Bool, List, map, Option, Some, slice_get}
 use Rattle.mg_edge.specs.Edge.{SourceTold, SinkTold}
 use Rattle.mg_value.specs.Payload.{Plain}
 use Rattle.mg_value.specs.Prefix.{StreamPrefix}
@@ -14,7 +14,7 @@ use Rattle.mg_feed.specs.declared.feed_end.FeedEnd.{FeedEnd}
 use Rattle.mg_feed.specs.declared.feed_end.BatchEnd.{BatchEnd}
 use Rattle.mg_feed.specs.declared.feed_end.BatchEnd.TheVariants.{End}
 use Rattle.mg_answer.specs.Answer.{Form, output_in}
-use Rattle.mg_answer.specs.Devices.{Device, device, RunDevices, Untouched}
+use Rattle.mg_answer.specs.Devices.{Device, device, RunDevices}
 use Rattle.mg_answer.specs.Put.{TextView, HasPut}
 use Rattle.mg_answer.specs.Wrote.{Wrote}
 use Rattle.mg_answer.specs.declared.outcomes.Outcomes.{Outcomes}
@@ -28,6 +28,7 @@ use Rattle.mg_sched.specs.Reports.{report_of}
 use Rattle.mg_sched.specs.declared.report.StreamEnd as nets
 use Rattle.mg_drive.specs.Batches.{IsMore, logged}
 use Rattle.mg_drive.specs.Leaves.{HadCallsOf}
+pub use Rattle.mg_drive.specs.OneRun.{CameBack, WasNothing}
 use Rattle.mg_drive.specs.Code.Running.{Giving, Telling, Start, job_with, IsToldSome, FrontIn}
 
 -- all of what a job's solution is told by was put, in a form
@@ -58,11 +59,6 @@ pub record HadAllOf (job : LoggedJob) (net : NetView) : Type 0 where
   pub solution : IsSolution job.job streams
   pub each : (number place : ℕ) (node : PlanNode) → slice_get job.job.plan.nodes number ≡ Some node → node.box_number ≡ Some place → IsOuter node.law
       → ComesBack job streams node place net
-
--- the calculators that came back: as many, and those that no node uses as they were
-pub record CameBack (plan : Plan) (before now : List CalculatorTold) : Type 0 where
-  pub count : length now ≡ length before
-  pub unused : (place : ℕ) → All (λ node. ¬ (node.box_number ≡ Some place)) plan.nodes → slice_get now place ≡ slice_get before place
 
 -- a net stood for some job with these logs, or for one that it was wound up for since
 pub record StoodWith (logs : List (Option (List Call))) (net : NetView) : Type 0 where
@@ -109,10 +105,5 @@ pub record WasShort {B T : Type 0} (gives : Giving B) (has_told : Telling T) (fo
   pub front : IsToldSome has_told (record { plan = plan; inputs = inputs }) devices.output.before devices.output.now
       ⊎ FrontIn form devices.output.before devices.output.now (record { plan = plan; inputs = inputs })
 
--- nothing had been written or called
-pub record WasNothing (devices : RunDevices) (boxes : Device (List CalculatorTold)) : Type 0 where
-  pub unwritten : Untouched devices.output
-  pub uncalled : Untouched boxes
-
 abbrev pub RanShort : {B T : Type 0} → Giving B → Telling T → Form → B → Plan → RunDevices → Device (List CalculatorTold) → Type 0
-RanShort gives has_told form began plan devices boxes = WasNothing devices boxes ⊎ WasShort gives has_told form began plan devices boxes
+RanShort gives has_told form began plan devices boxes = WasNothing devices.output boxes ⊎ WasShort gives has_told form began plan devices boxes

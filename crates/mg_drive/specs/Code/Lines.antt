@@ -11,8 +11,8 @@ use Rattle.mg_feed.specs.View.{View}
 use Rattle.mg_feed.specs.Stands.{Stands, nothing_taken, packets_of}
 use Rattle.mg_feed.specs.Fed.{Fed}
 use Rattle.mg_feed.specs.Came.{Came}
-use Rattle.mg_feed.specs.Ran.{MetEnd, Unfailed, FailedBy}
-use Rattle.mg_feed.specs.Batch.{EndsAs}
+use Rattle.mg_feed.specs.Ran.{MetEnd, Spends, Unfailed, FailedBy}
+use Rattle.mg_feed.specs.Batch.{EndsAs, idle_by}
 use Rattle.mg_feed.specs.declared.feed_end.FeedEnd.TheVariants.{OutOfMemory}
 use Rattle.mg_feed.specs.declared.feed_end.BatchEnd.{BatchEnd}
 use Rattle.mg_feed.specs.declared.feed_end.BatchEnd.TheVariants.{More, End}
@@ -46,6 +46,7 @@ pub record IsRead (plan : Plan) (first : SourceTold) (end : BatchEnd) (source : 
   pub gave : Gave first.left source.left past
   pub came : Came [] past lines (packets_of (given_by (inputs_of plan) lines).streams) fed
   pub met : MetEnd false fed.read.ended first source
+  pub spent : Spends 0 (idle_by end fed.read.ended) first.left source.left first.reads source.reads
   pub so : ReadsAs end plan first source fed past lines
 
 -- A feed took a batch behind these lines: more of them came. What it hands on is what it then had and had not handed on before.

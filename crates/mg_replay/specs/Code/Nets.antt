@@ -1,9 +1,51 @@
 -- A net on which a recorded run is made again.
-use Rattle.std.specs.Prelude.{◌≡◌, Bool, true, false, List, [], ◌∷◌}
+use Rattle.std.specs.Prelude.{◌≡◌, ◌⊎◌, Bool, true, false, List, [], ◌∷◌, Some}
+use Rattle.mg_edge.specs.Edge.{SourceTold}
+use Rattle.mg_value.specs.Payload.{Plain}
+use Rattle.mg_value.specs.Prefix.{StreamPrefix}
 use Rattle.mg_calc.specs.declared.event.Event.{Event}
+use Rattle.mg_calc.specs.declared.inputs.Inputs.{Inputs}
+use Rattle.mg_calc.specs.declared.plan.Plan.{Plan}
+use Rattle.mg_calc.specs.Equations.{IsSolution}
+use Rattle.mg_calc.specs.Told.{CalculatorTold}
 use Rattle.mg_sched.specs.Views.{NetView}
+use Rattle.mg_node.specs.Job.{LoggedJob}
+use Rattle.mg_sched.specs.Made.{job_of, IsMade}
+use Rattle.mg_sched.specs.GivesBack.{StoodFor}
+use Rattle.mg_sched.specs.StandsFor.{StandsFor}
 use Rattle.mg_sched.specs.AtRest.{IsAtRest}
-use Rattle.mg_replay.specs.Replay.{MayGoOn}
+use Rattle.mg_answer.specs.Text.{output_of}
+use Rattle.mg_answer.specs.Devices.{Device, device, RunDevices, Untouched, TookFront}
+use Rattle.mg_answer.specs.declared.status.Status.{Status}
+use Rattle.mg_drive.specs.Leaves.{HadFronts}
+use Rattle.mg_drive.specs.Code.Ending.{HadAllOf}
+use Rattle.mg_replay.specs.Replay.{MayGoOn, WasRead}
+use Rattle.mg_replay.specs.Replayed.{job_over, WroteEnd, HadEnd}
+use Rattle.mg_replay.specs.Reading.{HasOpened}
+use Rattle.mg_replay.specs.declared.trace_end.TraceEnd.{TraceEnd}
+use Rattle.mg_replay.specs.declared.trace_end.TraceEnd.TheVariants.{Accepted, Refused, Failed}
+
+-- the devices of a call whose input told this at its beginning
+abbrev pub told_since : SourceTold → RunDevices → RunDevices
+told_since first devices = record devices { input = device first devices.input.now }
+
+-- a run is accepted
+abbrev pub accepts : TraceEnd → Bool
+accepts Accepted = true
+accepts (Refused line cause) = false
+accepts (Failed lines) = false
+
+-- there are inputs and calculators for which a net was made
+pub record IsSomeMade (plan : Plan) (net : NetView) : Type 0 where
+  pub inputs : Inputs
+  pub boxes : List CalculatorTold
+  pub made : IsMade plan inputs boxes net
+
+-- a net stands for a job of a plan
+pub record StandsForPlan (plan : Plan) (net : NetView) : Type 0 where
+  pub job : LoggedJob
+  pub plan_is : job.job.plan ≡ plan
+  pub stands : StandsFor job net
 
 -- a net was looked over: it is at rest, and was left as it is; or it could go on
 abbrev pub LooksOver : Bool → NetView → NetView → Type 0
@@ -14,3 +56,35 @@ LooksOver false before now = MayGoOn before
 abbrev pub are_some : List Event → Bool
 are_some [] = false
 are_some (event ∷ events) = true
+
+-- A recorded run was made again on a net that was made, and what is due then was written.
+pub record NetReplayed (report : Bool) (plan : Plan) (inputs : Inputs) (boxes : List CalculatorTold) (status : Status) (devices : RunDevices) (net : NetView) : Type 0 where
+  pub end : TraceEnd
+  pub read : WasRead plan boxes devices.input (Some inputs) end
+  pub wrote : WroteEnd end report plan (Some inputs) status devices.output devices.notes
+  pub had : HadAllOf (job_of plan inputs boxes) net
+  pub stood : StoodFor (job_of plan inputs boxes) net
+
+-- What the output took where memory ran out: nothing, or a front of the text of a run that is accepted.
+abbrev pub TookOf : Plan → Inputs → List CalculatorTold → RunDevices → Type 0
+TookOf plan inputs boxes devices =
+    Untouched devices.output ⊎ (WasRead plan boxes devices.input (Some inputs) Accepted
+    × ((streams : List (StreamPrefix Plain)) → IsSolution (job_over plan inputs) streams → TookFront devices.output (output_of plan streams)))
+
+-- Memory ran out meanwhile.
+pub record NetShort (plan : Plan) (inputs : Inputs) (boxes : List CalculatorTold) (devices : RunDevices) (net : NetView) : Type 0 where
+  pub took : TookOf plan inputs boxes devices
+  pub opened : HasOpened plan devices.input inputs
+  pub stood : StoodFor (job_of plan inputs boxes) net
+
+-- So it is of the run as a whole, by the calculators that were handed in.
+pub record JobReplayed (report : Bool) (plan : Plan) (inputs : Inputs) (status : Status) (devices : RunDevices) (boxes : Device (List CalculatorTold)) : Type 0 where
+  pub end : TraceEnd
+  pub read : WasRead plan boxes.before devices.input (Some inputs) end
+  pub wrote : WroteEnd end report plan (Some inputs) status devices.output devices.notes
+  pub had : HadEnd end plan (Some inputs) boxes
+
+pub record JobShort (plan : Plan) (inputs : Inputs) (devices : RunDevices) (boxes : Device (List CalculatorTold)) : Type 0 where
+  pub took : TookOf plan inputs boxes.before devices
+  pub opened : HasOpened plan devices.input inputs
+  pub fronts : HadFronts (job_over plan inputs) boxes

@@ -1,5 +1,5 @@
 -- A recorded run while it is read.
-use Rattle.std.specs.Prelude.{◌≡◌, ◌⊎◌, ℕ, ◌+◌, ◌≤◌, true, false, List, [], ◌++◌, codes, Option, None, Some}
+use Rattle.std.specs.Prelude.{◌≡◌, ◌⊎◌, ℕ, ◌+◌, ◌≤◌, true, false, List, [], ◌∷◌, ◌++◌, codes, Option, None, Some}
 use Rattle.std.specs.Str.{bytes_eq}
 use Rattle.mg_edge.specs.Edge.{SourceTold}
 use Rattle.mg_edge.specs.Runs.{Gave}
@@ -8,6 +8,7 @@ use Rattle.mg_calc.specs.declared.event.Effect.TheVariants.{Did, Idle}
 use Rattle.mg_calc.specs.declared.inputs.Inputs.{Inputs}
 use Rattle.mg_calc.specs.declared.plan.Plan.{Plan}
 use Rattle.mg_calc.specs.Told.{CalculatorTold}
+use Rattle.mg_feed.specs.Graph.{inputs_of}
 use Rattle.mg_feed.specs.View.{View}
 use Rattle.mg_feed.specs.Lines.{all_lines}
 use Rattle.mg_feed.specs.Fed.{Reading}
@@ -22,7 +23,7 @@ use Rattle.mg_sched.specs.Views.{NetView}
 use Rattle.mg_sched.specs.Acts.{Acts}
 use Rattle.mg_sched.specs.AtRest.{IsAtRest}
 use Rattle.mg_answer.specs.Devices.{device}
-use Rattle.mg_replay.specs.Opening.{is_end_word}
+use Rattle.mg_replay.specs.Opening.{is_end_word, ArePackets, inputs_with}
 use Rattle.mg_replay.specs.Code.Packets.{Takes}
 use Rattle.mg_replay.specs.declared.trace_end.TraceFault.{TraceFault}
 use Rattle.mg_replay.specs.declared.trace_end.TraceFault.TheVariants.{BadEvent, IdleEvent, NotAtRest, NoEnd, AfterEnd}
@@ -31,7 +32,7 @@ use Rattle.mg_replay.specs.declared.trace_end.TraceEnd.{TraceEnd}
 use Rattle.mg_replay.specs.declared.trace_end.TraceEnd.TheVariants.{Accepted, Refused, Failed as Failed_at}
 use Rattle.mg_replay.specs.declared.opening.Opened.{Opened}
 use Rattle.mg_replay.specs.declared.opening.Opened.TheVariants.{Job, Stopped}
-use Rattle.mg_replay.specs.Reading.{IsOpening, Opens, IsMaking}
+use Rattle.mg_replay.specs.Reading.{IsReading, IsOpening, Opens, IsMaking}
 
 -- Bytes came, and whatever comes behind them, the lines that were handed out before stand in front of all lines.
 pub record ComesBehind (before now : SourceTold) (old new : Reading) : Type 0 where
@@ -64,6 +65,13 @@ TakesLine (Some (Stopped end)) line number old new = (is_end_word line ≡ false
 abbrev pub OpensOn : Option Opened → Plan → SourceTold → SourceTold → Reading → ℕ → View → View → Type 0
 OpensOn None plan first now read number old view = IsOpening plan first now read number view × (view.lines ≡ old.lines + 1) × (view.lines ≤ most_lines)
 OpensOn (Some opened) plan first now read number old view = Opens opened plan first now read number view
+
+-- The lines of a job were read, which has these inputs.
+pub record HasInputs (plan : Plan) (inputs : Inputs) (first now : SourceTold) (read : Reading) (number : ℕ) : Type 0 where
+  pub given : List (List ℕ)
+  pub reading : IsReading first now read number (given ++ end_word inputs.ended ∷ [])
+  pub packets : ArePackets (inputs_of plan) [] given
+  pub inputs_are : inputs ≡ inputs_with plan given inputs.ended
 
 -- one line more was read, or the reading ended
 abbrev pub MakesOn : Option TraceEnd → Plan → List CalculatorTold → Inputs → SourceTold → SourceTold → Reading → ℕ → NetView → Type 0

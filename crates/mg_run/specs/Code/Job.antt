@@ -2,9 +2,9 @@
 use Rattle.std.specs.Prelude.{List}
 use Rattle.mg_calc.specs.declared.shape.OuterShape.{OuterShape}
 use Rattle.mg_calc.specs.Plan.{IsValid, OutersFit}
-use Rattle.mg_run.specs.Answer.{Job, refuse, show, run_plan, solve, generate, trace}
+use Rattle.mg_run.specs.Answer.{Job, refuse, show, run_plan, solve, generate, trace, replay}
 use Rattle.mg_run.specs.declared.job.Job as code
-use Rattle.mg_run.specs.declared.job.Job.TheVariants.{Refuse, Show, Run, Solve, Generate, Trace}
+use Rattle.mg_run.specs.declared.job.Job.TheVariants.{Refuse, Show, Run, Solve, Generate, Trace, Replay}
 
 abbrev pub job_view : code.Job → Job
 job_view (Refuse note) = refuse note.items
@@ -13,6 +13,7 @@ job_view (Run report plan) = run_plan report plan
 job_view (Solve report plan) = solve report plan
 job_view (Generate report number plan) = generate report number plan
 job_view (Trace report plan) = trace report plan
+job_view (Replay report plan) = replay report plan
 
 abbrev pub MayRead : Job → Type 0
 MayRead (refuse note) = ⊥
@@ -21,6 +22,7 @@ MayRead (run_plan report plan) = Unit {0}
 MayRead (solve report plan) = Unit {0}
 MayRead (generate report number plan) = ⊥
 MayRead (trace report plan) = Unit {0}
+MayRead (replay report plan) = Unit {0}
 
 -- A plan that is run or solved is valid, and the calculators that are handed in fit one that is run.
 abbrev pub CanBeDone : List OuterShape → Job → Type 0
@@ -30,3 +32,4 @@ CanBeDone outers (run_plan report plan) = IsValid plan × OutersFit plan outers
 CanBeDone outers (solve report plan) = IsValid plan
 CanBeDone outers (generate report number plan) = IsValid plan × OutersFit plan outers
 CanBeDone outers (trace report plan) = IsValid plan × OutersFit plan outers
+CanBeDone outers (replay report plan) = IsValid plan × OutersFit plan outers

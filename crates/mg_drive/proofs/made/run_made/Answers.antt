@@ -1,25 +1,14 @@
-use Rattle.std.proofs.Common.{map}
-use Rattle.mg_answer.specs.Answer.{generated_job}
-use Rattle.mg_answer.specs.Devices.{device}
+use Rattle.std.proofs.Common.{inl, inr, refl}
 use Rattle.mg_answer.specs.Notes.{memory_note}
 use Rattle.mg_answer.proofs.Answering.{noted-then}
-use Rattle.mg_drive.proofs.FrontsBack.{all_are_fronts}
 use Rattle.mg_drive.proofs.made.run_made.Goals as goal
 
-pub returns-in-Ok-clause-left : goal.returns-in-Ok-clause-left
-returns-in-Ok-clause-left g c =
-    let back = c.run_whole.ensures.back in
-    let had = c.in-Ok.ensures.used in
-    record {
-      count = back.count;
-      unused = back.unused;
-      used = λ memory. had;
-      short = λ none. all_are_fronts (generated_job c.args.run.now.plan.now c.args.number) (device (map g.C.Calculator.told c.args.boxes.now.items) (map g.C.Calculator.told c.run_whole.new.boxes.items)) had;
-    }
+pub returns-in-Ok-clause-ran : goal.returns-in-Ok-clause-ran
+returns-in-Ok-clause-ran g c = inl c.in-Ok.ensures.ran
 
 pub returns-in-Err-clause-ran : goal.returns-in-Err-clause-ran
-returns-in-Err-clause-ran g c = (
-  c.in-Err.ensures.short,
-  noted-then (g.E.Sink.told c.args.devices.now.notes.now) (g.E.Sink.told c.run_whole.new.devices.notes.now) (g.E.Sink.told c.note_out_of_memory.new.notes) memory_note c.in-Err.ensures.unnoted
-      c.note_out_of_memory.ensures,
-)
+returns-in-Err-clause-ran g c = inr (record {
+  is = refl;
+  noted = noted-then (g.E.Sink.told c.args.devices.now.notes.now) (g.E.Sink.told c.run_whole.new.devices.notes.now) (g.E.Sink.told c.note_out_of_memory.new.notes) memory_note c.in-Err.ensures.unnoted c.note_out_of_memory.ensures;
+  by = c.in-Err.ensures.short;
+})

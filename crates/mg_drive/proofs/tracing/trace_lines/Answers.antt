@@ -3,7 +3,7 @@ use Rattle.mg_answer.specs.Held.{told_by}
 use Rattle.mg_answer.specs.Devices.{device}
 use Rattle.mg_answer.specs.Notes.{memory_note}
 use Rattle.mg_answer.proofs.Answering.{noted-then}
-use Rattle.mg_drive.proofs.LinesRan.{all_are_some}
+use Rattle.mg_drive.proofs.RecordedRuns.{all_are_some}
 use Rattle.mg_drive.proofs.tracing.trace_lines.Goals as goal
 
 pub returns-in-Ok-clause-left : goal.returns-in-Ok-clause-left

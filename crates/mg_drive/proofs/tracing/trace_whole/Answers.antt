@@ -1,10 +1,7 @@
-use Rattle.std.proofs.Common.{map, List, inl, inr, refl, sym, subst}
+use Rattle.std.proofs.Common.{map, inl, inr, refl}
 use Rattle.std.proofs.lemmas.Result.{err_from_is_err_and}
-use Rattle.mg_calc.specs.Told.{CalculatorTold}
 use Rattle.mg_answer.specs.Devices.{device}
-use Rattle.mg_drive.specs.Leaves.{HadSome}
 use Rattle.mg_drive.proofs.BoxesBack.{same_back}
-use Rattle.mg_drive.proofs.LinesRan.{had_none}
 use Rattle.mg_drive.proofs.RecordedRuns.{traced_read, had_read, short_read, some_read}
 use Rattle.mg_drive.proofs.tracing.trace_whole.Goals as goal
 
@@ -16,8 +13,7 @@ returns-in_err-whole-clause-short g c =
 pub returns-in_err-whole-clause-fronts : goal.returns-in_err-whole-clause-fronts
 returns-in_err-whole-clause-fronts g c =
     let is = err_from_is_err_and c.from_residual.result c.from_residual.ensures.1 in
-    rw is.1
-    (had_none c.args.run.now.plan.now (device (g.S.Source.told c.args.devices.now.input.now) (g.S.Source.told c.read_whole.new.input)) (map g.C.Calculator.told c.args.boxes.now.items) c.requires.valid c.requires.boxes)
+    rw is.1 (inl refl)
 
 pub returns-in_err-whole-clause-back : goal.returns-in_err-whole-clause-back
 returns-in_err-whole-clause-back g c = same_back c.args.run.now.plan.now (map g.C.Calculator.told c.args.boxes.now.items) (map g.C.Calculator.told c.args.boxes.now.items) refl
@@ -30,8 +26,7 @@ returns-in_err-lines-clause-short g c =
 pub returns-in_err-lines-clause-fronts : goal.returns-in_err-lines-clause-fronts
 returns-in_err-lines-clause-fronts g c =
     let is = err_from_is_err_and c.from_residual-in_err-lines.result c.from_residual-in_err-lines.ensures.1 in
-    rw is.1
-    (had_none c.args.run.now.plan.now (device (g.S.Source.told c.args.devices.now.input.now) (g.S.Source.told c.read_whole.new.input)) (map g.C.Calculator.told c.args.boxes.now.items) c.requires.valid c.requires.boxes)
+    rw is.1 (inl refl)
 
 pub returns-in_err-lines-clause-back : goal.returns-in_err-lines-clause-back
 returns-in_err-lines-clause-back g c = same_back c.args.run.now.plan.now (map g.C.Calculator.told c.args.boxes.now.items) (map g.C.Calculator.told c.args.boxes.now.items) refl
@@ -52,8 +47,7 @@ returns-in_err-status-clause-fronts g c =
     let is = err_from_is_err_and c.from_residual-in_err-status.result c.from_residual-in_err-status.ensures.1 in
     let input = device (g.S.Source.told c.args.devices.now.input.now) (g.S.Source.told c.read_whole.new.input) in
     rw is.1 (elim c.in_err-status.ensures.short [
-      | inl nothing ↦ subst (λ (bs : List CalculatorTold). HadSome c.args.run.now.plan.now input (device (map g.C.Calculator.told c.args.boxes.now.items) bs)) (sym nothing.1)
-          (had_none c.args.run.now.plan.now input (map g.C.Calculator.told c.args.boxes.now.items) c.requires.valid c.requires.boxes)
+      | inl nothing ↦ inl nothing.1
       | inr short ↦ some_read c.args.run.now.plan.now c.in_ok-whole.whole.inputs input c.in_ok-whole.whole.end _ (map g.C.Calculator.told c.args.boxes.now.items) (map g.C.Calculator.told c.trace_job.new.boxes.items) c.requires.boxes
           (record { plan = c.requires.valid; inputs = c.in_ok-whole.ensures.fits }) c.in_ok-whole.ensures.gathered short
     ])

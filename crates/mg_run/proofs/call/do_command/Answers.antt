@@ -1,6 +1,6 @@
 use Rattle.std.proofs.Common.{map}
 use Rattle.mg_run.specs.Boxes.{outers_told}
-use Rattle.mg_run.specs.Command.{command}
+use Rattle.mg_words.specs.Command.{command}
 use Rattle.mg_run.specs.Task.{task}
 use Rattle.mg_run.proofs.Calling.{short-nothing}
 use Rattle.mg_run.proofs.call.do_command.Goals as goal

@@ -1,7 +1,9 @@
-use Rattle.std.proofs.Common.{map, subst}
+use Rattle.std.proofs.Common.{map, sym, subst}
 use Rattle.mg_run.specs.Boxes.{outers_told}
 use Rattle.mg_run.specs.Code.Job.{job_view, CanBeDone}
 use Rattle.mg_run.specs.declared.job.Job.{Job}
+use Rattle.mg_run.specs.Call.{Did}
+use Rattle.mg_run.specs.Devices.{device, with_run, told_by}
 use Rattle.mg_run.proofs.Handing.{boxes_fit}
 use Rattle.mg_run.proofs.call.do_job.Goals as goal
 
@@ -19,3 +21,13 @@ pub run_made-requires-clause-boxes : goal.run_made-requires-clause-boxes
 run_made-requires-clause-boxes g c κs within =
     let can = subst (λ (job : Job). CanBeDone (outers_told (map g.C.Calculator.told c.args.boxes.now.items)) (job_view job)) c.in-Generate.is c.requires.can in
     boxes_fit c.in-Generate.plan (map g.C.Calculator.told c.args.boxes.now.items) can.1 c.requires.lawful
+
+pub replay_lines-requires-clause-boxes : goal.replay_lines-requires-clause-boxes
+replay_lines-requires-clause-boxes g c =
+    let can = subst (λ (job : Job). CanBeDone (outers_told (map g.C.Calculator.told c.args.boxes.now.items)) (job_view job)) c.in-Replay.is c.requires.can in
+    boxes_fit c.in-Replay.plan (map g.C.Calculator.told c.args.boxes.now.items) can.1 c.requires.lawful
+
+pub returns-in-Run-clause-did : goal.returns-in-Run-clause-did
+returns-in-Run-clause-did g c = λ store.
+    subst (λ (job : Job). Did (job_view job) c.run_lines.result (with_run store (told_by g.S.Source.told g.K.Sink.told g.E.Sink.told c.args.devices.now c.run_lines.new.devices) (device (map g.C.Calculator.told c.args.boxes.now.items) (map g.C.Calculator.told c.run_lines.new.boxes.items)))) (sym c.in-Run.is)
+    c.run_lines.ensures.ran

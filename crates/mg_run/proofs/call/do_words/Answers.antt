@@ -1,6 +1,6 @@
 use Rattle.std.proofs.Common.{subst, map}
 use Rattle.mg_run.specs.Boxes.{outers_told}
-use Rattle.mg_run.specs.Words.{Asked, asked_of}
+use Rattle.mg_words.specs.Words.{Asked, asked_of}
 use Rattle.mg_run.specs.Devices.{told_at}
 use Rattle.mg_run.specs.Call.{Came}
 use Rattle.mg_run.proofs.Coming.{came-nothing, unread-nothing}

@@ -1,6 +1,7 @@
 use Rattle.std.proofs.Common.{sym, ap}
-use Rattle.mg_run.specs.Words.{asked_of}
+use Rattle.mg_words.specs.Words.{asked_of}
 use Rattle.mg_run.proofs.Coming.{came-usage, came-note, came-told, came-called, came-answered, came-noted, came-ended, came-store, came-read, came-write, came-boxes, count-of, came-uncalled, came_apart, unread_apart}
+use Rattle.mg_run.proofs.Headlines.{came-headline}
 use Rattle.mg_run.proofs.call.run_words.Goals as goal
 
 pub returns-clause-usage : goal.returns-clause-usage
@@ -53,3 +54,7 @@ returns-clause-uncalled g c = came-uncalled _ (asked_of c.args.words.now) c.do_w
 
 pub returns-clause-unread : goal.returns-clause-unread
 returns-clause-unread g c = unread_apart _ _ _ _ (ap g.S.Source.told (c.input-1.given.1 (sym c.do_words.ensures.same.same_input))) c.do_words.ensures.unread
+
+pub returns-clause-headline : goal.returns-clause-headline
+returns-clause-headline g c = came-headline _ (asked_of c.args.words.now) c.do_words.result _ (came_apart _ _ _ _ _ _ _ _ _ _ _ _ _ _ (ap g.S.Source.told (c.input-1.given.1 (sym c.do_words.ensures.same.same_input))) (ap g.K.Sink.told (c.output-1.given.1 (sym c.do_words.ensures.same.same_output)))
+    (ap g.E.Sink.told (c.notes-1.given.1 (sym c.do_words.ensures.same.same_notes))) c.do_words.ensures.came)

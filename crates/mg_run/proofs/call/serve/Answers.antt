@@ -1,7 +1,7 @@
 use Rattle.std.proofs.Common.{◌∙◌, sym, map, List, All, subst}
 use Rattle.mg_calc.specs.declared.shape.OuterShape.{OuterShape}
 use Rattle.mg_subgraph.proofs.Steps.{length-map}
-use Rattle.mg_run.specs.Command.{command}
+use Rattle.mg_words.specs.Command.{command}
 use Rattle.mg_run.specs.Task.{task}
 use Rattle.mg_run.specs.Boxes.{MayBeHandedIn}
 use Rattle.mg_run.specs.Code.Job.{job_view, CanBeDone}
@@ -32,13 +32,13 @@ returns-in-Ok-job_of-clause-unread g c =
 pub returns-in-Err-clause-called : goal.returns-in-Err-clause-called
 returns-in-Err-clause-called g c =
     short-nothing (task (command c.args.duty.now.order c.args.duty.now.files.now) c.args.duty.now.outers.now) (device (g.T.Store.told c.args.store.now) (g.T.Store.told c.load_all.new.store))
-    (device (g.S.Source.told c.args.devices.now.input.now) (g.S.Source.told c.args.devices.now.input.now)) (g.K.Sink.told c.args.devices.now.output.now)
+    (g.S.Source.told c.args.devices.now.input.now) (g.K.Sink.told c.args.devices.now.output.now)
     (device (g.E.Sink.told c.args.devices.now.notes.now) (g.E.Sink.told c.note_out_of_memory.new.notes)) (map g.C.Calculator.told c.args.boxes.now.items) c.note_out_of_memory.ensures
 
 pub returns-in-Err-OutOfMemory-clause-called : goal.returns-in-Err-OutOfMemory-clause-called
 returns-in-Err-OutOfMemory-clause-called g c =
     short-nothing (task (command c.args.duty.now.order c.args.duty.now.files.now) c.args.duty.now.outers.now) (device (g.T.Store.told c.args.store.now) (g.T.Store.told c.load_all.new.store))
-    (device (g.S.Source.told c.args.devices.now.input.now) (g.S.Source.told c.args.devices.now.input.now)) (g.K.Sink.told c.args.devices.now.output.now)
+    (g.S.Source.told c.args.devices.now.input.now) (g.K.Sink.told c.args.devices.now.output.now)
     (device (g.E.Sink.told c.args.devices.now.notes.now) (g.E.Sink.told c.note_out_of_memory-in-Err-OutOfMemory.new.notes)) (map g.C.Calculator.told c.args.boxes.now.items) c.note_out_of_memory-in-Err-OutOfMemory.ensures
 
 pub do_job-requires-clause-can : goal.do_job-requires-clause-can

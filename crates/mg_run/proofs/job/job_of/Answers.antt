@@ -6,7 +6,7 @@ use Rattle.mg_config.specs.Config.{graph_view}
 use Rattle.mg_config.specs.Sound.{IsSound, IsPrintable}
 use Rattle.mg_config.specs.declared.graph.GraphConfig.{GraphConfig}
 use Rattle.mg_run.specs.Files.{graphs, AreGraphs}
-use Rattle.mg_run.specs.Command.{command}
+use Rattle.mg_words.specs.Command.{command}
 use Rattle.mg_run.specs.Task.{task}
 use Rattle.mg_run.specs.Answer as answers
 use Rattle.mg_run.specs.Code.Reads.{contents_of, AreNotedOf}

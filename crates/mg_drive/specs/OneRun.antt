@@ -1,0 +1,110 @@
+-- A run as one thing: there are one reading of its input, one job and one solution of it, and all that is seen of the run is theirs, the
+-- output, the notes, the status, and the calls of the calculators that are handed in.
+use Rattle.std.specs.Prelude.{◌≡◌, ◌⊎◌, ℕ, List, [], ◌++◌, length, All, Bool, true, false, Some, slice_get}
+use Rattle.mg_edge.specs.Edge.{SourceTold, SinkTold}
+use Rattle.mg_edge.specs.Runs.{Gave}
+use Rattle.mg_value.specs.Payload.{Plain}
+use Rattle.mg_value.specs.Prefix.{StreamPrefix}
+use Rattle.mg_calc.specs.declared.plan.Plan.{Plan}
+use Rattle.mg_calc.specs.declared.plan_node.PlanNode.{PlanNode}
+use Rattle.mg_calc.specs.Equations.{Job, IsSolution}
+use Rattle.mg_calc.specs.Told.{CalculatorTold}
+use Rattle.mg_feed.specs.Graph.{inputs_of}
+use Rattle.mg_feed.specs.Ran.{MetEnd}
+use Rattle.mg_feed.specs.declared.feed_end.FeedEnd.{FeedEnd}
+use Rattle.mg_feed.specs.declared.feed_end.FeedEnd.TheVariants.{Ended}
+use Rattle.mg_answer.specs.Answer.{Form, packet_lines, totals, Telling, by_lines, by_summary, Read, output_in, answer_of, failed_notes, ended_input, job_of, generated_job}
+use Rattle.mg_answer.specs.Notes.{memory_note}
+use Rattle.mg_answer.specs.Devices.{Device, RunDevices, Untouched, TookFront, Noted}
+use Rattle.mg_answer.specs.Wrote.{WroteBy}
+use Rattle.mg_answer.specs.Ran.{CameTo}
+use Rattle.mg_answer.specs.declared.status.Status.{Status}
+use Rattle.mg_answer.specs.declared.status.Status.TheVariants.{OutOfMemory}
+use Rattle.mg_drive.specs.Leaves.{IsAt, HadItsCalls, HadAFront}
+
+-- All calculators come back in their order, and one that no node uses had no call.
+pub record CameBack (plan : Plan) (before now : List CalculatorTold) : Type 0 where
+  pub count : length now ≡ length before
+  pub unused : (place : ℕ) → All (λ node. ¬ (node.box_number ≡ Some place)) plan.nodes → slice_get now place ≡ slice_get before place
+
+-- Each other one is to what it was as a relation of its node has it.
+pub record AllHad (plan : Plan) (had : PlanNode → CalculatorTold → CalculatorTold → Type 0) (boxes : Device (List CalculatorTold)) : Type 0 where
+  pub back : CameBack plan boxes.before boxes.now
+  pub used : (number place : ℕ) (node : PlanNode) → slice_get plan.nodes number ≡ Some node → node.box_number ≡ Some place → IsAt place (had node) boxes
+
+-- A run of a job whose input ended so. There is one solution: the output, the notes and the status are those that it has, and each
+-- calculator that is handed in had exactly the calls that its node has in it, Open, each of the node's settled sets, and Close.
+pub record OneRun (telling : Telling) (job : Job) (end : FeedEnd) (status : Status) (output notes : Device SinkTold) (boxes : Device (List CalculatorTold)) : Type 0 where
+  pub streams : List (StreamPrefix Plain)
+  pub solution : IsSolution job streams
+  pub wrote : WroteBy status (answer_of telling job end streams) (failed_notes telling job end streams) output notes
+  pub had : AllHad job.plan (HadItsCalls job streams) boxes
+
+-- A run of a job in which memory ran out. In the one solution the output took a front of the text, and each calculator had a front of
+-- its calls.
+pub record OneShort (form : Form) (job : Job) (output : Device SinkTold) (boxes : Device (List CalculatorTold)) : Type 0 where
+  pub streams : List (StreamPrefix Plain)
+  pub solution : IsSolution job streams
+  pub front : TookFront output (output_in form job.plan streams)
+  pub had : AllHad job.plan (HadAFront job streams) boxes
+
+-- nothing was written, and no calculator had a call
+pub record WasNothing (output : Device SinkTold) (boxes : Device (List CalculatorTold)) : Type 0 where
+  pub unwritten : Untouched output
+  pub uncalled : Untouched boxes
+
+-- Runs over packet lines --
+
+-- The input was read to its end, its first line that isn't good or its first failed read, and came to this; and that was run.
+pub record OneReading (report : Bool) (plan : Plan) (status : Status) (devices : RunDevices) (boxes : Device (List CalculatorTold)) : Type 0 where
+  pub read : Read
+  pub came : CameTo (inputs_of plan) devices.input read
+  pub run : OneRun (by_lines report) (job_of plan read) read.end status devices.output devices.notes boxes
+
+-- Memory ran out once the input had been read so far.
+pub record ShortAtEnd (plan : Plan) (input : Device SourceTold) (output : Device SinkTold) (boxes : Device (List CalculatorTold)) : Type 0 where
+  pub read : Read
+  pub came : CameTo (inputs_of plan) input read
+  pub short : OneShort packet_lines (job_of plan read) output boxes
+
+-- Memory ran out while there was more. When these bytes had come the input told this, and whatever bytes follow them, of which there are
+-- none where the source had ended, what was written and called is a front of what belongs to the whole input.
+pub record ShortBefore (plan : Plan) (input : Device SourceTold) (output : Device SinkTold) (boxes : Device (List CalculatorTold)) : Type 0 where
+  pub came : List ℕ
+  pub at : SourceTold
+  pub gave : Gave input.before.left at.left came
+  pub ended : Bool
+  pub met : MetEnd false ended input.before at
+  pub short : (rest : List ℕ) → (ended ≡ true → rest ≡ []) → OneShort packet_lines (job_of plan (ended_input (inputs_of plan) (came ++ rest))) output boxes
+
+-- before anything was done, once the input had been read, or while there was more
+abbrev pub ShortIn : Plan → Device SourceTold → Device SinkTold → Device (List CalculatorTold) → Type 0
+ShortIn plan input output boxes = WasNothing output boxes ⊎ (ShortAtEnd plan input output boxes ⊎ ShortBefore plan input output boxes)
+
+-- Memory ran out, and the notes say that alone.
+pub record ShortReading (plan : Plan) (status : Status) (devices : RunDevices) (boxes : Device (List CalculatorTold)) : Type 0 where
+  pub is : status ≡ OutOfMemory
+  pub noted : Noted devices.notes memory_note
+  pub by : ShortIn plan devices.input devices.output boxes
+
+-- how a run ended
+abbrev pub RanOverLines : Bool → Plan → Status → RunDevices → Device (List CalculatorTold) → Type 0
+RanOverLines report plan status devices boxes = OneReading report plan status devices boxes ⊎ ShortReading plan status devices boxes
+
+-- Runs over packets that are made --
+
+-- So many packets were made, and these were run.
+abbrev pub OneMade : Bool → Plan → ℕ → Status → Device SinkTold → Device SinkTold → Device (List CalculatorTold) → Type 0
+OneMade report plan number status output notes boxes = OneRun (by_summary report) (generated_job plan number) Ended status output notes boxes
+
+-- Memory ran out: before anything was done, or in that run.
+abbrev pub ShortInMade : Plan → ℕ → Device SinkTold → Device (List CalculatorTold) → Type 0
+ShortInMade plan number output boxes = WasNothing output boxes ⊎ OneShort totals (generated_job plan number) output boxes
+
+pub record ShortMade (plan : Plan) (number : ℕ) (status : Status) (output notes : Device SinkTold) (boxes : Device (List CalculatorTold)) : Type 0 where
+  pub is : status ≡ OutOfMemory
+  pub noted : Noted notes memory_note
+  pub by : ShortInMade plan number output boxes
+
+abbrev pub RanOverPackets : Bool → Plan → ℕ → Status → Device SinkTold → Device SinkTold → Device (List CalculatorTold) → Type 0
+RanOverPackets report plan number status output notes boxes = OneMade report plan number status output notes boxes ⊎ ShortMade plan number status output notes boxes

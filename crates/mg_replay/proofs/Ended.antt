@@ -1,0 +1,300 @@
+-- How a recorded run that is made again ends.
+use Rattle.std.proofs.Common.{◌≡◌, ◌≢◌, ◌⊎◌, inl, inr, ℕ, ◌+◌, Bool, true, false, List, [], ◌∷◌, ◌++◌, length, map, Option, None, Some, refl, sym, ap, ◌∙◌, subst, append-nil, append_assoc}
+use Rattle.mg_edge.specs.Edge.{SourceTold, SinkTold}
+use Rattle.mg_value.specs.Payload.{Plain}
+use Rattle.mg_value.specs.Prefix.{StreamPrefix}
+use Rattle.mg_calc.specs.declared.inputs.Inputs.{Inputs}
+use Rattle.mg_calc.specs.declared.node_fault.NodeFault.{NodeFault as Fault}
+use Rattle.mg_calc.specs.declared.plan.Plan.{Plan}
+use Rattle.mg_calc.specs.Equations.{Job, IsJob, IsSolution}
+use Rattle.mg_calc.specs.Meaning.{faults, stalled}
+use Rattle.mg_calc.specs.Plan.{IsValid}
+use Rattle.mg_calc.specs.Told.{CalculatorTold}
+use Rattle.mg_feed.specs.Graph.{GraphInputs, inputs_of}
+use Rattle.mg_feed.specs.Accepted.{State, given_by}
+use Rattle.mg_feed.specs.Given.{ended_streams}
+use Rattle.mg_feed.specs.View.{View}
+use Rattle.mg_feed.specs.Stands.{AllGood, Stands, nothing_taken}
+use Rattle.mg_feed.specs.Fed.{Reading}
+use Rattle.mg_feed.specs.Ran.{MetEnd}
+use Rattle.mg_feed.specs.Handed.{HasHanded}
+use Rattle.mg_feed.specs.declared.feed_end.FeedEnd.{FeedEnd}
+use Rattle.mg_feed.specs.declared.feed_end.FeedEnd.TheVariants.{Ended, Failed as failing}
+use Rattle.mg_edge.proofs.Runs.{Gave-start}
+use Rattle.mg_feed.proofs.Holding.{given-untaken}
+use Rattle.mg_feed.proofs.Moving.{unfailed-same}
+use Rattle.mg_feed.specs.Lines.{all_lines}
+use Rattle.mg_trace.specs.Job.{end_word}
+use Rattle.mg_answer.specs.Answer.{Read, is_ended, inputs_by, by_lines}
+use Rattle.mg_answer.specs.Wrote.{Wrote}
+use Rattle.mg_answer.specs.Frozen.{WroteFrozen}
+use Rattle.mg_answer.specs.Told.{ended_status}
+use Rattle.mg_answer.specs.Text.{output_of}
+use Rattle.mg_answer.specs.Devices.{Device, device, RunDevices, run_devices, Untouched, TookFront}
+use Rattle.mg_answer.specs.declared.status.Status.{Status}
+use Rattle.mg_answer.specs.declared.status.Status.TheVariants.{Good, StoreFault, Usage, GraphRefused, LineRefused, NodeFault, Stalled, ReadFault, WriteFault, OutOfMemory}
+use Rattle.mg_answer.proofs.Fitting.{inputs-fit}
+use Rattle.mg_node.specs.Job.{LoggedJob}
+use Rattle.mg_sched.specs.Views.{NetView}
+use Rattle.mg_sched.specs.StandsFor.{StandsFor, StandsForSome, IsRunning}
+use Rattle.mg_sched.specs.Begins.{Begins}
+use Rattle.mg_sched.specs.Sweeps.{Becomes}
+use Rattle.mg_sched.specs.Taking.{taken_out}
+use Rattle.mg_sched.specs.WindsUp.{WindsUpNet}
+use Rattle.mg_sched.specs.Made.{IsMade, job_of}
+use Rattle.mg_sched.specs.GivesBack.{StoodFor}
+use Rattle.mg_sched.proofs.Solved.{solved}
+use Rattle.mg_sched.proofs.Becoming.{becomes_stands, becomes_taken}
+use Rattle.mg_drive.specs.Code.Ending.{HadAllOf}
+use Rattle.mg_drive.specs.Nets.{Keeps}
+use Rattle.mg_drive.proofs.Jobs.{plan_stood}
+use Rattle.mg_drive.proofs.RunsEnd.{none_yet}
+use Rattle.mg_drive.proofs.Looping.{keeps_on, begins_keep, begins_taken, becomes_keeps, stands_still}
+use Rattle.mg_drive.proofs.RecordedRuns.{begun_at}
+use Rattle.mg_replay.specs.Opening.{inputs_with}
+use Rattle.mg_replay.specs.Replay.{StopsEarly, StopsEarlyAt, ComesTo, WasRead}
+use Rattle.mg_replay.specs.Note.{trace_status, WroteNote}
+use Rattle.mg_replay.specs.Replayed.{job_over, WroteJob, WroteEnd, HadEnd, Replayed, ReplayedSome, ReplayedBy}
+use Rattle.mg_replay.specs.Reading.{HasOpened, IsReading, IsOpening, HasJob, IsMaking}
+use Rattle.mg_replay.specs.Code.Reading.{HasInputs}
+use Rattle.mg_replay.specs.Code.Nets.{accepts, IsSomeMade, StandsForPlan, NetReplayed, TookOf, NetShort, JobReplayed, JobShort}
+use Rattle.mg_replay.specs.declared.trace_end.TraceFault.{TraceFault}
+use Rattle.mg_replay.proofs.JobLines.{lines_then}
+use Rattle.mg_replay.specs.declared.trace_end.TraceEnd.{TraceEnd}
+use Rattle.mg_replay.specs.declared.trace_end.TraceEnd.TheVariants.{Accepted, Refused, Failed}
+
+-- The begin --
+
+-- nothing was read
+pub opening_none : (plan : Plan) (told : SourceTold) (read : Reading) (number : ℕ) (view : View) → read ≡ record { kept = []; ended = false } → number ≡ 0 → view.graph ≡ inputs_of plan → Stands [] (nothing_taken (inputs_of plan)) view
+    → IsOpening plan told told read number view
+opening_none plan told read number view unread none graph stands = record {
+  lines = [];
+  reading = record {
+    came = [];
+    gave = Gave-start told.left;
+    met = subst (λ (r : Reading). MetEnd false r.ended told told) (sym unread) refl;
+    unfailed = unfailed-same told;
+    handed = subst (HasHanded [] []) (sym unread) (record { whole = tt; is = refl });
+    counted = none;
+  };
+  graph = graph;
+  stands = stands;
+  packets = tt;
+}
+
+-- what the packet lines hand to a graph
+abbrev inputs_same : (inputs : Inputs) (ss : List (StreamPrefix Plain)) (sides : List (Option Plain)) (ended : Bool) → inputs.streams ≡ ss → inputs.sides ≡ sides → inputs.ended ≡ ended → inputs ≡ record { streams = ss; sides = sides; ended = ended }
+inputs_same inputs ss sides ended a b c = λ i. record { streams = a i; sides = b i; ended = c i }
+
+abbrev pub has_inputs : (plan : Plan) (ended : Bool) (first now : SourceTold) (read : Reading) (number : ℕ) (view : View) (inputs : Inputs) → HasJob plan ended first now read number view → inputs.streams ≡ ended_streams ended view.given.streams → inputs.sides ≡ view.given.sides
+    → inputs.ended ≡ ended → HasInputs plan inputs first now read number
+has_inputs plan ended first now read number view inputs h streams sides is =
+    let stands : Stands h.given (nothing_taken view.graph) view = subst (λ (g : GraphInputs). Stands h.given (nothing_taken g) view) (sym h.graph) h.stands in
+    let given : view.given ≡ given_by (inputs_of plan) h.given = given-untaken h.given view stands ∙ ap (λ (g : GraphInputs). given_by g h.given) h.graph in
+    record {
+      given = h.given;
+      reading = subst (λ (b : Bool). IsReading first now read number (h.given ++ end_word b ∷ [])) (sym is) h.reading;
+      packets = h.packets;
+      inputs_are = inputs_same inputs (ended_streams inputs.ended (given_by (inputs_of plan) h.given).streams) (given_by (inputs_of plan) h.given).sides inputs.ended
+          (streams ∙ ap (λ (b : Bool). ended_streams b view.given.streams) (sym is) ∙ ap (λ (s : State). ended_streams inputs.ended s.streams) given) (sides ∙ ap (λ (s : State). s.sides) given) refl;
+    }
+
+-- an end of the input that ended well, or didn't
+abbrev end_for : Bool → FeedEnd
+end_for true = Ended
+end_for false = failing 0
+
+ends_for : (ended : Bool) → is_ended (end_for ended) ≡ ended
+ends_for true = refl
+ends_for false = refl
+
+pub is_job : (plan : Plan) (ended : Bool) (first now : SourceTold) (read : Reading) (number : ℕ) (view : View) (inputs : Inputs) → IsValid plan → HasJob plan ended first now read number view → inputs.streams ≡ ended_streams ended view.given.streams
+    → inputs.sides ≡ view.given.sides → inputs.ended ≡ ended → IsJob (job_over plan inputs)
+is_job plan ended first now read number view inputs valid h streams sides is =
+    let i = has_inputs plan ended first now read number view inputs h streams sides is in
+    let as_read : Read = record { lines = h.given; end = end_for inputs.ended } in
+    let same : inputs_with plan h.given inputs.ended ≡ inputs_by (inputs_of plan) as_read = ap (inputs_with plan h.given) (sym (ends_for inputs.ended)) in
+    record {
+      plan = valid;
+      inputs = inputs-fit plan as_read inputs valid (subst (λ (g : GraphInputs). AllGood g [] h.given) h.graph h.stands.good) (i.inputs_are ∙ same);
+    }
+
+-- the nodes were begun
+pub making_begins : (plan : Plan) (inputs : Inputs) (boxes : List CalculatorTold) (first now : SourceTold) (read : Reading) (number : ℕ) (made begun : NetView) → IsMade plan inputs boxes made → Begins made begun
+    → ((job : LoggedJob) → StandsFor job made → StandsFor job begun) → IsRunning begun → HasInputs plan inputs first now read number → IsMaking plan boxes inputs first now read number begun
+making_begins plan inputs boxes first now read number made begun is begins keeps running h = record {
+  lines = h.given ++ end_word inputs.ended ∷ [];
+  reading = h.reading;
+  has_run = record {
+    given = h.given;
+    packets = h.packets;
+    inputs_are = h.inputs_are;
+    begun = begun;
+    begins = begun_at plan inputs boxes made begun is begins keeps running;
+    events = [];
+    run = refl;
+    lines_are = refl;
+  };
+}
+
+-- only the lines of the job were read
+pub opened_yet : (plan : Plan) (inputs : Inputs) (first now : SourceTold) (read : Reading) (number : ℕ) → HasInputs plan inputs first now read number → HasOpened plan (device first now) inputs
+opened_yet plan inputs first now read number h = record {
+  came = h.reading.came;
+  gave = h.reading.gave;
+  ended = read.ended;
+  met = h.reading.met;
+  given = h.given;
+  packets = h.packets;
+  inputs_are = h.inputs_are;
+  opens = λ more fits. (
+    all_lines (read.kept ++ more),
+    lines_then first now read number (h.given ++ end_word inputs.ended ∷ []) h.reading more fits ∙ append_assoc h.given (end_word inputs.ended ∷ []) (all_lines (read.kept ++ more)),
+  );
+}
+
+-- The net --
+
+pub stands_begun : (plan : Plan) (made begun : NetView) → IsSomeMade plan made → ((job : LoggedJob) → StandsFor job made → StandsFor job begun) → StandsForPlan plan begun
+stands_begun plan made begun some keeps = record { job = job_of plan some.inputs some.boxes; plan_is = refl; stands = keeps (job_of plan some.inputs some.boxes) some.made.stands }
+
+pub stands_later : (plan : Plan) (begun later : NetView) → IsRunning begun → StandsForPlan plan begun → Becomes begun later → StandsForPlan plan later
+stands_later plan begun later running some becomes = record { job = some.job; plan_is = some.plan_is; stands = becomes_stands some.job begun later running some.stands becomes }
+
+pub some_stands : (plan : Plan) (net : NetView) → StandsForPlan plan net → StandsForSome net
+some_stands plan net some = record { job = some.job; stands = some.stands }
+
+pub plan_is_of : (plan : Plan) (net : NetView) → StandsForPlan plan net → net.plan ≡ plan
+plan_is_of plan net some = plan_stood some.job net some.stands ∙ some.plan_is
+
+-- no set was taken out of it yet
+pub none_taken : (plan : Plan) (inputs : Inputs) (boxes : List CalculatorTold) (made begun later : NetView) → IsMade plan inputs boxes made → Begins made begun → Becomes begun later → taken_out later ≡ 0
+none_taken plan inputs boxes made begun later is begins becomes = becomes_taken begun later becomes ∙ begins_taken made begun begins ∙ none_yet plan inputs boxes made is
+
+pub keeps_later : (made begun later : NetView) → Begins made begun → Becomes begun later → Keeps made later
+keeps_later made begun later begins becomes = keeps_on made begun later (begins_keep made begun begins) (becomes_keeps begun later becomes)
+
+-- it stood for its job
+pub stood_later : (job : LoggedJob) (begun later : NetView) → IsRunning begun → StandsFor job begun → Becomes begun later → StoodFor job later
+stood_later job begun later running stands becomes = stands_still job later (becomes_stands job begun later running stands becomes)
+
+pub stood_wound : (job : LoggedJob) (net wound : NetView) → StandsFor job net → (wound ≡ net) ⊎ WindsUpNet net wound → StoodFor job wound
+stood_wound job net wound stands since = record { before = net; stands = stands; since = since }
+
+-- What is written of a run that is accepted --
+
+pub wrote_ended : (ended report : Bool) (job : Job) (status : Status) (output notes : Device SinkTold) → ended ≡ true → Wrote (by_lines report) job Ended status output notes → WroteJob ended report job status output notes
+wrote_ended ended report job status output notes is wrote = subst (λ (b : Bool). WroteJob b report job status output notes) (sym is) wrote
+
+pub wrote_frozen : (ended report : Bool) (job : Job) (status : Status) (output notes : Device SinkTold) → ended ≡ false → WroteFrozen (by_lines report) job status output notes → WroteJob ended report job status output notes
+wrote_frozen ended report job status output notes is wrote = subst (λ (b : Bool). WroteJob b report job status output notes) (sym is) wrote
+
+-- The end of a net --
+
+pub is_accepted : (end : TraceEnd) → accepts end ≡ true → end ≡ Accepted
+is_accepted Accepted is = refl
+is_accepted (Refused line cause) is = cc
+is_accepted (Failed lines) is = cc
+
+pub not_accepted : (end : TraceEnd) → accepts end ≡ false → end ≢ Accepted
+not_accepted Accepted is = λ same. cc
+not_accepted (Refused line cause) is = λ same. cc
+not_accepted (Failed lines) is = λ same. cc
+
+pub net_accepted : (report : Bool) (plan : Plan) (inputs : Inputs) (boxes : List CalculatorTold) (ended : Bool) (end : TraceEnd) (status : Status) (input : Device SourceTold) (output notes : Device SinkTold) (net : NetView) → end ≡ Accepted → ended ≡ inputs.ended
+    → WasRead plan boxes input (Some inputs) end → WroteJob ended report (job_over plan inputs) status output notes → HadAllOf (job_of plan inputs boxes) net → StoodFor (job_of plan inputs boxes) net
+    → NetReplayed report plan inputs boxes status (run_devices input output notes) net
+net_accepted report plan inputs boxes ended end status input output notes net is same read wrote had stood = record {
+  end = Accepted;
+  read = subst (WasRead plan boxes input (Some inputs)) is read;
+  wrote = subst (λ (b : Bool). WroteJob b report (job_over plan inputs) status output notes) same wrote;
+  had = had;
+  stood = stood;
+}
+
+pub net_refused : (report : Bool) (plan : Plan) (inputs : Inputs) (boxes : List CalculatorTold) (end : TraceEnd) (status : Status) (input : Device SourceTold) (output notes : Device SinkTold) (net : NetView) → end ≢ Accepted
+    → WasRead plan boxes input (Some inputs) end → Untouched output → WroteNote end status notes → HadAllOf (job_of plan inputs boxes) net → StoodFor (job_of plan inputs boxes) net
+    → NetReplayed report plan inputs boxes status (run_devices input output notes) net
+net_refused report plan inputs boxes Accepted status input output notes net other read untouched wrote had stood = absurd (other refl)
+net_refused report plan inputs boxes (Refused line cause) status input output notes net other read untouched wrote had stood =
+    record { end = Refused line cause; read = read; wrote = (untouched, wrote); had = had; stood = stood }
+net_refused report plan inputs boxes (Failed lines) status input output notes net other read untouched wrote had stood =
+    record { end = Failed lines; read = read; wrote = (untouched, wrote); had = had; stood = stood }
+
+-- Memory ran out --
+
+pub short_begun : (plan : Plan) (inputs : Inputs) (boxes : List CalculatorTold) (first now : SourceTold) (read : Reading) (number : ℕ) (output notes : Device SinkTold) (net : NetView) → HasInputs plan inputs first now read number → Untouched output
+    → StoodFor (job_of plan inputs boxes) net → NetShort plan inputs boxes (run_devices (device first now) output notes) net
+short_begun plan inputs boxes first now read number output notes net h untouched stood = record { took = inl untouched; opened = opened_yet plan inputs first now read number h; stood = stood }
+
+pub short_events : (plan : Plan) (inputs : Inputs) (boxes : List CalculatorTold) (input : Device SourceTold) (output notes : Device SinkTold) (net : NetView) → HasOpened plan input inputs → Untouched output → StoodFor (job_of plan inputs boxes) net
+    → NetShort plan inputs boxes (run_devices input output notes) net
+short_events plan inputs boxes input output notes net opened untouched stood = record { took = inl untouched; opened = opened; stood = stood }
+
+pub short_accepted : (plan : Plan) (inputs : Inputs) (boxes : List CalculatorTold) (end : TraceEnd) (input : Device SourceTold) (output notes : Device SinkTold) (net : NetView) → end ≡ Accepted → WasRead plan boxes input (Some inputs) end → HasOpened plan input inputs
+    → ((streams : List (StreamPrefix Plain)) → IsSolution (job_over plan inputs) streams → TookFront output (output_of plan streams)) → StoodFor (job_of plan inputs boxes) net → NetShort plan inputs boxes (run_devices input output notes) net
+short_accepted plan inputs boxes end input output notes net is read opened front stood = record { took = inr (subst (WasRead plan boxes input (Some inputs)) is read, front); opened = opened; stood = stood }
+
+-- The call --
+
+pub of_job : (report : Bool) (plan : Plan) (inputs : Inputs) (status : Status) (devices : RunDevices) (boxes : Device (List CalculatorTold)) → JobReplayed report plan inputs status devices boxes → Replayed report plan status devices boxes
+of_job report plan inputs status devices boxes h = record { job = Some inputs; end = h.end; read = h.read; wrote = h.wrote; had = h.had }
+
+pub of_short : (plan : Plan) (inputs : Inputs) (devices : RunDevices) (boxes : Device (List CalculatorTold)) → IsJob (job_over plan inputs) → JobShort plan inputs devices boxes → ReplayedSome plan devices boxes
+of_short plan inputs devices boxes is h = record {
+  took = elim h.took [
+    | inl untouched ↦ inl untouched
+    | inr took ↦ inr (let found = solved (record { job = job_over plan inputs; logs = [] }) is in record { inputs = inputs; read = took.0; streams = found.0; solution = found.1.solution; front = took.1 found.0 found.1.solution })
+  ];
+  had = inr (record { inputs = inputs; opened = h.opened; fronts = h.fronts });
+}
+
+-- the lines ended before the job was told
+never_accepted : (plan : Plan) (lines : List (List ℕ)) → StopsEarly plan lines Accepted → ⊥
+never_accepted plan lines s = by s.tail s.stops
+  where
+    by : (tail : List (List ℕ)) → StopsEarlyAt plan s.given tail Accepted → ⊥
+    by [] is = absurd cc
+    by (line ∷ more) is = absurd (let e = is.1.2 in cc)
+
+pub of_early : (report : Bool) (plan : Plan) (end : TraceEnd) (status : Status) (input : Device SourceTold) (output notes : Device SinkTold) (boxes : List CalculatorTold) → WasRead plan boxes input None end → Untouched output → WroteNote end status notes
+    → Replayed report plan status (run_devices input output notes) (device boxes boxes)
+of_early report plan Accepted status input output notes boxes read untouched wrote = absurd (never_accepted plan _ read.by.1)
+of_early report plan (Refused line cause) status input output notes boxes read untouched wrote = record { job = None; end = Refused line cause; read = read; wrote = (untouched, wrote); had = refl }
+of_early report plan (Failed lines) status input output notes boxes read untouched wrote = record { job = None; end = Failed lines; read = read; wrote = (untouched, wrote); had = refl }
+
+-- No status of it tells that memory ran out --
+
+no_want : (fs : List Fault) (ns : List ℕ) → OutOfMemory ≡ ended_status fs ns → ⊥
+no_want [] [] is = cc
+no_want [] (n ∷ ns) is = cc
+no_want (f ∷ fs) ns is = cc
+
+job_wants_none : (ended report : Bool) (job : Job) (output notes : Device SinkTold) → WroteJob ended report job OutOfMemory output notes → ⊥
+job_wants_none true report job output notes wrote = no_want (faults job wrote.streams) (stalled wrote.streams) wrote.by.told
+job_wants_none false report job output notes wrote = no_want (faults job wrote.streams) [] wrote.by.told
+
+note_wants_none : (end : TraceEnd) (notes : Device SinkTold) → WroteNote end OutOfMemory notes → ⊥
+note_wants_none Accepted notes (inl whole) = absurd (let e = whole.0 in cc)
+note_wants_none (Refused line cause) notes (inl whole) = absurd (let e = whole.0 in cc)
+note_wants_none (Failed lines) notes (inl whole) = absurd (let e = whole.0 in cc)
+note_wants_none end notes (inr part) = absurd (let e = part.0 in cc)
+
+wants_none : (end : TraceEnd) (report : Bool) (plan : Plan) (job : Option Inputs) (output notes : Device SinkTold) → WroteEnd end report plan job OutOfMemory output notes → ⊥
+wants_none Accepted report plan None output notes wrote = wrote
+wants_none Accepted report plan (Some inputs) output notes wrote = job_wants_none inputs.ended report (job_over plan inputs) output notes wrote
+wants_none (Refused line cause) report plan job output notes wrote = note_wants_none (Refused line cause) notes wrote.1
+wants_none (Failed lines) report plan job output notes wrote = note_wants_none (Failed lines) notes wrote.1
+
+pub replayed_by : (status : Status) (report : Bool) (plan : Plan) (devices : RunDevices) (boxes : Device (List CalculatorTold)) → Replayed report plan status devices boxes → ReplayedBy status report plan devices boxes
+replayed_by Good report plan devices boxes h = h
+replayed_by StoreFault report plan devices boxes h = h
+replayed_by Usage report plan devices boxes h = h
+replayed_by GraphRefused report plan devices boxes h = h
+replayed_by LineRefused report plan devices boxes h = h
+replayed_by NodeFault report plan devices boxes h = h
+replayed_by Stalled report plan devices boxes h = h
+replayed_by ReadFault report plan devices boxes h = h
+replayed_by WriteFault report plan devices boxes h = h
+replayed_by OutOfMemory report plan devices boxes h = absurd (wants_none h.end report plan h.job devices.output devices.notes h.wrote)

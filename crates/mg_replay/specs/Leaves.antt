@@ -1,0 +1,37 @@
+-- What a recorded run that isn't accepted leaves of the calculators that are handed in.
+use Rattle.std.specs.Prelude.{◌≡◌, ◌⊎◌, ℕ, ◌≤◌, true, List, All, Some, slice_get, length}
+use Rattle.mg_value.specs.Payload.{Plain}
+use Rattle.mg_value.specs.Prefix.{StreamPrefix}
+use Rattle.mg_calc.specs.declared.plan.Plan.{Plan}
+use Rattle.mg_calc.specs.declared.plan_node.PlanNode.{PlanNode}
+use Rattle.mg_calc.specs.declared.node_fault.Phase.TheVariants.{Open}
+use Rattle.mg_calc.specs.Outcome.{Failure}
+use Rattle.mg_calc.specs.Equations.{Job, IsSolution, outcome_of}
+use Rattle.mg_calc.specs.Told.{CalculatorTold}
+use Rattle.mg_answer.specs.Devices.{Device}
+use Rattle.mg_drive.specs.Leaves.{HadAFront, IsAt}
+
+-- A node fails in Open.
+pub record FailsToOpen (job : Job) (streams : List (StreamPrefix Plain)) (node : PlanNode) : Type 0 where
+  pub failure : Failure
+  pub fails : (outcome_of job streams node).fault ≡ Some failure
+  pub in_open : failure.phase ≡ Open
+
+-- A calculator was opened and closed: its log, where it tells one, grew by a front of the calls that its node has in a solution, Open and
+-- perhaps a Process for each of the first sets that the node is shown, with Close behind them; or by Open alone, where that fails.
+pub record HadAClose (job : Job) (streams : List (StreamPrefix Plain)) (node : PlanNode) (before now : CalculatorTold) : Type 0 where
+  pub front : HadAFront job streams node before now
+  pub begun : 1 ≤ front.count
+  pub closed : (front.close ≡ true) ⊎ FailsToOpen job streams node
+
+-- So was each calculator that a node uses, in the solution of a job.
+pub record HadCloses (job : Job) (boxes : Device (List CalculatorTold)) : Type 0 where
+  pub streams : List (StreamPrefix Plain)
+  pub solution : IsSolution job streams
+  pub each : (number place : ℕ) (node : PlanNode) → slice_get job.plan.nodes number ≡ Some node → node.box_number ≡ Some place
+      → IsAt place (HadAClose job streams node) boxes
+
+-- All come back in their order, and one that no node uses had no call.
+pub record AllBack (plan : Plan) (boxes : Device (List CalculatorTold)) : Type 0 where
+  pub count : length boxes.now ≡ length boxes.before
+  pub unused : (place : ℕ) → All (λ node. ¬ (node.box_number ≡ Some place)) plan.nodes → slice_get boxes.now place ≡ slice_get boxes.before place

@@ -1,0 +1,108 @@
+-- What a call that makes a recorded run again came to, by its status.
+use Rattle.std.specs.Prelude.{◌≡◌, ◌⊎◌, ℕ, Bool, true, false, List, [], Option, None, Some}
+use Rattle.mg_edge.specs.Edge.{SourceTold, SinkTold}
+use Rattle.mg_value.specs.Payload.{Plain}
+use Rattle.mg_value.specs.Prefix.{StreamPrefix}
+use Rattle.mg_calc.specs.declared.inputs.Inputs.{Inputs}
+use Rattle.mg_calc.specs.declared.plan.Plan.{Plan}
+use Rattle.mg_calc.specs.Equations.{Job, IsSolution}
+use Rattle.mg_calc.specs.Told.{CalculatorTold}
+use Rattle.mg_feed.specs.declared.feed_end.FeedEnd.TheVariants.{Ended}
+use Rattle.mg_answer.specs.Text.{output_of}
+use Rattle.mg_answer.specs.Notes.{memory_note}
+use Rattle.mg_answer.specs.Answer.{by_lines, Answer, IsAnswerOf}
+use Rattle.mg_answer.specs.Frozen.{IsFrozenAnswer, WroteFrozen}
+use Rattle.mg_answer.specs.Wrote.{Wrote}
+use Rattle.mg_answer.specs.Devices.{Device, RunDevices, Untouched, TookFront, Noted}
+use Rattle.mg_answer.specs.declared.status.Status.{Status}
+use Rattle.mg_answer.specs.declared.status.Status.TheVariants.{OutOfMemory}
+use Rattle.mg_drive.specs.Leaves.{HadCallsOf, HadFronts}
+use Rattle.mg_replay.specs.Replay.{ComesTo, WasRead}
+use Rattle.mg_replay.specs.Note.{trace_note, trace_status, WroteNote}
+use Rattle.mg_replay.specs.Reading.{HasOpened}
+use Rattle.mg_replay.specs.Leaves.{HadCloses}
+use Rattle.mg_replay.specs.declared.trace_end.TraceEnd.{TraceEnd}
+use Rattle.mg_replay.specs.declared.trace_end.TraceEnd.TheVariants.{Accepted, Refused, Failed}
+
+-- The job of a plan over inputs.
+abbrev pub job_over : Plan → Inputs → Job
+job_over plan inputs = record { plan = plan; inputs = inputs }
+
+-- The answer --
+
+-- The answer of a job is that of its run, by whether its input ended well or was frozen.
+abbrev pub AnswersJob : Bool → Bool → Job → Answer → Type 0
+AnswersJob true report job answer = IsAnswerOf (by_lines report) job Ended answer
+AnswersJob false report job answer = IsFrozenAnswer (by_lines report) job answer
+
+-- The answer to lines that come to this: that of the job, where they are accepted; and otherwise nothing but the one note.
+abbrev pub AnswersEnd : TraceEnd → Bool → Plan → Option Inputs → Answer → Type 0
+AnswersEnd Accepted report plan None answer = ⊥
+AnswersEnd Accepted report plan (Some inputs) answer = AnswersJob inputs.ended report (job_over plan inputs) answer
+AnswersEnd (Refused line cause) report plan job answer = answer ≡ record { output = []; notes = trace_note (Refused line cause); status = trace_status (Refused line cause) }
+AnswersEnd (Failed lines) report plan job answer = answer ≡ record { output = []; notes = trace_note (Failed lines); status = trace_status (Failed lines) }
+
+-- The answer to a recorded run of these lines.
+pub record AnswersTrace (report : Bool) (plan : Plan) (boxes : List CalculatorTold) (lines : List (List ℕ)) (answer : Answer) : Type 0 where
+  pub job : Option Inputs
+  pub end : TraceEnd
+  pub comes : ComesTo plan boxes lines job end
+  pub answers : AnswersEnd end report plan job answer
+
+-- What was written --
+
+abbrev pub WroteJob : Bool → Bool → Job → Status → Device SinkTold → Device SinkTold → Type 0
+WroteJob true report job status output notes = Wrote (by_lines report) job Ended status output notes
+WroteJob false report job status output notes = WroteFrozen (by_lines report) job status output notes
+
+-- An accepted run was answered as its job's is. One that isn't accepted wrote nothing but its note.
+abbrev pub WroteEnd : TraceEnd → Bool → Plan → Option Inputs → Status → Device SinkTold → Device SinkTold → Type 0
+WroteEnd Accepted report plan None status output notes = ⊥
+WroteEnd Accepted report plan (Some inputs) status output notes = WroteJob inputs.ended report (job_over plan inputs) status output notes
+WroteEnd (Refused line cause) report plan job status output notes = Untouched output × WroteNote (Refused line cause) status notes
+WroteEnd (Failed lines) report plan job status output notes = Untouched output × WroteNote (Failed lines) status notes
+
+-- The calculators --
+
+-- Behind an accepted run each that a node uses had its calls. Otherwise each was opened and closed, if the nodes were begun, and had no call
+-- before that.
+abbrev pub HadEnd : TraceEnd → Plan → Option Inputs → Device (List CalculatorTold) → Type 0
+HadEnd Accepted plan None boxes = ⊥
+HadEnd Accepted plan (Some inputs) boxes = HadCallsOf (job_over plan inputs) boxes
+HadEnd (Refused line cause) plan None boxes = Untouched boxes
+HadEnd (Refused line cause) plan (Some inputs) boxes = HadCloses (job_over plan inputs) boxes
+HadEnd (Failed lines) plan None boxes = Untouched boxes
+HadEnd (Failed lines) plan (Some inputs) boxes = HadCloses (job_over plan inputs) boxes
+
+-- The call --
+
+-- A recorded run was read to its end, and what is due then was done.
+pub record Replayed (report : Bool) (plan : Plan) (status : Status) (devices : RunDevices) (boxes : Device (List CalculatorTold)) : Type 0 where
+  pub job : Option Inputs
+  pub end : TraceEnd
+  pub read : WasRead plan boxes.before devices.input job end
+  pub wrote : WroteEnd end report plan job status devices.output devices.notes
+  pub had : HadEnd end plan job boxes
+
+-- Memory ran out. Nothing was written, or the run was accepted, and the output took a front of its job's text. No calculator had a call, or
+-- each had a front of its calls in the job that the lines tell.
+pub record TookOutput (plan : Plan) (boxes : List CalculatorTold) (input : Device SourceTold) (output : Device SinkTold) : Type 0 where
+  pub inputs : Inputs
+  pub read : WasRead plan boxes input (Some inputs) Accepted
+  pub streams : List (StreamPrefix Plain)
+  pub solution : IsSolution (job_over plan inputs) streams
+  pub front : TookFront output (output_of plan streams)
+
+pub record HadSomeCalls (plan : Plan) (input : Device SourceTold) (boxes : Device (List CalculatorTold)) : Type 0 where
+  pub inputs : Inputs
+  pub opened : HasOpened plan input inputs
+  pub fronts : HadFronts (job_over plan inputs) boxes
+
+pub record ReplayedSome (plan : Plan) (devices : RunDevices) (boxes : Device (List CalculatorTold)) : Type 0 where
+  pub took : Untouched devices.output ⊎ TookOutput plan boxes.before devices.input devices.output
+  pub had : Untouched boxes ⊎ HadSomeCalls plan devices.input boxes
+
+-- A call ended with this status. Where memory ran out the notes say that alone.
+abbrev pub ReplayedBy : Status → Bool → Plan → RunDevices → Device (List CalculatorTold) → Type 0
+ReplayedBy OutOfMemory report plan devices boxes = ReplayedSome plan devices boxes × Noted devices.notes memory_note
+ReplayedBy status report plan devices boxes = Replayed report plan status devices boxes

@@ -1,0 +1,263 @@
+-- A run or a run over packets that are made, as one thing.
+use Rattle.std.proofs.Common.{◌≡◌, ◌≢◌, ◌⊎◌, inl, inr, ℕ, ℤ, List, [], ◌∷◌, Option, None, Some, IfSome, Result, Ok, Err, option_map, refl, sym, ap, ◌∙◌, subst}
+use Rattle.mg_edge.specs.Edge.{SourceTold, SinkTold, StoreTold}
+use Rattle.mg_config.specs.Config.{GraphView}
+use Rattle.mg_calc.specs.declared.plan.Plan.{Plan}
+use Rattle.mg_calc.specs.declared.shape.OuterShape.{OuterShape}
+use Rattle.mg_calc.specs.Equations as equations
+use Rattle.mg_calc.specs.Told.{CalculatorTold}
+use Rattle.mg_calc.proofs.Solutions.{one_solution}
+use Rattle.mg_check.specs.Check.{check_of}
+use Rattle.mg_check.specs.declared.fault.CheckFault.{CheckFault}
+use Rattle.mg_subgraph.specs.Expansion.{expansion_of}
+use Rattle.mg_subgraph.specs.declared.fault.ExpandFault.{ExpandFault}
+use Rattle.mg_free.specs.Core.{first_free}
+use Rattle.mg_feed.specs.Graph.{inputs_of}
+use Rattle.mg_feed.specs.declared.feed_end.FeedEnd.TheVariants.{Ended}
+use Rattle.mg_answer.specs.Answer as answers
+use Rattle.mg_answer.specs.Answer.{Read, by_lines, by_summary, ended_input, generated_job}
+use Rattle.mg_answer.specs.Ran.{CameTo}
+use Rattle.mg_answer.proofs.Answering.{whole-read}
+use Rattle.mg_answer.specs.declared.status.Status.{Status}
+use Rattle.mg_answer.specs.declared.status.Status.TheVariants.{Good, StoreFault, Usage, GraphRefused, LineRefused, NodeFault, Stalled, ReadFault, WriteFault, OutOfMemory}
+use Rattle.mg_drive.specs.OneRun.{OneRun, RanOverLines, RanOverPackets}
+use Rattle.mg_run.specs.Task.{Task, task}
+use Rattle.mg_words.specs.Words.{Asked, asks_usage, asks_text, asks_command, command_by}
+use Rattle.mg_run.specs.Notes.{expand_note, free_note}
+use Rattle.mg_run.specs.CheckNotes.{check_note}
+use Rattle.mg_run.specs.Files.{Files, graphs, no_graphs, AreGraphs, AreFiles}
+use Rattle.mg_run.specs.Loads.{LoadedAll, loads_of}
+use Rattle.mg_run.specs.Devices.{Device, Devices, run_of, Untouched, Unrisen}
+use Rattle.mg_run.specs.Answer.{Job, refuse, run_plan, generate, unless_refused, with_limit, with_workers, as_asked, way_word, way_job, plan_job, verb_job, expanded_job, job_of}
+use Rattle.mg_run.specs.Call.{GeneratedGraph, Did, IsJob, CallDid, Called, Came, IsOneOf}
+use Rattle.mg_run.specs.Headline.{RunsGraph, ran_statuses, IsGraph, Origin, from_input, from_number, IsOrigin, job_from, end_from, telling_from, bare, Headline}
+use Rattle.mg_words.specs.declared.words.Order.{Order}
+use Rattle.mg_words.specs.declared.words.Verb.{Verb}
+use Rattle.mg_words.specs.declared.words.Verb.TheVariants.{Use}
+use Rattle.mg_words.specs.declared.words.Way.{Way}
+use Rattle.mg_words.specs.declared.words.Way.TheVariants.{Run, Generate}
+use Rattle.mg_run.proofs.Loading.{of-loads}
+use Rattle.mg_run.proofs.Together.{one-reading}
+use Rattle.mg_run.proofs.Unlimited.{limited_plan, unlimited_run}
+
+-- What there is to do is a refusal, or the graph of the files is used so --
+
+-- a graph is found, and this is to be done with its plan
+record Finds (task : Task) (contents : List (List ℕ)) (way : Way) (job : Job) : Type 0 where
+  plan : Plan
+  graph : IsGraph task contents plan
+  is : job ≡ way_job way task.order plan
+
+abbrev Due : Task → List (List ℕ) → Way → Job → Type 0
+Due task contents way job = ((note : List ℕ) × (job ≡ refuse note)) ⊎ Finds task contents way job
+
+-- by whether a node is free
+by_free : (task : Task) (contents : List (List ℕ)) (way : Way) (plan : Plan) (o : Option ℕ) → first_free plan ≡ o → (first_free plan ≡ None → IsGraph task contents plan)
+    → Due task contents way (unless_refused (option_map (free_note (way_word way)) o) (way_job way task.order plan))
+by_free task contents way plan None is found = inr (record { plan = plan; graph = found is; is = refl })
+by_free task contents way plan (Some node) is found = inl (free_note (way_word way) node, refl)
+
+-- by what the check answers
+by_check : (task : Task) (contents : List (List ℕ)) (way : Way) (g : GraphView) (checked : Result Plan CheckFault) → check_of task.outers g ≡ checked
+    → ((plan : Plan) → check_of task.outers g ≡ Ok plan → first_free plan ≡ None → IsGraph task contents plan) → Due task contents way (plan_job way task.order checked)
+by_check task contents way g (Ok plan) is found = by_free task contents way plan (first_free plan) refl (found plan is)
+by_check task contents way g (Err fault) is found = inl (check_note fault, refl)
+
+-- by what the expansion answers
+by_expansion : (task : Task) (contents : List (List ℕ)) (way : Way) (main : GraphView) (library : List GraphView) (expanded : Result GraphView ExpandFault) → task.order.verb ≡ Use way → AreGraphs contents (main ∷ library) → expansion_of main library ≡ expanded
+    → Due task contents way (expanded_job task.order task.outers expanded)
+by_expansion task contents way main library (Ok g) verb are is =
+    subst (λ (v : Verb). Due task contents way (verb_job v task.order task.outers g)) (sym verb)
+    (by_check task contents way g (check_of task.outers g) refl
+    (λ plan checked bound. record { main = main; library = library; files = are; graph = g; expanded = is; checked = checked; bound = bound }))
+by_expansion task contents way main library (Err fault) verb are is = inl (expand_note fault, refl)
+
+-- by what the files are
+by_files : (task : Task) (contents : List (List ℕ)) (way : Way) (files : Files) → task.order.verb ≡ Use way → AreFiles task.files contents files → Due task contents way (job_of task files)
+by_files task contents way (graphs []) verb are = inl ([], refl)
+by_files task contents way (graphs (main ∷ library)) verb are = by_expansion task contents way main library (expansion_of main library) verb are refl
+by_files task contents way (no_graphs note) verb are = inl (note, refl)
+
+due_by : (task : Task) (contents : List (List ℕ)) (way : Way) (job : Job) → task.order.verb ≡ Use way → IsJob task contents job → Due task contents way job
+due_by task contents way job verb (files, are, same) = subst (Due task contents way) (sym same) (by_files task contents way files verb are)
+
+-- The plan's limit and workers have no part in it --
+
+asked_is : (order : Order) (limit : Option ℤ) (workers : Option ℕ) (plan : Plan)
+    → with_workers workers (with_limit limit plan) ≡ limited_plan (bare plan) (with_workers workers (with_limit limit plan)).limit (with_workers workers (with_limit limit plan)).workers
+asked_is order None None plan = refl
+asked_is order None (Some workers) plan = refl
+asked_is order (Some limit) None plan = refl
+asked_is order (Some limit) (Some workers) plan = refl
+
+bare_run : (order : Order) (plan : Plan) (from : Origin) (status : Status) (output notes : Device SinkTold) (boxes : Device (List CalculatorTold))
+    → OneRun (telling_from order.report from) (job_from (as_asked order plan) from) (end_from from) status output notes boxes
+    → OneRun (telling_from order.report from) (job_from (bare plan) from) (end_from from) status output notes boxes
+bare_run order plan from status output notes boxes run =
+    by from (subst (λ (p : Plan). OneRun (telling_from order.report from) (job_from p from) (end_from from) status output notes boxes) (asked_is order order.limit order.workers plan) run)
+  where
+    by : (from : Origin) → OneRun (telling_from order.report from) (job_from (limited_plan (bare plan) (as_asked order plan).limit (as_asked order plan).workers) from) (end_from from) status output notes boxes
+        → OneRun (telling_from order.report from) (job_from (bare plan) from) (end_from from) status output notes boxes
+    by (from_input read) run = unlimited_run (by_lines order.report) (answers.job_of (bare plan) read) (as_asked order plan).limit (as_asked order plan).workers read.end status output notes boxes run
+    by (from_number number) run = unlimited_run (by_summary order.report) (generated_job (bare plan) number) (as_asked order plan).limit (as_asked order plan).workers Ended status output notes boxes run
+
+-- The headline --
+
+-- a graph was found, and its run came from this
+headline : (task : Task) (contents : List (List ℕ)) (plan : Plan) (status : Status) (all : Devices) (from : Origin) → LoadedAll task.files contents all.store → IsGraph task contents plan → IsOrigin task.order plan all.input from
+    → OneRun (telling_from task.order.report from) (job_from (as_asked task.order plan) from) (end_from from) status all.output all.notes all.boxes → Headline task status all
+headline task contents plan status all from loaded graph origin run = record {
+  contents = contents;
+  loaded = loaded;
+  plan = plan;
+  graph = graph;
+  from = from;
+  origin = origin;
+  run = bare_run task.order plan from status all.output all.notes all.boxes run;
+}
+
+-- what the inputs of a plan's graph are doesn't ask for its limit and workers
+came_asked : (limit : Option ℤ) (workers : Option ℕ) (plan : Plan) (input : Device SourceTold) (read : Read) → CameTo (inputs_of (with_workers workers (with_limit limit plan))) input read → CameTo (inputs_of plan) input read
+came_asked None None plan input read came = came
+came_asked None (Some workers) plan input read came = came
+came_asked (Some limit) None plan input read came = came
+came_asked (Some limit) (Some workers) plan input read came = came
+
+lines_headline : (task : Task) (contents : List (List ℕ)) (plan : Plan) (status : Status) (all : Devices) → task.order.verb ≡ Use Run → status ≢ OutOfMemory → LoadedAll task.files contents all.store → IsGraph task contents plan
+    → RanOverLines task.order.report (as_asked task.order plan) status (run_of all) all.boxes → Headline task status all
+lines_headline task contents plan status all verb some loaded graph (inl one) =
+    headline task contents plan status all (from_input one.read) loaded graph (verb, came_asked task.order.limit task.order.workers plan all.input one.read one.came) one.run
+lines_headline task contents plan status all verb some loaded graph (inr short) = absurd (some short.is)
+
+packets_headline : (task : Task) (contents : List (List ℕ)) (plan : Plan) (status : Status) (all : Devices) → task.order.verb ≡ Use Generate → status ≢ OutOfMemory → LoadedAll task.files contents all.store → IsGraph task contents plan
+    → Untouched all.input → RanOverPackets task.order.report (as_asked task.order plan) task.order.number status all.output all.notes all.boxes → Headline task status all
+packets_headline task contents plan status all verb some loaded graph unread (inl one) = headline task contents plan status all (from_number task.order.number) loaded graph (verb, refl, unread) one
+packets_headline task contents plan status all verb some loaded graph unread (inr short) = absurd (some short.is)
+
+-- a call did what there was to do, and the graph wasn't refused
+did_headline : (task : Task) (status : Status) (all : Devices) (called : CallDid status task all) (way : Way) → (way ≡ Run) ⊎ (way ≡ Generate) → task.order.verb ≡ Use way → status ≢ GraphRefused → status ≢ OutOfMemory
+    → Due task called.contents way called.job → Headline task status all
+did_headline task status all called way used verb good some (inl refused) = absurd (good (let d : Did (refuse refused.0) status all = subst (λ (j : Job). Did j status all) refused.1 called.did in d.ended))
+did_headline task status all called way (inl is) verb good some (inr found) =
+    let same : called.job ≡ run_plan task.order.report (as_asked task.order found.plan) = found.is ∙ ap (λ (w : Way). way_job w task.order found.plan) is in
+    lines_headline task called.contents found.plan status all (verb ∙ ap Use is) some called.loaded found.graph (subst (λ (j : Job). Did j status all) same called.did)
+did_headline task status all called way (inr is) verb good some (inr found) =
+    let same : called.job ≡ generate task.order.report task.order.number (as_asked task.order found.plan) = found.is ∙ ap (λ (w : Way). way_job w task.order found.plan) is in
+    let d : GeneratedGraph task.order.report task.order.number (as_asked task.order found.plan) status all = subst (λ (j : Job). Did j status all) same called.did in
+    packets_headline task called.contents found.plan status all (verb ∙ ap Use is) some called.loaded found.graph d.unread d.ran
+
+call_headline : (status : Status) (task : Task) (all : Devices) → CallDid status task all → RunsGraph task.order.verb → status ≢ GraphRefused → status ≢ OutOfMemory → Headline task status all
+call_headline status task all called (inl verb) good some =
+    did_headline task status all called Run (inl refl) verb good some (due_by task called.contents Run called.job verb called.due)
+call_headline status task all called (inr verb) good some =
+    did_headline task status all called Generate (inr refl) verb good some (due_by task called.contents Generate called.job verb called.due)
+
+-- no run ends so
+store_ran : IsOneOf StoreFault ran_statuses → ⊥
+store_ran (inl e) = cc
+store_ran (inr (inl e)) = cc
+store_ran (inr (inr (inl e))) = cc
+store_ran (inr (inr (inr (inl e)))) = cc
+store_ran (inr (inr (inr (inr (inl e))))) = cc
+store_ran (inr (inr (inr (inr (inr (inl e)))))) = cc
+store_ran (inr (inr (inr (inr (inr (inr none)))))) = none
+
+refused_ran : IsOneOf GraphRefused ran_statuses → ⊥
+refused_ran (inl e) = cc
+refused_ran (inr (inl e)) = cc
+refused_ran (inr (inr (inl e))) = cc
+refused_ran (inr (inr (inr (inl e)))) = cc
+refused_ran (inr (inr (inr (inr (inl e))))) = cc
+refused_ran (inr (inr (inr (inr (inr (inl e)))))) = cc
+refused_ran (inr (inr (inr (inr (inr (inr none)))))) = none
+
+memory_ran : IsOneOf OutOfMemory ran_statuses → ⊥
+memory_ran (inl e) = cc
+memory_ran (inr (inl e)) = cc
+memory_ran (inr (inr (inl e))) = cc
+memory_ran (inr (inr (inr (inl e)))) = cc
+memory_ran (inr (inr (inr (inr (inl e))))) = cc
+memory_ran (inr (inr (inr (inr (inr (inl e)))))) = cc
+memory_ran (inr (inr (inr (inr (inr (inr none)))))) = none
+
+called_headline : (status : Status) (task : Task) (all : Devices) → Called status task all → RunsGraph task.order.verb → IsOneOf status ran_statuses → Headline task status all
+called_headline Good task all called runs one = call_headline Good task all called runs (λ e. cc) (λ e. cc)
+called_headline StoreFault task all called runs one = absurd (store_ran one)
+called_headline Usage task all called runs one = elim called [ ]
+called_headline GraphRefused task all called runs one = absurd (refused_ran one)
+called_headline LineRefused task all called runs one = call_headline LineRefused task all called runs (λ e. cc) (λ e. cc)
+called_headline NodeFault task all called runs one = call_headline NodeFault task all called runs (λ e. cc) (λ e. cc)
+called_headline Stalled task all called runs one = call_headline Stalled task all called runs (λ e. cc) (λ e. cc)
+called_headline ReadFault task all called runs one = call_headline ReadFault task all called runs (λ e. cc) (λ e. cc)
+called_headline WriteFault task all called runs one = call_headline WriteFault task all called runs (λ e. cc) (λ e. cc)
+called_headline OutOfMemory task all called runs one = absurd (memory_ran one)
+
+pub came-headline : (outers : List OuterShape) (asked : Asked) (status : Status) (all : Devices) → Came outers asked status all
+    → IfSome (command_by asked) (λ command. RunsGraph command.order.verb → IsOneOf status ran_statuses → Headline (task command outers) status all)
+came-headline outers asks_usage status all came = tt
+came-headline outers (asks_text text) status all came = tt
+came-headline outers (asks_command command) status all came = called_headline status (task command outers) all came
+
+-- There is one headline --
+
+-- the contents are those that the store tells
+same_contents : (told contents : List (List ℕ)) (o : Option (List (List ℕ))) → o ≡ Some told → IfSome o (λ known. known ≡ contents) → contents ≡ told
+same_contents told contents None is same = absurd cc
+same_contents told contents (Some known) is same = sym same ∙ (let e : known ≡ told = cc in e)
+
+pub told_contents : (names contents told : List (List ℕ)) (store : Device StoreTold) → LoadedAll names contents store → loads_of store.before.content names ≡ Some told → contents ≡ told
+told_contents names contents told store loaded is = same_contents told contents (loads_of store.before.content names) is (of-loads store.before.content names contents (λ known. known ≡ contents) loaded.given refl)
+
+-- what the input came to is the whole of what it tells
+pub told_reading : (plan : Plan) (input : Device SourceTold) (read : Read) (bytes : List ℕ) → CameTo (inputs_of plan) input read → input.before.left ≡ Some bytes → Unrisen input.before.faults input.now.faults → read ≡ ended_input (inputs_of plan) bytes
+told_reading plan input read bytes came is un = whole-read (inputs_of plan) input read bytes came is un
+
+same_graphs : (main other : GraphView) (library others : List GraphView) → graphs (main ∷ library) ≡ graphs (other ∷ others) → (main ≡ other) × (library ≡ others)
+same_graphs main other library others e = ((let a : main ≡ other = cc in a), (let b : library ≡ others = cc in b))
+
+abbrev expands_to : GraphView → Result GraphView ExpandFault
+expands_to g = Ok g
+
+same_expansion : (g h : GraphView) → expands_to g ≡ expands_to h → g ≡ h
+same_expansion g h e = cc
+
+abbrev checks_as : Plan → Result Plan CheckFault
+checks_as plan = Ok plan
+
+same_check : (p q : Plan) → checks_as p ≡ checks_as q → p ≡ q
+same_check p q e = cc
+
+-- of the same contents there is one graph, and one plan
+pub one_plan : (task : Task) (contents : List (List ℕ)) (plan other : Plan) → IsGraph task contents plan → IsGraph task contents other → plan ≡ other
+one_plan task contents plan other a b =
+    let files = same_graphs a.main b.main a.library b.library (one-reading task.files contents (graphs (a.main ∷ a.library)) (graphs (b.main ∷ b.library)) a.files b.files) in
+    let expansion : expansion_of a.main a.library ≡ expansion_of b.main b.library = ap (λ (m : GraphView). expansion_of m a.library) files.0 ∙ ap (expansion_of b.main) files.1 in
+    let graph = same_expansion a.graph b.graph (sym a.expanded ∙ expansion ∙ b.expanded) in
+    same_check plan other (sym a.checked ∙ ap (check_of task.outers) graph ∙ b.checked)
+
+not_both : (order : Order) → order.verb ≡ Use Run → order.verb ≡ Use Generate → ⊥
+not_both order run made = (let e : Use Run ≡ Use Generate = sym run ∙ made in cc)
+
+-- over an input that tells its bytes, of which no read failed, there is one origin
+pub one_origin : (order : Order) (plan : Plan) (input other : Device SourceTold) (bytes : List ℕ) (a b : Origin) → input.before.left ≡ Some bytes → other.before.left ≡ Some bytes → Unrisen input.before.faults input.now.faults
+    → Unrisen other.before.faults other.now.faults → IsOrigin order plan input a → IsOrigin order plan other b → a ≡ b
+one_origin order plan input other bytes (from_input read) (from_input again) left left_too un un_too one two =
+    ap from_input (told_reading plan input read bytes one.1 left un ∙ sym (told_reading plan other again bytes two.1 left_too un_too))
+one_origin order plan input other bytes (from_input read) (from_number number) left left_too un un_too one two = absurd (not_both order one.0 two.0)
+one_origin order plan input other bytes (from_number number) (from_input read) left left_too un un_too one two = absurd (not_both order two.0 one.0)
+one_origin order plan input other bytes (from_number number) (from_number again) left left_too un un_too one two = ap from_number (one.1 ∙ sym two.1)
+
+pub one_headline : (task : Task) (status other_status : Status) (all other : Devices) (contents : List (List ℕ)) (bytes : List ℕ) (a : Headline task status all) (b : Headline task other_status other)
+    → loads_of all.store.before.content task.files ≡ Some contents → loads_of other.store.before.content task.files ≡ Some contents → all.input.before.left ≡ Some bytes → other.input.before.left ≡ Some bytes
+    → Unrisen all.input.before.faults all.input.now.faults → Unrisen other.input.before.faults other.input.now.faults → (a.plan ≡ b.plan) × (a.from ≡ b.from) × (a.run.streams ≡ b.run.streams)
+one_headline task status other_status all other contents bytes a b loads loads_too left left_too un un_too =
+    let in_a : IsGraph task contents a.plan = subst (λ (cs : List (List ℕ)). IsGraph task cs a.plan) (told_contents task.files a.contents contents all.store a.loaded loads) a.graph in
+    let in_b : IsGraph task contents b.plan = subst (λ (cs : List (List ℕ)). IsGraph task cs b.plan) (told_contents task.files b.contents contents other.store b.loaded loads_too) b.graph in
+    let plans = one_plan task contents a.plan b.plan in_a in_b in
+    let origin : IsOrigin task.order b.plan all.input a.from = subst (λ (p : Plan). IsOrigin task.order p all.input a.from) plans a.origin in
+    let origins = one_origin task.order b.plan all.input other.input bytes a.from b.from left left_too un un_too origin b.origin in
+    let jobs : job_from (bare a.plan) a.from ≡ job_from (bare b.plan) b.from = ap (λ (p : Plan). job_from (bare p) a.from) plans ∙ ap (job_from (bare b.plan)) origins in (
+      plans,
+      origins,
+      one_solution (job_from (bare b.plan) b.from) a.run.streams b.run.streams (subst (λ (j : equations.Job). equations.IsSolution j a.run.streams) jobs a.run.solution) b.run.solution,
+    )

@@ -1,0 +1,10 @@
+use Rattle.std.proofs.Common.{◌≡◌, Option, None, Some, IfNone}
+use Rattle.mg_calc.specs.Plan.{IsValid}
+use Rattle.mg_run.proofs.job.plan_job.Goals as goal
+
+none_holds : {X : Type 0} (o : Option X) (P : Type 0) → o ≡ None → IfNone o P → P
+none_holds None P is holds = holds
+none_holds (Some x) P is holds = absurd (let e = is in cc)
+
+pub returns-in-None-clause-valid : goal.returns-in-None-clause-valid
+returns-in-None-clause-valid c = c.way_job.ensures.valid c.args.outers.now (none_holds _ (IsValid c.in-Ok.plan) c.in-None.is c.in_ok-note-in-Ok.ensures.valid) c.in-Ok.ensures.fit

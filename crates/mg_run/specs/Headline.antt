@@ -1,0 +1,79 @@
+-- What a `run` or a `generate` that no fault of the files and no want of memory kept from its graph is, as one thing: there are one content
+-- of each file, one graph and its plan, one reading of the input and one solution, and all that is seen of the call is theirs.
+use Rattle.std.specs.Prelude.{◌≡◌, ◌⊎◌, ℕ, negsuc, Bool, List, [], ◌∷◌, None, Ok}
+use Rattle.mg_edge.specs.Edge.{SourceTold}
+use Rattle.mg_config.specs.Config.{GraphView}
+use Rattle.mg_calc.specs.declared.plan.Plan.{Plan}
+use Rattle.mg_calc.specs.Equations as equations
+use Rattle.mg_check.specs.Check.{check_of}
+use Rattle.mg_subgraph.specs.Expansion.{expansion_of}
+use Rattle.mg_free.specs.Core.{first_free}
+use Rattle.mg_feed.specs.Graph.{inputs_of}
+use Rattle.mg_feed.specs.declared.feed_end.FeedEnd.{FeedEnd}
+use Rattle.mg_feed.specs.declared.feed_end.FeedEnd.TheVariants.{Ended}
+use Rattle.mg_answer.specs.Answer.{Read, Telling, by_lines, by_summary, job_of, generated_job}
+use Rattle.mg_answer.specs.Ran.{CameTo}
+use Rattle.mg_answer.specs.declared.status.Status.{Status}
+use Rattle.mg_answer.specs.declared.status.Status.TheVariants.{Good, LineRefused, NodeFault, Stalled, ReadFault, WriteFault}
+use Rattle.mg_drive.specs.OneRun.{OneRun}
+use Rattle.mg_run.specs.Task.{Task}
+use Rattle.mg_run.specs.Files.{AreGraphs}
+use Rattle.mg_run.specs.Loads.{LoadedAll}
+use Rattle.mg_run.specs.Devices.{Device, Devices, Untouched}
+use Rattle.mg_words.specs.declared.words.Order.{Order}
+use Rattle.mg_words.specs.declared.words.Verb.{Verb}
+use Rattle.mg_words.specs.declared.words.Verb.TheVariants.{Use}
+use Rattle.mg_words.specs.declared.words.Way.TheVariants.{Run, Generate}
+
+-- the commands, and the statuses: all went well, a line was refused, a node failed, a stream never closed, a read failed, a write failed
+abbrev pub RunsGraph : Verb → Type 0
+RunsGraph verb = (verb ≡ Use Run) ⊎ (verb ≡ Use Generate)
+
+abbrev pub ran_statuses : List Status
+ran_statuses = Good ∷ LineRefused ∷ NodeFault ∷ Stalled ∷ ReadFault ∷ WriteFault ∷ []
+
+-- The contents are graphs, the first of which expands with the others as its library; that is a valid graph with this plan, where the
+-- calculators that are handed in have these shapes and laws; and no node of it is free.
+pub record IsGraph (task : Task) (contents : List (List ℕ)) (plan : Plan) : Type 0 where
+  pub main : GraphView
+  pub library : List GraphView
+  pub files : AreGraphs contents (main ∷ library)
+  pub graph : GraphView
+  pub expanded : expansion_of main library ≡ Ok graph
+  pub checked : check_of task.outers graph ≡ Ok plan
+  pub bound : first_free plan ≡ None
+
+-- What was run is what the input came to, or so many packets that are made.
+pub data Origin : Type 0 where
+  from_input : Read → Origin
+  from_number : ℕ → Origin
+
+-- The input was read once, to its end, its first line that isn't good or its first failed read; or it was left as it was.
+abbrev pub IsOrigin : Order → Plan → Device SourceTold → Origin → Type 0
+IsOrigin order plan input (from_input read) = (order.verb ≡ Use Run) × CameTo (inputs_of plan) input read
+IsOrigin order plan input (from_number number) = (order.verb ≡ Use Generate) × (number ≡ order.number) × Untouched input
+
+abbrev pub job_from : Plan → Origin → equations.Job
+job_from plan (from_input read) = job_of plan read
+job_from plan (from_number number) = generated_job plan number
+
+abbrev pub end_from : Origin → FeedEnd
+end_from (from_input read) = read.end
+end_from (from_number number) = Ended
+
+abbrev pub telling_from : Bool → Origin → Telling
+telling_from report (from_input read) = by_lines report
+telling_from report (from_number number) = by_summary report
+
+-- a plan without its limit of queues and its number of workers, which have no part in what is answered
+abbrev pub bare : Plan → Plan
+bare plan = record plan { limit = negsuc 0; workers = 0 }
+
+pub record Headline (task : Task) (status : Status) (devices : Devices) : Type 0 where
+  pub contents : List (List ℕ)
+  pub loaded : LoadedAll task.files contents devices.store
+  pub plan : Plan
+  pub graph : IsGraph task contents plan
+  pub from : Origin
+  pub origin : IsOrigin task.order plan devices.input from
+  pub run : OneRun (telling_from task.order.report from) (job_from (bare plan) from) (end_from from) status devices.output devices.notes devices.boxes

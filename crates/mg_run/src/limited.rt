@@ -1,0 +1,69 @@
+//! Plans with the limit of queues and the number of workers that the words ask for.
+ghost use Rattle.std.specs.Prelude.{◌≡◌, ◌≢◌, pos, List, Some};
+ghost use Rattle.mg_calc.specs.declared.shape.OuterShape.{OuterShape};
+ghost use Rattle.mg_calc.specs.Plan.{IsValid, OutersFit};
+ghost use Rattle.mg_run.specs.Answer as answers;
+
+use mg_calc::Plan;
+use mg_words::{MOST_WORKERS, Order};
+
+/// A plan with a limit of queues, where there is one.
+pub fn limited(limit: Option<i32>, plan: Plan) -> Plan
+    ensures limit { result ≡ answers.with_limit limit plan }
+    ensures valid { IsValid plan → IsValid result }
+    ensures fit { (outers : List OuterShape) → OutersFit plan outers → OutersFit result outers }
+{
+    match limit {
+        Some(limit) => with_limit(limit, plan),
+        None => plan,
+    }
+}
+
+// A limit, or the plan's own where it is 0.
+fn limit_or(limit: i32, own: i32) -> i32
+    ensures limit { result ≡ answers.limit_or limit own }
+    ensures some { own ≢ pos 0 → result ≢ pos 0 }
+{
+    if limit == 0 { own } else { limit }
+}
+
+fn with_limit(limit: i32, plan: Plan) -> Plan
+    ensures limit { result ≡ answers.with_limit (Some limit) plan }
+    ensures valid { IsValid plan → IsValid result }
+    ensures fit { (outers : List OuterShape) → OutersFit plan outers → OutersFit result outers }
+{
+    let mut plan = plan;
+    plan.limit = limit_or(limit, plan.limit);
+    plan
+}
+
+// A plan that is run by so many workers, where the words say so.
+fn with_workers(workers: Option<u32>, plan: Plan) -> Plan
+    ensures workers { result ≡ answers.with_workers workers plan }
+    ensures valid { IsValid plan → IsValid result }
+    ensures fit { (outers : List OuterShape) → OutersFit plan outers → OutersFit result outers }
+{
+    match workers {
+        Some(workers) => worked_by(workers, plan),
+        None => plan,
+    }
+}
+
+fn worked_by(workers: u32, plan: Plan) -> Plan
+    ensures workers { result ≡ answers.with_workers (Some workers) plan }
+    ensures valid { IsValid plan → IsValid result }
+    ensures fit { (outers : List OuterShape) → OutersFit plan outers → OutersFit result outers }
+{
+    let mut plan = plan;
+    plan.workers = workers.min(MOST_WORKERS);
+    plan
+}
+
+/// A plan as it is run.
+pub fn as_asked(order: Order, plan: Plan) -> Plan
+    ensures asked { result ≡ answers.as_asked order plan }
+    ensures valid { IsValid plan → IsValid result }
+    ensures fit { (outers : List OuterShape) → OutersFit plan outers → OutersFit result outers }
+{
+    with_workers(order.workers, limited(order.limit, plan))
+}

@@ -1,0 +1,4 @@
+pub mod Laid
+pub mod Singles
+pub mod Asking
+pub mod Getters

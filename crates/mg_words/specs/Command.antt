@@ -1,0 +1,51 @@
+-- What a command is.
+use Rattle.std.specs.Prelude.{ℕ, List, Bool, true, false, Option, None, Some, codes, if◌then◌else◌}
+use Rattle.std.specs.Str.{bytes_eq}
+use Rattle.mg_words.specs.declared.limits.TheConstants.{MOST_FILES}
+use Rattle.mg_words.specs.declared.words.Order.{Order}
+use Rattle.mg_words.specs.declared.words.Verb.{Verb}
+use Rattle.mg_words.specs.declared.words.Verb.TheVariants.{Check, Expand, Use}
+use Rattle.mg_words.specs.declared.words.Way.TheVariants.{Run, Solve, Generate, Trace, Replay}
+
+-- what is done, and the names of the files: that of the main graph, and then those of its library
+pub record Command : Type 0 where
+  pub order : Order
+  pub files : List (List ℕ)
+
+abbrev pub command : Order → List (List ℕ) → Command
+command order files = record { order = order; files = files }
+
+-- The words that COMMAND may be.
+abbrev pub verb_of : List ℕ → Option Verb
+verb_of word =
+    if bytes_eq word (codes "run") then Some (Use Run)
+    else (if bytes_eq word (codes "solve") then Some (Use Solve)
+    else (if bytes_eq word (codes "check") then Some Check
+    else (if bytes_eq word (codes "expand") then Some Expand
+    else (if bytes_eq word (codes "generate") then Some (Use Generate)
+    else (if bytes_eq word (codes "trace") then Some (Use Trace)
+    else (if bytes_eq word (codes "replay") then Some (Use Replay) else None))))))
+
+-- whether the input is read, where no file is refused
+abbrev pub reads_input : Verb → Bool
+reads_input (Use Run) = true
+reads_input (Use Solve) = true
+reads_input Check = false
+reads_input Expand = false
+reads_input (Use Generate) = false
+reads_input (Use Trace) = true
+reads_input (Use Replay) = true
+
+-- whether calculators that are handed in are called, where no file is refused
+abbrev pub calls_boxes : Verb → Bool
+calls_boxes (Use Run) = true
+calls_boxes (Use Solve) = false
+calls_boxes Check = false
+calls_boxes Expand = false
+calls_boxes (Use Generate) = true
+calls_boxes (Use Trace) = true
+calls_boxes (Use Replay) = true
+
+-- the most files: the main graph, and 64 further ones
+abbrev pub most_files : ℕ
+most_files = MOST_FILES

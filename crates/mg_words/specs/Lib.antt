@@ -1,0 +1,6 @@
+-- What the words of a command line ask for.
+pub mod CommandLine
+pub mod Command
+pub mod Help
+pub mod Words
+pub mod Asked

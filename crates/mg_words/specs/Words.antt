@@ -1,0 +1,104 @@
+-- What the words of a command line ask for.
+use Rattle.std.specs.Prelude.{ℕ, ℤ, pos, negsuc, Bool, false, not, min, ◌&&◌, ◌||◌, List, [], ◌∷◌, ◌++◌, Option, None, Some, is_some, option_map, unwrap_or, codes, length, nat_le, if◌then◌else◌}
+use Rattle.std.specs.Option.{option_and_then, option_map_or}
+use Rattle.std.specs.Str.{bytes_eq}
+use Rattle.std.specs.Str.Parse.{digits_value, without_leading_plus}
+use Rattle.clap.specs.Words.{Kinds, Row, Text, all_of, first_of, one_of, fault_of, matches_of}
+use Rattle.clap.specs.ValueTests.{accepts}
+use Rattle.clap.specs.declared.builder.value_parser.ValueParser.TheVariants.{Unsigned}
+use Rattle.clap.specs.declared.error.kind.ErrorKind.{ErrorKind}
+use Rattle.clap.specs.declared.error.kind.ErrorKind.TheVariants.{DisplayHelp, DisplayVersion}
+use Rattle.mg_words.specs.CommandLine as lines
+use Rattle.mg_words.specs.Command.{Command, command, most_files, verb_of}
+use Rattle.mg_words.specs.Help.{help_text, version_text}
+use Rattle.mg_words.specs.declared.options.Options.{Options}
+use Rattle.mg_words.specs.declared.options.TheConstants.{MOST_LIMIT}
+use Rattle.mg_words.specs.declared.words.Order.{Order}
+use Rattle.mg_words.specs.declared.words.Verb.{Verb}
+
+-- What words say that `clap` takes --
+
+pub record Line : Type 0 where
+  pub word : Text
+  pub files : List Text
+  pub options : Options
+
+-- the number that a text is
+abbrev pub number_in : Text → Option ℕ
+number_in text = if accepts false (Unsigned 0 4294967295) text then Some (digits_value 10 (without_leading_plus text)) else None
+
+abbrev pub number_of : Text → List Row → Option ℕ
+number_of name rows = option_and_then number_in (one_of name rows)
+
+-- a flag was used
+abbrev pub flag_of : Text → List Row → Bool
+flag_of name rows = option_map_or (λ text. bytes_eq text (codes "true")) (first_of name rows) false
+
+abbrev pub options_of : List Row → Options
+options_of rows = record {
+  workers = number_of (codes "workers") rows;
+  max_queue_size = number_of (codes "max-queue-size") rows;
+  number = number_of (codes "number") rows;
+  no_queue_limit = flag_of (codes "no-queue-limit") rows;
+  report = flag_of (codes "report") rows;
+}
+
+-- the words at the places of a name
+abbrev pub words_at : Text → List Row → List Text
+words_at name rows = unwrap_or (all_of name rows) []
+
+-- COMMAND, the files with that of the main graph first, and the options
+abbrev pub line_of : List Row → Line
+line_of rows = record {
+  word = unwrap_or (first_of (codes "COMMAND") rows) [];
+  files = words_at (codes "GRAPH") rows ++ words_at (codes "SUBGRAPH") rows;
+  options = options_of rows;
+}
+
+-- What `clap` doesn't judge: how many files there are, and that `generate` has a number.
+abbrev pub keeps_rules : Line → Bool
+keeps_rules line = nat_le (length line.files) most_files && (is_some line.options.number || not (bytes_eq line.word (codes "generate")))
+
+-- The limit of queues that the options ask for, where they do; below 0 it is none. Of two the flag counts.
+abbrev pub limit_in : Options → Option ℤ
+limit_in options = if options.no_queue_limit then Some (negsuc 0) else option_map (λ size. pos (min size MOST_LIMIT)) options.max_queue_size
+
+abbrev pub order_in : Options → Verb → Order
+order_in options verb = record { verb = verb; limit = limit_in options; workers = options.workers; number = unwrap_or options.number 0; report = options.report }
+
+abbrev pub command_in : Line → Option Command
+command_in line = if keeps_rules line then option_map (λ verb. command (order_in line.options verb) line.files) (verb_of line.word) else None
+
+-- What the words ask for --
+
+-- The note on how the program is used; a text of the program's own; or what a command does.
+pub data Asked : Type 0 where
+  asks_usage : Asked
+  asks_text : List ℕ → Asked
+  asks_command : Command → Asked
+
+abbrev pub asked_by : Option Command → Asked
+asked_by None = asks_usage
+asked_by (Some command) = asks_command command
+
+-- `clap` doesn't take the words, for this reason. A call for the help or for the version is no mistake.
+abbrev pub asked_at : ErrorKind → Asked
+asked_at DisplayHelp = asks_text help_text
+asked_at DisplayVersion = asks_text version_text
+asked_at _ = asks_usage
+
+abbrev pub asked_from : Kinds → List Row → Asked
+asked_from [] rows = asked_by (command_in (line_of rows))
+asked_from (kind ∷ kinds) rows = asked_at kind
+
+unfoldable pub asked_of : List Text → Asked
+asked_of words = asked_from (fault_of lines.command words) (matches_of lines.command words)
+
+-- the command that the words are, where they are one
+abbrev pub command_by : Asked → Option Command
+command_by asks_usage = None
+command_by (asks_text text) = None
+command_by (asks_command command) = Some command
+
+abbrev pub command_of : List Text → Option Command
+command_of words = command_by (asked_of words)

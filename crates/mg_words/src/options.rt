@@ -1,0 +1,67 @@
+//! The options of a command line.
+ghost use Rattle.std.specs.Prelude.{◌≡◌};
+ghost use Rattle.clap.specs.Words.{found_of, rows_of};
+ghost use Rattle.mg_words.specs.Words as asking;
+
+use clap::ArgMatches;
+
+// The greatest limit of queues that a plan can have.
+const MOST_LIMIT: u32 = 2_147_483_647;
+
+/// What the options of a command line say, of those that were used.
+#[derive(Clone, Copy, Debug, PartialEq, Eq)]
+pub struct Options {
+    /// How many workers run the graph, 0 to 64.
+    pub workers: Option<u32>,
+    /// The limit of queues, 1 to 1,000,000 packets.
+    pub max_queue_size: Option<u32>,
+    /// How many packets are generated, 0 to 1,000,000.
+    pub number: Option<u32>,
+    /// Whether queues have no limit.
+    pub no_queue_limit: bool,
+    /// Whether the notes tell what was done.
+    pub report: bool,
+}
+
+impl Options {
+    /// What they say where `clap` took the words.
+    pub fn of(matches: &ArgMatches<'_>) -> Options
+        ensures { result ≡ asking.options_of (rows_of (found_of matches.now)) }
+    {
+        Options {
+            workers: number_of(matches, "workers"),
+            max_queue_size: number_of(matches, "max-queue-size"),
+            number: number_of(matches, "number"),
+            no_queue_limit: flag_of(matches, "no-queue-limit"),
+            report: flag_of(matches, "report"),
+        }
+    }
+
+    /// The limit of queues that is asked for, as plans have it: below 0 there is none.
+    pub fn limit(self) -> Option<i32>
+        ensures { result ≡ asking.limit_in self }
+    {
+        if self.no_queue_limit {
+            return Some(-1);
+        }
+        match self.max_queue_size {
+            Some(size) => Some(size.min(MOST_LIMIT) as i32),
+            None => None,
+        }
+    }
+}
+
+fn number_of(matches: &ArgMatches<'_>, name: &str) -> Option<u32>
+    ensures { result ≡ asking.number_of name.now (rows_of (found_of matches.now)) }
+{
+    matches.get_one::<u32>(name)
+}
+
+fn flag_of(matches: &ArgMatches<'_>, name: &str) -> bool
+    ensures { result ≡ asking.flag_of name.now (rows_of (found_of matches.now)) }
+{
+    match matches.get_str(name) {
+        Some(text) => text == "true",
+        None => false,
+    }
+}

@@ -1,0 +1,212 @@
+//! What the words of a command line ask for.
+ghost use Rattle.std.specs.Prelude.{◌≡◌, ◌≢◌, ◌++◌, ℕ, List, IfOk, OnOk, option_map, length, map};
+ghost use Rattle.clap.specs.Words.{found_of, rows_of};
+ghost use Rattle.mg_words.specs.Command as commands;
+ghost use Rattle.mg_words.specs.Words as asking;
+ghost use Rattle.mg_words.specs.Asked.{asked_view};
+
+use crate::command_line::command;
+use crate::limits::MOST_FILES;
+use crate::options::Options;
+use clap::ArgMatches;
+use clap::error::ErrorKind;
+use mg_value::MgText;
+use std::alloc::{AllocError, Global};
+
+/// What is done with the plan of a graph.
+#[derive(Clone, Copy, Debug, PartialEq, Eq)]
+pub enum Way {
+    /// It is run over the input.
+    Run,
+    /// Its equations are solved for the input.
+    Solve,
+    /// It is run over packets that are made, and a summary of its outputs is written.
+    Generate,
+    /// It is run over the input, and the events of the run are written.
+    Trace,
+    /// A recorded run of it is made again.
+    Replay,
+}
+
+/// What is done with a graph.
+#[derive(Clone, Copy, Debug, PartialEq, Eq)]
+pub enum Verb {
+    /// It is checked.
+    Check,
+    /// The text of its configuration is written.
+    Expand,
+    /// Its plan is used in this way.
+    Use(Way),
+}
+
+/// What is done with a graph, and how.
+#[derive(Clone, Copy, Debug, PartialEq, Eq)]
+pub struct Order {
+    pub verb: Verb,
+    /// The limit of queues where the words say one, in packets; below 0 there is none. It is for runs alone.
+    pub limit: Option<i32>,
+    /// How many workers run the graph where the words say so, 0 to 64. It is for runs that aren't recorded.
+    pub workers: Option<u32>,
+    /// How many packets are made, where that is done, 0 to 1,000,000.
+    pub number: u32,
+    /// Whether the notes of a run or a solution end with a report.
+    pub report: bool,
+}
+
+/// What words ask for.
+#[derive(Debug, Drop)]
+pub enum Asked {
+    /// They are no command.
+    Usage,
+    /// The text on the program.
+    Help,
+    /// The program's version.
+    Version,
+    /// This is done with the graph of these files, that of the main graph first.
+    Command(Order, Vec<MgText>),
+}
+
+/// What the words ask for, by the command line of `clap`.
+pub fn asked_of(alloc: Global, words: &[MgText]) -> Result<Asked, AllocError>
+    ensures { IfOk result (λ asked. asked_view asked ≡ asking.asked_of words.now) }
+{
+    let mut texts = Vec::new(alloc);
+    for word in words {
+        texts.push(word.as_str())?;
+    }
+    asked_by(alloc, texts.as_slice())
+}
+
+fn asked_by<'a>(alloc: Global, words: &'a [&'a str]) -> Result<Asked, AllocError>
+    ensures { IfOk result (λ asked. asked_view asked ≡ asking.asked_of (map (λ word. word.now) words.now)) }
+{
+    let command = command(alloc)?;
+    match command.try_get_matches_from(words) {
+        Ok(matches) => asked_from(alloc, &matches),
+        Err(error) => asked_at(error.kind()),
+    }
+}
+
+// What words ask for that `clap` doesn't take, by its reason.
+fn asked_at(kind: ErrorKind) -> Result<Asked, AllocError>
+    ensures some { OnOk result (kind ≢ ErrorKind.OutOfMemory) }
+    ensures asked { IfOk result (λ asked. asked_view asked ≡ asking.asked_at kind) }
+{
+    match kind {
+        ErrorKind::OutOfMemory => Err(AllocError),
+        ErrorKind::DisplayHelp => Ok(Asked::Help),
+        ErrorKind::DisplayVersion => Ok(Asked::Version),
+        _ => Ok(Asked::Usage),
+    }
+}
+
+// What words ask for that `clap` takes.
+fn asked_from(alloc: Global, matches: &ArgMatches<'_>) -> Result<Asked, AllocError>
+    ensures { IfOk result (λ asked. asked_view asked ≡ asking.asked_by (asking.command_in (asking.line_of (rows_of (found_of matches.now))))) }
+{
+    let files = files_of(alloc, matches)?;
+    let order = order_in(word_of(matches), files.len(), Options::of(matches));
+    Ok(asked_with(order, files))
+}
+
+fn asked_with(order: Option<Order>, files: Vec<MgText>) -> Asked
+    ensures { asked_view result ≡ asking.asked_by (option_map (λ o. commands.command o files.items) order) }
+{
+    match order {
+        Some(order) => Asked::Command(order, files),
+        None => Asked::Usage,
+    }
+}
+
+// What is done, where the words are a command.
+fn order_in(word: &str, files: usize, options: Options) -> Option<Order>
+    ensures { (all : List (List ℕ)) → length all ≡ files → option_map (λ o. commands.command o all) result ≡ asking.command_in (record { word = word.now; files = all; options = options }) }
+{
+    if keeps_rules(word, files, options) {
+        ordered(verb_of(word), options)
+    } else {
+        None
+    }
+}
+
+fn ordered(verb: Option<Verb>, options: Options) -> Option<Order>
+    ensures { result ≡ option_map (asking.order_in options) verb }
+{
+    match verb {
+        Some(verb) => Some(Order {
+            verb,
+            limit: options.limit(),
+            workers: options.workers,
+            number: options.number.unwrap_or(0),
+            report: options.report,
+        }),
+        None => None,
+    }
+}
+
+// What `clap` doesn't judge: how many files there are, and that `generate` has a number.
+fn keeps_rules(word: &str, files: usize, options: Options) -> bool
+    ensures { (all : List (List ℕ)) → length all ≡ files → result ≡ asking.keeps_rules (record { word = word.now; files = all; options = options }) }
+{
+    files <= MOST_FILES && (options.number.is_some() || word != "generate")
+}
+
+// What is done by COMMAND.
+fn verb_of(word: &str) -> Option<Verb>
+    ensures { result ≡ commands.verb_of word.now }
+{
+    match word {
+        "run" => Some(Verb::Use(Way::Run)),
+        "solve" => Some(Verb::Use(Way::Solve)),
+        "check" => Some(Verb::Check),
+        "expand" => Some(Verb::Expand),
+        "generate" => Some(Verb::Use(Way::Generate)),
+        "trace" => Some(Verb::Use(Way::Trace)),
+        "replay" => Some(Verb::Use(Way::Replay)),
+        _ => None,
+    }
+}
+
+// COMMAND.
+fn word_of<'a>(matches: &ArgMatches<'a>) -> &'a str
+    ensures { result.now ≡ (asking.line_of (rows_of (found_of matches.now))).word }
+{
+    match matches.get_str("COMMAND") {
+        Some(word) => word,
+        None => "",
+    }
+}
+
+// The files, that of the main graph first.
+fn files_of(alloc: Global, matches: &ArgMatches<'_>) -> Result<Vec<MgText>, AllocError>
+    ensures { IfOk result (λ files. files.items ≡ (asking.line_of (rows_of (found_of matches.now))).files) }
+{
+    let mut files = Vec::new(alloc);
+    put_words(alloc, matches, "GRAPH", &mut files)?;
+    put_words(alloc, matches, "SUBGRAPH", &mut files)?;
+    Ok(files)
+}
+
+// Puts the words at the places of a name at the end of a list.
+fn put_words(
+    alloc: Global,
+    matches: &ArgMatches<'_>,
+    name: &str,
+    list: &mut Vec<MgText>,
+) -> Result<(), AllocError>
+    ensures { OnOk result (list.new.items ≡ list.old.items ++ asking.words_at name.now (rows_of (found_of matches.now))) }
+{
+    match matches.get_strs(name) {
+        Some(words) => put_texts(alloc, words, list),
+        None => Ok(()),
+    }
+}
+
+fn put_texts(alloc: Global, texts: &[&str], list: &mut Vec<MgText>) -> Result<(), AllocError>
+    ensures { OnOk result (list.new.items ≡ list.old.items ++ map (λ text. text.now) texts.now) }
+{
+    for text in texts {
+        list.push(MgText::new(alloc, text)?)?;
+    }
+    Ok(())
+}
