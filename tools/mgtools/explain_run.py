@@ -4,6 +4,7 @@ from __future__ import annotations
 import json
 from collections.abc import Iterable
 from dataclasses import dataclass
+from itertools import islice
 from typing import Any
 
 from .graph import Graph, Node
@@ -57,11 +58,23 @@ class Recording:
         return self.streams.get(name, Stream())
 
 
+# The lines of a recorded run that aren't good, behind its packet lines.
+RECORDED = {"BadEvent": "it is no step that this graph can make, in the spelling of `mg trace`: keep the trace as it was written, with its graph",
+            "IdleEvent": "the step changes nothing here: one before it is missing, or it stands twice, or the run had another limit of queues",
+            "NotAtRest": "`end` stands where some step could still be made: steps before it are missing",
+            "NoEnd": "the lines end before `end`: the trace broke off, so record the run again",
+            "AfterEnd": "a line stands behind `end`: keep one trace in a file"}
+
+
 def line(note: Note, graph: Graph | None, lines: Iterable[bytes] | None, name: str) -> list[str]:
     """A line that wasn't good."""
     number, refusal = note["line"], note["refusal"]
     if refusal == "TooManyLines":
         return [f"{name}:{number}: 4000000 lines are the most, blank ones too: cut the recording (tools/recording pick --until)"]
+    if refusal in RECORDED:
+        text = next(islice(lines or [], number - 1, None), None)
+        shows = [] if text is None else [f"the line is {text[:100].decode(errors='replace').rstrip()}"]
+        return [f"{name}:{number}: {RECORDED[refusal]}", *shows]
     if lines is None:
         return [f"{name}:{number}: {CAUSES[refusal]}; name the recording to this tool (--recording FILE), and it shows the line"]
     recording = Recording(lines, number)

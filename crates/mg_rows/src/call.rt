@@ -1,10 +1,11 @@
 //! A call of the program over devices in memory.
 
-use crate::choice::Choice;
+use crate::choice::{Choice, input_of};
 use crate::member::{list, number, numbers};
 use crate::text::{Texts, bytes_of};
+use crate::turn::{Turn, most_written};
 use anyhow::{Result, bail};
-use mg_batch::{begin_loop_box, end_loop_box};
+use mg_batch::{BatchBox, begin_loop_box, end_loop_box};
 use mg_calc::Calculator;
 use mg_edge::{MemorySink, MemorySource, MemoryStore, StillGate};
 use mg_run::{run_words, tally_box};
@@ -17,8 +18,10 @@ use std::thread::Threads;
 // The room of a sink where a case gives none: more than most texts take.
 const ROOM: u64 = 1 << 20;
 
-// How many boxes that count a call is handed, beside one of each end of a loop.
-const BOXES: usize = 4;
+// How many boxes that count a call is handed, and how many for the ends of loops over lists.
+const TALLIES: usize = 4;
+
+const LOOP_ENDS: usize = 2;
 
 /// The names of what is counted: by the devices, and of the boxes.
 pub const COUNTS: [&str; 11] = [
@@ -62,23 +65,19 @@ pub fn make_call<R: Threads + Wait + Sync>(
     texts: &Texts,
     case: &Value,
     choice: Choice,
+    turn: Turn,
 ) -> Result<Outcome> {
     let words = words_of(alloc, case, choice)?;
-    let mut devices = Devices {
-        store: store_of(alloc, texts, case, choice)?,
-        input: input_of(alloc, texts, case, choice)?,
-        output: sink_of(alloc, case, "room", "failing_writes")?,
-        notes: sink_of(alloc, case, "notes_room", "failing_notes")?,
-    };
+    let mut devices = devices_of(alloc, texts, case, choice, turn)?;
     let mut boxes = Vec::new(alloc);
-    for _ in 0..BOXES {
+    for _ in 0..TALLIES {
         let tally: Box<dyn Calculator + Send> = Box::new(alloc, tally_box(alloc, true)?)?;
         boxes.push(tally)?;
     }
-    let begin: Box<dyn Calculator + Send> = Box::new(alloc, begin_loop_box(alloc, false, true)?)?;
-    boxes.push(begin)?;
-    let end: Box<dyn Calculator + Send> = Box::new(alloc, end_loop_box(alloc, true)?)?;
-    boxes.push(end)?;
+    for number in 0..LOOP_ENDS {
+        let end: Box<dyn Calculator + Send> = Box::new(alloc, loop_box(alloc, number)?)?;
+        boxes.push(end)?;
+    }
     let status = run_words(
         rt,
         alloc,
@@ -127,6 +126,15 @@ impl Devices {
     }
 }
 
+// A box for the begin of a loop, and for any other number one for its end.
+fn loop_box(alloc: Global, number: usize) -> Result<BatchBox, AllocError> {
+    if number == 0 {
+        begin_loop_box(alloc, false, true)
+    } else {
+        end_loop_box(alloc, true)
+    }
+}
+
 // How many calls some boxes had.
 fn calls_of(boxes: &[Box<dyn Calculator + Send>]) -> u64 {
     let mut calls = 0u64;
@@ -157,6 +165,21 @@ fn words_of(alloc: Global, case: &Value, choice: Choice) -> Result<Vec<MgText>> 
     Ok(words)
 }
 
+fn devices_of(
+    alloc: Global,
+    texts: &Texts,
+    case: &Value,
+    choice: Choice,
+    turn: Turn,
+) -> Result<Devices> {
+    Ok(Devices {
+        store: store_of(alloc, texts, case, choice)?,
+        input: source_of(alloc, texts, case, choice, turn)?,
+        output: output_of(alloc, case, turn)?,
+        notes: notes_of(alloc, case)?,
+    })
+}
+
 fn store_of(alloc: Global, texts: &Texts, case: &Value, choice: Choice) -> Result<MemoryStore> {
     let mut store = MemoryStore::new(alloc);
     if let Some(load) = number(case, "failing_load")? {
@@ -177,21 +200,37 @@ fn store_of(alloc: Global, texts: &Texts, case: &Value, choice: Choice) -> Resul
     Ok(store)
 }
 
-fn input_of(alloc: Global, texts: &Texts, case: &Value, choice: Choice) -> Result<MemorySource> {
-    let mut input = bytes_of(alloc, texts, list(case, "inputs")?.get(choice.input))?;
-    if !choice.last_line_feed && input.last() == Some(&b'\n') {
-        let _ = input.pop();
-    }
+fn source_of(
+    alloc: Global,
+    texts: &Texts,
+    case: &Value,
+    choice: Choice,
+    turn: Turn,
+) -> Result<MemorySource> {
+    let input = input_of(alloc, texts, case, choice)?;
     let mut failing = numbers(alloc, case, "failing_reads")?;
-    if let Some(read) = choice.failing_read {
+    if let Turn::Read(read, _) = turn {
         failing.push(read)?;
     }
     let piece = choice.piece.max(1) as usize;
     Ok(MemorySource::new(alloc, &input, piece, &failing)?)
 }
 
-fn sink_of(alloc: Global, case: &Value, room: &str, failing: &str) -> Result<MemorySink> {
+fn output_of(alloc: Global, case: &Value, turn: Turn) -> Result<MemorySink> {
+    let mut failing = numbers(alloc, case, "failing_writes")?;
+    if let Turn::Write(write, _) = turn {
+        failing.push(write)?;
+    }
+    sink_of(alloc, case, "room", &failing)
+}
+
+fn notes_of(alloc: Global, case: &Value) -> Result<MemorySink> {
+    let failing = numbers(alloc, case, "failing_notes")?;
+    sink_of(alloc, case, "notes_room", &failing)
+}
+
+fn sink_of(alloc: Global, case: &Value, room: &str, failing: &[u64]) -> Result<MemorySink> {
     let room = number(case, room)?.unwrap_or(ROOM) as usize;
-    let failing = numbers(alloc, case, failing)?;
-    Ok(MemorySink::new(alloc, room, &failing)?)
+    let most = most_written(case)?.max(1) as usize;
+    Ok(MemorySink::slow(alloc, room, most, failing)?)
 }

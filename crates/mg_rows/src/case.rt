@@ -1,10 +1,11 @@
 //! What the lines of a table come to.
 
 use crate::call::make_call;
-use crate::choice::choice_of;
+use crate::choice::{Choice, choice_of};
 use crate::member::{knows, text};
 use crate::report::{difference, wanted_of};
 use crate::text::{Texts, bytes_of};
+use crate::turn::turn_of;
 use anyhow::{Result, ensure};
 use serde_json::Value;
 use std::alloc::Global;
@@ -12,7 +13,7 @@ use std::sync::Wait;
 use std::thread::Threads;
 
 // The keys of a case.
-const KEYS: [&str; 21] = [
+const KEYS: [&str; 23] = [
     "case",
     "words",
     "graphs",
@@ -20,7 +21,9 @@ const KEYS: [&str; 21] = [
     "inputs",
     "last_line_feed",
     "pieces",
-    "each_failing_read",
+    "after_lines",
+    "each_write_fails",
+    "most_written",
     "failing_reads",
     "failing_writes",
     "failing_notes",
@@ -119,16 +122,35 @@ fn judge_case<R: Threads + Wait + Sync>(
     name: &str,
     case: &Value,
 ) -> Result<Verdict> {
-    let wanted = wanted_of(alloc, texts, case)?;
     for number in 0..usize::MAX {
         let Some(choice) = choice_of(alloc, case, number)? else {
             break;
         };
-        let came = make_call(rt, alloc, texts, case, choice)?;
-        if let Some(how) = difference(alloc, case, &wanted, &came)? {
+        if let Some(how) = judge_choice(rt, alloc, texts, case, choice)? {
             let how = format!(in alloc; "{name}: call {number}: {choice}{how}")?;
             return Ok(Verdict::Failed(how));
         }
     }
     Ok(Verdict::Passed)
+}
+
+// Makes the calls of a choice, one for each turn, and tells how the first that differs does.
+fn judge_choice<R: Threads + Wait + Sync>(
+    rt: &R,
+    alloc: Global,
+    texts: &Texts,
+    case: &Value,
+    choice: Choice,
+) -> Result<Option<String>> {
+    for number in 0..u64::MAX {
+        let Some(turn) = turn_of(alloc, texts, case, choice, number)? else {
+            break;
+        };
+        let wanted = wanted_of(alloc, texts, case, turn)?;
+        let came = make_call(rt, alloc, texts, case, choice, turn)?;
+        if let Some(how) = difference(alloc, case, &wanted, &came)? {
+            return Ok(Some(format!(in alloc; "{turn}{how}")?));
+        }
+    }
+    Ok(None)
 }

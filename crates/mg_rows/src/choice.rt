@@ -3,7 +3,8 @@
 ghost use Rattle.std.specs.Prelude.{◌≡◌, ◌+◌, ◌*◌, ◌<◌, max};
 
 use crate::member::{list, numbers, truth};
-use anyhow::{Result, bail, ensure};
+use crate::text::{Texts, bytes_of};
+use anyhow::{Result, bail};
 use serde_json::Value;
 use std::alloc::Global;
 use std::fmt;
@@ -22,8 +23,6 @@ pub struct Choice {
     pub last_line_feed: bool,
     /// The most bytes that a read gives.
     pub piece: u64,
-    /// A read that fails, beside those that fail in each call.
-    pub failing_read: Option<u64>,
 }
 
 /// What the call of a number takes, counted from 0, and nothing past the last call. There are as many calls as
@@ -39,7 +38,6 @@ pub fn choice_of(alloc: Global, case: &Value, number: usize) -> Result<Option<Ch
         input,
         last_line_feed: last_line_feed(case, &mut left)?,
         piece: piece(alloc, case, &mut left)?,
-        failing_read: failing_read(alloc, case, &mut left)?,
     };
     Ok((left == 0).then_some(choice))
 }
@@ -77,19 +75,13 @@ fn piece(alloc: Global, case: &Value, left: &mut usize) -> Result<u64> {
     }
 }
 
-// A number from the first to the last of those that are said.
-fn failing_read(alloc: Global, case: &Value, left: &mut usize) -> Result<Option<u64>> {
-    let said = numbers(alloc, case, "each_failing_read")?;
-    let (first, last) = match said.as_slice() {
-        [] => return Ok(None),
-        [first, last] => (*first, *last),
-        _ => bail!("each_failing_read: not a first and a last number"),
-    };
-    ensure!(
-        first <= last && last < 1 << 32,
-        "each_failing_read: no range"
-    );
-    Ok(Some(first + place(left, (last - first + 1) as usize) as u64))
+/// The bytes of the input that a call takes.
+pub fn input_of(alloc: Global, texts: &Texts, case: &Value, choice: Choice) -> Result<Vec<u8>> {
+    let mut input = bytes_of(alloc, texts, list(case, "inputs")?.get(choice.input))?;
+    if !choice.last_line_feed && input.last() == Some(&b'\n') {
+        let _ = input.pop();
+    }
+    Ok(input)
 }
 
 impl Display for Choice {

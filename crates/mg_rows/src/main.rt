@@ -9,6 +9,7 @@ mod choice;
 mod member;
 mod report;
 mod text;
+mod turn;
 
 use crate::case::{Verdict, judge};
 use std::collections::BTreeMap;

@@ -4,8 +4,9 @@ ghost use Rattle.std.specs.Prelude.{◌≡◌, ◌≢◌, ◌↔◌, IsTrue, IfO
 ghost use Rattle.mg_rows.specs.Wanted.{IsEnough};
 
 use crate::call::{COUNTS, Outcome};
-use crate::member::{knows, number, text, truth};
+use crate::member::{knows, list, number, text, truth};
 use crate::text::{Texts, bytes_of};
+use crate::turn::Turn;
 use anyhow::{Result, bail};
 use serde_json::Value;
 use std::alloc::{AllocError, Global};
@@ -24,17 +25,43 @@ pub struct Wanted {
 // The parts in which what came of a call may differ.
 const PARTS: [&str; 5] = ["output", "notes", "status", "counts", "failed_name"];
 
-/// Reads what a case wants, but for the counts.
-pub fn wanted_of(alloc: Global, texts: &Texts, case: &Value) -> Result<Wanted> {
+/// Reads what a case wants of the call of a turn, but for the counts.
+pub fn wanted_of(alloc: Global, texts: &Texts, case: &Value, turn: Turn) -> Result<Wanted> {
     let Some(status) = number(case, "status")? else {
         bail!("no status is wanted");
     };
     Ok(Wanted {
-        output: bytes_of(alloc, texts, case.get("output"))?,
+        output: wanted_output(alloc, texts, case, turn)?,
         output_at_least: number(case, "output_at_least")?,
-        notes: bytes_of(alloc, texts, case.get("notes"))?,
+        notes: wanted_notes(alloc, texts, case, turn)?,
         status,
     })
+}
+
+// Behind so many whole lines what the case says of these, and of a write that fails the bytes before it.
+fn wanted_output(alloc: Global, texts: &Texts, case: &Value, turn: Turn) -> Result<Vec<u8>> {
+    if let Turn::Read(_, lines) = turn {
+        let Some(said) = list(case, "after_lines")?.get(lines) else {
+            bail!("after_lines: nothing is said of {lines} lines");
+        };
+        return bytes_of(alloc, texts, Some(said));
+    }
+    let mut output = bytes_of(alloc, texts, case.get("output"))?;
+    if let Turn::Write(_, bytes) = turn {
+        output.truncate(bytes);
+    }
+    Ok(output)
+}
+
+// A read that fails is noted before all else.
+fn wanted_notes(alloc: Global, texts: &Texts, case: &Value, turn: Turn) -> Result<Vec<u8>> {
+    let mut notes = Vec::new(alloc);
+    if let Turn::Read(_, lines) = turn {
+        let fault = format!(in alloc; "read fault after line {lines}\n")?;
+        notes.extend_from_slice(fault.as_bytes())?;
+    }
+    notes.extend_from_slice(&bytes_of(alloc, texts, case.get("notes"))?)?;
+    Ok(notes)
 }
 
 /// How what came of a call differs from what is wanted, or nothing where it doesn't. Where a case says that some parts
