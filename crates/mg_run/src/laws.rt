@@ -80,7 +80,7 @@ pub fn told_devices_pin_a_headline()
 {}
 
 /// There is one headline: two calls with the same words and boxes, whose stores and inputs tell the same and of which no read failed, have
-/// the same plan, the same reading and the same solution, and so the same answer, whatever their limits and workers are.
+/// the same plan, the same reading and the same solution, and so the same answer.
 pub fn one_headline()
     ensures { (task : Task) (status other_status : Status) (devices other : Devices) (contents : List (List ℕ)) (bytes : List ℕ) (a : Headline task status devices) (b : Headline task other_status other)
         → loads_of devices.store.before.content task.files ≡ Some contents → loads_of other.store.before.content task.files ≡ Some contents
