@@ -11,7 +11,7 @@ use Rattle.mg_config.specs.Config.{NodeView}
 use Rattle.mg_calc.specs.declared.shape.OuterShape.{OuterShape}
 use Rattle.mg_kinds.specs.Names.{kind_named}
 use Rattle.mg_kinds.specs.declared.kind.CalculatorKind.{CalculatorKind}
-use Rattle.mg_kinds.proofs.Made.{mapped_by}
+use Rattle.mg_kinds.proofs.Made.{mapped}
 use Rattle.mg_check.specs.Choosing.{Chosen, outers_named, wanted, kind_by, kind_of, with_kind, chosen_after}
 use Rattle.mg_check.specs.Drafts.{DraftView, draft_of, drafts, box_of}
 use Rattle.mg_check.specs.declared.node_kind.NodeKind.{NodeKind}
@@ -104,7 +104,7 @@ taken_place outers before node n e = by (kind_named node.calculator) e
         → slice_get (outers_named outers node.calculator) (wanted before node.calculator) ≡ Some n
     by (Some kind) e = absurd (not_outer kind n (same_Some (BuiltIn kind) (Outer n) e))
     by None e =
-        let made = mapped_by Outer (slice_get (outers_named outers node.calculator) (wanted before node.calculator)) (Outer n) e in
+        let made = mapped Outer (slice_get (outers_named outers node.calculator) (wanted before node.calculator)) (Outer n) e in
         made.1 ∙ ap Some (same_outer made.0 n made.2)
 
 fresh_taken : (outers : List OuterShape) (before : List NodeView) (node : NodeView) (n : ℕ) → kind_of outers before node ≡ Some (Outer n) → IsFresh outers before n

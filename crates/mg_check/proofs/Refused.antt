@@ -4,16 +4,16 @@ use Rattle.std.specs.Option.{option_or, option_and_then}
 use Rattle.std.proofs.lemmas.List.{length-map}
 use Rattle.mg_subgraph.proofs.Indexed.{position-map}
 use Rattle.mg_check.specs.DraftView.{draft_view, drafts_view}
+use Rattle.mg_check.specs.Names.{first_again}
 use Rattle.mg_check.specs.Order.{left_out}
 use Rattle.mg_check.specs.Code.Meets.{met_of}
 use Rattle.mg_check.specs.declared.draft.Draft.{Draft}
 use Rattle.mg_check.specs.declared.met.Met.{Met}
-use Rattle.mg_check.specs.declared.joint.Joint.{Joint}
-use Rattle.mg_check.specs.declared.fault.CheckFault.TheVariants.{KindClash, BackEdgeMisplaced}
+use Rattle.mg_check.specs.declared.fault.CheckFault.TheVariants.{KindClash, BackEdgeMisplaced, TwoProducers}
 use Rattle.mg_config.specs.Config.{GraphView}
 use Rattle.mg_check.specs.Drafts.{DraftView}
-use Rattle.mg_check.specs.Joining.{two_producers, no_producer, side_missing, kind_clash, back_edge_misplaced, cycle, too_many, join_refusal, stream_names, stream_meetings, order, edges, cycle_of}
-use Rattle.mg_check.specs.Code.Refusing.{name_refusal, wiring_refusal, producer_refusal, clash_by, count_refusal, AreJoint}
+use Rattle.mg_check.specs.Joining.{two_producers, no_producer, side_missing, kind_clash, back_edge_misplaced, cycle, too_many, join_refusal, stream_names, side_names, stream_meetings, order, edges, cycle_of}
+use Rattle.mg_check.specs.Code.Refusing.{name_refusal, wiring_refusal, clash_by, count_refusal}
 use Rattle.mg_check.specs.declared.fault.CheckFault.{CheckFault}
 use Rattle.mg_check.proofs.ValidOrder.{left_out_is}
 
@@ -37,10 +37,20 @@ refused_by_names graph ds fault known = sym (split graph ds) ∙ or_first (name_
 pub refused_by_wiring : (graph : GraphView) (ds : List DraftView) (answer : Option CheckFault) → name_refusal graph ds ≡ None → wiring_refusal graph ds ≡ answer → join_refusal graph ds ≡ answer
 refused_by_wiring graph ds answer none known = sym (split graph ds) ∙ or_next (name_refusal graph ds) (wiring_refusal graph ds) answer none known
 
--- the refusals by what the code has
-pub producers_are : (joint : Joint) (graph : GraphView) (ds : List DraftView) → AreJoint joint graph ds → producer_refusal joint.streams joint.sides ≡ two_producers graph ds
-producers_are joint graph ds known = ap (λ l. producer_refusal l joint.sides) known.of_streams ∙ ap (producer_refusal (stream_names graph ds)) known.of_sides
+-- a name that two give: a stream, or else a side packet
+pub stream_again : (graph : GraphView) (ds : List DraftView) (names : List (List ℕ)) (fault : CheckFault) → names ≡ stream_names graph ds → option_map TwoProducers (first_again names) ≡ Some fault → two_producers graph ds ≡ Some fault
+stream_again graph ds names fault same known = by_name (first_again (stream_names graph ds)) (ap (λ l. option_map TwoProducers (first_again l)) (sym same) ∙ known)
+  where
+    by_name : (first : Option (List ℕ)) → option_map TwoProducers first ≡ Some fault → option_map TwoProducers (option_or first (first_again (side_names graph ds))) ≡ Some fault
+    by_name None is = cc
+    by_name (Some name) is = is
 
+pub side_again : (graph : GraphView) (ds : List DraftView) (streams sides : List (List ℕ)) → streams ≡ stream_names graph ds → sides ≡ side_names graph ds → first_again streams ≡ None
+    → two_producers graph ds ≡ option_map TwoProducers (first_again sides)
+side_again graph ds streams sides one two once =
+    ap (λ o. option_map TwoProducers (option_or o (first_again (side_names graph ds)))) (ap first_again (sym one) ∙ once) ∙ ap (λ l. option_map TwoProducers (first_again l)) (sym two)
+
+-- the refusals by what the code has
 pub clash_is : (names : List (List ℕ)) (mets items : List Met) (graph : GraphView) (ds : List DraftView) → names ≡ stream_names graph ds → mets ≡ items → items ≡ map met_of (stream_meetings graph ds) → clash_by names mets ≡ kind_clash graph ds
 clash_is names mets items graph ds same is known =
     ap (clash_by names) (is ∙ known)

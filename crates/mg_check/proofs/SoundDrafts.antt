@@ -19,7 +19,7 @@ use Rattle.mg_kinds.specs.Tags.{tag_text}
 use Rattle.mg_kinds.specs.Laws.{SettingsView}
 use Rattle.mg_kinds.specs.declared.tag.Tag.TheVariants.{Loop}
 use Rattle.mg_kinds.specs.declared.ports.Ports.{Ports}
-use Rattle.mg_kinds.proofs.Made.{made_by, mapped_by}
+use Rattle.mg_kinds.proofs.Made.{made_by, mapped}
 use Rattle.mg_check.specs.Check.{IsOuterShape}
 use Rattle.mg_check.specs.Choosing.{Chosen}
 use Rattle.mg_check.specs.Drafts.{DraftView, draft_of, draft_with, flight_of, up_to_64, may_be_back, back_port, back_of, name_at, box_of}
@@ -53,7 +53,7 @@ is-made outers c d e =
     let p = made_by (with_ports outers c) (node_ports outers c.node c.kind) d e in
     let s = made_by (with_settings outers c p.0) (node_settings outers c.node c.kind) d p.2 in
     let a = made_by (with_policy outers c p.0 s.0) (policy_of s.0.law c.node.handler) d s.2 in
-    let l = mapped_by (draft_with c.node c.kind p.0 s.0 a.0) (node_shape outers c.node c.kind p.0 s.0.law) d a.2 in
+    let l = mapped (draft_with c.node c.kind p.0 s.0 a.0) (node_shape outers c.node c.kind p.0 s.0.law) d a.2 in
     record { ps = p.0; settings = s.0; policy = a.0; shape = l.0; fit = p.1; set = s.1; asked = a.1; looks = l.1; is = l.2 }
 
 -- Sets in flight.

@@ -8,7 +8,6 @@ pub mod Edges
 pub mod Meets
 pub mod Numbered
 pub mod Parts
-pub mod Places
 pub mod Refusing
 pub mod Streams
 pub mod Writers

@@ -1,10 +1,8 @@
-ghost use Rattle.std.specs.Prelude.{◌≡◌, ◌≢◌, None, Some, IfOk, IfErr, OnOk, option_map};
-ghost use Rattle.std.specs.Option.{option_or};
+ghost use Rattle.std.specs.Prelude.{◌≡◌, ◌≢◌, None, Some, IfOk, IfErr, OnOk};
 ghost use Rattle.mg_config.specs.Config.{graph_view};
 ghost use Rattle.mg_check.specs.DraftView.{drafts_view};
-ghost use Rattle.mg_check.specs.Names.{first_again};
 ghost use Rattle.mg_check.specs.Joining as joining;
-ghost use Rattle.mg_check.specs.Code.Refusing.{name_refusal, producer_refusal, AreJoint};
+ghost use Rattle.mg_check.specs.Code.Refusing.{name_refusal, AreJoint};
 
 use crate::draft::Draft;
 use crate::fault::CheckFault;
@@ -21,38 +19,20 @@ pub(crate) struct Joint<'a> {
     pub(crate) sides: Names<'a>,
 }
 
-/// The names of a graph.
+/// The names of a graph, unless two give the same.
 pub(crate) fn joint_of<'a>(
     alloc: Global,
     graph: &'a GraphConfig,
     drafts: &[Draft<'a>],
-) -> Result<Joint<'a>, AllocError>
-    ensures { IfOk result (λ joint. AreJoint joint (graph_view graph.now) (drafts_view drafts.now)) }
+) -> Result<Joint<'a>, CheckFault>
+    ensures ok { IfOk result (λ joint. AreJoint joint (graph_view graph.now) (drafts_view drafts.now)) }
+    ensures err { IfErr result (λ fault. fault ≢ CheckFault.OutOfMemory → joining.two_producers (graph_view graph.now) (drafts_view drafts.now) ≡ Some fault) }
 {
-    let streams = Names::of(alloc, stream_texts(alloc, graph, drafts)?)?;
-    let sides = Names::of(alloc, side_texts(alloc, graph, drafts)?)?;
+    let texts = stream_texts(alloc, graph, drafts)?;
+    let streams = Names::of(alloc, texts.as_slice())?;
+    let texts = side_texts(alloc, graph, drafts)?;
+    let sides = Names::of(alloc, texts.as_slice())?;
     Ok(Joint { streams, sides })
-}
-
-fn again<'a>(streams: &Names<'a>, sides: &Names<'a>) -> Option<&'a str>
-    ensures { option_map (λ name. name.now) result ≡ option_or (first_again streams.now) (first_again sides.now) }
-{
-    match streams.again() {
-        Some(name) => Some(name),
-        None => sides.again(),
-    }
-}
-
-fn check_producers(alloc: Global, joint: &Joint) -> Result<(), CheckFault>
-    ensures ok { OnOk result (producer_refusal joint.now.streams joint.now.sides ≡ None) }
-    ensures err { IfErr result (λ fault. fault ≢ CheckFault.OutOfMemory → producer_refusal joint.now.streams joint.now.sides ≡ Some fault) }
-{
-    match again(&joint.streams, &joint.sides) {
-        Some(name) => Err(CheckFault::TwoProducers {
-            name: MgText::new(alloc, name)?,
-        }),
-        None => Ok(()),
-    }
 }
 
 fn check_streams(
@@ -93,7 +73,7 @@ fn check_sides(
     }
 }
 
-/// Looks for a name that two give, and for one that nobody gives.
+/// Looks for a name that nobody gives, where no two give the same.
 pub(crate) fn check_names(
     alloc: Global,
     graph: &GraphConfig,
@@ -104,7 +84,6 @@ pub(crate) fn check_names(
     ensures ok { OnOk result (name_refusal (graph_view graph.now) (drafts_view drafts.now) ≡ None) }
     ensures err { IfErr result (λ fault. fault ≢ CheckFault.OutOfMemory → name_refusal (graph_view graph.now) (drafts_view drafts.now) ≡ Some fault) }
 {
-    check_producers(alloc, joint)?;
     check_streams(alloc, graph, drafts, joint)?;
     check_sides(alloc, graph, drafts, joint)
 }

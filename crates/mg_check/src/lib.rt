@@ -25,7 +25,6 @@ mod node_kind;
 mod nodes;
 mod ordering;
 mod part;
-mod places;
 mod planning;
 mod port_texts;
 mod readers;

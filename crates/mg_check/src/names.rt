@@ -1,53 +1,82 @@
-ghost use Rattle.std.specs.Prelude.{◌≡◌, IfOk, option_map, length, map, slice_get};
+ghost use Rattle.std.specs.Prelude.{◌≡◌, ◌≢◌, None, Some, IfOk, IfErr, OnOk, option_map, length, map, slice_get};
+ghost use Rattle.mg_index.specs.Tables.{IsTable};
 ghost use Rattle.mg_kinds.specs.Laws.{names_of};
 ghost use Rattle.mg_check.specs.Names.{is_name_among, first_again, first_missing, number_in};
+ghost use Rattle.mg_index.specs.Places.{is_text};
+ghost use Rattle.mg_check.specs.declared.fault.CheckFault.TheVariants.{TwoProducers};
 
-use crate::places::{Places, places_of};
-use mg_value::{BlockList, NumberList};
+use crate::fault::CheckFault;
+use mg_index::NameTable;
+use mg_value::{BlockList, MgText, NumberList};
 use std::alloc::{AllocError, Global};
+use std::borrow::CowStr;
 use std::marker::Model;
 
-/// Names in order, each of which is looked up in a table. Contracts see them as the list of the texts.
+/// A list of names has fewer than 2^32: there is no memory for more.
+const MOST_NAMES: usize = (1 << 32) - 1;
+
+/// Names in order, of which no two are the same. Contracts see them as the list of the texts.
 #[derive(Drop)]
 pub(crate) struct Names<'a> {
-    texts: BlockList<&'a str>,
-    places: Places<'a>,
+    table: NameTable<'a>,
 }
 
 impl<'a> Model for Names<'a> {
     ghost use Rattle.std.specs.Prelude.{ℕ, List, length, ◌<◌, ◌^◌};
-    ghost use Rattle.mg_kinds.specs.Laws.{names_of};
-    ghost use Rattle.mg_check.specs.Code.Places.{ArePlaces};
+    ghost use Rattle.mg_index.specs.Tables.{kept_names, IsTable};
+    ghost use Rattle.mg_index.specs.Places.{is_text};
 
     ghost Value = { List (List ℕ) };
 
-    ghost view = { λ n. names_of n.texts };
+    ghost view = { λ n. kept_names n.table };
 
-    ghost invariant = { λ n. (length (names_of n.texts) < 2 ^ 32) × ArePlaces n.places 0 (names_of n.texts) };
+    ghost invariant = { λ n. (length (kept_names n.table) < 2 ^ 32) × IsTable is_text n.table (kept_names n.table) };
+}
+
+// The table of texts, each of which is a name.
+fn table_of<'a>(alloc: Global, texts: &[&'a str]) -> Result<NameTable<'a>, AllocError>
+    ensures { IfOk result (λ table. IsTable is_text table (names_of texts.now)) }
+{
+    let mut table = NameTable::new(alloc);
+    for place in 0..texts.len() {
+        table.insert(CowStr::Borrowed(texts[place]), place)?;
+    }
+    Ok(table)
 }
 
 impl<'a> Names<'a> {
-    /// The names of a list of texts.
-    pub(crate) fn of(alloc: Global, texts: Vec<&'a str>) -> Result<Names<'a>, AllocError>
-        ensures { IfOk result (λ names. names ≡ names_of texts.entry.items) }
+    /// The names that texts are, unless one stands again later: two give what it names.
+    pub(crate) fn of(alloc: Global, texts: &[&'a str]) -> Result<Names<'a>, CheckFault>
+        ensures ok { IfOk result (λ names. names ≡ names_of texts.now) }
+        ensures once { OnOk result (first_again (names_of texts.now) ≡ None) }
+        ensures err { IfErr result (λ fault. fault ≢ CheckFault.OutOfMemory → option_map TwoProducers (first_again (names_of texts.now)) ≡ Some fault) }
     {
-        let texts = BlockList::from_vec(texts)?;
-        let places = places_of(alloc, texts.as_slice())?;
-        Ok(Names { texts, places })
+        let table = table_of(alloc, texts)?;
+        match table.again() {
+            Some(place) => Err(CheckFault::TwoProducers {
+                name: MgText::new(alloc, texts[place])?,
+            }),
+            None => {
+                if table.len() > MOST_NAMES {
+                    return Err(CheckFault::OutOfMemory);
+                }
+                Ok(Names { table })
+            }
+        }
     }
 
     /// How many there are.
     pub(crate) fn len(&self) -> u32
         ensures { result ≡ length self.now }
     {
-        self.texts.len()
+        self.table.len() as u32
     }
 
     /// The name at a place.
-    pub(crate) fn get(&self, place: u32) -> Option<&'a str>
+    pub(crate) fn get(&self, place: u32) -> Option<&str>
         ensures { option_map (λ name. name.now) result ≡ slice_get self.now place }
     {
-        self.texts.get(place).copied()
+        self.table.name(place as usize)
     }
 
     /// Whether a name is among them.
@@ -55,7 +84,7 @@ impl<'a> Names<'a> {
     pub(crate) fn has(&self, name: &str) -> bool
         ensures { result ≡ is_name_among self.now name.now }
     {
-        self.places.get(name).is_some()
+        self.table.get(name).is_some()
     }
 
     /// The number of a name that is among them.
@@ -63,17 +92,10 @@ impl<'a> Names<'a> {
     pub(crate) fn number(&self, name: &str) -> u32
         ensures { result ≡ number_in self.now name.now }
     {
-        match self.places.get(name) {
+        match self.table.get(name) {
             Some(place) => place as u32,
             None => 0,
         }
-    }
-
-    /// The first name that stands again later.
-    pub(crate) fn again(&self) -> Option<&'a str>
-        ensures { option_map (λ name. name.now) result ≡ first_again self.now }
-    {
-        self.places.again()
     }
 }
 

@@ -1,74 +1,49 @@
--- The place of a name where one more name stands at the end.
-use Rattle.std.proofs.Common.{◌≡◌, ◌+◌, ◌<◌, ℕ, List, [], ◌∷◌, ◌++◌, Bool, true, false, Option, None, Some, is_some, length, take, get_or, refl, sym, ◌∙◌, ap, subst, cond, inl, inr}
+-- The place of a name, by the number of the first entry that has it.
+use Rattle.std.proofs.Common.{◌≡◌, ◌+◌, ◌<◌, ℕ, suc, List, [], ◌∷◌, ◌++◌, Bool, true, false, Option, None, Some, length, take, length-take-le, get_or, map, refl, sym, ◌∙◌, ap, subst, cond, arith}
+use Rattle.std.specs.Prelude.{option_map, slice_get}
+use Rattle.std.specs.Cmp.Lexicographic.{nat_list_eq_equiv}
+use Rattle.std.specs.Option.{option_and_then}
 use Rattle.std.specs.Str.{bytes_eq}
-use Rattle.std.specs.Map.{update}
-use Rattle.std.proofs.lemmas.Bool.{cases_Bool, true≢false}
-use Rattle.std.proofs.lemmas.List.{take_more}
-use Rattle.std.proofs.lemmas.Slice.Eq.{bytes_eq-Decides}
+use Rattle.std.proofs.lemmas.List.{take_more, map-append, length-map}
+use Rattle.mg_index.specs.Places.{is_text, is_same, place_of as first_place}
+use Rattle.mg_index.specs.Tables.{kept_place, IsTable}
+use Rattle.mg_index.specs.declared.name_table.NameTable.{NameTable}
+use Rattle.mg_index.proofs.Placing.{position-cons}
 use Rattle.mg_feed.specs.Graph.{place_of}
+use Rattle.mg_feed.specs.Code.Places.{Finds}
 use Rattle.mg_feed.specs.declared.places.Placed.{Placed}
 
--- one that is there stays where it is
-found-by : (b : Bool) (place : ℕ) (o o' : Option ℕ) → (is_some o ≡ true → o' ≡ o) → is_some (cond b (Some place) o) ≡ true → cond b (Some place) o' ≡ cond b (Some place) o
-found-by true place o o' same there = refl
-found-by false place o o' same there = same there
+-- the place of an entry
+abbrev place_at : List Placed → ℕ → Option ℕ
+place_at ps number = option_map (λ p. p.place) (slice_get ps number)
 
-place_of-found : (ps : List Placed) (p : Placed) (name : List ℕ) → is_some (place_of ps name) ≡ true → place_of (ps ++ p ∷ []) name ≡ place_of ps name
-place_of-found [] p name there = cc
-place_of-found (q ∷ ps) p name there =
-    found-by (bytes_eq q.name name) q.place (place_of ps name) (place_of (ps ++ p ∷ []) name) (place_of-found ps p name) there
+found_by : (here : Bool) (p : Placed) (ps : List Placed) (found later : Option ℕ) → later ≡ option_and_then (place_at ps) found
+    → cond here (Some p.place) later ≡ option_and_then (place_at (p ∷ ps)) (cond here (Some 0) (option_map suc found))
+found_by true p ps found later known = refl
+found_by false p ps None later known = known
+found_by false p ps (Some n) later known = known
 
--- otherwise the last name counts
-last-by : (b : Bool) (place : ℕ) (o o' r : Option ℕ) → (is_some o ≡ false → o' ≡ r) → is_some (cond b (Some place) o) ≡ false → cond b (Some place) o' ≡ r
-last-by true place o o' r same none = cc
-last-by false place o o' r same none = same none
+place_by_number : (ps : List Placed) (name : List ℕ) → place_of ps name ≡ option_and_then (place_at ps) (first_place is_text (map (λ p. p.name) ps) name)
+place_by_number [] name = refl
+place_by_number (p ∷ ps) name =
+    ap (λ b. cond b (Some p.place) (place_of ps name)) (nat_list_eq_equiv.symm p.name name)
+    ∙ (found_by (bytes_eq name p.name) p ps (first_place is_text (map (λ p. p.name) ps) name) (place_of ps name) (place_by_number ps name)
+    ∙ ap (option_and_then (place_at (p ∷ ps))) (sym (position-cons (is_same is_text name) p.name (map (λ p. p.name) ps))))
 
-place_of-last : (ps : List Placed) (p : Placed) (name : List ℕ) → is_some (place_of ps name) ≡ false
-    → place_of (ps ++ p ∷ []) name ≡ cond (bytes_eq p.name name) (Some p.place) None
-place_of-last [] p name none = refl
-place_of-last (q ∷ ps) p name none =
-    last-by (bytes_eq q.name name) q.place (place_of ps name) (place_of (ps ++ p ∷ []) name) _ (place_of-last ps p name) none
+pub place_there : (names : NameTable) (ps : List Placed) (name : List ℕ) (number : ℕ) (place : Option ℕ) → Finds names ps → Some number ≡ kept_place names name → place ≡ option_map (λ p. p.place) (slice_get ps number) → place ≡ place_of ps name
+place_there names ps name number place known found is = is ∙ sym (place_by_number ps name ∙ ap (option_and_then (place_at ps)) (sym (found ∙ known.first name)))
 
-none_there : (o : Option ℕ) → is_some o ≡ false → o ≡ None
-none_there None none = refl
-none_there (Some p) none = absurd (true≢false none)
-
--- a name that is there again changes nothing
-skip : (ps : List Placed) (p : Placed) (name : List ℕ) → is_some (place_of ps p.name) ≡ true → place_of (ps ++ p ∷ []) name ≡ place_of ps name
-skip ps p name there = elim (cases_Bool (is_some (place_of ps name))) [
-  | inl here ↦ place_of-found ps p name here
-  | inr none ↦ elim (cases_Bool (bytes_eq p.name name)) [
-    | inl same ↦ absurd (true≢false (sym there ∙ ap (λ n. is_some (place_of ps n)) ((bytes_eq-Decides p.name name).0 same) ∙ none))
-    | inr other ↦ place_of-last ps p name none ∙ ap (λ b. cond b (Some p.place) None) other ∙ sym (none_there _ none)
-  ]
-]
-
--- a new name is found at its place
-fresh : (ps : List Placed) (p : Placed) (name : List ℕ) → is_some (place_of ps p.name) ≡ false
-    → place_of (ps ++ p ∷ []) name ≡ cond (bytes_eq p.name name) (Some p.place) (place_of ps name)
-fresh ps p name none = elim (cases_Bool (bytes_eq p.name name)) [
-  | inl same ↦
-      let none' : is_some (place_of ps name) ≡ false = subst (λ (n : List ℕ). is_some (place_of ps n) ≡ false) ((bytes_eq-Decides p.name name).0 same) none in
-      place_of-last ps p name none' ∙ rw same refl
-  | inr other ↦ elim (cases_Bool (is_some (place_of ps name))) [
-    | inl here ↦ place_of-found ps p name here ∙ rw other refl
-    | inr none' ↦ place_of-last ps p name none' ∙ rw other (sym (none_there _ none'))
-  ]
-]
+pub place_missing : (names : NameTable) (ps : List Placed) (name : List ℕ) → Finds names ps → None ≡ kept_place names name → None ≡ place_of ps name
+place_missing names ps name known missing = sym (place_by_number ps name ∙ ap (option_and_then (place_at ps)) (sym (missing ∙ known.first name)))
 
 -- a table over the first entries, and over one more
-pub finds-skip : (entries : List Placed) (i : ℕ) (e : Placed) (f : List ℕ → Option ℕ) → i < length entries → e ≡ get_or entries i e
-    → ((name : List ℕ) → f name ≡ place_of (take i entries) name) → is_some (f e.name) ≡ true
-    → (name : List ℕ) → f name ≡ place_of (take (i + 1) entries) name
-finds-skip entries i e f lt is finds there name =
-    let more : take (i + 1) entries ≡ take i entries ++ e ∷ [] = take_more entries i e lt ∙ ap (λ x. take i entries ++ x ∷ []) (sym is) in
-    finds name ∙ sym (skip (take i entries) e name (sym (ap is_some (finds e.name)) ∙ there)) ∙ ap (λ l. place_of l name) (sym more)
-
-pub finds-more : (entries : List Placed) (i : ℕ) (e : Placed) (f f' : List ℕ → Option ℕ) → i < length entries → e ≡ get_or entries i e
-    → ((name : List ℕ) → f name ≡ place_of (take i entries) name) → is_some (f e.name) ≡ false
-    → ((name : List ℕ) → f' name ≡ update bytes_eq f e.name (Some e.place) name)
-    → (name : List ℕ) → f' name ≡ place_of (take (i + 1) entries) name
-finds-more entries i e f f' lt is finds none updated name =
-    let more : take (i + 1) entries ≡ take i entries ++ e ∷ [] = take_more entries i e lt ∙ ap (λ x. take i entries ++ x ∷ []) (sym is) in
-    updated name ∙ ap (λ o. cond (bytes_eq e.name name) (Some e.place) o) (finds name)
-    ∙ sym (fresh (take i entries) e name (sym (ap is_some (finds e.name)) ∙ none)) ∙ ap (λ l. place_of l name) (sym more)
+pub finds_more : (old new : NameTable) (entries : List Placed) (i : ℕ) (entry : Placed) (name : List ℕ) → i < length entries → name ≡ (get_or entries i entry).name
+    → ((is_name : List ℕ → Bool) (texts : List (List ℕ)) → is_name name ≡ true → length texts ≡ i → IsTable is_name old texts → IsTable is_name new (texts ++ name ∷ []))
+    → Finds old (take i entries) → Finds new (take (i + 1) entries)
+finds_more old new entries i entry name inside is step known =
+    let front = take i entries in
+    let long : length (map (λ p. p.name) front) ≡ i = length-map front (λ p. p.name) ∙ length-take-le i entries (omega (arith, inside)) in
+    let more : map (λ p. p.name) (take (i + 1) entries) ≡ map (λ p. p.name) front ++ name ∷ [] =
+    ap (map (λ p. p.name)) (take_more entries i entry inside)
+    ∙ (map-append (λ p. p.name) front (get_or entries i entry ∷ []) ∙ ap (λ n. map (λ p. p.name) front ++ n ∷ []) (sym is)) in
+    subst (IsTable is_text new) (sym more) (step is_text (map (λ p. p.name) front) refl long known)

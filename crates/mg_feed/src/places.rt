@@ -1,10 +1,11 @@
-ghost use Rattle.std.specs.Prelude.{◌≡◌, IfOk, length};
+ghost use Rattle.std.specs.Prelude.{◌≡◌, IfOk, length, option_map, slice_get};
 ghost use Rattle.mg_feed.specs.Graph.{place_of};
 ghost use Rattle.mg_feed.specs.Code.Places.{Finds};
 
+use mg_index::NameTable;
 use mg_value::MgText;
 use std::alloc::{AllocError, Global};
-use std::collections::HashMap;
+use std::borrow::CowStr;
 use std::marker::Model;
 
 /// A name, and the place of what it names.
@@ -18,7 +19,9 @@ pub struct Placed {
 #[derive(Drop)]
 pub struct Places {
     entries: Vec<Placed>,
-    found: HashMap<String, u32>,
+    // The number of the first entry that has a name. It has names of its own, as whoever makes a feed lends it a plan for
+    // that one call.
+    names: NameTable<'static>,
 }
 
 impl Model for Places {
@@ -30,7 +33,7 @@ impl Model for Places {
 
     ghost view = { λ p. p.entries.items };
 
-    ghost invariant = { λ p. Finds p.found p.entries.items };
+    ghost invariant = { λ p. Finds p.names p.entries.items };
 }
 
 impl Places {
@@ -38,8 +41,8 @@ impl Places {
     pub fn of(alloc: Global, entries: Vec<Placed>) -> Result<Places, AllocError>
         ensures { IfOk result (λ places. places ≡ entries.items) }
     {
-        let found = table_of(alloc, &entries)?;
-        Ok(Places { entries, found })
+        let names = table_of(alloc, &entries)?;
+        Ok(Places { entries, names })
     }
 
     /// How many names there are.
@@ -50,24 +53,35 @@ impl Places {
     }
 
     /// The place of a name.
+    #[tactic(auto, using(crate::proofs::Finding::place_there, crate::proofs::Finding::place_missing))]
     pub fn find(&self, name: &str) -> Option<u32>
         ensures { result ≡ place_of self.now name.now }
     {
-        self.found.get(name).copied()
+        match self.names.get(name) {
+            Some(number) => place_at(self.entries.as_slice(), number),
+            None => None,
+        }
     }
 }
 
-// A table that finds the places of names.
-fn table_of(alloc: Global, entries: &[Placed]) -> Result<HashMap<String, u32>, AllocError>
-    ensures { IfOk result (λ found. Finds found entries.now) }
+// The place of an entry.
+fn place_at(entries: &[Placed], number: usize) -> Option<u32>
+    ensures { result ≡ option_map (λ entry. entry.place) (slice_get entries.now number) }
 {
-    let mut found = HashMap::new(alloc);
-    for entry in entries {
-        let name = entry.name.as_str();
-        if !found.contains_key(name) {
-            let key = String::from_str(alloc, name)?;
-            found.insert(key, entry.place)?;
-        }
+    match entries.get(number) {
+        Some(entry) => Some(entry.place),
+        None => None,
     }
-    Ok(found)
+}
+
+// The table of the names of entries.
+fn table_of(alloc: Global, entries: &[Placed]) -> Result<NameTable<'static>, AllocError>
+    ensures { IfOk result (λ names. Finds names entries.now) }
+{
+    let mut names = NameTable::new(alloc);
+    for number in 0..entries.len() {
+        let name = String::from_str(alloc, entries[number].name.as_str())?;
+        names.insert(CowStr::Owned(name), number)?;
+    }
+    Ok(names)
 }

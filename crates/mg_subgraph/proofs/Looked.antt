@@ -19,14 +19,13 @@ use Rattle.mg_names.specs.declared.port.Port.{Port}
 use Rattle.mg_names.proofs.Standing.{any_has_place}
 use Rattle.mg_config.specs.Config.{NodeView, GraphView}
 use Rattle.mg_subgraph.specs.Library.{is_of, is_subgraph, used_files}
-use Rattle.mg_subgraph.specs.Code.Index.{IsIndex}
-use Rattle.mg_subgraph.specs.declared.index.Index.{Index}
 use Rattle.mg_subgraph.specs.declared.shared.FileNames.{FileNames}
 use Rattle.mg_subgraph.specs.Code.Judged.{AreNames, flagged, reserved_at, reserved_in_node, reserved_in_graph}
 use Rattle.mg_subgraph.specs.Refusals.{has_fields, node_fault, first_some, port_names, list_names, node_names, graph_names, reserved_name, shared_name, first_twice}
 use Rattle.mg_subgraph.specs.declared.fault.ExpandFault.TheVariants.{ReservedName}
 use Rattle.mg_subgraph.specs.declared.fault.ExpandFault.{ExpandFault}
-use Rattle.mg_subgraph.proofs.Indexed.{place_found, place_none, position-cons, index_once, index_twice}
+use Rattle.mg_index.proofs.Placing.{position-cons}
+use Rattle.mg_subgraph.proofs.Indexed.{place_found, place_none, index_once, index_twice}
 use Rattle.mg_subgraph.proofs.Steps.{got_push}
 
 -- what is left of a list from a place on
@@ -171,15 +170,6 @@ reserved_by main library some =
     cond-true (list_any (is_subgraph library) main.nodes) (option_map ReservedName (find is_reserved (flat_map graph_names (main ∷ used_files main library)))) None some
     ∙ ap (option_map ReservedName) (find_in_lists is_reserved graph_names (main ∷ used_files main library))
 
--- ports more in an index
-pub ports_more : (old new : Index) (from i : ℕ) (ports : List Port) (port : Port) (texts : List (List ℕ)) → ((rest : List (List ℕ)) → IsIndex old (from + i + 1) rest → IsIndex new (from + i) (port.name ∷ rest))
-    → slice_get ports i ≡ Some port → IsIndex old (from + (i + 1)) (port_names (drop (i + 1) ports) ++ texts) → IsIndex new (from + i) (port_names (drop i ports) ++ texts)
-ports_more old new from i ports port texts step here known =
-    let count : from + (i + 1) ≡ from + i + 1 = omega arith in
-    let P : ℕ → Type 0 = λ n. IsIndex old n (port_names (drop (i + 1) ports) ++ texts) in
-    let Q : List Port → Type 0 = λ l. IsIndex new (from + i) (port_names l ++ texts) in
-    subst Q (sym (drop_next ports i port here)) (step (port_names (drop (i + 1) ports) ++ texts) (subst P count known))
-
 -- the names at the ports of one file more
 pub names_more : (files : List GraphView) (names : List FileNames) (place : ℕ) (file : GraphView) (entry : FileNames) → length names ≡ place → slice_get files place ≡ Some file → AreNames entry file
     → ((p : ℕ) (f : GraphView) (e : FileNames) → slice_get files p ≡ Some f → slice_get names p ≡ Some e → AreNames e f)
@@ -198,14 +188,14 @@ names_more files names place file entry count here named known p f e at_f at_e =
 pub ports_at : (first second : List Port) (place : ℕ) → option_map (λ port. port.name) (slice_get (first ++ second) place) ≡ slice_get (port_names first ++ port_names second) place
 ports_at first second place = sym (slice_get-map (λ port. port.name) (first ++ second) place) ∙ ap (λ l. slice_get l place) (map-append (λ port. port.name) first second)
 
-pub shared_stream : (names : FileNames) (file : GraphView) (place : ℕ) (port : Option Port) → AreNames names file → Some place ≡ names.streams.twice → port ≡ slice_get (file.inputs ++ file.outputs) place
+pub shared_stream : (names : FileNames) (file : GraphView) (place : ℕ) (port : Option Port) → AreNames names file → Some place ≡ names.streams.again → port ≡ slice_get (file.inputs ++ file.outputs) place
     → option_map (λ p. p.name) port ≡ shared_name file
 shared_stream names file place port known twice here =
     let found = index_twice names.streams (port_names file.inputs ++ port_names file.outputs) place known.streams twice in
     ap (option_map (λ p. p.name)) here ∙ (ports_at file.inputs file.outputs place ∙ (found.1
     ∙ sym (ap (λ o. option_or o (first_twice (port_names file.input_sides ++ port_names file.output_sides))) found.2)))
 
-pub shared_side : (names : FileNames) (file : GraphView) (place : ℕ) (port : Option Port) → AreNames names file → None ≡ names.streams.twice → Some place ≡ names.sides.twice
+pub shared_side : (names : FileNames) (file : GraphView) (place : ℕ) (port : Option Port) → AreNames names file → None ≡ names.streams.again → Some place ≡ names.sides.again
     → port ≡ slice_get (file.input_sides ++ file.output_sides) place → option_map (λ p. p.name) port ≡ shared_name file
 shared_side names file place port known once twice here =
     let found = index_twice names.sides (port_names file.input_sides ++ port_names file.output_sides) place known.sides twice in
@@ -213,7 +203,7 @@ shared_side names file place port known once twice here =
     ap (option_map (λ p. p.name)) here ∙ (ports_at file.input_sides file.output_sides place ∙ (found.1
     ∙ sym (ap (λ o. option_or o (first_twice (port_names file.input_sides ++ port_names file.output_sides))) none ∙ found.2)))
 
-pub shared_none : (names : FileNames) (file : GraphView) → AreNames names file → None ≡ names.streams.twice → None ≡ names.sides.twice → None ≡ shared_name file
+pub shared_none : (names : FileNames) (file : GraphView) → AreNames names file → None ≡ names.streams.again → None ≡ names.sides.again → None ≡ shared_name file
 shared_none names file known streams sides =
     sym (ap (λ o. option_or o (first_twice (port_names file.input_sides ++ port_names file.output_sides))) (index_once names.streams (port_names file.inputs ++ port_names file.outputs) known.streams streams)
     ∙ index_once names.sides (port_names file.input_sides ++ port_names file.output_sides) known.sides sides)

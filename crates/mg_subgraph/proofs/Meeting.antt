@@ -11,10 +11,11 @@ use Rattle.mg_names.specs.Renaming.{with_names}
 use Rattle.mg_names.specs.declared.port.Port.{Port}
 use Rattle.mg_config.specs.Config.{NodeView, GraphView}
 use Rattle.mg_subgraph.specs.Names.{names, outer_name, joined_name, stream_name, side_name, node_name, renamed_port, renamed_ports, renamed}
-use Rattle.mg_subgraph.specs.Code.Index.{IsIndex, kept_place}
-use Rattle.mg_subgraph.specs.declared.index.Index.{Index}
+use Rattle.mg_index.specs.Tables.{kept_place}
+use Rattle.mg_index.specs.declared.name_table.NameTable.{NameTable}
+use Rattle.mg_subgraph.specs.Code.Index.{IsIndex}
 use Rattle.mg_subgraph.specs.Refusals.{port_names, first_twice}
-use Rattle.mg_subgraph.proofs.Indexed.{place_found, place_none, one_place, position-map, from_zero}
+use Rattle.mg_subgraph.proofs.Indexed.{place_found, place_none, one_place, position-map}
 use Rattle.mg_subgraph.proofs.Grounded.{find_found}
 use Rattle.mg_subgraph.proofs.Reached.{take_next}
 use Rattle.mg_subgraph.proofs.Steps.{map-push, got_within}
@@ -91,12 +92,12 @@ joined_some given_in given_out inputs outputs name place port once found here =
     either_none None = refl
     either_none (Some x) = refl
 
--- an index of all ports gives the place of the one that has a name
-pub joined_place : (index : Index) (inputs outputs : List Port) (name : List ℕ) (found : Option ℕ) → IsIndex index 0 (port_names inputs ++ port_names outputs) → found ≡ kept_place index name
+-- a table of all ports gives the place of the one that has a name
+pub joined_place : (table : NameTable) (inputs outputs : List Port) (name : List ℕ) (found : Option ℕ) → IsIndex table (port_names inputs ++ port_names outputs) → found ≡ kept_place table name
     → position (λ port. names name port.name) (inputs ++ outputs) ≡ found
-joined_place index inputs outputs name found known got =
-    sym (got ∙ (known.first name ∙ (from_zero (position (names name) (port_names inputs ++ port_names outputs))
-    ∙ (ap (position (names name)) (sym (map-append (λ port. port.name) inputs outputs)) ∙ position-map (names name) (λ port. port.name) (inputs ++ outputs)))))
+joined_place table inputs outputs name found known got =
+    sym (got ∙ (known.first name
+    ∙ (ap (position (names name)) (sym (map-append (λ port. port.name) inputs outputs)) ∙ position-map (names name) (λ port. port.name) (inputs ++ outputs))))
 
 -- ports under the names that a renaming gives
 pub names_renamed : (rename : List ℕ → List ℕ) (ports : List Port) → with_names ports (map (λ port. rename port.name) ports) ≡ renamed_ports rename ports

@@ -21,7 +21,7 @@ use std::alloc::{AllocError, Global};
 #[derive(Drop)]
 pub struct Judged<'a> {
     pub library: &'a Library<'a>,
-    pub names: &'a [FileNames],
+    pub names: &'a [FileNames<'a>],
     pub sizes: &'a [Option<u32>],
     ghost counted: { length sizes.now ≡ length library.now.files.now },
     ghost named: { AreFileNames (map graph_view library.now.files.now) names.now },
@@ -91,7 +91,7 @@ fn expand_node(
     requires unshared { AreUnshared (files_of judged.now.library.now) (node_view node.now ∷ []) }
     ensures { OnOk result (map node_view out.new.items ≡ map node_view out.old.items ++ expansion.replaced (expansion.expanded (files_of judged.now.library.now)) n (node_view node.now) (file_of (files_of judged.now.library.now) node.now.calculator)) }
 {
-    match judged.library.find(node.calculator.as_bytes()) {
+    match judged.library.find(node.calculator.as_str()) {
         None => Ok(out.push(copy_of(alloc, node)?)?),
         Some(place) => expand_file(alloc, out, judged, n, node, place),
     }

@@ -44,12 +44,12 @@ fn survey_of(alloc: Global, main: &GraphConfig, library: &Library) -> Result<Sur
     Ok(Survey { used, sizes })
 }
 
-fn judge_names(
+fn judge_names<'a>(
     alloc: Global,
     main: &GraphConfig,
-    library: &Library,
+    library: &Library<'a>,
     used: &[bool],
-) -> Result<Vec<FileNames>, ExpandFault>
+) -> Result<Vec<FileNames<'a>>, ExpandFault>
     requires len { length used.now ≡ length library.now.files.now }
     requires used { flagged used.now (files_of library.now) ≡ used_files (graph_view main.now) (files_of library.now) }
     ensures names { IfOk result (λ names. AreFileNames (files_of library.now) names.items) }

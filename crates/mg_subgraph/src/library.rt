@@ -5,25 +5,26 @@ ghost use Rattle.mg_subgraph.specs.Library.{is_of};
 ghost use Rattle.mg_subgraph.specs.Refusals.{types_of, type_twice, first_twice};
 
 use crate::fault::ExpandFault;
-use crate::index::Index;
+use crate::index::add_text;
 use mg_config::GraphConfig;
+use mg_index::NameTable;
 use std::alloc::{AllocError, Global};
 
 /// The files of a library, of which no two have the same type, with the place of each type.
 #[derive(Drop)]
 pub struct Library<'a> {
     pub files: &'a [GraphConfig],
-    types: Index,
-    ghost placed: { IsIndex types 0 (types_of (map graph_view files.now)) },
+    types: NameTable<'a>,
+    ghost placed: { IsIndex types (types_of (map graph_view files.now)) },
     ghost once: { type_twice (map graph_view files.now) ≡ None },
 }
 
-fn index_of(alloc: Global, files: &[GraphConfig]) -> Result<Index, AllocError>
-    ensures { IfOk result (λ types. IsIndex types 0 (types_of (map graph_view files.now))) }
+fn index_of<'a>(alloc: Global, files: &'a [GraphConfig]) -> Result<NameTable<'a>, AllocError>
+    ensures { IfOk result (λ types. IsIndex types (types_of (map graph_view files.now))) }
 {
-    let mut types = Index::new(alloc);
-    for i in (0..files.len()).rev() {
-        types.add(alloc, files[i].type_name.as_bytes(), i)?;
+    let mut types = NameTable::new(alloc);
+    for i in 0..files.len() {
+        add_text(&mut types, files[i].type_name.as_str(), i)?;
     }
     Ok(types)
 }
@@ -35,7 +36,7 @@ impl<'a> Library<'a> {
         ensures err { IfErr result (λ fault. fault ≢ ExpandFault.OutOfMemory → type_twice (map graph_view files.now) ≡ Some fault) }
     {
         let types = index_of(alloc, files)?;
-        match types.twice() {
+        match types.again() {
             None => Ok(Library { files, types }),
             Some(i) => Err(ExpandFault::TypeTwice {
                 name: files[i].type_name.try_clone(alloc)?,
@@ -44,7 +45,7 @@ impl<'a> Library<'a> {
     }
 
     /// The place of the file that a calculator names, if it names one.
-    pub fn find(&self, calculator: &[u8]) -> Option<usize>
+    pub fn find(&self, calculator: &str) -> Option<usize>
         ensures { result ≡ position (is_of calculator.now) (map graph_view self.now.files.now) }
     {
         self.types.get(calculator)

@@ -65,7 +65,7 @@ pub fn links_of(
 {
     let mut found = Found::new(alloc, library.files.len())?;
     for node in nodes {
-        let Some(place) = library.find(node.calculator.as_bytes()) else {
+        let Some(place) = library.find(node.calculator.as_str()) else {
             continue;
         };
         found.add(place)?;

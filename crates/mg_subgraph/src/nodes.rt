@@ -159,7 +159,7 @@ fn check_nodes(
         let Some(node) = nodes.get(n) else {
             unreachable!()
         };
-        let Some(place) = library.find(node.calculator.as_bytes()) else {
+        let Some(place) = library.find(node.calculator.as_str()) else {
             continue;
         };
         check_node(alloc, check, owner, n, node, &library.files[place])?;

@@ -8,9 +8,9 @@ ghost use Rattle.mg_subgraph.specs.Code.Judged.{AreNames};
 ghost use Rattle.mg_subgraph.specs.Names as names;
 ghost use Rattle.mg_subgraph.specs.Refusals.{port_names, first_twice, shared_name};
 
-use crate::index::Index;
 use crate::shared::{FileNames, port_at};
 use mg_config::{GraphConfig, NodeConfig};
+use mg_index::NameTable;
 use mg_names::{Port, PortMap};
 use mg_value::MgText;
 use std::alloc::{AllocError, Global};
@@ -18,12 +18,12 @@ use std::alloc::{AllocError, Global};
 /// How the ports of a node meet those of its file, for streams or for side packets.
 #[derive(Drop)]
 struct Joint<'a> {
-    names: &'a Index,
+    names: &'a NameTable<'a>,
     inputs: &'a PortMap,
     outputs: &'a PortMap,
     given_in: &'a PortMap,
     given_out: &'a PortMap,
-    ghost placed: { IsIndex names.now 0 (port_names inputs.now ++ port_names outputs.now) },
+    ghost placed: { IsIndex names.now (port_names inputs.now ++ port_names outputs.now) },
     ghost once: { first_twice (port_names inputs.now ++ port_names outputs.now) ≡ None },
 }
 
@@ -72,7 +72,7 @@ impl<'a> Joint<'a> {
         }
     }
 
-    fn outer_name(&self, name: &[u8]) -> Option<&'a MgText>
+    fn outer_name(&self, name: &str) -> Option<&'a MgText>
         ensures { option_copied result ≡ names.joined_name self.now.given_in.now self.now.given_out.now self.now.inputs.now self.now.outputs.now name.now }
     {
         match self.names.get(name) {
@@ -84,7 +84,7 @@ impl<'a> Joint<'a> {
     fn new_name(&self, alloc: Global, prefix: &MgText, name: &MgText) -> Result<MgText, AllocError>
         ensures { IfOk result (λ text. text ≡ new_name self.now prefix.now name.now) }
     {
-        match self.outer_name(name.as_bytes()) {
+        match self.outer_name(name.as_str()) {
             Some(outer) => outer.try_clone(alloc),
             None => prefixed(alloc, prefix, name),
         }
@@ -125,7 +125,7 @@ impl<'a> Use<'a> {
         n: usize,
         node: &'a NodeConfig,
         file: &'a GraphConfig,
-        names: &'a FileNames,
+        names: &'a FileNames<'a>,
     ) -> Result<Use<'a>, AllocError>
         requires names { AreNames names.now (graph_view file.now) }
         requires once { shared_name (graph_view file.now) ≡ None }

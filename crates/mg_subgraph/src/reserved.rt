@@ -130,7 +130,7 @@ fn reserved_in_files<'a>(files: &'a [GraphConfig], used: &[bool]) -> Option<&'a 
 fn is_subgraph(library: &Library, node: &NodeConfig) -> bool
     ensures { result ≡ uses.is_subgraph (files_of library.now) (node_view node.now) }
 {
-    library.find(node.calculator.as_bytes()).is_some()
+    library.find(node.calculator.as_str()).is_some()
 }
 
 fn has_subgraph(library: &Library, nodes: &[NodeConfig]) -> bool

@@ -6,48 +6,52 @@ ghost use Rattle.mg_subgraph.specs.Code.Judged.{flagged, AreNames, AreFileNames}
 ghost use Rattle.mg_subgraph.specs.Refusals.{port_names, shared_name, first_some, port_shared_in};
 
 use crate::fault::ExpandFault;
-use crate::index::Index;
+use crate::index::add_text;
 use mg_config::GraphConfig;
+use mg_index::NameTable;
 use mg_names::{Port, PortMap};
 use mg_value::MgText;
 use std::alloc::{AllocError, Global};
 
 /// The places of the names at the ports of a file: those of streams, and those of side packets. The ports that come in
 /// stand before those that go out.
-#[derive(Debug, Drop)]
-pub struct FileNames {
-    pub streams: Index,
-    pub sides: Index,
+#[derive(Drop)]
+pub struct FileNames<'a> {
+    pub streams: NameTable<'a>,
+    pub sides: NameTable<'a>,
 }
 
-fn add_ports(
-    alloc: Global,
-    index: &mut Index,
-    ports: &PortMap,
+fn add_ports<'a>(
+    table: &mut NameTable<'a>,
+    ports: &'a PortMap,
     from: usize,
 ) -> Result<(), AllocError>
     requires { from < 2 ^ 32 }
-    ensures { OnOk result ((texts : List (List ℕ)) → IsIndex index.old (from + length ports.now) texts → IsIndex index.new from (port_names ports.now ++ texts)) }
+    ensures { OnOk result ((texts : List (List ℕ)) → length texts ≡ from → IsIndex table.old texts → IsIndex table.new (texts ++ port_names ports.now)) }
 {
-    for i in (0..ports.len()).rev() {
+    for i in 0..ports.len() {
         let Some(port) = ports.get(i) else {
             unreachable!()
         };
-        index.add(alloc, port.name.as_bytes(), from + i as usize)?;
+        add_text(table, port.name.as_str(), from + i as usize)?;
     }
     Ok(())
 }
 
-fn index_ports(alloc: Global, inputs: &PortMap, outputs: &PortMap) -> Result<Index, AllocError>
-    ensures { IfOk result (λ index. IsIndex index 0 (port_names inputs.now ++ port_names outputs.now)) }
+fn index_ports<'a>(
+    alloc: Global,
+    inputs: &'a PortMap,
+    outputs: &'a PortMap,
+) -> Result<NameTable<'a>, AllocError>
+    ensures { IfOk result (λ table. IsIndex table (port_names inputs.now ++ port_names outputs.now)) }
 {
-    let mut index = Index::new(alloc);
-    add_ports(alloc, &mut index, outputs, inputs.len() as usize)?;
-    add_ports(alloc, &mut index, inputs, 0)?;
-    Ok(index)
+    let mut table = NameTable::new(alloc);
+    add_ports(&mut table, inputs, 0)?;
+    add_ports(&mut table, outputs, inputs.len() as usize)?;
+    Ok(table)
 }
 
-fn names_in(alloc: Global, file: &GraphConfig) -> Result<FileNames, AllocError>
+fn names_in<'a>(alloc: Global, file: &'a GraphConfig) -> Result<FileNames<'a>, AllocError>
     ensures { IfOk result (λ names. AreNames names (graph_view file.now)) }
 {
     let streams = index_ports(alloc, &file.inputs, &file.outputs)?;
@@ -56,7 +60,10 @@ fn names_in(alloc: Global, file: &GraphConfig) -> Result<FileNames, AllocError>
 }
 
 /// The names at the ports of each file.
-pub fn names_of(alloc: Global, files: &[GraphConfig]) -> Result<Vec<FileNames>, AllocError>
+pub fn names_of<'a>(
+    alloc: Global,
+    files: &'a [GraphConfig],
+) -> Result<Vec<FileNames<'a>>, AllocError>
     ensures { IfOk result (λ names. AreFileNames (map graph_view files.now) names.items) }
 {
     let mut names = Vec::new(alloc);
@@ -84,7 +91,7 @@ fn shared_port<'a>(file: &'a GraphConfig, names: &FileNames) -> Option<&'a Port>
     requires { AreNames names.now (graph_view file.now) }
     ensures { option_map (λ port. port.name) (option_copied result) ≡ shared_name (graph_view file.now) }
 {
-    match (names.streams.twice(), names.sides.twice()) {
+    match (names.streams.again(), names.sides.again()) {
         (Some(place), _) => port_at(&file.inputs, &file.outputs, place),
         (None, Some(place)) => port_at(&file.input_sides, &file.output_sides, place),
         (None, None) => None,

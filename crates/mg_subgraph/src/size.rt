@@ -54,7 +54,7 @@ fn node_size(library: &Library, sizes: &mut [Option<u32>], node: &NodeConfig) ->
     ensures size { result ≡ counted (replaced (expanded (files_of library.now)) 0 (node_view node.now) (file_of (files_of library.now) node.now.calculator)) }
     ensures sizes { AreSizes (files_of library.now) sizes.new }
 {
-    match library.find(node.calculator.as_bytes()) {
+    match library.find(node.calculator.as_str()) {
         None => 1,
         Some(place) => file_size(library, sizes, place),
     }

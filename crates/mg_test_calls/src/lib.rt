@@ -8,6 +8,8 @@ mod edge;
 #[cfg(test)]
 mod gates;
 #[cfg(test)]
+mod index;
+#[cfg(test)]
 mod names;
 #[cfg(test)]
 mod payload;

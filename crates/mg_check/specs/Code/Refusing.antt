@@ -5,7 +5,7 @@ use Rattle.mg_config.specs.Config.{GraphView}
 use Rattle.mg_check.specs.Drafts.{DraftView}
 use Rattle.mg_calc.specs.Plan.{numbers}
 use Rattle.mg_subgraph.specs.Refusals.{port_names}
-use Rattle.mg_check.specs.Names.{number_in, first_again}
+use Rattle.mg_check.specs.Names.{number_in}
 use Rattle.mg_check.specs.Planning.{plan_streams, plan_sides}
 use Rattle.mg_check.specs.Joining.{two_producers, no_producer, side_missing, kind_clash, back_edge_misplaced, cycle, too_many, edges, writers, order, stream_meetings, stream_names, side_names}
 use Rattle.mg_check.specs.Code.Meets.{met_of}
@@ -14,7 +14,7 @@ use Rattle.mg_check.specs.declared.joint.Joint.{Joint}
 use Rattle.mg_check.specs.declared.met.Met.{Met}
 use Rattle.mg_check.specs.declared.planning.Shown.{Shown}
 use Rattle.mg_check.specs.declared.fault.CheckFault.{CheckFault}
-use Rattle.mg_check.specs.declared.fault.CheckFault.TheVariants.{KindClash, TooMany, TwoProducers}
+use Rattle.mg_check.specs.declared.fault.CheckFault.TheVariants.{KindClash, TooMany}
 use Rattle.mg_check.specs.declared.fault.Many.TheVariants.{Edges, Outputs}
 
 abbrev pub name_refusal : GraphView → List DraftView → Option CheckFault
@@ -27,10 +27,11 @@ wiring_refusal graph ds = option_or (kind_clash graph ds) (option_or (back_edge_
 abbrev pub clash_by : List (List ℕ) → List Met → Option CheckFault
 clash_by names mets = option_map KindClash (option_and_then (λ n. slice_get names n) (position (λ met. met.clash) mets))
 
--- the names of a graph
+-- the names of a graph, none of which two give
 pub record AreJoint (joint : Joint) (graph : GraphView) (ds : List DraftView) : Type 0 where
   pub of_streams : joint.streams ≡ stream_names graph ds
   pub of_sides : joint.sides ≡ side_names graph ds
+  pub once : two_producers graph ds ≡ None
 
 -- how it is wired
 pub record AreWired (wiring : Wiring) (graph : GraphView) (ds : List DraftView) : Type 0 where
@@ -51,7 +52,3 @@ pub record AreShown (shown : Shown) (graph : GraphView) (ds : List DraftView) : 
   pub as_sides : shown.sides ≡ plan_sides graph ds
   pub as_inputs : shown.inputs ≡ numbers (length graph.inputs)
   pub as_outputs : shown.outputs ≡ map (number_in (stream_names graph ds)) (port_names graph.outputs)
-
--- a name that two give, by all names
-abbrev pub producer_refusal : List (List ℕ) → List (List ℕ) → Option CheckFault
-producer_refusal streams sides = option_map TwoProducers (option_or (first_again streams) (first_again sides))

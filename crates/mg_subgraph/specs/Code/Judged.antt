@@ -20,8 +20,8 @@ flagged (flag ∷ flags) (file ∷ files) = if flag then file ∷ flagged flags 
 
 -- the names at the ports of a file
 pub record AreNames (names : FileNames) (file : GraphView) : Type 0 where
-  pub streams : IsIndex names.streams 0 (port_names file.inputs ++ port_names file.outputs)
-  pub sides : IsIndex names.sides 0 (port_names file.input_sides ++ port_names file.output_sides)
+  pub streams : IsIndex names.streams (port_names file.inputs ++ port_names file.outputs)
+  pub sides : IsIndex names.sides (port_names file.input_sides ++ port_names file.output_sides)
 
 -- those of each file
 pub record AreFileNames (files : List GraphView) (names : List FileNames) : Type 0 where

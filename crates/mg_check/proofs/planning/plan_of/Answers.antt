@@ -1,14 +1,19 @@
-use Rattle.std.proofs.Common.{◌∙◌, ap, length, subst, List, rules, w32}
+use Rattle.std.proofs.Common.{◌∙◌, sym, ap, length, subst, List, rules, w32}
 use Rattle.std.proofs.lemmas.Int.{to_z-of_z}
 use mir.Val.{SFits}
 use Rattle.mg_config.specs.Config.{graph_view}
 use Rattle.mg_check.specs.DraftView.{drafts_view}
 use Rattle.mg_check.specs.Planning.{plan_nodes, limit_of, workers_of}
 use Rattle.mg_check.specs.Joining.{stream_names}
-use Rattle.mg_check.specs.Code.Refusing.{AreShown}
+use Rattle.mg_check.specs.Code.Refusing.{AreShown, AreWired}
 use Rattle.mg_check.specs.declared.draft.Draft.{Draft}
 use Rattle.mg_check.proofs.Made.{plan_made}
 use Rattle.mg_check.proofs.planning.plan_of.Goals as goal
+
+pub shown_of-requires-clause-wiring : goal.shown_of-requires-clause-wiring
+shown_of-requires-clause-wiring c =
+    let P : List Draft → Type 0 = λ l. AreWired c.args.joined.wiring (graph_view c.args.graph.now) (drafts_view l) in
+    subst P (sym c.as_slice.ensures.value) c.requires.wiring
 
 pub returns : goal.returns
 returns c =

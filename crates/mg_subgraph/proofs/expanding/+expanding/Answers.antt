@@ -81,7 +81,7 @@ expand_node-expand_file-requires t c =
     let library = map graph_view c.args.judged.now.library.now.files.now in
     let node = node_view c.args.node.now in
     let place = c.in-Some.place in
-    let found : position (is_of node.calculator) library ≡ Some place = ap (λ l. position (is_of l) library) (sym c.as_bytes.ensures.bytes) ∙ sym c.in-Some.ensures in
+    let found : position (is_of node.calculator) library ≡ Some place = ap (λ l. position (is_of l) library) (sym c.as_str.ensures) ∙ sym c.in-Some.ensures in
     let inside = place_within (is_of node.calculator) library place found in
     let fewer = fewer_found library node place c.requires.grounded found in
     let falls = c.decreases in
@@ -91,7 +91,7 @@ pub expand_node-returns-in_ok-push-in-None : goal.expand_node-returns-in_ok-push
 expand_node-returns-in_ok-push-in-None t c =
     let library = map graph_view c.args.judged.now.library.now.files.now in
     let node = node_view c.args.node.now in
-    let none : position (is_of node.calculator) library ≡ None = ap (λ l. position (is_of l) library) (sym c.as_bytes.ensures.bytes) ∙ sym c.in-None.ensures in
+    let none : position (is_of node.calculator) library ≡ None = ap (λ l. position (is_of l) library) (sym c.as_str.ensures) ∙ sym c.in-None.ensures in
     let out = map node_view c.args.out.now.items in
     ap (map node_view) c.in_ok-push-in-None.ensures.items
     ∙ (map-push node_view c.args.out.now.items c.in_ok-copy_of-in-None.field-0
@@ -102,7 +102,7 @@ expand_node-returns-in-Some t c =
     let library = map graph_view c.args.judged.now.library.now.files.now in
     let node = node_view c.args.node.now in
     let place = c.in-Some.place in
-    let found : position (is_of node.calculator) library ≡ Some place = ap (λ l. position (is_of l) library) (sym c.as_bytes.ensures.bytes) ∙ sym c.in-Some.ensures in
+    let found : position (is_of node.calculator) library ≡ Some place = ap (λ l. position (is_of l) library) (sym c.as_str.ensures) ∙ sym c.in-Some.ensures in
     let by = replaced_by library (expansion.expanded library) c.args.n node place found in
     on_ok c.expand_file.result (λ all. all by.0 by.1 ∙ ap (λ l. map node_view c.args.out.now.items ++ l) by.2) c.expand_file.ensures
 

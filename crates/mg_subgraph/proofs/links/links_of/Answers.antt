@@ -13,7 +13,7 @@ loop-node-preserved c =
     let nodes = c.args.nodes.now in
     let i = c.loop-node.node-index in
     let node = c.node-item.result in
-    let found : position (is_of node.calculator) files ≡ Some c.in-Some.place = ap (λ l. position (is_of l) files) (sym c.as_bytes.ensures.bytes) ∙ sym c.in-Some.ensures in
+    let found : position (is_of node.calculator) files ≡ Some c.in-Some.place = ap (λ l. position (is_of l) files) (sym c.as_str.ensures) ∙ sym c.in-Some.ensures in
     record {
       len = c.in_ok-add.ensures.len ∙ c.loop-node.invariant.len;
       found =
@@ -27,7 +27,7 @@ loop-node-preserved-in_default c =
     let nodes = c.args.nodes.now in
     let i = c.loop-node.node-index in
     let node = c.node-item.result in
-    let none : position (is_of node.calculator) files ≡ None = ap (λ l. position (is_of l) files) (sym c.as_bytes.ensures.bytes) ∙ (sym c.find.ensures ∙ none_else c.find.result c.in_default.not-Some) in
+    let none : position (is_of node.calculator) files ≡ None = ap (λ l. position (is_of l) files) (sym c.as_str.ensures) ∙ (sym c.find.ensures ∙ none_else c.find.result c.in_default.not-Some) in
     record {
       len = c.loop-node.invariant.len;
       found =

@@ -21,7 +21,7 @@ loop-n-preserved-in_default-find c =
     let rest = map node_view (drop (n + 1) nodes) in
     let split : map node_view (drop n nodes) ≡ node_view node ∷ rest = ap (map node_view) (drop_next nodes n node (sym c.in-Some.ensures)) in
     let here = c.loop-n.invariant ∙ ap (node_fault library judge n) split in
-    let none : position (is_of node.calculator) library ≡ None = ap (λ l. position (is_of l) library) (sym c.as_bytes.ensures.bytes) ∙ (sym c.find.ensures ∙ none_else c.find.result c.in_default-find.not-Some) in
+    let none : position (is_of node.calculator) library ≡ None = ap (λ l. position (is_of l) library) (sym c.as_str.ensures) ∙ (sym c.find.ensures ∙ none_else c.find.result c.in_default-find.not-Some) in
     here ∙ fault_past library judge n (node_view node) rest none
 
 pub returns-in_err-check_node-clause-err : goal.returns-in_err-check_node-clause-err
@@ -36,7 +36,7 @@ returns-in_err-check_node-clause-err c =
     let here = c.loop-n.invariant ∙ ap (node_fault library judge n) split in
     let place = c.in-Some-find.place in
     let file = c.index-library-place.result in
-    let found : position (is_of node.calculator) library ≡ Some place = ap (λ l. position (is_of l) library) (sym c.as_bytes.ensures.bytes) ∙ sym c.in-Some-find.ensures in
+    let found : position (is_of node.calculator) library ≡ Some place = ap (λ l. position (is_of l) library) (sym c.as_str.ensures) ∙ sym c.in-Some-find.ensures in
     let inside = place_within (is_of node.calculator) library place found in
     let inner : place < length c.args.library.now.files.now = omega (arith, length-map graph_view c.args.library.now.files.now) in
     let at = got_map graph_view c.args.library.now.files.now place file (got c.args.library.now.files.now place file inner c.index-library-place.is) in
@@ -56,7 +56,7 @@ loop-n-preserved c =
     let here = c.loop-n.invariant ∙ ap (node_fault library judge n) split in
     let place = c.in-Some-find.place in
     let file = c.index-library-place.result in
-    let found : position (is_of node.calculator) library ≡ Some place = ap (λ l. position (is_of l) library) (sym c.as_bytes.ensures.bytes) ∙ sym c.in-Some-find.ensures in
+    let found : position (is_of node.calculator) library ≡ Some place = ap (λ l. position (is_of l) library) (sym c.as_str.ensures) ∙ sym c.in-Some-find.ensures in
     let inside = place_within (is_of node.calculator) library place found in
     let inner : place < length c.args.library.now.files.now = omega (arith, length-map graph_view c.args.library.now.files.now) in
     let at = got_map graph_view c.args.library.now.files.now place file (got c.args.library.now.files.now place file inner c.index-library-place.is) in

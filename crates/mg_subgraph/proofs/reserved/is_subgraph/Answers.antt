@@ -8,4 +8,4 @@ use Rattle.mg_subgraph.proofs.reserved.is_subgraph.Goals as goal
 pub returns : goal.returns
 returns c =
     let library = map graph_view c.args.library.now.files.now in
-    c.is_some.ensures ∙ (ap is_some c.find.ensures ∙ (ap (λ l. is_some (position (is_of l) library)) c.as_bytes.ensures.bytes ∙ some_place (is_of c.args.node.now.calculator) library))
+    c.is_some.ensures ∙ (ap is_some c.find.ensures ∙ (ap (λ l. is_some (position (is_of l) library)) c.as_str.ensures ∙ some_place (is_of c.args.node.now.calculator) library))

@@ -15,7 +15,7 @@ pub node_size-file_size-requires : goal.node_size-file_size-requires
 node_size-file_size-requires t c =
     let library = map graph_view c.args.library.now.files.now in
     let node = node_view c.args.node.now in
-    let found : position (is_of node.calculator) library ≡ Some c.in-Some.place = ap (λ l. position (is_of l) library) (sym c.as_bytes.ensures.bytes) ∙ sym c.in-Some.ensures in
+    let found : position (is_of node.calculator) library ≡ Some c.in-Some.place = ap (λ l. position (is_of l) library) (sym c.as_str.ensures) ∙ sym c.in-Some.ensures in
     let inside = place_within (is_of node.calculator) library c.in-Some.place found in
     let fewer = fewer_found library node c.in-Some.place c.requires.grounded found in
     let falls = c.decreases in
@@ -24,12 +24,12 @@ node_size-file_size-requires t c =
 pub node_size-returns-in-None-clause-size : goal.node_size-returns-in-None-clause-size
 node_size-returns-in-None-clause-size t c =
     let library = map graph_view c.args.library.now.files.now in
-    counted_none library (node_view c.args.node.now) (ap (λ l. position (is_of l) library) (sym c.as_bytes.ensures.bytes) ∙ sym c.in-None.ensures)
+    counted_none library (node_view c.args.node.now) (ap (λ l. position (is_of l) library) (sym c.as_str.ensures) ∙ sym c.in-None.ensures)
 
 pub node_size-returns-in-Some-clause-size : goal.node_size-returns-in-Some-clause-size
 node_size-returns-in-Some-clause-size t c =
     let library = map graph_view c.args.library.now.files.now in
-    c.file_size.ensures.size ∙ counted_some library (node_view c.args.node.now) c.in-Some.place (ap (λ l. position (is_of l) library) (sym c.as_bytes.ensures.bytes) ∙ sym c.in-Some.ensures)
+    c.file_size.ensures.size ∙ counted_some library (node_view c.args.node.now) c.in-Some.place (ap (λ l. position (is_of l) library) (sym c.as_str.ensures) ∙ sym c.in-Some.ensures)
 
 pub nodes_size-node_size-requires : goal.nodes_size-node_size-requires
 nodes_size-node_size-requires t c =
