@@ -7,6 +7,7 @@ use Rattle.mg_value.proofs.payload_list.PayloadList.TheLaws.TheKnot.{crosses as 
 use Rattle.mg_value.specs.contracts.packet.Packet as Packet
 use Rattle.mg_value.specs.contracts.block_list.BlockList as BlockList
 use Rattle.mg_value.specs.contracts.input_set.InputSet as InputSet
+use Rattle.mg_calc.specs.contracts.short_list.ShortList as ShortList
 use Rattle.mg_calc.specs.contracts.emission.Laid as Laid
 use Rattle.mg_calc.specs.contracts.law.Law as Law
 use Rattle.mg_calc.specs.contracts.call.Call as Call
@@ -19,16 +20,16 @@ use Rattle.mg_batch.specs.contracts.batch_box.BatchBox.TheInside as Inside
 pub packet : IsSend Packet.the_row
 packet = search (sendable, crosses, knot, timestamp) depth 40 fits 20000
 
-packets : IsSend (BlockList.the_row Packet.the_row)
-packets = search (packet, sendable, crosses) depth 20
+packets : IsSend (ShortList.the_row Packet.the_row)
+packets = search (packet, sendable, crosses) depth 40 fits 20000
 
 pub laid : IsSend Laid.the_row
 laid = search (packets, timestamp, sendable, crosses) depth 20
 
-pub emission : IsSend (BlockList.the_row Laid.the_row)
-emission = search (laid, sendable, crosses) depth 20
+pub emission : IsSend (ShortList.the_row Laid.the_row)
+emission = search (laid, sendable, crosses) depth 40 fits 20000
 
-emissions : IsSend (BlockList.the_row (BlockList.the_row Laid.the_row))
+emissions : IsSend (BlockList.the_row (ShortList.the_row Laid.the_row))
 emissions = search (emission, sendable, crosses) depth 20
 
 pub law : IsSend (Law.the_field).row

@@ -8,9 +8,9 @@ ghost use Rattle.mg_calc.specs.Batch.{inner_time as the_inner_time, at_inner_tim
 ghost use Rattle.mg_batch.specs.Code.Emitted.{clone_laid, loop_emission};
 
 use crate::copying::copied;
-use mg_calc::{CalcFault, Cause, Emission, Laid, State, no_emission};
+use mg_calc::{CalcFault, Cause, Emission, Laid, ShortList, State, no_emission};
 use mg_time::Timestamp;
-use mg_value::{BlockList, InputSet, Packet, Payload};
+use mg_value::{InputSet, Packet, Payload};
 use std::alloc::{AllocError, Global};
 use std::sync::Arc;
 
@@ -127,7 +127,7 @@ fn laid_up_to(packets: Vec<Packet>, next: u64) -> Result<Laid, AllocError>
     requires { next ≤ 2 ^ 63 - 4 }
     ensures { IfOk result (λ laid. (last : ℕ) → next ≡ last + 1 → laid ≡ the_laid last packets.items) }
 {
-    let packets = BlockList::from_vec(packets)?;
+    let packets = ShortList::from_vec(packets)?;
     Ok(Laid {
         packets,
         bound: Some(inner_time(next)),
@@ -198,7 +198,7 @@ fn batch(
     let end = end_laid(alloc, at, span.next)?;
     let items = laid_up_to(stamped(alloc, span.first, items)?, span.next)?;
     match cloned {
-        Some(cloned) => Ok(BlockList::from_vec(vec![in alloc; end, cloned, items]?)?),
-        None => Ok(BlockList::from_vec(vec![in alloc; end, items]?)?),
+        Some(cloned) => Ok(ShortList::from_vec(vec![in alloc; end, cloned, items]?)?),
+        None => Ok(ShortList::from_vec(vec![in alloc; end, items]?)?),
     }
 }

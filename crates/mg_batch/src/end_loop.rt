@@ -74,7 +74,7 @@ fn gathered(
 {
     let payload = list_of(alloc, state, item)?;
     let payload = Arc::new(alloc, payload)?;
-    one_packet(alloc, Packet { at, payload })
+    Ok(one_packet(Packet { at, payload }))
 }
 
 fn list_of(alloc: Global, state: &State, item: Option<&Packet>) -> Result<Payload, AllocError>

@@ -22,6 +22,7 @@ mod plan_node;
 mod plan_stream;
 mod port_kind;
 mod shape;
+mod short_list;
 mod side;
 mod side_packets;
 mod source;
@@ -33,7 +34,9 @@ pub use calculator::Calculator;
 pub use call::{Call, CallList};
 pub use cause::{CalcFault, Cause};
 pub use edge::{Edge, EdgeList};
-pub use emission::{Emission, EmissionList, Laid, no_emission, one_number, one_output, one_packet};
+pub use emission::{
+    Emission, EmissionList, Laid, LaidPackets, no_emission, one_number, one_output, one_packet,
+};
 pub use event::{Effect, Event};
 pub use given::GivenList;
 pub use inputs::Inputs;
@@ -47,6 +50,7 @@ pub use plan_node::{PlanNode, PlanNodeList};
 pub use plan_stream::{PlanStream, PlanStreamList, Producer};
 pub use port_kind::{PortKind, PortKindList};
 pub use shape::{OuterShape, Shape};
+pub use short_list::ShortList;
 pub use side::{Side, SideList, SideValue};
 pub use side_packets::node_sides;
 pub use source::{own_begin, source_step};

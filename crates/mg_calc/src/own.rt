@@ -119,9 +119,9 @@ fn filtered(
             None
         };
         let packet = packet.try_clone()?;
-        one_output(alloc, Laid::new(alloc, Some(packet), bound)?)
+        Ok(one_output(Laid::new(alloc, Some(packet), bound)?))
     } else if raises {
-        one_output(alloc, Laid::new(alloc, None, Some(at.next_allowed()))?)
+        Ok(one_output(Laid::new(alloc, None, Some(at.next_allowed()))?))
     } else {
         no_emission(alloc)
     }
@@ -188,7 +188,7 @@ fn shifted(
     };
     let payload = Arc::try_clone(&packet.payload)?;
     let kept = state.try_clone(alloc)?;
-    Ok((kept, one_packet(alloc, Packet { at, payload })?))
+    Ok((kept, one_packet(Packet { at, payload })))
 }
 
 fn tally(alloc: Global, state: &State, at: Timestamp) -> Result<(State, Emission), CalcFault>

@@ -60,7 +60,7 @@ pub fn source_step(
                 return Ok(no_emission(alloc)?);
             };
             let payload = Arc::try_clone(payload)?;
-            Ok(one_packet(alloc, Packet { at: *at, payload })?)
+            Ok(one_packet(Packet { at: *at, payload }))
         }
         _ => unreachable!(),
     }

@@ -17,13 +17,20 @@ impl TryClone for Packet {
     }
 }
 
+/// Copies of entries, in order.
+pub(crate) fn copies<T: TryClone>(alloc: Global, entries: &[T]) -> Result<Vec<T>, AllocError>
+    ensures { IfOk result (λ copies. copies.items ≡ entries.now) }
+{
+    let mut copies = Vec::with_capacity(alloc, entries.len())?;
+    for entry in entries {
+        copies.push(entry.try_clone(alloc)?)?;
+    }
+    Ok(copies)
+}
+
 impl<T: TryClone> TryClone for BlockList<T> {
     fn try_clone(&self, alloc: Global) -> Result<BlockList<T>, AllocError> {
-        let mut entries = Vec::with_capacity(alloc, self.len() as usize)?;
-        for entry in self.as_slice() {
-            entries.push(entry.try_clone(alloc)?)?;
-        }
-        Ok(BlockList::from_vec(entries)?)
+        Ok(BlockList::from_vec(copies(alloc, self.as_slice())?)?)
     }
 }
 

@@ -5,10 +5,9 @@ ghost use Rattle.mg_calc.specs.Laying.{with_packets, laid_behind, all_raised};
 ghost use Rattle.mg_route.specs.Reasons.{reason_of, laid_on, all_laid_on};
 
 use crate::output::Output;
-use mg_calc::{Cause, Emission, Laid, Phase};
+use mg_calc::{Cause, Emission, Laid, LaidPackets, Phase};
 use mg_route::packets_fault;
 use mg_time::Timestamp;
-use mg_value::PacketList;
 use std::alloc::AllocError;
 
 // Why packets can't be put behind an output, one after the other.
@@ -16,7 +15,7 @@ fn output_fault(
     offset: Option<i64>,
     phase: &Phase,
     output: &Output,
-    packets: &PacketList,
+    packets: &LaidPackets,
 ) -> Option<Cause>
     ensures { result ≡ reason_of (with_packets offset phase.now output.now packets.now) }
 {

@@ -4,8 +4,9 @@ ghost use Rattle.mg_value.specs.Extension.{IsExtendedBy};
 ghost use Rattle.mg_value.specs.Loopback.{behind_first, last_of};
 ghost use Rattle.mg_equations.specs.Changes.{is_changed};
 
+use mg_calc::LaidPackets;
 use mg_time::Timestamp;
-use mg_value::{BlockList, Packet, PacketList, Prefix, Rest};
+use mg_value::{BlockList, Packet, Prefix, Rest};
 use std::alloc::{AllocError, Global};
 use std::marker::Model;
 
@@ -115,7 +116,7 @@ impl Output {
     }
 
     /// Puts packets behind the others, one after the other.
-    pub fn append_all(&mut self, packets: &PacketList) -> Result<(), AllocError>
+    pub fn append_all(&mut self, packets: &LaidPackets) -> Result<(), AllocError>
         ensures { OnOk result (self.new ≡ all_appended self.old packets.now) }
     {
         for packet in packets.as_slice() {

@@ -1,11 +1,11 @@
 ghost use Rattle.std.specs.Prelude.{◌≡◌, ◌∷◌, [], IfOk, is_some, take, option_copied};
 ghost use Rattle.std.specs.List.{list_any};
-ghost use Rattle.mg_calc.specs.Answer.{emission_of};
+ghost use Rattle.mg_calc.specs.Answer.{emission_of, laid};
 ghost use Rattle.mg_route.specs.Places.{first_places};
 
-use mg_calc::{Emission, Laid, State, no_emission, one_packet};
+use mg_calc::{Emission, Laid, ShortList, State, no_emission, one_output, one_packet};
 use mg_time::Timestamp;
-use mg_value::{BlockList, InputSet, Packet};
+use mg_value::{InputSet, Packet};
 use std::alloc::{AllocError, Global};
 use std::sync::Arc;
 
@@ -89,12 +89,23 @@ pub fn placed<P: Places>(
     if !has_packet(from, at, count) {
         return no_emission(alloc);
     }
+    if count == 1 {
+        return Ok(one_output(entry(alloc, from, at, 0)?));
+    }
     let mut entries = Vec::with_capacity(alloc, count as usize)?;
     for i in 0..count {
-        let packet = from.packet(at, i)?;
-        entries.push(Laid::new(alloc, packet, None)?)?;
+        entries.push(entry(alloc, from, at, i)?)?;
     }
-    Ok(BlockList::from_vec(entries)?)
+    Ok(ShortList::from_vec(entries)?)
+}
+
+// The packet of a place, as what is laid at an output.
+fn entry<P: Places>(alloc: Global, from: &P, at: Timestamp, i: u32) -> Result<Laid, AllocError>
+    ensures { IfOk result (λ entry. entry ≡ laid (P.place from.now at i)) }
+{
+    let packet = from.packet(at, i)?;
+    let entry = Laid::new(alloc, packet, None)?;
+    Ok(entry)
 }
 
 /// The packets of the first ports of a set, each at the output of its number.
@@ -110,7 +121,7 @@ pub fn handed_on(alloc: Global, packet: Option<&Packet>) -> Result<Emission, All
     ensures { IfOk result (λ emission. emission ≡ emission_of (option_copied packet.entry ∷ [])) }
 {
     match packet {
-        Some(packet) => one_packet(alloc, packet.try_clone()?),
+        Some(packet) => Ok(one_packet(packet.try_clone()?)),
         None => no_emission(alloc),
     }
 }

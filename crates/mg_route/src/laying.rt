@@ -5,9 +5,8 @@ ghost use Rattle.mg_value.specs.Prefix.{StreamPrefix, Stamped};
 ghost use Rattle.mg_calc.specs.Laying.{is_below_offset, is_bound_to_silence, laying_fault as the_laying_fault, with_packets};
 ghost use Rattle.mg_route.specs.Reasons.{reason_of};
 
-use mg_calc::{Cause, Phase};
+use mg_calc::{Cause, LaidPackets, Phase};
 use mg_time::Timestamp;
-use mg_value::PacketList;
 
 // Whether a packet at a time stands below what the node's offset promises.
 fn is_below(offset: Option<i64>, phase: &Phase, at: Timestamp) -> bool
@@ -62,7 +61,7 @@ pub fn packets_fault(
     phase: &Phase,
     bound: Timestamp,
     has_packets: bool,
-    packets: &PacketList,
+    packets: &LaidPackets,
 ) -> Option<Cause>
     ensures { (output : StreamPrefix Plain) → output.bound ≡ bound → nat_lt 0 (length output.packets) ≡ has_packets
         → result ≡ reason_of (with_packets offset phase.now output packets.now) }

@@ -42,11 +42,11 @@ fn thinned(
     if valid <= at {
         let valid = valid_after(period, at);
         let laid = Laid::new(alloc, Some(packet.try_clone()?), Some(valid))?;
-        Ok((State::of_number(valid.raw()), one_output(alloc, laid)?))
+        Ok((State::of_number(valid.raw()), one_output(laid)))
     } else {
         let kept = state.try_clone(alloc)?;
         let laid = Laid::new(alloc, None, Some(valid))?;
-        Ok((kept, one_output(alloc, laid)?))
+        Ok((kept, one_output(laid)))
     }
 }
 

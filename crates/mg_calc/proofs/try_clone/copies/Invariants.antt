@@ -1,6 +1,6 @@
 -- Those copied so far are the first of the list.
 use Rattle.std.proofs.Common.{◌≡◌, take}
-use Rattle.mg_calc.proofs.try_clone.BlockListTryClone.try_clone.Given as goal
+use Rattle.mg_calc.proofs.try_clone.copies.Given as goal
 
 abbrev pub invariant-loop-entry : goal.invariant-loop-entry
-invariant-loop-entry g l = l.entries.items ≡ take l.entry-index l.entry-items
+invariant-loop-entry g l = l.copies.items ≡ take l.entry-index l.entries
