@@ -224,6 +224,11 @@ impl Chart {
         self.sources.as_slice()
     }
 
+    /// How many feeders are graph inputs. Their numbers stand before those of the nodes without inputs.
+    pub(crate) fn input_count(&self) -> usize {
+        self.feeder_count.saturating_sub(self.sources.len())
+    }
+
     /// The number of the feeder at a place, if one is there.
     pub(crate) fn feeder(&self, place: usize) -> Option<u32> {
         match self.feeders.get(place) {

@@ -1,4 +1,4 @@
-ghost use Rattle.std.specs.Prelude.{◌≡◌, ◌≤◌, length};
+ghost use Rattle.std.specs.Prelude.{◌≡◌, ◌<◌, ◌≤◌, length, IfSome};
 ghost use Rattle.mg_calc.specs.Plan.{IsValid, feeders};
 
 use mg_calc::Plan;
@@ -12,8 +12,10 @@ pub(crate) struct Gauge {
     limits: Limits,
     queues: u32,
     feeders: usize,
+    nodes: u32,
     ghost sized: { queues ≡ length limits.queues },
     ghost fed: { feeders ≤ limits.feeders },
+    ghost reached: { nodes ≡ length limits.reached },
 }
 
 impl Gauge {
@@ -27,6 +29,7 @@ impl Gauge {
             limits,
             queues: plan.edges.len(),
             feeders: count,
+            nodes: plan.nodes.len(),
         };
         Ok(gauge)
     }
@@ -37,6 +40,17 @@ impl Gauge {
             return true;
         }
         self.limits.may_feed(feeder)
+    }
+
+    /// The first feeder from a number on, and below another one, that reaches a node and isn't throttled.
+    pub(crate) fn next_feeder(&self, node: u32, from: usize, end: usize) -> Option<usize>
+        ensures { IfSome result (λ feeder. (from ≤ feeder) × (feeder < end)) }
+    {
+        if node >= self.nodes {
+            return None;
+        }
+        let feeder = self.limits.next_feeder(node, from)?;
+        if feeder < end { Some(feeder) } else { None }
     }
 
     /// Notes how many packets wait in the queue of an edge, and tells whether it is full.

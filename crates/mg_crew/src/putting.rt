@@ -14,6 +14,8 @@ use std::sync::Wait;
 pub(crate) struct Place {
     pub seat: Option<LevelSeat>,
     pub kept: Option<u32>,
+    /// Whether it put a node in of which the others weren't told. It takes one out itself next, or tells them before it does a work.
+    pub untold: bool,
 }
 
 impl Place {
@@ -24,6 +26,7 @@ impl Place {
         Place {
             seat: Some(seat),
             kept: None,
+            untold: false,
         }
     }
 }
@@ -54,41 +57,59 @@ pub(crate) fn split(alloc: Global, levels: &Levels, place: &mut Place) -> Place
     ensures other { IsPlaceAt levels.now result }
 {
     let seat = split_seat(alloc, levels, &mut place.seat);
-    Place { seat, kept: None }
+    Place {
+        seat,
+        kept: None,
+        untold: false,
+    }
 }
 
-// Puts a node in that isn't in, and tells idle workers. One whose level is full is left to the worker that looks over all nodes.
-fn put_in<R: Wait>(rt: &R, tools: &Tools, seat: &mut LevelSeat, node: u32)
+// Puts a node in that isn't in, and tells whether it is now. One whose level is full is left to the worker that looks over all nodes.
+fn put_in<R: Wait>(rt: &R, tools: &Tools, seat: &mut LevelSeat, node: u32) -> bool
     requires seat { IsSeatOf tools.now.levels seat.old }
     requires node { Contains (order_of tools.now.levels) node }
     ensures seat { IsSeatOf tools.now.levels seat.new }
 {
     if tools.levels.put(rt, seat, node) {
-        tools.board.tell();
-    } else {
-        tools.marks.inside.clear(node);
+        return true;
     }
+    tools.marks.inside.clear(node);
+    false
 }
 
-// Puts a node in, unless it is in.
-fn put_new<R: Wait>(rt: &R, tools: &Tools, seat: &mut LevelSeat, node: u32)
-    requires seat { IsSeatOf tools.now.levels seat.old }
+// Puts a node in, unless it is in or there is no seat, and tells whether it was put in.
+fn put_new<R: Wait>(rt: &R, tools: &Tools, seat: &mut Option<LevelSeat>, node: u32) -> bool
+    requires seat { IsAnyOf tools.now.levels seat.old }
     requires node { Contains (order_of tools.now.levels) node }
-    ensures seat { IsSeatOf tools.now.levels seat.new }
+    ensures seat { IsAnyOf tools.now.levels seat.new }
 {
-    if tools.marks.inside.set(node) {
-        put_in(rt, tools, seat, node);
+    match seat {
+        Some(seat) => tools.marks.inside.set(node) && put_in(rt, tools, seat, node),
+        None => false,
     }
 }
 
-/// Puts a node in, unless it is in.
+/// Tells idle workers of a node that was put in, where they weren't told.
+pub(crate) fn tell_others(tools: &Tools, place: &mut Place)
+    requires place { IsPlaceAt tools.now.levels place.old }
+    ensures place { IsPlaceAt tools.now.levels place.new }
+{
+    if place.untold {
+        tools.board.tell();
+        place.untold = false;
+    }
+}
+
+/// Puts a node in, unless it is in. Idle workers are told of the second one that a worker puts in before it takes one out itself, and
+/// of each further one.
 pub(crate) fn put<R: Wait>(rt: &R, tools: &Tools, place: &mut Place, node: u32)
     requires place { IsPlaceAt tools.now.levels place.old }
     requires node { Contains (order_of tools.now.levels) node }
     ensures place { IsPlaceAt tools.now.levels place.new }
 {
-    if let Some(seat) = &mut place.seat {
-        put_new(rt, tools, seat, node);
+    if put_new(rt, tools, &mut place.seat, node) {
+        tell_others(tools, place);
+        place.untold = true;
     }
 }
 
@@ -118,6 +139,7 @@ fn take_out<R: Wait>(rt: &R, tools: &Tools, place: &mut Place) -> Option<u32>
     ensures place { IsPlaceAt tools.now.levels place.new }
     ensures node { IfSome result (λ node. Contains (order_of tools.now.levels) node) }
 {
+    place.untold = false;
     match &mut place.seat {
         Some(seat) => tools.levels.take(rt, seat),
         None => None,

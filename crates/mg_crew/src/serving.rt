@@ -4,7 +4,7 @@ ghost use Rattle.mg_turns.specs.Parts.{nodes_in};
 ghost use Rattle.mg_turns.specs.Calls.{key_of};
 ghost use Rattle.mg_crew.specs.Code.Seats.{IsAtWork, StaysAtWork};
 
-use crate::putting::{Place, keep, put};
+use crate::putting::{Place, keep, put, tell_others};
 use crate::shop::{Came, Shop};
 use crate::throttling::{is_held, note, note_worked};
 use crate::working::{bring, raise, work_at};
@@ -75,7 +75,8 @@ fn bring_laid<C: Calculator, R: Wait, G: Gate>(
     came
 }
 
-// Does works of a node, unless it is a source that is throttled, and notes what waits there then.
+// Does works of a node, unless it is a source that is throttled, and notes what waits there then. As a work may take long, others are told
+// of what was put in before.
 fn work<C: Calculator, R: Wait, G: Gate>(
     rt: &R,
     shop: &Shop<'_, C, G>,
@@ -90,6 +91,7 @@ fn work<C: Calculator, R: Wait, G: Gate>(
     if is_held(rt, shop.tools, node) {
         return Came::nothing();
     }
+    tell_others(shop.tools, place);
     let came = work_at(rt, shop, seat, place, node);
     note_worked(rt, shop, seat, place, node);
     came

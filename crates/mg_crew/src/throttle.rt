@@ -1,3 +1,5 @@
+ghost use Rattle.std.specs.Prelude.{◌<◌, ◌≤◌, IfSome};
+
 use crate::gauge::Gauge;
 use crate::marks::Marks;
 use std::alloc::{AllocError, Global};
@@ -31,6 +33,19 @@ impl Throttle {
     /// Whether a feeder isn't throttled.
     pub(crate) fn may_feed<R: Wait>(&self, rt: &R, feeder: u32) -> bool {
         self.gauge.lock(rt).may_feed(feeder)
+    }
+
+    /// The first feeder from a number on, and below another one, that reaches a node and isn't throttled.
+    pub(crate) fn next_feeder<R: Wait>(
+        &self,
+        rt: &R,
+        node: u32,
+        from: usize,
+        end: usize,
+    ) -> Option<usize>
+        ensures { IfSome result (λ feeder. (from ≤ feeder) × (feeder < end)) }
+    {
+        self.gauge.lock(rt).next_feeder(node, from, end)
     }
 
     /// Whether a queue was full when it was noted last.

@@ -9,33 +9,76 @@ ghost use Rattle.mg_crew.specs.Code.Seats.{HasSources, IsAtWork, StaysAtWork};
 
 use crate::putting::{Place, put};
 use crate::shop::{Shop, Tools};
+use crate::throttle::Throttle;
 use mg_calc::Calculator;
 use mg_edge::Gate;
 use mg_turns::{NetSeat, Tried};
 use std::sync::Wait;
 
+// Puts one of some sources in, where it is held.
+fn put_held<R: Wait>(rt: &R, tools: &Tools, place: &mut Place, sources: &[u32], k: usize)
+    requires place { IsPlaceAt tools.now.levels place.old }
+    requires sources { All (λ node. Contains (order_of tools.now.levels) node) sources.now }
+    ensures place { IsPlaceAt tools.now.levels place.new }
+{
+    if k >= sources.len() || !tools.marks.held.clear(sources[k]) {
+        return;
+    }
+    put(rt, tools, place, sources[k]);
+}
+
 // Puts those of some sources in that are held.
-fn put_held<R: Wait>(rt: &R, tools: &Tools, place: &mut Place, sources: &[u32])
+fn put_all_held<R: Wait>(rt: &R, tools: &Tools, place: &mut Place, sources: &[u32])
     requires place { IsPlaceAt tools.now.levels place.old }
     requires sources { All (λ node. Contains (order_of tools.now.levels) node) sources.now }
     ensures place { IsPlaceAt tools.now.levels place.new }
 {
     for k in 0..sources.len() {
-        if !tools.marks.held.clear(sources[k]) {
-            continue;
-        }
-        put(rt, tools, place, sources[k]);
+        put_held(rt, tools, place, sources, k);
     }
 }
 
-// Lets those go that are held: sources, and who brings packets from the graph inputs.
-fn let_go<R: Wait>(rt: &R, tools: &Tools, place: &mut Place)
+// Puts those of the sources in that are held, reach a node and aren't throttled. Whoever is throttled anew meanwhile is let go by the
+// worker that finds the other queue full no more.
+fn put_let_go<R: Wait>(rt: &R, tools: &Tools, throttle: &Throttle, place: &mut Place, node: u32)
+    requires place { IsPlaceAt tools.now.levels place.old }
+    requires sources { HasSources tools.now }
+    ensures place { IsPlaceAt tools.now.levels place.new }
+{
+    let (first, end) = (tools.chart.input_count(), tools.chart.feeder_count);
+    let mut cursor = throttle.next_feeder(rt, node, first, end);
+    'feeders: while let Some(feeder) = cursor {
+        put_held(
+            rt,
+            tools,
+            place,
+            tools.chart.sources(),
+            feeder.saturating_sub(first),
+        );
+        cursor = throttle.next_feeder(rt, node, feeder + 1, end);
+    }
+}
+
+// Lets all go that are held: sources, and who brings packets from the graph inputs.
+fn let_all_go<R: Wait>(rt: &R, tools: &Tools, place: &mut Place)
     requires place { IsPlaceAt tools.now.levels place.old }
     requires sources { HasSources tools.now }
     ensures place { IsPlaceAt tools.now.levels place.new }
 {
     tools.board.leave_inputs();
-    put_held(rt, tools, place, tools.chart.sources());
+    put_all_held(rt, tools, place, tools.chart.sources());
+    tools.board.tell();
+}
+
+// Lets those go that are held and aren't throttled any more, as a queue of a node is full no more: sources, and who brings packets from
+// the graph inputs.
+fn let_go<R: Wait>(rt: &R, tools: &Tools, throttle: &Throttle, place: &mut Place, node: u32)
+    requires place { IsPlaceAt tools.now.levels place.old }
+    requires sources { HasSources tools.now }
+    ensures place { IsPlaceAt tools.now.levels place.new }
+{
+    tools.board.leave_inputs();
+    put_let_go(rt, tools, throttle, place, node);
     tools.board.tell();
 }
 
@@ -46,7 +89,7 @@ pub(crate) fn begin<R: Wait>(rt: &R, tools: &Tools, place: &mut Place)
     ensures place { IsPlaceAt tools.now.levels place.new }
 {
     if tools.board.begin() {
-        let_go(rt, tools, place);
+        let_all_go(rt, tools, place);
     }
 }
 
@@ -67,7 +110,7 @@ fn waiting<C: Calculator, G: Gate>(
     }
 }
 
-/// Notes how many packets wait at the end of an edge. Where its queue was full, and isn't any more, those go on that are held.
+/// Notes how many packets wait at the end of an edge. Where its queue was full, and isn't any more, those go on that this lets go.
 pub(crate) fn note<C: Calculator, R: Wait, G: Gate>(
     rt: &R,
     shop: &Shop<'_, C, G>,
@@ -86,7 +129,8 @@ pub(crate) fn note<C: Calculator, R: Wait, G: Gate>(
         return;
     };
     if throttle.note(rt, edge, packets) {
-        let_go(rt, shop.tools, place);
+        let node = shop.tools.chart.consumer(edge);
+        let_go(rt, shop.tools, throttle, place, node);
     }
 }
 
@@ -171,6 +215,6 @@ pub(crate) fn relax<R: Wait>(rt: &R, tools: &Tools, place: &mut Place) -> bool
     if !throttle.relax(rt) {
         return false;
     }
-    let_go(rt, tools, place);
+    let_all_go(rt, tools, place);
     true
 }

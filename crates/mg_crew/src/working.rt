@@ -8,7 +8,7 @@ ghost use Rattle.mg_crew.specs.Code.Places.{IsPlaceAt};
 ghost use Rattle.mg_crew.specs.Code.Seats.{FitsWork, IsAtWork, StaysAtWork};
 
 use crate::commits::finish;
-use crate::putting::{Place, put};
+use crate::putting::{Place, put, tell_others};
 use crate::shop::{Came, Shop, Tools};
 use mg_calc::Calculator;
 use mg_edge::Gate;
@@ -71,6 +71,7 @@ fn share_node<R: Wait>(rt: &R, tools: &Tools, place: &mut Place, node: u32)
 {
     if !tools.board.is_short() {
         put(rt, tools, place, node);
+        tell_others(tools, place);
     }
 }
 

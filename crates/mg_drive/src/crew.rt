@@ -1,8 +1,62 @@
+use mg_calc::Plan;
 use mg_edge::Gate;
+
+// How many packets a net whose calculators are all the program's own has to hold before workers are called. These do a set in less than
+// a microsecond, so what fewer packets come to takes no longer than starting the threads.
+const LEAST: u64 = 512;
 
 /// Where workers come from, and the gate round each Process call: a runtime that starts threads and may wait for them.
 #[derive(Drop)]
 pub struct Crew<'a, R, G: Gate> {
     pub rt: &'a R,
     pub gate: &'a G,
+}
+
+// Whether a calculator was handed in for a node of a plan. A call of it may take long.
+fn has_handed_in(plan: &Plan) -> bool {
+    for node in plan.nodes.as_slice() {
+        if node.box_number.is_some() {
+            return true;
+        }
+    }
+    false
+}
+
+// Whether streams of a plan lead round a loop, whose nodes work one after the other.
+fn has_loop(plan: &Plan) -> bool {
+    for edge in plan.edges.as_slice() {
+        if edge.back {
+            return true;
+        }
+    }
+    false
+}
+
+/// How many of the workers that a plan asks for have something to do: no more than works may be under way at once. One alone does what a
+/// sweep does, so there is none then, and none either round a loop of calculators which are all the program's own.
+pub(crate) fn workers_for(plan: &Plan) -> u32 {
+    if has_loop(plan) && !has_handed_in(plan) {
+        return 0;
+    }
+    let mut works: u32 = 0;
+    for node in plan.nodes.as_slice() {
+        works = works.saturating_add(node.in_flight);
+    }
+    let workers = works.min(plan.workers);
+    if workers > 1 { workers } else { 0 }
+}
+
+/// How many packets a net of a plan has to hold before workers are called: one where a calculator was handed in.
+pub(crate) fn least_for(plan: &Plan) -> u64 {
+    if has_handed_in(plan) { 1 } else { LEAST }
+}
+
+/// Whether a plan has sources, so that its net may have something to do before any packet came.
+pub(crate) fn has_sources(plan: &Plan) -> bool {
+    for node in plan.nodes.as_slice() {
+        if node.inputs.is_empty() {
+            return true;
+        }
+    }
+    false
 }

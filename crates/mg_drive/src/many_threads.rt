@@ -18,16 +18,15 @@ use std::mem;
 use std::sync::Wait;
 use std::thread::Threads;
 
-// How many packets a net has to hold before workers are called. What it does with fewer is left to the thread that drives it.
-const LEAST: u64 = 1;
-
 /// A net that workers run side by side, so many of them, and of which the thread that drives it does what they leave undone.
 pub struct ManyThreads<'a, C: Calculator, R, G: Gate> {
     pub one: OneThread<'a, C, G>,
     pub rt: &'a R,
     pub alloc: Global,
     pub workers: u32,
-    /// Whether the net has never been brought to rest. Its sources may have something to bring then.
+    /// How many packets the net has to hold before workers are called. What it does with fewer is left to the thread that drives it.
+    pub least: u64,
+    /// Whether the net has sources, and has never been brought to rest. They may have something to bring then.
     pub fresh: bool,
 }
 
@@ -39,7 +38,7 @@ impl<'a, C: Calculator + Send, R: Threads + Wait + Sync, G: Gate + Sync> ManyThr
         ensures running { IsRunning self.new.one.net }
         ensures became { Became self.old.one.net self.new.one.net }
     {
-        if self.workers == 0 || !self.fresh && self.one.net.held() < LEAST {
+        if self.workers == 0 || !self.fresh && self.one.net.held() < self.least {
             return;
         }
         self.fresh = false;

@@ -11,6 +11,7 @@ ghost use Rattle.mg_drive.specs.Nets.{Keeps};
 ghost use Rattle.mg_drive.specs.Code.Running.{Start, IsUnderWay, IsSomeRun, IsShort};
 ghost use Rattle.mg_drive.specs.Code.Ending.{CameBack, since, HasEnded, HasRun, RanShort};
 
+use crate::crew::{has_sources, least_for, workers_for};
 use crate::{Batch, Batches, Crew, Ends, ManyThreads, OneThread, Telling, drive, finish};
 use mg_answer::{Devices, Run, Status};
 use mg_calc::Calculator;
@@ -47,7 +48,7 @@ pub fn run_net<
         → HasEnded B.gives T.form run.now.report start status (S.told devices.new.input.now) (K.told devices.new.output.now) (told_by S.told K.told E.told devices.old devices.new).notes net.new.one.net) }
     ensures short { OnErr result ((start : Start B) → start.plan ≡ run.now.plan.now
         → IsUnderWay B.gives T.has_told start first (S.told devices.old.input.now) (K.told devices.old.output.now) ends.batches ends.telling net.old.one.net
-        → IsShort B.gives T.has_told T.form start (S.told devices.new.input.now) (K.told devices.new.output.now) net.new.one.net) }
+        → IsShort B.gives B.reads_on T.has_told T.form start (S.told devices.new.input.now) (K.told devices.new.output.now) net.new.one.net) }
     ensures unnoted { OnErr result (E.told devices.new.notes.now ≡ E.told devices.old.notes.now) }
     ensures keeps { Keeps net.old.one.net net.new.one.net }
     ensures unread { B.reads ≡ false → S.told devices.new.input.now ≡ S.told devices.old.input.now }
@@ -86,7 +87,7 @@ fn run_made_net<
     ensures ran { IfOk result (λ status. (began : B) (source : SourceTold) → B.gives began ends.batches run.now.plan.now source (S.told devices.old.input.now) first.end first.inputs
         → HasRun B.gives T.form run.now.report began run.now.plan.now status (since source (told_by S.told K.told E.told devices.old devices.new)) (device (map C.told boxes.old.items) (map C.told boxes.new.items))) }
     ensures short { OnErr result ((began : B) (source : SourceTold) → B.gives began ends.batches run.now.plan.now source (S.told devices.old.input.now) first.end first.inputs
-        → RanShort B.gives T.has_told T.form began run.now.plan.now (since source (told_by S.told K.told E.told devices.old devices.new)) (device (map C.told boxes.old.items) (map C.told boxes.new.items))) }
+        → RanShort B.gives B.reads_on T.has_told T.form began run.now.plan.now (since source (told_by S.told K.told E.told devices.old devices.new)) (device (map C.told boxes.old.items) (map C.told boxes.new.items))) }
     ensures unnoted { OnErr result (E.told devices.new.notes.now ≡ E.told devices.old.notes.now) }
     ensures back { CameBack run.now.plan.now (map C.told boxes.old.items) (map C.told boxes.new.items) }
     ensures unread { B.reads ≡ false → S.told devices.new.input.now ≡ S.told devices.old.input.now }
@@ -102,8 +103,9 @@ fn run_made_net<
                 },
                 rt: crew.rt,
                 alloc: run.alloc,
-                workers: run.plan.workers,
-                fresh: true,
+                workers: workers_for(run.plan),
+                least: least_for(run.plan),
+                fresh: has_sources(run.plan),
             };
             let ran = run_net(run, &mut driven, ends, first.end, devices);
             let ManyThreads {
@@ -111,6 +113,7 @@ fn run_made_net<
                 rt: _,
                 alloc: _,
                 workers: _,
+                least: _,
                 fresh: _,
             } = driven;
             let OneThread { net, gate: _ } = one;
@@ -148,7 +151,7 @@ pub fn run_batches<
     requires fresh { B.is_fresh batches run.now.plan.now }
     requires nothing { (sink : SinkTold) → T.has_told telling run.now.plan.now sink sink [] }
     ensures ran { IfOk result (λ status. HasRun B.gives T.form run.now.report batches run.now.plan.now status (told_by S.told K.told E.told devices.old devices.new) (device (map C.told boxes.old.items) (map C.told boxes.new.items))) }
-    ensures short { OnErr result (RanShort B.gives T.has_told T.form batches run.now.plan.now (told_by S.told K.told E.told devices.old devices.new) (device (map C.told boxes.old.items) (map C.told boxes.new.items))) }
+    ensures short { OnErr result (RanShort B.gives B.reads_on T.has_told T.form batches run.now.plan.now (told_by S.told K.told E.told devices.old devices.new) (device (map C.told boxes.old.items) (map C.told boxes.new.items))) }
     ensures unnoted { OnErr result (E.told devices.new.notes.now ≡ E.told devices.old.notes.now) }
     ensures back { CameBack run.now.plan.now (map C.told boxes.old.items) (map C.told boxes.new.items) }
     ensures unread { B.reads ≡ false → S.told devices.new.input.now ≡ S.told devices.old.input.now }

@@ -2,6 +2,7 @@ pub mod Counts
 pub mod Listing
 pub mod Edges
 pub mod Feeding
+pub mod Firsts
 pub mod Gathering
 pub mod Pressing
 pub mod Queues

@@ -36,7 +36,7 @@ same_of false true e = absurd (false≢true (sym e))
 same_of false false e = refl
 
 -- the row of a node, read
-row_read : (rows : List (List Bool)) (node : ℕ) (row : List Bool) (f : ℕ) → node < length rows → row ≡ get_or rows node row → is_marked row f ≡ is_reached rows f node
+pub row_read : (rows : List (List Bool)) (node : ℕ) (row : List Bool) (f : ℕ) → node < length rows → row ≡ get_or rows node row → is_marked row f ≡ is_reached rows f node
 row_read rows node row f within read = ap (λ r. is_marked r f) (read ∙ get_or_default rows node row [] within)
 
 -- a queue that becomes full, or stops being full, is one that counts

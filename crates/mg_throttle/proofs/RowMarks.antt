@@ -100,6 +100,16 @@ bit_in-past word first k past = rw (le-leb first k (omega arith), le-ltb k (firs
 pub bit_in-below : (word first k : ℕ) → k < first → bit_in word first k ≡ false
 bit_in-below word first k low = rw (lt-leb first k low) refl
 
+-- no bits
+pub bit_in-zero : (first k : ℕ) → bit_in 0 first k ≡ false
+bit_in-zero first k = elim (cases_lt k first) [
+  | inl low ↦ bit_in-below 0 first k low
+  | inr here ↦ elim (cases_lt k (first + 64)) [
+    | inl inside ↦ bit_in-here 0 first k here inside ∙ rw (bit_at-zero (k - first)) refl
+    | inr past ↦ bit_in-past 0 first k past
+  ]
+]
+
 -- ---- counts
 -- nothing is changed below a place where nothing passes
 pub ChangesBelow-start : (test : ℕ → Bool) (more less first : ℕ) (old : List ℕ) → ((k : ℕ) → k < first → test k ≡ false) → ChangesBelow test more less first old old
@@ -184,16 +194,7 @@ pub ChangesBelow-zero : (test : ℕ → Bool) (more less place : ℕ) (old now :
     → ((k : ℕ) → place ≤ k → k < place + 64 → k < length old → test k ≡ bit_in 0 place k)
     → ChangesBelow test more less (place + 64) old now
 ChangesBelow-zero test more less place old now below same = ChangesBelow-word test more less place 0 old now now below
-    (record { len = refl; counts = λ k within. rw (none k) refl }) same
-  where
-    none : (k : ℕ) → bit_in 0 place k ≡ false
-    none k = elim (cases_lt k place) [
-      | inl low ↦ bit_in-below 0 place k low
-      | inr here ↦ elim (cases_lt k (place + 64)) [
-        | inl inside ↦ bit_in-here 0 place k here inside ∙ rw (bit_at-zero (k - place)) refl
-        | inr past ↦ bit_in-past 0 place k past
-      ]
-    ]
+    (record { len = refl; counts = λ k within. rw (bit_in-zero place k) refl }) same
 
 pub bit_in-high : (word first k : ℕ) → bit_in word first k ≡ true → k < first + 64
 bit_in-high word first k there = elim (cases_lt k (first + 64)) [

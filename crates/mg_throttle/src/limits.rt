@@ -1,9 +1,10 @@
-ghost use Rattle.std.specs.Prelude.{◌≡◌, ◌+◌, ◌^◌, ◌<◌, ◌≤◌, ◌↔◌, false, All, Some, length, map, replicate, count_by, slice_get, IfOk, option_map};
+ghost use Rattle.std.specs.Prelude.{◌≡◌, ℕ, ◌+◌, ◌^◌, ◌<◌, ◌≤◌, ◌↔◌, false, All, Some, length, map, replicate, count_by, slice_get, IfOk, IfSome, IfNone, option_map};
 ghost use Rattle.std.specs.List.{list_any};
 ghost use Rattle.std.specs.List.Sorted.{IsPartitionPoint};
 ghost use Rattle.mg_calc.specs.declared.plan.Plan.{Plan as PlanRecord};
+ghost use Rattle.mg_calc.specs.declared.edge.Edge.{Edge as EdgeRecord};
 ghost use Rattle.mg_calc.specs.Plan.{IsValid, Feeder, feeders, HasEachOnce};
-ghost use Rattle.mg_throttle.specs.Throttle.{limit_of, new_queue, noted, is_full, relaxed, stopped, IsOf, IsThrottled};
+ghost use Rattle.mg_throttle.specs.Throttle.{limit_of, new_queue, noted, is_full, relaxed, stopped, IsOf, IsThrottled, Reaches};
 ghost use Rattle.mg_throttle.specs.Code.Kept.{AreByNode, AreListed, is_full_at};
 
 use crate::queue::Queue;
@@ -170,6 +171,10 @@ impl Limits {
         requires packets { packets + 1 < 2 ^ 64 }
         ensures noted { self.new ≡ record self.old { queues = noted self.old.queues edge packets } }
         ensures of { (plan : PlanRecord) → IsOf plan self.old → IsOf plan self.new }
+
+        // Whoever is let go reaches the consumer.
+        ensures let_go { (plan : PlanRecord) (f : Feeder) (e : EdgeRecord) → IsOf plan self.old → slice_get plan.edges edge ≡ Some e
+            → IsThrottled plan self.old f → ¬ IsThrottled plan self.new f → Reaches plan f e.node }
     {
         let queue = self.queues[edge as usize];
         let noted = Queue {
@@ -205,6 +210,22 @@ impl Limits {
             → (result ≡ false) ↔ IsThrottled plan self.now f }
     {
         self.counts[feeder as usize] == 0
+    }
+
+    /// The first feeder from a number on that reaches a node and isn't throttled. Behind a call that let feeders go, since a queue of
+    /// the node is full no more, these are the ones that it let go. It looks at a word for each 64 feeders, and at those of the words in
+    /// which some reach the node.
+    pub fn next_feeder(&self, node: u32, from: usize) -> Option<usize>
+        requires { node < length self.now.reached }
+        ensures place { IfSome result (λ number. (from ≤ number) × (number < self.now.feeders)) }
+        ensures found { IfSome result (λ number. (plan : PlanRecord) (f : Feeder) → IsOf plan self.now → slice_get (feeders plan) number ≡ Some f
+            → Reaches plan f node × ¬ IsThrottled plan self.now f) }
+        ensures first { IfSome result (λ number. (plan : PlanRecord) (before : ℕ) (f : Feeder) → IsOf plan self.now → slice_get (feeders plan) before ≡ Some f
+            → from ≤ before → before < number → Reaches plan f node → IsThrottled plan self.now f) }
+        ensures none { IfNone result ((plan : PlanRecord) (number : ℕ) (f : Feeder) → IsOf plan self.now → slice_get (feeders plan) number ≡ Some f
+            → from ≤ number → Reaches plan f node → IsThrottled plan self.now f) }
+    {
+        self.rows[node as usize].uncounted(&self.counts, from)
     }
 
     /// Relaxes the limits: that of each full queue becomes its length and one more. Tells whether there was one. It looks once at each

@@ -1,7 +1,7 @@
 //! Marks in a row, as words of 64 bits.
 
-ghost use Rattle.std.specs.Prelude.{◌≡◌, ℕ, ◌+◌, ◌*◌, ◌^◌, ◌<◌, ◌≤◌, false, true, length, replicate, slice_set, slice_index, slice_index_or, bit_or, IfOk};
-ghost use Rattle.mg_throttle.specs.Code.Rows.{Joins, Changes, bit_in, is_marked};
+ghost use Rattle.std.specs.Prelude.{◌≡◌, ℕ, ◌+◌, ◌*◌, ◌^◌, ◌<◌, ◌≤◌, false, true, length, replicate, slice_set, slice_index, slice_index_or, bit_or, IfOk, MatchOption};
+ghost use Rattle.mg_throttle.specs.Code.Rows.{Joins, Changes, bit_in, is_marked, is_uncounted, NoneFrom, IsFirstFrom};
 
 use std::alloc::{AllocError, Global};
 use std::marker::Model;
@@ -55,6 +55,22 @@ fn change_word(counts: &mut [usize], word: u64, first: usize, more: usize, less:
     }
 }
 
+// The first place from a number on whose bit is set in a word, from another place on, and whose count is 0.
+fn uncounted_in(counts: &[usize], word: u64, first: usize, from: usize) -> Option<usize>
+    requires { first < 2 ^ 60 }
+    ensures { MatchOption result (NoneFrom (is_uncounted (bit_in word first) counts.now) from (length counts.now))
+        (IsFirstFrom (is_uncounted (bit_in word first) counts.now) from (length counts.now)) }
+{
+    for place in from.max(first)..counts.len().min(first + 64) {
+        let is_set = word >> (place - first) & 1 == 1;
+        let is_zero = counts[place] == 0;
+        if is_set & is_zero {
+            return Some(place);
+        }
+    }
+    None
+}
+
 impl Row {
     /// So many places, none of which is marked.
     pub(crate) fn new(alloc: Global, len: usize) -> Result<Row, AllocError>
@@ -103,5 +119,23 @@ impl Row {
                 change_word(counts, word, k * 64, more, less);
             }
         }
+    }
+    /// The first marked place from a number on whose count is 0. It looks at a word for each 64 places, and at the places of the words
+    /// that have marks.
+    pub(crate) fn uncounted(&self, counts: &[usize], from: usize) -> Option<usize>
+        requires { length counts.now ≡ length self.now }
+        ensures { MatchOption result (NoneFrom (is_uncounted (is_marked self.now) counts.now) from (length counts.now))
+            (IsFirstFrom (is_uncounted (is_marked self.now) counts.now) from (length counts.now)) }
+    {
+        for k in from / 64..self.words.len() {
+            let word = self.words[k];
+            if word == 0 {
+                continue;
+            }
+            if let Some(place) = uncounted_in(counts, word, k * 64, from) {
+                return Some(place);
+            }
+        }
+        None
     }
 }

@@ -1,5 +1,5 @@
 -- Rows of marks, as words of 64 bits.
-use Rattle.std.specs.Prelude.{◌≡◌, ℕ, ◌+◌, ◌-◌, ◌/◌, ◌%◌, ◌^◌, ◌<◌, ◌≤◌, ◌==◌, ◌||◌, ◌&&◌, nat_lt, nat_le, Bool, false, List, length, map, slice_index, slice_index_or, if◌then◌else◌}
+use Rattle.std.specs.Prelude.{◌≡◌, ℕ, ◌+◌, ◌-◌, ◌/◌, ◌%◌, ◌^◌, ◌<◌, ◌≤◌, ◌==◌, ◌||◌, ◌&&◌, nat_lt, nat_le, Bool, true, false, List, length, map, slice_index, slice_index_or, if◌then◌else◌}
 use Rattle.std.specs.List.{range_with_len}
 use Rattle.std.specs.Int.{bit_at}
 
@@ -43,3 +43,18 @@ pub record ChangesBelow (test : ℕ → Bool) (more less place : ℕ) (old new :
   pub len : length new ≡ length old
   pub changed : (k : ℕ) → k < place → k < length old → slice_index new k + part (test k) less ≡ slice_index old k + part (test k) more
   pub kept : (k : ℕ) → place ≤ k → slice_index new k ≡ slice_index old k
+
+-- nothing passes a test from a place on, below an end
+abbrev pub NoneFrom : (ℕ → Bool) → ℕ → ℕ → Type 0
+NoneFrom test from end = (k : ℕ) → from ≤ k → k < end → test k ≡ false
+
+-- the first place from one on, below an end, that passes a test
+pub record IsFirstFrom (test : ℕ → Bool) (from end place : ℕ) : Type 0 where
+  pub above : from ≤ place
+  pub below : place < end
+  pub passes : test place ≡ true
+  pub none : NoneFrom test from place
+
+-- a place passes a test, and what is counted there is 0
+abbrev pub is_uncounted : (ℕ → Bool) → List ℕ → ℕ → Bool
+is_uncounted test counts k = test k && (slice_index counts k == 0)

@@ -1,6 +1,9 @@
 use Rattle.mg_crew.proofs.Levelled.{at_work_still, works_on}
 use Rattle.mg_crew.proofs.serving.work.Goals as goal
 
+pub work_at-came-requires-clause-at_work : goal.work_at-came-requires-clause-at_work
+work_at-came-requires-clause-at_work g c = record { shared = c.requires.at_work.shared; fits = c.requires.at_work.fits; placed = c.tell_others.ensures.place }
+
 pub note_worked-requires-clause-at_work : goal.note_worked-requires-clause-at_work
 note_worked-requires-clause-at_work g c = at_work_still _ _ _ _ _ _ c.requires.at_work c.work_at-came.ensures
 

@@ -1,6 +1,7 @@
 use Rattle.std.proofs.Common.{ap, length, arith}
 use Rattle.mg_throttle.proofs.Counts.{whole, View-noted, IsOf-noted}
 use Rattle.mg_throttle.proofs.Listing.{listed_noted, listed_same}
+use Rattle.mg_throttle.proofs.Firsts.{let_go_reaches}
 use Rattle.mg_throttle.proofs.Pressing.{IsKept-changed, IsKept-unchanged, still_full}
 use Rattle.mg_throttle.proofs.limits.Limits.note.Goals as goal
 
@@ -45,3 +46,9 @@ pub returns-else-was-is-clause-of : goal.returns-else-was-is-clause-of
 returns-else-was-is-clause-of c =
     let same = ap (λ t. length t.queues) c.self.view_is in
     IsOf-noted c.self.inside.queues.items c.self.inside.rows.items _ _ c.args.edge c.args.packets c.index.result.now c.self.view_is (omega arith) c.index.ensures
+
+pub returns-then-was-is-clause-let_go : goal.returns-then-was-is-clause-let_go
+returns-then-was-is-clause-let_go c = let_go_reaches c.self.inside.queues.items c.self.inside.rows.items _ _ c.args.edge c.args.packets c.index.result.now c.self.view_is
+
+pub returns-else-was-is-clause-let_go : goal.returns-else-was-is-clause-let_go
+returns-else-was-is-clause-let_go c = let_go_reaches c.self.inside.queues.items c.self.inside.rows.items _ _ c.args.edge c.args.packets c.index.result.now c.self.view_is
