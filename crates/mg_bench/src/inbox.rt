@@ -3,11 +3,11 @@
 
 ghost use Rattle.std.specs.Prelude.{◌≡◌, ◌<◌, length, OnOk};
 
+use crate::words::number;
 use mg_policy::Inbox;
 use mg_time::Timestamp;
 use mg_value::{InputSet, Packet, Payload, Policy};
 use std::alloc::{AllocError, Global};
-use std::env;
 use std::sync::Arc;
 use std::test::Fail;
 
@@ -21,37 +21,41 @@ struct Load {
 
 /// Reads how much is wanted, and tells how many sets were claimed.
 pub fn run(rt: &HostRuntime) -> Result<u64, Fail> {
-    let Some(load) = load_of(rt) else {
-        return Err(Fail::from("three numbers are wanted"));
-    };
-    let count = claimed(rt.alloc(), load)?;
+    let ports = number(rt, 1)?;
+    let sets = number(rt, 2)?;
+    let waiting = number(rt, 3)?;
+    let count = claimed(
+        rt.alloc(),
+        Load {
+            ports,
+            sets,
+            waiting,
+        },
+    )?;
     Ok(u64::from(count))
-}
-
-// The three numbers after the program's name.
-fn load_of(rt: &HostRuntime) -> Option<Load> {
-    let mut numbers = env::args(rt).ok()?.skip(1);
-    let ports = numbers.next()?.parse().ok()?;
-    let sets = numbers.next()?.parse().ok()?;
-    let waiting = numbers.next()?.parse().ok()?;
-    Some(Load {
-        ports,
-        sets,
-        waiting,
-    })
 }
 
 // How many sets were claimed.
 fn claimed(alloc: Global, load: Load) -> Result<u32, AllocError> {
-    let mut inbox = Inbox::new(alloc, load.ports, Policy::Default)?;
-    let mut set = InputSet::new(alloc, load.ports)?;
     let payload = Arc::new(alloc, Payload::Int(7))?;
-    let first = fill(&mut inbox, load, &payload)?;
+    let mut inbox = Inbox::new(alloc, load.ports, Policy::Default)?;
+    claimed_of(alloc, &mut inbox, load, &payload)
+}
+
+// How many sets were claimed of an inbox.
+fn claimed_of(
+    alloc: Global,
+    inbox: &mut Inbox,
+    load: Load,
+    payload: &Arc<Payload>,
+) -> Result<u32, AllocError>
+    requires { length inbox.old.pool.ports ≡ load.ports }
+{
+    let first = fill(inbox, load, payload)?;
+    let mut set = InputSet::new(alloc, load.ports)?;
     let mut count: u32 = 0;
     for turn in 0..load.sets {
-        for port in first..load.ports {
-            put(&mut inbox, port, i64::from(turn), &payload)?;
-        }
+        put_all(inbox, first, load.ports, i64::from(turn), payload)?;
         if inbox.claim(&mut set) {
             count = count.saturating_add(1);
         }
@@ -72,6 +76,23 @@ fn fill(inbox: &mut Inbox, load: Load, payload: &Arc<Payload>) -> Result<u32, Al
         put(inbox, 0, i64::from(u32::MAX) + i64::from(turn), payload)?;
     }
     Ok(1)
+}
+
+// Puts a packet at each port of the inbox from a first one on.
+fn put_all(
+    inbox: &mut Inbox,
+    first: u32,
+    ports: u32,
+    at: i64,
+    payload: &Arc<Payload>,
+) -> Result<(), AllocError>
+    requires { length inbox.old.pool.ports ≡ ports }
+    ensures { length inbox.new.pool.ports ≡ length inbox.old.pool.ports }
+{
+    for port in first..ports {
+        put(inbox, port, at, payload)?;
+    }
+    Ok(())
 }
 
 // Puts a packet at a port of the inbox.

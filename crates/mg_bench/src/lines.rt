@@ -1,11 +1,11 @@
 //! Packet lines are read batch by batch, and each packet is written again as a line of the stream `out`.
 
-use mg_calc::Inputs;
+use mg_calc::{Inputs, Plan};
 use mg_edge::{ReaderSource, Sink, Source, WriterSink};
 use mg_feed::{BatchEnd, Feed, FeedEnd, LineWriter, put_all};
 use mg_nets::plan_of;
 use mg_value::{MgText, Packet};
-use std::alloc::Global;
+use std::alloc::{AllocError, Global};
 use std::test::Fail;
 
 /// How many lines are read at once.
@@ -16,95 +16,102 @@ const BLOCK: usize = 1 << 16;
 
 /// Where the lines go: each is put at the end of a text, which is written whenever it has a block.
 #[derive(Drop)]
-struct Output<K> {
+struct Output {
     writer: LineWriter,
     text: Vec<u8>,
-    sink: K,
 }
 
 /// Reads standard input to its end.
 pub fn run(rt: &HostRuntime) -> Result<(), Fail> {
     let mut feed = feed_of(rt.alloc())?;
-    let mut source = ReaderSource::new(rt.stdin());
-    match copy(
-        rt.alloc(),
-        &mut feed,
-        &mut source,
-        WriterSink::new(rt.stdout()),
-    ) {
+    let copied = copied(rt, &mut feed);
+    drop(feed);
+    match copied {
         Some(()) => Ok(()),
         None => Err(Fail::from("a line or a device failed")),
     }
 }
 
-// Copies the packets of all lines.
-fn copy<S: Source, K: Sink + Drop>(
-    alloc: Global,
-    feed: &mut Feed,
-    source: &mut S,
-    sink: K,
-) -> Option<()> {
-    let mut output = output_of(alloc, sink)?;
-    copy_batches(feed, source, &mut output)?;
-    flush(&mut output)
+// Copies the packets of standard input to standard output.
+fn copied(rt: &HostRuntime, feed: &mut Feed) -> Option<()> {
+    let mut output = output_of(rt.alloc()).ok()?;
+    let mut source = ReaderSource::new(rt.stdin());
+    let mut sink = WriterSink::new(rt.stdout());
+    copy(feed, &mut source, &mut output, &mut sink)
+}
+
+fn output_of(alloc: Global) -> Result<Output, AllocError> {
+    let name = MgText::new(alloc, "out")?;
+    let writer = LineWriter::new(alloc, &name)?;
+    let text = Vec::new(alloc);
+    Ok(Output { writer, text })
 }
 
 // The feed of a graph with one input.
 fn feed_of(alloc: Global) -> Result<Feed, Fail> {
     let plan = plan_of(alloc, graph())?;
-    Ok(Feed::new(alloc, &plan)?)
+    let feed = feed_over(alloc, &plan);
+    drop(plan);
+    feed
 }
 
 fn graph() -> &'static str {
     r#"input_stream: "in" output_stream: "out" node { calculator: "PassThroughCalculator" input_stream: "in" output_stream: "out" }"#
 }
 
-fn output_of<K: Sink + Drop>(alloc: Global, sink: K) -> Option<Output<K>> {
-    let name = MgText::new(alloc, "out").ok()?;
-    let writer = LineWriter::new(alloc, &name).ok()?;
-    let text = Vec::new(alloc);
-    Some(Output { writer, text, sink })
+// The feed of a plan.
+fn feed_over(alloc: Global, plan: &Plan) -> Result<Feed, Fail> {
+    Ok(Feed::new(alloc, plan)?)
 }
 
-// Copies batch after batch, up to the end of the source.
-fn copy_batches<S: Source, K: Sink>(
+// Copies the packets of all lines, batch after batch, up to the end of the source.
+fn copy<S: Source, K: Sink>(
     feed: &mut Feed,
     source: &mut S,
-    output: &mut Output<K>,
+    output: &mut Output,
+    sink: &mut K,
 ) -> Option<()> {
     for _ in 0..u64::MAX {
         let end = feed.read_batch(source, BATCH);
-        put_inputs(&feed.take_inputs(false).ok()?, output)?;
+        put_batch(feed, output, sink)?;
         match end {
             BatchEnd::More => {}
-            BatchEnd::End(FeedEnd::Ended) => return Some(()),
+            BatchEnd::End(FeedEnd::Ended) => return flush(output, sink),
             BatchEnd::End(_) => return None,
         }
     }
     None
 }
 
+// Puts out what a feed has accepted.
+fn put_batch<K: Sink>(feed: &mut Feed, output: &mut Output, sink: &mut K) -> Option<()> {
+    match feed.take_inputs(false) {
+        Ok(inputs) => put_inputs(&inputs, output, sink),
+        Err(_) => None,
+    }
+}
+
 // Puts out the packets of the first input.
-fn put_inputs<K: Sink>(inputs: &Inputs, output: &mut Output<K>) -> Option<()> {
+fn put_inputs<K: Sink>(inputs: &Inputs, output: &mut Output, sink: &mut K) -> Option<()> {
     let prefix = inputs.streams.get(0)?;
     for packet in prefix.packets.as_slice() {
-        put(packet, output)?;
+        put(packet, output, sink)?;
     }
     Some(())
 }
 
 // Puts out a packet.
-fn put<K: Sink>(packet: &Packet, output: &mut Output<K>) -> Option<()> {
+fn put<K: Sink>(packet: &Packet, output: &mut Output, sink: &mut K) -> Option<()> {
     output.writer.push_line(&mut output.text, packet).ok()?;
     if output.text.len() < BLOCK {
         return Some(());
     }
-    flush(output)
+    flush(output, sink)
 }
 
 // Writes what wasn't written yet.
-fn flush<K: Sink>(output: &mut Output<K>) -> Option<()> {
-    if !put_all(&mut output.sink, output.text.as_slice()) {
+fn flush<K: Sink>(output: &mut Output, sink: &mut K) -> Option<()> {
+    if !put_all(sink, output.text.as_slice()) {
         return None;
     }
     output.text.clear();

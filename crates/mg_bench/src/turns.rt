@@ -9,16 +9,14 @@ ghost use Rattle.mg_workers.specs.Shared.{IsShared};
 ghost use Rattle.mg_nets.specs.Driven.{IsDriven};
 
 use crate::chain::chain;
+use crate::words::{is, number, word};
 use mg_calc::{Effect, Event};
-use mg_nets::{Driver, act, driver_of};
+use mg_nets::{Driver, act};
 use mg_node::Outcome;
 use mg_route::LawBox;
-use mg_seats::{
-    Shared, append, claim, commit, performed, raise, run as run_sets, shared_net, shelve,
-};
+use mg_seats::{append, claim, commit, performed, raise, run as run_sets, shared_net, shelve};
 use mg_turns::{NetSeat, SharedNet};
 use std::alloc::Global;
-use std::env;
 use std::test::Fail;
 
 /// What is to be measured.
@@ -26,7 +24,6 @@ use std::test::Fail;
 struct Load {
     rounds: u32,
     sets: u32,
-    shared: bool,
     calls: String,
 }
 
@@ -39,58 +36,66 @@ struct Claims {
 
 /// Reads what is wanted, and tells how much was done: works that were committed, and deliveries and raises that changed something.
 pub fn run(rt: &HostRuntime) -> Result<u64, Fail> {
-    let Some(load) = load_of(rt) else {
-        return Err(Fail::from("two numbers and two words are wanted"));
-    };
-    let alloc = rt.alloc();
-    let packets = load.rounds.saturating_mul(load.sets).saturating_add(1);
-    let graph = chain(alloc, 1, packets, 1_000_000)?;
-    let driver = driver_of(alloc, &graph, "")?;
-    if load.shared {
-        by_seat(alloc, driver, &load)
-    } else {
-        by_net(driver, &load)
-    }
+    let load = load_of(rt)?;
+    served(rt, &load)
 }
 
 // The words after the word `turns`: rounds, sets, `seat` or `net`, and the calls of a round.
-fn load_of(rt: &HostRuntime) -> Option<Load> {
-    let mut words = env::args(rt).ok()?.skip(2);
-    let rounds = words.next()?.parse().ok()?;
-    let sets = words.next()?.parse().ok()?;
-    let shared = words.next()?.as_str() == "seat";
-    let calls = words.next()?;
-    Some(Load {
-        rounds,
-        sets,
-        shared,
-        calls,
-    })
+fn load_of(rt: &HostRuntime) -> Result<Load, Fail> {
+    let rounds = number(rt, 2)?;
+    let sets = number(rt, 3)?;
+    match word(rt, 5) {
+        Some(calls) => Ok(Load {
+            rounds,
+            sets,
+            calls,
+        }),
+        None => Err(Fail::from("the calls of a round are missing")),
+    }
+}
+
+// So many rounds, by one seat or by the net alone.
+fn served(rt: &HostRuntime, load: &Load) -> Result<u64, Fail> {
+    let packets = load.rounds.saturating_mul(load.sets).saturating_add(1);
+    let driver = chain(rt.alloc(), 1, packets, 1_000_000)?;
+    if is(rt, 4, "seat") {
+        by_seat(rt.alloc(), driver, load)
+    } else {
+        by_net(driver, load)
+    }
 }
 
 // By one seat.
 fn by_seat(alloc: Global, driver: Driver, load: &Load) -> Result<u64, Fail>
     requires { IsDriven driver.plan driver.inputs driver.net }
 {
-    let Driver { net, .. } = driver;
-    let shared = shared_net(alloc, net)?;
-    match rounds_by_seat(alloc, shared, load) {
+    let Driver { plan, inputs, net } = driver;
+    drop(plan);
+    drop(inputs);
+    let mut shared = shared_net(alloc, net)?;
+    let done = rounds_by_seat(alloc, &shared.net, &mut shared.seat, load);
+    drop(shared);
+    match done {
         Some(done) => Ok(done),
         None => Err(Fail::from("a call came to nothing")),
     }
 }
 
 // All rounds.
-fn rounds_by_seat(alloc: Global, shared: Shared, load: &Load) -> Option<u64>
-    requires { IsShared shared.net shared.seat }
+fn rounds_by_seat(
+    alloc: Global,
+    net: &SharedNet<LawBox>,
+    seat: &mut NetSeat<LawBox>,
+    load: &Load,
+) -> Option<u64>
+    requires { IsShared net.now seat.old }
 {
-    let Shared { net, mut seat, .. } = shared;
     if net.nodes() != 2 {
         return None;
     }
     let mut done = 0_u64;
     for _ in 0..load.rounds {
-        let more = round_by_seat(alloc, &net, &mut seat, load)?;
+        let more = round_by_seat(alloc, net, seat, load)?;
         done = done.saturating_add(more);
     }
     Some(done)
@@ -169,7 +174,10 @@ fn find_nothing(net: &SharedNet<LawBox>, seat: &mut NetSeat<LawBox>) -> Option<u
     ensures shared { OnSome result (IsShared net.now seat.new) }
 {
     match claim(net, seat, 1) {
-        Ok(_) => None,
+        Ok(work) => {
+            drop(work);
+            None
+        }
         Err(_) => Some(0),
     }
 }
@@ -211,10 +219,19 @@ fn by_net(driver: Driver, load: &Load) -> Result<u64, Fail>
     requires { IsDriven driver.plan driver.inputs driver.net }
 {
     let mut driver = driver;
+    let done = rounds_by_net(&mut driver, load);
+    drop(driver);
+    done
+}
+
+// All rounds.
+fn rounds_by_net(driver: &mut Driver, load: &Load) -> Result<u64, Fail>
+    requires { IsDriven driver.old.plan driver.old.inputs driver.old.net }
+{
     let mut claims = Claims { source: 0, node: 0 };
     let mut done = 0_u64;
     for _ in 0..load.rounds {
-        let more = round_by_net(&mut driver, &mut claims, load)?;
+        let more = round_by_net(driver, &mut claims, load)?;
         done = done.saturating_add(more);
     }
     Ok(done)

@@ -2,7 +2,7 @@ use denote.Param.Send.{IsSend, sendable}
 use Rattle.mg_route.proofs.Sent.{law_box}
 use Rattle.mg_route.specs.contracts.law_box.LawBox as LawBox
 use Rattle.mg_nets.proofs.Driving.{still_driven}
-use Rattle.mg_bench.proofs.workers.worked.Goals as goal
+use Rattle.mg_bench.proofs.chain.worked.Goals as goal
 
 calculator : IsSend (LawBox.the_field).row
 calculator = search (law_box, sendable) depth 40 fits 50000

@@ -1,0 +1,33 @@
+//! The words of the command line.
+
+use std::env;
+use std::test::Fail;
+
+/// The word at a place behind the program's name, which stands at 0.
+pub fn word(rt: &HostRuntime, place: usize) -> Option<String> {
+    env::args(rt).ok()?.nth(place)
+}
+
+/// Whether the word at a place is this one.
+pub fn is(rt: &HostRuntime, place: usize, wanted: &str) -> bool {
+    match word(rt, place) {
+        Some(word) => word.as_str() == wanted,
+        None => false,
+    }
+}
+
+/// The number at a place.
+pub fn number(rt: &HostRuntime, place: usize) -> Result<u32, Fail> {
+    match word(rt, place) {
+        Some(word) => number_of(&word),
+        None => Err(Fail::from("a number is missing")),
+    }
+}
+
+// The number that a word is.
+fn number_of(word: &str) -> Result<u32, Fail> {
+    match word.parse() {
+        Ok(number) => Ok(number),
+        Err(_) => Err(Fail::from("a word is no number")),
+    }
+}
