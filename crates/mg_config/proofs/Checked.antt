@@ -66,7 +66,7 @@ one_judged kind fs i f inside same own clear =
 pub all_judged : (kind : Message) (fs : List Field) (i : ℕ) → length fs ≤ i → left_from kind fs i ≡ None
 all_judged kind fs i past = ap (λ es. fault_after (fields_of es) kind (map field_view (take i fs))) (none_after fs i past)
 
--- the same, by what the code knows
+-- where the reading of a list of fields stands, in the values that the code has
 pub record IsAt (kind : Message) (fs : List Field) (i : ℕ) (f : Field) (rule : Option FieldRule) (before : List Field) : Type 0 where
   pub inside : i < length fs
   pub field : f ≡ get_or fs i f

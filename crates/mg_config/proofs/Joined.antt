@@ -6,16 +6,12 @@ use Rattle.mg_text.specs.Tree.{Fields, none, append}
 use Rattle.mg_text.specs.declared.tree.Field.{Field}
 use Rattle.mg_text.specs.declared.tree.Tree.{Tree}
 use Rattle.mg_text.specs.declared.tree.TreeValue as values
-use Rattle.mg_text.specs.View.{Value, simple, inner, Entry, put, fields_of, field_view, value_view, fields_view, view}
-use Rattle.mg_text.proofs.Views.{field-record, value-message}
+use Rattle.mg_text.specs.View.{Entry, put, fields_of, field_view, value_view, fields_view, view}
+use Rattle.mg_text.proofs.Views.{put-append, field-record, value-message}
 use Rattle.mg_text.proofs.Appending.{append_none, append_fields_assoc}
 use Rattle.mg_config.specs.Values.{fields_of_value}
 use Rattle.mg_config.specs.Config.{is_option, options_in}
 use Rattle.mg_config.proofs.Lists.{rest_of, none_after}
-
-put-append : (n : List ℕ) (v : Value) (a b : Fields) → append (put n v a) b ≡ put n v (append a b)
-put-append n (simple k s) a b = refl
-put-append n (inner x) a b = refl
 
 pub fields_of-append : (a b : List Entry) → fields_of (a ++ b) ≡ append (fields_of a) (fields_of b)
 fields_of-append [] b = refl
@@ -67,7 +63,7 @@ none_of (f ∷ fs) absent =
     let apart = or_parts (is_option (field_view f)) (list_any (λ f. is_option (field_view f)) fs) absent in
     options_cons (field_view f) (map field_view fs) false apart.0 ∙ none_of fs apart.1
 
--- one message that has all options
+-- where one field has all options, its message is them
 pub joined_only : (fs : List Field) (i : ℕ) (d : Field) (tree : Tree) → i < length fs → d ≡ get_or fs i d → is_option (field_view d) ≡ true → AreJoined fs i none
     → d.value ≡ values.Message tree → list_any (λ f. is_option (field_view f)) (drop (i + 1) fs) ≡ false → view tree ≡ options_in (map field_view fs)
 joined_only fs i d tree inside same here at value alone =

@@ -46,3 +46,7 @@ entries-of (e ∷ es) = entries-put e.name e.value (fields_of es) ∙ ap (λ es.
 
 pub entries_view : (fs : List Field) → entries (fields_view fs) ≡ map field_view fs
 entries_view fs = entries-of (map field_view fs)
+
+-- the entries of a field's message, in the fields that the code has of it
+pub entries_within : (field : Field) (own : List Field) → fields_view own ≡ fields_of_value (value_view field.value) → entries (fields_of_value (value_view field.value)) ≡ map field_view own
+entries_within field own same = ap entries (sym same) ∙ entries_view own

@@ -8,7 +8,7 @@ use Rattle.mg_config.specs.Path.{numbered, result_within, then_do}
 use Rattle.mg_config.specs.Config.{mark_in, kept, marks_from}
 use Rattle.mg_config.specs.declared.mark.Mark.{Mark}
 use Rattle.mg_config.specs.declared.fault.ConfigFault.{ConfigFault}
-use Rattle.mg_config.proofs.Loops.{messages_from, messages_here, messages_skip, messages_end, entries_view}
+use Rattle.mg_config.proofs.Loops.{messages_from, messages_here, messages_skip, messages_end, entries_within}
 
 abbrev pub info_name : List ℕ
 info_name = codes "input_stream_info"
@@ -45,16 +45,13 @@ mark_fails k fields more marks fault read =
     ap (λ r. then_do (then_do r (λ mark. then_do (marks_from (suc k) more) (λ marks. Ok (kept (truth_in (codes "back_edge") (entries fields)) mark marks)))) (λ more. Ok (marks ++ more))) read
 
 -- the fields of a message
-info_is : (d : Field) (info : List Field) → fields_view info ≡ fields_of_value (value_view d.value) → entries (fields_of_value (value_view d.value)) ≡ map field_view info
-info_is d info e = ap entries (sym e) ∙ entries_view info
-
 pub marked_more : (fs : List Field) (i k next : ℕ) (d : Field) (info : List Field) (marks made : List Mark) (mark : Mark) (back : Bool) → i < length fs → d ≡ get_or fs i d
     → has_name info_name (field_view d) ≡ true → IsMarked fs i k marks → fields_view info ≡ fields_of_value (value_view d.value)
     → result_within (numbered info_name k) (mark_in (map field_view info)) ≡ Ok mark → back ≡ truth_in (codes "back_edge") (map field_view info)
     → made ≡ marks ++ kept back mark [] → next ≡ k + 1 → IsMarked fs (i + 1) next made
 marked_more fs i k next d info marks made mark back inside same here at view read truth is count =
     let own = fields_of_value (value_view d.value) in
-    let e : entries own ≡ map field_view info = info_is d info view in
+    let e : entries own ≡ map field_view info = entries_within d info view in
     let s : next ≡ suc k = omega arith in
     record {
       whole = at.whole ∙ ap (λ ms. then_do (marks_from k ms) (λ more. Ok (marks ++ more))) (messages_here info_name fs i d inside same here)
@@ -78,7 +75,7 @@ pub marked_fault : (fs : List Field) (i k : ℕ) (d : Field) (info : List Field)
 marked_fault fs i k d info marks fault inside same here at view read =
     let own = fields_of_value (value_view d.value) in
     at.whole ∙ ap (λ ms. then_do (marks_from k ms) (λ more. Ok (marks ++ more))) (messages_here info_name fs i d inside same here)
-    ∙ mark_fails k own (messages_from info_name fs (i + 1)) marks fault (ap (λ es. result_within (numbered info_name k) (mark_in es)) (info_is d info view) ∙ read)
+    ∙ mark_fails k own (messages_from info_name fs (i + 1)) marks fault (ap (λ es. result_within (numbered info_name k) (mark_in es)) (entries_within d info view) ∙ read)
 
 pub marked_all : (fs : List Field) (i k : ℕ) (marks : List Mark) → length fs ≤ i → IsMarked fs i k marks → all_marks fs ≡ Ok marks
 marked_all fs i k marks past at =

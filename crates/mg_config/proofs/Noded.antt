@@ -10,7 +10,7 @@ use Rattle.mg_config.specs.Config.{NodeView, node_view, node_of, nodes_from}
 use Rattle.mg_config.specs.declared.node.NodeConfig.{NodeConfig}
 use Rattle.mg_config.specs.declared.fault.ConfigFault.{ConfigFault}
 use Rattle.mg_config.proofs.Named.{node_name}
-use Rattle.mg_config.proofs.Loops.{messages_from, messages_here, messages_skip, messages_end, entries_view}
+use Rattle.mg_config.proofs.Loops.{messages_from, messages_here, messages_skip, messages_end, entries_within}
 
 abbrev pub all_nodes : List Field → Result (List NodeView) ConfigFault
 all_nodes fs = nodes_from 0 (messages_in node_name (map field_view fs))
@@ -42,9 +42,6 @@ node_fails : (k : ℕ) (fields : Fields) (more : List Fields) (nodes : List Node
 node_fails k fields more nodes fault read =
     ap (λ r. then_do (then_do r (λ node. then_do (nodes_from (suc k) more) (λ nodes. Ok (node ∷ nodes)))) (λ more. Ok (nodes ++ more))) read
 
-fields_are : (d : Field) (own : List Field) → fields_view own ≡ fields_of_value (value_view d.value) → entries (fields_of_value (value_view d.value)) ≡ map field_view own
-fields_are d own e = ap entries (sym e) ∙ entries_view own
-
 pub nodes_more : (fs : List Field) (i k : ℕ) (d : Field) (own : List Field) (nodes made : List NodeConfig) (node : NodeConfig) → i < length fs → d ≡ get_or fs i d
     → has_name node_name (field_view d) ≡ true → AreNodes fs i k nodes → fields_view own ≡ fields_of_value (value_view d.value)
     → result_within (numbered node_name k) (node_of (map field_view own)) ≡ Ok (node_view node) → made ≡ nodes ++ node ∷ [] → AreNodes fs (i + 1) (k + 1) made
@@ -52,7 +49,7 @@ nodes_more fs i k d own nodes made node inside same here at view read is =
     let all = fields_of_value (value_view d.value) in
     record {
       whole = at.whole ∙ ap (λ ms. then_do (nodes_from k ms) (λ more. Ok (map node_view nodes ++ more))) (messages_here node_name fs i d inside same here)
-          ∙ node_then k all (messages_from node_name fs (i + 1)) (map node_view nodes) (node_view node) (ap (λ es. result_within (numbered node_name k) (node_of es)) (fields_are d own view) ∙ read)
+          ∙ node_then k all (messages_from node_name fs (i + 1)) (map node_view nodes) (node_view node) (ap (λ es. result_within (numbered node_name k) (node_of es)) (entries_within d own view) ∙ read)
           ∙ ap (λ ns. then_do (nodes_from (suc k) (messages_from node_name fs (i + 1))) (λ more. Ok (ns ++ more)))
           (sym (map-append node_view nodes (node ∷ [])) ∙ ap (map node_view) (sym is))
           ∙ ap (λ n. then_do (nodes_from n (messages_from node_name fs (i + 1))) (λ more. Ok (map node_view made ++ more))) (sym (add-one k));
@@ -72,7 +69,7 @@ pub nodes_fault : (fs : List Field) (i k : ℕ) (d : Field) (own : List Field) (
 nodes_fault fs i k d own nodes fault inside same here at view read =
     let all = fields_of_value (value_view d.value) in
     at.whole ∙ ap (λ ms. then_do (nodes_from k ms) (λ more. Ok (map node_view nodes ++ more))) (messages_here node_name fs i d inside same here)
-    ∙ node_fails k all (messages_from node_name fs (i + 1)) (map node_view nodes) fault (ap (λ es. result_within (numbered node_name k) (node_of es)) (fields_are d own view) ∙ read)
+    ∙ node_fails k all (messages_from node_name fs (i + 1)) (map node_view nodes) fault (ap (λ es. result_within (numbered node_name k) (node_of es)) (entries_within d own view) ∙ read)
 
 pub nodes_all : (fs : List Field) (i k : ℕ) (nodes : List NodeConfig) → length fs ≤ i → AreNodes fs i k nodes → all_nodes fs ≡ Ok (map node_view nodes)
 nodes_all fs i k nodes past at =

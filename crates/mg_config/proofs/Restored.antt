@@ -49,7 +49,7 @@ options_named none = refl
 options_named (scalar name kind bytes rest) = refl
 options_named (message name fields rest) = refl
 
--- and their values say what was written
+-- the values of the fields that were written say what was written
 pub text_back : (name text : List ℕ) → text_of_first (first (values (text_field name text))) ≡ text
 text_back name [] = refl
 text_back name (b ∷ text) = refl

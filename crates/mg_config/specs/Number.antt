@@ -9,7 +9,7 @@ use Rattle.std.specs.Str.Parse.{digits_value}
 abbrev pub digit_of : ℕ → ℕ → Option ℕ
 digit_of base byte = if is_digit byte base then Some (digit_value byte) else None
 
--- one digit of a base or more, and nothing else
+-- a text of digits of a base: at least one, and nothing else
 abbrev pub is_numeral : ℕ → List ℕ → Bool
 is_numeral base [] = false
 is_numeral base (first ∷ rest) = list_all (λ byte. is_digit byte base) (first ∷ rest)
@@ -42,7 +42,7 @@ long_number_of (first ∷ rest) =
     if first == 45 then option_map (λ n. neg_ℤ (pos n)) (magnitude (2 ^ 63) rest)
     else option_map (λ n. pos n) (magnitude (2 ^ 63 - 1) (first ∷ rest))
 
--- one of the words
+-- a text is one of some words
 abbrev pub is_one_of : List (List ℕ) → List ℕ → Bool
 is_one_of [] text = false
 is_one_of (word ∷ words) text = bytes_eq text word || is_one_of words text

@@ -41,7 +41,7 @@ pub struct NodeConfig {
     pub handler: MgText,
     /// How many input sets the node works on at once.
     pub max_in_flight: i32,
-    /// This has no effect.
+    /// A size of buffers that the graph's author hints at. It has no effect.
     pub buffer_size_hint: i32,
 }
 

@@ -132,7 +132,7 @@ fn graph_fields(alloc: Global, graph: &GraphConfig) -> Result<Vec<Field>, AllocE
 /// isn't written.
 pub fn write(alloc: Global, config: &GraphConfig) -> Result<Tree, AllocError>
     ensures tree { IfOk result (λ tree. view tree ≡ written.tree_of (graph_view config.now)) }
-    // They are read back as the configuration, and can be printed.
+    // The fields are read back as the configuration, and can be printed.
     ensures read_back { IfOk result (λ tree. IsSound (graph_view config.now) → config_of (view tree) ≡ Ok (graph_view config.now)) }
     ensures spelled { IfOk result (λ tree. IsSound (graph_view config.now) → IsPrintable (graph_view config.now) → AreSpelled (view tree)) }
     ensures shallow { IfOk result (λ tree. IsPrintable (graph_view config.now) → depth (view tree) ≤ max_depth) }

@@ -11,7 +11,7 @@ use Rattle.mg_edge.specs.declared.store.TheConstants.{MOST_LOADED}
 use Rattle.mg_edge.specs.declared.store.Loaded.{Loaded}
 use Rattle.mg_edge.specs.declared.store.Loaded.TheVariants.{Bytes as LoadedBytes, Failed as LoadFailed, OutOfMemory}
 
--- One more, up to the type's end.
+-- A count with one more, up to the end of its type.
 abbrev pub one_more : ℕ → ℕ
 one_more count = min (count + 1) (2 ^ 64 - 1)
 

@@ -25,7 +25,7 @@ abbrev pub whole_source : List ℕ → ℕ → List ℕ → SourceState
 whole_source bytes piece failing =
     record { left = bytes; piece = piece; failing = failing; reads = 0; ends = 0; faults = 0; left_at_fault = None }
 
--- It tells all that a source can tell.
+-- What a source in memory tells: all that a source can.
 abbrev pub source_told : SourceState → SourceTold
 source_told source = record {
   left = Some source.left;
@@ -70,7 +70,7 @@ abbrev pub slow_sink : ℕ → ℕ → List ℕ → SinkState
 slow_sink room most failing =
     record { taken = []; room = room; most = most; failing = failing; writes = 0; faults = 0 }
 
--- One that takes as many bytes at a write as there can be.
+-- A sink that has taken nothing yet, and takes as many bytes at a write as there can be.
 abbrev pub empty_sink : ℕ → List ℕ → SinkState
 empty_sink room failing = slow_sink room (2 ^ 64 - 1) failing
 

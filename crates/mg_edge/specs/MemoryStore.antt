@@ -33,7 +33,7 @@ last_failed store = option_map string_bytes store.failed_name
 abbrev pub store_faults : MemoryStore → ℕ
 store_faults store = store.faults
 
--- It tells all that a store can tell.
+-- What a store in memory tells: all that a store can.
 abbrev pub store_told : MemoryStore → StoreTold
 store_told store =
     record { content = λ name. Some (stored store name); failed_name = last_failed store; faults = store_faults store }

@@ -47,7 +47,7 @@ impl<R: Read + Drop> Source for ReaderSource<R> {
     }
 }
 
-// One read. One that a signal interrupted is tried again.
+// Reads once, and again where a signal interrupted the read.
 fn read_uninterrupted<R: Read>(reader: &mut R, buf: &mut [u8]) -> io::Result<usize>
     ensures bound { ReadsAtMost result buf.new }
     ensures bytes { ReadConsumes (R.remaining reader.old) (R.remaining reader.new) result buf.new }

@@ -40,7 +40,7 @@ impl<W: Write + Drop> Sink for WriterSink<W> {
     }
 }
 
-// One write. One that a signal interrupted is tried again.
+// Writes once, and again where a signal interrupted the write.
 fn write_uninterrupted<W: Write>(writer: &mut W, piece: &[u8]) -> io::Result<usize>
     ensures bound { WritesAtMost result piece.now }
     ensures bytes { WriteAppends (W.contents writer.old) (W.contents writer.new) result piece.now }

@@ -30,7 +30,8 @@ use Rattle.mg_kinds.specs.declared.kind.CalculatorKind.{CalculatorKind}
 use Rattle.mg_kinds.specs.declared.kind.CalculatorKind.TheVariants.{PassThrough, Gate, Mux, Cloner, Merge, Thinner, Sum, Map, Filter, Running, Shift, Counting, SideToStream, Constants, Loopback, FlowLimiter}
 use Rattle.mg_kinds.proofs.InOrder.{in_order-ascends, in_order-any, in_order-some, in_order-none}
 use Rattle.mg_kinds.proofs.InRow.{fits-row, one-tag}
-use Rattle.mg_kinds.proofs.Made.{made_by, mapped_by}
+use Rattle.mg_text.proofs.Choices.{mapped}
+use Rattle.mg_kinds.proofs.Made.{made_by}
 use Rattle.mg_kinds.proofs.InRange.{positive-least, timestamp-in-range, calls-most, flight-in-range}
 
 -- Ports.
@@ -62,7 +63,7 @@ is_rowed kind node ps e =
     let fit = from_zero (lanes_of kind node) (option_and_then (with_inputs kind node) (fitting node.inputs (inputs_of kind node))) ps e in
     let i = made_by (with_inputs kind node) (fitting node.inputs (inputs_of kind node)) ps fit.1 in
     let o = made_by (with_outputs kind node i.0) (fitting node.outputs (outputs_of kind node)) ps i.2 in
-    let s = mapped_by (λ sides. record { inputs = i.0; outputs = o.0; sides = sides }) (side_ports kind node) ps o.2 in
+    let s = mapped (λ sides. record { inputs = i.0; outputs = o.0; sides = sides }) (side_ports kind node) ps o.2 in
     let w = made_by (λ _. fitting node.input_sides (sides_of kind)) (fitting node.output_sides (side_outputs_of kind node)) s.0 s.1 in
     let inputs = fits-row node.inputs (inputs_of kind node) i.0 i.1 in
     let outputs = fits-row node.outputs (outputs_of kind node) o.0 o.1 in
@@ -123,7 +124,7 @@ control_text false = refl
 suits_gate : (node : NodeView) (options : List Entry) (name : List ℕ) (ps : Ports) (rule : Law) → IsRowed Gate node ps → gate_law node options ≡ Some rule → Suits name ps rule
 suits_gate node options name ps rule h e =
     let lanes = lanes_of Gate node in
-    let made = mapped_by (λ empty. law.Gate lanes (disallows node) empty) (truth_or_false (codes "empty_packets_as_allow") options) rule e in
+    let made = mapped (λ empty. law.Gate lanes (disallows node) empty) (truth_or_false (codes "empty_packets_as_allow") options) rule e in
     let control = ap (λ tag. ports [] lanes Any ++ (record { tag = tag; index = 0; kind = Flag } ∷ [])) (control_text (disallows node)) in
     subst (Suits name ps) made.2
     ((h.some, h.most), shaped name ps (law.Gate lanes (disallows node) made.0) (h.inputs ∙ control) (h.outputs ∙ append-nil (untagged lanes Any)) h.sides)
@@ -133,25 +134,25 @@ suits_thinner node options name ps rule h e = by (thins options) e
   where
     by : (t : Bool) → (if t then option_map law.Thin (positive_or_one (codes "period") options) else None) ≡ Some rule → Suits name ps rule
     by true e =
-        let made = mapped_by law.Thin (positive_or_one (codes "period") options) rule e in
+        let made = mapped law.Thin (positive_or_one (codes "period") options) rule e in
         subst (Suits name ps) made.2 (positive-least (codes "period") options made.0 made.1, shaped name ps (law.Thin made.0) h.inputs h.outputs h.sides)
     by false e = absurd (none-some rule e)
 
 suits_map : (node : NodeView) (options : List Entry) (name : List ℕ) (ps : Ports) (rule : Law) → IsRowed Map node ps → map_law options ≡ Some rule → Suits name ps rule
 suits_map node options name ps rule h e =
     let op = made_by (λ op. option_map (law.Map op) (number (codes "operand") options)) (required operation_in (set_to (codes "op") options)) rule e in
-    let made = mapped_by (law.Map op.0) (number (codes "operand") options) rule op.2 in
+    let made = mapped (law.Map op.0) (number (codes "operand") options) rule op.2 in
     subst (Suits name ps) made.2 (tt, shaped name ps (law.Map op.0 made.0) h.inputs h.outputs h.sides)
 
 suits_filter : (node : NodeView) (options : List Entry) (name : List ℕ) (ps : Ports) (rule : Law) → IsRowed Filter node ps → filter_law options ≡ Some rule → Suits name ps rule
 suits_filter node options name ps rule h e =
     let keep = made_by (λ keep. option_map (law.Filter keep) (truth_or_false (codes "raise_bound") options)) (required keep_in (set_to (codes "keep") options)) rule e in
-    let made = mapped_by (law.Filter keep.0) (truth_or_false (codes "raise_bound") options) rule keep.2 in
+    let made = mapped (law.Filter keep.0) (truth_or_false (codes "raise_bound") options) rule keep.2 in
     subst (Suits name ps) made.2 (tt, shaped name ps (law.Filter keep.0 made.0) h.inputs h.outputs h.sides)
 
 suits_shift : (node : NodeView) (options : List Entry) (name : List ℕ) (ps : Ports) (rule : Law) → IsRowed Shift node ps → shift_law options ≡ Some rule → Suits name ps rule
 suits_shift node options name ps rule h e =
-    let made = mapped_by law.Shift (number (codes "offset") options) rule e in
+    let made = mapped law.Shift (number (codes "offset") options) rule e in
     subst (Suits name ps) made.2 (tt, shaped name ps (law.Shift made.0) h.inputs h.outputs h.sides)
 
 suits_counting : (node : NodeView) (options : List Entry) (name : List ℕ) (ps : Ports) (rule : Law) → IsRowed Counting node ps → counting_law options ≡ Some rule → Suits name ps rule
@@ -162,7 +163,7 @@ suits_counting node options name ps rule h e =
     let count = made_by starts (required call_count counted) rule e in
     let value = made_by call_count counted count.0 count.1 in
     let start = made_by (steps count.0) (timestamp_or_zero (codes "start") options) rule count.2 in
-    let made = mapped_by (law.Count count.0 start.0) (positive_or_one (codes "step") options) rule start.2 in
+    let made = mapped (law.Count count.0 start.0) (positive_or_one (codes "step") options) rule start.2 in
     subst (Suits name ps) made.2 (
       (calls-most value.0 count.0 value.2, timestamp-in-range (codes "start") options start.0 start.1, positive-least (codes "step") options made.0 made.1),
       shaped name ps (law.Count count.0 start.0 made.0) h.inputs h.outputs h.sides,
@@ -170,7 +171,7 @@ suits_counting node options name ps rule h e =
 
 suits_limiter : (node : NodeView) (options : List Entry) (name : List ℕ) (ps : Ports) (rule : Law) → IsRowed FlowLimiter node ps → limiter_law options ≡ Some rule → Suits name ps rule
 suits_limiter node options name ps rule h e =
-    let made = mapped_by law.Limiter (flight_or_one (codes "max_in_flight") options) rule e in
+    let made = mapped law.Limiter (flight_or_one (codes "max_in_flight") options) rule e in
     subst (Suits name ps) made.2 (flight-in-range (codes "max_in_flight") options made.0 made.1, shaped name ps (law.Limiter made.0) h.inputs h.outputs h.sides)
 
 -- a MergeCalculator has the same ports with either handler
@@ -254,7 +255,7 @@ is_set kind node settings e =
         → IsSet kind node settings
     by options true e =
         let rule = made_by (λ rule. option_map (λ constants. record { law = rule; constants = constants }) (constants_with kind node options)) (law_with kind node options) settings e in
-        let made = mapped_by (λ constants. record { law = rule.0; constants = constants }) (constants_with kind node options) settings rule.2 in
+        let made = mapped (λ constants. record { law = rule.0; constants = constants }) (constants_with kind node options) settings rule.2 in
         record { options = options; rule = rule.1 ∙ ap (λ s. Some s.law) made.2; constants = made.1 ∙ ap (λ s. Some s.constants) made.2 }
     by options false e = absurd (none-some settings e)
 
@@ -276,7 +277,7 @@ payloads_length : (values : List Value) (payloads : List Plain) → payloads_in 
 payloads_length [] payloads e = ap length (sym (same_Some [] payloads e))
 payloads_length (value ∷ values) payloads e =
     let first = made_by (λ payload. option_map (λ payloads. payload ∷ payloads) (payloads_in values)) (payload_in value) payloads e in
-    let made = mapped_by (λ payloads. first.0 ∷ payloads) (payloads_in values) payloads first.2 in
+    let made = mapped (λ payloads. first.0 ∷ payloads) (payloads_in values) payloads first.2 in
     ap length (sym made.2) ∙ ap suc (payloads_length values made.0 made.1)
 
 constants_length : (kind : CalculatorKind) (node : NodeView) (options : List Entry) (constants : List Plain) → constants_with kind node options ≡ Some constants → length constants ≡ (side_outputs_of kind node).count
@@ -291,7 +292,7 @@ written_count : (kind : CalculatorKind) (node : NodeView) (ps : Ports) → kind_
 written_count PassThrough node ps fit = in_order-none node.output_sides (is_passed node ps fit).written
 written_count kind node ps fit = one-tag node.output_sides (side_outputs_of kind node) (side_last kind node) (is_rowed kind node ps fit).written
 
--- as many constants as side packets that are written
+-- the constants are as many as the side packets that the node writes
 pub kind-constants : (kind : CalculatorKind) (node : NodeView) (ps : Ports) (settings : SettingsView) → kind_ports kind node ≡ Some ps → kind_settings kind node ≡ Some settings
     → length (in_order node.output_sides) ≡ length settings.constants
 kind-constants kind node ps settings fit e =

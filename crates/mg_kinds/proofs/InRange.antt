@@ -12,7 +12,8 @@ use Rattle.mg_calc.specs.Values.{is_in_range}
 use Rattle.mg_kinds.specs.Options.{set_to}
 use Rattle.mg_kinds.specs.Values.{or_absent, between, number_between, highest, positive, timestamp_number, most_calls, natural, call_count, most_in_flight, flight_limit}
 use Rattle.mg_kinds.specs.Laws.{positive_or_one, timestamp_or_zero, flight_or_one}
-use Rattle.mg_kinds.proofs.Made.{made_by, mapped_by}
+use Rattle.mg_text.proofs.Choices.{mapped}
+use Rattle.mg_kinds.proofs.Made.{made_by}
 
 record IsBetween (low high n : ℤ) : Type 0 where
   from : int_le low n ≡ true
@@ -53,7 +54,7 @@ natural_most (negsuc n) most h = omega arith
 
 pub calls-most : (value : Value) (count : ℕ) → call_count value ≡ Some count → count ≤ 1000000
 calls-most value count e =
-    let made = mapped_by natural (number_between (pos 0) most_calls value) count e in
+    let made = mapped natural (number_between (pos 0) most_calls value) count e in
     let h = is_between (pos 0) most_calls value made.0 made.1 in
     subst (λ c. c ≤ 1000000) made.2 (natural_most made.0 1000000 h.upto)
 
@@ -63,7 +64,7 @@ natural_least (negsuc n) h = absurd (true≢false (sym h))
 
 flight_within : (value : Value) (most : ℕ) → flight_limit value ≡ Some most → (1 ≤ most) × (most ≤ 2147483647)
 flight_within value most e =
-    let made = mapped_by natural (number_between (pos 1) most_in_flight value) most e in
+    let made = mapped natural (number_between (pos 1) most_in_flight value) most e in
     let h = is_between (pos 1) most_in_flight value made.0 made.1 in
     subst (λ c. (1 ≤ c) × (c ≤ 2147483647)) made.2 (natural_least made.0 h.from, natural_most made.0 2147483647 h.upto)
 

@@ -29,7 +29,7 @@ AreAmong ps qs = AllByRecursion (λ p. Among p qs) ps
 not_equal : {o : Ordering} → o ≡ Less → o ≡ Equal → ⊥
 not_equal less equal = true≢false (ap is_eq (sym equal ∙ less))
 
--- one that stands before all of these isn't among them
+-- a port kind that stands before all of these isn't among them
 none_before : (p : PortKind) (qs : List PortKind) → IsBefore p qs → Among p qs → ⊥
 none_before p [] all h = h
 none_before p (q ∷ qs) all (inl e) = not_equal all.0 e

@@ -15,7 +15,7 @@ use Rattle.mg_kinds.specs.Ports.{port}
 pub has_place : (tag : List ℕ) (index : ℕ) (given : List Port) (found : Option ℕ) → found ≡ place_of tag index given → is_some found ≡ has_port tag index given
 has_place tag index given found is = ap is_some is ∙ sym (any_has_place (is_at tag index) given)
 
--- one port more of a tag
+-- the ports of a tag, with one port more
 pub one_more_port : (before out new : List PortKind) (tag : List ℕ) (kind : Kind) (i : ℕ) → new ≡ out ++ port tag kind i ∷ [] → out ≡ before ++ ports tag i kind
     → new ≡ before ++ ports tag (i + 1) kind
 one_more_port before out new tag kind i put known =

@@ -38,7 +38,7 @@ put_entry (e ∷ es) k v = by (key_cmp k e.0) (put_entry es k v)
     by Equal rest = refl
     by Greater rest = ap (λ l. entry_port e ∷ l) rest
 
--- one port more
+-- ports in order, with one port more put in
 pub put_port : {U : Type 0} (es new : List (Key × U)) (ps : List Port) (i : ℕ) (p : Port) (k : Key) (v : U) → i < length ps → slice_get ps i ≡ Some p → entry_port (k, v) ≡ any_port p
     → new ≡ insert_entry key_cmp es k v → map entry_port es ≡ in_order (take i ps) → map entry_port new ≡ in_order (take (i + 1) ps)
 put_port es new ps i p k v inside at same put known =

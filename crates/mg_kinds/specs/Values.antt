@@ -106,7 +106,7 @@ abbrev pub payload_in : Value → Option Plain
 payload_in (simple kind bytes) = None
 payload_in (inner fields) = payload_by (entries fields)
 
--- one of each of the values
+-- the payloads that some values say, one of each; none where a value says none
 abbrev pub payloads_in : List Value → Option (List Plain)
 payloads_in [] = Some []
 payloads_in (value ∷ values) = option_and_then (λ payload. option_map (λ payloads. payload ∷ payloads) (payloads_in values)) (payload_in value)

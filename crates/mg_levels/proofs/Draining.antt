@@ -22,7 +22,7 @@ nothing [] none = refl
 nothing (x ∷ xs) none = absurd (omega (arith, none))
 
 module _ (order : List ℕ) (v now : Share) (old new : List ℕ) where
-  -- as many are there as were there at first, less those that were taken out
+  -- what a level still holds is what it held at first without the places that were taken out
   pub left_then : (done count n : ℕ) → IsDraining done order v now old new → v.portion ≡ whole → Held count (Knows v) → Held n (Knows now) → done + n ≡ count
   left_then done count n d all first then =
       let portion : now.portion ≡ whole = ap (λ (s : Share). s.portion) d.now_is ∙ all in

@@ -81,7 +81,7 @@ at_view hands i d there =
 less_one : (n : ℕ) → 0 < n → n ≡ suc (n - 1)
 less_one n some_left = omega (arith, some_left)
 
--- the same of hands, at the level before one that was looked at
+-- a place is taken at the last level that has one, told of the hands of the code
 pub taken_now : (hands : List Hand) (new d : Hand) (old : List HandView) (place level : ℕ) → 0 < level → level - 1 < length hands → FoundEmptyFrom level old (views_in hands)
     → hand_view new ≡ took_from (hand_view (get_or hands (level - 1) d)) place → TookLast place old (views_in (set hands (level - 1) new))
 taken_now hands new d old place level some_left there later took =
@@ -143,7 +143,7 @@ module _ (n : ℕ) (first hands : List Hand) (i : ℕ) (d : Hand) (there : i < l
       ∙ mapped_more (λ (h : HandView). kept_hand h n) (views_in first) i (hand_view d) inside
       ∙ ap (λ m. map (λ (h : HandView). kept_hand h n) (take m (views_in first)) ++ drop m (views_in first)) (one_up i)
 
--- one hand more behind others
+-- the identities of some hands are the first of a list; with one hand more they are one more of them
 pub ids_more : {X Z : Type 0} (f : X → Z) (ids : List Z) (xs : List X) (x : X) (i : ℕ) (d : Z) → map f xs ≡ take i ids → i < length ids → f x ≡ get_or ids i d → map f (xs ++ x ∷ []) ≡ take (i + 1) ids
 ids_more f ids xs x i d same there is =
     map-append f xs (x ∷ []) ∙ ap (λ l. l ++ f x ∷ []) same ∙ ap (λ z. take i ids ++ z ∷ []) is ∙ sym (take_more ids i d there)

@@ -180,7 +180,7 @@ pub even_set : (hands : List Hand) (i : ℕ) (new d : Hand) (p : ℕ) → new.pa
 even_set hands i new d p same even =
     map-set_same (λ (h : Hand). h.pass.me.0.client.portion) hands i new d same ∙ even ∙ ap (λ n. replicate n p) (sym (length-set hands i new))
 
--- and where all do
+-- the portions stay even where each hand keeps its own
 pub even_still : (hands now : List Hand) (p : ℕ) → portions_in now ≡ portions_in hands → portions_in hands ≡ replicate (length hands) p → portions_in now ≡ replicate (length now) p
 even_still hands now p same even =
     same ∙ even ∙ ap (λ n. replicate n p) (sym (length-map hands (λ (h : Hand). h.pass.me.0.client.portion)) ∙ sym (ap length same) ∙ length-map now (λ (h : Hand). h.pass.me.0.client.portion))
@@ -211,7 +211,7 @@ even_joined (x ∷ xs) (y ∷ ys) (n ∷ ns) p q long is xs_even ys_even =
     let tail = even_joined xs ys ns p q (omega (arith, long)) (ap rest_of is) (ap rest_of xs_even) (ap rest_of ys_even) in
     λ i. head i ∷ tail i
 
--- and where a part of each is handed over
+-- the portions stay even where each hand gives away the same amount
 pub even_cut : (xs now : List Hand) (p amount : ℕ) → views_in now ≡ map (λ (h : HandView). kept_hand h amount) (views_in xs) → portions_in xs ≡ replicate (length xs) p
     → portions_in now ≡ replicate (length now) (p - amount)
 unfolding rest_of

@@ -28,7 +28,7 @@ queue_id q = q.table.shared.table_id
 abbrev pub share_of : HandView → Share
 share_of h = share h.portion h.put h.taken
 
--- one more, up to the greatest number of 64 bits
+-- a count with one more, up to the greatest number of 64 bits
 abbrev pub more : ℕ → ℕ
 more n = min (n + 1) 18446744073709551615
 

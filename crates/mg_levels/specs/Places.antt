@@ -7,7 +7,7 @@ use Rattle.mg_levels.specs.Hands.{HandView, took_from, FoundEmpty}
 abbrev pub node_of : List ℕ → ℕ → ℕ
 node_of order place = slice_index order (place % length order)
 
--- one for a number, and none for any other
+-- 1 where two numbers are equal, and 0 otherwise
 abbrev pub once : ℕ → ℕ → ℕ
 once x y = if y == x then 1 else 0
 

@@ -16,7 +16,7 @@ use std::sync::Wait;
 /// A level's queue of places.
 pub(crate) type Queue = RuledArrayQueue<u32, Share, Balance>;
 
-/// One more, up to the greatest number.
+/// A count with one more, up to the greatest number.
 fn one_more(count: u64) -> u64
     ensures { result ≡ min (count + 1) (2 ^ 64 - 1) }
 {

@@ -1,5 +1,5 @@
 -- Loopbacks that stand for prefixes of MAIN and LOOP with a number of answers given.
-use Rattle.std.proofs.Common.{◌≡◌, ℕ, zero, suc, ◌+◌, ◌<◌, ◌≤◌, true, false, inl, inr, List, [], ◌∷◌, ◌++◌, take, drop, length, length-drop, length-take, drop-drop, All, Option, Some, None, is_some, option_map, unwrap_or, slice_get, IsSomeAnd, ltb, ap, subst, sym, refl, ◌∙◌, arith}
+use Rattle.std.proofs.Common.{◌≡◌, ℕ, zero, suc, ◌+◌, ◌<◌, ◌≤◌, true, false, inl, inr, List, [], ◌∷◌, ◌++◌, take, drop, length, length-take, All, Option, Some, None, is_some, option_map, unwrap_or, slice_get, IsSomeAnd, ltb, ap, subst, sym, refl, ◌∙◌, arith}
 use Rattle.std.specs.Prelude.{if◌then◌else◌}
 use Rattle.std.specs.List.{prefix_len, filter_map}
 use Rattle.std.proofs.lemmas.Bool.{cases_Bool, le-ltb, lt-ltb}
@@ -12,8 +12,8 @@ use Rattle.mg_value.proofs.PrefixSteps.{empty_is_prefix}
 use Rattle.mg_value.proofs.Climbs.{Climbs, prefix-climbs}
 use Rattle.mg_value.proofs.Leaving.{packet_at-drop}
 use Rattle.mg_value.proofs.LoopbackStream.{length-replies, replies-stay, replies-most}
-use Rattle.mg_stream.specs.Queue.{Waiting, StandsFor, empty_queue, popped}
-use Rattle.mg_stream.proofs.QueueSteps.{stands_like}
+use Rattle.mg_stream.specs.Queue.{Waiting, StandsFor, empty_queue}
+use Rattle.mg_stream.proofs.QueueSteps.{stands_like, stands_without_first}
 use Rattle.mg_loopback.specs.Loopback.{Held, value_at, next_reply, without, replied, reached, IsFresh, IsAsFar}
 use Rattle.mg_loopback.specs.Standing.{time_before, StandsAfter, after_replies}
 use Rattle.mg_loopback.proofs.Turns.{before, first_reply, get-reply, before-time}
@@ -94,15 +94,6 @@ climbs-next {X} a b (suc zero) u (p ∷ q ∷ qs) m h before here =
     omega (arith, first, second, up)
 climbs-next a b (suc (suc k)) u (p ∷ ps) m h before here = climbs-next (p.at + 1) b (suc k) u ps m h.1 before here
 
--- one more packet of MAIN is gone
-stands_popped_first : {X : Type 0} (q : Waiting X) (s : StreamPrefix X) → 0 < length q.packets → StandsFor q s → StandsFor (popped q) s
-stands_popped_first {X} q s waits h = record {
-  prefix = h.prefix;
-  gone = omega (arith, waits, ap length h.waiting, length-drop q.gone s.packets);
-  waiting = ap (λ (l : List (Stamped X)). drop 1 l) h.waiting ∙ drop-drop 1 q.gone s.packets;
-  bound = h.bound;
-}
-
 pub stands_left : {X : Type 0} (o : Option ℕ) (q : Waiting X) (s : StreamPrefix X) → StandsFor q s → StandsFor (without o q) s
 stands_left None q s h = h
 stands_left (Some t) q s h = stands_without t q s h
@@ -120,7 +111,7 @@ replied_at {X} k held main loop m h first more =
     let here : slice_get main.packets k ≡ Some m = sym (get-drop k main.packets) ∙ sym (ap (λ (ps : List (Stamped X)). slice_get ps 0) (h.at_main.waiting ∙ ap (λ (n : ℕ). drop n main.packets) h.gone)) ∙ first in
     let waits : 0 < length held.main.packets = some_within 0 held.main.packets (ap (λ (o : Option (Stamped X)). is_some o) first) in
     record {
-      at_main = stands_popped_first held.main main waits h.at_main;
+      at_main = stands_without_first held.main main waits h.at_main;
       at_loop = stands_left held.previous held.loop loop h.at_loop;
       gone = (let gone = h.gone in omega (arith, gone));
       answered = omega (arith, more);

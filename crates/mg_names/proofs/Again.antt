@@ -197,7 +197,7 @@ named_count before again text port name same read good =
     ∙ (ap (λ n. n + (if is_untagged text then 1 else 0)) same
     ∙ (ap (λ b. count_by is_untagged again + (if b then 1 else 0)) (sym here ∙ there) ∙ sym (counted_push again (text_of other))))
 
--- so are all of them
+-- texts with other names are read back as the ports with these names, all of them
 pub named_again : (texts before again : List (List ℕ)) (ports : List Port) (names : List (List ℕ)) → count_by is_untagged before ≡ count_by is_untagged again
     → ports_after before texts ≡ Ok ports → list_all is_name names ≡ true → ports_after again (map text_of (with_names ports names)) ≡ Ok (with_names ports names)
 named_again [] before again [] names same made good = refl

@@ -100,7 +100,7 @@ placed_ok place (Ok first) value made =
     ap Ok same
 placed_ok place (Err cause) value made = cc
 
--- one text more
+-- the ports of texts, with the next text read
 ports_cons : (before : List (List ℕ)) (text : List ℕ) (rest : List (List ℕ)) (port : Port) (made : List Port) → port_after before text ≡ Ok port
     → after (ports_after before (text ∷ rest)) (λ more. Ok (made ++ more)) ≡ after (ports_after (before ++ text ∷ []) rest) (λ more. Ok ((made ++ port ∷ []) ++ more))
 ports_cons before text rest port made read =
@@ -175,7 +175,7 @@ read_more texts i untagged count text port made all inside same so_far read empt
         omega arith
     at_most false few room counted = omega arith
 
--- it spells none
+-- a text that spells no port is the first refusal
 pub read_refused : (texts : List (List ℕ)) (i untagged : ℕ) (text : List ℕ) (refusal : PlacedFault) (made : List Port) → i < length texts → text ≡ get_or texts i text
     → IsRead texts i made untagged → placed_at i (port_at untagged text) ≡ Err refusal → ports_after [] texts ≡ Err refusal
 read_refused texts i untagged text refusal made inside same so_far read =

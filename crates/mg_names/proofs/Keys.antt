@@ -62,7 +62,7 @@ slots_put bs m n w index place updates slots cs at =
     ap (λ o. slot_of (option_map (λ s. s.items) o) at) found
     ∙ slots_by (bytes_eq cs bs) w (at_bytes m cs) index place at (λ yes. slots at ∙ ap (λ l. if at == index then Some place else slots_at m l at) (sym ((bytes_eq-Decides cs bs).0 yes)))
 
--- the same, where the tag had none: the key is a copy of the tag's bytes
+-- a place is kept of a tag that had none before: the key is a copy of the tag's bytes
 pub slots_put_first : {A B : Type 0} (bs tag : List ℕ) (m before n : BTreeMap (Vec ℕ A) (Vec (Option ℕ) B)) (none : List (Option ℕ)) (w : Vec (Option ℕ) B) (index place : ℕ)
     → bs ≡ tag → m ≡ before → none ≡ []
     → None ≡ at_bytes before tag

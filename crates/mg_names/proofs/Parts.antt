@@ -32,7 +32,7 @@ parts_from_colon text colon found =
     let whole : slice_split is_colon text ≡ take (position_or_len is_colon text) text ∷ slice_split is_colon (drop (position_or_len is_colon text + 1) text) = slice_split_first is_colon text 0 here in
     rw at at whole
 
--- the same, as the code cuts
+-- the parts of a text with a colon, by the two pieces that the code cuts
 pub parts_when_cut : (text tag rest : List ℕ) (colon : ℕ) → position is_colon text ≡ Some colon → tag ≡ take colon text → rest ≡ drop colon text
     → (1 ≤ length rest) × (parts_of text ≡ tag ∷ parts_of (take (length rest - 1) (drop 1 rest)))
 parts_when_cut text tag rest colon found front back =

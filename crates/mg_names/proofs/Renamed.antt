@@ -14,7 +14,7 @@ length-with_names [] names = refl
 length-with_names (port ∷ ports) [] = refl
 length-with_names (port ∷ ports) (name ∷ names) = ap suc (length-with_names ports names)
 
--- one name more, where a port is left and where none is
+-- to take one name more is to rename the port at its place
 pub named_here : (ports : List Port) (names : List (List ℕ)) (name : List ℕ) (d : Port) → length names < length ports
     → with_names ports (names ++ name ∷ []) ≡ slice_set (with_names ports names) (length names) (record (slice_index_or (with_names ports names) (length names) d) { name = name })
 named_here [] names name d inside = refl
@@ -22,7 +22,7 @@ named_here (port ∷ []) [] name d inside = refl
 named_here (port ∷ other ∷ ports) [] name d inside = refl
 named_here (port ∷ ports) (first ∷ names) name d inside = ap (λ l. record port { name = first } ∷ l) (named_here ports names name d (omega arith))
 
--- the same by a count of the names so far
+-- to take one name more, where a count tells how many were taken
 pub named_next : (start ports : List Port) (names : List (List ℕ)) (name : List ℕ) (d : Port) (i : ℕ) → ports ≡ with_names start names → i ≡ min (length names) (length ports) → i < length ports
     → slice_set ports i (record (slice_index_or ports i d) { name = name }) ≡ with_names start (names ++ name ∷ [])
 named_next start ports names name d i named counted inside =

@@ -51,7 +51,7 @@ regroup false true true d = refl
 regroup false true false d = refl
 regroup false false c d = refl
 
--- one port more stands twice if those before did, or have its tag and index
+-- with one port more a tag and index stand twice if they did before, or if a port before has those of the new one
 pub twice_push : (ports : List Port) (port : Port) → stands_twice (ports ++ port ∷ []) ≡ (stands_twice ports || has_port port.tag port.index ports)
 twice_push [] port = refl
 twice_push (first ∷ ports) port =
@@ -114,7 +114,7 @@ take_port ports i port inside here = take_more ports i port inside ∙ ap (λ p.
 no_place : (ports : List Port) (i : ℕ) (port : Port) (places : Places) → IsTable ports i places → has_port port.tag port.index (take i ports) ≡ is_some (kept_place places port.tag port.index)
 no_place ports i port places table = any_has_place (is_at port.tag port.index) (take i ports) ∙ ap is_some (sym (table.kept port.tag port.index))
 
--- one port more, whose tag and index have no place yet
+-- the table stands for one port more, of whose tag and index it had no place
 pub table_more : (ports : List Port) (i : ℕ) (port : Port) (old new : Places) → i < length ports → port ≡ get_or ports i port → IsTable ports i old
     → is_some (kept_place old port.tag port.index) ≡ false
     → ((tag : List ℕ) (index : ℕ) → kept_place new tag index ≡ (if bytes_eq tag port.tag && index == port.index then Some i else kept_place old tag index))

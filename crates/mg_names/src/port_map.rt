@@ -57,7 +57,7 @@ impl PortMap {
         Ok(PortMap::read_placed(alloc, texts)?)
     }
 
-    /// The same, where a refusal tells the place of the text that is refused.
+    /// Reads the ports of some texts like `read`; a refusal tells the place of the text that is refused.
     pub fn read_placed(alloc: Global, texts: &[MgText]) -> Result<PortMap, PlacedFault>
         ensures ok { IfOk result (λ map. placed_ports_of texts.now ≡ Ok map) }
         ensures err { IfErr result (λ fault. fault ≢ PlacedFault.OutOfMemory → placed_ports_of texts.now ≡ Err fault) }

@@ -41,11 +41,11 @@ pub taken_driven : (plan : Plan) (inputs : Inputs) (took : Bool) (set set_now : 
     → ((job : LoggedJob) → StandsFor job before → StandsFor job now) → IsDriven plan inputs now
 taken_driven plan inputs took set set_now before now d t keeps = still_driven plan inputs before now d (takes_run took set set_now before now d.running t) keeps
 
--- nor do packets that are given up
+-- to give up packets ends no node
 pub trimmed_driven : (plan : Plan) (inputs : Inputs) (before now : NetView) → IsDriven plan inputs before → Trims before now → ((job : LoggedJob) → StandsFor job before → StandsFor job now) → IsDriven plan inputs now
 trimmed_driven plan inputs before now d t keeps = still_driven plan inputs before now d (subst IsRunning (sym t.parts) d.running) keeps
 
--- it may be wound up
+-- a net that is driven may be wound up
 pub may_wind_up : (plan : Plan) (inputs : Inputs) (net : NetView) → IsDriven plan inputs net → MayWindUp net
 unfolding StandsFor
 may_wind_up plan inputs net d =

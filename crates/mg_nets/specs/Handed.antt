@@ -21,7 +21,7 @@ tally_shape = record {
 abbrev pub tally_outer : OuterShape
 tally_outer = record { shape = tally_shape; law = Tally }
 
--- one that had no call
+-- what such a calculator tells before its first call
 abbrev pub new_tally : CalculatorTold
 new_tally = record { law = Tally; shape = tally_shape; state = []; log = Some [] }
 

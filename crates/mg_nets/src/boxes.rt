@@ -1,26 +1,13 @@
 //! The calculators that are handed in.
 ghost use Rattle.std.specs.Prelude.{◌≡◌, [], IfOk};
-ghost use Rattle.mg_calc.specs.Shape.{untagged};
 ghost use Rattle.mg_nets.specs.Handed.{tally_shape, tally_outer, new_tally, two_outers, two_tallies};
 
-use mg_calc::{Law, OuterShape, PortKind, PortKindList, Shape};
+use mg_calc::{Law, OuterShape, PortKindList, Shape};
+use mg_plans::port;
 use mg_route::LawBox;
 use mg_value::{BlockList, Kind, MgText};
 use std::alloc::Global;
 use std::test::Fail;
-
-// One untagged port of a kind.
-fn port(alloc: Global, kind: Kind) -> Result<PortKindList, Fail>
-    ensures { IfOk result (λ ports. ports ≡ untagged 1 kind) }
-{
-    let tag = MgText::new(alloc, "")?;
-    let port = PortKind {
-        tag,
-        index: 0,
-        kind,
-    };
-    Ok(BlockList::from_vec(vec![in alloc; port]?)?)
-}
 
 fn no_ports(alloc: Global) -> Result<PortKindList, Fail>
     ensures { IfOk result (λ ports. ports ≡ []) }

@@ -14,7 +14,7 @@ fn next(number: u64) -> u64 {
         .wrapping_add(1442695040888963407)
 }
 
-// One of so many places, by the higher half of a number.
+// A place below a number of places, picked by the higher half of a drawn number.
 fn place_of(number: u64, places: u32) -> u32 {
     if places == 0 {
         return 0;
@@ -27,7 +27,7 @@ impl Chance {
         Chance { number: next(seed) }
     }
 
-    /// One of so many places.
+    /// Draws a place below a number of places.
     pub fn below(&mut self, places: u32) -> u32 {
         self.number = next(self.number);
         place_of(self.number, places)

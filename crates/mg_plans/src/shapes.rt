@@ -8,7 +8,7 @@ use mg_value::{Kind, MgText};
 use std::alloc::Global;
 use std::test::Fail;
 
-/// One untagged port of a kind.
+/// An untagged port of a kind.
 pub fn port(alloc: Global, kind: Kind) -> Result<PortKindList, Fail>
     ensures { IfOk result (λ ports. ports ≡ untagged 1 kind) }
 {

@@ -59,7 +59,7 @@ tells_close policy qs h none ended = is_over policy qs h none ended
 pub tells_not_ready : (policy : Policy) (qs : List (Waiting Plain)) → All IsPrefix (rests qs) → first_set_time policy (rests qs) ≡ None → (reach policy (rests qs) ≡ done → ⊥) → Tells policy NotReady qs
 tells_not_ready policy qs h none further = (ap (λ (es : List (TimedSet Plain)). slice_get es 0) (no_next policy qs h none), (λ over. further over.closed))
 
--- Of whole streams --
+-- Told of whole streams --
 
 slice_get-drop : {Y : Type 0} (k : ℕ) (ys : List Y) → slice_get (drop k ys) 0 ≡ slice_get ys k
 slice_get-drop zero [] = refl

@@ -15,7 +15,7 @@ use Rattle.mg_policy.specs.Code.Taking.{dropped_through}
 abbrev pub taken : {X : Type 0} → ℕ → Backlog X → Backlog X
 taken at b = backlog_of (dropped_through at (queue_of 0 b))
 
--- so many go, and the others are left
+-- the packets that go and those that are left are all packets together
 few_go : {X : Type 0} (f : X → Bool) (xs : List X) → length (drop (prefix_len f xs) xs) + prefix_len f xs ≡ length xs
 few_go f [] = refl
 few_go {X} f (x ∷ xs) = elim (cases_Bool (f x)) [

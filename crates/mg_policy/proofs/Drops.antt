@@ -5,7 +5,6 @@ use Rattle.std.proofs.lemmas.Bool.{cases_order, ne_eqb, le-ltb, le-leb, lt-leb}
 use Rattle.std.proofs.lemmas.List.{set-set}
 use Rattle.mg_value.specs.Prefix.{Stamped, IsPrefix}
 use Rattle.mg_value.specs.Settled.{packet_at}
-use Rattle.mg_value.specs.FirstSet.{front_at as first_at}
 use Rattle.mg_value.proofs.Fronts.{one_more}
 use Rattle.mg_value.proofs.Climbs.{Climbs, prefix-climbs}
 use Rattle.mg_value.proofs.FirstSets.{found-first}
@@ -83,8 +82,4 @@ through_time t q h = through t 0 q.bound q.gone q.bound q.spare q.packets (prefi
 
 -- what stands first then is the packet at that time
 pub front_through : {X : Type 0} (t : ℕ) (q : Waiting X) → IsPrefix (rest_of q) → front_at t (dropped_before t q).packets ≡ packet_at t q.packets
-front_through {X} t q h = same (drop (prefix_len (λ (p : Stamped X). ltb p.at t) q.packets) q.packets) ∙ sym (found-first t 0 q.bound q.packets (prefix-climbs (rest_of q) h))
-  where
-    same : (ps : List (Stamped X)) → front_at t ps ≡ first_at t ps
-    same [] = refl
-    same (p ∷ ps) = refl
+front_through t q h = sym (found-first t 0 q.bound q.packets (prefix-climbs (rest_of q) h))

@@ -48,8 +48,8 @@ pub record StandAfter (policy : Policy) (k : ℕ) (qs : List (Waiting Plain)) (s
   pub each : AllZip StandsFor qs ss
   pub gone : AreGone policy k ss (map (λ q. q.gone) qs)
 
--- some prefixes have a settled set behind so many first ones: it stands at a time below the bounds that the policy asks
--- for, and shows these packets
+-- behind their first settled sets, a number of them, some prefixes have a further one: at this time, which is below the bounds that the
+-- policy asks for, and with these packets
 pub record ShowsNext (policy : Policy) (k : ℕ) (ss : List (StreamPrefix Plain)) (at : ℕ) (set : List (Option (Stamped Plain))) : Type 0 where
   pub next : slice_get (settled_sets policy ss) k ≡ Some (record { at = at; set = set })
   pub below : IsBelowBounds policy ss at

@@ -155,7 +155,7 @@ impl Inbox {
     /// bound. Under Mux this looks at the packets of SELECT that are settled, and otherwise once at each port.
     pub fn low(&self) -> Timestamp
         ensures low { result ≡ reach self.now.policy (rests (queues_of self.now.pool)) }
-        // It is the reach of all that came.
+        // The answer is the reach of all that came.
         ensures whole { (k : ℕ) (ss : List (StreamPrefix Plain)) → StandAfter self.now.policy k (queues_of self.now.pool) ss → result ≡ reach self.now.policy ss }
     {
         reach_of(&self.pool, self.policy)

@@ -11,7 +11,7 @@ IsIn-out order is_in after p node only inside is_after (q, has) =
     let out : get_or after p false ≡ false = rw is_after (get_or-set_same is_in p false false inside) in
     false≢true (sym out ∙ subst (λ k. get_or after k false ≡ true) (only q has.within has.node_at) has.there)
 
--- one place fewer is in then
+-- once a place is taken out, fewer are in
 pub count_by-out : (is_in after : List Bool) (p : ℕ) → p < length is_in → get_or is_in p false ≡ true → after ≡ slice_set is_in p false
     → count_by (λ b. b) after < count_by (λ b. b) is_in
 count_by-out is_in after p inside there is_after =

@@ -33,7 +33,7 @@ kept places words p other old within found =
       ];
     }
 
--- and loses it where none is
+-- a bucket loses its mark once none of its places is in
 cleared : (places : List Bool) (words less : List ℕ) (p : ℕ) → IsMarked places words → p < length places
     → IsEmptyIn (slice_set places p false) (p / 32) → bit_of less (p / 32) ≡ 0 → ChangesBit words less (p / 32)
     → IsMarked (slice_set places p false) less
@@ -52,7 +52,7 @@ cleared places words less p old within empty clear changes =
       ];
     }
 
--- the same of what is in after a place is taken out
+-- a bucket keeps its mark where a place is taken out and another one of it is in
 pub IsMarked-kept : (places after : List Bool) (words : List ℕ) (p other : ℕ) → after ≡ slice_set places p false → IsMarked places words
     → p < length places → IsGreatestIn after (p / 32) other → IsMarked after words
 IsMarked-kept places after words p other is_after old within found =

@@ -47,7 +47,7 @@ fn top_of(places: u32) -> usize
     (places as usize).div_ceil(BUCKET) * STRIDE
 }
 
-// So many places that are out.
+// Marks for this many places, all of which are out.
 fn all_out(alloc: Global, places: u32) -> Result<Vec<bool>, AllocError>
     ensures { IfOk result (λ v. v.items ≡ replicate places false) }
 {
@@ -81,7 +81,7 @@ fn links_down(alloc: Global, top: usize) -> Result<Vec<usize>, AllocError>
 }
 
 impl Links {
-    /// So many places, none of which is in.
+    /// A set over this many places, in which none is.
     pub(crate) fn new(alloc: Global, places: u32) -> Result<Links, AllocError>
         ensures { IfOk result (λ l. l ≡ replicate places false) }
     {

@@ -29,7 +29,7 @@ impl Model for Places {
     ghost invariant = { λ p. IsMarked p.links p.words.items };
 }
 
-// So many words of no bits.
+// This many words without a bit.
 fn no_bits(alloc: Global, words: usize) -> Result<Vec<u64>, AllocError>
     ensures { IfOk result (λ v. v.items ≡ replicate words 0) }
 {
@@ -37,7 +37,7 @@ fn no_bits(alloc: Global, words: usize) -> Result<Vec<u64>, AllocError>
 }
 
 impl Places {
-    /// So many places, none of which is in.
+    /// A set over this many places, in which none is.
     pub(crate) fn new(alloc: Global, places: u32) -> Result<Places, AllocError>
         ensures { IfOk result (λ p. p ≡ replicate places false) }
     {

@@ -68,7 +68,7 @@ has_claimed {X} net before now result work node h of is tried lawful = record {
   node = node_within (key_of net) work h.some (is_lawful (key_of net) result work is lawful);
 }
 
--- and one that got none has none
+-- a seat whose claim gave no work has none
 pub has_none : {X : Type 0} {g : Ghosts X} (net : SharedNet X) (before now : NetSeat X g) (answer : Claimed X) (node : ℕ) → IsShared net before → IsSeatOf net now
     → has_after answer (view_of before).work ≡ (view_of before).work → HasClaimed answer node (view_of before) (view_of now) → IsShared net now
 has_none net before now result node h of same tried = stays_free net before now h of (ap (λ (v : View). v.work) tried.left ∙ same)

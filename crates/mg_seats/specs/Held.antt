@@ -11,7 +11,7 @@ pub record HasOutputs (count : ℕ) (net : NetView) : Type 0 where
   pub stands : StandsForSome net
   pub outputs : length net.plan.outputs ≡ count
 
--- such a net came apart into what is shared and what is kept aside
+-- a net that stands for some job and has this many outputs came apart into what is shared and what is kept aside
 pub record CameOf (count : ℕ) (key : FrameView) (kept : KeptView) : Type 0 where
   pub before : NetView
   pub has : HasOutputs count before

@@ -59,7 +59,7 @@ stands_like q r s like h = record {
   bound = like.bound ∙ h.bound;
 }
 
--- the same, for the fields as the code leaves them
+-- a packet is appended to a queue, told of its fields as the code leaves them
 pub appended_fields : {X : Type 0} (q r : Waiting X) (p : Stamped X) → r.gone ≡ q.gone → r.packets ≡ q.packets ++ p ∷ [] → r.bound ≡ next p.at → MayCome q p.at → IsQueue q → IsQueue r
 appended_fields {X} q r p gone packets bound may h =
     let to : IsQueue (with_packet q p) = appended_queue q p may h in

@@ -1,9 +1,10 @@
 -- A queue holds the packets of a stream that wait at one input, after the page Synchronization of the MediaPipe
 -- framework. Definitions see how many packets are gone, the list that waits, the bound, and for how many more packets
 -- there is room.
-use Rattle.std.specs.Prelude.{◌≡◌, ℕ, ◌+◌, ◌≤◌, List, [], ◌∷◌, ◌++◌, length, drop, max, Option, Some, None, is_some, ◌==◌, if◌then◌else◌}
+use Rattle.std.specs.Prelude.{◌≡◌, ℕ, ◌+◌, ◌≤◌, List, [], ◌∷◌, ◌++◌, length, drop, max, is_some, if◌then◌else◌}
 use Rattle.mg_time.specs.Time.{pre_stream, post_stream, IsAllowed, next}
 use Rattle.mg_value.specs.Prefix.{Stamped, StreamPrefix, IsPrefix}
+pub use Rattle.mg_value.specs.FirstSet.{front_at}
 
 -- a queue
 pub record Waiting (X : Type 0) : Type 0 where
@@ -51,11 +52,6 @@ with_packet q p = record q { packets = q.packets ++ p ∷ []; bound = next p.at 
 -- a queue raised to a bound
 abbrev pub raised_to : {X : Type 0} → Waiting X → ℕ → Waiting X
 raised_to q b = record q { bound = max q.bound b }
-
--- the first of some packets, where it stands at a time
-abbrev pub front_at : {X : Type 0} → ℕ → List (Stamped X) → Option (Stamped X)
-front_at t [] = None
-front_at t (p ∷ ps) = if p.at == t then Some p else None
 
 -- a queue whose first packet is gone, which leaves room for another
 abbrev pub popped : {X : Type 0} → Waiting X → Waiting X

@@ -208,7 +208,7 @@ impl Queue {
     }
 }
 
-// The same packets once more, whose payloads are shared.
+// Copies of some packets, which share their payloads.
 fn shared(alloc: Global, packets: &VecDeque<Packet>) -> Result<VecDeque<Packet>, AllocError>
     ensures { IfOk result (λ ps. ps.items ≡ packets.now.items) }
 {

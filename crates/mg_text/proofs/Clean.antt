@@ -20,7 +20,7 @@ use Rattle.mg_text.specs.declared.state.Inside.TheVariants.{Plain, Escape, Secon
 use Rattle.mg_text.specs.Byte.{IsTail, byte, class_of, is_octal, joins, lead, follow, whole as no_tail}
 use Rattle.mg_text.specs.Tree.{Fields}
 use Rattle.mg_text.specs.Grammar as g
-use Rattle.mg_text.specs.Grammar.{Stands, Gives, Apart, Place, start, named, valued, opened, element, behind, joined, after, scalar_slot, message_slot, piece_slot, list_slot, list_ends, opening, closing, quote_class, in_line, is_separator}
+use Rattle.mg_text.specs.Grammar.{Place, start, named, valued, opened, element, behind, joined, after, scalar_slot, message_slot, piece_slot}
 use Rattle.mg_text.specs.Code.Machine.{Spot, at, comment, naming, token, piece, Frame, State, moves, moved, settled, settled_place, with_scalar, opens_at, closes_at, closes_with, resumed, same_mark, colon_spot, comma_spot, semicolon_spot, bracket_spot, list_end_spot, token_spot, letter_spot, quote_spot, step_settled, step_at, comment_spot, awaits, step_naming, step_token, inside_next, is_closing_quote, goes_on, piece_spot, digit_onto, plain_next, escape_next, step_spot, step, run, name_next, scalar_next, is_whole_name, is_whole_scalar, kind_of}
 use Rattle.mg_text.proofs.Choices.{from_if, some_same, mapped}
 use Rattle.mg_text.proofs.ByteValues.{beyond_class, octal_digit, first_octal_digit}
@@ -225,19 +225,19 @@ next_token_clean s n slot part bytes x b None e i h =
 abbrev KeepsChars : Inside → List ℕ → Inside × List ℕ → Type 0
 KeepsChars i bytes n = IsCleanInside i bytes → IsCleanInside n.0 (bytes ++ n.1)
 
-piece_ascii : (q : Quote) (x : Class) → g.in_piece q x ≡ true → x ≡ Beyond → ⊥
-piece_ascii Single Beyond e h = cc
-piece_ascii Double Beyond e h = cc
-piece_ascii q x e h = cc
+pub not_beyond : (q : Quote) (x : Class) → g.in_piece q x ≡ true → x ≡ Beyond → ⊥
+not_beyond Single Beyond e h = cc
+not_beyond Double Beyond e h = cc
+not_beyond q x e h = cc
 
 plain_keeps : (q : Quote) (x : Class) (b : ℕ) (n : Inside × List ℕ) (bytes : List ℕ) → class_of b ≡ x → plain_next q x b ≡ Some n → KeepsChars (Plain Whole) bytes n
 plain_keeps q Backslash b n bytes e i = subst (KeepsChars (Plain Whole) bytes) (some_same i) (λ h. subst (CharsTo Whole) (sym (append-nil bytes)) h)
 plain_keeps q Beyond b n bytes e i =
     let m = mapped (λ t. (Plain t, b ∷ [])) (lead b) n i in subst (KeepsChars (Plain Whole) bytes) m.2 (λ h. k.first b m.1 h)
 plain_keeps q x b n bytes e i =
-    let m = from_if (g.in_piece q x) i in subst (KeepsChars (Plain Whole) bytes) m.1 (λ h. k.ascii b (ascii_unless b x e (piece_ascii q x m.0)) h)
+    let m = from_if (g.in_piece q x) i in subst (KeepsChars (Plain Whole) bytes) m.1 (λ h. k.ascii b (ascii_unless b x e (not_beyond q x m.0)) h)
 
-escaped_ascii : (x : Class) (v : ℕ) → g.escaped x ≡ Some v → v < 128
+pub escaped_ascii : (x : Class) (v : ℕ) → g.escaped x ≡ Some v → v < 128
 escaped_ascii LetterN v e = rw (sym (some_same e)) (omega arith)
 escaped_ascii LetterT v e = rw (sym (some_same e)) (omega arith)
 escaped_ascii LetterR v e = rw (sym (some_same e)) (omega arith)

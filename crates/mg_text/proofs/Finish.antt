@@ -17,7 +17,7 @@ use Rattle.mg_text.specs.declared.state.Inside.TheVariants.{Plain, Escape, Secon
 use Rattle.mg_text.specs.Byte.{below_digits, digit_class, upper_class, lower_class, IsTail, byte, class_of, whole as no_tail}
 use Rattle.mg_text.specs.Tree.{Kind, number, quoted, Fields, none, scalar, message, append, depth}
 use Rattle.mg_text.specs.Grammar as g
-use Rattle.mg_text.specs.Grammar.{Stands, Gives, Apart, Place, start, named, valued, opened, element, behind, joined, after, scalar_slot, message_slot, piece_slot, list_slot, list_ends, opening, closing, quote_class, in_line, is_separator}
+use Rattle.mg_text.specs.Grammar.{Stands, Apart, Place, start, named, valued, opened, element, behind, joined, after, closing}
 use Rattle.mg_text.specs.Code.Machine.{Spot, at, comment, naming, token, piece, Frame, State, digit_onto, outcome, kind_of}
 use Rattle.mg_text.proofs.Names.{NameEnds}
 use Rattle.mg_text.proofs.Scalars.{ScalarEnds}

@@ -17,7 +17,7 @@ use Rattle.mg_text.specs.Byte.{class_of, is_word_byte}
 use Rattle.mg_text.specs.Tree.{Fields}
 use Rattle.mg_text.specs.Grammar.{Place}
 use Rattle.mg_text.specs.Answer.{max_depth}
-use Rattle.mg_text.specs.Code.Machine.{at, comment, naming, token, piece, Frame, State, moves, step, step_naming, step_token, begin}
+use Rattle.mg_text.specs.Code.Machine.{at, comment, naming, token, piece, Frame, State, moves, step_naming, step_token, begin}
 use Rattle.mg_text.specs.Code.Running.{place_of, spot_of, frames_of, state_of, Lasts}
 use Rattle.mg_text.specs.View.{fields_view}
 use Rattle.mg_text.specs.declared.machine.Machine.{Machine}
@@ -110,7 +110,7 @@ pub lasts_by : (d : Fields) (fs : List Frame) (r : Reading) (name bytes xs : Lis
     → Lasts (st d fs (spot_of r name bytes)) xs (after_plain d fs r name bytes xs run)
 lasts_by d fs r name bytes xs run is all = by_each d fs r name bytes xs run is (recursion_from_All (λ b. lengthens run (class_of b) ≡ true) xs all)
 
--- the same of the parser itself
+-- bytes that lengthen a token keep the state of the parser's machine the same but for the token
 pub machine_lasts : (old new : Machine) (xs : List ℕ) (run : Run) → run_of old.reading ≡ Some run → AllLengthen run xs
     → new ≡ record old { token = new.token } → new.token.items ≡ lengthened run old.token.items xs → Lasts (state_of old) xs (state_of new)
 machine_lasts old new xs run is all same added =

@@ -3,10 +3,9 @@ use Rattle.std.proofs.Common.{arith, zero, suc, ◌≡◌, ℕ, ◌+◌, ◌*◌
 use Rattle.std.proofs.lemmas.List.{append-nil}
 use Rattle.std.proofs.lemmas.Bool.Decides.{nat_tests}
 use Rattle.std.specs.List.{flat_map}
-use Rattle.mg_text.specs.declared.parts.Class.{Class}
-use Rattle.mg_text.specs.declared.parts.Class.TheVariants.{DoubleQuote, SingleQuote, Backslash, Beyond, LetterN, LetterR, LetterT}
+use Rattle.mg_text.specs.declared.parts.Class.TheVariants.{Backslash}
 use Rattle.mg_text.specs.declared.parts.Quote.{Quote}
-use Rattle.mg_text.specs.declared.parts.Quote.TheVariants.{Single, Double}
+use Rattle.mg_text.specs.declared.parts.Quote.TheVariants.{Double}
 use Rattle.mg_text.specs.declared.parts.Mark.TheVariants.{Brace}
 use Rattle.mg_text.specs.declared.parts.Slot.{Slot}
 use Rattle.mg_text.specs.declared.parts.Slot.TheVariants as slots
@@ -17,11 +16,12 @@ use Rattle.mg_text.specs.Tree.{Kind, word, number, quoted, Fields, none, scalar,
 use Rattle.mg_text.specs.Grammar as g
 use Rattle.mg_text.specs.Grammar.{Stands, Gives, Apart, Place, start, named, valued, opened, element, behind, joined, after, IsContent, IsName, octal, is_first_octal}
 use Rattle.mg_text.specs.Canonical as c
-use Rattle.mg_text.specs.Canonical.{indent, escape, escape_by, short_escape, spelling, scalar_line, message_lines, lines_of, canonical, AreCharacters, IsSpelled, AreSpelled}
+use Rattle.mg_text.specs.Canonical.{indent, escape, escape_by, spelling, scalar_line, message_lines, lines_of, canonical, AreCharacters, IsSpelled, AreSpelled}
 use Rattle.mg_text.proofs.ByteValues.{lead_least}
 use Rattle.mg_text.proofs.Choices.{some_same}
 use Rattle.mg_text.proofs.ByteValues.{octal_digit, first_octal_digit, beyond_class}
 use Rattle.mg_text.proofs.Appending.{append_none}
+use Rattle.mg_text.proofs.Clean.{not_beyond, escaped_ascii}
 use Rattle.std.proofs.lemmas.Bool.{cases_lt}
 
 plain_in_piece : (b : ℕ) → 32 ≤ b → b < 127 → (b ≡ 92 → ⊥) → (b ≡ 34 → ⊥) → g.in_piece Double (class_of b) ≡ true
@@ -189,20 +189,6 @@ chars-append : (a b : List ℕ) → AreCharacters a → AreCharacters b → AreC
 chars-append a b c.no_more k = k
 chars-append a b (c.ascii {s = s} l h) k = c.ascii l (chars-append s b h k)
 chars-append a b (c.beyond {b = x} {u = u} {s = s} e i h) k = subst (λ z. AreCharacters (x ∷ z)) (sym (append_assoc u s b)) (c.beyond e i (chars-append s b h k))
-
-escaped_ascii : (x : Class) (v : ℕ) → g.escaped x ≡ Some v → v < 128
-escaped_ascii LetterN v e = rw (sym (some_same e)) (omega arith)
-escaped_ascii LetterT v e = rw (sym (some_same e)) (omega arith)
-escaped_ascii LetterR v e = rw (sym (some_same e)) (omega arith)
-escaped_ascii Backslash v e = rw (sym (some_same e)) (omega arith)
-escaped_ascii SingleQuote v e = rw (sym (some_same e)) (omega arith)
-escaped_ascii DoubleQuote v e = rw (sym (some_same e)) (omega arith)
-escaped_ascii _ v e = cc
-
-not_beyond : (q : Quote) (x : Class) → g.in_piece q x ≡ true → x ≡ Beyond → ⊥
-not_beyond Single Beyond e h = cc
-not_beyond Double Beyond e h = cc
-not_beyond q x e h = cc
 
 piece_ascii : (q : Quote) (b : ℕ) → g.in_piece q (class_of b) ≡ true → b < 128
 piece_ascii q b e =

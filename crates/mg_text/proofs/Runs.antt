@@ -14,7 +14,7 @@ use Rattle.mg_text.proofs.ByteValues.{lead_beyond}
 abbrev pub st : Fields → List Frame → Spot → State
 st d fs spot = record { done = d; frames = fs; spot = spot }
 
--- one step, by the class of the byte
+-- a step of the parser on one byte, by its class
 pub go : (d : Fields) (fs : List Frame) (spot : Spot) (d' : Fields) (fs' : List Frame) (spot' : Spot) (b : ℕ) (c : Class) (w : List ℕ) → class_of b ≡ c
     → step_spot (st d fs spot) spot c b ≡ Some (st d' fs' spot') → outcome (st d fs spot) (b ∷ w) ≡ outcome (st d' fs' spot') w
 go d fs spot d' fs' spot' b c w k e =

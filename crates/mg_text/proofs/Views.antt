@@ -14,7 +14,7 @@ use Rattle.mg_text.specs.declared.machine.Frame.{Frame}
 use Rattle.mg_text.specs.Code.Machine as model
 use Rattle.mg_text.specs.Code.Running.{frames_of, frame_of}
 
-put-append : (n : List ℕ) (v : Value) (a b : Fields) → append (put n v a) b ≡ put n v (append a b)
+pub put-append : (n : List ℕ) (v : Value) (a b : Fields) → append (put n v a) b ≡ put n v (append a b)
 put-append n (simple k bytes) a b = refl
 put-append n (inner x) a b = refl
 

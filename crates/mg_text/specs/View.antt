@@ -31,7 +31,7 @@ abbrev pub fields_of : List Entry → Fields
 fields_of [] = none
 fields_of (e ∷ es) = put e.name e.value (fields_of es)
 
--- one level, with what is inside already seen
+-- the value of a tree whose inner fields are already seen as fields
 abbrev pub value_step : TreeValue-F Value Entry Fields → Value
 value_step (TreeValue-F.Scalar s) = scalar_view s
 value_step (TreeValue-F.Message fields) = inner fields

@@ -21,7 +21,7 @@ pub fn places_are_of_their_numbers()
     ensures { (t : ℕ) → place_of (raw_of t) ≡ t }
 {}
 
-/// Of two times one isn't above the other.
+/// Of any two times one is at most the other.
 pub fn order_is_total()
     ensures { (t u : ℕ) → (t ≤ u) ⊎ (u ≤ t) }
 {}

@@ -181,7 +181,7 @@ sides_hand plan [] found given first (slot ∷ slots) in_order is = absurd (omeg
 sides_hand plan (side ∷ sides) found given first slots in_order is =
     side_hands plan given first slots side.name side.value sides found.0.1 in_order is (sides_hand plan sides found.1)
 
--- Both --
+-- Side packets and streams together --
 
 pub named_at : {plan : Plan} → HasNames plan → (input : ℕ) (name : List ℕ) → slice_get (input_names plan) input ≡ Some name
     → IsUtf8 name × (place_of (inputs_of plan).streams name ≡ Some (0 + input))

@@ -11,7 +11,7 @@ use Rattle.std.proofs.lemmas.List.Quantifiers.{position-Some}
 use Rattle.std.proofs.Math.Seq.{take-append_seam}
 use Rattle.mg_trace.specs.Code.{is_space}
 
--- One number --
+-- A single number --
 
 pub number_is_utf8 : (n : ℕ) (text : List ℕ) → n < 2 ^ 64 → text ≡ decimal n → IsUtf8 text
 number_is_utf8 n text fits e = rw e (IsUtf8-from_ascii (decimal n) (IsAscii-decimal n fits))
@@ -94,7 +94,7 @@ no_pair_without_second count i text few found second m n = (
       let no : None ≡ Some n = (second n).1 (p.1, back_of_pair m n i text at p.2) in absurd (cc),
 )
 
--- both parts are numbers
+-- a text of two numbers with a space between them is read as these two
 pub pair_of_both : (count i a b : ℕ) (text : List ℕ) → count ≤ 2 ^ 64 → position is_space text ≡ Some i → IsNumberRead count (take i text) (Some a)
     → IsNumberRead (2 ^ 64) (drop 1 (drop i text)) (Some b) → IsPairRead count text (Some (a, b))
 pair_of_both count i a b text few found first second m n = (

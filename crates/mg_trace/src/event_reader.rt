@@ -20,7 +20,7 @@ pub fn read_event(text: &[u8], plan: &Plan) -> Option<Event>
     }
 }
 
-/// The same of a line without its line feed.
+/// The event of a plan whose line this is, without a line feed.
 pub fn event_of(line: &[u8], plan: &Plan) -> Option<Event>
     ensures { (event : AnEvent) → (result ≡ Some event) ↔ (IsEventOf plan.now event × (line.now ≡ event_line event)) }
 {

@@ -1,13 +1,13 @@
 -- The words of the parts stand eight apart in the table. What holds of a step on the words of the parts alone holds of one there.
-use Rattle.std.proofs.Common.{◌≡◌, ℕ, zero, suc, ◌+◌, ◌*◌, ◌/◌, ◌%◌, ◌<◌, ◌≤◌, ◌≢◌, ◌==◌, Bool, true, false, MatchBool, List, [], ◌∷◌, map, length, take, drop, replicate, get_or, set, sym, refl, ap, ◌∙◌, subst, arith, Option, Some, None, IfSome, bit_or, length-set, length-drop, get_or-set_same, get_or-set_other}
+use Rattle.std.proofs.Common.{◌≡◌, ℕ, zero, suc, ◌+◌, ◌*◌, ◌/◌, ◌%◌, ◌<◌, ◌≤◌, ◌==◌, Bool, true, false, MatchBool, List, [], ◌∷◌, map, length, drop, replicate, get_or, set, sym, refl, ap, ◌∙◌, subst, arith, Option, Some, None, IfSome, bit_or, length-set, length-drop, get_or-set_other}
 use Rattle.std.proofs.lemmas.Bool.{eqb-true, eqb-false}
 use Rattle.std.proofs.lemmas.List.{get_or-drop, length-replicate}
 use mathlib.Core.Option as maybe
-use Rattle.atomic_table.specs.Table.{State, opening, Allows, Splits, Joins, Final, Seen, step, carried_after, homes_after, rest}
+use Rattle.atomic_table.specs.Table.{opening, Allows, Splits, Joins, Final, Seen, step, carried_after, homes_after, rest}
 use Rattle.mg_turns.specs.Parts.{PartView, FrameView, Follows}
 use Rattle.mg_turns.specs.Rule.{Ready, first_view, has_turn, word_of, Ruled, each_eighth, parts_alone, RuledApart}
 use Rattle.mg_turns.specs.Sights.{kept_after, handed, joined}
-use Rattle.mg_turns.specs.Code.Plays.{Sat, HasTurn, Returns, Kind, Took, missing, tried_at, tried, looked_at, looked, spent_view}
+use Rattle.mg_turns.specs.Code.Plays.{Sat, HasTurn, Returns, Kind, missing, tried_at, tried, looked_at, looked, spent_view}
 use Rattle.mg_turns.specs.declared.view.View.{View}
 use Rattle.mg_turns.proofs.Keeps.{starts, tries, looks, gives_at}
 use Rattle.mg_turns.proofs.Ends.{Settled, settled, splits, joins}

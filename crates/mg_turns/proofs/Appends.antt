@@ -1,31 +1,30 @@
 -- What a delivery leaves of an intake, and what the seat may give back then.
-use Rattle.std.proofs.Common.{◌≡◌, ◌≢◌, ◌<◌, ◌≤◌, ◌+◌, ◌-◌, ◌*◌, ℕ, zero, suc, refl, [], ◌∷◌, List, length, map, get_or, ap, ◌∙◌, sym, subst, arith, Option, Some, None, slice_get, inl, inr}
-use Rattle.std.proofs.lemmas.Bool.{cases_lt}
+use Rattle.std.proofs.Common.{◌≡◌, ◌≢◌, ◌<◌, ◌≤◌, ◌-◌, ◌*◌, ℕ, zero, suc, refl, [], ◌∷◌, List, length, map, get_or, ap, ◌∙◌, sym, subst, arith, Option, Some, None, slice_get}
 use Rattle.std.proofs.lemmas.List.{length-map}
 use Rattle.std.proofs.lemmas.Option.{none-some, slice_get_within}
 use lib.ListN.{get_elem?}
 use Rattle.atomic_table.specs.Table.{rest}
 use Rattle.mg_value.specs.Payload.{Plain}
 use Rattle.mg_value.specs.Prefix.{Stamped}
-use Rattle.mg_stream.specs.Queue.{IsLike, count_of}
+use Rattle.mg_stream.specs.Queue.{count_of}
 use Rattle.mg_stream.specs.Pool.{Backlog, empty_backlog}
 use Rattle.mg_calc.specs.declared.edge.Edge.{Edge}
 use Rattle.mg_calc.specs.declared.plan.Plan.{Plan}
 use Rattle.mg_node.specs.declared.delivered.Delivered.{Delivered}
-use Rattle.mg_node.specs.Views.{IntakeView, WorkView, EngineView}
+use Rattle.mg_node.specs.Views.{IntakeView, EngineView}
 use Rattle.mg_node.specs.Job.{LoggedJob, ports_of}
-use Rattle.mg_node.specs.Lawful.{Owner, of_node, of_input, AgreeBy, LawfulEngine, LawfulIntake, Agree}
+use Rattle.mg_node.specs.Lawful.{Owner, AgreeBy, LawfulEngine, LawfulIntake, Agree}
 use Rattle.mg_node.specs.IntakeStanding.{HasGrown, IntakeGrows}
 use Rattle.mg_node.specs.Ports.{ports_in, port_queue}
 use Rattle.mg_node.specs.Delivery.{Delivers}
-use Rattle.mg_node.specs.Leading.{output_at, HasStream, Leads}
+use Rattle.mg_node.specs.Leading.{output_at, Leads}
 use Rattle.mg_node.proofs.Knowing.{intake_ports}
 use Rattle.mg_node.proofs.Making.{some_same}
 use Rattle.mg_node.proofs.Leads.{leads_port, leads_one}
-use Rattle.mg_turns.specs.Parts.{PartView, FrameView, at, nodes_in, owner_in, IsSource, an_engine, an_intake, PartGrows, Grown, Fits, FitsSome, gone_by, gone_in, first_by, first_in, count_by, count_in, Follows, AgreeParts, IsOutIn, IsMissingIn, source_at, JoinedParts, EdgesFit}
+use Rattle.mg_turns.specs.Parts.{PartView, FrameView, at, nodes_in, owner_in, IsSource, an_engine, an_intake, PartGrows, Grown, Fits, FitsSome, gone_by, gone_in, first_by, first_in, count_by, Follows, source_at, JoinedParts, EdgesFit}
 use Rattle.mg_turns.specs.Turns.{Turn}
-use Rattle.mg_turns.specs.Code.Plays.{Sat, turn, turning, missing, gave, Like, Taken, Gives, GivesPlainly, GivesBrought}
-use Rattle.mg_turns.proofs.Grows.{part_same, part_further, like_self, joins_self}
+use Rattle.mg_turns.specs.Code.Plays.{Sat, turn, turning, missing, gave, Like, Taken, GivesPlainly, GivesBrought}
+use Rattle.mg_turns.proofs.Grows.{part_same, like_self, joins_self}
 use Rattle.mg_turns.proofs.Ends.{nil}
 use Rattle.mg_turns.proofs.Claims.{gones, engine_of_part, engine_kind, intake_of_part, intake_kind, lawful_at, lawful_i, intake_follows_on}
 use Rattle.mg_turns.proofs.ArrivesWithin.{arrives_within, others_like}

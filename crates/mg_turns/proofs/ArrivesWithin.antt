@@ -92,7 +92,7 @@ delivered_count o q n few = by_test (n == length (missing o q)) refl
     by_test true e = omega (arith, packets_count q (missing o q), eqb-true n (length (missing o q)) e)
     by_test false e = omega (arith, packets_count q (take n (missing o q)), length-take n (missing o q), few)
 
--- as many more came to the port as the delivery tells
+-- the number of packets that came to a port rises by the number that the delivery tells
 pub arrives_count : (result : Delivered) (o : Waiting Plain) (port most : ℕ) (before now : Waits) → port < ports_in before → Delivers result o port most before now
     → count_of (port_queue now port) ≡ count_of (port_queue before port) + packets_in result
 arrives_count (Moved packets raised) o port most before now there d =

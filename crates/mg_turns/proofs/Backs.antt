@@ -1,23 +1,21 @@
 -- What a work that comes back leaves of its engine, and what the seat may give back then.
-use Rattle.std.proofs.Common.{◌≡◌, ◌≢◌, ◌<◌, ◌≤◌, ◌+◌, ◌-◌, ◌*◌, ℕ, refl, [], ◌∷◌, List, length, map, ap, ◌∙◌, sym, subst, arith, Option, Some, None, slice_get}
-use Rattle.std.proofs.lemmas.Option.{none-some}
+use Rattle.std.proofs.Common.{◌≡◌, ◌<◌, ◌≤◌, ◌+◌, ◌-◌, ◌*◌, ℕ, refl, [], ◌∷◌, List, length, ap, ◌∙◌, sym, subst, arith, Some, None, slice_get}
 use Rattle.atomic_table.specs.Table.{rest}
-use Rattle.mg_calc.specs.declared.plan.Plan.{Plan}
 use Rattle.mg_node.specs.declared.role.Role.{Role}
 use Rattle.mg_node.specs.Views.{IntakeView, WorkView, OutcomeView, EngineView}
 use Rattle.mg_node.specs.Job.{LoggedJob}
-use Rattle.mg_node.specs.Lawful.{of_node, AgreeBy, LawfulEngine, LawfulIntake, LawfulOutcome, Agree}
+use Rattle.mg_node.specs.Lawful.{of_node, AgreeBy, LawfulEngine, LawfulOutcome, Agree}
 use Rattle.mg_node.specs.Standing.{EngineGrows}
 use Rattle.mg_node.specs.Shelves.{IsOut, shelved}
 use Rattle.mg_node.specs.Commits.{SomeJobHasEngine, Commits}
 use Rattle.mg_node.specs.Out.{ComesBack}
 use Rattle.mg_node.proofs.StaysOut.{committed_back, shelved_back}
-use Rattle.mg_turns.specs.Parts.{PartView, FrameView, at, nodes_in, an_engine, PartGrows, Fits, FitsSome, gone_by, first_by, Follows, AgreeParts, IsOutIn, IsMissingAt, IsMissingIn}
+use Rattle.mg_turns.specs.Parts.{PartView, FrameView, at, nodes_in, an_engine, PartGrows, Fits, FitsSome, Follows, IsMissingAt}
 use Rattle.mg_turns.specs.Turns.{Turn}
 use Rattle.mg_turns.specs.Sights.{Finds, left_one}
-use Rattle.mg_turns.specs.Code.Plays.{Sat, turn, turning, Back, Taken, Gives, GivesPlainly, GivesLaid, laid_view}
+use Rattle.mg_turns.specs.Code.Plays.{Sat, turn, Back, Taken, GivesPlainly, GivesLaid, laid_view}
 use Rattle.mg_turns.specs.Calls.{HasOutcome, HasCommitted}
-use Rattle.mg_turns.proofs.Grows.{part_same, part_further, like_self, joins_self}
+use Rattle.mg_turns.proofs.Grows.{part_same, like_self, joins_self}
 use Rattle.mg_turns.proofs.Ends.{nil}
 use Rattle.mg_turns.proofs.Claims.{gones, engine_of_part, engine_kind, missing_by, lawful_e, engine_joins, engine_follows_on}
 use Rattle.mg_turns.proofs.Words.{engine_at}

@@ -1,19 +1,16 @@
--- Both ends of an edge are taken, and given back.
-use Rattle.std.proofs.Common.{◌≡◌, ◌≢◌, ◌<◌, ◌≤◌, ◌+◌, ◌*◌, ℕ, refl, [], ◌∷◌, List, length, ap, ◌∙◌, sym, subst, arith, Option, Some, None, slice_get, is_some, true}
-use Rattle.std.proofs.lemmas.Option.{slice_get_within}
+-- The engine and the intake at the two ends of an edge are taken, and given back.
+use Rattle.std.proofs.Common.{◌≡◌, ◌<◌, ◌+◌, ◌*◌, ℕ, refl, [], ◌∷◌, List, length, ap, ◌∙◌, sym, subst, arith, Some, slice_get, is_some, true}
 use Rattle.atomic_table.specs.Table.{rest}
 use Rattle.mg_calc.specs.declared.edge.Edge.{Edge}
-use Rattle.mg_stream.specs.Queue.{count_of}
 use Rattle.mg_node.specs.declared.delivered.Delivered.{Delivered}
 use Rattle.mg_node.specs.Views.{IntakeView, EngineView}
 use Rattle.mg_node.specs.Job.{LoggedJob, ports_of}
 use Rattle.mg_node.specs.Lawful.{Owner, LawfulEngine, LawfulIntake}
 use Rattle.mg_node.specs.IntakeStanding.{IntakeGrows}
-use Rattle.mg_node.specs.Ports.{ports_in, port_queue}
+use Rattle.mg_node.specs.Ports.{ports_in}
 use Rattle.mg_node.specs.Delivery.{Delivers}
 use Rattle.mg_node.specs.Leading.{output_at, Leads}
 use Rattle.mg_node.proofs.Leads.{leads_port}
-use Rattle.mg_turns.specs.Words.{Whose, intake_of, engine_of}
 use Rattle.mg_turns.specs.Parts.{PartView, FrameView, nodes_in, owner_in, ports_by, an_engine, an_intake, tally_since, came_to, Follows, FitsSome, source_at, EdgesFit}
 use Rattle.mg_turns.specs.Turns.{Sight}
 use Rattle.mg_turns.specs.Rule.{Sights, doubled, word_of}

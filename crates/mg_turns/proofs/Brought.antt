@@ -1,5 +1,5 @@
 -- What the answers of a delivery say of what the seat knows.
-use Rattle.std.proofs.Common.{◌≡◌, ◌≢◌, ℕ, ◌+◌, ◌-◌, ◌*◌, ◌<◌, ◌≤◌, ◌==◌, ◌⊎◌, min, max, Bool, true, false, List, [], ◌∷◌, length, length-drop, take, Option, Some, slice_get, inl, inr, refl, ap, sym, subst, ◌∙◌, arith, if◌then◌else◌}
+use Rattle.std.proofs.Common.{◌≡◌, ℕ, ◌+◌, ◌-◌, ◌*◌, ◌<◌, ◌≤◌, ◌⊎◌, Bool, [], ◌∷◌, length, length-drop, take, Some, slice_get, inl, inr, refl, ap, sym, subst, ◌∙◌, arith, if◌then◌else◌}
 use Rattle.std.proofs.lemmas.Bool.{eq-eqb, cases_lt}
 use Rattle.std.proofs.Math.Nat.{le-max_right}
 use Rattle.mg_value.specs.Payload.{Plain}
@@ -16,9 +16,9 @@ use Rattle.mg_node.specs.Delivery.{missing, with_packets, delivered, Delivers}
 use Rattle.mg_node.specs.IntakeStanding.{HasGrown}
 use Rattle.mg_node.proofs.PortSteps.{queue-there}
 use Rattle.mg_node.proofs.Leads.{leads_port}
-use Rattle.mg_turns.specs.Parts.{FrameView, at, an_engine, an_intake, first_in, count_in, Follows, FitsSome, source_at, EdgesFit}
+use Rattle.mg_turns.specs.Parts.{FrameView, an_engine, an_intake, count_in, Follows, FitsSome, source_at, EdgesFit}
 use Rattle.mg_turns.specs.Sights.{sight, left_two}
-use Rattle.mg_turns.specs.Standings.{bound_in, laid_in, laid_bound_in, most_seen, known_came, known_bound, known_laid, known_laid_bound}
+use Rattle.mg_turns.specs.Standings.{bound_in, laid_in, laid_bound_in, known_came, known_bound, known_laid, known_laid_bound}
 use Rattle.mg_turns.specs.Calls.{HasBrought, TriesAppend}
 use Rattle.mg_turns.specs.Code.Counts.{packets_in}
 use Rattle.mg_turns.specs.Told.{output_of, HasCome, TellsMoved, AppendTells}

@@ -1,11 +1,10 @@
--- Both parts of a node are taken, and given back.
-use Rattle.std.proofs.Common.{◌≡◌, ◌≢◌, ◌<◌, ◌≤◌, ◌+◌, ◌*◌, ℕ, refl, [], ◌∷◌, List, length, ap, ◌∙◌, sym, subst, inl, inr, arith, Option, Some, None, is_some, true}
-use Rattle.std.proofs.lemmas.Option.{none-some}
+-- The engine and the intake of a node are taken, and given back.
+use Rattle.std.proofs.Common.{◌≡◌, ◌≢◌, ◌<◌, ◌+◌, ◌*◌, ℕ, refl, [], ◌∷◌, List, length, ap, ◌∙◌, sym, subst, inl, inr, arith, Option, Some, None}
 use mathlib.Core.Option.{some}
 use lib.ListN.{get_elem?}
 use Rattle.atomic_table.specs.Table.{rest}
 use Rattle.mg_node.specs.Views.{IntakeView, WorkView, EngineView}
-use Rattle.mg_node.specs.Lawful.{Owner, of_node, Agree}
+use Rattle.mg_node.specs.Lawful.{of_node, Agree}
 use Rattle.mg_node.proofs.Making.{some_same}
 use Rattle.mg_node.specs.declared.claimed.Claimed.{Claimed}
 use Rattle.mg_node.specs.Standing.{EngineGrows}
@@ -13,12 +12,11 @@ use Rattle.mg_node.specs.IntakeStanding.{Stays}
 use Rattle.mg_node.specs.Ports.{port_queue}
 use Rattle.mg_turns.specs.Parts.{PartView, FrameView, nodes_in, an_engine, an_intake, AgreeParts, Follows}
 use Rattle.mg_turns.specs.Turns.{Turn, Sight}
-use Rattle.mg_turns.specs.Rule.{Sights, has_turn, is_of, word_of, view}
-use Rattle.mg_turns.specs.Sights.{Finds, FindsCell, Missed, MissedOne, has_after, cell_left}
-use Rattle.mg_turns.specs.Code.Plays.{Sat, turn, turning, missing, gave, claimed_view, Found, Taken, TakenPair, MissedPair, Gives, GivesPlainly, GivesClaim, CellWords, cell_given, left, noted}
+use Rattle.mg_turns.specs.Rule.{Sights, has_turn, word_of}
+use Rattle.mg_turns.specs.Sights.{Finds, has_after, cell_left}
+use Rattle.mg_turns.specs.Code.Plays.{Sat, turn, turning, missing, gave, claimed_view, Taken, TakenPair, MissedPair, GivesPlainly, GivesClaim, CellWords, cell_given, left, noted}
 use Rattle.mg_turns.specs.Code.Cells.{TakesCell}
-use Rattle.mg_turns.specs.declared.view.View.{View}
-use Rattle.mg_turns.proofs.Words.{intake_at, engine_at}
+use Rattle.mg_turns.proofs.Words.{engine_at}
 use Rattle.mg_turns.proofs.Grows.{part_same, like_self, joins_self}
 use Rattle.mg_turns.proofs.Links.{is_of_no}
 use Rattle.mg_turns.proofs.Ends.{nil, has_none}

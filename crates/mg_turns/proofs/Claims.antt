@@ -1,17 +1,14 @@
 -- What a claim leaves of the parts of a cell, and what the seat may give back then.
-use Rattle.std.proofs.Common.{◌≡◌, ◌≢◌, ◌<◌, ◌≤◌, ◌+◌, ◌-◌, ◌*◌, ◌⊎◌, ℕ, refl, [], ◌∷◌, ◌++◌, List, length, map, ap, ◌∙◌, sym, subst, inl, inr, arith, Option, Some, None, slice_get, is_some, true}
+use Rattle.std.proofs.Common.{◌≡◌, ◌<◌, ◌≤◌, ◌+◌, ◌-◌, ◌*◌, ℕ, refl, [], ◌∷◌, List, length, map, ap, ◌∙◌, sym, subst, inl, inr, arith, Option, Some, None, slice_get, is_some, true}
 use Rattle.std.proofs.lemmas.Option.{none-some}
 use mathlib.Core.Option.{some}
 use lib.ListN.{get_elem?}
-use Rattle.atomic_table.specs.Table.{rest}
 use Rattle.mg_value.specs.Payload.{Plain}
 use Rattle.mg_value.specs.Prefix.{Stamped}
 use Rattle.mg_value.specs.Loopback.{packet_of}
 use Rattle.mg_stream.specs.Pool.{Backlog}
-use Rattle.mg_calc.specs.declared.plan.Plan.{Plan}
-use Rattle.mg_calc.specs.declared.node_fault.Phase.{Phase}
 use Rattle.mg_calc.specs.declared.node_fault.Phase.TheVariants.{Call, Process, Close}
-use Rattle.mg_node.specs.Views.{IntakeView, BenchView, WorkView, EntryView, EngineView}
+use Rattle.mg_node.specs.Views.{IntakeView, WorkView, EntryView, EngineView}
 use Rattle.mg_node.specs.Job.{LoggedJob}
 use Rattle.mg_node.specs.Lawful.{Owner, of_node, LawfulEngine, LawfulIntake, Agree, AreCell}
 use Rattle.mg_node.specs.IntakeStanding.{HasGrown, Stays, IntakeGrows}
@@ -22,21 +19,18 @@ use Rattle.mg_node.proofs.Growing.{grown_further}
 use Rattle.mg_node.proofs.ClaimsLeave.{answer_stays}
 use Rattle.mg_node.specs.Standing.{EngineGrows}
 use Rattle.mg_node.specs.Shelves.{IsOut}
-use Rattle.mg_node.specs.Claims.{with_answer, AreSame, Hands, TakesUnrun, TakesAnswer, Claims, GivesOut, IsLawfulWork, LawfulClaim, MayClaim}
+use Rattle.mg_node.specs.Claims.{with_answer, Claims, GivesOut, IsLawfulWork, LawfulClaim}
 use Rattle.mg_node.specs.declared.claimed.Claimed.{Claimed}
 use Rattle.mg_node.specs.declared.claimed.Claimed.TheVariants.{Work, Answered, NotReady, InFlightFull, Draining, Ended, OutOfMemory}
 use Rattle.mg_node.proofs.Answering.{loop_cell_by}
 use Rattle.mg_node.proofs.Making.{some_same}
 use Rattle.mg_node.specs.Out.{IsMissing, GoesOut}
 use Rattle.mg_node.proofs.StaysOut.{unrun_goes, further_goes}
-use Rattle.mg_turns.specs.Parts.{PartView, FrameView, at, nodes_in, owner_in, an_engine, an_intake, PartGrows, Grown, IsKind, LawfulPart, Fits, FitsSome, gone_by, gone_in, first_by, first_in, claimed_by, Follows, AgreeParts, IsOutIn, IsMissingAt, IsMissingIn, JoinedParts}
-use Rattle.mg_turns.specs.Turns.{Turn}
-use Rattle.mg_turns.specs.Code.Plays.{Sat, turn, turning, missing, gave, claimed_view, Found, Like, Joins, Goes, Outs, Taken, Gives, GivesPlainly, GivesClaim}
+use Rattle.mg_turns.specs.Parts.{PartView, FrameView, at, nodes_in, owner_in, an_engine, an_intake, PartGrows, IsKind, LawfulPart, Fits, FitsSome, gone_by, gone_in, first_by, first_in, claimed_by, Follows, AgreeParts, IsMissingAt}
+use Rattle.mg_turns.specs.Code.Plays.{missing, Joins, Goes, Outs}
 use Rattle.mg_turns.specs.Sights.{has_after}
-use Rattle.mg_turns.specs.declared.view.View.{View}
-use Rattle.mg_turns.proofs.Grows.{part_same, part_further, like_self, joins_self}
-use Rattle.mg_turns.proofs.Ends.{nil}
-use Rattle.mg_turns.specs.Words.{Whose, intake_of, engine_of}
+use Rattle.mg_turns.proofs.Grows.{part_further}
+use Rattle.mg_turns.specs.Words.{Whose, engine_of}
 use Rattle.mg_turns.proofs.Words.{is_engine, intake_at, engine_at}
 
 abbrev pub gones : EngineView → List ℕ
@@ -181,7 +175,7 @@ work_stays X work e f i k claims port = elim claims [
   ]
 ]
 
--- and at each port as many packets counted, and the bound
+-- a claim leaves how many packets a port has counted, and its bound
 pub claim_stays : (X : Type 0) (r : Claimed X) (e f : EngineView) (i k : IntakeView) → Claims {C = X} r e f i k → (port : ℕ) → Stays (port_queue i.waits port) (port_queue k.waits port)
 claim_stays X (Work work) e f i k c = work_stays X work e f i k c
 claim_stays X Answered e f i k c = answer_stays e f i k c.1
@@ -203,7 +197,7 @@ engine_joins p e f is first grows = record {
   to = λ x r joined g i is' at. absurd (none-some i at);
 }
 
--- and so does an intake whose ports have what they had
+-- an intake whose ports keep their counts and bounds stays joined to the same engines
 pub intake_joins : (q : PartView) (i k : IntakeView) → q.intake ≡ Some i → ((port : ℕ) → Stays (port_queue i.waits port) (port_queue k.waits port)) → Joins q (an_intake k)
 intake_joins q i k is stays = record {
   from = λ x r joined g j is' at. absurd (none-some g is');
@@ -279,7 +273,7 @@ engine_follows_on key word o p e f h of is grows first gone lawful =
       },
     )
 
--- and an intake
+-- an intake that has grown and is lawful follows the key, as the one before did
 pub intake_follows_on : (key : FrameView) (n : ℕ) (q : PartView) (i k : IntakeView) → Follows key (2 * n) q → n ≤ nodes_in key → q.intake ≡ Some i → IntakeGrows i k → (n ≡ nodes_in key → k.claimed ≡ i.claimed)
     → ((job : LoggedJob) → Fits job key → LawfulIntake job n k) → PartGrows q (an_intake k) × Follows key (2 * n) (an_intake k)
 intake_follows_on key n q i k h within is grows same lawful =
@@ -298,7 +292,7 @@ intake_follows_on key n q i k h within is grows same lawful =
       },
     )
 
--- the same from what any steps on the cell leave of it
+-- the facts of a claim, from what any steps on a cell leave of its engine and intake
 pub facts_by : (key : FrameView) (n : ℕ) (p q : PartView) (e f : EngineView) (i k : IntakeView) (had has : Option WorkView) → CellParts key n p q e i → FitsSome key
     → f.first ≡ e.first → gones f ≡ gones e → EngineGrows e f → IntakeGrows i k → ((port : ℕ) → Stays (port_queue i.waits port) (port_queue k.waits port))
     → ((job : LoggedJob) → LawfulEngine job (of_node n) e → LawfulIntake job n i → Agree e i → LawfulEngine job (of_node n) f × LawfulIntake job n k × Agree f k)

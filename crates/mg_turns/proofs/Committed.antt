@@ -1,5 +1,5 @@
 -- How many works are committed, and what is laid where one is.
-use Rattle.std.proofs.Common.{◌≡◌, ◌≢◌, ℕ, zero, suc, ℤ, ◌+◌, ◌-◌, ◌<◌, ◌≤◌, ◌⊎◌, ◌||◌, cond, Bool, true, false, List, [], ◌∷◌, ◌++◌, map, set, Option, Some, None, Result, option_map, is_some, IsSome, IfSome, slice_get, inl, inr, refl, ap, sym, subst, ◌∙◌, arith, if◌then◌else◌}
+use Rattle.std.proofs.Common.{◌≡◌, ◌≢◌, ℕ, zero, suc, ℤ, ◌+◌, ◌-◌, ◌≤◌, ◌⊎◌, ◌||◌, cond, Bool, true, false, List, [], ◌∷◌, ◌++◌, set, Option, Some, None, Result, option_map, is_some, IsSome, IfSome, slice_get, inl, inr, refl, ap, sym, subst, ◌∙◌, arith, if◌then◌else◌}
 use Rattle.std.proofs.lemmas.Bool.{cases_Bool, false≢true}
 use Rattle.std.proofs.lemmas.Option.{none-some}
 use mathlib.Core.Logic.{dite}
@@ -18,12 +18,11 @@ use Rattle.mg_node.specs.Lawful.{of_node, LawfulEngine, is_close}
 use Rattle.mg_node.specs.Windows.{has_ended, ready_of}
 use Rattle.mg_node.specs.Shelves.{IsOut, back, shelved}
 use Rattle.mg_node.specs.Claims.{AreSame, Hands, TakesUnrun, Claims}
-use Rattle.mg_node.specs.Commits.{counted, Front, with_ready, front_laid, answer_laid, has_stopped, committed_entry, window_with, front_of, fault_at, Commits, SomeJobHasEngine}
+use Rattle.mg_node.specs.Commits.{counted, Front, with_ready, front_laid, answer_laid, has_stopped, committed_entry, window_with, front_of, fault_at, Commits}
 use Rattle.mg_node.proofs.FrontSteps.{front_stays}
 use Rattle.mg_node.proofs.EngineFronts.{is_some_map, committed_whole}
 use Rattle.mg_node.proofs.Frames.{get_other, put_there}
 use Rattle.mg_node.proofs.Making.{some_same}
-use Rattle.mg_turns.specs.Rounds.{GivesNone}
 use Rattle.mg_turns.specs.Told.{count_committed, committed_in, StandsBack, RunEnds}
 use Rattle.mg_turns.specs.Code.Running.{NoneCommitted}
 

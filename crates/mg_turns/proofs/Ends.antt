@@ -1,5 +1,5 @@
 -- Seats are split and joined, and the seat of the whole portion sees the last state.
-use Rattle.std.proofs.Common.{◌≡◌, ℕ, zero, suc, ◌+◌, ◌-◌, ◌/◌, ◌%◌, ◌<◌, ◌≤◌, ◌≢◌, List, [], ◌∷◌, ◌++◌, length, get_or, set, slice_get, sym, refl, ap, ◌∙◌, subst, inl, inr, ◌⊎◌, ⊎_elim, IfSome, ◌*◌, arith, Option, Some, None}
+use Rattle.std.proofs.Common.{◌≡◌, ℕ, zero, suc, ◌+◌, ◌-◌, ◌<◌, ◌≢◌, List, [], ◌∷◌, ◌++◌, length, get_or, set, slice_get, sym, refl, ap, ◌∙◌, subst, inl, inr, ◌⊎◌, ⊎_elim, IfSome, ◌*◌, arith, Option, Some, None}
 use Rattle.std.proofs.lemmas.Option.{none-some}
 use Rattle.std.proofs.lemmas.List.{get_or_push, get_or_append_left}
 use mathlib.Core.Logic.{dite}
@@ -12,15 +12,15 @@ use Rattle.atomic_table.proofs.Lists.{at_snoc, at_set, set_else}
 use Rattle.mg_node.specs.Views.{WorkView}
 use Rattle.mg_turns.specs.Parts.{PartView, FrameView, blank_part, at, nodes_in, Follows, AgreeParts, IsMissingIn, source_at, JoinedParts, EdgesFit}
 use Rattle.mg_calc.specs.declared.edge.Edge.{Edge}
-use Rattle.mg_turns.specs.Turns.{Turn, Sight}
-use Rattle.mg_turns.specs.Rule.{total, view, Sights, is_of, has_turn, InSlot, Noted, Shown, HasWork, Linked_apart, Orderly, Linked, Ruled}
+use Rattle.mg_turns.specs.Turns.{Turn}
+use Rattle.mg_turns.specs.Rule.{total, view, Sights, is_of, has_turn, InSlot, Noted, Shown, WorksApart, Orderly, Linked, Ruled}
 use Rattle.mg_turns.specs.Ends.{with_parts, Unshared}
 use Rattle.mg_turns.proofs.Links.{SameWorks, same_part, linked_by, set_at, set_past}
 use Rattle.mg_turns.proofs.Grows.{like_self, joins_self, sights_both}
 use Rattle.mg_turns.specs.Code.Plays.{spent_view}
 use Rattle.mg_turns.specs.Sights.{kept_after, handed, joined, either_work}
 use Rattle.mg_turns.specs.declared.view.View.{View}
-use Rattle.mg_turns.proofs.Sums.{total-set, total-append, term_le, terms_le}
+use Rattle.mg_turns.proofs.Sums.{total-set, total-append, terms_le}
 
 abbrev St : Type 0
 St = State (Option PartView) View
@@ -105,7 +105,7 @@ module _ (views : List View) (id : ℕ) (v a b : View) (me : get_elem? views id 
       (λ (h : b ≡ u). absurd (none-some x (sym none ∙ (ap (λ (z : View). z.work) h ∙ had))))
       (at_snoc (set views id a) b u j e)
 
-  split_works : Linked_apart views → SameWorks views (set views id a ++ b ∷ [])
+  split_works : WorksApart views → SameWorks views (set views id a ++ b ∷ [])
   split_works apart = record {
     origin = λ j u x e had. let o = split_there j u x e had in (j, o.0, o.1, o.2);
     apart = λ j k u u' x x' ne e e' had had'. let o = split_there j u x e had in let o' = split_there k u' x' e' had' in apart j k o.0 o'.0 x x' ne o.1 o'.1 o.2 o'.2;
@@ -184,7 +184,7 @@ module _ (views : List View) (id other : ℕ) (v w a : View) (me : get_elem? vie
   mine_now : get_elem? Joined id ≡ some a
   mine_now = set_past (set views id a) other id spent_view a (λ e. ne (sym e)) (set_at views id v a me)
 
-  join_works : Linked_apart views → SameWorks views Joined
+  join_works : WorksApart views → SameWorks views Joined
   join_works apart = record {
     origin = λ j u x e had. let o = join_there j u x e had in (o.0, o.1, o.2, o.3);
     apart = λ j k u u' x x' differ e e' had had'. let o = join_there j u x e had in let p = join_there k u' x' e' had' in apart o.0 p.0 o.1 p.1 x x' (two_apart j k x x' differ o p) o.2 p.2 o.3 p.3;
@@ -275,7 +275,7 @@ pub not_none : (key : FrameView) (xs xs' : List (Option PartView)) (i : ℕ) (r 
 not_none key xs xs' i r home same at-i e =
     let is : Some home.0 ≡ r = some-injective (Some home.0) r (sym home.1 ∙ (ap (λ (l : List (Option PartView)). get_elem? l i) (sym same) ∙ at-i)) in none-some home.0 (sym (is ∙ e))
 
--- one more part is out of its slot
+-- the parts that are out of their slots, with one more of them
 pub one_more : (key : FrameView) (ps ps' : List PartView) (i : ℕ) (xs xs' : List (Option PartView)) (r : Option PartView) (p : PartView) → xs' ≡ xs → get_elem? xs' i ≡ some r → r ≡ Some p → ps' ≡ ps ++ p ∷ [] → length ps ≡ i
     → ((k : ℕ) → k < i → get_elem? xs k ≡ some (Some (at (with_parts key ps) k))) → (k : ℕ) → k < i + 1 → get_elem? xs k ≡ some (Some (at (with_parts key ps') k))
 one_more key ps ps' i xs xs' r p same at-i is after long before k h =

@@ -1,11 +1,11 @@
 -- A turn is given back in one of three ways.
-use Rattle.std.proofs.Common.{◌≡◌, ◌≢◌, ◌<◌, ◌+◌, ◌*◌, ℕ, refl, [], ◌∷◌, ◌++◌, List, length, ap, ◌∙◌, sym, subst, inl, inr, arith, Option, Some, None}
+use Rattle.std.proofs.Common.{◌≡◌, ◌*◌, ℕ, refl, [], ◌∷◌, List, length, ap, ◌∙◌, sym, subst, inl, inr, arith, Option, Some, None}
 use Rattle.atomic_table.specs.Table.{rest}
 use Rattle.mg_node.specs.Views.{WorkView}
-use Rattle.mg_turns.specs.Parts.{PartView, FrameView, PartGrows, Follows, JoinedParts}
+use Rattle.mg_turns.specs.Parts.{PartView, Follows, JoinedParts}
 use Rattle.mg_turns.specs.Turns.{Turn}
 use Rattle.mg_turns.specs.Rule.{word_of}
-use Rattle.mg_turns.specs.Code.Plays.{Sat, turn, turning, left, Found, Like, Joins, Back, Alike, HasTurn, Returns, Kind, note_or, noted, gave, claimed_view, laid_view, Gives, GivesPlainly, GivesClaim, GivesLaid, GivesBrought, Took, Taken}
+use Rattle.mg_turns.specs.Code.Plays.{Sat, turn, left, Like, Joins, Back, Alike, HasTurn, Returns, Kind, note_or, noted, gave, claimed_view, laid_view, Gives, GivesPlainly, GivesClaim, GivesLaid, GivesBrought, Took, Taken}
 use Rattle.mg_turns.specs.declared.view.View.{View}
 use Rattle.mg_turns.proofs.Keeps.{alike_same}
 use Rattle.mg_turns.proofs.Links.{part_or}
@@ -98,11 +98,11 @@ pub taken_of : (m n o : Sat) (i r : ℕ) (p : PartView) → Took m i r n → n.1
 taken_of m n o i r p t out e = let same = took_is m n i r p t out in
     subst (λ (q : PartView). Taken m i q o) same (e ∙ ap (λ (s : Sat). (s.0, (i, None) ∷ rest s.1)) t.1, t.2)
 
--- and the word that the step found is that part's
+-- the word that the step found is that of the part that came out
 pub word_found : (m n : Sat) (i r : ℕ) (p : PartView) → Took m i r n → n.1 ≡ (i, Some p) ∷ rest n.1 → r ≡ word_of m.0.key i p
 word_found m n i r p t out = t.3 ∙ ap (word_of m.0.key i) (took_is m n i r p t out)
 
--- the same, at the word that the call computes
+-- what is given back of a claim, at the word that the call computes
 module _ (m : Sat) (n : ℕ) (p f : PartView) (has : Option WorkView) (word : ℕ) (is : word ≡ 2 * n) (g : GivesClaim m n p f has) where
   pub claim_turn : HasTurn m.0 word p
   claim_turn = subst (λ (w : ℕ). HasTurn m.0 w p) (sym is) (has_turn_of m (2 * n) p g.t (g.u ∷ []) g.gives)

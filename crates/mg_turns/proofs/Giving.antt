@@ -1,5 +1,5 @@
 -- What the calls on a cell give back.
-use Rattle.std.proofs.Common.{◌≡◌, ◌<◌, ◌≤◌, ◌+◌, ◌*◌, ℕ, refl, [], ◌∷◌, List, length, map, ap, ◌∙◌, sym, subst, inl, inr, arith, Option, Some, None}
+use Rattle.std.proofs.Common.{◌≡◌, ◌+◌, ◌*◌, ℕ, refl, [], ◌∷◌, List, length, map, ap, sym, subst, inl, arith, Option, Some, None}
 use Rattle.mg_value.specs.Payload.{Plain}
 use Rattle.mg_stream.specs.Pool.{Backlog}
 use Rattle.mg_node.specs.Views.{IntakeView, WorkView, EngineView}
@@ -14,13 +14,13 @@ use Rattle.mg_node.specs.Ports.{port_queue}
 use Rattle.mg_node.specs.Shelves.{IsOut}
 use Rattle.mg_node.specs.Claims.{Claims, GivesOut, LawfulClaim}
 use Rattle.mg_node.specs.Advances.{raised_output, advance_bound, advanced}
-use Rattle.mg_turns.specs.Parts.{PartView, FrameView, an_engine, an_intake, nodes_in, Follows, FitsSome, IsMissingAt, IsOutIn, IsMissingIn}
+use Rattle.mg_turns.specs.Parts.{FrameView, an_engine, an_intake, Follows, FitsSome, IsMissingAt}
 use Rattle.mg_turns.specs.Sights.{has_after}
 use Rattle.mg_turns.specs.Code.Plays.{Sat, GivesClaim, CellWords, Outs}
 use Rattle.mg_turns.specs.Code.Cells.{TakesCell}
 use Rattle.mg_turns.specs.Code.Running.{CellSteps}
 use Rattle.mg_turns.proofs.Grows.{intake_same}
-use Rattle.mg_turns.proofs.Claims.{gones, CellParts, ClaimFacts, facts_by, claim_facts, claim_stays, is_cell, engine_of_part}
+use Rattle.mg_turns.proofs.Claims.{CellParts, ClaimFacts, facts_by, claim_facts, claim_stays, is_cell, engine_of_part}
 use Rattle.mg_turns.proofs.Rounds.{step_facts}
 use Rattle.mg_turns.proofs.Cells.{cell_parts, cell_follows, cell_back, cell_counted}
 

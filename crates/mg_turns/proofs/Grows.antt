@@ -1,11 +1,11 @@
 -- Standings grow, and what was seen stays seen.
-use Rattle.std.proofs.Common.{◌≡◌, ℕ, ◌≤◌, List, [], ◌∷◌, ◌++◌, Option, Some, None, refl, arith}
+use Rattle.std.proofs.Common.{ℕ, List, [], ◌∷◌, ◌++◌, Option, Some, None, refl, arith}
 use Rattle.mg_node.specs.Views.{IntakeView, EngineView}
 use Rattle.mg_node.specs.Ports.{port_queue}
 use Rattle.mg_node.specs.IntakeStanding.{IntakeGrows}
 use Rattle.mg_node.specs.Standing.{EngineGrows}
 use Rattle.mg_node.proofs.Growing.{grown_by_itself, grown_further, engine_same, engine_further}
-use Rattle.mg_turns.specs.Parts.{PartView, Grown, PartGrows, AgreeParts, IsOutIn, IsMissingIn}
+use Rattle.mg_turns.specs.Parts.{PartView, Grown, PartGrows}
 use Rattle.mg_turns.specs.Turns.{Sight}
 use Rattle.mg_turns.specs.Rule.{Sights}
 use Rattle.mg_turns.specs.Code.Plays.{Like, Joins}

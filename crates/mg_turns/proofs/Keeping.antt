@@ -1,13 +1,13 @@
 -- No call loses what a seat knows.
-use Rattle.std.proofs.Common.{◌≡◌, ℕ, ◌*◌, ◌+◌, ◌≤◌, ◌∷◌, ◌++◌, Bool, refl, ap, sym, subst, inl, inr, arith, Option}
+use Rattle.std.proofs.Common.{◌≡◌, ℕ, ◌*◌, ◌+◌, Bool, refl, ap, sym, subst, inl, inr, arith, Option}
 use Rattle.mg_calc.specs.declared.edge.Edge.{Edge}
 use Rattle.mg_calc.specs.declared.plan.Plan.{Plan}
-use Rattle.mg_node.specs.Views.{WorkView, OutcomeView, IntakeView, EngineView}
+use Rattle.mg_node.specs.Views.{WorkView, OutcomeView}
 use Rattle.mg_node.specs.declared.claimed.Claimed.{Claimed}
 use Rattle.mg_node.specs.declared.delivered.Delivered.{Delivered}
 use Rattle.mg_turns.specs.Parts.{PartView, an_engine, an_intake}
 use Rattle.mg_turns.specs.Sights.{sight, Missed, MissedOne, left_one, left_two, joined}
-use Rattle.mg_turns.specs.Standings.{most_seen, KnowsToo, Keeps}
+use Rattle.mg_turns.specs.Standings.{KnowsToo, Keeps}
 use Rattle.mg_turns.specs.Calls.{TriesClaim, TriesRaise, TriesRun, TriesAppend, TriesWaiting, TriesCommit, TriesShelve}
 use Rattle.mg_turns.specs.declared.view.View.{View}
 use Rattle.mg_turns.specs.declared.tried.Tried.{Tried}

@@ -1,5 +1,5 @@
 -- Each step keeps the rule.
-use Rattle.std.proofs.Common.{◌≡◌, ℕ, zero, suc, ◌+◌, ◌*◌, ◌/◌, ◌%◌, ◌<◌, ◌≤◌, ◌≢◌, eqb, cond, List, [], ◌∷◌, ◌++◌, map, length, get_or, set, slice_get, sym, refl, ap, ◌∙◌, subst, inl, inr, ◌⊎◌, ⊎_elim, arith, Option, Some, None, bit_or, append-nil, length-set, get_or-set_same, get_or-set_other, eq-eqb, ne_eqb}
+use Rattle.std.proofs.Common.{◌≡◌, ℕ, zero, suc, ◌+◌, ◌*◌, ◌/◌, ◌%◌, ◌<◌, ◌≢◌, eqb, cond, List, [], ◌∷◌, map, length, get_or, set, slice_get, sym, refl, ap, ◌∙◌, subst, inl, inr, ◌⊎◌, ⊎_elim, arith, Option, Some, bit_or, length-set, get_or-set_same, get_or-set_other}
 use Rattle.std.proofs.lemmas.List.{length-map}
 use Rattle.std.proofs.lemmas.Option.{none-some}
 use Rattle.std.specs.Int.Bits.{or_step, or_zero_r}
@@ -13,13 +13,13 @@ use Rattle.atomic_table.specs.Table.{State, opening, keeps, takes, Allows, rest}
 use Rattle.atomic_table.specs.Table as table
 use Rattle.atomic_table.proofs.Lists.{at_snoc, at_set, set_here, set_else}
 use Rattle.mg_node.specs.Views.{WorkView}
-use Rattle.mg_turns.specs.Parts.{PartView, FrameView, at, nodes_in, owner_in, tally_of, PartGrows, IsKind, Follows, Fits, AgreeParts, IsOutIn, IsMissingIn, source_at, JoinedParts}
+use Rattle.mg_turns.specs.Parts.{PartView, FrameView, at, nodes_in, owner_in, tally_of, PartGrows, IsKind, Follows, AgreeParts, IsMissingIn, source_at, JoinedParts}
 use Rattle.mg_turns.specs.Turns.{Turn, Sight}
 use Rattle.mg_turns.specs.Rule.{total, view, doubled, word_of, Sights, Lies, is_of, has_turn, first_view, InSlot, Noted, Shown, Ready, Orderly, Linked, Ruled}
-use Rattle.mg_turns.specs.Code.Plays.{Sat, turning, missing, left, Found, Took, HasTurn, Returns, Alike, Plainly, Lays, Claims, Brings, Kind, turn, tried_at, looked_at}
-use Rattle.mg_turns.proofs.Sums.{total-set, total-append, term_le, terms_le}
+use Rattle.mg_turns.specs.Code.Plays.{Sat, turning, missing, left, HasTurn, Returns, Alike, Plainly, Lays, Claims, Brings, Kind, turn, tried_at, looked_at}
+use Rattle.mg_turns.proofs.Sums.{total-set, term_le, terms_le}
 use Rattle.mg_turns.proofs.Words.{nothing_past, no_word_of}
-use Rattle.mg_turns.proofs.Grows.{part_same, part_further, sights_further}
+use Rattle.mg_turns.proofs.Grows.{part_same, sights_further}
 use Rattle.mg_turns.proofs.Links.{same_slot, is_of_yes, is_of_no, has, links_take, links_miss, links_plain, links_lay, links_claim, links_bring}
 use Rattle.mg_turns.specs.declared.view.View.{View}
 
@@ -99,7 +99,7 @@ or_even n e = omega (arith, or_step n 1, or_zero_r (n / 2))
 or_odd : (n : ℕ) → n % 2 ≡ 1 → bit_or n 1 ≡ n
 or_odd n e = omega (arith, or_step n 1, or_zero_r (n / 2))
 
--- one view has seen no more of a word than another
+-- one view has seen no more of a word's part than another
 abbrev Less : View → View → ℕ → Type 0
 Less w v r = (p : PartView) → Sights r p v.seen → Sights r p w.seen
 

@@ -1,5 +1,5 @@
 -- Facts between parts in different places.
-use Rattle.std.proofs.Common.{◌≡◌, ℕ, zero, suc, ◌+◌, ◌*◌, ◌%◌, ◌<◌, ◌≤◌, ◌≢◌, ◌⊎◌, eqb, cond, List, [], ◌∷◌, length, get_or, set, slice_get, sym, refl, ap, ◌∙◌, subst, inl, inr, ⊎_elim, arith, Option, Some, None, get_or-set_same, length-set, eq-eqb, ne_eqb}
+use Rattle.std.proofs.Common.{◌≡◌, ℕ, zero, suc, ◌+◌, ◌*◌, ◌%◌, ◌<◌, ◌≢◌, ◌⊎◌, cond, List, [], ◌∷◌, length, get_or, set, slice_get, sym, refl, ap, ◌∙◌, subst, inl, inr, ⊎_elim, arith, Option, Some, None, get_or-set_same, length-set, eq-eqb, ne_eqb}
 use Rattle.std.proofs.lemmas.Option.{none-some}
 use mathlib.Core.Logic.{dite}
 use mathlib.Core.Option as maybe
@@ -12,10 +12,10 @@ use Rattle.mg_node.specs.Views.{WorkView}
 use Rattle.mg_turns.specs.Parts.{PartView, FrameView, nodes_in, AgreeParts, IsOutIn, IsMissingIn, source_at, JoinedParts}
 use Rattle.mg_calc.specs.declared.edge.Edge.{Edge}
 use Rattle.mg_turns.specs.Turns.{Turn}
-use Rattle.mg_turns.specs.Rule.{total, is_of, has_turn, Homes, InSlot, Noted, Shown, HasWork, Linked, Orderly}
-use Rattle.mg_turns.specs.Code.Plays.{Like, Joins, Back, Goes, left, note_or, Plainly, Lays, Outs, Claims, Brings}
+use Rattle.mg_turns.specs.Rule.{is_of, has_turn, Homes, InSlot, Noted, Shown, HasWork, Linked, Orderly}
+use Rattle.mg_turns.specs.Code.Plays.{Like, Joins, Back, Goes, left, note_or, Plainly, Lays, Claims, Brings}
 use Rattle.mg_turns.specs.declared.view.View.{View}
-use Rattle.mg_turns.proofs.Sums.{total-set, term_le, terms_le}
+use Rattle.mg_turns.proofs.Sums.{term_le, terms_le}
 use Rattle.mg_turns.proofs.Grows.{like_self, joins_self}
 use Rattle.mg_turns.proofs.Words.{source_apart}
 
@@ -105,7 +105,7 @@ shown_home key s o i p d near even at-i shown = ⊎_elim
     (λ (x : Noted s.views i d). absurd (omega (arith, o.turns i near, has i x.1 x.2 x.3 x.5 x.6, term_le (has_turn i) s.views x.0 x.2 x.4)))
     shown
 
--- and so is the note of the seat that has the turn
+-- the note of the seat that has a part's turn is what is shown of the part
 pub shown_held : (key : FrameView) (s : St) → Orderly key s → (i j k : ℕ) (v : View) (t : Turn) (d : PartView) → i < length s.homes → get_elem? s.views j ≡ some v → get_elem? v.turns k ≡ some t → t.word ≡ i → Shown s.homes s.views i d → d ≡ t.note
 shown_held key s o i j k v t d near me at-k is shown =
     let one = o.turns i near in let mine = has i k v t at-k is in let part = term_le (has_turn i) s.views j v me in

@@ -1,27 +1,22 @@
 -- What some sets leave of a cell.
-use Rattle.std.proofs.Common.{◌≡◌, ◌≢◌, ◌<◌, ◌≤◌, ◌+◌, ◌-◌, ◌⊎◌, Bool, true, false, MatchBool, suc, ℕ, refl, [], ◌∷◌, List, length, map, ap, ◌∙◌, sym, subst, inl, inr, arith, Option, Some, None, slice_get}
-use Rattle.mg_value.specs.Payload.{Plain}
-use Rattle.mg_stream.specs.Pool.{Backlog}
-use Rattle.mg_calc.specs.declared.plan.Plan.{Plan}
+use Rattle.std.proofs.Common.{◌≡◌, ◌+◌, ◌-◌, Bool, true, false, MatchBool, suc, ℕ, refl, [], ap, ◌∙◌, sym, subst, inl, inr, arith, Option, None}
 use Rattle.mg_node.specs.declared.role.Role.{Role}
 use Rattle.mg_node.specs.declared.claimed.Claimed.{Claimed}
-use Rattle.mg_node.specs.declared.claimed.Claimed.TheVariants.{Work, Answered, NotReady, InFlightFull, Draining, Ended, OutOfMemory}
-use Rattle.mg_node.specs.Views.{IntakeView, WorkView, PerformedView, OutcomeView, EntryView, EngineView}
+use Rattle.mg_node.specs.declared.claimed.Claimed.TheVariants.{Work}
+use Rattle.mg_node.specs.Views.{IntakeView, WorkView, PerformedView, OutcomeView, EngineView}
 use Rattle.mg_node.specs.Job.{LoggedJob}
-use Rattle.mg_node.specs.Lawful.{of_node, AgreeBy, LawfulEngine, LawfulIntake, LawfulWork, LawfulPerformed, LawfulOutcome, Agree, AreCell}
-use Rattle.mg_node.specs.IntakeStanding.{Stays, IntakeGrows}
+use Rattle.mg_node.specs.Lawful.{of_node, AgreeBy, LawfulEngine, LawfulIntake, LawfulWork, LawfulOutcome, Agree, AreCell}
+use Rattle.mg_node.specs.IntakeStanding.{IntakeGrows}
 use Rattle.mg_node.specs.Standing.{EngineGrows}
-use Rattle.mg_node.specs.Ports.{port_queue}
-use Rattle.mg_node.specs.Running.{SomeJobHas, IsPerformed}
+use Rattle.mg_node.specs.Running.{IsPerformed}
 use Rattle.mg_node.specs.Shelves.{IsOut, shelved, outcome_of}
 use Rattle.mg_node.specs.Claims.{Claims, GivesOut, LawfulClaim}
 use Rattle.mg_node.specs.Commits.{SomeJobHasEngine, Commits}
 use Rattle.mg_node.proofs.Growing.{engine_further}
-use Rattle.mg_node.specs.Out.{IsMissing, ComesBack, GoesOut}
+use Rattle.mg_node.specs.Out.{IsMissing, ComesBack}
 use Rattle.mg_node.proofs.StaysOut.{committed_back, shelved_back}
-use Rattle.mg_turns.specs.Parts.{PartView, FrameView, at, nodes_in, an_engine, an_intake, PartGrows, Fits, FitsSome, Follows, AgreeParts, IsOutIn, IsMissingAt, IsMissingIn}
-use Rattle.mg_turns.specs.Code.Plays.{Joins, Outs}
-use Rattle.mg_turns.specs.Code.Running.{Returned, IsCellOf, CellSteps, IsDone, IsPutBack, SomeRound}
+use Rattle.mg_turns.specs.Parts.{PartView, FrameView, at, an_engine, an_intake, FitsSome, IsOutIn, IsMissingAt, IsMissingIn}
+use Rattle.mg_turns.specs.Code.Running.{Returned, CellSteps, IsDone, IsPutBack, SomeRound}
 use Rattle.mg_turns.specs.Rounds.{Rounds, Stops}
 use Rattle.mg_turns.specs.Sights.{has_after}
 use Rattle.std.proofs.lemmas.Option.{none-some}
@@ -52,7 +47,7 @@ pub shelve_returns : (outcome : OutcomeView) (e f : EngineView) → IsOut e outc
 shelve_returns outcome e f out is grows lawful = returned_by e f outcome.work.number (λ job. LawfulOutcome job outcome) (subst (λ (v : EngineView). ComesBack e v outcome.work.number) (sym is) (shelved_back e outcome out))
     (ap (λ (v : EngineView). v.role) is) (ap (λ (v : EngineView). v.claimed) is) (ap (λ (v : EngineView). v.first) is) (ap gones is) grows lawful
 
--- the same work, which was lawful before
+-- a work that came back, told by another number that is equal and another property that follows
 pub returns_by : (e f : EngineView) (number number' : ℕ) (Good Good' : LoggedJob → Type 0) → number ≡ number' → ((job : LoggedJob) → Good' job → Good job) → Returned e f number Good → Returned e f number' Good'
 returns_by e f number number' Good Good' same implies r = subst (λ (n : ℕ). Returned e f n Good') same (record {
   out = r.out;

@@ -1,5 +1,5 @@
 -- For the loops of `share`.
-use Rattle.std.proofs.Common.{◌≡◌, ℕ, zero, suc, take, take_all, ◌+◌, ◌<◌, ◌≤◌, List, [], ◌∷◌, ◌++◌, map, length, get_or, sym, refl, ap, ◌∙◌, arith, Option, Some, append_assoc, append-nil, replicate, slice_get}
+use Rattle.std.proofs.Common.{◌≡◌, ℕ, zero, take, take_all, ◌+◌, ◌<◌, ◌≤◌, List, [], ◌∷◌, ◌++◌, map, length, sym, refl, ap, ◌∙◌, arith, Option, Some, append_assoc, append-nil, replicate, slice_get}
 use Rattle.mg_calc.specs.declared.edge.Edge.{Edge}
 use Rattle.mg_calc.specs.declared.plan.Plan.{Plan}
 use Rattle.mg_turns.specs.Parts.{PartView, FrameView, source_at, EdgesFit}
@@ -14,7 +14,7 @@ pub ended : (slots all : List (Option PartView)) (rest : List PartView) → slot
 ended slots all [] before none = sym (append-nil slots) ∙ before
 ended slots all (x ∷ xs) before none = absurd (omega arith)
 
--- so many words of 0
+-- a list of zeros, one for each word
 pub no_words : (parts : List PartView) → replicate (length parts) zero ≡ map no_word_of parts
 no_words [] = refl
 no_words (p ∷ ps) = ap (λ (l : List ℕ). zero ∷ l) (no_words ps)

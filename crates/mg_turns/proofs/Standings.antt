@@ -1,5 +1,5 @@
 -- Numbers that a seat knows.
-use Rattle.std.proofs.Common.{◌≡◌, ◌≢◌, ℕ, ◌+◌, ◌*◌, ◌<◌, ◌≤◌, ◌==◌, max, cond, Bool, true, false, List, [], ◌∷◌, ◌++◌, Option, Some, None, refl, ap, sym, subst, ◌∙◌, arith}
+use Rattle.std.proofs.Common.{◌≡◌, ℕ, ◌+◌, ◌≤◌, ◌==◌, cond, Bool, true, false, List, [], ◌∷◌, ◌++◌, Option, Some, None, refl, ap, subst, arith}
 use Rattle.std.proofs.lemmas.Bool.{eqb-true, eq-eqb}
 use Rattle.std.proofs.Math.Nat.{le-max_left, le-max_right, max-le}
 use Rattle.mg_node.specs.Views.{IntakeView, EngineView}
@@ -42,7 +42,7 @@ second_counts number word x p xs = (let a = last_counts number word p xs in let 
 pub further_count : (number : PartView → ℕ) (word : ℕ) (x y : Sight) (xs : List Sight) → most_seen number word xs ≤ most_seen number word (x ∷ y ∷ xs)
 further_count number word x y xs = (let a = others_count number word y xs in let b = others_count number word x (y ∷ xs) in omega (arith, a, b))
 
--- of two lists of sights both count
+-- the greatest number over a list of sights is at most that over the list with others behind it
 pub first_count : (number : PartView → ℕ) (word : ℕ) (xs ys : List Sight) → most_seen number word xs ≤ most_seen number word (xs ++ ys)
 first_count number word [] ys = omega arith
 first_count number word (x ∷ xs) ys =

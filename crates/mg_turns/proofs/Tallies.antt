@@ -1,23 +1,18 @@
 -- The tallies of parts, and their words.
-use Rattle.std.proofs.Common.{◌≡◌, ℕ, zero, suc, ◌+◌, ◌-◌, ◌*◌, ◌<◌, ◌≤◌, ◌≢◌, refl, ap, sym, ◌∙◌, subst, arith, Option, Some, None, length, List}
-use Rattle.std.proofs.lemmas.Option.{none-some}
+use Rattle.std.proofs.Common.{◌≡◌, ℕ, zero, suc, ◌+◌, ◌-◌, ◌*◌, ◌<◌, ◌≤◌, ◌≢◌, refl, ap, sym, ◌∙◌, subst, arith, Option, Some, None}
 use mathlib.Core.Logic.{dite}
 use native.Mathlib.Decide.{ℕ_discrete}
 use Rattle.mg_node.specs.Views.{IntakeView, EngineView}
-use Rattle.mg_node.specs.Job.{ports_of}
-use Rattle.mg_node.specs.Lawful.{Owner, of_node}
 use Rattle.mg_stream.specs.Queue.{count_of}
 use Rattle.mg_node.specs.declared.waits.Waits.{Waits}
 use Rattle.mg_node.specs.Ports.{port_queue}
 use Rattle.mg_node.specs.IntakeStanding.{Stays, IntakeGrows}
 use Rattle.mg_node.specs.Standing.{EngineGrows}
-use Rattle.mg_turns.specs.Words.{Whose, intake_of, engine_of}
-use Rattle.mg_turns.specs.Parts.{PartView, FrameView, at, nodes_in, owner_in, an_engine, an_intake, came_to, tally_by, tally_of, tally_since, ports_by, Grown, PartGrows, Follows}
+use Rattle.mg_turns.specs.Parts.{FrameView, at, owner_in, an_engine, an_intake, came_to, tally_by, tally_of, tally_since, ports_by, Grown, Follows}
 use Rattle.mg_turns.specs.Rule.{doubled, word_of}
 use Rattle.mg_turns.specs.Code.Plays.{CellWords}
-use Rattle.mg_turns.proofs.Words.{intake_at}
 
--- as many came to each port, so as many came in all
+-- where each port counts the same number of packets, so do all together
 pub came_same : (v w : Waits) (n : ℕ) → ((port : ℕ) → count_of (port_queue w port) ≡ count_of (port_queue v port)) → came_to w n ≡ came_to v n
 came_same v w zero same = refl
 came_same v w (suc n) same = omega (arith, came_same v w n same, same n)

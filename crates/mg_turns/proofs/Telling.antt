@@ -1,13 +1,12 @@
 -- What the answers of the calls on a node say of what the seat knows.
-use Rattle.std.proofs.Common.{◌≡◌, ◌≢◌, ℕ, zero, suc, ◌+◌, ◌*◌, ◌<◌, ◌≤◌, max, Bool, true, false, List, [], ◌∷◌, length, length-drop, drop, map, All, Option, Some, None, option_map, IfSome, slice_get, slice_index_or, inl, inr, refl, ap, sym, subst, ◌∙◌, arith, if◌then◌else◌, nat_lt}
+use Rattle.std.proofs.Common.{◌≡◌, ◌≢◌, ℕ, zero, suc, ◌+◌, ◌*◌, ◌<◌, ◌≤◌, Bool, true, List, [], ◌∷◌, length, length-drop, drop, map, All, Option, Some, None, option_map, IfSome, slice_get, slice_index_or, inl, inr, refl, ap, sym, subst, ◌∙◌, arith, if◌then◌else◌, nat_lt}
 use Rattle.std.proofs.lemmas.Bool.{ltb-true, cases_Bool, false≢true}
 use Rattle.std.proofs.lemmas.List.{nil_from_length}
 use Rattle.std.proofs.Math.Nat.{le-max_right}
 use Rattle.mg_time.specs.Time.{done}
 use Rattle.mg_value.specs.Payload.{Plain}
-use Rattle.mg_value.specs.Prefix.{Stamped, StreamPrefix, IsPrefix}
-use Rattle.mg_value.specs.Settled.{TimedSet, settled_sets, reach}
-use Rattle.mg_value.specs.Loopback.{replies}
+use Rattle.mg_value.specs.Prefix.{StreamPrefix, IsPrefix}
+use Rattle.mg_value.specs.Settled.{TimedSet, settled_sets}
 use Rattle.mg_value.specs.declared.policy.Policy.{Policy}
 use Rattle.mg_value.proofs.Lemmas.{first-time, all_without_first}
 use Rattle.mg_stream.specs.Queue.{Waiting, StandsFor}
@@ -16,7 +15,6 @@ use Rattle.mg_policy.specs.Inbox.{rests, next_set, IsOver as IsOverInbox, StandA
 use Rattle.mg_policy.specs.declared.readiness.Readiness.TheVariants.{Close as AtEnd, NotReady as NotYet}
 use Rattle.mg_policy.proofs.Answered.{tells_close, none_next}
 use Rattle.mg_policy.proofs.Standing.{gone_of, all_prefixes, rests-left, what_is_the_reach}
-use Rattle.mg_loopback.specs.Standing.{StandsAfter}
 use Rattle.mg_loopback.proofs.Standing.{all_told}
 use Rattle.mg_node.specs.Views.{IntakeView, OutcomeView, EngineView}
 use Rattle.mg_node.specs.declared.role.Role.{Role}
@@ -31,13 +29,13 @@ use Rattle.mg_node.specs.Ports.{IsNext}
 use Rattle.mg_node.specs.Windows.{has_ended}
 use Rattle.mg_node.specs.Outputs.{laid_at}
 use Rattle.mg_node.specs.Claims.{IsOver, IsEarly, Claims}
-use Rattle.mg_node.specs.Advances.{raised_output, advance_bound, advanced, any_moved, any_moved_by, is_advanced}
+use Rattle.mg_node.specs.Advances.{raised_output, advance_bound, advanced, any_moved, any_moved_by}
 use Rattle.mg_node.proofs.Horizons.{none_over}
 use Rattle.mg_turns.specs.Parts.{FrameView, nodes_in, an_engine, an_intake, FitsSome}
 use Rattle.mg_turns.specs.Sights.{sight}
 use Rattle.mg_turns.specs.Standings.{laid_bound_in, sets_in, known_laid_bound, known_sets}
-use Rattle.mg_turns.specs.Calls.{HasClaimed, HasRaised, TriesClaim, TriesRaise, TriesRun, TriesCommit}
-use Rattle.mg_turns.specs.Told.{LeftCell, IsRaised, SomeRose, RaiseTells, RepliesTell, AllTells, IsStill, MayClose, claimed_to, ClaimSays, AnswerTells, ClaimTells, committed_in, RunTells, TellsLaid, CommitTells}
+use Rattle.mg_turns.specs.Calls.{HasClaimed, TriesClaim, TriesRaise, TriesRun, TriesCommit}
+use Rattle.mg_turns.specs.Told.{RaiseTells, AllTells, IsStill, MayClose, claimed_to, ClaimSays, AnswerTells, ClaimTells, RunTells, CommitTells}
 use Rattle.mg_turns.specs.declared.view.View.{View}
 use Rattle.mg_turns.specs.declared.tried.Tried.{Tried}
 use Rattle.mg_turns.specs.declared.tried.Tried.TheVariants.{Done, Busy}

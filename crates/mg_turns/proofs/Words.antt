@@ -1,7 +1,7 @@
 -- The numbers of the words, and the parts at them.
-use Rattle.std.proofs.Common.{◌≡◌, ℕ, ◌+◌, ◌-◌, ◌*◌, ◌/◌, ◌%◌, ◌<◌, ◌≤◌, ◌≢◌, ◌==◌, Bool, true, false, nat_lt, refl, ap, sym, ◌∙◌, subst, arith, eq-eqb, ne_eqb, length, if◌then◌else◌}
+use Rattle.std.proofs.Common.{◌≡◌, ℕ, ◌+◌, ◌-◌, ◌*◌, ◌/◌, ◌%◌, ◌<◌, ◌≤◌, ◌==◌, Bool, true, false, nat_lt, refl, ap, sym, ◌∙◌, subst, arith, eq-eqb, ne_eqb, if◌then◌else◌}
 use Rattle.std.proofs.lemmas.Bool.{lt-ltb, le-ltb, ltb-true, eqb-true, eqb-false}
-use Rattle.mg_node.specs.Lawful.{Owner, of_node, of_input}
+use Rattle.mg_node.specs.Lawful.{of_node, of_input}
 use Rattle.mg_turns.specs.Words.{Whose, intake_of, engine_of, word_at, whose}
 use Rattle.mg_turns.specs.Parts.{FrameView, nodes_in, owner_in, IsSource}
 
@@ -26,7 +26,7 @@ input_at nodes input =
     ap (by_side nodes (2 * nodes + 1 + input)) (lt-ltb (2 * nodes) (2 * nodes + 1 + input) (omega arith))
     ∙ ap (λ (x : ℕ). engine_of (of_input x)) (omega arith)
 
--- and back: each word is that of the part whose it is
+-- the word of the part to which a word belongs is that word
 back_parity : (nodes word : ℕ) (even : Bool) → (word % 2 == 0) ≡ even → word_at nodes (by_parity word even) ≡ word
 back_parity nodes word true e = omega (arith, eqb-true (word % 2) 0 e)
 back_parity nodes word false e = (let ne = eqb-false (word % 2) 0 e in omega (arith, ne))

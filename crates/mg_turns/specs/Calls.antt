@@ -72,7 +72,7 @@ abbrev pub TriesRaise : Tried Bool → ℕ → View → View → Type 0
 TriesRaise (Done result) node v w = HasRaised result node v w
 TriesRaise (Busy word) node v w = Missed (2 * node + 1) (2 * node) word v w
 
--- so many rounds of the cell that was found, and no more work where that are fewer than were asked for
+-- a call made this many rounds on the cell that it found, and, where these are fewer than were asked for, no further work could be done
 pub record HasRun (done most node : ℕ) (v w : View) : Type 0 where
   pub engine : EngineView
   pub engine_then : EngineView
@@ -110,7 +110,7 @@ abbrev pub TriesAppend : Tried Delivered → Plan → Edge → View → View →
 TriesAppend (Done result) plan edge v w = HasBrought result (source_at plan edge) edge v w
 TriesAppend (Busy word) plan edge v w = Missed (source_at plan edge) (2 * edge.node) word v w
 
--- so many packets wait at the port of an edge, in the intake that was found, which is left as it is
+-- this many packets wait at the port of an edge, in the intake that the call found; the intake is left as it is
 pub record HasCounted (waiting : ℕ) (edge : Edge) (v w : View) : Type 0 where
   pub intake : IntakeView
   pub found : Finds v (2 * edge.node) (an_intake intake)
@@ -138,7 +138,7 @@ pub record HasCommitted (laid : ℕ) (outcome : OutcomeView) (v w : View) : Type
   pub commits : Commits outcome laid engine engine_now
   pub left : w ≡ left_one v (2 * outcome.work.node + 1) (an_engine engine_now) None
 
--- there was no memory, and the engine is as it was found
+-- a commit found no memory: the engine is left as the call found it
 pub record FoundNone (outcome : OutcomeView) (v w : View) : Type 0 where
   pub engine : EngineView
   pub found : Finds v (2 * outcome.work.node + 1) (an_engine engine)

@@ -1,6 +1,6 @@
 -- What is given back: each part is back, and came of the one that was shared; the cells agree, and no work is out.
 use Rattle.std.specs.Prelude.{◌≡◌, ℕ, ◌+◌, ◌*◌, ◌<◌, List, Some, length, slice_get}
-use Rattle.mg_turns.specs.Parts.{PartView, FrameView, blank_plan, at, nodes_in, Follows, AgreeParts, IsMissingIn, source_at, JoinedParts}
+use Rattle.mg_turns.specs.Parts.{PartView, FrameView, at, nodes_in, Follows, AgreeParts, IsMissingIn, source_at, JoinedParts}
 use Rattle.mg_calc.specs.declared.edge.Edge.{Edge}
 use Rattle.mg_turns.specs.Rule.{Sights}
 use Rattle.mg_turns.specs.declared.view.View.{View}

@@ -1,6 +1,6 @@
 -- Parts of a net as they lie in the slots of a table, and the frame from which they were shared.
-use Rattle.std.specs.Prelude.{◌≡◌, ◌≢◌, ℕ, zero, suc, pos, ◌+◌, ◌-◌, ◌*◌, ◌/◌, ◌<◌, ◌≤◌, map, List, [], length, Option, Some, None, slice_index_or, slice_index, slice_get, option_map, refl}
-use Rattle.std.specs.Coded.{Coded, code_by, coded×, coded_ℕ, coded_list, coded_option}
+use Rattle.std.specs.Prelude.{◌≡◌, ◌≢◌, ℕ, zero, suc, pos, ◌+◌, ◌-◌, ◌*◌, ◌<◌, ◌≤◌, map, List, [], length, Option, Some, None, slice_index_or, slice_index, slice_get, option_map, refl}
+use Rattle.std.specs.Coded.{Coded, code_by, coded×, coded_list, coded_option}
 use Rattle.mg_value.specs.Payload.{Plain}
 use Rattle.mg_stream.specs.Pool.{Backlog}
 use Rattle.mg_stream.specs.Queue.{count_of}
@@ -80,7 +80,7 @@ tally_of key word p = tally_by (ports_by key (owner_in key word)) p.engine p.int
 abbrev pub tally_since : FrameView → ℕ → PartView → ℕ
 tally_since key word p = tally_of key word p - tally_of key word (at key word)
 
--- one thing grew to another, or neither is there
+-- either both are there, and the first grew to the second; or neither is there
 abbrev pub Grown : {X : Type 0} → (X → X → Type 0) → Option X → Option X → Type 0
 Grown R None None = Unit {0}
 Grown R (Some x) (Some y) = R x y
@@ -102,7 +102,7 @@ pub record Fits (job : LoggedJob) (key : FrameView) : Type 0 where
   pub plan : job.job.plan ≡ key.plan
   pub parts : (word : ℕ) → word < length key.parts → LawfulPart job (owner_in key word) (at key word)
 
--- there is a job for which they are
+-- there is a job for which the parts of a frame are lawful
 pub record FitsSome (key : FrameView) : Type 0 where
   pub job : LoggedJob
   pub fits : Fits job key

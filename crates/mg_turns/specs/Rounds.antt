@@ -16,12 +16,12 @@ pub record Works (laid : ℕ) (engine now : EngineView) (intake intake_now : Int
   pub performs : IsPerformed work performed
   pub commits : Commits (outcome_of performed) laid claimed now
 
--- one round: a work, or an answer of a loopback, which is laid at once
+-- one round: a work is claimed, performed and committed, or a loopback gives an answer, which is laid at once
 abbrev pub Round : ℕ → EngineView → EngineView → IntakeView → IntakeView → Type 0
 Round laid engine now intake intake_now =
     Works laid engine now intake intake_now ⊎ ((laid ≡ 1) × Claims {C = Unit {0}} Answered engine now intake intake_now)
 
--- so many rounds one after the other, and so many sets that they laid
+-- a number of rounds one after the other, and how many sets these laid together
 abbrev pub Rounds : ℕ → ℕ → EngineView → EngineView → IntakeView → IntakeView → Type 0
 Rounds zero laid engine now intake intake_now = (laid ≡ 0) × (now ≡ engine) × (intake_now ≡ intake)
 Rounds (suc n) laid engine now intake intake_now =

@@ -1,5 +1,5 @@
 -- The rule of the table. The lowest bit of a word says that a seat has its turn.
-use Rattle.std.specs.Prelude.{◌≡◌, ◌≢◌, ℕ, zero, suc, ◌+◌, ◌*◌, ◌/◌, ◌%◌, ◌<◌, ◌≤◌, ◌==◌, ◌⊎◌, List, [], ◌∷◌, length, map, drop, slice_index, slice_get, cond, Option, None, Some}
+use Rattle.std.specs.Prelude.{◌≡◌, ◌≢◌, ℕ, zero, suc, ◌+◌, ◌*◌, ◌/◌, ◌%◌, ◌<◌, ◌==◌, ◌⊎◌, List, [], ◌∷◌, length, drop, slice_index, slice_get, cond, Option, None, Some}
 use mathlib.Core.Option.{some, none}
 use mathlib.Core.Option as maybe
 use lib.ListN.{get_elem?}
@@ -58,8 +58,8 @@ abbrev pub HasWork : List View → ℕ → ℕ → Type 0
 HasWork views node number = (j : ℕ) × (v : View) × (w : WorkView) × (get_elem? views j ≡ some v) × (v.work ≡ Some w) × (w.node ≡ node) × (w.number ≡ number)
 
 -- no two views have the same work
-abbrev pub Linked_apart : List View → Type 0
-Linked_apart views = (j k : ℕ) (v u : View) (w x : WorkView) → j ≢ k → get_elem? views j ≡ some v → get_elem? views k ≡ some u → v.work ≡ Some w → u.work ≡ Some x → w.node ≡ x.node → w.number ≢ x.number
+abbrev pub WorksApart : List View → Type 0
+WorksApart views = (j k : ℕ) (v u : View) (w x : WorkView) → j ≢ k → get_elem? views j ≡ some v → get_elem? views k ≡ some u → v.work ≡ Some w → u.work ≡ Some x → w.node ≡ x.node → w.number ≢ x.number
 
 -- facts between parts in different places
 pub record Linked (key : FrameView) (homes : Homes) (views : List View) : Type 0 where
@@ -68,7 +68,7 @@ pub record Linked (key : FrameView) (homes : Homes) (views : List View) : Type 0
   -- (2) each work of a view is out of its engine, no two views have the same one, and each that is out is in a view
   pub within : (j : ℕ) (v : View) (w : WorkView) → get_elem? views j ≡ some v → v.work ≡ Some w → w.node < nodes_in key
   pub out : (j : ℕ) (v : View) (w : WorkView) (p : PartView) → get_elem? views j ≡ some v → v.work ≡ Some w → Shown homes views (2 * w.node + 1) p → IsOutIn p w
-  pub apart : (j k : ℕ) (v u : View) (w x : WorkView) → j ≢ k → get_elem? views j ≡ some v → get_elem? views k ≡ some u → v.work ≡ Some w → u.work ≡ Some x → w.node ≡ x.node → w.number ≢ x.number
+  pub apart : WorksApart views
   pub complete : (n number : ℕ) (p : PartView) → n < nodes_in key → Shown homes views (2 * n + 1) p → IsMissingIn p number → HasWork views n number
   -- (5) no more came to the port of an edge than was laid at its output
   pub joined : (k : ℕ) (e : Edge) (p q : PartView) → slice_get key.plan.edges k ≡ Some e → Shown homes views (source_at key.plan e) p → Shown homes views (2 * e.node) q → JoinedParts p e q
@@ -95,7 +95,7 @@ pub record Orderly (key : FrameView) (s : State (Option PartView) View) : Type 0
   pub taken : (i : ℕ) → i < length s.homes → slice_index s.words i % 2 ≡ 1 → get_elem? s.homes i ≡ some none
   -- no view saw more of a part than what stands in its slot
   pub seen_free : (i : ℕ) (p : PartView) → i < length s.homes → slice_index s.words i % 2 ≡ 0 → get_elem? s.homes i ≡ some (some (Some p)) → (j : ℕ) (v : View) → get_elem? s.views j ≡ some v → Sights i p v.seen
-  -- nor more than the note of the seat that has the turn
+  -- no view saw more of a part than the note of the seat that has its turn
   pub seen_held : (j k : ℕ) (v : View) (t : Turn) → get_elem? s.views j ≡ some v → get_elem? v.turns k ≡ some t → (l : ℕ) (u : View) → get_elem? s.views l ≡ some u → Sights t.word t.note u.seen
 
 -- a frame that can be shared: the cells agree, and no work is out

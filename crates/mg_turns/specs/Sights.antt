@@ -18,8 +18,8 @@ pub record Finds (v : View) (word : ℕ) (p : PartView) : Type 0 where
 abbrev pub sight : ℕ → PartView → Sight
 sight word p = record { word = word; part = p }
 
--- one of two words was found held: the seat counts one more miss, and names the word. Where it had the first turn by then, that part is
--- back as it was found, and the seat has a sight of it.
+-- Of the two words that a call uses one was found held: the seat counts one more miss, and names the word. Where the call had taken the
+-- first turn by then, that part is back as it was found, and the seat has a sight of it.
 abbrev pub Missed : ℕ → ℕ → ℕ → View → View → Type 0
 Missed first second word v w =
     (((word ≡ first) ⊎ (word ≡ second)) × (w ≡ view v.key v.portion (v.misses + 1) v.splits (Some word) v.turns v.work v.seen))
@@ -39,7 +39,7 @@ pub record FindsCell (v : View) (node : ℕ) (engine : EngineView) (intake : Int
   pub intake_found : Finds v (2 * node) (an_intake intake)
   pub agree : Agree engine intake
 
--- and as it left them
+-- the view of a seat whose call left the engine and the intake of a node like this
 abbrev pub cell_left : View → ℕ → EngineView → IntakeView → Option WorkView → View
 cell_left v node engine intake work = left_two v (2 * node + 1) (an_engine engine) (2 * node) (an_intake intake) work
 
@@ -52,7 +52,7 @@ abbrev pub has_after : {X : Type 0} → Claimed X → Option WorkView → Option
 has_after (Work w) had = Some w
 has_after _ had = had
 
--- so much of the portion is handed over
+-- the view of a seat that handed over this much of its portion
 abbrev pub kept_after : ℕ → View → View
 kept_after n v = view v.key (v.portion - n) v.misses (v.splits + 1) v.missed v.turns v.work v.seen
 

@@ -44,7 +44,7 @@ abbrev pub most_seen : (PartView → ℕ) → ℕ → List Sight → ℕ
 most_seen number word [] = 0
 most_seen number word (x ∷ xs) = max (cond (x.word == word) (number x.part) 0) (most_seen number word xs)
 
--- as far as a seat knows: how many packets came to a port of a consumer, and the port's bound
+-- what a seat knows of a port: how many packets came there, and the bound
 abbrev pub known_came : View → ℕ → ℕ → ℕ
 known_came v consumer port = most_seen (λ p. count_in p port) (2 * consumer) v.seen
 

@@ -1,7 +1,7 @@
 -- What each answer of a call says of what the seat knows: before the call, v, and after it, w. In these pages d is the number of sets,
 -- calls or answers that an engine has laid, and c that of the works behind which the next one is claimed: those that are laid and
 -- those of its window.
-use Rattle.std.specs.Prelude.{◌≡◌, ◌≢◌, ℕ, ◌+◌, ◌-◌, ◌*◌, ◌<◌, ◌≤◌, ◌⊎◌, ◌∷◌, ⊤, Bool, true, cond, length, List, [], Option, Some, None, IfSome, is_some, slice_get}
+use Rattle.std.specs.Prelude.{◌≡◌, ◌≢◌, ℕ, ◌+◌, ◌-◌, ◌*◌, ◌<◌, ◌≤◌, ◌⊎◌, ◌∷◌, ⊤, Bool, true, cond, length, List, [], Some, IfSome, is_some, slice_get}
 use Rattle.mg_time.specs.Time.{done}
 use Rattle.mg_value.specs.Payload.{Plain}
 use Rattle.mg_value.specs.Prefix.{StreamPrefix}
@@ -20,10 +20,9 @@ use Rattle.mg_node.specs.declared.waits.Waits.TheVariants.{Sets as WaitingSets, 
 use Rattle.mg_node.specs.declared.delivered.Delivered.{Delivered}
 use Rattle.mg_node.specs.declared.delivered.Delivered.TheVariants.{Moved, OutOfMemory as NoMemory}
 use Rattle.mg_node.specs.declared.claimed.Claimed.{Claimed}
-use Rattle.mg_node.specs.declared.claimed.Claimed.TheVariants.{Work, Answered, NotReady, InFlightFull, Draining, Ended, OutOfMemory}
+use Rattle.mg_node.specs.declared.claimed.Claimed.TheVariants.{Answered, NotReady, InFlightFull, Draining, Ended}
 use Rattle.mg_node.specs.Windows.{has_ended}
 use Rattle.mg_node.specs.Shelves.{back}
-use Rattle.mg_node.specs.Outputs.{laid_at}
 use Rattle.mg_node.specs.Advances.{advance_bound}
 use Rattle.mg_turns.specs.Parts.{FrameView, at, an_engine, an_intake, first_in, source_at}
 use Rattle.mg_turns.specs.Sights.{sight}
@@ -41,7 +40,7 @@ use Rattle.mg_turns.specs.declared.tried.TriedCommit.TheVariants.{Laid, Busy as 
 abbrev pub output_of : FrameView → Edge → ℕ
 output_of key e = e.stream - first_in (at key (source_at key.plan e))
 
--- so many packets came to the edge's port, by what was known of it
+-- at least this many packets came to the edge's port since the seat last saw it
 abbrev pub HasCome : ℕ → Edge → View → View → Type 0
 HasCome n e v w = known_came v e.node e.port + n ≤ known_came w e.node e.port
 
@@ -53,7 +52,7 @@ pub record TellsMoved (n : ℕ) (key : FrameView) (e : Edge) (v w : View) : Type
   pub came : HasCome n e v w
   -- all that was laid is there, or 256 packets more
   pub enough : HasAll key e w ⊎ HasCome 256 e v w
-  -- and where all is there, the bound is
+  -- where all packets that were laid are at the port, the bound is there too
   pub bound : HasAll key e w → known_laid_bound w (source_at key.plan e) (output_of key e) ≤ known_bound w e.node e.port
 
 abbrev pub AppendTells : Tried Delivered → FrameView → Edge → View → View → Type 0
@@ -144,7 +143,7 @@ pub record StandsBack (e : EngineView) : Type 0 where
 abbrev pub RunEnds : EngineView → IntakeView → Type 0
 RunEnds e i = GivesNone e e i i ⊎ StandsBack e
 
--- so many works were committed, by what was known of them
+-- at least this many works were committed since the seat last saw the engine; where that is fewer than were asked for, the reason holds
 pub record RunSays (done most node : ℕ) (v : View) (e : EngineView) (i : IntakeView) : Type 0 where
   pub committed : known_sets v node + done ≤ committed_in e
   pub ends : done < most → RunEnds e i
@@ -155,7 +154,7 @@ RunTells (Busy word) most node v w = ⊤
 
 -- Commits.
 
--- so many more are laid; and what was performed is, where it is next, unless the node has ended
+-- at least this many more sets are laid; and where the work was performed, it isn't the next one to lay any more, unless the node has ended
 pub record TellsLaid (n : ℕ) (outcome : OutcomeView) (v w : View) : Type 0 where
   pub engine : EngineView
   pub seen : w.seen ≡ sight (2 * outcome.work.node + 1) (an_engine engine) ∷ v.seen

@@ -14,7 +14,7 @@ word_at nodes (intake_of consumer) = 2 * consumer
 word_at nodes (engine_of (of_node node)) = 2 * node + 1
 word_at nodes (engine_of (of_input input)) = 2 * nodes + 1 + input
 
--- and the other way: whose part has a word
+-- the part to which a word belongs, where there are so many nodes
 abbrev pub whose : ℕ → ℕ → Whose
 whose nodes word =
     if nat_lt (2 * nodes) word then engine_of (of_input (word - (2 * nodes + 1)))

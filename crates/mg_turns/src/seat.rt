@@ -79,7 +79,7 @@ impl<C: Calculator> NetSeat<C> {
         requires work { IfSome (view_of other).work (λ _. (view_of self.old).work ≡ None) }
         ensures joined { IsSeatOf net.now self.new × (view_of self.new ≡ joined (view_of self.old) (view_of other)) }
 
-        // It knows what both knew.
+        // The seat knows afterwards what either of the two knew.
         ensures knows { KnowsToo (view_of self.old) (view_of self.new) × KnowsToo (view_of other) (view_of self.new) }
     {
         let NetSeat {

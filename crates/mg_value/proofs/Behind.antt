@@ -103,7 +103,7 @@ behind_is_prefix {X} t s h = drop_is_prefix (prefix_len (λ (p : Stamped X). leb
 pub from_is_prefix : {X : Type 0} (t : ℕ) (s : StreamPrefix X) → IsPrefix s → IsPrefix (from t s)
 from_is_prefix {X} t s h = drop_is_prefix (prefix_len (λ (p : Stamped X). ltb p.at t) s.packets) s h
 
--- the same of lists
+-- prefixes stay prefixes where sets are claimed of all of them, and where the packets of a time or before it go
 pub all_after_sets : (policy : Policy) (k : ℕ) (ss : List (StreamPrefix Plain)) → All IsPrefix ss → All IsPrefix (after_sets policy k ss)
 all_after_sets policy k ss h =
     let test = goes policy (take k (set_times policy ss)) in

@@ -17,7 +17,7 @@ use Rattle.mg_value.proofs.Climbs.{prefix-rises}
 use Rattle.mg_value.proofs.Ports.{port-prefix}
 use Rattle.mg_value.proofs.GonePackets.{rest_after, length-without_first, port-without_first, sets-gone}
 
--- one prefix: the packets that go with a further set join those that are gone
+-- of one prefix: the packets that go with a further set join those that are gone
 joined : {X : Type 0} (policy : Policy) (lead : Bool) (ts us : List ℕ) (s : StreamPrefix X) (n m : ℕ) → IsPrefix s → MayBeGone policy lead ts s n → m ≤ length s.packets → drop m s.packets ≡ left_of (goes policy us) (drop n s.packets) → MayBeGone policy lead (ts ++ us) s m
 joined {X} policy lead ts us s n m h gone few left = record {
   within = few;

@@ -45,7 +45,7 @@ after-added policy k j ss h =
     without-twice (goes policy ts) (goes policy us) (goes policy (ts ++ us)) (goes-append policy ts us) ss
     ∙ ap (λ (vs : List ℕ). map (without (goes policy vs)) ss) (sym (further_times policy k j ss rs (sets-after policy k ss h)))
 
--- one prefix
+-- of one prefix: packets that go first, and packets that go of what is left then, go together
 gone-joined : {X : Type 0} (policy : Policy) (lead : Bool) (ts us : List ℕ) (s : StreamPrefix X) (n m : ℕ) → MayBeGone policy lead ts s n → MayBeGone policy lead us (rest_after n s) m → MayBeGone policy lead (ts ++ us) s (n + m)
 gone-joined {X} policy lead ts us s n m first more =
     let ps = s.packets in

@@ -35,7 +35,7 @@ pub extended_both_ways : {X : Type 0} (s t : StreamPrefix X) → IsExtendedBy s 
 extended_both_ways {X} s t e f =
     same_further s t e (nothing_added s.packets e.further f.further (f.packets ∙ ap (λ (ps : List (Stamped X)). ps ++ f.further) e.packets)) f.bound
 
--- the same of lists
+-- laws of extension, told of lists of prefixes
 pub all_by_themselves : {X : Type 0} (ss : List (StreamPrefix X)) → AreExtendedBy ss ss
 all_by_themselves [] = tt
 all_by_themselves (s ∷ ss) = (extended_by_itself s, all_by_themselves ss)

@@ -6,7 +6,7 @@ use Rattle.std.proofs.lemmas.Bool.{cases_Bool}
 pub one_more : (n : ℕ) → 1 + n ≡ suc n
 one_more n = omega arith
 
--- they stay
+-- the elements at the front that pass a test are the first of those that pass a weaker one, whatever comes behind the list
 pub take_while_grows : {X : Type 0} (f g : X → Bool) (xs ys : List X) → ((x : X) → f x ≡ true → g x ≡ true) → take (prefix_len f xs) (take_while g (xs ++ ys)) ≡ take_while f xs
 take_while_grows f g [] ys more = refl
 take_while_grows {X} f g (x ∷ xs) ys more = elim (cases_Bool (f x)) [

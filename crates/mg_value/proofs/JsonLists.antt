@@ -84,7 +84,7 @@ pub keys_ascend : (es : List Entry) (ms : List Member) → map entry_said es ≡
 keys_ascend es ms e h =
     subst (IsStrictlySortedBy (slice_cmp nat_cmp)) (sym (keys-map es ∙ ap first_parts e ∙ names-map ms)) (sorted_by_bytes (keys_of ms) h)
 
--- one more value says one more payload
+-- with one more JSON value a list says one more payload
 pub one_more : (ps : List Payload) (i : ℕ) (p : Payload) (before after : List Value) (v : Value) → i < length ps → p ≡ get_or ps i p → map view before ≡ map payload_said (take i ps)
     → after ≡ before ++ v ∷ [] → view v ≡ payload_said p → map view after ≡ map payload_said (take (i + 1) ps)
 one_more ps i p before after v within is said pushed value =

@@ -108,7 +108,7 @@ put_first : (x : Option (Stamped Plain)) (rs : List (Stamped Plain)) → cons_op
 put_first None rs = refl
 put_first (Some p) rs = refl
 
--- one more of the first packets
+-- to leave out one first packet more leaves what stands behind it
 drop-next : (n : ℕ) (ps : List (Stamped Plain)) (q : Stamped Plain) (qs : List (Stamped Plain)) → drop n ps ≡ q ∷ qs → drop (suc n) ps ≡ qs
 drop-next zero [] q qs is = absurd cc
 drop-next zero (p ∷ ps) q qs is = (let same : ps ≡ qs = cc in same)
@@ -161,7 +161,7 @@ pub answered_prefix : (previous : Option ℕ) (rest now : StreamPrefix Plain) �
 answered_prefix None rest now h is = subst IsPrefix (sym is) h
 answered_prefix (Some t) rest now h is = subst IsPrefix (sym is) (behind_is_prefix t rest h)
 
--- So many packets of MAIN are answered, and with those that are left it comes to the same.
+-- This many packets of MAIN are answered; their answers, and those to what is left, are the answers to all.
 pub record AreSoFar (first : Option (Stamped Plain)) (main loop : StreamPrefix Plain) (previous : Option ℕ) (left rest : StreamPrefix Plain) (packets : List (Stamped Plain)) : Type 0 where
   pub before : Option (Stamped Plain)
   pub time : previous ≡ time_before before

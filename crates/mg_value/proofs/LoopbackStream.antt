@@ -73,7 +73,7 @@ not_post {X} loop (p ∷ q ∷ qs) alone =
     (recursion_from_All (λ (r : Stamped X). r.at ≡ post_stream → ⊥) (p ∷ q ∷ qs)
     (All-weaker (λ (r : Stamped X). r.at ≡ post_stream → length (p ∷ q ∷ qs) ≡ 1) (λ (r : Stamped X). r.at ≡ post_stream → ⊥) (λ r h e. (let one = h e in omega (arith, one))) (p ∷ q ∷ qs) alone))
 
--- as many answers as packets that are answered
+-- there are as many answers as packets that are answered
 pub length-replies : {X : Type 0} (main loop : StreamPrefix X) → length (replies main loop) ≡ number loop None main.packets
 length-replies main loop = length-map (take_while (is_answered loop) (with_previous main.packets)) (reply loop) ∙ length-prefix_len (is_answered loop) (with_previous main.packets)
 

@@ -64,7 +64,7 @@ further-from f (x ∷ xs) ys a b c h above = elim (cases_Bool (f x)) [
   | inr fails ↦ rw fails (Climbs-from x.at c (x ∷ (xs ++ ys)) (omega arith, h.1))
 ]
 
--- of the elements behind some first ones, those among some first ones
+-- what holds of all elements behind some first ones holds of those among any first ones
 front-of-rest : {X : Type 0} (P : X → Type 0) (n m : ℕ) (xs : List X) → AllByRecursion P (drop n xs) → AllByRecursion P (drop n (take m xs))
 front-of-rest P zero zero xs h = tt
 front-of-rest P zero (suc m) [] h = tt

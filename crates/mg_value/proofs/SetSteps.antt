@@ -68,7 +68,7 @@ pub shown-is : (policy : Policy) (ss : List (StreamPrefix Plain)) (t i : ℕ) �
 shown-is Default ss t i is = refl
 shown-is Mux ss t i is = ap (λ (b : Bool). eqb (i + 1) (length ss) || b) (chosen-selects (is_settled ss) (length ss) (select_of ss).packets t i is)
 
--- one port more of a set, and of a list that is mapped in place
+-- what a set shows at the ports so far stays right with one port more; and so does a list that is mapped in place
 pub place-more : {Y : Type 0} (ps : List (Option Y)) (want : ℕ → Option Y) (i : ℕ) (o : Option Y) → i < length ps → o ≡ want i → ((k : ℕ) → k < i → get_or ps k None ≡ want k) → (k : ℕ) → k < i + 1 → get_or (set ps i o) k None ≡ want k
 place-more {Y} ps want i o there is before k lt = elim (cases_lt k i) [
   | inl early ↦ get_or-set_other ps i k o None (λ e. omega (arith, e, early)) ∙ before k early
@@ -95,7 +95,7 @@ mapped-later f [] i d below = absurd (omega (arith, below))
 mapped-later f (x ∷ xs) zero d below = refl
 mapped-later f (x ∷ xs) (suc i) d below = mapped-later f xs i d (omega (arith, below))
 
--- of all settled sets some are listed, and the others are those of what is left
+-- the settled sets so far are listed, and the others are the settled sets of what is left
 pub record AreListed (policy : Policy) (ss : List (StreamPrefix Plain)) (es : List (TimedSet Plain)) (rs : List (StreamPrefix Plain)) : Type 0 where
   pub few : length rs < 2 ^ 32
   pub streams : All IsPrefix rs

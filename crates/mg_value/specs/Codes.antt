@@ -75,7 +75,7 @@ module _ {X : Type 0} (code : Coded X) where
       code_by (List (Stamped X) × ℕ) (coded× (coded_list stamped_code) coded_ℕ)
       (λ s. (s.packets, s.bound)) (λ p. record { packets = p.0; bound = p.1 }) (λ _. refl)
 
--- of a packet of plain payloads, an input set and a prefix
+-- the codes of a packet of plain payloads, of an input set and of a prefix
 abbrev pub packet_code : Coded (Stamped Plain)
 packet_code = stamped_code plain_code
 

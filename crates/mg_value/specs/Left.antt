@@ -26,7 +26,7 @@ without test s = record { packets = filter (λ p. not (test p.at)) s.packets; bo
 abbrev pub after_sets : Policy → ℕ → List (StreamPrefix Plain) → List (StreamPrefix Plain)
 after_sets policy k ss = map (without (goes policy (take k (set_times policy ss)))) ss
 
--- some prefixes without so many first packets each
+-- some prefixes, each without its first packets, whose numbers are given
 abbrev pub without_first : {X : Type 0} → List ℕ → List (StreamPrefix X) → List (StreamPrefix X)
 without_first gone ss = map (λ e. record { packets = drop e.0 e.1.packets; bound = e.1.bound }) (zip gone ss)
 
@@ -47,14 +47,14 @@ pub record HasLeadingPacket (policy : Policy) (ss : List (StreamPrefix Plain)) (
   pub lead : IsTrue (leads policy (length ss) port)
   pub packet : IsSome (packet_at t (port_of ss port).packets)
 
--- so many first packets of a prefix are gone as the claim of the sets at some times allows: each of them goes with these
--- sets; and where the port leads no other packet does
+-- this many first packets of a prefix may be gone once the sets at some times are claimed: each of them goes with these sets, and where the
+-- port leads no other packet does
 pub record MayBeGone {X : Type 0} (policy : Policy) (lead : Bool) (ts : List ℕ) (s : StreamPrefix X) (gone : ℕ) : Type 0 where
   pub within : gone ≤ length s.packets
   pub go : All (λ p. IsTrue (goes policy ts p.at)) (take gone s.packets)
   pub stay : IsTrue lead → All (λ p. goes policy ts p.at ≡ false) (drop gone s.packets)
 
--- so many first packets of each of some prefixes are gone when their first settled sets are claimed, a number of them
+-- the numbers of first packets that are gone of some prefixes once their first settled sets are claimed, a number of them
 pub record AreGone (policy : Policy) (k : ℕ) (ss : List (StreamPrefix Plain)) (gone : List ℕ) : Type 0 where
   pub ports : length gone ≡ length ss
   pub claimed : k ≤ length (settled_sets policy ss)

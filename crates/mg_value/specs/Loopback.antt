@@ -62,18 +62,18 @@ abbrev pub ArePast : {X : Type 0} → Option (Stamped X) → List (Stamped X) �
 ArePast None ps = ps ≡ []
 ArePast (Some before) ps = All (λ p. p.at < before.at) ps
 
--- so many first packets of LOOP are gone
+-- this many first packets of LOOP are gone, and nobody asks for them behind a packet of MAIN
 pub record IsPast {X : Type 0} (before : Option (Stamped X)) (loop : StreamPrefix X) (gone : ℕ) : Type 0 where
   pub within : gone ≤ length loop.packets
   pub past : ArePast before (take gone loop.packets)
 
--- the last of so many first packets, or none, behind another
+-- the last of some first packets, a number of them, which stand behind another; that one where there are none
 abbrev pub last_of : {X : Type 0} → Option (Stamped X) → ℕ → List (Stamped X) → Option (Stamped X)
 last_of before zero ps = before
 last_of before (suc n) [] = before
 last_of before (suc n) (p ∷ ps) = last_of (Some p) n ps
 
--- a prefix without so many first packets
+-- a prefix without its first packets, a number of them
 abbrev pub behind_first : {X : Type 0} → ℕ → StreamPrefix X → StreamPrefix X
 behind_first n s = record { packets = drop n s.packets; bound = s.bound }
 

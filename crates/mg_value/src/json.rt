@@ -12,7 +12,7 @@ use serde_json::{Map, Number, Value};
 use std::alloc::{AllocError, Global};
 use std::sync::Arc;
 
-/// So many lists and records lie inside one another at most.
+/// How many lists and records may lie inside one another, the outermost one counted.
 const MAX_DEPTH: u32 = 16;
 
 /// The payload that a JSON value says (RFC 8259). An object is a record. The fault is the first in the order of the

@@ -123,7 +123,7 @@ pub fn after_sets_leaves_the_others()
         → reach policy (after_sets policy k ss) ≡ reach policy ss }
 {}
 
-/// The same where only the numbers of packets are known that are gone.
+/// What is left has the other settled sets and the same reach also where it is told by how many packets are gone.
 pub fn what_is_left_has_the_others()
     ensures sets { (policy : Policy) (k : ℕ) (ss : List (StreamPrefix Plain)) (gone : List ℕ) → All IsPrefix ss → AreGone policy k ss gone
         → settled_sets policy (without_first gone ss) ≡ drop k (settled_sets policy ss) }
@@ -131,8 +131,8 @@ pub fn what_is_left_has_the_others()
         → reach policy (without_first gone ss) ≡ reach policy ss }
 {}
 
-/// The numbers of packets that are gone: none at first; the same where prefixes are extended; and with a further claim
-/// those that leave what is left without its first set.
+/// The numbers of packets that are gone: at first each is 0; they stay right where prefixes are extended; and with one more claim those are
+/// right that leave what is left without its first set.
 pub fn what_is_gone_is_kept()
     ensures none { (policy : Policy) (ss : List (StreamPrefix Plain)) → AreGone policy 0 ss (replicate (length ss) 0) }
     ensures extended { (policy : Policy) (k : ℕ) (ss tt : List (StreamPrefix Plain)) (gone : List ℕ) → All IsPrefix ss → AreExtendedBy ss tt

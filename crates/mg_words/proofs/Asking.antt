@@ -66,7 +66,7 @@ module _ (names : Bor (List (Bor Text))) (are : HasVerbs names) (words : List Te
       among-asks (fault_of (command_with names) words) kind (matches_of command words) (faults-laid names words).single among
       ∙ ap (λ (kinds : Kinds). asked_from kinds (matches_of command words)) (sym same-faults)
 
--- The same of a command that is this one.
+-- The laws of the program's own command, told of any command that equals it.
 module _ (names : Bor (List (Bor Text))) (are : HasVerbs names) (app : App) (is : app ≡ command_with names) (words : List Text) where
   pub is-simple : is_simple app ≡ true
   is-simple = ap is_simple is ∙ simple-with names

@@ -16,26 +16,26 @@ use std::alloc::{AllocError, Global};
 /// What is done with the plan of a graph.
 #[derive(Clone, Copy, Debug, PartialEq, Eq)]
 pub enum Way {
-    /// It is run over the input.
+    /// The graph is run over the input.
     Run,
-    /// Its equations are solved for the input.
+    /// The graph's equations are solved for the input.
     Solve,
-    /// It is run over packets that are made, and a summary of its outputs is written.
+    /// The graph is run over packets that are made, and a summary of its outputs is written.
     Generate,
-    /// It is run over the input, and the events of the run are written.
+    /// The graph is run over the input, and the events of the run are written.
     Trace,
-    /// A recorded run of it is made again.
+    /// A recorded run of the graph is made again.
     Replay,
 }
 
 /// What is done with a graph.
 #[derive(Clone, Copy, Debug, PartialEq, Eq)]
 pub enum Verb {
-    /// It is checked.
+    /// The graph is checked.
     Check,
-    /// The text of its configuration is written.
+    /// The text of the graph's configuration is written.
     Expand,
-    /// Its plan is used in this way.
+    /// The graph's plan is used, in one of the ways.
     Use(Way),
 }
 
@@ -56,13 +56,13 @@ pub struct Order {
 /// What words ask for.
 #[derive(Debug, Drop)]
 pub enum Asked {
-    /// They are no command.
+    /// The words are no command.
     Usage,
     /// The text on the program.
     Help,
     /// The program's version.
     Version,
-    /// This is done with the graph of these files, that of the main graph first.
+    /// What is to be done, and with the graph of which files, that of the main graph first.
     Command(Order, Vec<MgText>),
 }
 

@@ -47,7 +47,7 @@ going_before before now grows going = elim (cases_Bool (has_ended before)) [
   | inr goes ↦ goes
 ]
 
--- and no fewer packets came to a port
+-- a port counts no fewer packets afterwards
 count_grows : (a : Option IntakeView) (i : IntakeView) (port : ℕ) → Grown IntakeGrows a (Some i) → count_by a port ≤ count_of (port_queue i.waits port)
 count_grows None i port g = omega arith
 count_grows (Some x) i port g = (g.ports port).count
@@ -182,7 +182,7 @@ module _ (job : LoggedJob) (ps : PartsView) (h : ArePartsOf job ps) (v : View) (
     };
   }
 
-  -- as many sets were taken of the collector
+  -- the collector has had as many sets taken from it as before
   pub taken_back : unwrap_or (option_map (λ (x : IntakeView). x.claimed) (slice_get is n)) 0 ≡ unwrap_or (option_map (λ (x : IntakeView). x.claimed) (slice_get ps.intakes n)) 0
   taken_back =
       let c = h.engine_count in let d = h.intake_count in
@@ -207,7 +207,7 @@ same_became before now ps apart put stands = record {
   spare = ap (λ (x : NetView). x.spare) put.made ∙ ap (λ (p : PartsView). p.rest.spare) apart.others;
 }
 
--- And so is what was shared meanwhile.
+-- What a shared net became while threads had it.
 
 module _ (before : NetView) (some : StandsForSome before) (key : FrameView) (kept : KeptView) (s : IsSharedOf before key kept) (v : View) (parts : List PartView) (u : Unshared key v parts) where
   own : Unshared (frame_of s.parts) v parts

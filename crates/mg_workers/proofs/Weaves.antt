@@ -49,7 +49,7 @@ kind_last n parts p kinds =
     let long = length-append parts (p ∷ []) in
     subst (IsKind (whose n (length parts))) (get_or-append_seam parts p [] blank_part) (kinds (length parts) (omega (arith, long)))
 
--- One part more, which was the last one of its list, or one fewer.
+-- Steps of the weaving: the last engine or intake of a list becomes a part, or the last part goes back into its list.
 
 pub with_intake : (parts : List PartView) (xs : List IntakeView) (i : IntakeView) → intakes_in (parts ++ an_intake i ∷ []) ++ reverse xs ≡ intakes_in parts ++ reverse (xs ++ i ∷ [])
 with_intake parts xs i =
@@ -101,7 +101,7 @@ engine_fewer n es is parts engines intakes e h = record {
   kinds = kinds_fewer n parts (an_engine e) h.kinds;
 }
 
--- as the code has it
+-- the same steps, told by the values that the code has before and after
 pub put_intake_is : (n : ℕ) (es : List EngineView) (is : List IntakeView) (parts now : List PartView) (engines : List EngineView) (old new : List IntakeView) (m : ℕ) → whose n (length parts) ≡ intake_of m
     → (i : IntakeView) × (old ≡ new ++ i ∷ []) × (now ≡ parts ++ an_intake i ∷ []) → IsOf n es is parts engines old → IsOf n es is now engines new
 put_intake_is n es is parts now engines old new m of put h =
@@ -185,7 +185,7 @@ intake_back n es is parts ps engines intakes p m last of h =
     let kind : IsKind (intake_of m) p = subst (λ (w : Whose). IsKind w p) of (kind_last n ps p h'.kinds) in
     (kind.0, kind.1, intake_fewer n es is ps engines intakes kind.0 (subst (λ (q : PartView). IsOf n es is (ps ++ q ∷ []) engines intakes) kind.1 h'))
 
--- as the code has it
+-- the steps back, told by the values that the code has before and after
 pub engine_back_is : (n : ℕ) (es : List EngineView) (is : List IntakeView) (parts ps : List PartView) (engines now : List EngineView) (intakes : List IntakeView) (p : PartView) (value : EngineView) (o : Owner) → parts ≡ ps ++ p ∷ [] → whose n (length ps) ≡ engine_of o
     → p.engine ≡ Some value → now ≡ engines ++ value ∷ [] → IsOf n es is parts engines intakes → IsOf n es is ps now intakes
 engine_back_is n es is parts ps engines now intakes p value o last of taken put h =
@@ -200,7 +200,7 @@ intake_back_is n es is parts ps engines intakes now p value m last of taken put 
     let same : b.0 ≡ value = some_same p.intake b.0 value (ap (λ (q : PartView). q.intake) b.1) taken in
     subst (λ (xs : List IntakeView). IsOf n es is ps engines xs) (ap (λ (i : IntakeView). intakes ++ i ∷ []) same ∙ sym put) b.2
 
--- as many as lie in a list are no more than all
+-- a list holds no more engines, or intakes, than the net has
 pub few_engines : (n : ℕ) (es : List EngineView) (is : List IntakeView) (parts : List PartView) (engines : List EngineView) (intakes : List IntakeView) → IsOf n es is parts engines intakes → length engines ≤ length es
 few_engines n es is parts engines intakes h =
     let all = ap (λ (xs : List EngineView). length xs) h.engines_are in
@@ -227,7 +227,7 @@ all_woven n es is parts engines intakes long no_engines no_intakes h =
     let i : intakes_in parts ≡ is = sym (append-nil (intakes_in parts)) ∙ ap (λ (xs : List IntakeView). intakes_in parts ++ reverse xs) (sym no_intakes) ∙ h.intakes_are in
     w.woven_is ∙ ap (λ (xs : List EngineView). woven n xs (intakes_in parts)) e ∙ ap (λ (xs : List IntakeView). woven n es xs) i
 
--- there is room for the one that comes back
+-- a list has room for the engine, or the intake, that goes back into it
 pub engine_room : (n : ℕ) (es : List EngineView) (is : List IntakeView) (parts ps : List PartView) (engines : List EngineView) (intakes : List IntakeView) (p : PartView) (o : Owner) → parts ≡ ps ++ p ∷ [] → whose n (length ps) ≡ engine_of o
     → IsOf n es is parts engines intakes → length engines + 1 ≤ length es
 engine_room n es is parts ps engines intakes p o last of h =
@@ -244,7 +244,7 @@ intake_room n es is parts ps engines intakes p m last of h =
 pub all_back : (n : ℕ) (parts : List PartView) (es : List EngineView) (is : List IntakeView) → AreKinds n parts → IsOf n (engines_in parts ++ reverse es) (intakes_in parts ++ reverse is) parts es is
 all_back n parts es is kinds = record { engines_are = refl; intakes_are = refl; kinds = kinds }
 
--- and what didn't change
+-- what holds of the parts and the lists, told by other values that are equal
 pub stays_of : (n : ℕ) (es : List EngineView) (is : List IntakeView) (parts now : List PartView) (engines old : List EngineView) (intakes left : List IntakeView) → now ≡ parts → old ≡ engines → left ≡ intakes
     → IsOf n es is parts engines intakes → IsOf n es is now old left
 stays_of n es is parts now engines old intakes left p e i h =
@@ -254,7 +254,7 @@ turned_twice : {X : Type 0} (xs : List X) → reverse (reverse xs) ≡ xs
 turned_twice [] = refl
 turned_twice {X = X} (x ∷ xs) = ap (λ (ys : List X). reverse ys) (reverse-append (x ∷ []) xs) ∙ reverse-append (reverse xs) (x ∷ []) ∙ ap (λ (ys : List X). x ∷ ys) (turned_twice xs)
 
--- of the lists that were turned
+-- what holds of lists that were turned round, told of the lists themselves
 pub turned_of : (n : ℕ) (es old_engines : List EngineView) (is old_intakes : List IntakeView) (parts : List PartView) (engines : List EngineView) (intakes : List IntakeView) → old_engines ≡ reverse es → old_intakes ≡ reverse is
     → IsOf n (reverse old_engines) (reverse old_intakes) parts engines intakes → IsOf n es is parts engines intakes
 turned_of n es old_engines is old_intakes parts engines intakes e i h =

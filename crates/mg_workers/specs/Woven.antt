@@ -6,7 +6,7 @@ use Rattle.mg_calc.specs.declared.plan.Plan.{Plan}
 use Rattle.mg_sched.specs.ComesApart.{PartsView}
 use Rattle.mg_turns.specs.Parts.{PartView, FrameView, an_engine, an_intake}
 
--- so many nodes, the engines in the order of a net's, and the intakes
+-- the intakes and engines of a net as one list in the order of their words: those of each node in turn, and then the others
 abbrev pub woven : ℕ → List EngineView → List IntakeView → List PartView
 woven zero es is = map an_intake is ++ map an_engine es
 woven (suc n) [] is = map an_intake is

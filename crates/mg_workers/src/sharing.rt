@@ -86,7 +86,7 @@ pub fn share<C: Calculator>(alloc: Global, net: Net<C>) -> Result<Shared<C>, Net
     ensures shared { IfOk result (λ r. IsShared r.0 r.1) }
     ensures whole { IfOk result (λ r. (view_of r.1).portion ≡ 2 ^ 32) }
 
-    // Of what was shared, and what is kept.
+    // What is shared and what is kept aside are what the net came apart into.
     ensures of { IfOk result (λ r. IsSharedOf net (key_of r.0) r.2) }
 
     // Its parts are those of each job for which the net stood.
@@ -130,7 +130,7 @@ pub fn unshare<C: Calculator>(net: SharedNet<C>, seat: NetSeat<C>, kept: Kept<C>
     // Its parts are those that were shared, each as it became, and no less than what the seat saw.
     ensures parts { Unshared (key_of net) (view_of seat) (frame_of (parts_in result)).parts }
 
-    // It is what the net became that was shared.
+    // The net is one that the shared net may have become.
     ensures became { (before : NetView) → StandsForSome before → IsSharedOf before (key_of net) kept → Became before result }
 {
     let Kept {

@@ -11,7 +11,7 @@ pub record Drained (room : ℕ) (order : List ℕ) (h : HandView) (old new : Lis
   pub put : new ≡ old ++ map (node_of order) places
   pub even : (weight : ℕ → ℕ) → weigh weight h.put ≡ weigh weight h.taken + weigh weight places
 
--- so many places were taken out, and went into the list as nodes
+-- this many places were taken out of a level, and stand in the list as nodes, behind what was there
 pub record IsDraining (count : ℕ) (order : List ℕ) (v now : Share) (old new : List ℕ) : Type 0 where
   pub places : List ℕ
   pub many : length places ≡ count

@@ -12,7 +12,7 @@ use Rattle.mg_stream.specs.declared.chain.Chain.{Chain}
 abbrev pub entry_at : List (Option Entry) → ℕ → Option Entry
 entry_at slots key = slice_index_or slots key None
 
--- so many entries, the first at a key and each at the key that the one before it names: their keys and packets
+-- the keys and packets of a number of entries, the first at a key and each next one at the key that the one before names
 abbrev pub linked : List (Option Entry) → ℕ → ℕ → List (ℕ × Stamped Plain)
 linked slots zero key = []
 linked slots (suc n) key = unwrap_or (option_map (λ e. (key, e.packet) ∷ linked slots n e.next) (entry_at slots key)) []

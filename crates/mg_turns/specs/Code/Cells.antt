@@ -1,7 +1,7 @@
--- Both parts of a node that are out of their slots.
-use Rattle.std.specs.Prelude.{◌≡◌, ℕ, ◌+◌, ◌*◌, ◌<◌, ◌∷◌, None, Some}
+-- The engine and the intake of a node while both are out of their slots.
+use Rattle.std.specs.Prelude.{◌≡◌, ℕ, ◌+◌, ◌*◌, ◌<◌, ◌∷◌, None}
 use Rattle.mg_node.specs.Views.{IntakeView, EngineView}
-use Rattle.mg_turns.specs.Parts.{FrameView, an_engine, an_intake, nodes_in, AgreeParts, Follows}
+use Rattle.mg_turns.specs.Parts.{FrameView, an_engine, an_intake, nodes_in, Follows}
 use Rattle.mg_turns.specs.Rule.{word_of}
 use Rattle.mg_turns.specs.Sights.{FindsCell}
 use Rattle.mg_turns.specs.Code.Plays.{Sat, turn, turning}

@@ -1,5 +1,5 @@
 -- What each step tells: of the step, the seat before, the number found and the seat after.
-use Rattle.std.specs.Prelude.{◌≡◌, ◌≢◌, ◌⊎◌, ◌++◌, ℕ, [], ◌+◌, ◌-◌, ◌*◌, length, None, ◌/◌, ◌%◌, ◌<◌, ◌≤◌, ◌∷◌, List, Option, Some, slice_index, slice_get}
+use Rattle.std.specs.Prelude.{◌≡◌, ◌≢◌, ◌⊎◌, ℕ, [], ◌+◌, ◌-◌, ◌*◌, length, None, ◌/◌, ◌%◌, ◌<◌, ◌≤◌, ◌∷◌, List, Option, Some, slice_get}
 use mathlib.Core.Option.{some}
 use lib.ListN.{get_elem?}
 use Rattle.atomic_table.specs.Table.{Me, Step, rest}
@@ -24,7 +24,7 @@ abbrev pub left : List Turn → List Turn
 left [] = []
 left (t ∷ ts) = ts
 
--- one more miss, of this word
+-- the view with one more miss, which names this word
 abbrev pub missing : View → ℕ → View
 missing v word = view v.key v.portion (v.misses + 1) v.splits (Some word) v.turns v.work v.seen
 
@@ -59,7 +59,7 @@ looked_at word m r n = (r % 2 ≡ 0 → n ≡ m) × (r % 2 ≡ 1 → n ≡ (miss
 abbrev pub looked : Play
 looked st = looked_at (st.word / 8)
 
--- the same turns, whose notes may have grown
+-- two lists of turns are the same but for the notes, which may have grown
 abbrev pub Alike : List Turn → List Turn → Type 0
 Alike [] [] = Unit {0}
 Alike (t ∷ ts) (u ∷ us) = (t.word ≡ u.word) × (t.tally ≡ u.tally) × PartGrows u.note t.note × Alike ts us
@@ -114,7 +114,7 @@ pub record Lays (v : View) (word : ℕ) (p : PartView) (w : View) : Type 0 where
   pub back : Back (note_or p v.turns) p it
   pub joins : Joins (note_or p v.turns) p
 
--- the same works are out, or one more, which the seat then has
+-- the works that are out of the part stay the same; or one more is out, and the seat that had none has it
 abbrev pub Outs : ℕ → PartView → PartView → Option WorkView → Option WorkView → Type 0
 Outs n q p had has = ((has ≡ had) × ((x : WorkView) → IsOutIn q x → IsOutIn p x) × ((k : ℕ) → IsMissingIn p k → IsMissingIn q k))
     ⊎ ((x : WorkView) × (had ≡ None) × (has ≡ Some x) × (x.node ≡ n) × Goes q p x)
@@ -151,7 +151,7 @@ pub record Brings (v : View) (word : ℕ) (p : PartView) (w : View) : Type 0 whe
   pub joined : JoinedParts u.note e p
   pub others : (l : ℕ) (x : Edge) (r : PartView) → l ≢ k → slice_get v.key.plan.edges l ≡ Some x → x.node ≡ e.node → JoinedParts r x (note_or p v.turns) → JoinedParts r x p
 
--- one of the four
+-- how a turn is given back: with the part as it was, with what was laid, with what was claimed, or with what an edge brought
 abbrev pub Kind : View → ℕ → PartView → View → Type 0
 Kind v word p w = Plainly v word p w ⊎ (Lays v word p w ⊎ (Claims v word p w ⊎ Brings v word p w))
 

@@ -55,7 +55,7 @@ IsPutBack work e f = (o : OutcomeView) × IsOutcomeOf work o × (f ≡ shelved e
 abbrev pub SomeRound : EngineView → EngineView → IntakeView → IntakeView → Type 0
 SomeRound e f i k = (laid : ℕ) × Round laid e f i k
 
--- so many rounds, and why no more
+-- this many rounds were made, at most as many as were asked for; where they are fewer, the cell is at an end for now
 abbrev pub Ran : ℕ → ℕ → EngineView → EngineView → IntakeView → IntakeView → Type 0
 Ran done most e f i k = (m : EngineView) × (l : IntakeView) × (laid : ℕ) × Rounds done laid e m i l × (done ≤ most)
     × (((done ≡ most) × (f ≡ m) × (k ≡ l)) ⊎ ((done < most) × Stops m f l k))

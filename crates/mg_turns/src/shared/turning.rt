@@ -96,7 +96,8 @@ impl<C: Calculator> SharedNet<C> {
         })
     }
 
-    // The same, but where the second is held by now, the first isn't taken at all.
+    // Takes the turns of an engine and an intake like `take_both`, but looks at the second word first: where it is held, the first turn
+    // isn't taken at all.
     pub(super) fn take_pair(
         &self,
         seat: &mut Seat<C>,

@@ -1,4 +1,4 @@
--- Some of the engines that are left are parts behind those of the nodes.
+-- The engines of the first graph inputs are woven, behind the parts of the nodes.
 use Rattle.std.proofs.Common.{◌≡◌, ℕ, ◌+◌, ◌*◌, ◌<◌, ◌≤◌, List, length, vec_len, vec_capacity}
 use Rattle.mg_node.specs.Views.{IntakeView, EngineView}
 use Rattle.mg_workers.specs.Code.Weaving.{IsOf}

@@ -1,4 +1,4 @@
--- Of so many nodes the parts are woven.
+-- The engines and the intakes of the first nodes are woven, a number of them.
 use Rattle.std.proofs.Common.{◌≡◌, ◌+◌, ◌*◌, ◌≤◌, reverse, length, vec_capacity}
 use Rattle.mg_workers.specs.Code.Weaving.{IsOf}
 use Rattle.mg_workers.proofs.weaving.weave_nodes.Given as goal

@@ -1,5 +1,4 @@
-use Rattle.std.proofs.Common.{arith, refl, sym, ◌∙◌, ◌<◌}
-use Rattle.mg_turns.specs.Parts.{nodes_in}
+use Rattle.std.proofs.Common.{arith, refl, sym, ◌∙◌}
 use Rattle.mg_turns.specs.Calls.{key_of}
 use Rattle.mg_turns.proofs.Backs.{work_out, some_engine, laid_back, same_back, committed_by, commit_facts}
 use Rattle.mg_turns.proofs.shared.SharedNet.commit_at.Goals as goal

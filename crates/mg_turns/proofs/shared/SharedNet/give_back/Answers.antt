@@ -1,7 +1,6 @@
-use Rattle.std.proofs.Common.{rules, ap, ◌∙◌, sym, subst, Option, Some, List, ◌∷◌, ℕ}
-use Rattle.atomic_table.specs.Table.{rest, Allows}
+use Rattle.std.proofs.Common.{rules, ap, ◌∙◌, sym, Option, Some, List, ◌∷◌, ℕ}
+use Rattle.atomic_table.specs.Table.{rest}
 use Rattle.mg_turns.specs.Parts.{PartView}
-use Rattle.mg_turns.specs.Code.Plays.{HasTurn, Returns}
 use Rattle.mg_turns.proofs.Apart.{gives_apart}
 use Rattle.mg_turns.proofs.shared.SharedNet.give_back.Goals as goal
 

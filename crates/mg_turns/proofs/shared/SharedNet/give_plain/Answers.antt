@@ -1,4 +1,3 @@
-use Rattle.std.proofs.Common.{◌+◌}
 use Rattle.mg_turns.proofs.Gives.{has_turn_of, plain_ok}
 use Rattle.mg_turns.proofs.shared.SharedNet.give_plain.Goals as goal
 

@@ -1,5 +1,4 @@
-use Rattle.std.proofs.Common.{arith, sym, ◌∙◌, ◌<◌}
-use Rattle.mg_turns.specs.Parts.{nodes_in}
+use Rattle.std.proofs.Common.{arith, sym}
 use Rattle.mg_turns.specs.Calls.{key_of}
 use Rattle.mg_turns.proofs.Backs.{work_out, laid_back, shelve_facts}
 use Rattle.mg_turns.proofs.shared.SharedNet.shelve_at.Goals as goal
