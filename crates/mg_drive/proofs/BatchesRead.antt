@@ -1,5 +1,6 @@
 -- What a feed has read, batch by batch.
-use Rattle.std.proofs.Common.{◌≡◌, ◌<◌, ◌≤◌, ℕ, zero, suc, List, [], ◌∷◌, ◌++◌, length, map, replicate, Bool, false, Option, Some, None, refl, sym, ap, ◌∙◌, subst, arith, length-append}
+use Rattle.std.proofs.Common.{◌≡◌, ◌⊎◌, inl, inr, ◌<◌, ◌≤◌, ℕ, zero, suc, List, [], ◌∷◌, ◌++◌, length, map, replicate, Bool, true, false, Option, Some, None, refl, sym, ap, ◌∙◌, subst, arith, length-append, append-nil}
+use Rattle.std.proofs.lemmas.Bool.{cases_Bool, false≢true}
 use Rattle.mg_edge.specs.Edge.{SourceTold}
 use Rattle.mg_edge.specs.Runs.{Gave}
 use Rattle.mg_value.specs.Payload.{Plain}
@@ -11,17 +12,21 @@ use Rattle.mg_feed.specs.Accepted.{State, given_by, most_lines}
 use Rattle.mg_feed.specs.Given.{ended_streams}
 use Rattle.mg_feed.specs.Stands.{Stands, nothing_taken, taken_with, packets_of}
 use Rattle.mg_feed.specs.Fed.{Fed, Reading}
-use Rattle.mg_feed.specs.Ran.{MetEnd, late, Spends, Unfailed}
+use Rattle.mg_feed.specs.Ran.{MetEnd, late, Spends, Unfailed, ReadFailed}
+use Rattle.mg_feed.specs.Once.{StopsInTime}
 use Rattle.mg_feed.specs.Batch.{EndsAs, Fills, naming, HasReadBatch, BatchEndsAs, BatchFailedBy, idle_by}
+use Rattle.mg_feed.specs.declared.feed_end.FeedEnd.TheVariants.{Ended, Failed, Refused, OutOfMemory}
 use Rattle.mg_feed.specs.declared.feed_end.BatchEnd.{BatchEnd}
 use Rattle.mg_feed.specs.declared.feed_end.BatchEnd.TheVariants.{More, End}
 use Rattle.mg_feed.proofs.Coming.{came-nothing, came-taken}
-use Rattle.mg_feed.proofs.Moving.{gave-then, met-then, spends-same, spends-then, unfailed-same, unfailed-then, failed-by, naming-few}
+use Rattle.mg_feed.proofs.Moving.{gave-then, met-then, spends-same, spends-then, spends-late, unfailed-same, unfailed-then, failed-by, naming-few}
 use Rattle.mg_feed.proofs.Holding.{given-untaken}
 use Rattle.mg_feed.proofs.Growing.{naming-names}
 use Rattle.mg_feed.proofs.Joining.{taken-all}
+use Rattle.mg_answer.specs.Devices.{device}
+use Rattle.mg_answer.specs.Ran.{ReadSome}
 use Rattle.mg_drive.specs.Batches.{IsMore}
-use Rattle.mg_drive.specs.Code.Lines.{has_ended, HadMemory, ReadsAs, IsRead, HasBatch, LinesGave}
+use Rattle.mg_drive.specs.Code.Lines.{has_ended, HadMemory, ReadsAs, IsRead, HasBatch, HasReadOn, ReadsOn, LinesGave}
 
 -- The first moment --
 
@@ -106,6 +111,87 @@ batch_read plan first before now most end old mid new inputs b past lines some h
       named = λ more. naming-names (inputs_of plan) lines read.taken (naming_some more);
       few = subst (λ (n : ℕ). n ≤ most_lines) came.stands.number few;
     }
+
+-- A call that reads on --
+
+-- at the first moment nothing more was read
+abbrev still_read : (plan : Plan) (first at : SourceTold) (fed : Fed) (past : List ℕ) (lines : List (List ℕ)) → IsRead plan first More at fed past lines → ReadSome (inputs_of plan) (device first at)
+still_read plan first at fed past lines was = record {
+  came = past;
+  gave = was.gave;
+  once = record {
+    stops = subst (λ (g : GraphInputs). StopsInTime g [] past) was.graph was.came.stops;
+    reads = spends-then 0 (late fed.read.ended) 1 first.left at.left at.left first.reads at.reads at.reads was.spent (spends-late fed.read.ended at.left at.reads);
+  };
+  faults = inl was.so;
+}
+
+pub none_further : (plan : Plan) (first at : SourceTold) (fed : Fed) (past : List ℕ) (lines : List (List ℕ)) → IsRead plan first More at fed past lines → HasReadOn plan first at at fed.read.ended past
+none_further plan first at fed past lines was = record {
+  read = still_read plan first at fed past lines was;
+  later = [];
+  split = sym (append-nil past);
+  none = λ ended. (refl, refl);
+}
+
+-- how the reads went, by how the batch ended
+faults_by : (end : BatchEnd) (before now : SourceTold) → BatchFailedBy end before now → Unfailed before now ⊎ ReadFailed before now
+faults_by More before now failed = inl failed
+faults_by (End Ended) before now failed = inl failed
+faults_by (End (Failed lines)) before now failed = inr failed
+faults_by (End (Refused line cause)) before now failed = inl failed
+faults_by (End OutOfMemory) before now failed = inl failed
+
+failed_then : (end : BatchEnd) (first before now : SourceTold) (past : List ℕ) → Gave first.left before.left past → Unfailed first before → BatchFailedBy end before now → BatchFailedBy end first now
+failed_then More first before now past gave unfailed failed = unfailed-then first before now unfailed failed
+failed_then (End end) first before now past gave unfailed failed = failed-by end first before now past gave unfailed failed
+
+-- by the end of a batch at most one read gave no byte
+one_idle : (end : BatchEnd) (ended : Bool) (left : Option (List ℕ)) (reads : Option ℕ) → Spends (idle_by end ended) 1 left left reads reads
+one_idle More ended left reads = spends-late ended left reads
+one_idle (End end) ended left reads = spends-same 1 left reads
+
+-- where the source had not ended
+further : (most : ℕ) (end : BatchEnd) (plan : Plan) (first before now : SourceTold) (old mid : Fed) (past : List ℕ) (lines : List (List ℕ)) → HasReadBatch most end before now old mid → BatchFailedBy end before now
+    → Spends (late old.read.ended) (idle_by end mid.read.ended) before.left now.left before.reads now.reads → mid.view.graph ≡ old.view.graph → old.read.ended ≡ false
+    → IsRead plan first More before old past lines → HasReadOn plan first before now old.read.ended past
+further most end plan first before now old mid past lines read failed spent same not_ended was =
+    let both = read.accepted [] past lines (packets_of (given_by (inputs_of plan) lines).streams) was.came in
+    let spent_all = spends-then 0 (late old.read.ended) (idle_by end mid.read.ended) first.left before.left now.left first.reads before.reads now.reads was.spent spent in
+    record {
+      read = record {
+        came = past ++ read.came;
+        gave = gave-then first.left before.left now.left past read.came was.gave read.gave;
+        once = record {
+          stops = subst (λ (g : GraphInputs). StopsInTime g [] (past ++ read.came)) (same ∙ was.graph) both.0.stops;
+          reads = spends-then 0 (idle_by end mid.read.ended) 1 first.left now.left now.left first.reads now.reads now.reads spent_all (one_idle end mid.read.ended now.left now.reads);
+        };
+        faults = faults_by end first now (failed_then end first before now past was.gave was.so failed);
+      };
+      later = read.came;
+      split = refl;
+      none = λ ended. absurd (false≢true (sym not_ended ∙ ended));
+    }
+
+-- where it had, it isn't read again
+not_again : (now_ended : Bool) (before now : SourceTold) → MetEnd true now_ended before now → now ≡ before
+not_again true before now same = same
+not_again false before now met = absurd met
+
+read_or_not : (most : ℕ) (end : BatchEnd) (plan : Plan) (first before now : SourceTold) (old mid : Fed) (past : List ℕ) (lines : List (List ℕ)) → HasReadBatch most end before now old mid
+    → MetEnd old.read.ended mid.read.ended before now → BatchFailedBy end before now
+    → Spends (late old.read.ended) (idle_by end mid.read.ended) before.left now.left before.reads now.reads → mid.view.graph ≡ old.view.graph
+    → IsRead plan first More before old past lines → (old.read.ended ≡ true) ⊎ (old.read.ended ≡ false) → HasReadOn plan first before now old.read.ended past
+read_or_not most end plan first before now old mid past lines read met failed spent same was (inl ended) =
+    subst (λ (s : SourceTold). HasReadOn plan first before s old.read.ended past) (sym (not_again mid.read.ended before now (subst (λ (b : Bool). MetEnd b mid.read.ended before now) ended met)))
+    (none_further plan first before old past lines was)
+read_or_not most end plan first before now old mid past lines read met failed spent same was (inr not_ended) =
+    further most end plan first before now old mid past lines read failed spent same not_ended was
+
+pub reads_further : (most : ℕ) (end : BatchEnd) (before now : SourceTold) (old mid : Fed) → HasReadBatch most end before now old mid → MetEnd old.read.ended mid.read.ended before now → BatchFailedBy end before now
+    → Spends (late old.read.ended) (idle_by end mid.read.ended) before.left now.left before.reads now.reads → mid.view.graph ≡ old.view.graph → (plan : Plan) (first : SourceTold) → ReadsOn old plan first before now
+reads_further most end before now old mid read met failed spent same plan first = λ past lines was.
+    read_or_not most end plan first before now old mid past lines read met failed spent same was (cases_Bool old.read.ended)
 
 -- The first batch --
 

@@ -1,7 +1,6 @@
 -- What a run leaves of the calculators that were handed in.
-use Rattle.std.proofs.Common.{◌≡◌, ◌<◌, inl, inr, ℕ, Bool, List, ◌++◌, length, map, All, Option, Some, None, IfSome, IsSomeAnd, Result, Ok, Err, IfOk, OnErr, slice_get, unwrap_or, option_map, option_and_then, refl, sym, ap, ◌∙◌, subst, arith}
-use Rattle.std.proofs.lemmas.List.{length-map}
-use Rattle.std.proofs.lemmas.Option.{slice_get_cases, slice_get-map}
+use Rattle.std.proofs.Common.{◌≡◌, ◌<◌, inl, inr, ℕ, Bool, List, ◌++◌, length, map, All, Option, Some, None, IfSome, IsSomeAnd, Result, Ok, Err, IfOk, OnErr, slice_get, option_map, option_and_then, refl, sym, ap, ◌∙◌, subst, arith}
+use Rattle.std.proofs.lemmas.Option.{slice_get_cases}
 use Rattle.mg_edge.specs.Edge.{SourceTold}
 use Rattle.mg_calc.specs.declared.call.Call.{Call}
 use Rattle.mg_calc.specs.declared.inputs.Inputs.{Inputs}
@@ -23,33 +22,30 @@ use Rattle.mg_edge.specs.Edge.{SinkTold}
 use Rattle.mg_drive.specs.Leaves.{HadCallsOf}
 use Rattle.mg_drive.specs.Nets.{Keeps}
 use Rattle.mg_drive.specs.Batches.{logged}
-use Rattle.mg_drive.specs.Code.Running.{Giving, Telling, Start, job_with, IsShort}
+use Rattle.mg_drive.specs.Code.Running.{Giving, Reading, Telling, Start, job_with, IsShort}
 use Rattle.mg_drive.specs.Code.Ending.{HadAllOf, CameBack, StoodWith, HasEnded, HasRun, WasShort}
 use Rattle.mg_drive.proofs.Jobs.{plan_stood}
 use Rattle.mg_drive.proofs.RunsEnd.{start_of}
 
-abbrev pub logs_of : List CalculatorTold → List (Option (List Call))
-logs_of boxes = map (λ b. b.log) boxes
-
 -- One that no node uses --
 
 -- it comes back as it lay
-lay_there : (plan : Plan) (inputs : Inputs) (boxes : List CalculatorTold) (made now : NetView) (place : ℕ) → IsMade plan inputs boxes made → Keeps made now → StoodWith (logs_of boxes) now
+lay_there : (plan : Plan) (inputs : Inputs) (boxes : List CalculatorTold) (made now : NetView) (place : ℕ) → IsMade plan inputs boxes made → Keeps made now → StoodWith boxes now
     → place < length boxes → All (λ node. ¬ (node.box_number ≡ Some place)) plan.nodes → slice_get (given_back now) place ≡ slice_get boxes place
 lay_there plan inputs boxes made now place is keeps stood less none =
     let job = made_job plan inputs boxes in
-    let there = unused_lies job made place is.stands (let count = length-map boxes (λ (b : CalculatorTold). b.log) in omega (arith, count, less))
+    let there = unused_lies job made place is.stands less
     (subst (λ (p : Plan). All (λ node. ¬ (node.box_number ≡ Some place)) p.nodes) (sym (plan_stood job made is.stands)) none) in
     let lies : slice_get now.spare place ≡ Some (Some there.0) = ap (λ (l : List (Option CalculatorTold)). slice_get l place) keeps.spare ∙ there.1 in
     unused_is_back stood.job now place there.0 stood.stood lies ∙ sym (is.unused place there.0 there.1)
 
-count_back : (boxes : List CalculatorTold) (now : NetView) → StoodWith (logs_of boxes) now → length (given_back now) ≡ length boxes
-count_back boxes now stood = as_many_back stood.job now stood.stood ∙ ap length stood.logs_are ∙ length-map boxes (λ (b : CalculatorTold). b.log)
+count_back : (boxes : List CalculatorTold) (now : NetView) → StoodWith boxes now → length (given_back now) ≡ length boxes
+count_back boxes now stood = as_many_back stood.job now stood.stood ∙ ap length stood.boxes_are
 
 -- All --
 
 -- of a net that was made, ran and gave back what it had
-pub came_back : (plan : Plan) (inputs : Inputs) (boxes : List CalculatorTold) (made now : NetView) → IsMade plan inputs boxes made → Keeps made now → StoodWith (logs_of boxes) now
+pub came_back : (plan : Plan) (inputs : Inputs) (boxes : List CalculatorTold) (made now : NetView) → IsMade plan inputs boxes made → Keeps made now → StoodWith boxes now
     → CameBack plan boxes (given_back now)
 came_back plan inputs boxes made now is keeps stood = record {
   count = count_back boxes now stood;
@@ -79,16 +75,16 @@ box_at plan boxes number place node fit there has =
     (subst (λ (o : Option ℕ). IfSome o (λ n. IsSomeAnd (slice_get boxes n) (FitsNew node))) has (all_at (FitsAt boxes) plan.nodes number node there fit))
 
 -- its log was that of the job
-pub log_was : (job : LoggedJob) (boxes : List CalculatorTold) (place : ℕ) (node : PlanNode) (told : CalculatorTold) → job.logs ≡ logs_of boxes → node.box_number ≡ Some place → slice_get boxes place ≡ Some told
+pub log_was : (job : LoggedJob) (boxes : List CalculatorTold) (place : ℕ) (node : PlanNode) (told : CalculatorTold) → job.boxes ≡ boxes → node.box_number ≡ Some place → slice_get boxes place ≡ Some told
     → first_log job node ≡ told.log
-log_was job boxes place node told logs has there =
-    ap (λ (o : Option ℕ). option_and_then (λ number. unwrap_or (slice_get job.logs number) None) o) has
-    ∙ ap (λ (ls : List (Option (List Call))). unwrap_or (slice_get ls place) None) logs
-    ∙ ap (λ (o : Option (Option (List Call))). unwrap_or o None) (slice_get-map (λ (b : CalculatorTold). b.log) boxes place ∙ ap (option_map (λ (b : CalculatorTold). b.log)) there)
+log_was job boxes place node told same has there =
+    ap (λ (o : Option ℕ). option_and_then (λ number. option_and_then (λ box. box.log) (slice_get job.boxes number)) o) has
+    ∙ ap (λ (bs : List CalculatorTold). option_and_then (λ box. box.log) (slice_get bs place)) same
+    ∙ ap (λ (o : Option CalculatorTold). option_and_then (λ box. box.log) o) there
 
 -- each that a node uses had its calls
-all_had : (job : LoggedJob) (boxes : List CalculatorTold) (net : NetView) → BoxesFit job.job.plan boxes → job.logs ≡ logs_of boxes → HadAllOf job net → HadCallsOf job.job (device boxes (given_back net))
-all_had job boxes net fit logs had = record {
+all_had : (job : LoggedJob) (boxes : List CalculatorTold) (net : NetView) → BoxesFit job.job.plan boxes → job.boxes ≡ boxes → HadAllOf job net → HadCallsOf job.job (device boxes (given_back net))
+all_had job boxes net fit same had = record {
   streams = had.streams;
   solution = had.solution;
   each = λ number place node there has.
@@ -101,7 +97,7 @@ all_had job boxes net fit logs had = record {
         was = box.1;
         is = back.there;
         holds = record {
-          log = back.had.log ∙ ap (option_map (λ (calls : List Call). calls ++ log_of job.job had.streams node)) (log_was job boxes place node box.0 logs has box.1);
+          log = back.had.log ∙ ap (option_map (λ (calls : List Call). calls ++ log_of job.job had.streams node)) (log_was job boxes place node box.0 same has box.1);
           state = back.had.state;
           law = back.had.fits.same_law ∙ sym box.2.fits.same_law;
           shape = back.had.fits.same_shape ∙ sym box.2.fits.same_shape;
@@ -110,10 +106,10 @@ all_had job boxes net fit logs had = record {
 }
 
 -- by what came back
-pub all_had_now : (job : LoggedJob) (boxes now : List CalculatorTold) (net : NetView) → BoxesFit job.job.plan boxes → job.logs ≡ logs_of boxes → now ≡ given_back net → HadAllOf job net → HadCallsOf job.job (device boxes now)
-all_had_now job boxes now net fit logs is had = subst (λ (bs : List CalculatorTold). HadCallsOf job.job (device boxes bs)) (sym is) (all_had job boxes net fit logs had)
+pub all_had_now : (job : LoggedJob) (boxes now : List CalculatorTold) (net : NetView) → BoxesFit job.job.plan boxes → job.boxes ≡ boxes → now ≡ given_back net → HadAllOf job net → HadCallsOf job.job (device boxes now)
+all_had_now job boxes now net fit same is had = subst (λ (bs : List CalculatorTold). HadCallsOf job.job (device boxes bs)) (sym is) (all_had job boxes net fit same had)
 
-pub came_back_then : (plan : Plan) (inputs : Inputs) (boxes handed now : List CalculatorTold) (made net : NetView) → handed ≡ boxes → IsMade plan inputs handed made → Keeps made net → StoodWith (logs_of boxes) net
+pub came_back_then : (plan : Plan) (inputs : Inputs) (boxes handed now : List CalculatorTold) (made net : NetView) → handed ≡ boxes → IsMade plan inputs handed made → Keeps made net → StoodWith boxes net
     → now ≡ given_back net → CameBack plan boxes now
 came_back_then plan inputs boxes handed now made net same is keeps stood back =
     subst (λ (bs : List CalculatorTold). CameBack plan boxes bs) (sym back)
@@ -131,11 +127,11 @@ either (Ok x) one other = one
 either (Err e) one other = other
 
 pub stood_ended : {B : Type 0} (gives : Giving B) (form : Form) (report : Bool) (start : Start B) (status : Status) (source : SourceTold) (sink : SinkTold) (notes : Device SinkTold) (net : NetView) → HasEnded gives form report start status source sink notes net
-    → StoodWith start.logs net
-stood_ended {B} gives form report start status source sink notes net h = record { job = job_with start h.inputs; stood = h.stood; logs_are = refl }
+    → StoodWith start.boxes net
+stood_ended {B} gives form report start status source sink notes net h = record { job = job_with start h.inputs; stood = h.stood; boxes_are = refl }
 
-pub stood_short : {B T : Type 0} (gives : Giving B) (has_told : Telling T) (form : Form) (start : Start B) (source : SourceTold) (sink : SinkTold) (net : NetView) → IsShort gives has_told form start source sink net → StoodWith start.logs net
-stood_short {B} {T} gives has_told form start source sink net h = record { job = job_with start h.inputs; stood = h.stood; logs_are = refl }
+pub stood_short : {B T : Type 0} (gives : Giving B) (reads_on : Reading B) (has_told : Telling T) (form : Form) (start : Start B) (source : SourceTold) (sink : SinkTold) (net : NetView) → IsShort gives reads_on has_told form start source sink net → StoodWith start.boxes net
+stood_short {B} {T} gives reads_on has_told form start source sink net h = record { job = job_with start h.inputs; stood = h.stood; boxes_are = refl }
 
 -- a net that has ended was run
 pub run_ended : {B : Type 0} (gives : Giving B) (form : Form) (report : Bool) (plan : Plan) (boxes now : List CalculatorTold) (began : B) (source later : SourceTold) (first sink : SinkTold) (notes : Device SinkTold) (status : Status) (net : NetView) → BoxesFit plan boxes
@@ -147,14 +143,14 @@ run_ended {B} gives form report plan boxes now began source later first sink not
   inputs = h.inputs;
   given = h.given;
   wrote = h.wrote;
-  had = all_had_now (logged plan h.inputs (logs_of boxes)) boxes now net fit refl back h.had;
+  had = all_had_now (logged plan h.inputs boxes) boxes now net fit refl back h.had;
 }
 
 -- or was short of memory
-pub run_short : {B T : Type 0} (gives : Giving B) (has_told : Telling T) (form : Form) (plan : Plan) (boxes now : List CalculatorTold) (began : B) (source later : SourceTold) (first sink : SinkTold) (notes : Device SinkTold) (net : NetView)
-    → now ≡ given_back net → IsShort gives has_told form (start_of plan boxes source first began) later sink net
-    → WasShort gives has_told form began plan (run_devices (device source later) (device first sink) notes) (device boxes now)
-run_short {B} {T} gives has_told form plan boxes now began source later first sink notes net back h = record {
+pub run_short : {B T : Type 0} (gives : Giving B) (reads_on : Reading B) (has_told : Telling T) (form : Form) (plan : Plan) (boxes now : List CalculatorTold) (began : B) (source later : SourceTold) (first sink : SinkTold) (notes : Device SinkTold) (net : NetView)
+    → now ≡ given_back net → IsShort gives reads_on has_told form (start_of plan boxes source first began) later sink net
+    → WasShort gives reads_on has_told form began plan (run_devices (device source later) (device first sink) notes) (device boxes now)
+run_short {B} {T} gives reads_on has_told form plan boxes now began source later first sink notes net back h = record {
   batches = h.batches;
   end = h.end;
   at = h.at;

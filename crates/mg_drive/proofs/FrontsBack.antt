@@ -12,27 +12,28 @@ use Rattle.mg_calc.specs.declared.plan.Plan.{Plan}
 use Rattle.mg_calc.specs.declared.plan_node.PlanNode.{PlanNode}
 use Rattle.mg_calc.specs.Shape.{IsOuter}
 use Rattle.mg_calc.specs.Told.{CalculatorTold}
-use Rattle.mg_calc.specs.Outcome.{Failure}
-use Rattle.mg_calc.specs.Equations.{Job, IsJob, outcome_of}
+use Rattle.mg_calc.specs.Outcome.{Failure, Outcome}
+use Rattle.mg_calc.specs.Equations.{Job, IsJob, IsSolution, outcome_of}
 use Rattle.mg_calc.specs.Meaning.{shown_sets, last_call, log_of}
 use Rattle.mg_answer.specs.Devices.{Device, device}
 use Rattle.mg_node.specs.Job.{LoggedJob, Solves}
 use Rattle.mg_node.specs.Batches.{Grows}
+use Rattle.mg_node.proofs.Stages.{outer_stage}
 use Rattle.mg_sched.specs.Views.{NetView}
 use Rattle.mg_sched.specs.Made.{BoxesFit}
 use Rattle.mg_sched.specs.GivesBack.{given_back, StoodFor}
 use Rattle.mg_sched.proofs.CountedBack.{knows_back}
 use Rattle.mg_sched.proofs.FrontsBack.{front_back}
 use Rattle.mg_sched.proofs.Solved.{solved}
-use Rattle.mg_drive.specs.Leaves.{first_calls, HadAFront, IsAt, HadCallsOf, HadFronts}
-use Rattle.mg_drive.proofs.BoxesBack.{logs_of, box_at, log_was}
+use Rattle.mg_drive.specs.Leaves.{first_calls, KeepsAFront, IsAt, HadCallsOf, HadFronts}
+use Rattle.mg_drive.proofs.BoxesBack.{box_at, log_was}
 
 -- Calculators of a net --
 
 -- one comes back with a front of its calls
-one_front : (boxes : List CalculatorTold) (job later : LoggedJob) (net : NetView) (streams : List (StreamPrefix Plain)) (number place : ℕ) (node : PlanNode) → BoxesFit later.job.plan boxes → later.logs ≡ logs_of boxes → StoodFor job net
-    → (later ≡ job) ⊎ Grows job later → net.plan ≡ later.job.plan → Solves later streams → slice_get later.job.plan.nodes number ≡ Some node → node.box_number ≡ Some place → IsAt place (HadAFront later.job streams node) (device boxes (given_back net))
-one_front boxes job later net streams number place node fit logs stood more plan_is solves there has =
+kept_front : (boxes : List CalculatorTold) (job later : LoggedJob) (net : NetView) (streams : List (StreamPrefix Plain)) (number place : ℕ) (node : PlanNode) → BoxesFit later.job.plan boxes → later.boxes ≡ boxes → StoodFor job net
+    → (later ≡ job) ⊎ Grows job later → net.plan ≡ later.job.plan → Solves later streams → slice_get later.job.plan.nodes number ≡ Some node → node.box_number ≡ Some place → IsAt place (KeepsAFront later.job streams node) (device boxes (given_back net))
+kept_front boxes job later net streams number place node fit same stood more plan_is solves there has =
     let box = box_at later.job.plan boxes number place node fit there has in
     let outer : IsOuter node.law = subst IsOuter box.2.fits.same_law box.2.outer in
     let back = front_back job later net streams number place node stood more solves (ap (λ (p : Plan). slice_get p.nodes number) plan_is ∙ there) has outer in
@@ -42,30 +43,51 @@ one_front boxes job later net streams number place node fit logs stood more plan
       was = box.1;
       is = back.1;
       holds = record {
-        count = back.2.count;
-        close = back.2.close;
-        opened = back.2.opened;
-        log = back.2.log ∙ ap (option_map (λ (calls : List Call). calls ++ first_calls later.job streams node back.2.count back.2.close)) (log_was later boxes place node box.0 logs has box.1);
-        law = back.2.fits.same_law ∙ sym box.2.fits.same_law;
-        shape = back.2.fits.same_shape ∙ sym box.2.fits.same_shape;
+        front = record {
+          count = back.2.count;
+          close = back.2.close;
+          opened = back.2.opened;
+          log = back.2.log ∙ ap (option_map (λ (calls : List Call). calls ++ first_calls later.job streams node back.2.count back.2.close)) (log_was later boxes place node box.0 same has box.1);
+          law = back.2.fits.same_law ∙ sym box.2.fits.same_law;
+          shape = back.2.fits.same_shape ∙ sym box.2.fits.same_shape;
+        };
+        unopened = λ none. back.2.unopened none place box.0 has (ap (λ (bs : List CalculatorTold). slice_get bs place) same ∙ box.1);
+        state = λ shown is. back.2.state shown is ∙ ap (λ (o : Outcome). o.state) (outer_stage node.law later.job streams node shown outer);
       };
     }
 
 -- and so does each, in the solution of a job that the net's is or that goes on from it
-pub all_fronts : (boxes : List CalculatorTold) (job later : LoggedJob) (net : NetView) → BoxesFit later.job.plan boxes → later.logs ≡ logs_of boxes → StoodFor job net → job.job.plan ≡ later.job.plan → (later ≡ job) ⊎ Grows job later
-    → IsJob later.job → HadFronts later.job (device boxes (given_back net))
-all_fronts boxes job later net fit logs stood same more is =
+pub record KeptFronts (job : Job) (boxes : Device (List CalculatorTold)) : Type 0 where
+  pub streams : List (StreamPrefix Plain)
+  pub solution : IsSolution job streams
+  pub each : (number place : ℕ) (node : PlanNode) → slice_get job.plan.nodes number ≡ Some node → node.box_number ≡ Some place
+      → IsAt place (KeepsAFront job streams node) boxes
+
+pub kept_fronts : (boxes : List CalculatorTold) (job later : LoggedJob) (net : NetView) → BoxesFit later.job.plan boxes → later.boxes ≡ boxes → StoodFor job net → job.job.plan ≡ later.job.plan → (later ≡ job) ⊎ Grows job later
+    → IsJob later.job → KeptFronts later.job (device boxes (given_back net))
+kept_fronts boxes job later net fit handed stood same more is =
     let found = solved later is in
     record {
       streams = found.0;
       solution = found.1.solution;
-      each = λ number place node there has. one_front boxes job later net found.0 number place node fit logs stood more ((knows_back job net stood).plan ∙ same) found.1 there has;
+      each = λ number place node there has. kept_front boxes job later net found.0 number place node fit handed stood more ((knows_back job net stood).plan ∙ same) found.1 there has;
     }
 
--- in that of the net's own, by what came back
-pub fronts_now : (boxes now : List CalculatorTold) (job : LoggedJob) (net : NetView) → BoxesFit job.job.plan boxes → job.logs ≡ logs_of boxes → StoodFor job net → IsJob job.job → now ≡ given_back net → HadFronts job.job (device boxes now)
-fronts_now boxes now job net fit logs stood is back =
-    subst (λ (bs : List CalculatorTold). HadFronts job.job (device boxes bs)) (sym back) (all_fronts boxes job job net fit logs stood refl (inl refl) is)
+pub kept_now : (boxes now : List CalculatorTold) (job : LoggedJob) (net : NetView) → BoxesFit job.job.plan boxes → job.boxes ≡ boxes → StoodFor job net → IsJob job.job → now ≡ given_back net → KeptFronts job.job (device boxes now)
+kept_now boxes now job net fit handed stood is back =
+    subst (λ (bs : List CalculatorTold). KeptFronts job.job (device boxes bs)) (sym back) (kept_fronts boxes job job net fit handed stood refl (inl refl) is)
+
+-- of what they keep nothing is said
+pub fronts_now : (boxes now : List CalculatorTold) (job : LoggedJob) (net : NetView) → BoxesFit job.job.plan boxes → job.boxes ≡ boxes → StoodFor job net → IsJob job.job → now ≡ given_back net → HadFronts job.job (device boxes now)
+fronts_now boxes now job net fit handed stood is back =
+    let kept = kept_now boxes now job net fit handed stood is back in
+    record {
+      streams = kept.streams;
+      solution = kept.solution;
+      each = λ number place node there has.
+          (let at = kept.each number place node there has in
+          record { before = at.before; now = at.now; was = at.was; is = at.is; holds = at.holds.front });
+    }
 
 -- Calculators that had none of their calls, or all --
 
@@ -76,7 +98,7 @@ none_more (Some calls) = ap Some (sym (append-nil calls))
 -- they had a front of none in any job
 pub none_had : (job : Job) (boxes : List CalculatorTold) → IsJob job → BoxesFit job.plan boxes → HadFronts job (device boxes boxes)
 none_had job boxes is fit =
-    let found = solved (record { job = job; logs = [] }) is in
+    let found = solved (record { job = job; boxes = [] }) is in
     record {
       streams = found.0;
       solution = found.1.solution;

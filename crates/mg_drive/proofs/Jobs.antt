@@ -51,7 +51,7 @@ sets_grow first later xs ys solves grows b =
     let solution : IsSolution next ys = subst (λ (j : Job). IsSolution j ys) same b in
     let extended = solution_grows plan first.job.inputs later.job.inputs xs ys solves.is_job is_next grows.sides grows.extended solves.solution solution in
     let one = outputs_by_default first xs solves in
-    let two = outputs_by_default (record { job = next; logs = [] }) ys (record { is_job = is_next; solution = solution }) in
+    let two = outputs_by_default (record { job = next; boxes = [] }) ys (record { is_job = is_next; solution = solution }) in
     let stay = sets-stay Default (inputs_of xs plan.outputs) (inputs_of ys plan.outputs) (inputs-extended xs ys plan.outputs extended) in
     subst (λ (l : List (TimedSet Plain)). take (length l) (settled_outputs plan ys) ≡ l) (sym one)
     (subst (λ (l : List (TimedSet Plain)). take (length (settled_sets Default (inputs_of xs plan.outputs))) l ≡ settled_sets Default (inputs_of xs plan.outputs)) (sym two) stay)

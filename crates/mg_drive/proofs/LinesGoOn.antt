@@ -5,11 +5,11 @@ use Rattle.mg_edge.specs.Edge.{SourceTold}
 use Rattle.mg_value.specs.Payload.{Plain}
 use Rattle.mg_value.specs.Prefix.{StreamPrefix, empty_prefix}
 use Rattle.mg_value.specs.Extension.{AreExtendedBy}
-use Rattle.mg_calc.specs.declared.call.Call.{Call}
 use Rattle.mg_calc.specs.declared.inputs.Inputs.{Inputs}
 use Rattle.mg_calc.specs.declared.plan.Plan.{Plan}
 use Rattle.mg_calc.specs.Plan.{IsValid}
 use Rattle.mg_calc.specs.Equations.{IsJob}
+use Rattle.mg_calc.specs.Told.{CalculatorTold}
 use Rattle.mg_feed.specs.Graph.{GraphInputs, inputs_of as graph_of}
 use Rattle.mg_feed.specs.Accepted.{given_by}
 use Rattle.mg_feed.specs.Given.{ended_stream, ended_streams}
@@ -62,10 +62,10 @@ good_lines : (plan : Plan) (first now : SourceTold) (end : BatchEnd) (inputs : I
 good_lines plan first now end inputs fed past lines batch = subst (λ (g : GraphInputs). AllGood g [] (lines ++ batch.more)) batch.graph batch.stands.good
 
 -- the job goes on with the batch
-pub goes_on : (plan : Plan) (first now : SourceTold) (end : BatchEnd) (inputs : Inputs) (fed : Fed) (past : List ℕ) (lines : List (List ℕ)) (logs : List (Option (List Call))) → IsValid plan
+pub goes_on : (plan : Plan) (first now : SourceTold) (end : BatchEnd) (inputs : Inputs) (fed : Fed) (past : List ℕ) (lines : List (List ℕ)) (boxes : List CalculatorTold) → IsValid plan
     → (given_by (graph_of plan) lines).named ≡ true → (batch : HasBatch plan first end inputs now fed past lines)
-    → GoesOnWith inputs (logged plan (inputs_at (graph_of plan) lines false) logs) (logged plan (inputs_at (graph_of plan) (lines ++ batch.more) (has_ended end)) logs)
-goes_on plan first now end inputs fed past lines logs valid named batch =
+    → GoesOnWith inputs (logged plan (inputs_at (graph_of plan) lines false) boxes) (logged plan (inputs_at (graph_of plan) (lines ++ batch.more) (has_ended end)) boxes)
+goes_on plan first now end inputs fed past lines boxes valid named batch =
     let graph = graph_of plan in
     let good = good_lines plan first now end inputs fed past lines batch in
     let stands : Stands (lines ++ batch.more) (packets_of (given_by batch.view.graph lines).streams) batch.view =
@@ -76,7 +76,7 @@ goes_on plan first now end inputs fed past lines logs valid named batch =
       grows = record {
         plan = refl;
         sides = sym (sides-stay graph lines batch.more good named);
-        logs = refl;
+        boxes = refl;
         is_job = job_of_lines plan (lines ++ batch.more) (has_ended end) valid good;
         extended = subst (λ (ss : List (StreamPrefix Plain)). AreExtendedBy ss (ended_streams (has_ended end) (given_by graph (lines ++ batch.more)).streams))
             (sym (not_ended (given_by graph lines).streams)) (streams-grow graph lines batch.more (has_ended end) good);
@@ -118,9 +118,9 @@ more_lines plan first before now end inputs so_far old fed valid gave batch = re
     inputs_are = refl;
     named = batch.named;
   };
-  goes_on = λ logs.
-      subst (λ (i : Inputs). GoesOnWith inputs (logged plan i logs) (logged plan (inputs_at (graph_of plan) (gave.lines ++ batch.more) (has_ended end)) logs)) (sym gave.inputs_are)
-      (goes_on plan first now end inputs fed gave.past gave.lines logs valid (gave.named tt) batch);
+  goes_on = λ boxes.
+      subst (λ (i : Inputs). GoesOnWith inputs (logged plan i boxes) (logged plan (inputs_at (graph_of plan) (gave.lines ++ batch.more) (has_ended end)) boxes)) (sym gave.inputs_are)
+      (goes_on plan first now end inputs fed gave.past gave.lines boxes valid (gave.named tt) batch);
 }
 
 -- leaves fewer to come

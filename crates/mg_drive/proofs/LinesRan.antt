@@ -6,7 +6,6 @@ use Rattle.mg_value.specs.Payload.{Plain}
 use Rattle.mg_value.specs.Prefix.{StreamPrefix}
 use Rattle.mg_value.specs.Settled.{TimedSet}
 use Rattle.mg_value.specs.Extension.{AreExtendedBy}
-use Rattle.mg_calc.specs.declared.call.Call.{Call}
 use Rattle.mg_calc.specs.declared.inputs.Inputs.{Inputs}
 use Rattle.mg_calc.specs.declared.plan.Plan.{Plan}
 use Rattle.mg_calc.specs.Plan.{IsValid}
@@ -17,7 +16,7 @@ use Rattle.mg_feed.specs.Lines.{all_lines}
 use Rattle.mg_feed.specs.Accepted.{accepted, given_by}
 use Rattle.mg_feed.specs.Given.{ended_streams}
 use Rattle.mg_feed.specs.Stands.{AllGood}
-use Rattle.mg_feed.specs.Ran.{MetEnd}
+use Rattle.mg_feed.specs.Ran.{EndCame, MetEnd}
 use Rattle.mg_feed.specs.Once.{StopsInTime}
 use Rattle.mg_feed.specs.Fed.{Fed}
 use Rattle.mg_feed.specs.declared.feed_end.FeedEnd.{FeedEnd}
@@ -31,10 +30,10 @@ use Rattle.mg_answer.specs.Answer.{Read, by_lines, packet_lines, is_ended, ended
 use Rattle.mg_answer.specs.Devices.{Device, device, RunDevices, IsFront, TookFront}
 use Rattle.mg_answer.specs.Put.{TextView, nothing_put, HasPut}
 use Rattle.mg_answer.specs.Wrote.{Wrote}
-use Rattle.mg_answer.specs.Ran.{CameTo}
+use Rattle.mg_answer.specs.Ran.{CameTo, ReadSome}
 use Rattle.mg_answer.specs.declared.status.Status.{Status}
 use Rattle.mg_answer.proofs.Writing.{front-on, put-front, nothing-put}
-use Rattle.mg_answer.proofs.Gathering.{came-by}
+use Rattle.mg_answer.proofs.Gathering.{came-by, read-none, read-came}
 use Rattle.mg_answer.proofs.LongerTexts.{texts-grow}
 use Rattle.mg_answer.proofs.Fitting.{accepted-fit}
 use Rattle.mg_node.specs.Job.{LoggedJob, Solves}
@@ -47,14 +46,14 @@ use Rattle.mg_sched.proofs.Solved.{solved}
 use Rattle.mg_sched.proofs.OutputsTaken.{outputs_by_default}
 use Rattle.mg_drive.specs.Batches.{IsMore, logged}
 use Rattle.mg_drive.specs.Told.{HasLines}
-use Rattle.mg_drive.specs.Leaves.{HadCallsOf, HadFronts}
+use Rattle.mg_drive.specs.Leaves.{HadCallsOf}
 use Rattle.mg_drive.specs.OneRun.{CameBack, OneRun, OneShort, OneReading, ShortAtEnd, ShortBefore}
 use Rattle.mg_drive.specs.Code.Running.{IsToldSome, FrontIn}
-use Rattle.mg_drive.specs.Code.Lines.{inputs_at, LinesGave}
+use Rattle.mg_drive.specs.Code.Lines.{inputs_at, HasReadOn, ReadsOn, IsNew, LinesGave}
 use Rattle.mg_drive.proofs.Jobs.{valid_plan}
+use Rattle.mg_drive.proofs.BatchesRead.{nothing_read, none_further}
 use Rattle.mg_drive.proofs.LinesGoOn.{not_ended}
-use Rattle.mg_drive.proofs.BoxesBack.{logs_of}
-use Rattle.mg_drive.proofs.FrontsBack.{all_fronts, fronts_now}
+use Rattle.mg_drive.proofs.FrontsBack.{KeptFronts, kept_fronts, kept_now}
 use Rattle.mg_drive.proofs.OneRuns.{one_run, one_short}
 
 -- The text --
@@ -114,16 +113,16 @@ front_more plan first at fed inputs output u rest is_job fits put streams is =
     (texts-grow plan bytes u.lines front.0 found.0 streams is_job.plan good (streams-grow graph u.lines front.0 (is_ended (ended_input graph bytes).end) good) front.1 same solution is) (put found.0 found.1.solution)
 
 -- the job of the lines so far goes on to that of the whole input
-goes_on_to : (plan : Plan) (logs : List (Option (List Call))) (lines more : List (List ℕ)) (bytes : List ℕ) → IsValid plan → (given_by (inputs_of plan) lines).named ≡ true → accepted (inputs_of plan) (all_lines bytes) ≡ lines ++ more
-    → Grows (logged plan (inputs_at (inputs_of plan) lines false) logs) (record { job = job_of plan (ended_input (inputs_of plan) bytes); logs = logs })
-goes_on_to plan logs lines more bytes valid named is =
+goes_on_to : (plan : Plan) (handed : List CalculatorTold) (lines more : List (List ℕ)) (bytes : List ℕ) → IsValid plan → (given_by (inputs_of plan) lines).named ≡ true → accepted (inputs_of plan) (all_lines bytes) ≡ lines ++ more
+    → Grows (logged plan (inputs_at (inputs_of plan) lines false) handed) (record { job = job_of plan (ended_input (inputs_of plan) bytes); boxes = handed })
+goes_on_to plan handed lines more bytes valid named is =
     let graph = inputs_of plan in
     let end = (ended_input graph bytes).end in
     let good : AllGood graph [] (lines ++ more) = subst (λ (ls : List (List ℕ)). AllGood graph [] ls) is (good-accepted graph [] (all_lines bytes)) in
     record {
       plan = refl;
       sides = sym (sides-stay graph lines more good named) ∙ ap (λ (ls : List (List ℕ)). (given_by graph ls).sides) (sym is);
-      logs = refl;
+      boxes = refl;
       is_job = record { plan = valid; inputs = accepted-fit plan (all_lines bytes) end valid };
       extended = subst (λ (ls : List (List ℕ)). AreExtendedBy (ended_streams false (given_by graph lines).streams) (ended_streams (is_ended end) (given_by graph ls).streams)) (sym is)
           (subst (λ (ss : List (StreamPrefix Plain)). AreExtendedBy ss (ended_streams (is_ended end) (given_by graph (lines ++ more)).streams)) (sym (not_ended (given_by graph lines).streams))
@@ -131,15 +130,14 @@ goes_on_to plan logs lines more bytes valid named is =
     }
 
 fronts_more : (plan : Plan) (first at : SourceTold) (fed : Fed) (inputs : Inputs) (boxes now : List CalculatorTold) (net : NetView) → BoxesFit plan boxes → (gave : LinesGave fed plan first at More inputs) (rest : List ℕ) → IsValid plan
-    → (fed.read.ended ≡ true → rest ≡ []) → StoodFor (logged plan inputs (logs_of boxes)) net → now ≡ given_back net → HadFronts (job_of plan (ended_input (inputs_of plan) (gave.past ++ rest))) (device boxes now)
+    → (fed.read.ended ≡ true → rest ≡ []) → StoodFor (logged plan inputs boxes) net → now ≡ given_back net → KeptFronts (job_of plan (ended_input (inputs_of plan) (gave.past ++ rest))) (device boxes now)
 fronts_more plan first at fed inputs boxes now net fit u rest valid fits stood back =
     let bytes = u.past ++ rest in
     let front = lines_in_front plan first at fed inputs u rest fits in
-    let logs = logs_of boxes in
-    let grows = goes_on_to plan logs u.lines front.0 bytes valid (u.named tt) front.1 in
-    let then : StoodFor (logged plan (inputs_at (inputs_of plan) u.lines false) logs) net = subst (λ (i : Inputs). StoodFor (logged plan i logs) net) u.inputs_are stood in
-    subst (λ (bs : List CalculatorTold). HadFronts (job_of plan (ended_input (inputs_of plan) bytes)) (device boxes bs)) (sym back)
-    (all_fronts boxes (logged plan (inputs_at (inputs_of plan) u.lines false) logs) (record { job = job_of plan (ended_input (inputs_of plan) bytes); logs = logs }) net fit refl then refl (inr grows) grows.is_job)
+    let grows = goes_on_to plan boxes u.lines front.0 bytes valid (u.named tt) front.1 in
+    let then : StoodFor (logged plan (inputs_at (inputs_of plan) u.lines false) boxes) net = subst (λ (i : Inputs). StoodFor (logged plan i boxes) net) u.inputs_are stood in
+    subst (λ (bs : List CalculatorTold). KeptFronts (job_of plan (ended_input (inputs_of plan) bytes)) (device boxes bs)) (sym back)
+    (kept_fronts boxes (logged plan (inputs_at (inputs_of plan) u.lines false) boxes) (record { job = job_of plan (ended_input (inputs_of plan) bytes); boxes = boxes }) net fit refl then refl (inr grows) grows.is_job)
 
 -- The input came to its end --
 
@@ -165,28 +163,54 @@ lines_ran report plan devices boxes status fed end inputs u back wrote had = rec
 
 -- Memory ran out --
 
+-- how far the input was read while there was more
+read_on : (plan : Plan) (input : Device SourceTold) (fed : Fed) (at : SourceTold) (inputs : Inputs) (gave : LinesGave fed plan input.before at More inputs) → (at ≡ input.now) ⊎ (IsMore More × ReadsOn fed plan input.before at input.now)
+    → HasReadOn plan input.before at input.now fed.read.ended gave.past
+read_on plan input fed at inputs u (inl same) =
+    subst (λ (s : SourceTold). HasReadOn plan input.before at s fed.read.ended u.past) same (none_further plan input.before at fed u.past u.lines u.is_read)
+read_on plan input fed at inputs u (inr more) = more.1 u.past u.lines u.is_read
+
+end_came : (ended : Bool) (before at : SourceTold) → MetEnd false ended before at → ended ≡ true → EndCame before at
+end_came ended before at met is = subst (λ (b : Bool). MetEnd false b before at) is met
+
+-- how far before there was a net: not at all, by a first call, or by a first batch
+pub unread_yet : (plan : Plan) (input : Device SourceTold) → input.now ≡ input.before → ReadSome (inputs_of plan) input
+unread_yet plan input same = subst (λ (s : SourceTold). ReadSome (inputs_of plan) (device input.before s)) (sym same) (read-none (inputs_of plan) input.before)
+
+pub first_call : (plan : Plan) (input : Device SourceTold) (fed : Fed) → IsNew fed plan → ReadsOn fed plan input.before input.before input.now → ReadSome (inputs_of plan) input
+first_call plan input fed new reads = (reads [] [] (nothing_read plan input.before fed new.graph new.stands new.unread)).read
+
+pub first_given : (plan : Plan) (input : Device SourceTold) (fed : Fed) (end : BatchEnd) (inputs : Inputs) → LinesGave fed plan input.before input.now end inputs → ReadSome (inputs_of plan) input
+first_given plan input fed More inputs u = (none_further plan input.before input.now fed u.past u.lines u.is_read).read
+first_given plan input fed (End end) inputs u =
+    read-came (inputs_of plan) input (record { lines = u.lines; end = end }) (came_at plan input.before input.now fed end inputs u)
+
 pub lines_short : (plan : Plan) (input : Device SourceTold) (output : Device SinkTold) (boxes now : List CalculatorTold) (net : NetView) (fed : Fed) (end : BatchEnd) (at : SourceTold) (inputs : Inputs) → BoxesFit plan boxes → LinesGave fed plan input.before at end inputs
-    → IsMore end ⊎ (at ≡ input.now) → IsJob (record { plan = plan; inputs = inputs }) → FrontIn packet_lines output.before output.now (record { plan = plan; inputs = inputs })
-    → StoodFor (logged plan inputs (logs_of boxes)) net → now ≡ given_back net → CameBack plan boxes now → ShortAtEnd plan input output (device boxes now) ⊎ ShortBefore plan input output (device boxes now)
+    → (at ≡ input.now) ⊎ (IsMore end × ReadsOn fed plan input.before at input.now) → IsJob (record { plan = plan; inputs = inputs }) → FrontIn packet_lines output.before output.now (record { plan = plan; inputs = inputs })
+    → StoodFor (logged plan inputs boxes) net → now ≡ given_back net → CameBack plan boxes now → ShortAtEnd plan input output (device boxes now) ⊎ ShortBefore plan input output (device boxes now)
 lines_short plan input output boxes now net fed More at inputs fit u last is_job put stood back came = inr (record {
-  came = u.past;
-  at = at;
-  gave = u.is_read.gave;
+  read = (read_on plan input fed at inputs u last).read;
+  first = u.past;
+  later = (read_on plan input fed at inputs u last).later;
+  split = (read_on plan input fed at inputs u last).split;
   ended = fed.read.ended;
-  met = u.is_read.met;
+  met = λ is. (
+    subst (λ (s : SourceTold). EndCame input.before s) (sym ((read_on plan input fed at inputs u last).none is).0) (end_came fed.read.ended input.before at u.is_read.met is),
+    ((read_on plan input fed at inputs u last).none is).1,
+  );
   short = λ rest fits. one_short packet_lines (job_of plan (ended_input (inputs_of plan) (u.past ++ rest))) output (device boxes now) came
       (fronts_more plan input.before at fed inputs boxes now net fit u rest is_job.plan fits stood back)
       (front_more plan input.before at fed inputs output u rest is_job fits put);
 })
-lines_short plan input output boxes now net fed (End end) at inputs fit u (inl more) is_job put stood back came = absurd more
-lines_short plan input output boxes now net fed (End end) at inputs fit u (inr same) is_job put stood back came =
+lines_short plan input output boxes now net fed (End end) at inputs fit u (inr more) is_job put stood back came = absurd more.0
+lines_short plan input output boxes now net fed (End end) at inputs fit u (inl same) is_job put stood back came =
     let read : Read = record { lines = u.lines; end = end } in
     inl (record {
       read = read;
       came = subst (λ (s : SourceTold). CameTo (inputs_of plan) (device input.before s) read) same (came_at plan input.before at fed end inputs u);
       short = subst (λ (i : Inputs). OneShort packet_lines (record { plan = plan; inputs = i }) output (device boxes now)) u.inputs_are
           (one_short packet_lines (record { plan = plan; inputs = inputs }) output (device boxes now) came
-          (fronts_now boxes now (logged plan inputs (logs_of boxes)) net fit refl stood is_job back) put);
+          (kept_now boxes now (logged plan inputs boxes) net fit refl stood is_job back) put);
     })
 
 -- A job that a net stood for --

@@ -24,7 +24,7 @@ use Rattle.mg_sched.proofs.Becoming.{becomes_plan, becomes_spare}
 use Rattle.mg_sched.proofs.OutputsTaken.{all_come_at_rest}
 use Rattle.mg_drive.specs.Nets.{Keeps}
 use Rattle.mg_drive.specs.Batches.{IsMore}
-use Rattle.mg_drive.specs.Code.Running.{Giving, Telling, Start, job_with, IsTold, IsToldSome, IsSomeTold, IsUnderWay, IsSomeMore, WentOn, HasRested, IsAllTaken, IsOver, IsShort}
+use Rattle.mg_drive.specs.Code.Running.{Giving, Reading, Telling, Start, job_with, IsTold, IsToldSome, IsSomeTold, IsUnderWay, IsSomeMore, WentOn, HasRested, IsAllTaken, IsOver, IsShort}
 use Rattle.mg_drive.proofs.TakingSets.{told_same, told_some}
 use Rattle.mg_drive.proofs.Jobs.{told_of_later}
 
@@ -187,11 +187,11 @@ went_on {B} {T} gives has_told start end source later sink batches batches_now t
 -- Memory ran out --
 
 -- where some sets were told since
-pub short_told : {B T : Type 0} (gives : Giving B) (has_told : Telling T) (form : Form) (start : Start B) (end : BatchEnd) (source : SourceTold) (sink sink_now : SinkTold) (batches : B) (telling : T) (net now : NetView)
+pub short_told : {B T : Type 0} (gives : Giving B) (reads_on : Reading B) (has_told : Telling T) (form : Form) (start : Start B) (end : BatchEnd) (source : SourceTold) (sink sink_now : SinkTold) (batches : B) (telling : T) (net now : NetView)
     → ((job : LoggedJob) → StandsFor job net → StandsFor job now)
     → ((job : LoggedJob) (first : SinkTold) → StandsFor job net → IsTold has_told job.job first sink (taken_out net) telling → IsToldSome has_told job.job first sink_now)
-    → IsUnderWay gives has_told start end source sink batches telling net → IsShort gives has_told form start source sink_now now
-short_told {B} {T} gives has_told form start end source sink sink_now batches telling net now keeps tells u =
+    → IsUnderWay gives has_told start end source sink batches telling net → IsShort gives reads_on has_told form start source sink_now now
+short_told {B} {T} gives reads_on has_told form start end source sink sink_now batches telling net now keeps tells u =
     let job = job_with start u.inputs in
     record {
       batches = batches;
@@ -199,21 +199,22 @@ short_told {B} {T} gives has_told form start end source sink sink_now batches te
       at = source;
       inputs = u.inputs;
       given = u.given;
-      last = inr refl;
+      last = inl refl;
       stood = stands_still job now (keeps job u.stands);
       front = inl (tells job start.sink u.stands u.is_told);
     }
 
 -- where none was
-pub short_here : {B T : Type 0} (gives : Giving B) (has_told : Telling T) (form : Form) (start : Start B) (end : BatchEnd) (source : SourceTold) (sink : SinkTold) (batches : B) (telling : T) (net now : NetView)
-    → ((job : LoggedJob) → StandsFor job net → StandsFor job now) → IsUnderWay gives has_told start end source sink batches telling net → IsShort gives has_told form start source sink now
-short_here {B} {T} gives has_told form start end source sink batches telling net now keeps u =
-    short_told gives has_told form start end source sink sink batches telling net now keeps (λ job first h t. told_some has_told job first sink (taken_out net) telling t) u
+pub short_here : {B T : Type 0} (gives : Giving B) (reads_on : Reading B) (has_told : Telling T) (form : Form) (start : Start B) (end : BatchEnd) (source : SourceTold) (sink : SinkTold) (batches : B) (telling : T) (net now : NetView)
+    → ((job : LoggedJob) → StandsFor job net → StandsFor job now) → IsUnderWay gives has_told start end source sink batches telling net → IsShort gives reads_on has_told form start source sink now
+short_here {B} {T} gives reads_on has_told form start end source sink batches telling net now keeps u =
+    short_told gives reads_on has_told form start end source sink sink batches telling net now keeps (λ job first h t. told_some has_told job first sink (taken_out net) telling t) u
 
 -- and more was read
-pub short_more : {B T : Type 0} (gives : Giving B) (has_told : Telling T) (form : Form) (start : Start B) (source later : SourceTold) (sink : SinkTold) (batches : B) (telling : T) (net now : NetView)
-    → ((job : LoggedJob) → StandsFor job net → StandsFor job now) → IsUnderWay gives has_told start More source sink batches telling net → IsShort gives has_told form start later sink now
-short_more {B} {T} gives has_told form start source later sink batches telling net now keeps u =
+pub short_more : {B T : Type 0} (gives : Giving B) (reads_on : Reading B) (has_told : Telling T) (form : Form) (start : Start B) (source later : SourceTold) (sink : SinkTold) (batches : B) (telling : T) (net now : NetView)
+    → ((job : LoggedJob) → StandsFor job net → StandsFor job now) → reads_on batches start.plan start.source source later → IsUnderWay gives has_told start More source sink batches telling net
+    → IsShort gives reads_on has_told form start later sink now
+short_more {B} {T} gives reads_on has_told form start source later sink batches telling net now keeps read u =
     let job = job_with start u.inputs in
     record {
       batches = batches;
@@ -221,7 +222,7 @@ short_more {B} {T} gives has_told form start source later sink batches telling n
       at = source;
       inputs = u.inputs;
       given = u.given;
-      last = inl tt;
+      last = inr (tt, read);
       stood = stands_still job now (keeps job u.stands);
       front = inl (told_some has_told job start.sink sink (taken_out net) telling u.is_told);
     }

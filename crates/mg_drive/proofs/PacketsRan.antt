@@ -31,8 +31,7 @@ use Rattle.mg_drive.specs.Leaves.{HadCallsOf}
 use Rattle.mg_drive.specs.OneRun.{CameBack, OneRun, OneShort, OneMade}
 use Rattle.mg_drive.specs.Code.Running.{IsToldSome, FrontIn}
 use Rattle.mg_drive.specs.Code.Packets.{WereGiven}
-use Rattle.mg_drive.proofs.BoxesBack.{logs_of}
-use Rattle.mg_drive.proofs.FrontsBack.{fronts_now}
+use Rattle.mg_drive.proofs.FrontsBack.{kept_now}
 use Rattle.mg_drive.proofs.OneRuns.{one_run, one_short}
 
 -- Packets --
@@ -99,8 +98,8 @@ front_sums job first now is (inl some) =
 pub packets_short : (plan : Plan) (number : ℕ) (packets : Option Inputs) (output : Device SinkTold) (boxes now : List CalculatorTold) (net : NetView) (end : BatchEnd) (inputs : Inputs) → BoxesFit plan boxes → packets ≡ Some (generated_job plan number).inputs
     → WereGiven packets end inputs → IsJob (record { plan = plan; inputs = inputs })
     → IsToldSome HasSums (record { plan = plan; inputs = inputs }) output.before output.now ⊎ FrontIn totals output.before output.now (record { plan = plan; inputs = inputs })
-    → StoodFor (logged plan inputs (logs_of boxes)) net → now ≡ given_back net → CameBack plan boxes now → OneShort totals (generated_job plan number) output (device boxes now)
+    → StoodFor (logged plan inputs boxes) net → now ≡ given_back net → CameBack plan boxes now → OneShort totals (generated_job plan number) output (device boxes now)
 packets_short plan number packets output boxes now net end inputs fit are given is front stood back came =
     subst (λ (i : Inputs). OneShort totals (record { plan = plan; inputs = i }) output (device boxes now)) (given_made plan number packets end inputs are given)
-    (one_short totals (record { plan = plan; inputs = inputs }) output (device boxes now) came (fronts_now boxes now (logged plan inputs (logs_of boxes)) net fit refl stood is back)
+    (one_short totals (record { plan = plan; inputs = inputs }) output (device boxes now) came (kept_now boxes now (logged plan inputs boxes) net fit refl stood is back)
     (front_sums (logged plan inputs []) output.before output.now is front))

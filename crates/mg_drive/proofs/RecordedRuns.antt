@@ -17,10 +17,12 @@ use Rattle.mg_answer.specs.Devices.{Device, device, run_devices, Untouched, Took
 use Rattle.mg_answer.specs.Put.{TextView, BlockView, HasPutIn}
 use Rattle.mg_answer.specs.Gathered.{Gathered}
 use Rattle.mg_answer.specs.Wrote.{Meets, MetShort, Wrote}
+use Rattle.mg_answer.specs.Ran.{ReadSome}
 use Rattle.mg_answer.specs.declared.status.Status.{Status}
 use Rattle.mg_answer.specs.declared.status.Status.TheVariants.{Good, StoreFault, Usage, GraphRefused, LineRefused, NodeFault, Stalled, ReadFault, WriteFault, OutOfMemory}
 use Rattle.mg_answer.proofs.Writing.{put-front}
 use Rattle.mg_answer.proofs.Answering.{no-want}
+use Rattle.mg_answer.proofs.Gathering.{read-came}
 use Rattle.mg_calc.specs.Meaning.{faults, stalled}
 use Rattle.mg_node.specs.Job.{LoggedJob}
 use Rattle.mg_sched.specs.Views.{NetView}
@@ -42,7 +44,7 @@ use Rattle.mg_drive.specs.Code.Ending.{IsWhole, StoodWith}
 use Rattle.mg_drive.specs.Code.Tracing.{plan_job, HasRecorded, HasRecordedSome, NetTraced, NetShort, JobTraced, JobShort}
 use Rattle.mg_drive.proofs.Jobs.{valid_plan}
 use Rattle.mg_drive.proofs.RunsEnd.{had_of}
-use Rattle.mg_drive.proofs.BoxesBack.{logs_of, all_had_now}
+use Rattle.mg_drive.proofs.BoxesBack.{all_had_now}
 use Rattle.mg_drive.proofs.FrontsBack.{all_are_fronts, fronts_now}
 
 -- Events --
@@ -204,7 +206,7 @@ job_traced report plan inputs boxes handed now end status output notes made net 
       text = k.text;
       trace = k.trace;
       wrote = k.wrote;
-      had = all_had_now (logged plan inputs (logs_of boxes)) boxes now net fit refl back k.had;
+      had = all_had_now (logged plan inputs boxes) boxes now net fit refl back k.had;
     }
 
 pub job_short : (plan : Plan) (inputs : Inputs) (boxes handed now : List CalculatorTold) (before later : SinkTold) (net : NetView) → handed ≡ boxes → now ≡ given_back net
@@ -214,12 +216,12 @@ job_short plan inputs boxes handed now before later net same back h =
     record { took = k.took; net = net; stood = k.stood; back = back }
 
 pub stood_traced : (report : Bool) (plan : Plan) (inputs : Inputs) (boxes handed : List CalculatorTold) (end : FeedEnd) (status : Status) (output notes : Device SinkTold) (net : NetView) → handed ≡ boxes
-    → NetTraced report plan inputs handed end status output notes net → StoodWith (logs_of boxes) net
-stood_traced report plan inputs boxes handed end status output notes net same h = record { job = job_of plan inputs handed; stood = h.stood; logs_are = ap logs_of same }
+    → NetTraced report plan inputs handed end status output notes net → StoodWith boxes net
+stood_traced report plan inputs boxes handed end status output notes net same h = record { job = job_of plan inputs handed; stood = h.stood; boxes_are = same }
 
 pub stood_untraced : (plan : Plan) (inputs : Inputs) (boxes handed : List CalculatorTold) (before : SinkTold) (output : Device SinkTold) (net : NetView) → handed ≡ boxes
-    → NetShort plan inputs handed before output net → StoodWith (logs_of boxes) net
-stood_untraced plan inputs boxes handed before output net same h = record { job = job_of plan inputs handed; stood = h.stood; logs_are = ap logs_of same }
+    → NetShort plan inputs handed before output net → StoodWith boxes net
+stood_untraced plan inputs boxes handed before output net same h = record { job = job_of plan inputs handed; stood = h.stood; boxes_are = same }
 
 -- Over what the input came to --
 
@@ -293,6 +295,10 @@ had_read report plan inputs input end status output notes boxes gathered j = rec
   had = subst (λ (i : Inputs). HadCallsOf (plan_job plan i) boxes) gathered.given j.had;
 }
 
+-- so much was read
+pub read_through : (plan : Plan) (inputs : Inputs) (input : Device SourceTold) (end : FeedEnd) → Gathered (inputs_of plan) input end inputs → ReadSome (inputs_of plan) input
+read_through plan inputs input end gathered = read-came (inputs_of plan) input gathered.read gathered.came
+
 -- memory ran out
 pub short_read : (plan : Plan) (inputs : Inputs) (input : Device SourceTold) (end : FeedEnd) (output notes : Device SinkTold) (boxes : Device (List CalculatorTold)) → Gathered (inputs_of plan) input end inputs
     → JobShort plan inputs output boxes → TracedOut plan boxes.before (run_devices input output notes)
@@ -312,7 +318,7 @@ some_read plan inputs input end output boxes now fit is gathered j = inr (record
   read = gathered.read;
   came = gathered.came;
   fronts = subst (λ (i : Inputs). HadFronts (plan_job plan i) (device boxes now)) gathered.given
-      (fronts_now boxes now (logged plan inputs (logs_of boxes)) j.net fit refl j.stood is j.back);
+      (fronts_now boxes now (logged plan inputs boxes) j.net fit refl j.stood is j.back);
 })
 
 pub all_are_some : (plan : Plan) (input : Device SourceTold) (boxes : Device (List CalculatorTold)) → HadCalls plan input boxes → HadSome plan input boxes

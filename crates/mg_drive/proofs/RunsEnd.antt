@@ -32,7 +32,7 @@ use Rattle.mg_sched.proofs.HadBack.{used_back}
 use Rattle.mg_sched.proofs.OutputsTaken.{outputs_by_default}
 use Rattle.mg_drive.specs.Told.{told_in}
 use Rattle.mg_drive.specs.Nets.{Keeps}
-use Rattle.mg_drive.specs.Code.Running.{Giving, Telling, Start, job_with, IsTold, IsUnderWay, HasRested, IsAllTaken, SomeRested, IsOver, IsShort, FrontIn}
+use Rattle.mg_drive.specs.Code.Running.{Giving, Reading, Telling, Start, job_with, IsTold, IsUnderWay, HasRested, IsAllTaken, SomeRested, IsOver, IsShort, FrontIn}
 use Rattle.mg_drive.specs.Code.Ending.{IsWhole, HadAllOf, HasEnded}
 use Rattle.mg_drive.proofs.Jobs.{valid_plan, plan_stood}
 use Rattle.mg_drive.proofs.TakingSets.{told_some}
@@ -49,7 +49,7 @@ none_yet plan inputs boxes net made = none_taken net (collector_of net) refl (λ
 
 -- how the run of a plan begins, with these calculators
 abbrev pub start_of : {B : Type 0} → Plan → List CalculatorTold → SourceTold → SinkTold → B → Start B
-start_of plan boxes source sink batches = record { plan = plan; logs = map (λ b. b.log) boxes; source = source; sink = sink; batches = batches }
+start_of plan boxes source sink batches = record { plan = plan; boxes = boxes; source = source; sink = sink; batches = batches }
 
 -- a net that was made of the first batch begins a run, of which nothing is told
 pub begins : {B T : Type 0} (gives : Giving B) (has_told : Telling T) (plan : Plan) (boxes handed : List CalculatorTold) (began batches : B) (telling : T) (first now : SourceTold) (sink : SinkTold) (end : BatchEnd) (inputs : Inputs) (net : NetView)
@@ -137,9 +137,9 @@ ended_over {B} {T} gives has_told form report plan start end source sink now bat
     }
 
 -- or memory ran out before its text was made
-pub short_over : {B T : Type 0} (gives : Giving B) (has_told : Telling T) (form : Form) (start : Start B) (end : FeedEnd) (source : SourceTold) (sink : SinkTold) (batches : B) (telling : T) (net : NetView)
-    → IsOver gives has_told start end source sink batches telling net → IsShort gives has_told form start source sink net
-short_over {B} {T} gives has_told form start end source sink batches telling net over =
+pub short_over : {B T : Type 0} (gives : Giving B) (reads_on : Reading B) (has_told : Telling T) (form : Form) (start : Start B) (end : FeedEnd) (source : SourceTold) (sink : SinkTold) (batches : B) (telling : T) (net : NetView)
+    → IsOver gives has_told start end source sink batches telling net → IsShort gives reads_on has_told form start source sink net
+short_over {B} {T} gives reads_on has_told form start end source sink batches telling net over =
     let u = over.under_way in
     let job = job_with start u.inputs in
     record {
@@ -148,17 +148,17 @@ short_over {B} {T} gives has_told form start end source sink batches telling net
       at = source;
       inputs = u.inputs;
       given = u.given;
-      last = inr refl;
+      last = inl refl;
       stood = record { before = net; stands = u.stands; since = inl refl };
       front = inl (told_some has_told job start.sink sink (taken_out net) telling u.is_told);
     }
 
 -- or after that
-pub short_end : {B T : Type 0} (gives : Giving B) (has_told : Telling T) (form : Form) (start : Start B) (end : FeedEnd) (source : SourceTold) (sink now : SinkTold) (batches : B) (telling : T) (net later : NetView) (text : TextView)
+pub short_end : {B T : Type 0} (gives : Giving B) (reads_on : Reading B) (has_told : Telling T) (form : Form) (start : Start B) (end : FeedEnd) (source : SourceTold) (sink now : SinkTold) (batches : B) (telling : T) (net later : NetView) (text : TextView)
     → ((p : Plan) (f n : SinkTold) (sets : List (TimedSet Plain)) → has_told telling p f n sets → HasPut f n text (told_in form p sets))
     → ((fm : Form) (job : Job) (first : SinkTold) → IsWhole fm first sink job text → FrontIn fm first now job) → (later ≡ net) ⊎ WindsUpNet net later
-    → IsOver gives has_told start end source sink batches telling net → IsShort gives has_told form start source now later
-short_end {B} {T} gives has_told form start end source sink now batches telling net later text puts front since over =
+    → IsOver gives has_told start end source sink batches telling net → IsShort gives reads_on has_told form start source now later
+short_end {B} {T} gives reads_on has_told form start end source sink now batches telling net later text puts front since over =
     let u = over.under_way in
     let job = job_with start u.inputs in
     record {
@@ -167,7 +167,7 @@ short_end {B} {T} gives has_told form start end source sink now batches telling 
       at = source;
       inputs = u.inputs;
       given = u.given;
-      last = inr refl;
+      last = inl refl;
       stood = record { before = net; stands = u.stands; since = since };
       front = inr (front form job.job start.sink (whole_told has_told form job start.sink sink net telling text u.stands over.all u.is_told puts));
     }

@@ -1,13 +1,15 @@
 -- What a run leaves of the calculators that are handed in.
-use Rattle.std.specs.Prelude.{◌≡◌, ◌≢◌, ◌⊎◌, ℕ, ◌≤◌, List, ◌∷◌, ◌++◌, map, take, length, All, Bool, true, [], Some, option_map, slice_get, if◌then◌else◌}
+use Rattle.std.specs.Prelude.{◌≡◌, ◌≢◌, ◌⊎◌, ℕ, suc, ◌≤◌, List, ◌∷◌, ◌++◌, map, take, length, All, Bool, true, [], Some, option_map, slice_get, if◌then◌else◌}
 use Rattle.mg_value.specs.Payload.{Plain}
 use Rattle.mg_value.specs.Prefix.{StreamPrefix}
+use Rattle.mg_value.specs.Settled.{settled_sets}
 use Rattle.mg_edge.specs.Edge.{SourceTold}
 use Rattle.mg_calc.specs.declared.call.Call.{Call}
 use Rattle.mg_calc.specs.declared.call.Call.TheVariants.{Begun, Shown, Finished}
 use Rattle.mg_calc.specs.declared.plan.Plan.{Plan}
 use Rattle.mg_calc.specs.declared.plan_node.PlanNode.{PlanNode}
-use Rattle.mg_calc.specs.Equations.{Job, IsSolution, outcome_of}
+use Rattle.mg_calc.specs.Outcome.{Outcome, shown_all}
+use Rattle.mg_calc.specs.Equations.{Job, IsSolution, sides_of, inputs_of as ports_of, outcome_of}
 use Rattle.mg_calc.specs.Meaning.{shown_sets, log_of}
 use Rattle.mg_calc.specs.Told.{CalculatorTold}
 use Rattle.mg_feed.specs.Graph.{inputs_of}
@@ -61,6 +63,17 @@ pub record HadAFront (job : Job) (streams : List (StreamPrefix Plain)) (node : P
   pub log : now.log ≡ option_map (λ calls. calls ++ first_calls job streams node count close) before.log
   pub law : now.law ≡ before.law
   pub shape : now.shape ≡ before.shape
+
+-- what a node has come to once it was opened and shown its first settled sets, a number of them
+abbrev pub come_to : Job → List (StreamPrefix Plain) → PlanNode → ℕ → Outcome
+come_to job streams node shown = shown_all node.law node.shape.offset (length node.outputs) (sides_of job node) (take shown (settled_sets node.policy (ports_of streams node)))
+
+-- A calculator had such a front. Before Open it keeps what it kept, and from Open on what its node has come to after the sets that it was
+-- shown. Close changes nothing of it.
+pub record KeepsAFront (job : Job) (streams : List (StreamPrefix Plain)) (node : PlanNode) (before now : CalculatorTold) : Type 0 where
+  pub front : HadAFront job streams node before now
+  pub unopened : front.count ≡ 0 → now.state ≡ before.state
+  pub state : (shown : ℕ) → front.count ≡ suc shown → now.state ≡ (come_to job streams node shown).state
 
 -- Each calculator that a node uses had such a front, in the solution of a job.
 pub record HadFronts (job : Job) (boxes : Device (List CalculatorTold)) : Type 0 where

@@ -1,8 +1,7 @@
 -- A run as one thing: there are one reading of its input, one job and one solution of it, and all that is seen of the run is theirs, the
 -- output, the notes, the status, and the calls of the calculators that are handed in.
-use Rattle.std.specs.Prelude.{◌≡◌, ◌⊎◌, ℕ, List, [], ◌++◌, length, All, Bool, true, false, Some, slice_get}
+use Rattle.std.specs.Prelude.{◌≡◌, ◌⊎◌, ℕ, List, [], ◌++◌, length, All, Bool, true, Some, slice_get}
 use Rattle.mg_edge.specs.Edge.{SourceTold, SinkTold}
-use Rattle.mg_edge.specs.Runs.{Gave}
 use Rattle.mg_value.specs.Payload.{Plain}
 use Rattle.mg_value.specs.Prefix.{StreamPrefix}
 use Rattle.mg_calc.specs.declared.plan.Plan.{Plan}
@@ -10,17 +9,17 @@ use Rattle.mg_calc.specs.declared.plan_node.PlanNode.{PlanNode}
 use Rattle.mg_calc.specs.Equations.{Job, IsSolution}
 use Rattle.mg_calc.specs.Told.{CalculatorTold}
 use Rattle.mg_feed.specs.Graph.{inputs_of}
-use Rattle.mg_feed.specs.Ran.{MetEnd}
+use Rattle.mg_feed.specs.Ran.{EndCame}
 use Rattle.mg_feed.specs.declared.feed_end.FeedEnd.{FeedEnd}
 use Rattle.mg_feed.specs.declared.feed_end.FeedEnd.TheVariants.{Ended}
 use Rattle.mg_answer.specs.Answer.{Form, packet_lines, totals, Telling, by_lines, by_summary, Read, output_in, answer_of, failed_notes, ended_input, job_of, generated_job}
 use Rattle.mg_answer.specs.Notes.{memory_note}
 use Rattle.mg_answer.specs.Devices.{Device, RunDevices, Untouched, TookFront, Noted}
 use Rattle.mg_answer.specs.Wrote.{WroteBy}
-use Rattle.mg_answer.specs.Ran.{CameTo}
+use Rattle.mg_answer.specs.Ran.{CameTo, ReadSome}
 use Rattle.mg_answer.specs.declared.status.Status.{Status}
 use Rattle.mg_answer.specs.declared.status.Status.TheVariants.{OutOfMemory}
-use Rattle.mg_drive.specs.Leaves.{IsAt, HadItsCalls, HadAFront}
+use Rattle.mg_drive.specs.Leaves.{IsAt, HadItsCalls, KeepsAFront}
 
 -- All calculators come back in their order, and one that no node uses had no call.
 pub record CameBack (plan : Plan) (before now : List CalculatorTold) : Type 0 where
@@ -41,12 +40,12 @@ pub record OneRun (telling : Telling) (job : Job) (end : FeedEnd) (status : Stat
   pub had : AllHad job.plan (HadItsCalls job streams) boxes
 
 -- A run of a job in which memory ran out. In the one solution the output took a front of the text, and each calculator had a front of
--- its calls.
+-- its calls and keeps what its node has come to after them.
 pub record OneShort (form : Form) (job : Job) (output : Device SinkTold) (boxes : Device (List CalculatorTold)) : Type 0 where
   pub streams : List (StreamPrefix Plain)
   pub solution : IsSolution job streams
   pub front : TookFront output (output_in form job.plan streams)
-  pub had : AllHad job.plan (HadAFront job streams) boxes
+  pub had : AllHad job.plan (KeepsAFront job streams) boxes
 
 -- nothing was written, and no calculator had a call
 pub record WasNothing (output : Device SinkTold) (boxes : Device (List CalculatorTold)) : Type 0 where
@@ -61,25 +60,32 @@ pub record OneReading (report : Bool) (plan : Plan) (status : Status) (devices :
   pub came : CameTo (inputs_of plan) devices.input read
   pub run : OneRun (by_lines report) (job_of plan read) read.end status devices.output devices.notes boxes
 
+-- Memory ran out before anything was written or called. So far as the input was read by then, it was read once.
+pub record ShortAtOnce (plan : Plan) (input : Device SourceTold) (output : Device SinkTold) (boxes : Device (List CalculatorTold)) : Type 0 where
+  pub read : ReadSome (inputs_of plan) input
+  pub nothing : WasNothing output boxes
+
 -- Memory ran out once the input had been read so far.
 pub record ShortAtEnd (plan : Plan) (input : Device SourceTold) (output : Device SinkTold) (boxes : Device (List CalculatorTold)) : Type 0 where
   pub read : Read
   pub came : CameTo (inputs_of plan) input read
   pub short : OneShort packet_lines (job_of plan read) output boxes
 
--- Memory ran out while there was more. When these bytes had come the input told this, and whatever bytes follow them, of which there are
--- none where the source had ended, what was written and called is a front of what belongs to the whole input.
+-- Memory ran out while there was more. The input was read once, and these bytes are the first of those that came. Whatever bytes follow
+-- them, of which there are none where the source had ended with them, what was written and called is a front of what belongs to the whole
+-- input.
 pub record ShortBefore (plan : Plan) (input : Device SourceTold) (output : Device SinkTold) (boxes : Device (List CalculatorTold)) : Type 0 where
-  pub came : List ℕ
-  pub at : SourceTold
-  pub gave : Gave input.before.left at.left came
+  pub read : ReadSome (inputs_of plan) input
+  pub first : List ℕ
+  pub later : List ℕ
+  pub split : read.came ≡ first ++ later
   pub ended : Bool
-  pub met : MetEnd false ended input.before at
-  pub short : (rest : List ℕ) → (ended ≡ true → rest ≡ []) → OneShort packet_lines (job_of plan (ended_input (inputs_of plan) (came ++ rest))) output boxes
+  pub met : ended ≡ true → EndCame input.before input.now × (later ≡ [])
+  pub short : (rest : List ℕ) → (ended ≡ true → rest ≡ []) → OneShort packet_lines (job_of plan (ended_input (inputs_of plan) (first ++ rest))) output boxes
 
--- before anything was done, once the input had been read, or while there was more
+-- before anything was written or called, once the input had been read, or while there was more
 abbrev pub ShortIn : Plan → Device SourceTold → Device SinkTold → Device (List CalculatorTold) → Type 0
-ShortIn plan input output boxes = WasNothing output boxes ⊎ (ShortAtEnd plan input output boxes ⊎ ShortBefore plan input output boxes)
+ShortIn plan input output boxes = ShortAtOnce plan input output boxes ⊎ (ShortAtEnd plan input output boxes ⊎ ShortBefore plan input output boxes)
 
 -- Memory ran out, and the notes say that alone.
 pub record ShortReading (plan : Plan) (status : Status) (devices : RunDevices) (boxes : Device (List CalculatorTold)) : Type 0 where

@@ -13,7 +13,7 @@ use Rattle.mg_answer.specs.Notes.{memory_note}
 use Rattle.mg_answer.specs.Answer.{Read, Answer, by_lines, inputs_by, ended_input, job_of, failed_notes, IsAnswer}
 use Rattle.mg_answer.specs.Devices.{Device, RunDevices, Untouched, TookFront, Noted}
 use Rattle.mg_answer.specs.Wrote.{Meets, MetShort}
-use Rattle.mg_answer.specs.Ran.{CameTo}
+use Rattle.mg_answer.specs.Ran.{CameTo, ReadSome}
 use Rattle.mg_answer.specs.declared.status.Status.{Status}
 use Rattle.mg_answer.specs.declared.status.Status.TheVariants.{WriteFault, OutOfMemory}
 use Rattle.mg_sched.specs.Views.{NetView}
@@ -79,8 +79,9 @@ pub record TracedSome (plan : Plan) (boxes : List CalculatorTold) (input : Devic
 abbrev pub TracedOut : Plan → List CalculatorTold → RunDevices → Type 0
 TracedOut plan boxes devices = Untouched devices.output ⊎ TracedSome plan boxes devices.input devices.output
 
--- A recorded run ended with this status. Where memory ran out the notes say that alone.
+-- A recorded run ended with this status. Where memory ran out the notes say that alone, and so far as the input was read, it was read
+-- once.
 abbrev pub Traced : Bool → Plan → List CalculatorTold → Status → RunDevices → Type 0
 Traced report plan boxes WriteFault devices = TracedShort report plan boxes devices
-Traced report plan boxes OutOfMemory devices = TracedOut plan boxes devices × Noted devices.notes memory_note
+Traced report plan boxes OutOfMemory devices = TracedOut plan boxes devices × Noted devices.notes memory_note × ReadSome (inputs_of plan) devices.input
 Traced report plan boxes status devices = TracedAll report plan boxes status devices

@@ -27,6 +27,10 @@ pub trait Batches: Drop {
     /// second: by how the last batch ended, these inputs.
     ghost gives: { Self → Self → Plan → SourceTold → SourceTold → Ending → Given → Type 0 };
 
+    /// What a call reads of a source, whatever it answers, for a plan and where all was given of a source that told the first: it told
+    /// the second before the call, and the third after it.
+    ghost reads_on: { Self → Plan → SourceTold → SourceTold → SourceTold → Type 0 };
+
     /// A bound on the batches that may still come.
     ghost left: { Self → ℕ };
 
@@ -42,5 +46,6 @@ pub trait Batches: Drop {
             → IfOk result (λ b. GoesOn (gives began self.new plan first (S.told input.new) b.end) plan so_far b.inputs) }
         ensures fewer { (began : Self) (plan : Plan) (first : SourceTold) (so_far : Given)
             → gives began self.old plan first (S.told input.old) BatchEnd.More so_far → IfOk result (λ b. IsMore b.end → left self.new < left self.old) }
+        ensures further { (plan : Plan) (first : SourceTold) → reads_on self.old plan first (S.told input.old) (S.told input.new) }
         ensures unread { reads ≡ false → S.told input.new ≡ S.told input.old };
 }

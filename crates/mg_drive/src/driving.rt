@@ -1,6 +1,6 @@
 //! The run loop.
 ghost use Rattle.std.specs.Prelude.{◌≡◌, ◌<◌, ℕ, List, length, false, IfOk, OnOk, OnErr};
-ghost use Rattle.mg_edge.specs.Edge.{SinkTold};
+ghost use Rattle.mg_edge.specs.Edge.{SourceTold, SinkTold};
 ghost use Rattle.mg_calc.specs.declared.inputs.Inputs.{Inputs as Given};
 ghost use Rattle.mg_calc.specs.declared.plan.Plan.{Plan};
 ghost use Rattle.mg_value.specs.Payload.{Plain};
@@ -35,6 +35,7 @@ fn next_batch<N: Driven, B: Batches, S: Source>(
     ensures taken { taken_out (N.net net.new) ≡ taken_out (N.net net.old) }
     ensures running { IsRunning (N.net net.old) → IsRunning (N.net net.new) }
     ensures keeps { Keeps (N.net net.old) (N.net net.new) }
+    ensures further { (plan : Plan) (first : SourceTold) → B.reads_on batches.old plan first (S.told input.old) (S.told input.new) }
     ensures unread { B.reads ≡ false → S.told input.new ≡ S.told input.old }
 {
     net.trim();
@@ -117,7 +118,7 @@ pub fn drive<
     ensures over { IfOk result (λ end. (start : Start B) → IsUnderWay B.gives T.has_told start first (S.told input.old) (K.told output.old) ends.old.batches ends.old.telling net.old.one.net
         → IsOver B.gives T.has_told start end (S.told input.new) (K.told output.new) ends.new.batches ends.new.telling net.new.one.net) }
     ensures short { OnErr result ((start : Start B) → IsUnderWay B.gives T.has_told start first (S.told input.old) (K.told output.old) ends.old.batches ends.old.telling net.old.one.net
-        → IsShort B.gives T.has_told T.form start (S.told input.new) (K.told output.new) net.new.one.net) }
+        → IsShort B.gives B.reads_on T.has_told T.form start (S.told input.new) (K.told output.new) net.new.one.net) }
     ensures keeps { Keeps net.old.one.net net.new.one.net }
     ensures unread { B.reads ≡ false → S.told input.new ≡ S.told input.old }
 {

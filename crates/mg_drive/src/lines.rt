@@ -10,7 +10,7 @@ ghost use Rattle.mg_answer.specs.Devices.{device};
 ghost use Rattle.mg_answer.specs.Held.{told_by, SameDevices};
 ghost use Rattle.mg_sched.specs.Made.{BoxesFit};
 ghost use Rattle.mg_drive.specs.OneRun.{OneReading, ShortIn, RanOverLines};
-ghost use Rattle.mg_drive.specs.Code.Lines.{has_ended as the_end, HadMemory, IsRead, HasBatch, IsNew, LinesGave, lines_left};
+ghost use Rattle.mg_drive.specs.Code.Lines.{has_ended as the_end, HadMemory, IsRead, HasBatch, ReadsOn, IsNew, LinesGave, lines_left};
 
 use crate::{Batch, Batches, Crew, run_batches};
 use mg_answer::{Devices, OutputText, Run, Status, is_ended, note_out_of_memory, ran_out};
@@ -46,8 +46,9 @@ fn lacks_memory(end: BatchEnd) -> bool
 
 // Reads a batch of lines.
 fn read_on<S: Source>(feed: &mut Feed, input: &mut S) -> Result<Batch, AllocError>
-    ensures { (plan : Plan) (first : SourceTold) (past : List ℕ) (lines : List (List ℕ)) → IsRead plan first BatchEnd.More (S.told input.old) (fed feed.old) past lines
+    ensures batch { (plan : Plan) (first : SourceTold) (past : List ℕ) (lines : List (List ℕ)) → IsRead plan first BatchEnd.More (S.told input.old) (fed feed.old) past lines
         → IfOk result (λ b. HasBatch plan first b.end b.inputs (S.told input.new) (fed feed.new) past lines) }
+    ensures further { (plan : Plan) (first : SourceTold) → ReadsOn (fed feed.old) plan first (S.told input.old) (S.told input.new) }
 {
     let end = feed.read_batch(input, BATCH);
     if lacks_memory(end) {
@@ -61,6 +62,8 @@ impl Batches for Feed {
     ghost is_fresh = { λ f plan. IsNew (fed f) plan };
 
     ghost gives = { λ began f plan first now end inputs. LinesGave (fed f) plan first now end inputs };
+
+    ghost reads_on = { λ f plan first at now. ReadsOn (fed f) plan first at now };
 
     ghost left = { λ f. lines_left (fed f) };
 

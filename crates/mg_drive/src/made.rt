@@ -31,6 +31,8 @@ impl Batches for Made {
 
     ghost gives = { λ began m plan first now end inputs. WereGiven began.packets end inputs };
 
+    ghost reads_on = { λ m plan first at now. now ≡ at };
+
     ghost left = { λ m. 0 };
 
     ghost reads = { false };

@@ -5,8 +5,10 @@ ghost use Rattle.mg_calc.specs.declared.inputs.Inputs.{Inputs as Given};
 ghost use Rattle.mg_calc.specs.Plan.{IsValid};
 ghost use Rattle.mg_calc.specs.Equations.{IsJob};
 ghost use Rattle.mg_calc.specs.Told.{CalculatorTold};
+ghost use Rattle.mg_feed.specs.Graph.{inputs_of};
 ghost use Rattle.mg_trace.specs.Job.{job_text};
 ghost use Rattle.mg_answer.specs.Put.{HasPutIn};
+ghost use Rattle.mg_answer.specs.Ran.{ReadSome};
 ghost use Rattle.mg_answer.specs.Devices.{device, Untouched};
 ghost use Rattle.mg_answer.specs.Held.{told_by, SameDevices};
 ghost use Rattle.mg_sched.specs.Made.{BoxesFit, IsMade};
@@ -69,6 +71,7 @@ fn trace_whole<G: Gate, C: Calculator, S: Source, K: Sink, E: Sink>(
     requires boxes { BoxesFit run.now.plan.now (map C.told boxes.old.items) }
     ensures traced { IfOk result (λ status. Traced run.now.report run.now.plan.now (map C.told boxes.old.items) status (told_by S.told K.told E.told devices.old devices.new)) }
     ensures short { OnErr result (TracedOut run.now.plan.now (map C.told boxes.old.items) (told_by S.told K.told E.told devices.old devices.new)) }
+    ensures read { OnErr result (ReadSome (inputs_of run.now.plan.now) (told_by S.told K.told E.told devices.old devices.new).input) }
     ensures unnoted { OnErr result (E.told devices.new.notes.now ≡ E.told devices.old.notes.now) }
     ensures used { OnOk result (HadCalls run.now.plan.now (told_by S.told K.told E.told devices.old devices.new).input (device (map C.told boxes.old.items) (map C.told boxes.new.items))) }
     ensures fronts { OnErr result (HadSome run.now.plan.now (told_by S.told K.told E.told devices.old devices.new).input (device (map C.told boxes.old.items) (map C.told boxes.new.items))) }

@@ -43,43 +43,44 @@ use Rattle.mg_node.proofs.TaskLogs.{shown_calls}
 
 -- In which phase a node fails: at a set or in Open it is before Close, and once it is closed in Close.
 
-abbrev IsEarlier : Option Failure → Type 0
-IsEarlier None = ⊤
-IsEarlier (Some failure) = failure.phase ≡ Close → ⊥
+-- it doesn't fail in some phase
+abbrev pub IsNotIn : Phase → Option Failure → Type 0
+IsNotIn other None = ⊤
+IsNotIn other (Some failure) = failure.phase ≡ other → ⊥
 
 abbrev IsOfClose : Option Failure → Type 0
 IsOfClose None = ⊤
 IsOfClose (Some failure) = failure.phase ≡ Close
 
-laid_earlier : (phase : Phase) (o : Outcome) (r : Result (List (StreamPrefix Plain)) Cause) → (phase ≡ Close → ⊥) → IsEarlier o.fault → IsEarlier (after_laying phase o r).fault
-laid_earlier phase o (Ok outputs) other earlier = earlier
-laid_earlier phase o (Err cause) other earlier = other
+laid_not_in : (other phase : Phase) (o : Outcome) (r : Result (List (StreamPrefix Plain)) Cause) → (phase ≡ other → ⊥) → IsNotIn other o.fault → IsNotIn other (after_laying phase o r).fault
+laid_not_in other phase o (Ok outputs) differs before = before
+laid_not_in other phase o (Err cause) differs before = differs
 
-call_earlier : (offset : Option ℤ) (phase : Phase) (o : Outcome) (answer : Answer) → (phase ≡ Close → ⊥) → IsEarlier o.fault → IsEarlier (after_call offset phase o answer).fault
-call_earlier offset phase o (Err cause) other earlier = other
-call_earlier offset phase o (Ok given) other earlier = laid_earlier phase (record o { state = given.0 }) (laid_behind offset phase o.outputs given.1) other earlier
+call_not_in : (other : Phase) (offset : Option ℤ) (phase : Phase) (o : Outcome) (answer : Answer) → (phase ≡ other → ⊥) → IsNotIn other o.fault → IsNotIn other (after_call offset phase o answer).fault
+call_not_in other offset phase o (Err cause) differs before = differs
+call_not_in other offset phase o (Ok given) differs before = laid_not_in other phase (record o { state = given.0 }) (laid_behind offset phase o.outputs given.1) differs before
 
-unless_earlier : (fault : Option Failure) (o next : Outcome) → IsEarlier o.fault → IsEarlier next.fault → IsEarlier (unless_failed fault o next).fault
-unless_earlier (Some failure) o next earlier later = earlier
-unless_earlier None o next earlier later = later
+pub unless_not_in : (other : Phase) (fault : Option Failure) (o next : Outcome) → IsNotIn other o.fault → IsNotIn other next.fault → IsNotIn other (unless_failed fault o next).fault
+unless_not_in other (Some failure) o next before later = before
+unless_not_in other None o next before later = later
 
-set_earlier : (law : Law) (offset : Option ℤ) (o : Outcome) (set : TimedSet Plain) → IsEarlier o.fault → IsEarlier (shown law offset o set).fault
-set_earlier law offset o set earlier =
+set_not_in : (other : Phase) (law : Law) (offset : Option ℤ) (o : Outcome) (set : TimedSet Plain) → ((at : ℕ) → Process at ≡ other → ⊥) → IsNotIn other o.fault → IsNotIn other (shown law offset o set).fault
+set_not_in other law offset o set differs earlier =
     let before : Outcome = record o { outputs = all_raised offset set.at o.outputs; taken = o.taken + 1 } in
     let answer = step law o.state set.at set.set in
-    unless_earlier o.fault o (after_call offset (Process set.at) before answer) earlier (call_earlier offset (Process set.at) before answer (λ e. absurd cc) earlier)
+    unless_not_in other o.fault o (after_call offset (Process set.at) before answer) earlier (call_not_in other offset (Process set.at) before answer (differs set.at) earlier)
 
-sets_earlier : (law : Law) (offset : Option ℤ) (o : Outcome) (sets : List (TimedSet Plain)) → IsEarlier o.fault → IsEarlier (fold (shown law offset) o sets).fault
-sets_earlier law offset o [] earlier = earlier
-sets_earlier law offset o (set ∷ sets) earlier = sets_earlier law offset (shown law offset o set) sets (set_earlier law offset o set earlier)
+pub sets_not_in : (other : Phase) (law : Law) (offset : Option ℤ) (o : Outcome) (sets : List (TimedSet Plain)) → ((at : ℕ) → Process at ≡ other → ⊥) → IsNotIn other o.fault → IsNotIn other (fold (shown law offset) o sets).fault
+sets_not_in other law offset o [] differs before = before
+sets_not_in other law offset o (set ∷ sets) differs before = sets_not_in other law offset (shown law offset o set) sets differs (set_not_in other law offset o set differs before)
 
-stage_earlier : (job : Job) (streams : List (StreamPrefix Plain)) (node : PlanNode) (n : ℕ) → IsOuter node.law → IsEarlier (stage job streams node n).fault
+pub stage_earlier : (job : Job) (streams : List (StreamPrefix Plain)) (node : PlanNode) (n : ℕ) → IsOuter node.law → IsNotIn Close (stage job streams node n).fault
 stage_earlier job streams node n is =
     let offset = node.shape.offset in
     let sides = sides_of job node in
     let begun = opened node.law offset (length node.outputs) sides in
-    subst (λ (o : Outcome). IsEarlier o.fault) (sym (outer_stage node.law job streams node n is))
-    (sets_earlier node.law offset begun (take n (sets_of streams node)) (call_earlier offset Open (unopened (length node.outputs)) (opening node.law sides) (λ e. absurd cc) tt))
+    subst (λ (o : Outcome). IsNotIn Close o.fault) (sym (outer_stage node.law job streams node n is))
+    (sets_not_in Close node.law offset begun (take n (sets_of streams node)) (λ at e. absurd cc) (call_not_in Close offset Open (unopened (length node.outputs)) (opening node.law sides) (λ e. absurd cc) tt))
 
 close_fails : (o : Outcome) (r : Result (List (StreamPrefix Plain)) Cause) → o.fault ≡ None → IsOfClose (after_close o r).fault
 close_fails o (Ok outputs) good = subst IsOfClose (sym good) tt
@@ -98,10 +99,10 @@ last_of_close job streams node n is last =
 abbrev fault_with : ℕ → Failure → NodeFault
 fault_with number f = record { node = number; phase = f.phase; cause = f.cause }
 
-same_earlier : (number : ℕ) (f g : Option Failure) → option_map (fault_with number) f ≡ option_map (fault_with number) g → IsEarlier f → IsEarlier g
-same_earlier number f None e earlier = tt
-same_earlier number None (Some g) e earlier = absurd cc
-same_earlier number (Some f) (Some g) e earlier =
+same_not_in : (number : ℕ) (f g : Option Failure) → option_map (fault_with number) f ≡ option_map (fault_with number) g → IsNotIn Close f → IsNotIn Close g
+same_not_in number f None e earlier = tt
+same_not_in number None (Some g) e earlier = absurd cc
+same_not_in number (Some f) (Some g) e earlier =
     let both : Some f.phase ≡ Some g.phase = ap (option_map (λ (x : NodeFault). x.phase)) e in
     λ close. earlier (let same : f.phase ≡ g.phase = cc in same ∙ close)
 
@@ -119,7 +120,7 @@ at_phase false (SourceCall k) number cause close earlier = refl
 at_phase false (Process at) number cause close earlier = refl
 at_phase false Close number cause close earlier = absurd (earlier refl refl)
 
-close_had : (closed : Bool) (number : ℕ) (f : Option Failure) → (closed ≡ true → IsOfClose f) → (closed ≡ false → IsEarlier f)
+close_had : (closed : Bool) (number : ℕ) (f : Option Failure) → (closed ≡ true → IsOfClose f) → (closed ≡ false → IsNotIn Close f)
     → finish_if closed ++ finish_if (not closed && closes_despite (option_map (fault_with number) f)) ≡ last_call f
 close_had true number None close earlier = refl
 close_had false number None close earlier = refl
@@ -216,8 +217,8 @@ had_by job number engine now h boxed outer rests become winds =
     let lacks = not closed && closes_despite engine.fault in
     let one = one_idle job number engine h boxed rests in
     let end = ends_as engine now one.bench lacks (ap (λ (b : Bool). b && not closed && closes_despite engine.fault) h.begun) one.idle one.window (one.is.fits.same_handed ∙ boxed) winds in
-    let early : closed ≡ false → IsEarlier fault = λ goes.
-    same_earlier number (come_to job streams node laid closed).fault fault (sym h.fault ∙ become.fault) (subst (λ (b : Bool). IsEarlier (come_to job streams node laid b).fault) (sym goes) (stage_earlier job.job streams node laid outer)) in
+    let early : closed ≡ false → IsNotIn Close fault = λ goes.
+    same_not_in number (come_to job streams node laid closed).fault fault (sym h.fault ∙ become.fault) (subst (λ (b : Bool). IsNotIn Close (come_to job streams node laid b).fault) (sym goes) (stage_earlier job.job streams node laid outer)) in
     let last : finish_if closed ++ finish_if lacks ≡ last_call fault =
     ap (λ (x : Option NodeFault). finish_if closed ++ finish_if (not closed && closes_despite x)) become.fault
     ∙ close_had closed number fault (λ is. last_of_close job.job streams node laid outer (h.closed is)) early in

@@ -81,7 +81,7 @@ WasOpened offset outputs answer now given = (
     (now ≡ o.state) × (outputs_by outputs (laid_by offset Open outputs answer) ≡ o.outputs) × (failure_by Open (laid_by offset Open outputs answer) ≡ o.fault))
 
 -- a calculator that may be handed in is always opened
-outer_opens : (law : Law) (sides : List (Option Plain)) (cause : Cause) → IsOuter law → opening law sides ≡ Err cause → ⊥
+pub outer_opens : (law : Law) (sides : List (Option Plain)) (cause : Cause) → IsOuter law → opening law sides ≡ Err cause → ⊥
 outer_opens (SideOnce at) sides cause outer is = absurd outer
 outer_opens (Scripted offset first steps last) sides cause outer is = absurd cc
 outer_opens law sides cause outer is = absurd cc

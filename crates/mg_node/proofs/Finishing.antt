@@ -1,5 +1,5 @@
 -- The last Close of a run.
-use Rattle.std.proofs.Common.{◌≡◌, ℕ, zero, suc, ◌<◌, ◌==◌, Bool, true, false, List, [], ◌∷◌, ◌++◌, length, Ok, Err, refl, sym, subst, ◌∙◌, ap, arith}
+use Rattle.std.proofs.Common.{◌≡◌, ℕ, zero, suc, ◌<◌, ◌==◌, Bool, true, false, List, [], ◌∷◌, ◌++◌, length, Option, Ok, Err, refl, sym, subst, ◌∙◌, ap, arith}
 use Rattle.std.proofs.lemmas.Bool.Decides.{nat_tests}
 use Rattle.mg_value.specs.Payload.{Plain}
 use Rattle.mg_calc.specs.declared.law.Law.{Law}
@@ -10,10 +10,10 @@ use Rattle.mg_calc.specs.declared.cause.CalcFault.TheVariants.{Fault}
 use Rattle.mg_calc.specs.declared.node_fault.Phase.TheVariants.{Close}
 use Rattle.mg_calc.specs.Answer.{Answer}
 use Rattle.mg_calc.specs.Law.{finish}
-use Rattle.mg_node.specs.Views.{BenchView, EngineView}
+use Rattle.mg_node.specs.Views.{BenchView, OutcomeView, EntryView, EngineView}
 use Rattle.mg_node.specs.Running.{HasRun}
 use Rattle.mg_node.specs.Standing.{EngineGrows}
-use Rattle.mg_node.specs.WindingUp.{lacks_close, IsFinished, FinishesLast, WindsUp}
+use Rattle.mg_node.specs.WindingUp.{lacks_close, IsFinished, FinishesLast, FinishesBack, FinishesEntry, FinishesFront, WindsUp}
 use Rattle.mg_node.proofs.Growing.{window_grows}
 
 -- the state stays
@@ -42,19 +42,34 @@ pub winds_last : (before now : EngineView) → lacks_close before ≡ true → 0
 winds_last before now lacks some f = record {
   finishes = (λ l s. f);
   had_close = (λ had. absurd (let e = sym lacks ∙ had in cc));
-  none_idle = (λ none. absurd (let e = ap length none in omega (arith, some, e)));
+  none_idle = (λ l none. absurd (let e = ap length none in omega (arith, some, e)));
+}
+
+pub winds_first : (before now : EngineView) → lacks_close before ≡ true → before.idle ≡ [] → FinishesFront before now → WindsUp before now
+winds_first before now lacks none f = record {
+  finishes = (λ l some. absurd (let e = ap length none in omega (arith, some, e)));
+  had_close = (λ had. absurd (let e = sym lacks ∙ had in cc));
+  none_idle = (λ l n. f);
 }
 
 pub had_close : (engine : EngineView) → lacks_close engine ≡ false → WindsUp engine engine
-had_close engine had = record { finishes = (λ lacks some. absurd (let e = sym lacks ∙ had in cc)); had_close = (λ h. refl); none_idle = (λ none. refl) }
+had_close engine had = record {
+  finishes = (λ lacks some. absurd (let e = sym lacks ∙ had in cc));
+  had_close = (λ h. refl);
+  none_idle = (λ lacks none. absurd (let e = sym lacks ∙ had in cc));
+}
 
-none_idle : (engine : EngineView) → engine.idle ≡ [] → WindsUp engine engine
-none_idle engine none = record { finishes = (λ lacks some. absurd (let e = ap length none in omega (arith, some, e))); had_close = (λ h. refl); none_idle = (λ n. refl) }
-
-pub winds_none : (engine : EngineView) (items : List BenchView) (n : ℕ) (b : Bool) → items ≡ engine.idle → n ≡ length items → b ≡ (n == 0) → b ≡ true → WindsUp engine engine
-winds_none engine [] n b same long test is = none_idle engine (sym same)
-winds_none engine (x ∷ items) zero b same long test is = absurd (omega (arith, long))
-winds_none engine (x ∷ items) (suc n) b same long test is = absurd (let e : (suc n == 0) ≡ true = sym test ∙ is in let none : suc n ≡ 0 = grind (arith, nat_tests, e) in omega (arith, none))
+-- a list that is tested to have no element has none
+pub none_there : {X : Type 0} (items : List X) (n : ℕ) (b : Bool) → n ≡ length items → b ≡ (n == 0) → b ≡ true → items ≡ []
+none_there [] n b long test is = refl
+none_there (x ∷ items) zero b long test is = absurd (omega (arith, long))
+none_there (x ∷ items) (suc n) b long test is = absurd (let e : (suc n == 0) ≡ true = sym test ∙ is in let none : suc n ≡ 0 = grind (arith, nat_tests, e) in omega (arith, none))
 
 pub finishing_grows : (before now : EngineView) → FinishesLast before now → EngineGrows before now
 finishing_grows before now f = subst (λ (v : EngineView). EngineGrows before v) (sym f.is) (window_grows before before.window (f.others ++ f.finished ∷ []))
+
+-- an entry whose work is finished
+pub finishes_entry : (shown before : EntryView) (outcome : Option OutcomeView) → shown ≡ before → FinishesBack shown.outcome outcome
+    → FinishesEntry before (record { phase = shown.phase; outcome = outcome; committed = shown.committed })
+finishes_entry shown before outcome is finishes =
+    subst (λ (e : EntryView). FinishesEntry e (record { phase = shown.phase; outcome = outcome; committed = shown.committed })) is (record { outcome = outcome; finishes = finishes; is = refl })

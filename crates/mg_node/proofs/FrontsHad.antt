@@ -1,6 +1,5 @@
 -- The calls that a calculator which was handed in has had at any time: a front of those that its node's calculator has.
-use Rattle.std.proofs.Common.{◌≡◌, ℕ, zero, suc, ◌+◌, ◌-◌, ◌<◌, ◌≤◌, Bool, true, false, not, List, [], ◌∷◌, ◌++◌, length, map, take, append-nil, Option, Some, None, IfSome, option_map, is_some, Result, slice_get, inl, inr, refl, ap, ap₂, sym, subst, ◌∙◌, arith, if◌then◌else◌}
-use Rattle.std.specs.Prelude.{◌&&◌}
+use Rattle.std.proofs.Common.{◌≡◌, ℕ, zero, suc, ◌+◌, ◌-◌, ◌<◌, ◌≤◌, Bool, true, false, List, [], ◌∷◌, ◌++◌, length, map, take, append-nil, Option, Some, None, IfSome, option_map, is_some, Result, slice_get, inl, inr, refl, ap, ap₂, sym, subst, ◌∙◌, arith, if◌then◌else◌}
 use Rattle.std.specs.List.{filter_map}
 use Rattle.std.proofs.lemmas.Bool.{cases_Bool}
 use Rattle.std.proofs.lemmas.List.{take-map}
@@ -17,25 +16,26 @@ use Rattle.mg_calc.specs.declared.node_fault.Phase.{Phase}
 use Rattle.mg_calc.specs.declared.node_fault.Phase.TheVariants.{Open, Call as SourceCall, Process, Close}
 use Rattle.mg_calc.specs.declared.plan_node.PlanNode.{PlanNode}
 use Rattle.mg_calc.specs.Shape.{IsOuter, IsSource}
+use Rattle.mg_calc.specs.Equations.{Job}
 use Rattle.mg_calc.specs.Meaning.{count_of}
 use Rattle.mg_calc.specs.Told.{CalculatorTold, with_call}
 use Rattle.mg_calc.proofs.Solutions.{one_solution}
 use Rattle.mg_route.specs.HolderView.{HolderView, FitsHolder, told_by}
 use Rattle.mg_node.specs.Views.{BenchView, WorkView, OutcomeView, EntryView, EngineView}
 use Rattle.mg_node.specs.Job.{LoggedJob, Solves, sets_of, count_of_all, stage, IsTask, first_log, log_after, calls_before, calls_in}
-use Rattle.mg_node.specs.Lawful.{of_node, come_to, IsAtWork, IsWorkOf, LawfulOutcome, LawfulWork, StandsAt, IsEntry, IsEngineOf, LawfulEngine}
+use Rattle.mg_node.specs.Lawful.{of_node, HasAnswered, answer_in, come_to, IsAtWork, IsWorkOf, LawfulOutcome, LawfulWork, StandsAt, IsEntry, IsEngineOf, LawfulEngine}
 use Rattle.mg_node.specs.Begun.{LawfulUnbegun}
 use Rattle.mg_node.specs.Claims.{has_ended}
 use Rattle.mg_node.specs.Shelves.{IsOut}
-use Rattle.mg_node.specs.WindingUp.{closes_despite, lacks_close, WindsUp}
 use Rattle.mg_node.specs.Leaving.{calculator_in, calculators_in, handed_told, first_handed, HasHanded}
 use Rattle.mg_node.specs.Had.{front_calls, HadFront}
-use Rattle.mg_node.proofs.CallsHad.{finish_if, boxed_one, bench_is, first_of, none_more, more_calls, EndsAs, ends_as}
+use Rattle.mg_node.proofs.CallsHad.{finish_if, boxed_one, bench_is, first_of, none_more}
 use Rattle.mg_node.proofs.Closing.{no_fault, second_not}
 use Rattle.mg_node.proofs.Making.{some_same}
 use Rattle.mg_node.proofs.OneCalculator.{one_handed, one_bench, handed_there}
 use Rattle.mg_node.proofs.RestingEnds.{of_these}
 use Rattle.mg_node.proofs.StageCounts.{one_more_counted}
+use Rattle.mg_node.proofs.StatesKept.{next_state, finish_state, come_state, opened_state}
 use Rattle.mg_node.proofs.TaskLogs.{shown_calls, shown_call, set_logged, task_within}
 
 -- The calls before a number of sets are a front, where so many are counted.
@@ -46,7 +46,7 @@ take_front (suc n) zero xs le = absurd (omega (arith, le))
 take_front (suc n) (suc count) [] le = refl
 take_front {X} (suc n) (suc count) (x ∷ xs) le = ap (λ (ys : List X). x ∷ ys) (take_front n count xs (omega (arith, le)))
 
-calls_front : (job : LoggedJob) (streams : List (StreamPrefix Plain)) (node : PlanNode) (n : ℕ) (close : Bool) → IsOuter node.law → n ≤ count_of job.job streams node → calls_before streams node n ++ finish_if close ≡ front_calls job streams node (suc n) close
+pub calls_front : (job : LoggedJob) (streams : List (StreamPrefix Plain)) (node : PlanNode) (n : ℕ) (close : Bool) → IsOuter node.law → n ≤ count_of job.job streams node → calls_before streams node n ++ finish_if close ≡ front_calls job streams node (suc n) close
 calls_front job streams node n close outer le =
     let sets = sets_of streams node in
     let count = count_of job.job streams node in
@@ -54,49 +54,62 @@ calls_front job streams node n close outer le =
     ap (λ (calls : List Call). calls ++ finish_if close) (shown_calls node.law streams node n (λ e. subst IsOuter e outer) ∙ ap (λ (calls : List Call). Begun ∷ calls) (sym same))
 
 -- A calculator with such calls.
-front_by : (job : LoggedJob) (streams : List (StreamPrefix Plain)) (node : PlanNode) (held : HolderView) (n : ℕ) (close : Bool) → IsOuter node.law → FitsHolder node held → n ≤ count_of job.job streams node → held.log ≡ log_after job node (calls_before streams node n ++ finish_if close)
-    → HadFront job streams node (told_by held)
-front_by job streams node held n close outer fits le log = record {
+pub stage_at : (job : Job) (streams : List (StreamPrefix Plain)) (node : PlanNode) (n shown : ℕ) → suc n ≡ suc shown → (stage job streams node n).state ≡ (stage job streams node shown).state
+stage_at job streams node n shown is = (let same : n ≡ shown = omega (arith, is) in ap (λ (m : ℕ). (stage job streams node m).state) same)
+
+abbrev pub front_by : (job : LoggedJob) (streams : List (StreamPrefix Plain)) (node : PlanNode) (held : HolderView) (n : ℕ) (close : Bool) → IsOuter node.law → FitsHolder node held → n ≤ count_of job.job streams node → held.log ≡ log_after job node (calls_before streams node n ++ finish_if close)
+    → held.state ≡ (stage job.job streams node n).state → HadFront job streams node (told_by held)
+front_by job streams node held n close outer fits le log state = record {
   count = suc n;
   close = close;
   opened = λ closed. omega arith;
   log = log ∙ ap (log_after job node) (calls_front job streams node n close outer le);
+  unopened = λ none. absurd (omega (arith, none));
+  state = λ shown is. state ∙ stage_at job.job streams node n shown is;
   fits = record { same_law = fits.same_law; same_shape = fits.same_shape };
 }
 
 -- One at work, perhaps with its answer.
 
-never_called : (law : Law) → IsOuter law → IsSource law → ⊥
+pub never_called : (law : Law) → IsOuter law → IsSource law → ⊥
 never_called (Count count start apart) outer source = outer
 never_called (SideOnce at) outer source = outer
 never_called law outer source = source
 
-phase_front : (job : LoggedJob) (streams : List (StreamPrefix Plain)) (node : PlanNode) (held : HolderView) (n : ℕ) (phase : Phase) (set : List (Option (Stamped Plain))) → IsOuter node.law → FitsHolder node held → IsTask job.job streams node n phase set → n ≤ count_of job.job streams node
-    → (n < count_of_all streams node → n + 1 ≤ count_of job.job streams node) → held.log ≡ log_after job node (calls_before streams node n ++ calls_in phase set) → HadFront job streams node (told_by held)
-phase_front job streams node held n Open set outer fits task le more log = absurd task
-phase_front job streams node held n (SourceCall call) set outer fits task le more log = absurd (never_called node.law outer task.0)
-phase_front job streams node held n (Process at) set outer fits task le more log =
+phase_front : (job : LoggedJob) (streams : List (StreamPrefix Plain)) (number : ℕ) (node : PlanNode) (held : HolderView) (n : ℕ) (phase : Phase) (set : List (Option (Stamped Plain))) (answer : Result (List Laid) Cause) → Solves job streams
+    → slice_get job.job.plan.nodes number ≡ Some node → IsOuter node.law → FitsHolder node held → IsTask job.job streams node n phase set → n ≤ count_of job.job streams node
+    → (n < count_of_all streams node → n + 1 ≤ count_of job.job streams node) → (stage job.job streams node n).fault ≡ None
+    → HasAnswered answer (stage job.job streams node n).state held.state (answer_in node.law (stage job.job streams node n).state phase set)
+    → held.log ≡ log_after job node (calls_before streams node n ++ calls_in phase set) → HadFront job streams node (told_by held)
+phase_front job streams number node held n Open set answer solves there outer fits task le more good answered log = absurd task
+phase_front job streams number node held n (SourceCall call) set answer solves there outer fits task le more good answered log = absurd (never_called node.law outer task.0)
+phase_front job streams number node held n (Process at) set answer solves there outer fits task le more good answered log =
     front_by job streams node held (n + 1) false outer fits (more (task_within job streams node n (Process at) set refl task))
     (log ∙ ap (log_after job node) (set_logged streams node n (record { at = at; set = set }) outer task.1))
-phase_front job streams node held n Close set outer fits task le more log = front_by job streams node held n true outer fits le log
+    (next_state job streams number node n at set answer held.state solves there task good answered)
+phase_front job streams number node held n Close set answer solves there outer fits task le more good answered log =
+    front_by job streams node held n true outer fits le log (finish_state node.law (stage job.job streams node n).state held.state answer answered)
 
-abbrev AtWork : LoggedJob → OutcomeView → List (StreamPrefix Plain) → PlanNode → Type 0
+abbrev pub AtWork : LoggedJob → OutcomeView → List (StreamPrefix Plain) → PlanNode → Type 0
 AtWork job o streams node = FitsHolder node o.work.bench.told × IsTask job.job streams node o.work.number o.work.phase o.work.bench.set × IsAtWork job streams node o.work o.answer
 
-at_work : (job : LoggedJob) (streams : List (StreamPrefix Plain)) (number : ℕ) (node : PlanNode) (o : OutcomeView) → Solves job streams → slice_get job.job.plan.nodes number ≡ Some node → IsWorkOf job o → o.work.node ≡ number → AtWork job o streams node
+pub at_work : (job : LoggedJob) (streams : List (StreamPrefix Plain)) (number : ℕ) (node : PlanNode) (o : OutcomeView) → Solves job streams → slice_get job.job.plan.nodes number ≡ Some node → IsWorkOf job o → o.work.node ≡ number → AtWork job o streams node
 at_work job streams number node o solves there w at =
     let same : w.streams ≡ streams = one_solution job.job w.streams streams w.solves.solution solves.solution in
     let node_is : w.node ≡ node = some_same (slice_get job.job.plan.nodes o.work.node) w.node node w.there (ap (λ (k : ℕ). slice_get job.job.plan.nodes k) at ∙ there) in
     subst (AtWork job o streams) node_is (subst (λ (ss : List (StreamPrefix Plain)). AtWork job o ss w.node) same (w.fits, w.task, w.at_work))
 
-work_front : (job : LoggedJob) (streams : List (StreamPrefix Plain)) (node : PlanNode) (work : WorkView) (answer : Option (Result (List Laid) Cause)) → IsOuter node.law → AtWork job (record { work = work; answer = answer }) streams node → work.number ≤ count_of job.job streams node
-    → (work.number < count_of_all streams node → work.number + 1 ≤ count_of job.job streams node) → HadFront job streams node (told_by work.bench.told)
-work_front job streams node work None outer w le more = front_by job streams node work.bench.told work.number false outer w.0 le (w.2.1 ∙ ap (log_after job node) (sym (append-nil (calls_before streams node work.number))))
-work_front job streams node work (Some answer) outer w le more = phase_front job streams node work.bench.told work.number work.phase work.bench.set outer w.0 w.1 le more w.2.1
+work_front : (job : LoggedJob) (streams : List (StreamPrefix Plain)) (number : ℕ) (node : PlanNode) (work : WorkView) (answer : Option (Result (List Laid) Cause)) → Solves job streams → slice_get job.job.plan.nodes number ≡ Some node → IsOuter node.law
+    → AtWork job (record { work = work; answer = answer }) streams node → work.number ≤ count_of job.job streams node
+    → (work.number < count_of_all streams node → work.number + 1 ≤ count_of job.job streams node) → (stage job.job streams node work.number).fault ≡ None → HadFront job streams node (told_by work.bench.told)
+work_front job streams number node work None solves there outer w le more good =
+    front_by job streams node work.bench.told work.number false outer w.0 le (w.2.1 ∙ ap (log_after job node) (sym (append-nil (calls_before streams node work.number)))) w.2.0
+work_front job streams number node work (Some answer) solves there outer w le more good =
+    phase_front job streams number node work.bench.told work.number work.phase work.bench.set answer solves there outer w.0 w.1 le more good w.2.0 w.2.1
 
 -- One in the engine of a node.
 
-found_is : (engine : EngineView) (held : HolderView) (told : CalculatorTold) → first_handed engine ≡ Some (told_by held) → first_handed engine ≡ Some told → told_by held ≡ told
+pub found_is : (engine : EngineView) (held : HolderView) (told : CalculatorTold) → first_handed engine ≡ Some (told_by held) → first_handed engine ≡ Some told → told_by held ≡ told
 found_is engine held told here found = (let same : Some (told_by held) ≡ Some told = sym here ∙ found in cc)
 
 idle_front : (job : LoggedJob) (number : ℕ) (engine : EngineView) (h : IsEngineOf job number engine) (told : CalculatorTold) (bench : BenchView) → is_some h.node.box_number ≡ true → IsOuter h.node.law → engine.idle ≡ bench ∷ [] → engine.window ≡ []
@@ -104,17 +117,21 @@ idle_front : (job : LoggedJob) (number : ℕ) (engine : EngineView) (h : IsEngin
 idle_front job number engine h told bench boxed outer idle window found =
     let one = bench_is job number engine h bench idle window in
     subst (HadFront job h.streams h.node) (found_is engine one.bench.told told (first_of engine one.bench one.idle one.window (one.is.fits.same_handed ∙ boxed)) found)
-    (front_by job h.streams h.node one.bench.told engine.laid engine.closed outer one.is.fits h.taken one.is.log)
+    (front_by job h.streams h.node one.bench.told engine.laid engine.closed outer one.is.fits h.taken one.is.log
+    (one.is.state ∙ come_state job h.streams h.node engine.laid engine.closed outer h.closed))
 
--- an engine whose one bench is with a work goes on
-goes_on : (job : LoggedJob) (number : ℕ) (engine : EngineView) (h : IsEngineOf job number engine) → engine.idle ≡ [] → engine.laid < count_of_all h.streams h.node → engine.laid + 1 ≤ count_of job.job h.streams h.node
-goes_on job number engine h idle less = elim (cases_Bool (has_ended engine)) [
+-- an engine whose one bench is with a work hasn't failed, and goes on
+pub goes_well : (job : LoggedJob) (number : ℕ) (engine : EngineView) (h : IsEngineOf job number engine) → engine.idle ≡ [] → (stage job.job h.streams h.node engine.laid).fault ≡ None
+goes_well job number engine h idle = elim (cases_Bool (has_ended engine)) [
   | inl ended ↦ absurd (let some = h.ended ended in let none = ap length idle in omega (arith, some, none))
   | inr goes ↦
       (let on = second_not engine.closed (is_some engine.fault) goes in
-      one_more_counted job.job h.streams h.node engine.laid less
-      (no_fault engine.fault (stage job.job h.streams h.node engine.laid).fault number on.1 (h.fault ∙ ap (λ (b : Bool). option_map (λ f. record { node = number; phase = f.phase; cause = f.cause }) (come_to job h.streams h.node engine.laid b).fault) on.0)))
+      no_fault engine.fault (stage job.job h.streams h.node engine.laid).fault number on.1
+      (h.fault ∙ ap (λ (b : Bool). option_map (λ f. record { node = number; phase = f.phase; cause = f.cause }) (come_to job h.streams h.node engine.laid b).fault) on.0))
 ]
+
+pub goes_on : (job : LoggedJob) (number : ℕ) (engine : EngineView) (h : IsEngineOf job number engine) → engine.idle ≡ [] → engine.laid < count_of_all h.streams h.node → engine.laid + 1 ≤ count_of job.job h.streams h.node
+goes_on job number engine h idle less = one_more_counted job.job h.streams h.node engine.laid less (goes_well job number engine h idle)
 
 window_front : (job : LoggedJob) (number : ℕ) (engine : EngineView) (h : IsEngineOf job number engine) (told : CalculatorTold) (entry : EntryView) (o : Option OutcomeView) → is_some h.node.box_number ≡ true → IsOuter h.node.law → engine.idle ≡ [] → engine.window ≡ entry ∷ []
     → entry.outcome ≡ o → first_handed engine ≡ Some told → HadFront job h.streams h.node told
@@ -137,7 +154,8 @@ window_front job number engine h told entry (Some o) boxed outer idle window out
     let more : o.work.number < count_of_all h.streams h.node → o.work.number + 1 ≤ count_of job.job h.streams h.node = λ less. (let one = goes_on job number engine h idle (omega (arith, less, at)) in omega (arith, one, at)) in
     let here : first_handed engine ≡ Some (told_by held) = ap (λ (hs : List HolderView). slice_get (filter_map handed_told hs) 0) only ∙ ap (λ (ts : List CalculatorTold). slice_get ts 0) (one_handed held (w.0.same_handed ∙ boxed)) in
     subst (HadFront job h.streams h.node) (found_is engine held told here found)
-    (work_front job h.streams h.node o.work o.answer outer w (omega (arith, taken, at)) more)
+    (work_front job h.streams number h.node o.work o.answer h.solves h.there outer w (omega (arith, taken, at)) more
+    (let there : engine.laid ≡ o.work.number = omega (arith, at) in subst (λ (m : ℕ). (stage job.job h.streams h.node m).fault ≡ None) there (goes_well job number engine h idle)))
 
 engine_by : (job : LoggedJob) (number : ℕ) (engine : EngineView) (h : IsEngineOf job number engine) (told : CalculatorTold) → is_some h.node.box_number ≡ true → IsOuter h.node.law → first_handed engine ≡ Some told → HadFront job h.streams h.node told
 engine_by job number engine h told boxed outer found = elim (one_bench engine.idle engine.window (boxed_one job number engine h boxed)) [
@@ -168,6 +186,8 @@ unbegun_front job number node engine solution told solves there boxed outer unbe
         close = false;
         opened = λ closed. absurd cc;
         log = ap (λ (x : HolderView). x.log) is ∙ h.handed.log ∙ none_more (first_log job node);
+        unopened = λ none number box takes there. ap (λ (x : HolderView). x.state) is ∙ h.handed.kept number box takes there;
+        state = λ shown none. absurd (omega (arith, none));
         fits = record { same_law = ap (λ (x : HolderView). x.law) is ∙ h.handed.fits.same_law; same_shape = ap (λ (x : HolderView). x.shape) is ∙ h.handed.fits.same_shape };
       }
       | inr o ↦ record {
@@ -175,6 +195,8 @@ unbegun_front job number node engine solution told solves there boxed outer unbe
         close = false;
         opened = λ closed. absurd cc;
         log = o.opened.log ∙ ap (λ (l : Option (List Call)). with_call l Begun) h.handed.log;
+        unopened = λ none. absurd (omega (arith, none));
+        state = λ shown one. opened_state job solution node h.told h.held o.answer outer h.handed.fits.same_law o.opened ∙ stage_at job.job solution node 0 shown one;
         fits = record { same_law = o.opened.law ∙ h.handed.fits.same_law; same_shape = o.opened.shape ∙ h.handed.fits.same_shape };
       }
     ])
@@ -193,51 +215,10 @@ out_front job number engine work h told boxed outer w at out found =
     let here : Some (told_by held) ≡ Some told = sym (ap (λ (b : Bool). if b then Some (told_by held) else None) (is.0.same_handed ∙ boxed)) ∙ found in
     let same : told_by held ≡ told = cc in
     let le : work.number ≤ count_of job.job h.streams h.node = omega (arith, laid, taken, one, within) in
-    subst (HadFront job h.streams h.node) same (front_by job h.streams h.node held work.number false outer is.0 le (is.2.1 ∙ ap (log_after job h.node) (sym (append-nil (calls_before h.streams h.node work.number)))))
+    subst (HadFront job h.streams h.node) same (front_by job h.streams h.node held work.number false outer is.0 le (is.2.1 ∙ ap (log_after job h.node) (sym (append-nil (calls_before h.streams h.node work.number)))) is.2.0)
 
 pub work_out_front : (job : LoggedJob) (number : ℕ) (node : PlanNode) (engine : EngineView) (work : WorkView) (solution : List (StreamPrefix Plain)) (told : CalculatorTold) → Solves job solution → slice_get job.job.plan.nodes number ≡ Some node → is_some node.box_number ≡ true → IsOuter node.law
     → LawfulEngine job (of_node number) engine → LawfulWork job work → work.node ≡ number → IsOut engine work → handed_told work.bench.told ≡ Some told → HadFront job solution node told
 unfolding LawfulEngine LawfulWork
 work_out_front job number node engine work solution told solves there boxed outer h w at out found =
     of_these (IfBoxed job told) job number node engine solution h solves there (λ b o. out_front job number engine work h told b o w at out found) boxed outer
-
--- One in an engine that is wound up.
-
-lacks_not : (begun closed other : Bool) → (begun && not closed && other) ≡ true → closed ≡ false
-lacks_not begun false other lacks = refl
-lacks_not true true other lacks = absurd cc
-lacks_not false true other lacks = absurd cc
-
-ended_front : (job : LoggedJob) (number : ℕ) (engine engine_now : EngineView) (h : IsEngineOf job number engine) (told : CalculatorTold) (bench : BenchView) → is_some h.node.box_number ≡ true → IsOuter h.node.law → engine.idle ≡ bench ∷ [] → engine.window ≡ [] → lacks_close engine ≡ true
-    → WindsUp engine engine_now → first_handed engine_now ≡ Some told → HadFront job h.streams h.node told
-ended_front job number engine engine_now h told bench boxed outer idle window lacks winds found =
-    let one = bench_is job number engine h bench idle window in
-    let end : EndsAs one.bench true engine_now = ends_as engine engine_now one.bench true lacks one.idle one.window (one.is.fits.same_handed ∙ boxed) winds in
-    let going : engine.closed ≡ false = lacks_not engine.begun engine.closed (closes_despite engine.fault) lacks in
-    let before : one.bench.told.log ≡ log_after job h.node (calls_before h.streams h.node engine.laid) =
-    one.is.log ∙ ap (λ (b : Bool). log_after job h.node (calls_before h.streams h.node engine.laid ++ finish_if b)) going ∙ ap (log_after job h.node) (append-nil (calls_before h.streams h.node engine.laid)) in
-    let log : end.told.log ≡ log_after job h.node (calls_before h.streams h.node engine.laid ++ finish_if true) =
-    end.log ∙ ap (option_map (λ calls. calls ++ finish_if true)) before ∙ more_calls (first_log job h.node) (calls_before h.streams h.node engine.laid) (finish_if true) in
-    subst (HadFront job h.streams h.node) (found_is engine_now end.told told end.found found)
-    (record {
-      count = suc engine.laid;
-      close = true;
-      opened = λ closed. omega arith;
-      log = log ∙ ap (log_after job h.node) (calls_front job h.streams h.node engine.laid true outer h.taken);
-      fits = record { same_law = end.law ∙ one.is.fits.same_law; same_shape = end.shape ∙ one.is.fits.same_shape };
-    })
-
-wound_by : (job : LoggedJob) (number : ℕ) (engine engine_now : EngineView) (h : IsEngineOf job number engine) (told : CalculatorTold) → is_some h.node.box_number ≡ true → IsOuter h.node.law → WindsUp engine engine_now → first_handed engine_now ≡ Some told → HadFront job h.streams h.node told
-wound_by job number engine engine_now h told boxed outer winds found = elim (cases_Bool (lacks_close engine)) [
-  | inr had ↦ engine_by job number engine h told boxed outer (sym (ap first_handed (winds.had_close had)) ∙ found)
-  | inl lacks ↦ elim (one_bench engine.idle engine.window (boxed_one job number engine h boxed)) [
-    | inl b ↦ ended_front job number engine engine_now h told b.0 boxed outer b.1 b.2 lacks winds found
-    | inr e ↦ engine_by job number engine h told boxed outer (sym (ap first_handed (winds.none_idle e.1)) ∙ found)
-  ]
-]
-
-pub wound_front : (job : LoggedJob) (number : ℕ) (node : PlanNode) (engine engine_now : EngineView) (solution : List (StreamPrefix Plain)) (told : CalculatorTold) → Solves job solution → slice_get job.job.plan.nodes number ≡ Some node → is_some node.box_number ≡ true → IsOuter node.law
-    → LawfulEngine job (of_node number) engine → WindsUp engine engine_now → first_handed engine_now ≡ Some told → HadFront job solution node told
-unfolding LawfulEngine
-wound_front job number node engine engine_now solution told solves there boxed outer h winds found =
-    of_these (IfBoxed job told) job number node engine solution h solves there (λ b o. wound_by job number engine engine_now h told b o winds found) boxed outer

@@ -39,7 +39,7 @@ use Rattle.mg_node.proofs.TaskLogs.{task_most}
 
 -- a job to which more is handed in
 abbrev with_inputs : LoggedJob → Inputs → LoggedJob
-with_inputs job more = record { job = record { plan = job.job.plan; inputs = more }; logs = job.logs }
+with_inputs job more = record { job = record { plan = job.job.plan; inputs = more }; boxes = job.boxes }
 
 record IsMore (job : LoggedJob) (more : Inputs) : Type 0 where
   sides : job.job.inputs.sides ≡ more.sides
@@ -217,14 +217,14 @@ unbegun_later : (job : LoggedJob) (more : Inputs) → IsMore job more → (numbe
 unbegun_later job more m number view h = record {
   node = h.node;
   told = h.told;
-  handed = record { there = h.handed.there; fits = h.handed.fits; state = h.handed.state; log = h.handed.log };
+  handed = record { there = h.handed.there; fits = h.handed.fits; state = h.handed.state; log = h.handed.log; kept = h.handed.kept };
   unbegun = subst (λ (ss : List (Option Plain)). IsUnbegun h.node number h.told ss view) (ap (λ (ss : List (Option Plain)). node_sides job.job.plan ss h.node) m.sides) h.unbegun;
 }
 
 -- A job that goes on.
 
 is_later : (first later : LoggedJob) → Grows first later → later ≡ with_inputs first later.job.inputs
-is_later first later g = λ i. record { job = record { plan = g.plan i; inputs = later.job.inputs }; logs = g.logs i }
+is_later first later g = λ i. record { job = record { plan = g.plan i; inputs = later.job.inputs }; boxes = g.boxes i }
 
 is_more : (first later : LoggedJob) → Grows first later → IsMore first later.job.inputs
 is_more first later g = record {

@@ -94,6 +94,12 @@ none_left now parts wanted none c =
     let all : ComesTo now [] wanted = subst (λ (l : List Laid). ComesTo now l wanted) none c in
     subst (Stand now) all.same all.stand
 
+-- an emission of one part
+pub only_stands : (now new : List (Waiting Plain)) (es : List Laid) (e : Laid) (whole : List (StreamPrefix Plain)) → es ≡ e ∷ [] → new ≡ set now 0 (with_part (get_or now 0 empty_queue) e) → MayBeLaid now es
+    → (0 < length now → HasTime e) → Stand now whole → Stand new (all_laid_on whole es)
+only_stands now new es e whole is put may time stand =
+    none_left new [] (all_laid_on whole es) refl (part_comes now new es [] e 0 (all_laid_on whole es) is refl put may time (record { whole = whole; stand = stand; same = refl }))
+
 -- Why an emission can't be laid, part by part.
 
 stands_there : (qs : List (Waiting Plain)) (whole : List (StreamPrefix Plain)) (i : ℕ) (q : Waiting Plain) → Stand qs whole → i < length qs → q ≡ get_or qs i q → StandsFor q (get_or whole i empty_prefix)

@@ -40,7 +40,8 @@ pub use Rattle.mg_node.proofs.Zips.{zip_at, zip_long}
 -- calculators that were handed in
 pub use Rattle.mg_node.proofs.OneCalculator.{calculator_there, handed_there}
 pub use Rattle.mg_node.proofs.CallsHad.{had_calls}
-pub use Rattle.mg_node.proofs.FrontsHad.{engine_front, unbegun_front, work_out_front, wound_front}
+pub use Rattle.mg_node.proofs.FrontsHad.{engine_front, unbegun_front, work_out_front}
+pub use Rattle.mg_node.proofs.ClosesHad.{held_after, wound_closed, wound_front}
 -- lists with another element at a place
 pub use Rattle.mg_node.proofs.Frames.{get_drop, get_first, get_other, put_there, same_put}
 pub use Rattle.mg_node.proofs.ClaimsKeep.{set_get}

@@ -76,4 +76,6 @@ pub mod FirstShelf
 pub mod LaidAndCame
 pub mod RestingCounts
 pub mod CallsHad
+pub mod StatesKept
 pub mod FrontsHad
+pub mod ClosesHad

@@ -63,7 +63,7 @@ abbrev whole : StreamPrefix Plain
 whole = record { packets = seven ∷ []; bound = done }
 
 abbrev job : LoggedJob
-job = record { job = record { plan = plan; inputs = record { streams = whole ∷ []; sides = []; ended = true } }; logs = [] }
+job = record { job = record { plan = plan; inputs = record { streams = whole ∷ []; sides = []; ended = true } }; boxes = [] }
 
 abbrev streams : List (StreamPrefix Plain)
 streams = whole ∷ whole ∷ []

@@ -15,7 +15,7 @@ use Rattle.mg_calc.specs.Shape.{IsOuter}
 use Rattle.mg_calc.specs.Told.{with_call}
 use Rattle.mg_route.specs.HolderView.{HolderView, FitsHolder}
 use Rattle.mg_node.specs.Views.{BenchView, EntryView, EngineView}
-use Rattle.mg_node.specs.Job.{LoggedJob, first_log}
+use Rattle.mg_node.specs.Job.{LoggedJob, first_log, KeepsFirst}
 use Rattle.mg_node.specs.Lawful.{HasAnswered}
 use Rattle.mg_node.specs.Outputs.{kept_whole}
 use Rattle.mg_node.specs.Fresh.{own_told, bench_of, fresh_engine}
@@ -75,12 +75,13 @@ pub record HasBegun (node : PlanNode) (number : ℕ) (told : HolderView) (sides 
 abbrev pub IsBlank : HolderView → Type 0
 IsBlank told = (told.state ≡ []) ⊎ IsOuter told.law
 
--- the calculator that a job has for a node, at its start: it fits the node, what it keeps doesn't matter, and its log is the job's
+-- the calculator that a job has for a node, at its start: it fits the node, what it keeps doesn't matter, and it is the job's
 pub record IsHanded (job : LoggedJob) (number : ℕ) (node : PlanNode) (told : HolderView) : Type 0 where
   pub there : slice_get job.job.plan.nodes number ≡ Some node
   pub fits : FitsHolder node told
   pub state : IsBlank told
   pub log : told.log ≡ first_log job node
+  pub kept : KeepsFirst job node told.state
 
 -- an engine of a node that isn't begun is lawful: it is that of what the job has for the node, and was opened with its side packets
 pub record IsUnbegunOf (job : LoggedJob) (number : ℕ) (view : EngineView) : Type 0 where

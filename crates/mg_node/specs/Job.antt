@@ -19,15 +19,16 @@ use Rattle.mg_calc.specs.declared.node_fault.Phase.TheVariants.{Open, Call as So
 use Rattle.mg_calc.specs.declared.plan.Plan.{Plan}
 use Rattle.mg_calc.specs.declared.plan_node.PlanNode.{PlanNode}
 use Rattle.mg_calc.specs.Shape.{IsOuter, IsSource, calls_of}
+use Rattle.mg_calc.specs.Told.{CalculatorTold}
 use Rattle.mg_calc.specs.Outcome.{Outcome, opened, called, shown_all}
 use Rattle.mg_calc.specs.Equations.{Job, IsJob, IsSolution, sides_of, inputs_of}
 use Rattle.mg_node.specs.declared.role.Role.{Role}
 use Rattle.mg_node.specs.declared.role.Role.TheVariants.{Source, Loop, Sets}
 
--- a job, and the logs that the calculators which are handed in had at its start, one for each, where it tells one
+-- a job, and the calculators that are handed in, as each was at its start
 pub record LoggedJob : Type 0 where
   pub job : Job
-  pub logs : List (Option (List Call))
+  pub boxes : List CalculatorTold
 
 -- these are the solution of a job: its plan is valid, and what is handed in fits
 pub record Solves (job : LoggedJob) (streams : List (StreamPrefix Plain)) : Type 0 where
@@ -123,7 +124,11 @@ IsTask job streams node number Close set = IsLast job streams node number
 
 -- the log that a node's calculator had at the start, where it tells one
 abbrev pub first_log : LoggedJob → PlanNode → Option (List Call)
-first_log job node = option_and_then (λ number. unwrap_or (slice_get job.logs number) None) node.box_number
+first_log job node = option_and_then (λ number. option_and_then (λ box. box.log) (slice_get job.boxes number)) node.box_number
+
+-- what a calculator keeps is what that of a node kept at the start
+abbrev pub KeepsFirst : LoggedJob → PlanNode → List Plain → Type 0
+KeepsFirst job node state = (number : ℕ) (box : CalculatorTold) → node.box_number ≡ Some number → slice_get job.boxes number ≡ Some box → state ≡ box.state
 
 -- and after some calls
 abbrev pub log_after : LoggedJob → PlanNode → List Call → Option (List Call)

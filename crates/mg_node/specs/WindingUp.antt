@@ -1,12 +1,13 @@
--- How an engine is wound up once a run has come to rest: a node that was opened and had no Close is closed, also one that has failed at
--- a set or in a call. What its calculator answers is dropped.
-use Rattle.std.specs.Prelude.{◌≡◌, ◌&&◌, ◌<◌, Bool, true, false, not, List, [], ◌∷◌, ◌++◌, length, Option, Some, None}
+-- How an engine is wound up once a run has ended: a node that was opened and had no Close is closed, also one that has failed at a set or
+-- in a call, and one whose work came back and stands in its window. What its calculator answers is dropped.
+use Rattle.std.specs.Prelude.{◌≡◌, ◌&&◌, ◌<◌, Bool, true, false, not, List, [], ◌∷◌, ◌++◌, length, Option, Some, None, is_some}
 use Rattle.mg_calc.specs.declared.call.Call.TheVariants.{Finished}
 use Rattle.mg_calc.specs.declared.node_fault.Phase.{Phase}
 use Rattle.mg_calc.specs.declared.node_fault.Phase.TheVariants.{Open, Call, Process, Close}
 use Rattle.mg_calc.specs.declared.node_fault.NodeFault.{NodeFault}
 use Rattle.mg_calc.specs.Told.{with_call}
-use Rattle.mg_node.specs.Views.{BenchView, EngineView}
+use Rattle.mg_node.specs.Views.{BenchView, OutcomeView, EntryView, EngineView}
+use Rattle.mg_node.specs.Lawful.{is_close}
 
 -- a node that failed in this phase is still to be closed: not where Open failed, or Close itself
 abbrev pub closes_after : Phase → Bool
@@ -41,9 +42,45 @@ pub record FinishesLast (before now : EngineView) : Type 0 where
   pub is_finished : IsFinished bench finished
   pub is : now ≡ record before { idle = others ++ finished ∷ [] }
 
--- an engine is wound up: where it lacks Close, the calculator of its last idle bench is closed; otherwise, and where no bench is
--- idle, nothing changes
+-- a work had Close: it is that of Close, and was performed
+abbrev pub was_closed : OutcomeView → Bool
+was_closed outcome = is_close outcome.work.phase && is_some outcome.answer
+
+-- the calculator of a work that came back is closed, and nothing else of it changes
+pub record ClosesWork (before now : OutcomeView) : Type 0 where
+  pub finished : BenchView
+  pub is_finished : IsFinished before.work.bench finished
+  pub is : now ≡ record { work = record before.work { bench = finished }; answer = before.answer }
+
+-- so it is, unless the work had Close
+pub record FinishesWork (before now : OutcomeView) : Type 0 where
+  pub closes : was_closed before ≡ false → ClosesWork before now
+  pub had : was_closed before ≡ true → now ≡ before
+
+abbrev pub FinishesBack : Option OutcomeView → Option OutcomeView → Type 0
+FinishesBack None now = now ≡ None
+FinishesBack (Some outcome) now = (outcome_now : OutcomeView) × FinishesWork outcome outcome_now × (now ≡ Some outcome_now)
+
+-- the work that came back to an entry is finished so, if there is one
+pub record FinishesEntry (before now : EntryView) : Type 0 where
+  pub outcome : Option OutcomeView
+  pub finishes : FinishesBack before.outcome outcome
+  pub is : now ≡ record { phase = before.phase; outcome = outcome; committed = before.committed }
+
+-- so is the first one of a window
+abbrev pub FinishesFirst : List EntryView → List EntryView → Type 0
+FinishesFirst [] now = now ≡ []
+FinishesFirst (entry ∷ entries) now = (entry_now : EntryView) × FinishesEntry entry entry_now × (now ≡ entry_now ∷ entries)
+
+-- and nothing else of an engine changes
+pub record FinishesFront (before now : EngineView) : Type 0 where
+  pub window : List EntryView
+  pub finishes : FinishesFirst before.window window
+  pub is : now ≡ record before { window = window }
+
+-- an engine is wound up: where it lacks Close, the calculator of its last idle bench is closed, and where no bench is idle, that of the
+-- first work in its window; otherwise nothing changes
 pub record WindsUp (before now : EngineView) : Type 0 where
   pub finishes : lacks_close before ≡ true → 0 < length before.idle → FinishesLast before now
   pub had_close : lacks_close before ≡ false → now ≡ before
-  pub none_idle : before.idle ≡ [] → now ≡ before
+  pub none_idle : lacks_close before ≡ true → before.idle ≡ [] → FinishesFront before now

@@ -1,4 +1,4 @@
-ghost use Rattle.std.specs.Prelude.{◌≡◌, Some, None, true, false, is_some, option_map, option_and_then};
+ghost use Rattle.std.specs.Prelude.{◌≡◌, Some, None, true, false, is_some, option_map, option_and_then, OnOk, OnErr};
 ghost use Rattle.mg_node.specs.Claims.{is_unrun};
 ghost use Rattle.mg_node.specs.Views.{PerformedView};
 ghost use Rattle.mg_node.specs.Shelves.{back, shelf_of};
@@ -6,10 +6,12 @@ ghost use Rattle.mg_node.specs.Begun.{opened_entry};
 ghost use Rattle.mg_node.specs.Commits.{committed_entry};
 ghost use Rattle.mg_node.specs.Windows.{ready_of};
 ghost use Rattle.mg_node.specs.Leaving.{calculator_in, handed_told};
+ghost use Rattle.mg_node.specs.WindingUp.{FinishesBack, FinishesEntry};
 ghost use Rattle.mg_node.specs.Code.QueueLaying.{packets_by};
 
 use crate::{Bench, Outcome, Performed, Work};
 use mg_calc::{Calculator, Cause, Emission, Phase};
+use std::alloc::{AllocError, Global};
 use std::marker::Model;
 
 /// A work that was claimed and isn't laid. It is out, or its outcome stands here.
@@ -29,6 +31,20 @@ impl<C: Calculator> Model for Entry<C> {
     ghost coded = { entry_code };
 
     ghost view = { λ e. record { phase = e.phase; outcome = e.outcome; committed = e.committed } };
+}
+
+// Closes the calculator of a work that came back, unless the work did, where there is one.
+fn finish_back<C: Calculator>(
+    outcome: &mut Option<Outcome<C>>,
+    alloc: Global,
+) -> Result<(), AllocError>
+    ensures finished { OnOk result (FinishesBack outcome.old outcome.new) }
+    ensures unchanged { OnErr result (outcome.new ≡ outcome.old) }
+{
+    let Some(outcome) = outcome else {
+        return Ok(());
+    };
+    outcome.finish(alloc)
 }
 
 impl<C: Calculator> Entry<C> {
@@ -175,6 +191,14 @@ impl<C: Calculator> Entry<C> {
         let performed = outcome.into_performed();
         *self = Entry::out(performed.phase());
         performed
+    }
+
+    /// Closes the calculator of the work that came back, unless that work did. Want of memory changes nothing.
+    pub(crate) fn finish(&mut self, alloc: Global) -> Result<(), AllocError>
+        ensures finished { OnOk result (FinishesEntry self.old self.new) }
+        ensures unchanged { OnErr result (self.new ≡ self.old) }
+    {
+        finish_back(&mut self.outcome, alloc)
     }
 
     /// The calculator of the outcome that stands here, if there is one and it was handed in.

@@ -20,7 +20,7 @@ ghost use Rattle.mg_node.specs.Begun.{LawfulUnbegun, SomeUnbegun};
 ghost use Rattle.mg_node.specs.Known.{IsKnown, IsKnownInput};
 ghost use Rattle.mg_node.specs.Leaving.{NoneOut, HasCalculator, HasHanded, handed_told, first_handed};
 ghost use Rattle.mg_node.specs.WindingUp.{WindsUp};
-ghost use Rattle.mg_node.specs.Had.{HadCalls, HadFront};
+ghost use Rattle.mg_node.specs.Had.{HadCalls, HadFront, HadClose};
 ghost use Rattle.mg_node.specs.Batches.{Grows};
 ghost use Rattle.mg_node.specs.IntakeStanding.{Stays, IntakeGrows};
 ghost use Rattle.mg_node.specs.Standing.{EngineGrows};
@@ -252,4 +252,12 @@ pub fn what_is_under_way_had_a_front()
     ensures wound { (job : LoggedJob) (number : ℕ) (node : PlanNode) (engine engine_now : EngineView) (solution : List (StreamPrefix Plain)) (told : CalculatorTold) → Solves job solution
         → slice_get job.job.plan.nodes number ≡ Some node → is_some node.box_number ≡ true → IsOuter node.law → LawfulEngine job (of_node number) engine → WindsUp engine engine_now
         → first_handed engine_now ≡ Some told → HadFront job solution node told }
+{}
+
+/// Where an engine was wound up, the calculator of its node that stands there isn't left open, whatever had been done: it had Close behind
+/// Open and some of its sets, or its Open failed. One whose work is out doesn't stand there.
+pub fn what_was_wound_up_had_close()
+    ensures { (job : LoggedJob) (number : ℕ) (node : PlanNode) (engine engine_now : EngineView) (solution : List (StreamPrefix Plain)) (told : CalculatorTold) → Solves job solution
+        → slice_get job.job.plan.nodes number ≡ Some node → is_some node.box_number ≡ true → IsOuter node.law → LawfulEngine job (of_node number) engine → WindsUp engine engine_now
+        → first_handed engine_now ≡ Some told → HadClose job solution node told }
 {}

@@ -12,12 +12,12 @@ ghost use Rattle.mg_node.specs.Code.QueueLaying.{Stand, StandForSome, all_append
 
 use crate::laid::append;
 use crate::raising::raise_all;
-use mg_calc::{Cause, Emission, Laid, Phase};
+use mg_calc::{Cause, Emission, Laid, LaidPackets, Phase};
 use mg_route::packets_fault;
 use mg_stream::Queue;
 use mg_time::Timestamp;
 use mg_time::laws::done_is_greatest;
-use mg_value::PacketList;
+use mg_value::Packet;
 
 /// Lays an answer behind outputs that have room for it, or tells the cause why it can't be. Before that they are raised.
 pub(crate) fn lay(
@@ -95,7 +95,7 @@ fn output_fault(
     offset: Option<i64>,
     phase: &Phase,
     output: &Queue,
-    packets: &PacketList,
+    packets: &LaidPackets,
 ) -> Option<Cause>
     ensures { (whole : StreamPrefix Plain) → StandsFor output.now whole → result ≡ reason_of (with_packets offset phase.now whole packets.now) }
 {
@@ -124,11 +124,22 @@ fn emission_fault(
 }
 
 // Puts packets behind those of an output, which has room for them.
-fn append_all(output: &mut Queue, packets: PacketList)
+fn append_all(output: &mut Queue, packets: LaidPackets)
     requires { MayAllCome output.old packets }
     ensures { output.new ≡ all_appended output.old packets }
 {
-    for packet in packets.into_vec() {
+    match packets.into_one() {
+        Ok(packet) => append(output, packet),
+        Err(packets) => append_each(output, packets),
+    }
+}
+
+// Puts packets behind those of an output one by one.
+fn append_each(output: &mut Queue, packets: Vec<Packet>)
+    requires { MayAllCome output.old packets.items }
+    ensures { output.new ≡ all_appended output.old packets.items }
+{
+    for packet in packets {
         append(output, packet);
     }
 }
@@ -158,13 +169,25 @@ fn lay_at(outputs: &mut [Queue], place: usize, laid: Laid)
     }
 }
 
-// Puts an emission behind outputs, each its own part, from the last on.
+// Puts an emission behind outputs, each its own part.
 fn lay_all(outputs: &mut [Queue], emission: Emission)
     requires { MayBeLaid outputs.old emission }
     ensures laid { outputs.new ≡ laid_each with_part outputs.old emission }
     ensures stands { (whole : List (StreamPrefix Plain)) → Stand outputs.old whole → Stand outputs.new (all_laid_on whole emission) }
 {
-    let mut parts = emission.into_vec();
+    match emission.into_one() {
+        Ok(laid) => lay_at(outputs, 0, laid),
+        Err(parts) => lay_parts(outputs, parts),
+    }
+}
+
+// Puts the parts of an emission behind outputs, from the last on.
+fn lay_parts(outputs: &mut [Queue], parts: Vec<Laid>)
+    requires { MayBeLaid outputs.old parts.items }
+    ensures laid { outputs.new ≡ laid_each with_part outputs.old parts.items }
+    ensures stands { (whole : List (StreamPrefix Plain)) → Stand outputs.old whole → Stand outputs.new (all_laid_on whole parts.items) }
+{
+    let mut parts = parts;
     while let Some(laid) = parts.pop() {
         lay_at(outputs, parts.len(), laid);
     }

@@ -1,14 +1,16 @@
-ghost use Rattle.std.specs.Prelude.{◌≡◌, Some, None, true, false, List, Result, is_some, if◌then◌else◌};
+ghost use Rattle.std.specs.Prelude.{◌≡◌, Some, None, true, false, List, Result, is_some, if◌then◌else◌, OnOk, OnErr};
 ghost use Rattle.mg_calc.specs.declared.cause.Cause.{Cause};
 ghost use Rattle.mg_calc.specs.declared.emission.Laid.{Laid};
 ghost use Rattle.mg_node.specs.Shelves.{outcome_of, performed_of};
 ghost use Rattle.mg_node.specs.Job.{LoggedJob};
 ghost use Rattle.mg_node.specs.Lawful.{LawfulWork, LawfulPerformed, LawfulOutcome};
+ghost use Rattle.mg_node.specs.WindingUp.{was_closed, FinishesWork};
 ghost use Rattle.mg_node.specs.Code.QueueLaying.{packets_by};
 
 use crate::laying::packets_in;
 use crate::{Bench, Performed, Work};
 use mg_calc::{Calculator, Cause, Emission, Phase};
+use std::alloc::{AllocError, Global};
 use std::marker::Model;
 
 /// What comes back of a work: it was performed, or it wasn't run.
@@ -83,6 +85,27 @@ impl<C: Calculator> Outcome<C> {
             Some(_) => false,
             None => true,
         }
+    }
+
+    /// Whether the work is Close, and was performed.
+    fn was_closed(&self) -> bool
+        ensures { result ≡ was_closed self.now }
+    {
+        let Phase::Close = self.phase() else {
+            return false;
+        };
+        self.answer.is_some()
+    }
+
+    /// Closes the calculator, unless the work did. Want of memory changes nothing.
+    pub(crate) fn finish(&mut self, alloc: Global) -> Result<(), AllocError>
+        ensures finished { OnOk result (FinishesWork self.old self.new) }
+        ensures unchanged { OnErr result (self.new ≡ self.old) }
+    {
+        if self.was_closed() {
+            return Ok(());
+        }
+        self.work.finish(alloc)
     }
 
     /// How many packets were emitted at an output.

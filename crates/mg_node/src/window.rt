@@ -1,14 +1,16 @@
 //! The works of an engine that were claimed and aren't laid.
-ghost use Rattle.std.specs.Prelude.{◌≡◌, ℕ, ◌<◌, length, slice_get, slice_set, Some, None, [], true, false, is_some, option_and_then, IsSome, IsSomeAnd, IfSome, IfNone};
+ghost use Rattle.std.specs.Prelude.{◌≡◌, ℕ, ◌<◌, length, slice_get, slice_set, Some, None, [], true, false, is_some, option_and_then, IsSome, IsSomeAnd, IfSome, IfNone, OnOk, OnErr};
 ghost use Rattle.std.specs.VecDeque.{deque_len, deque_capacity};
 ghost use Rattle.mg_node.specs.Claims.{first_unrun as first_unrun_from, HandsOut};
 ghost use Rattle.mg_node.specs.Shelves.{back, shelf_of, Taken};
 ghost use Rattle.mg_node.specs.Commits.{committed_entry};
 ghost use Rattle.mg_node.specs.Windows.{starts_ready};
+ghost use Rattle.mg_node.specs.WindingUp.{FinishesFirst};
 
 use crate::entry::Entry;
 use crate::{Outcome, Performed, Work};
 use mg_calc::{Calculator, Phase};
+use std::alloc::{AllocError, Global};
 use std::collections::VecDeque;
 use std::mem;
 
@@ -131,4 +133,20 @@ pub(crate) fn first_shelf<C: Calculator>(window: &VecDeque<Entry<C>>) -> Option<
         }
     }
     None
+}
+
+/// Closes the calculator of the first work, if it came back and didn't do that. Want of memory changes nothing.
+pub(crate) fn finish_first<C: Calculator>(
+    window: &mut VecDeque<Entry<C>>,
+    alloc: Global,
+) -> Result<(), AllocError>
+    ensures finished { OnOk result (FinishesFirst window.old.items window.new.items) }
+    ensures unchanged { OnErr result (window.new.items ≡ window.old.items) }
+    ensures len { deque_len window.new ≡ deque_len window.old }
+    ensures capacity { deque_capacity window.new ≡ deque_capacity window.old }
+{
+    if is_empty(window) {
+        return Ok(());
+    }
+    window[0].finish(alloc)
 }

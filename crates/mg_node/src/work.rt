@@ -1,11 +1,12 @@
-ghost use Rattle.std.specs.Prelude.{◌≡◌, is_some, IfSome};
+ghost use Rattle.std.specs.Prelude.{◌≡◌, is_some, IfSome, OnOk, OnErr};
 ghost use Rattle.mg_route.specs.HolderView.{told_by};
 ghost use Rattle.mg_node.specs.Running.{MayRun, HasRun};
+ghost use Rattle.mg_node.specs.WindingUp.{IsFinished};
 
 use crate::Bench;
 use mg_calc::{CalcFault, Calculator, Emission, Phase};
 use mg_edge::Gate;
-use std::alloc::Global;
+use std::alloc::{AllocError, Global};
 use std::marker::Model;
 
 /// A set that was claimed, or a call of a source, or Close, with the calculator that is to work on it.
@@ -83,6 +84,15 @@ impl<C: Calculator> Work<C> {
         let answer = self.bench.run(alloc, self.phase);
         gate.leave(self.node, self.number);
         answer
+    }
+
+    /// Closes its calculator, and drops what that answers. Want of memory changes nothing.
+    pub(crate) fn finish(&mut self, alloc: Global) -> Result<(), AllocError>
+        ensures finished { OnOk result (IsFinished self.old.bench self.new.bench) }
+        ensures same { self.new ≡ record self.old { bench = self.new.bench } }
+        ensures unchanged { OnErr result (self.new ≡ self.old) }
+    {
+        self.bench.finish(alloc)
     }
 
     /// Its calculator, if it was handed in. What was to be done isn't done then.

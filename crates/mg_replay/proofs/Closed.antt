@@ -1,67 +1,109 @@
 -- What a recorded run that isn't accepted leaves of the calculators that were handed in.
-use Rattle.std.proofs.Common.{◌≡◌, ◌⊎◌, inl, inr, ℕ, Bool, true, List, length, Option, None, Some, slice_get, refl, sym, ap, subst, arith}
+use Rattle.std.proofs.Common.{◌≡◌, inl, inr, ℕ, Bool, List, ◌++◌, length, Some, option_map, slice_get, refl, sym, ap, ◌∙◌, subst}
 use Rattle.mg_value.specs.Payload.{Plain}
 use Rattle.mg_value.specs.Prefix.{StreamPrefix}
-use Rattle.mg_calc.specs.declared.node_fault.Phase.{Phase}
-use Rattle.mg_calc.specs.declared.node_fault.Phase.TheVariants.{Open, Call as SourceCall, Process, Close}
-use Rattle.mg_calc.specs.Outcome.{Failure}
-use Rattle.mg_calc.specs.Equations.{Job, IsJob, outcome_of}
+use Rattle.mg_calc.specs.declared.call.Call.{Call}
+use Rattle.mg_calc.specs.Equations.{IsJob}
+use Rattle.mg_calc.specs.Shape.{IsOuter}
 use Rattle.mg_calc.specs.declared.inputs.Inputs.{Inputs}
 use Rattle.mg_calc.specs.declared.plan.Plan.{Plan}
 use Rattle.mg_calc.specs.declared.plan_node.PlanNode.{PlanNode}
 use Rattle.mg_calc.specs.Told.{CalculatorTold}
-use Rattle.mg_answer.specs.Devices.{Device, device, RunDevices, Untouched}
+use Rattle.mg_answer.specs.Devices.{device, RunDevices, Untouched}
 use Rattle.mg_answer.specs.declared.status.Status.{Status}
-use Rattle.mg_sched.specs.Views.{NetView}
+use Rattle.mg_node.specs.Views.{EngineView}
+use Rattle.mg_node.specs.Job.{LoggedJob}
+use Rattle.mg_node.specs.Had.{HadClose}
+use Rattle.mg_sched.specs.Views.{DeskView, NetView}
+use Rattle.mg_sched.specs.StandsFor.{StandsFor, IsRunning}
+use Rattle.mg_sched.specs.ComesApart.{NoneOnDesks}
+use Rattle.mg_sched.specs.WindsUp.{WindsUpNet}
 use Rattle.mg_sched.specs.Made.{BoxesFit, IsMade, job_of}
 use Rattle.mg_sched.specs.GivesBack.{given_back, StoodFor}
+use Rattle.mg_sched.proofs.ClosedBack.{closed_back}
+use Rattle.mg_sched.proofs.Solved.{solved}
 use Rattle.mg_drive.specs.Nets.{Keeps}
 use Rattle.mg_drive.specs.Batches.{logged}
-use Rattle.mg_drive.specs.Leaves.{HadCallsOf}
-use Rattle.mg_drive.specs.Code.Ending.{HadAllOf, CameBack}
-use Rattle.mg_drive.proofs.Jobs.{valid_plan}
-use Rattle.mg_drive.proofs.BoxesBack.{logs_of, all_had_now, came_back_then}
-use Rattle.mg_drive.proofs.FrontsBack.{none_had, closes, closes_at, all_are_fronts, fronts_now}
-use Rattle.mg_replay.specs.Leaves.{FailsToOpen, HadCloses, AllBack}
+use Rattle.mg_drive.specs.Leaves.{first_calls, IsAt}
+use Rattle.mg_drive.specs.Code.Ending.{CameBack}
+use Rattle.mg_drive.proofs.Jobs.{valid_plan, plan_stood}
+use Rattle.mg_drive.proofs.BoxesBack.{box_at, log_was, all_had_now, came_back_then}
+use Rattle.mg_drive.proofs.FrontsBack.{none_had, fronts_now}
+use Rattle.mg_replay.specs.Leaves.{HadAClose, HadCloses, AllBack}
 use Rattle.mg_replay.specs.Replayed.{job_over, HadEnd}
 use Rattle.mg_replay.specs.Reading.{HasOpened}
-use Rattle.mg_replay.specs.Code.Nets.{NetReplayed, NetShort, JobReplayed, JobShort}
+use Rattle.mg_replay.specs.Code.Nets.{ClosedAllOf, HadBy, NetReplayed, NetShort, JobReplayed, JobShort}
 use Rattle.mg_replay.specs.declared.trace_end.TraceEnd.{TraceEnd}
 use Rattle.mg_replay.specs.declared.trace_end.TraceEnd.TheVariants.{Accepted, Refused, Failed}
 
--- one that had all its calls was opened and closed
-closes_or : (job : Job) (streams : List (StreamPrefix Plain)) (node : PlanNode) (fault : Option Failure) → (outcome_of job streams node).fault ≡ fault → (closes fault ≡ true) ⊎ FailsToOpen job streams node
-closes_or job streams node None is = inl refl
-closes_or job streams node (Some failure) is = by failure.phase refl
-  where
-    by : (phase : Phase) → failure.phase ≡ phase → (closes (Some failure) ≡ true) ⊎ FailsToOpen job streams node
-    by Open same = inr (record { failure = failure; fails = is; in_open = same })
-    by (SourceCall number) same = inl (ap closes_at same)
-    by (Process at) same = inl (ap closes_at same)
-    by Close same = inl (ap closes_at same)
+-- A run that breaks off --
 
-pub all_closed : (job : Job) (boxes : Device (List CalculatorTold)) → HadCallsOf job boxes → HadCloses job boxes
-all_closed job boxes had =
-    let fronts = all_are_fronts job boxes had in
+-- a net whose works were put back, and that was wound up, keeps its plan and the places of the calculators
+pub back_keeps : (before back wound : NetView) (engines : List EngineView) (desks : List DeskView) → back ≡ record before { engines = engines; desks = desks } → WindsUpNet back wound → Keeps before wound
+back_keeps before back wound engines desks is winds = record {
+  plan = ap (λ (v : NetView). v.plan) winds.parts ∙ ap (λ (v : NetView). v.plan) is;
+  spare = ap (λ (v : NetView). v.spare) winds.parts ∙ ap (λ (v : NetView). v.spare) is;
+}
+
+pub back_wound : (job : LoggedJob) (back wound : NetView) → StandsFor job back → WindsUpNet back wound → StoodFor job wound
+back_wound job back wound stands winds = record { before = back; stands = stands; since = inr winds }
+
+back_running : (before back : NetView) (engines : List EngineView) (desks : List DeskView) → back ≡ record before { engines = engines; desks = desks } → IsRunning before → IsRunning back
+back_running before back engines desks is running = ap (λ (v : NetView). v.begun) is ∙ running ∙ sym (ap (λ (v : NetView). length v.plan.nodes) is)
+
+-- each of its calculators that a node uses was closed
+pub closed_where : (job : LoggedJob) (before back wound : NetView) (engines : List EngineView) (desks : List DeskView) → IsRunning before → back ≡ record before { engines = engines; desks = desks } → StandsFor job back → NoneOnDesks back
+    → WindsUpNet back wound → wound.wound ≡ length back.plan.nodes → ClosedAllOf job wound
+closed_where job before back wound engines desks running is stands none winds all =
+    let found = solved job (valid_plan job back stands) in
     record {
-      streams = had.streams;
-      solution = had.solution;
-      each = λ number place node there has.
-          (let at = fronts.each number place node there has in
-          record {
-            before = at.before;
-            now = at.now;
-            was = at.was;
-            is = at.is;
-            holds = record { front = at.holds; begun = omega arith; closed = closes_or job had.streams node (outcome_of job had.streams node).fault refl };
-          });
+      streams = found.0;
+      solution = found.1.solution;
+      each = λ number place node there has outer.
+          closed_back job back wound found.0 number place node stands (back_running before back engines desks is running) none winds all found.1
+          (ap (λ (p : Plan). slice_get p.nodes number) (plan_stood job back stands) ∙ there) has outer;
     }
 
+-- By the calculators that were handed in --
+
+closed_at : (plan : Plan) (inputs : Inputs) (boxes : List CalculatorTold) (net : NetView) (streams : List (StreamPrefix Plain)) (number place : ℕ) (node : PlanNode) → BoxesFit plan boxes → slice_get plan.nodes number ≡ Some node → node.box_number ≡ Some place
+    → (IsOuter node.law → (told : CalculatorTold) × (slice_get (given_back net) place ≡ Some told) × HadClose (job_of plan inputs boxes) streams node told) → IsAt place (HadAClose (job_over plan inputs) streams node) (device boxes (given_back net))
+closed_at plan inputs boxes net streams number place node fit there has closed =
+    let box = box_at plan boxes number place node fit there has in
+    let back = closed (subst IsOuter box.2.fits.same_law box.2.outer) in
+    let front = back.2.front in
+    record {
+      before = box.0;
+      now = back.0;
+      was = box.1;
+      is = back.1;
+      holds = record {
+        front = record {
+          count = front.count;
+          close = front.close;
+          opened = front.opened;
+          log = front.log ∙ ap (option_map (λ (calls : List Call). calls ++ first_calls (job_over plan inputs) streams node front.count front.close)) (log_was (job_of plan inputs boxes) boxes place node box.0 refl has box.1);
+          law = front.fits.same_law ∙ sym box.2.fits.same_law;
+          shape = front.fits.same_shape ∙ sym box.2.fits.same_shape;
+        };
+        begun = back.2.begun;
+        closed = back.2.closed;
+      };
+    }
+
+all_closed : (plan : Plan) (inputs : Inputs) (boxes now : List CalculatorTold) (net : NetView) → BoxesFit plan boxes → now ≡ given_back net → ClosedAllOf (job_of plan inputs boxes) net → HadCloses (job_over plan inputs) (device boxes now)
+all_closed plan inputs boxes now net fit back c = subst (λ (bs : List CalculatorTold). HadCloses (job_over plan inputs) (device boxes bs)) (sym back)
+    (record {
+      streams = c.streams;
+      solution = c.solution;
+      each = λ number place node there has. closed_at plan inputs boxes net c.streams number place node fit there has (c.each number place node there has);
+    })
+
 -- by how the reading ended
-had_now : (end : TraceEnd) (plan : Plan) (inputs : Inputs) (boxes now : List CalculatorTold) (net : NetView) → BoxesFit plan boxes → now ≡ given_back net → HadAllOf (job_of plan inputs boxes) net → HadEnd end plan (Some inputs) (device boxes now)
-had_now Accepted plan inputs boxes now net fit back had = all_had_now (logged plan inputs (logs_of boxes)) boxes now net fit refl back had
-had_now (Refused line cause) plan inputs boxes now net fit back had = all_closed (job_over plan inputs) (device boxes now) (all_had_now (logged plan inputs (logs_of boxes)) boxes now net fit refl back had)
-had_now (Failed lines) plan inputs boxes now net fit back had = all_closed (job_over plan inputs) (device boxes now) (all_had_now (logged plan inputs (logs_of boxes)) boxes now net fit refl back had)
+had_now : (end : TraceEnd) (plan : Plan) (inputs : Inputs) (boxes now : List CalculatorTold) (net : NetView) → BoxesFit plan boxes → now ≡ given_back net → HadBy end (job_of plan inputs boxes) net → HadEnd end plan (Some inputs) (device boxes now)
+had_now Accepted plan inputs boxes now net fit back had = all_had_now (logged plan inputs boxes) boxes now net fit refl back had
+had_now (Refused line cause) plan inputs boxes now net fit back had = all_closed plan inputs boxes now net fit back had
+had_now (Failed lines) plan inputs boxes now net fit back had = all_closed plan inputs boxes now net fit back had
 
 pub job_replayed : (report : Bool) (plan : Plan) (inputs : Inputs) (boxes handed now : List CalculatorTold) (status : Status) (devices : RunDevices) (net : NetView) → BoxesFit plan boxes → handed ≡ boxes → now ≡ given_back net
     → NetReplayed report plan inputs handed status devices net → JobReplayed report plan inputs status devices (device boxes now)
@@ -76,7 +118,7 @@ job_short plan inputs boxes handed now devices net fit same back h =
     record {
       took = k.took;
       opened = k.opened;
-      fronts = fronts_now boxes now (logged plan inputs (logs_of boxes)) net fit refl k.stood (valid_plan (job_of plan inputs boxes) k.stood.before k.stood.stands) back;
+      fronts = fronts_now boxes now (logged plan inputs boxes) net fit refl k.stood (valid_plan (job_of plan inputs boxes) k.stood.before k.stood.stands) back;
     }
 
 -- All of them come back --
@@ -84,7 +126,7 @@ job_short plan inputs boxes handed now devices net fit same back h =
 pub all_back : (plan : Plan) (inputs : Inputs) (boxes handed now : List CalculatorTold) (made net : NetView) (stood : StoodFor (job_of plan inputs handed) net) → handed ≡ boxes → IsMade plan inputs handed made → Keeps made net → now ≡ given_back net
     → AllBack plan (device boxes now)
 all_back plan inputs boxes handed now made net stood same is keeps back =
-    let c : CameBack plan boxes now = came_back_then plan inputs boxes handed now made net same is keeps (record { job = job_of plan inputs handed; stood = stood; logs_are = ap logs_of same }) back in
+    let c : CameBack plan boxes now = came_back_then plan inputs boxes handed now made net same is keeps (record { job = job_of plan inputs handed; stood = stood; boxes_are = same }) back in
     record { count = c.count; unused = c.unused }
 
 pub same_back : (plan : Plan) (boxes now : List CalculatorTold) → now ≡ boxes → AllBack plan (device boxes now)

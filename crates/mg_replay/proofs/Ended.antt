@@ -1,5 +1,5 @@
 -- How a recorded run that is made again ends.
-use Rattle.std.proofs.Common.{◌≡◌, ◌≢◌, ◌⊎◌, inl, inr, ℕ, ◌+◌, Bool, true, false, List, [], ◌∷◌, ◌++◌, length, map, Option, None, Some, refl, sym, ap, ◌∙◌, subst, append-nil, append_assoc}
+use Rattle.std.proofs.Common.{◌≡◌, ◌≢◌, inl, inr, ℕ, ◌+◌, Bool, true, false, List, [], ◌∷◌, ◌++◌, Option, None, Some, refl, sym, ap, ◌∙◌, subst, append_assoc}
 use Rattle.mg_edge.specs.Edge.{SourceTold, SinkTold}
 use Rattle.mg_value.specs.Payload.{Plain}
 use Rattle.mg_value.specs.Prefix.{StreamPrefix}
@@ -40,7 +40,6 @@ use Rattle.mg_sched.specs.StandsFor.{StandsFor, StandsForSome, IsRunning}
 use Rattle.mg_sched.specs.Begins.{Begins}
 use Rattle.mg_sched.specs.Sweeps.{Becomes}
 use Rattle.mg_sched.specs.Taking.{taken_out}
-use Rattle.mg_sched.specs.WindsUp.{WindsUpNet}
 use Rattle.mg_sched.specs.Made.{IsMade, job_of}
 use Rattle.mg_sched.specs.GivesBack.{StoodFor}
 use Rattle.mg_sched.proofs.Solved.{solved}
@@ -52,13 +51,12 @@ use Rattle.mg_drive.proofs.RunsEnd.{none_yet}
 use Rattle.mg_drive.proofs.Looping.{keeps_on, begins_keep, begins_taken, becomes_keeps, stands_still}
 use Rattle.mg_drive.proofs.RecordedRuns.{begun_at}
 use Rattle.mg_replay.specs.Opening.{inputs_with}
-use Rattle.mg_replay.specs.Replay.{StopsEarly, StopsEarlyAt, ComesTo, WasRead}
-use Rattle.mg_replay.specs.Note.{trace_status, WroteNote}
-use Rattle.mg_replay.specs.Replayed.{job_over, WroteJob, WroteEnd, HadEnd, Replayed, ReplayedSome, ReplayedBy}
+use Rattle.mg_replay.specs.Replay.{StopsEarly, StopsEarlyAt, WasRead}
+use Rattle.mg_replay.specs.Note.{WroteNote}
+use Rattle.mg_replay.specs.Replayed.{job_over, WroteJob, WroteEnd, Replayed, ReplayedSome, ReplayedBy}
 use Rattle.mg_replay.specs.Reading.{HasOpened, IsReading, IsOpening, HasJob, IsMaking}
 use Rattle.mg_replay.specs.Code.Reading.{HasInputs}
-use Rattle.mg_replay.specs.Code.Nets.{accepts, IsSomeMade, StandsForPlan, NetReplayed, TookOf, NetShort, JobReplayed, JobShort}
-use Rattle.mg_replay.specs.declared.trace_end.TraceFault.{TraceFault}
+use Rattle.mg_replay.specs.Code.Nets.{accepts, IsSomeMade, StandsForPlan, ClosedAllOf, NetReplayed, NetShort, JobReplayed, JobShort}
 use Rattle.mg_replay.proofs.JobLines.{lines_then}
 use Rattle.mg_replay.specs.declared.trace_end.TraceEnd.{TraceEnd}
 use Rattle.mg_replay.specs.declared.trace_end.TraceEnd.TheVariants.{Accepted, Refused, Failed}
@@ -179,9 +177,6 @@ keeps_later made begun later begins becomes = keeps_on made begun later (begins_
 pub stood_later : (job : LoggedJob) (begun later : NetView) → IsRunning begun → StandsFor job begun → Becomes begun later → StoodFor job later
 stood_later job begun later running stands becomes = stands_still job later (becomes_stands job begun later running stands becomes)
 
-pub stood_wound : (job : LoggedJob) (net wound : NetView) → StandsFor job net → (wound ≡ net) ⊎ WindsUpNet net wound → StoodFor job wound
-stood_wound job net wound stands since = record { before = net; stands = stands; since = since }
-
 -- What is written of a run that is accepted --
 
 pub wrote_ended : (ended report : Bool) (job : Job) (status : Status) (output notes : Device SinkTold) → ended ≡ true → Wrote (by_lines report) job Ended status output notes → WroteJob ended report job status output notes
@@ -214,7 +209,7 @@ net_accepted report plan inputs boxes ended end status input output notes net is
 }
 
 pub net_refused : (report : Bool) (plan : Plan) (inputs : Inputs) (boxes : List CalculatorTold) (end : TraceEnd) (status : Status) (input : Device SourceTold) (output notes : Device SinkTold) (net : NetView) → end ≢ Accepted
-    → WasRead plan boxes input (Some inputs) end → Untouched output → WroteNote end status notes → HadAllOf (job_of plan inputs boxes) net → StoodFor (job_of plan inputs boxes) net
+    → WasRead plan boxes input (Some inputs) end → Untouched output → WroteNote end status notes → ClosedAllOf (job_of plan inputs boxes) net → StoodFor (job_of plan inputs boxes) net
     → NetReplayed report plan inputs boxes status (run_devices input output notes) net
 net_refused report plan inputs boxes Accepted status input output notes net other read untouched wrote had stood = absurd (other refl)
 net_refused report plan inputs boxes (Refused line cause) status input output notes net other read untouched wrote had stood =
@@ -245,7 +240,7 @@ pub of_short : (plan : Plan) (inputs : Inputs) (devices : RunDevices) (boxes : D
 of_short plan inputs devices boxes is h = record {
   took = elim h.took [
     | inl untouched ↦ inl untouched
-    | inr took ↦ inr (let found = solved (record { job = job_over plan inputs; logs = [] }) is in record { inputs = inputs; read = took.0; streams = found.0; solution = found.1.solution; front = took.1 found.0 found.1.solution })
+    | inr took ↦ inr (let found = solved (record { job = job_over plan inputs; boxes = [] }) is in record { inputs = inputs; read = took.0; streams = found.0; solution = found.1.solution; front = took.1 found.0 found.1.solution })
   ];
   had = inr (record { inputs = inputs; opened = h.opened; fronts = h.fronts });
 }

@@ -1,6 +1,5 @@
 -- The lines of events as they are read and made.
-use Rattle.std.proofs.Common.{◌≡◌, ◌≢◌, ◌⊎◌, ◌↔◌, inl, inr, ℕ, ◌+◌, ◌<◌, Bool, true, false, not, List, [], ◌∷◌, ◌++◌, length, map, codes, Option, None, Some, refl, sym, ap, ◌∙◌, subst, arith, append_assoc, append-nil}
-use Rattle.std.specs.Prelude.{◌||◌}
+use Rattle.std.proofs.Common.{◌≡◌, ◌≢◌, ◌⊎◌, ◌↔◌, inl, inr, ℕ, ◌+◌, ◌<◌, Bool, true, false, List, [], ◌∷◌, ◌++◌, length, map, codes, Option, None, Some, refl, sym, ap, ◌∙◌, subst, arith, append_assoc, append-nil}
 use Rattle.std.specs.Str.{bytes_eq}
 use Rattle.std.proofs.lemmas.Slice.Eq.{bytes_eq-Decides}
 use Rattle.std.proofs.lemmas.List.{map-append}
@@ -26,17 +25,15 @@ use Rattle.mg_trace.specs.Job.{end_word}
 use Rattle.mg_sched.specs.Views.{NetView}
 use Rattle.mg_sched.specs.Acts.{Acts}
 use Rattle.mg_sched.specs.Acts as nets
-use Rattle.mg_sched.specs.AtRest.{IsAtRest}
-use Rattle.mg_sched.specs.Runs.{IsRun}
+use Rattle.mg_sched.specs.AtRest.{IsAtRest, MayGoOn}
 use Rattle.mg_sched.specs.StandsFor.{StandsForSome, IsRunning}
 use Rattle.mg_sched.specs.Code.Left.{left_in}
 use Rattle.mg_sched.proofs.LeftIn.{acts_less}
 use Rattle.mg_sched.proofs.RunsOn.{run_one, run_on}
 use Rattle.mg_answer.specs.Devices.{device}
-use Rattle.mg_replay.specs.Replay.{HasRun, StopsLater, IsIdleEvent, MayGoOn, EndsAt, WasRead}
+use Rattle.mg_replay.specs.Replay.{HasRun, StopsLater, IsIdleEvent, EndsAt, WasRead}
 use Rattle.mg_replay.specs.Reading.{HasOpened, IsReading, IsMaking}
 use Rattle.mg_replay.specs.Code.Reading.{ComesBehind, MakesOn, MakesEvent, MakesLine, TakesEvent, StopsBy, StopsBehind, EndsRun}
-use Rattle.mg_replay.specs.Code.Nets.{LooksOver, are_some}
 use Rattle.mg_replay.specs.declared.trace_end.TraceFault.{TraceFault}
 use Rattle.mg_replay.specs.declared.trace_end.TraceFault.TheVariants.{BadEvent, IdleEvent, NotAtRest, NoEnd, AfterEnd}
 use Rattle.mg_replay.specs.declared.trace_end.TraceEnd.{TraceEnd}
@@ -373,26 +370,6 @@ ends_run end line plan boxes inputs first before now later old read new number c
     (subst (λ (t : SourceTold). WasRead plan boxes (device first t) (Some inputs) (Refused count NotAtRest)) (sym still) (ends_early line plan boxes inputs first before now old read number count net m n is line_is may))
 ends_run end line plan boxes inputs first before now later old read new number count net net_now m n is line_is (inr (rests, same, (next, l, comes, stop))) =
     ended line plan boxes inputs first before now later old read new number count net m n is line_is rests next l end comes stop
-
--- What was heard --
-
-are_some_push : (events : List Event) (event : Event) → are_some (events ++ event ∷ []) ≡ true
-are_some_push [] event = refl
-are_some_push (e ∷ events) event = refl
-
-or_true : (b : Bool) → (b || true) ≡ true
-or_true true = refl
-or_true false = refl
-
-pub heard_more : (began : Bool) (events : List Event) (event : Event) → true ≡ (began || are_some (events ++ event ∷ []))
-heard_more began events event = sym (ap (λ (b : Bool). began || b) (are_some_push events event) ∙ or_true began)
-
--- a net that went on by no event was at rest
-pub looked_over : (any rests : Bool) (events : List Event) (net now : NetView) → any ≡ are_some events → rests ≡ not any → IsRun events net now → IsAtRest now → LooksOver rests net now
-looked_over any rests [] net now is answer run at_rest =
-    subst (λ (b : Bool). LooksOver b net now) (sym (answer ∙ ap not is)) (run, subst IsAtRest run at_rest)
-looked_over any rests (event ∷ events) net now is answer (next, of, acts, run) at_rest =
-    subst (λ (b : Bool). LooksOver b net now) (sym (answer ∙ ap not is)) (record { event = event; is_event = of; there = next; acts = acts })
 
 -- What a line behind a run comes to --
 

@@ -1,28 +1,21 @@
 -- What a recorded run that isn't accepted leaves of the calculators that are handed in.
-use Rattle.std.specs.Prelude.{◌≡◌, ◌⊎◌, ℕ, ◌≤◌, true, List, All, Some, slice_get, length}
+use Rattle.std.specs.Prelude.{◌≡◌, ◌⊎◌, ℕ, ◌≤◌, true, false, List, All, Some, slice_get, length}
 use Rattle.mg_value.specs.Payload.{Plain}
 use Rattle.mg_value.specs.Prefix.{StreamPrefix}
 use Rattle.mg_calc.specs.declared.plan.Plan.{Plan}
 use Rattle.mg_calc.specs.declared.plan_node.PlanNode.{PlanNode}
-use Rattle.mg_calc.specs.declared.node_fault.Phase.TheVariants.{Open}
-use Rattle.mg_calc.specs.Outcome.{Failure}
-use Rattle.mg_calc.specs.Equations.{Job, IsSolution, outcome_of}
+use Rattle.mg_calc.specs.Equations.{Job, IsSolution}
 use Rattle.mg_calc.specs.Told.{CalculatorTold}
 use Rattle.mg_answer.specs.Devices.{Device}
+use Rattle.mg_node.specs.Had.{FailsToOpen}
 use Rattle.mg_drive.specs.Leaves.{HadAFront, IsAt}
 
--- A node fails in Open.
-pub record FailsToOpen (job : Job) (streams : List (StreamPrefix Plain)) (node : PlanNode) : Type 0 where
-  pub failure : Failure
-  pub fails : (outcome_of job streams node).fault ≡ Some failure
-  pub in_open : failure.phase ≡ Open
-
 -- A calculator was opened and closed: its log, where it tells one, grew by a front of the calls that its node has in a solution, Open and
--- perhaps a Process for each of the first sets that the node is shown, with Close behind them; or by Open alone, where that fails.
+-- perhaps a Process for each of the first sets that the node is shown, with Close behind them; by Open alone where, and only where, that fails.
 pub record HadAClose (job : Job) (streams : List (StreamPrefix Plain)) (node : PlanNode) (before now : CalculatorTold) : Type 0 where
   pub front : HadAFront job streams node before now
   pub begun : 1 ≤ front.count
-  pub closed : (front.close ≡ true) ⊎ FailsToOpen job streams node
+  pub closed : ((front.close ≡ true) × ¬ FailsToOpen job streams node) ⊎ ((front.close ≡ false) × FailsToOpen job streams node)
 
 -- So was each calculator that a node uses, in the solution of a job.
 pub record HadCloses (job : Job) (boxes : Device (List CalculatorTold)) : Type 0 where

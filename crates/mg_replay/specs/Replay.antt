@@ -5,14 +5,13 @@ use Rattle.std.specs.Prelude.{◌≡◌, ◌≢◌, ◌⊎◌, ℕ, ◌+◌, ◌
 use Rattle.mg_edge.specs.Edge.{SourceTold}
 use Rattle.mg_edge.specs.Runs.{Gave}
 use Rattle.mg_calc.specs.declared.event.Event.{Event}
-use Rattle.mg_calc.specs.declared.event.Effect.TheVariants.{Did, Idle}
+use Rattle.mg_calc.specs.declared.event.Effect.TheVariants.{Idle}
 use Rattle.mg_calc.specs.declared.inputs.Inputs.{Inputs}
 use Rattle.mg_calc.specs.declared.plan.Plan.{Plan}
 use Rattle.mg_calc.specs.Told.{CalculatorTold}
 use Rattle.mg_sched.specs.Views.{NetView}
 use Rattle.mg_sched.specs.Acts.{Acts}
-use Rattle.mg_sched.specs.Acts as nets
-use Rattle.mg_sched.specs.AtRest.{IsAtRest}
+use Rattle.mg_sched.specs.AtRest.{IsAtRest, MayGoOn}
 use Rattle.mg_sched.specs.Runs.{IsRun, IsBegun}
 use Rattle.mg_feed.specs.Graph.{inputs_of}
 use Rattle.mg_feed.specs.Lines.{all_lines, whole_lines}
@@ -68,13 +67,6 @@ pub record IsIdleEvent (plan : Plan) (net : NetView) (number : ℕ) (line : List
   pub line_is : line ≡ event_line event
   pub idle : Acts event Idle net net
   pub is : end ≡ Refused number IdleEvent
-
--- A net may go on: one of its events would do something.
-pub record MayGoOn (net : NetView) : Type 0 where
-  pub event : Event
-  pub is_event : nets.IsEventOf net event
-  pub there : NetView
-  pub acts : Acts event Did net there
 
 -- What stands behind the last line of a run.
 abbrev pub EndsAt : ℕ → List (List ℕ) → TraceEnd → Type 0

@@ -1,5 +1,5 @@
 //! How the events of a recorded run are made on a net.
-ghost use Rattle.std.specs.Prelude.{◌≡◌, ◌||◌, ◌+◌, ◌<◌, ◌^◌, List, None, Some, IfOk};
+ghost use Rattle.std.specs.Prelude.{◌≡◌, ◌+◌, ◌<◌, ◌^◌, List, None, Some, IfOk};
 ghost use Rattle.mg_edge.specs.Edge.{SourceTold};
 ghost use Rattle.mg_calc.specs.declared.inputs.Inputs.{Inputs};
 ghost use Rattle.mg_calc.specs.Told.{CalculatorTold};
@@ -12,7 +12,6 @@ ghost use Rattle.mg_sched.specs.Code.Left.{left_in};
 ghost use Rattle.mg_answer.specs.Devices.{device};
 ghost use Rattle.mg_replay.specs.Replay.{WasRead};
 ghost use Rattle.mg_replay.specs.Reading.{HasOpened, IsMaking};
-ghost use Rattle.mg_replay.specs.Code.Nets.{LooksOver, are_some};
 ghost use Rattle.mg_replay.specs.Code.Reading.{ComesBehind, MakesOn, MakesEvent, MakesLine, TakesEvent, StopsBehind, EndsRun};
 
 use crate::opening::stopped_at;
@@ -20,7 +19,7 @@ use crate::{TraceEnd, TraceFault};
 use mg_calc::{Calculator, Effect, Event, Plan};
 use mg_edge::{Gate, Source};
 use mg_feed::{Lines, NextLine};
-use mg_sched::{Hears, Net};
+use mg_sched::Net;
 use mg_trace::event_of;
 use std::alloc::AllocError;
 
@@ -31,8 +30,8 @@ use std::alloc::AllocError;
 /// a net at rest, and nothing stands behind that. Otherwise the first line that isn't so is refused, with its number among all lines of
 /// the source; or a read failed.
 ///
-/// It leaves the net where the events so far led it; where `end` came too early it has come to rest by events of its own. An event that
-/// does nothing leaves it as it was. Where memory runs out it is somewhere on its way.
+/// It leaves the net where the events so far led it; where `end` came too early one event of its own may have been made, which performs no
+/// work. An event that does nothing leaves it as it was. Where memory runs out it is somewhere on its way.
 pub fn replay_events<G: Gate, C: Calculator, S: Source>(
     plan: &Plan,
     net: &mut Net<C>,
@@ -105,7 +104,7 @@ fn take_event<G: Gate, C: Calculator, S: Source>(
     ensures becomes { Becomes net.old net.new }
 {
     if lines.line() == b"end".as_slice() {
-        let end = end_run(net, gate, lines, input)?;
+        let end = end_run(net, lines, input)?;
         return Ok(Some(end));
     }
     let stop = make_line(plan, net, gate, lines.line(), lines.number())?;
@@ -162,9 +161,8 @@ fn make_event<G: Gate, C: Calculator>(
 }
 
 // Looks whether a net is at rest behind the last line of a run, and that nothing stands behind that.
-fn end_run<G: Gate, C: Calculator, S: Source>(
+fn end_run<C: Calculator, S: Source>(
     net: &mut Net<C>,
-    gate: &G,
     lines: &mut Lines,
     input: &mut S,
 ) -> Result<TraceEnd, AllocError>
@@ -175,7 +173,7 @@ fn end_run<G: Gate, C: Calculator, S: Source>(
     ensures becomes { Becomes net.old net.new }
 {
     let number = lines.number();
-    let rests = rests(net, gate)?;
+    let rests = net.rests()?;
     if !rests {
         return Ok(TraceEnd::Refused {
             line: number,
@@ -184,33 +182,6 @@ fn end_run<G: Gate, C: Calculator, S: Source>(
     }
     let next = lines.next(input)?;
     Ok(behind_end(next, number))
-}
-
-// Hears whether a net made an event.
-#[derive(Drop)]
-struct AnyEvent {
-    any: bool,
-}
-
-impl Hears for AnyEvent {
-    ghost has_heard = { λ began now events. now.any ≡ (began.any || are_some events) };
-
-    fn hear(&mut self, event: Event) {
-        let _ = event;
-        self.any = true;
-    }
-}
-
-// Whether a net is at rest. One that isn't comes to rest.
-fn rests<G: Gate, C: Calculator>(net: &mut Net<C>, gate: &G) -> Result<bool, AllocError>
-    requires running { IsRunning net.old }
-    requires stands { StandsForSome net.old }
-    ensures looks { IfOk result (λ rests. LooksOver rests net.old net.new) }
-    ensures becomes { Becomes net.old net.new }
-{
-    let mut heard = AnyEvent { any: false };
-    net.sweep(gate, &mut heard)?;
-    Ok(!heard.any)
 }
 
 // How the reading ends behind the last line of a run, which has this number.

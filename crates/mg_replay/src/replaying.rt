@@ -25,7 +25,7 @@ ghost use Rattle.mg_replay.specs.Replayed.{job_over, WroteJob, ReplayedBy, Repla
 ghost use Rattle.mg_replay.specs.Note.{WroteNote};
 ghost use Rattle.mg_replay.specs.Leaves.{AllBack};
 ghost use Rattle.mg_replay.specs.Code.Reading.{HasInputs};
-ghost use Rattle.mg_replay.specs.Code.Nets.{told_since, accepts, StandsForPlan, NetReplayed, NetShort, JobReplayed, JobShort, IsSomeMade};
+ghost use Rattle.mg_replay.specs.Code.Nets.{told_since, accepts, StandsForPlan, ClosedAllOf, NetReplayed, NetShort, JobReplayed, JobShort, IsSomeMade};
 
 use crate::TraceEnd;
 use crate::events::replay_events;
@@ -33,7 +33,7 @@ use crate::noting::note_end;
 use crate::opening::{Opened, read_job};
 use mg_answer::{Devices, OutputText, Run, Status, note_out_of_memory};
 use mg_calc::{Calculator, Inputs};
-use mg_drive::{Driven, OneThread, finish, finish_frozen, take_all};
+use mg_drive::{OneThread, finish, finish_frozen, take_all};
 use mg_edge::{Gate, Sink, Source};
 use mg_feed::{Feed, FeedEnd, Lines};
 use mg_sched::Net;
@@ -46,8 +46,8 @@ use std::mem;
 /// are one of its job to rest and nothing stands behind them; only then the output text of the job is written, and the notes, with the
 /// report behind them where it is asked for.
 ///
-/// Otherwise nothing is written but one note: which line is refused and why, or that a read failed. Nodes that were begun are run on to
-/// rest then, and closed.
+/// Otherwise nothing is written but one note: which line is refused and why, or that a read failed. The run breaks off where it is then:
+/// no set is shown any more, and nodes that were opened are closed.
 ///
 /// A write that fails is told by the status, as of a run. Where memory runs out the notes say that alone.
 pub fn replay_lines<G: Gate, C: Calculator, S: Source, K: Sink, E: Sink>(
@@ -174,7 +174,7 @@ fn replay_net<G: Gate, C: Calculator, S: Source, K: Sink, E: Sink>(
         let status = accept(run, net, ended, devices.output, devices.notes)?;
         return Ok(status);
     }
-    let status = refuse(run.alloc, net, end, devices.notes)?;
+    let status = refuse(run.alloc, &mut net.net, end, devices.notes)?;
     Ok(status)
 }
 
@@ -189,22 +189,22 @@ fn is_accepted(end: TraceEnd) -> bool
     }
 }
 
-// Lets the nodes of a run that isn't accepted come to rest, closes them, and writes the note.
-fn refuse<G: Gate, C: Calculator, E: Sink>(
+// Closes the nodes of a run that isn't accepted where they are, and writes the note. Works that are claimed aren't performed.
+fn refuse<C: Calculator, E: Sink>(
     alloc: Global,
-    net: &mut OneThread<'_, C, G>,
+    net: &mut Net<C>,
     end: TraceEnd,
     notes: &mut E,
 ) -> Result<Status, AllocError>
-    requires running { IsRunning net.old.net }
-    requires stands { StandsForSome net.old.net }
+    requires running { IsRunning net.old }
+    requires stands { StandsForSome net.old }
     ensures wrote { IfOk result (λ status. WroteNote end status (device (E.told notes.old) (E.told notes.new))) }
-    ensures had { OnOk result ((job : LoggedJob) → StandsFor job net.old.net → HadAllOf job net.new.net) }
-    ensures stood { (job : LoggedJob) → StandsFor job net.old.net → StoodFor job net.new.net }
+    ensures closed { OnOk result ((job : LoggedJob) → StandsFor job net.old → ClosedAllOf job net.new) }
+    ensures stood { (job : LoggedJob) → StandsFor job net.old → StoodFor job net.new }
     ensures unnoted { OnErr result (E.told notes.new ≡ E.told notes.old) }
-    ensures keeps { Keeps net.old.net net.new.net }
+    ensures keeps { Keeps net.old net.new }
 {
-    net.to_rest()?;
+    net.put_back_all();
     net.wind_up()?;
     let status = note_end(alloc, end, notes)?;
     Ok(status)

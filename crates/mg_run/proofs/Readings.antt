@@ -82,7 +82,7 @@ packets-noted report plan number output notes boxes (inr short) = short.noted
 -- The calculators --
 
 short_count : (plan : Plan) (input : Device SourceTold) (output : Device SinkTold) (boxes : Device (List CalculatorTold)) → ShortIn plan input output boxes → length boxes.now ≡ length boxes.before
-short_count plan input output boxes (inl nothing) = ap length nothing.uncalled
+short_count plan input output boxes (inl short) = ap length short.nothing.uncalled
 short_count plan input output boxes (inr (inl short)) = short.short.had.back.count
 short_count plan input output boxes (inr (inr short)) = (short.short [] (λ ended. refl)).had.back.count
 

@@ -17,12 +17,12 @@ use Rattle.mg_node.proofs.Lemmas.{engine_known, get_other, grown_by_itself, shel
 use Rattle.mg_sched.specs.Views.{DeskView, NetView}
 use Rattle.mg_sched.specs.Places.{with_engine, with_desk}
 use Rattle.mg_sched.specs.StandsFor.{HasWorks, IsCell, IsNetOf, StandsFor, StandsForSome, IsRunning}
-use Rattle.mg_sched.specs.ComesApart.{parts_in, unrun_of, all_shelved, PutsBack, HasComeApart, ArePartsOf}
+use Rattle.mg_sched.specs.ComesApart.{parts_in, unrun_of, all_shelved, PutsBack, NoneOnDesks, HasComeApart, ArePartsOf}
 use Rattle.mg_sched.specs.Code.Telling.{PutsBackAt}
 use Rattle.mg_sched.proofs.Carrying.{intake_of}
 use Rattle.mg_sched.proofs.CellForms.{engine_and_desk, stays_so}
 use Rattle.mg_sched.proofs.Changed.{CellStep, cell_stands}
-use Rattle.mg_sched.proofs.Finding.{cell_at, found, put_here, engine_read, desk_read}
+use Rattle.mg_sched.proofs.Finding.{cell_at, found, places, put_here, engine_read, desk_read}
 use Rattle.mg_sched.proofs.LimitsKnow.{cell_knows}
 use Rattle.mg_sched.proofs.Middles.{all_middle, pairs_middle, pairs_with, all_both}
 use Rattle.mg_sched.proofs.Works.{works_fewer}
@@ -284,3 +284,12 @@ pub parts_come_apart : (job : LoggedJob) (before after shown : NetView) → show
     → after ≡ record before { engines = after.engines; desks = after.desks } → ((other : LoggedJob) → StandsFor other before → StandsFor other after) → StandsFor job before → ArePartsOf job (parts_in shown)
 parts_come_apart job before after shown is running puts_back others stands h =
     subst (λ (v : NetView). ArePartsOf job (parts_in v)) (sym is) (parts_of_net job before after running (record { puts_back = puts_back; others = others; stands = stands }) h)
+
+-- nothing lies on its desks
+pub none_on_desks : (before now : NetView) → StandsForSome before → PutsBack (length before.plan.nodes) before.engines now.engines before.desks now.desks → NoneOnDesks now
+none_on_desks before now some b = λ node desk on.
+    let within = slice_get_within now.desks node desk on in
+    let count = b.desk_count in
+    let long = (places before some).2 in
+    let old = found before.desks node (omega (arith, within, count)) in
+    ap (λ (d : DeskView). d.works) (some_same (slice_get now.desks node) desk (record old.0 { works = [] }) on (b.empties node old.0 (omega (arith, within, count, long)) old.1))

@@ -9,12 +9,13 @@ use Rattle.mg_calc.specs.Plan.{IsValid}
 use Rattle.mg_calc.specs.Equations.{IsJob}
 use Rattle.mg_calc.specs.declared.plan_node.PlanNode.{PlanNode}
 use Rattle.mg_route.specs.HolderView.{HolderView, told_by}
+use Rattle.mg_calc.specs.declared.node_fault.Phase.{Phase}
 use Rattle.mg_node.specs.Views.{IntakeView, BenchView, WorkView, EntryView, OutcomeView, EngineView}
 use Rattle.mg_node.specs.Job.{LoggedJob}
 use Rattle.mg_node.specs.Lawful.{LawfulWork}
 use Rattle.mg_node.specs.Leaving.{calculator_in, handed_told, handed_in, first_handed}
-use Rattle.mg_node.specs.WindingUp.{lacks_close, FinishesLast, WindsUp}
-use Rattle.mg_node.proofs.Lemmas.{at_each as at_node, calculator_there, engine_known, get_other, handed_there}
+use Rattle.mg_node.specs.WindingUp.{lacks_close, FinishesLast, FinishesBack, FinishesEntry, FinishesFirst, FinishesFront, WindsUp}
+use Rattle.mg_node.proofs.Lemmas.{at_each as at_node, calculator_there, engine_known, get_other, handed_there, held_after}
 use Rattle.mg_sched.specs.Views.{DeskView, NetView}
 use Rattle.mg_sched.specs.StandsFor.{IsCell, HasSpare, StandsFor}
 use Rattle.mg_sched.specs.WindsUp.{WindsUpNet}
@@ -225,9 +226,36 @@ finished_gives engine now desk f h =
     (last_finished f.others f.bench f.finished (filter_map calculator_in engine.window) (on_desk desk) f.is_finished.same_handed
     (subst (λ (bs : List BenchView). some_in engine bs desk) f.idle h))
 
+-- where the first work in a window was closed, its calculator stays there
+
+back_finished : (before now : Option OutcomeView) (phase : Phase) (a b : Bool) (es : List EntryView) (o : Option CalculatorTold) → FinishesBack before now
+    → is_some (or_else (slice_get (filter_map handed_told (filter_map calculator_in (record { phase = phase; outcome = before; committed = a } ∷ es))) 0) o) ≡ true
+    → is_some (or_else (slice_get (filter_map handed_told (filter_map calculator_in (record { phase = phase; outcome = now; committed = b } ∷ es))) 0) o) ≡ true
+back_finished None now phase a b es o f h =
+    subst (λ (n : Option OutcomeView). is_some (or_else (slice_get (filter_map handed_told (filter_map calculator_in (record { phase = phase; outcome = n; committed = b } ∷ es))) 0) o) ≡ true) (sym f) h
+back_finished (Some x) now phase a b es o f h =
+    let y : OutcomeView = f.0 in
+    subst (λ (n : Option OutcomeView). is_some (or_else (slice_get (filter_map handed_told (filter_map calculator_in (record { phase = phase; outcome = n; committed = b } ∷ es))) 0) o) ≡ true) (sym f.2)
+    (first_same x.work.bench.told.handed y.work.bench.told.handed (told_by x.work.bench.told) (told_by y.work.bench.told) (filter_map handed_told (filter_map calculator_in es)) o (held_after x y f.1) h)
+
+abbrev some_at : List BenchView → List EntryView → DeskView → Type 0
+some_at idle window desk = is_some (or_else (slice_get (filter_map handed_told (map (λ (v : BenchView). v.told) idle ++ filter_map calculator_in window)) 0) (on_desk desk)) ≡ true
+
+first_finished : (window now : List EntryView) (desk : DeskView) → FinishesFirst window now → some_at [] window desk → some_at [] now desk
+first_finished [] now desk f h = subst (λ (es : List EntryView). some_at [] es desk) (sym f) h
+first_finished (entry ∷ es) now desk f h =
+    let e : FinishesEntry entry f.0 = f.1 in
+    subst (λ (xs : List EntryView). some_at [] xs desk) (sym f.2)
+    (subst (λ (x : EntryView). some_at [] (x ∷ es) desk) (sym e.is) (back_finished entry.outcome e.outcome entry.phase entry.committed entry.committed es (on_desk desk) e.finishes h))
+
+front_gives : (engine now : EngineView) (desk : DeskView) → engine.idle ≡ [] → FinishesFront engine now → is_some (cell_told engine desk) ≡ true → is_some (cell_told now desk) ≡ true
+front_gives engine now desk none f h =
+    subst (λ (v : EngineView). is_some (cell_told v desk) ≡ true) (sym f.is)
+    (subst (λ (bs : List BenchView). some_at bs f.window desk) (sym none) (first_finished engine.window f.window desk f.finishes (subst (λ (bs : List BenchView). some_at bs engine.window desk) none h)))
+
 wound_gives : (engine now : EngineView) (desk : DeskView) (lacks : Bool) (idle : List BenchView) → WindsUp engine now → lacks_close engine ≡ lacks → engine.idle ≡ idle → is_some (cell_told engine desk) ≡ true → is_some (cell_told now desk) ≡ true
 wound_gives engine now desk false idle w is are h = subst (λ (v : EngineView). is_some (cell_told v desk) ≡ true) (sym (w.had_close is)) h
-wound_gives engine now desk true [] w is are h = subst (λ (v : EngineView). is_some (cell_told v desk) ≡ true) (sym (w.none_idle are)) h
+wound_gives engine now desk true [] w is are h = front_gives engine now desk are (w.none_idle is are) h
 wound_gives engine now desk true (b ∷ idle) w is are h = finished_gives engine now desk (w.finishes is (let long = ap length are in omega (arith, long))) h
 
 -- an engine of a net that was wound up
@@ -293,7 +321,7 @@ full job net h p less =
     let it = found net.spare p within in
     place_full job net p it.0 h within it.1
 
-pub counted : {X : Type 0} (told : X → CalculatorTold) (result : List X) (job : LoggedJob) (net : NetView) → map told result ≡ given_back net → KnowsBack job net → length result ≡ length job.logs
+pub counted : {X : Type 0} (told : X → CalculatorTold) (result : List X) (job : LoggedJob) (net : NetView) → map told result ≡ given_back net → KnowsBack job net → length result ≡ length job.boxes
 counted {X} told result job net is h =
     sym (length-map result told) ∙ ap length is ∙ all_count (cells_of net) (full job net h) ∙ cells_long net.spare net.plan.nodes net.engines net.desks ∙ h.spare.count
 

@@ -130,11 +130,11 @@ cell_later first later begun node engine intake desk g h = record {
 }
 
 abbrev with_inputs : LoggedJob → Inputs → LoggedJob
-with_inputs job more = record { job = record { plan = job.job.plan; inputs = more }; logs = job.logs }
+with_inputs job more = record { job = record { plan = job.job.plan; inputs = more }; boxes = job.boxes }
 
 spare_later : (first later : LoggedJob) (spare : List (Option CalculatorTold)) → Grows first later → HasSpare first spare → HasSpare later spare
 spare_later first later spare g h =
-    let same : with_inputs first later.job.inputs ≡ later = (λ i. record { job = record { plan = (sym g.plan) i; inputs = later.job.inputs }; logs = (sym g.logs) i }) in
+    let same : with_inputs first later.job.inputs ≡ later = (λ i. record { job = record { plan = (sym g.plan) i; inputs = later.job.inputs }; boxes = (sym g.boxes) i }) in
     subst (λ (j : LoggedJob). HasSpare j spare) same (record { count = h.count; numbers = h.numbers; used = h.used; unused = h.unused })
 
 -- Nets.

@@ -164,10 +164,9 @@ desks_since : (before net : NetView) → (net ≡ before) ⊎ WindsUpNet before 
 desks_since before net (inl same) = ap (λ (v : NetView). v.desks) same
 desks_since before net (inr w) = ap (λ (v : NetView). v.desks) w.parts
 
-given_at : (job : LoggedJob) (solution : List (StreamPrefix Plain)) (node : PlanNode) (there o : Option CalculatorTold) → there ≡ o → is_some o ≡ true → ((told : CalculatorTold) → o ≡ Some told → HadFront job solution node told)
-    → (told : CalculatorTold) × (there ≡ Some told) × HadFront job solution node told
-given_at job solution node there None is some front = absurd cc
-given_at job solution node there (Some told) is some front = (told, is, front told refl)
+pub given_at : (P : CalculatorTold → Type 0) (there o : Option CalculatorTold) → there ≡ o → is_some o ≡ true → ((told : CalculatorTold) → o ≡ Some told → P told) → (told : CalculatorTold) × (there ≡ Some told) × P told
+given_at P there None is some front = absurd cc
+given_at P there (Some told) is some front = (told, is, front told refl)
 
 pub front_back : (job later : LoggedJob) (net : NetView) (solution : List (StreamPrefix Plain)) (number place : ℕ) (node : PlanNode) → StoodFor job net → (later ≡ job) ⊎ Grows job later → Solves later solution
     → slice_get net.plan.nodes number ≡ Some node → node.box_number ≡ Some place → IsOuter node.law → (told : CalculatorTold) × (slice_get (given_back net) place ≡ Some told) × HadFront later solution node told
@@ -179,5 +178,5 @@ front_back job later net solution number place node stood more solves there boxe
     let on : slice_get net.desks number ≡ Some c.desk = subst (λ (ds : List DeskView). slice_get ds number ≡ Some c.desk) (sym (desks_since stood.before net stood.since)) c.on in
     let back = own_back (given_back net) job net number place node e.now c.desk refl knows there boxed e.at on in
     let theirs : slice_get later.job.plan.nodes number ≡ Some node = subst (λ (p : Plan). slice_get p.nodes number ≡ Some node) (knows.plan ∙ sym (plan_later job later more)) there in
-    given_at later solution node (slice_get (given_back net) place) (cell_told e.now c.desk) back.0 back.1
+    given_at (HadFront later solution node) (slice_get (given_back net) place) (cell_told e.now c.desk) back.0 back.1
     (λ told has. cell_front job later c.begun number node c.engine e.now c.intake c.desk solution told more solves theirs (ap is_some boxed) outer c.is_cell e.since has)

@@ -81,14 +81,14 @@ used_back job rested net wound solution number place node h running rest solves 
     in_place job solution node e.0 d.0 (slice_get (given_back wound) place) had (own_back (given_back wound) job wound number place node e.0 d.0 refl knows there_wound boxed e.1 on).0
 
 -- All that were handed in come back.
-pub count_back : (job : LoggedJob) (net : NetView) → StoodFor job net → length (given_back net) ≡ length job.logs
+pub count_back : (job : LoggedJob) (net : NetView) → StoodFor job net → length (given_back net) ≡ length job.boxes
 count_back job net stood = counted (λ (t : CalculatorTold). t) (given_back net) job net (map-id (given_back net)) (knows_back job net stood)
 
 -- One that no node uses is as it lay, and it lies there.
 pub unused_is_back : (job : LoggedJob) (net : NetView) (place : ℕ) (told : CalculatorTold) → StoodFor job net → slice_get net.spare place ≡ Some (Some told) → slice_get (given_back net) place ≡ Some told
 unused_is_back job net place told stood lies = unused_back (given_back net) job net place told refl (knows_back job net stood) lies
 
-pub unused_lies : (job : LoggedJob) (net : NetView) (place : ℕ) → StandsFor job net → place < length job.logs → All (λ n. ¬ (n.box_number ≡ Some place)) net.plan.nodes → (told : CalculatorTold) × (slice_get net.spare place ≡ Some (Some told))
+pub unused_lies : (job : LoggedJob) (net : NetView) (place : ℕ) → StandsFor job net → place < length job.boxes → All (λ n. ¬ (n.box_number ≡ Some place)) net.plan.nodes → (told : CalculatorTold) × (slice_get net.spare place ≡ Some (Some told))
 unfolding StandsFor
 unused_lies job net place h less unused =
     let count = h.spare.count in

@@ -59,6 +59,7 @@ pub mod GivenBack
 pub mod CountedBack
 pub mod HadBack
 pub mod FrontsBack
+pub mod ClosedBack
 pub mod Becoming
 pub mod SumsFall
 pub mod LeftParts
@@ -66,6 +67,7 @@ pub mod LeftRelax
 pub mod LeftAdvance
 pub mod LeftDeliver
 pub mod Sweeping
+pub mod RestingFinds
 pub mod LeftEngines
 pub mod LeftPerform
 pub mod LeftCommit

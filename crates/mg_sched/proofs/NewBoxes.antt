@@ -3,7 +3,6 @@ use Rattle.std.proofs.Common.{◌≡◌, ℕ, zero, suc, ◌<◌, List, [], ◌�
 use Rattle.std.specs.Option.{option_and_then}
 use Rattle.std.proofs.lemmas.List.{length-map}
 use Rattle.std.proofs.lemmas.Option.{slice_get_within, get_or_from_slice_get}
-use Rattle.mg_calc.specs.declared.call.Call.{Call}
 use Rattle.mg_calc.specs.declared.inputs.Inputs.{Inputs}
 use Rattle.mg_calc.specs.declared.plan.Plan.{Plan}
 use Rattle.mg_calc.specs.declared.plan_node.PlanNode.{PlanNode}
@@ -58,8 +57,11 @@ find_each plan boxes fit = every (λ (n : PlanNode). IfSome n.box_number (λ num
 abbrev held : List CalculatorTold → PlanNode → Option ℕ → HolderView
 held boxes node o = unwrap_or (option_map (holder_view true) (option_and_then (λ number. unwrap_or (slice_get (given_of boxes) number) None) o)) (own_told node)
 
-abbrev logs : List CalculatorTold → List (Option (List Call))
-logs boxes = map (λ b. b.log) boxes
+-- what lies in one place is one calculator
+one_box : (boxes : List CalculatorTold) (number other : ℕ) (box first : CalculatorTold) → Some number ≡ Some other → slice_get boxes number ≡ Some box → slice_get boxes other ≡ Some first → box ≡ first
+one_box boxes number other box first same there found =
+    let place : number ≡ other = cc in
+    some_same (slice_get boxes other) box first (subst (λ (n : ℕ). slice_get boxes n ≡ Some box) place there) found
 
 -- the calculator with which a node begins is the one that the job has for it
 pub handed : (plan : Plan) (inputs : Inputs) (boxes : List CalculatorTold) (place : ℕ) (node : PlanNode) → BoxesFit plan boxes → slice_get plan.nodes place ≡ Some node
@@ -71,7 +73,8 @@ handed plan inputs boxes place node fit there = by_number node.box_number refl
       there = there;
       fits = record { same_law = refl; same_shape = refl; same_handed = ap (λ (o : Option ℕ). is_some o) (sym is) };
       state = inl refl;
-      log = ap (λ (o : Option ℕ). option_and_then (λ number. unwrap_or (slice_get (logs boxes) number) None) o) (sym is);
+      log = ap (λ (o : Option ℕ). option_and_then (λ number. option_and_then (λ b. b.log) (slice_get boxes number)) o) (sym is);
+      kept = λ number first takes found. absurd (let clash : None ≡ Some number = sym is ∙ takes in cc);
     })
     by_number (Some number) is =
         let box = box_of plan boxes place number node fit there is in
@@ -80,7 +83,8 @@ handed plan inputs boxes place node fit there = by_number node.box_number refl
           there = there;
           fits = record { same_law = box.1.1.fits.same_law; same_shape = box.1.1.fits.same_shape; same_handed = ap (λ (o : Option ℕ). is_some o) (sym is) };
           state = inr box.1.1.outer;
-          log = sym (ap (λ (o : Option ℕ). option_and_then (λ n. unwrap_or (slice_get (logs boxes) n) None) o) is ∙ ap (λ (p : Option (Option (List Call))). unwrap_or p None) (get_map (λ b. b.log) boxes number box.0 box.1.0));
+          log = sym (ap (λ (o : Option ℕ). option_and_then (λ n. option_and_then (λ b. b.log) (slice_get boxes n)) o) is ∙ ap (λ (p : Option CalculatorTold). option_and_then (λ b. b.log) p) box.1.0);
+          kept = λ other first takes found. ap (λ (b : CalculatorTold). b.state) (one_box boxes number other box.0 first (sym is ∙ takes) box.1.0 found);
         })
 
 pub placed : (boxes : List CalculatorTold) (place : ℕ) (told : CalculatorTold) → slice_get (given_of boxes) place ≡ Some (Some told) → slice_get boxes place ≡ Some told
@@ -91,12 +95,12 @@ placed (b ∷ boxes) (suc place) told is = placed boxes place told is
 -- what is left of them
 pub spare : (plan : Plan) (inputs : Inputs) (boxes : List CalculatorTold) (now : List (Option CalculatorTold)) → BoxesFit plan boxes → IsLeft plan.nodes (given_of boxes) (length plan.nodes) now → HasSpare (job_of plan inputs boxes) now
 spare plan inputs boxes now fit l = record {
-  count = l.places ∙ length-map boxes (λ b. Some b) ∙ sym (length-map boxes (λ b. b.log));
+  count = l.places ∙ length-map boxes (λ b. Some b);
   numbers = every (λ (n : PlanNode). IfSome n.box_number (λ place. place < length now)) plan.nodes (λ i node there. below node i there node.box_number refl);
   used = λ place gone. used place (l.taken place gone);
   unused = λ place told lies. (
     every (λ (n : PlanNode). ¬ (n.box_number ≡ Some place)) plan.nodes (λ i node there takes. (l.others place told lies).1 (record { place = i; node = node; before = slice_get_within plan.nodes i node there; there = there; takes = takes })),
-    get_map (λ b. b.log) boxes place told (lay place told (l.others place told lies).0),
+    lay place told (l.others place told lies).0,
   );
 }
   where

@@ -80,7 +80,7 @@ performs_less true node number a b there s = s
 performs_less false node number a b there s = absurd (due_works number a node there s.1)
 
 -- and one that is performed is committed
-due_shelf : (node number : ℕ) (engine : EngineView) (net : NetView) (shelf : Option PerformedView) → IsSome shelf → CommittedAt node number shelf Idle engine net net → ⊥
+pub due_shelf : (node number : ℕ) (engine : EngineView) (net : NetView) (shelf : Option PerformedView) → IsSome shelf → CommittedAt node number shelf Idle engine net net → ⊥
 due_shelf node number engine net None some c = false≢true some
 due_shelf node number engine net (Some p) some c = c
 

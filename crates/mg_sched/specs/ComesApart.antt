@@ -65,6 +65,10 @@ pub record PutsBack (count : ℕ) (engines engines_now : List EngineView) (desks
   pub others : (place : ℕ) → count ≤ place → slice_get engines_now place ≡ slice_get engines place
   pub other_desks : (place : ℕ) → count ≤ place → slice_get desks_now place ≡ slice_get desks place
 
+-- no work lies on a desk
+abbrev pub NoneOnDesks : NetView → Type 0
+NoneOnDesks net = (node : ℕ) (desk : DeskView) → slice_get net.desks node ≡ Some desk → desk.works ≡ []
+
 -- a net has come apart: the works on its desks stand in their windows again, and nothing else has changed
 pub record HasComeApart (net : NetView) (parts : PartsView) : Type 0 where
   pub puts_back : PutsBack (length net.plan.nodes) net.engines parts.engines net.desks parts.rest.desks

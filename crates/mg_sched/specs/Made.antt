@@ -17,7 +17,7 @@ use Rattle.mg_sched.specs.Looks.{HasFrom}
 
 -- the job of a plan and its inputs, with these calculators
 abbrev pub job_of : Plan → Inputs → List CalculatorTold → LoggedJob
-job_of plan inputs boxes = record { job = record { plan = plan; inputs = inputs }; logs = map (λ b. b.log) boxes }
+job_of plan inputs boxes = record { job = record { plan = plan; inputs = inputs }; boxes = boxes }
 
 -- the calculators that are handed in fit: where a node has a number, that one is there and has the node's law and shape, and its law is
 -- one that may be handed in. What it keeps from before doesn't matter: its Open doesn't fail, and forgets it

@@ -62,14 +62,14 @@ pub record KnowsLimits (net : NetView) : Type 0 where
 
 -- Calculators.
 
--- the places of the calculators that were handed in: each that a node uses is gone from its place, and each other one, whose log is
--- the job's, lies there
+-- the places of the calculators that were handed in: each that a node uses is gone from its place, and each other one lies there, as it
+-- was at the start
 pub record HasSpare (job : LoggedJob) (spare : List (Option CalculatorTold)) : Type 0 where
-  pub count : length spare ≡ length job.logs
+  pub count : length spare ≡ length job.boxes
   pub numbers : All (λ n. IfSome n.box_number (λ place. place < length spare)) job.job.plan.nodes
   pub used : (place : ℕ) → slice_get spare place ≡ Some None → Any (λ n. n.box_number ≡ Some place) job.job.plan.nodes
   pub unused : (place : ℕ) (told : CalculatorTold) → slice_get spare place ≡ Some (Some told)
-      → All (λ n. ¬ (n.box_number ≡ Some place)) job.job.plan.nodes × (slice_get job.logs place ≡ Some told.log)
+      → All (λ n. ¬ (n.box_number ≡ Some place)) job.job.plan.nodes × (slice_get job.boxes place ≡ Some told)
 
 -- Nets.
 

@@ -20,7 +20,7 @@ ghost use Rattle.mg_node.specs.Outputs.{laid_at};
 ghost use Rattle.mg_node.specs.Intakes.{next_set_of};
 ghost use Rattle.mg_node.specs.Job.{LoggedJob, Solves, ports_of, streams_at};
 ghost use Rattle.mg_node.specs.Resting.{HasCome};
-ghost use Rattle.mg_node.specs.Had.{HadCalls, HadFront};
+ghost use Rattle.mg_node.specs.Had.{HadCalls, HadFront, HadClose};
 ghost use Rattle.mg_node.specs.Batches.{Grows};
 ghost use Rattle.mg_sched.specs.Views.{NetView};
 ghost use Rattle.mg_sched.specs.Places.{place_of};
@@ -35,7 +35,7 @@ ghost use Rattle.mg_sched.specs.Trims.{is_kept, Trims};
 ghost use Rattle.mg_sched.specs.Looks.{IsOutputOf, HasFrom};
 ghost use Rattle.mg_sched.specs.GivesBack.{given_back, StoodFor};
 ghost use Rattle.mg_sched.specs.Reports.{claimed_in, stream_end, report_of};
-ghost use Rattle.mg_sched.specs.ComesApart.{PartsView, ArePartsOf, IsInPlace};
+ghost use Rattle.mg_sched.specs.ComesApart.{PartsView, NoneOnDesks, ArePartsOf, IsInPlace};
 ghost use Rattle.mg_calc.specs.declared.edge.Edge.{Edge};
 
 /// A net that can go no further has the solution, in whatever order its steps were made: what is laid at each output is the solution's
@@ -136,10 +136,10 @@ pub fn what_comes_back_had_its_calls()
         → LeavesNodes rested net → WindsUpNet net wound → wound.wound ≡ length net.plan.nodes
         → slice_get net.plan.nodes number ≡ Some node → node.box_number ≡ Some place → IsOuter node.law
         → (told : CalculatorTold) × (slice_get (given_back wound) place ≡ Some told) × HadCalls job solution node told }
-    ensures count { (job : LoggedJob) (net : NetView) → StoodFor job net → length (given_back net) ≡ length job.logs }
+    ensures count { (job : LoggedJob) (net : NetView) → StoodFor job net → length (given_back net) ≡ length job.boxes }
     ensures unused { (job : LoggedJob) (net : NetView) (place : ℕ) (told : CalculatorTold) → StoodFor job net
         → slice_get net.spare place ≡ Some (Some told) → slice_get (given_back net) place ≡ Some told }
-    ensures unused_there { (job : LoggedJob) (net : NetView) (place : ℕ) → StandsFor job net → place < length job.logs
+    ensures unused_there { (job : LoggedJob) (net : NetView) (place : ℕ) → StandsFor job net → place < length job.boxes
         → All (λ n. ¬ (n.box_number ≡ Some place)) net.plan.nodes → (told : CalculatorTold) × (slice_get net.spare place ≡ Some (Some told)) }
 {}
 
@@ -150,6 +150,15 @@ pub fn what_comes_back_had_a_front()
         → StoodFor job net → (later ≡ job) ⊎ Grows job later → Solves later solution
         → slice_get net.plan.nodes number ≡ Some node → node.box_number ≡ Some place → IsOuter node.law
         → (told : CalculatorTold) × (slice_get (given_back net) place ≡ Some told) × HadFront later solution node told }
+{}
+
+/// Wherever a run ends, once no work lies on a desk and all nodes are wound up, no calculator is left open: that of a node comes back with
+/// Close behind Open and some of its sets, or its Open failed.
+pub fn what_comes_back_had_close()
+    ensures { (job : LoggedJob) (net wound : NetView) (solution : List (StreamPrefix Plain)) (number place : ℕ) (node : PlanNode)
+        → StandsFor job net → IsRunning net → NoneOnDesks net → WindsUpNet net wound → wound.wound ≡ length net.plan.nodes → Solves job solution
+        → slice_get net.plan.nodes number ≡ Some node → node.box_number ≡ Some place → IsOuter node.law
+        → (told : CalculatorTold) × (slice_get (given_back wound) place ≡ Some told) × HadClose job solution node told }
 {}
 
 /// What is laid of each stream of a net that stands for a job, with the packets that were given up, is a prefix that the solution's stream

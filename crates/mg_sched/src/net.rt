@@ -11,6 +11,7 @@ mod looking_over;
 mod making;
 mod parting;
 mod reporting;
+mod resting;
 mod sweeping;
 mod taking;
 mod trimming;

@@ -8,6 +8,7 @@ use Rattle.mg_calc.specs.declared.call.Call.{Call}
 use Rattle.mg_calc.specs.declared.plan.Plan.{Plan}
 use Rattle.mg_calc.specs.declared.plan_node.PlanNode.{PlanNode}
 use Rattle.mg_calc.specs.declared.inputs.Inputs.{Inputs}
+use Rattle.mg_calc.specs.Told.{CalculatorTold}
 use Rattle.mg_calc.specs.Plan.{IsValid, side_packet}
 use Rattle.mg_calc.specs.Equations.{IsJob, Job, sides_of}
 use Rattle.mg_route.specs.HolderView.{HolderView}
@@ -29,7 +30,7 @@ solved plan inputs is =
     let found = a_solution any_state job (job_known job is) is.plan is.inputs.streams in
     (found.0, record { is_job = is; solution = found.1 })
 
-no_log : (o : Option ℕ) → (let r : Option (List Call) = None in r) ≡ option_and_then (λ number. unwrap_or (slice_get (let logs : List (Option (List Call)) = [] in logs) number) None) o
+no_log : (o : Option ℕ) → (let r : Option (List Call) = None in r) ≡ option_and_then (λ number. option_and_then (λ box. box.log) (slice_get (let boxes : List CalculatorTold = [] in boxes) number)) o
 no_log None = refl
 no_log (Some n) = refl
 
@@ -40,6 +41,7 @@ handed plan inputs node told there is = subst (IsHanded (job_of plan inputs) 0 n
   fits = record { same_law = refl; same_shape = refl; same_handed = refl };
   state = inl refl;
   log = no_log node.box_number;
+  kept = λ number box takes there. absurd (let clash : None ≡ Some box = there in cc);
 })
 
 pub is_new : (node : PlanNode) (told : HolderView) → told ≡ held_of node → IsNew node told

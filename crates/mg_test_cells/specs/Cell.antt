@@ -13,7 +13,7 @@ use Rattle.mg_node.specs.Fresh.{own_told}
 
 -- the job of a plan and its inputs; no calculator keeps a log
 abbrev pub job_of : Plan → Inputs → LoggedJob
-job_of plan inputs = record { job = record { plan = plan; inputs = inputs }; logs = [] }
+job_of plan inputs = record { job = record { plan = plan; inputs = inputs }; boxes = [] }
 
 -- the calculator of a node, which is handed in where the node is given one
 abbrev pub held_of : PlanNode → HolderView

@@ -3,22 +3,22 @@ ghost use Rattle.std.specs.Prelude.{◌≡◌, length, IfOk};
 ghost use Rattle.mg_calc.specs.Shape.{BoundsAreTimes};
 ghost use Rattle.mg_check.specs.Check.{IsOuterShape};
 
-use mg_calc::{Emission, Laid, Law, OuterShape, one_output};
+use mg_calc::{Emission, Laid, LaidPackets, Law, OuterShape, one_output};
 use mg_plans::{port, shape_of};
 use mg_tables::packet_at;
-use mg_value::{BlockList, Kind, PacketList};
+use mg_value::{BlockList, Kind};
 use std::alloc::Global;
 use std::test::Fail;
 
 // Packets as numbers, `@` and timestamps, with blanks between them, or `-`.
-fn packets_of(alloc: Global, text: &str) -> Result<PacketList, Fail> {
+fn packets_of(alloc: Global, text: &str) -> Result<LaidPackets, Fail> {
     let mut packets = Vec::new(alloc);
     if text != "-" {
         for packet in text.split(' ') {
             packets.push(packet_at(alloc, packet)?)?;
         }
     }
-    Ok(BlockList::from_vec(packets)?)
+    Ok(LaidPackets::from_vec(packets)?)
 }
 
 // An emission at one output.
@@ -27,13 +27,10 @@ fn emission_of(alloc: Global, text: &str) -> Result<Emission, Fail>
     ensures times { IfOk result (λ e. BoundsAreTimes e) }
 {
     let packets = packets_of(alloc, text)?;
-    Ok(one_output(
-        alloc,
-        Laid {
-            packets,
-            bound: None,
-        },
-    )?)
+    Ok(one_output(Laid {
+        packets,
+        bound: None,
+    }))
 }
 
 /// One that emits at its one output what is written down: in Open, at its first set, and in Close.

@@ -50,21 +50,21 @@ joined_at before piece now h input less =
 
 -- the same job over the longer inputs
 abbrev later_job : Plan → Inputs → LoggedJob → LoggedJob
-later_job plan now first = record { job = record { plan = plan; inputs = now }; logs = first.logs }
+later_job plan now first = record { job = record { plan = plan; inputs = now }; boxes = first.boxes }
 
 goes_on : (plan : Plan) (before piece now : Inputs) (first : LoggedJob) → first.job ≡ record { plan = plan; inputs = before } → IsJob first.job → HasBehind before piece now
     → GoesOnWith piece first (later_job plan now first)
 goes_on plan before piece now first of is h = subst P (sym of) base is
   where
     P : Job → Type 0
-    P = λ (j : Job). IsJob j → GoesOnWith piece (record { job = j; logs = first.logs }) (later_job plan now first)
+    P = λ (j : Job). IsJob j → GoesOnWith piece (record { job = j; boxes = first.boxes }) (later_job plan now first)
 
     base : P (record { plan = plan; inputs = before })
     base = λ job. record {
       grows = record {
         plan = refl;
         sides = sym h.sides;
-        logs = refl;
+        boxes = refl;
         is_job = record { plan = job.plan; inputs = record { streams = h.count ∙ job.inputs.streams; prefixes = h.prefixes; sides = ap length h.sides ∙ job.inputs.sides } };
         extended = all_extended before piece now h;
       };

@@ -4,8 +4,8 @@ use crate::graphs::{counting, two_packets};
 use crate::outside::{Outside, assert_text, outside_of, show_came};
 use crate::shown::{show_first, show_logs};
 use mg_calc::Calculator;
-use mg_edge::StillGate;
-use mg_run::{Status, run_words, tally_box};
+use mg_edge::{MemorySink, MemorySource, MemoryStore, StillGate};
+use mg_run::{Status, tally_box};
 use std::alloc::Global;
 use std::sync::Wait;
 use std::test::Fail;
@@ -19,7 +19,7 @@ fn tell<C: Calculator>(
     alloc: Global,
     told: &mut String,
     status: Status,
-    outside: &Outside,
+    outside: &Outside<MemoryStore, MemorySource, MemorySink, MemorySink>,
     calculators: &mut Vec<C>,
 ) -> Result<(), Fail> {
     let came = show_came(alloc, status, &outside.output, &outside.notes)?;
@@ -44,17 +44,7 @@ fn told_of<R: Threads + Wait + Sync>(
     let mut told = String::new(alloc);
     for _ in 0..calls {
         let mut outside = outside_of(alloc, command, counting(), two_packets())?;
-        let status = run_words(
-            rt,
-            alloc,
-            &outside.words,
-            &mut outside.store,
-            &mut outside.input,
-            &mut outside.output,
-            &mut outside.notes,
-            &mut boxes,
-            &StillGate,
-        );
+        let status = outside.run(rt, alloc, &mut boxes, &StillGate);
         tell(alloc, &mut told, status, &outside, &mut boxes)?;
     }
     Ok(told)

@@ -1,7 +1,7 @@
 //! What a call is made with: its words and its devices.
 
 use mg_calc::Calculator;
-use mg_edge::{Gate, MemorySink, MemorySource, MemoryStore, Sink, Source};
+use mg_edge::{Gate, MemorySink, MemorySource, MemoryStore, Sink, Source, Store};
 use mg_run::{Status, run_words};
 use mg_value::MgText;
 use std::alloc::Global;
@@ -12,28 +12,64 @@ use std::thread::Threads;
 /// How many bytes each sink in memory takes.
 const ROOM: usize = 4096;
 
-/// The words of a call, and its devices in memory.
+/// The words of a call, and its devices. Their types are parameters for the time of the proof too: where a function knows
+/// them, each clause of the top call is written out over the objects in memory.
 #[derive(Drop)]
-pub(crate) struct Outside {
+pub(crate) struct Outside<T, S, K, E> {
     pub words: Vec<MgText>,
-    pub store: MemoryStore,
-    pub input: MemorySource,
-    pub output: MemorySink,
-    pub notes: MemorySink,
+    pub store: T,
+    pub input: S,
+    pub output: K,
+    pub notes: E,
 }
 
-/// What a call is made with that does this with a graph, over these packet lines.
+impl<T: Store, S: Source, K: Sink, E: Sink> Outside<T, S, K, E> {
+    /// The top call.
+    pub fn run<R: Threads + Wait + Sync, G: Gate + Sync>(
+        &mut self,
+        rt: &R,
+        alloc: Global,
+        boxes: &mut Vec<Box<dyn Calculator + Send>>,
+        gate: &G,
+    ) -> Status {
+        run_words(
+            rt,
+            alloc,
+            &self.words,
+            &mut self.store,
+            &mut self.input,
+            &mut self.output,
+            &mut self.notes,
+            boxes,
+            gate,
+        )
+    }
+}
+
+/// What a call is made with that does this with a graph, over these packet lines, all in memory.
 pub(crate) fn outside_of(
     alloc: Global,
     command: &str,
     graph: &str,
     lines: &str,
-) -> Result<Outside, Fail> {
+) -> Result<Outside<MemoryStore, MemorySource, MemorySink, MemorySink>, Fail> {
+    let input = MemorySource::new(alloc, lines.as_bytes(), 16, &[])?;
+    outside_over(alloc, command, graph, input, sink(alloc)?)
+}
+
+/// The same over any input and output.
+pub(crate) fn outside_over<S: Source + Drop, K: Sink + Drop>(
+    alloc: Global,
+    command: &str,
+    graph: &str,
+    input: S,
+    output: K,
+) -> Result<Outside<MemoryStore, S, K, MemorySink>, Fail> {
     Ok(Outside {
         words: words_of(alloc, command)?,
         store: store_of(alloc, graph)?,
-        input: MemorySource::new(alloc, lines.as_bytes(), 16, &[])?,
-        output: sink(alloc)?,
+        input,
+        output,
         notes: sink(alloc)?,
     })
 }
@@ -54,8 +90,8 @@ fn store_of(alloc: Global, graph: &str) -> Result<MemoryStore, Fail> {
     Ok(store)
 }
 
-/// An empty sink.
-pub(crate) fn sink(alloc: Global) -> Result<MemorySink, Fail> {
+// An empty sink.
+fn sink(alloc: Global) -> Result<MemorySink, Fail> {
     Ok(MemorySink::new(alloc, ROOM, &[])?)
 }
 
@@ -74,25 +110,6 @@ pub(crate) fn show_came(
         output.as_str(),
         notes.as_str()
     )?)
-}
-
-/// Does this with a graph, for which no calculators are handed in.
-pub(crate) fn status_of<R: Threads + Wait + Sync, S: Source, K: Sink, E: Sink, G: Gate + Sync>(
-    rt: &R,
-    alloc: Global,
-    command: &str,
-    graph: &str,
-    input: &mut S,
-    output: &mut K,
-    notes: &mut E,
-    gate: &G,
-) -> Result<Status, Fail> {
-    let words = words_of(alloc, command)?;
-    let mut store = store_of(alloc, graph)?;
-    let mut boxes: Vec<Box<dyn Calculator + Send>> = Vec::new(alloc);
-    Ok(run_words(
-        rt, alloc, &words, &mut store, input, output, notes, &mut boxes, gate,
-    ))
 }
 
 /// Compares a text with what it has to be.

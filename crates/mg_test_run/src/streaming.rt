@@ -2,7 +2,7 @@
 ghost use Rattle.std.specs.Prelude.{None};
 
 use crate::graphs::passing;
-use crate::outside::{assert_text, sink, status_of};
+use crate::outside::{assert_text, outside_over};
 use mg_edge::{Got, MemorySource, Put, Sink, Source, StillGate};
 use std::alloc::Global;
 use std::sync::Wait;
@@ -83,24 +83,20 @@ fn source<'a>(alloc: Global, has_taken: &'a AtomicBool) -> Result<Impatient<'a>,
 // The status and the notes of a call over many packets, and how many bytes it wrote.
 fn came_by<R: Threads + Wait + Sync>(rt: &R, alloc: Global, command: &str) -> Result<String, Fail> {
     let has_taken = AtomicBool::new(false);
-    let mut input = source(alloc, &has_taken)?;
-    let mut output = Noting {
+    let output = Noting {
         has_taken: &has_taken,
         bytes: 0,
     };
-    let mut notes = sink(alloc)?;
-    let status = status_of(
-        rt,
-        alloc,
-        command,
-        passing(),
-        &mut input,
-        &mut output,
-        &mut notes,
-        &StillGate,
-    )?;
-    let notes = String::from_utf8(notes.taken().to_vec(alloc)?)?;
-    Ok(format!(in alloc; "{} {} {}", status.number(), output.bytes, notes.as_str())?)
+    let input = source(alloc, &has_taken)?;
+    let mut outside = outside_over(alloc, command, passing(), input, output)?;
+    let status = outside.run(rt, alloc, &mut Vec::new(alloc), &StillGate);
+    let notes = String::from_utf8(outside.notes.taken().to_vec(alloc)?)?;
+    Ok(format!(in alloc;
+        "{} {} {}",
+        status.number(),
+        outside.output.bytes,
+        notes.as_str()
+    )?)
 }
 
 #[test]

@@ -1,7 +1,7 @@
 //! A gate is called round each Process call.
 
 use crate::graphs::{five_packets, thinned, thinning};
-use crate::outside::{assert_text, outside_of, show_came, status_of};
+use crate::outside::{assert_text, outside_of, show_came};
 use mg_edge::Gate;
 use std::alloc::Global;
 use std::sync::Wait;
@@ -60,16 +60,7 @@ fn came_through<R: Threads + Wait + Sync>(
     gate: &Counts,
 ) -> Result<String, Fail> {
     let mut outside = outside_of(alloc, command, thinning(), five_packets())?;
-    let status = status_of(
-        rt,
-        alloc,
-        command,
-        thinning(),
-        &mut outside.input,
-        &mut outside.output,
-        &mut outside.notes,
-        gate,
-    )?;
+    let status = outside.run(rt, alloc, &mut Vec::new(alloc), gate);
     show_came(alloc, status, &outside.output, &outside.notes)
 }
 

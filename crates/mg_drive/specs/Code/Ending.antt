@@ -3,7 +3,6 @@ use Rattle.std.specs.Prelude.{◌≡◌, ◌⊎◌, ℕ, Bool, List, map, Option
 use Rattle.mg_edge.specs.Edge.{SourceTold, SinkTold}
 use Rattle.mg_value.specs.Payload.{Plain}
 use Rattle.mg_value.specs.Prefix.{StreamPrefix}
-use Rattle.mg_calc.specs.declared.call.Call.{Call}
 use Rattle.mg_calc.specs.declared.inputs.Inputs.{Inputs}
 use Rattle.mg_calc.specs.declared.plan.Plan.{Plan}
 use Rattle.mg_calc.specs.declared.plan_node.PlanNode.{PlanNode}
@@ -29,7 +28,7 @@ use Rattle.mg_sched.specs.declared.report.StreamEnd as nets
 use Rattle.mg_drive.specs.Batches.{IsMore, logged}
 use Rattle.mg_drive.specs.Leaves.{HadCallsOf}
 pub use Rattle.mg_drive.specs.OneRun.{CameBack, WasNothing}
-use Rattle.mg_drive.specs.Code.Running.{Giving, Telling, Start, job_with, IsToldSome, FrontIn}
+use Rattle.mg_drive.specs.Code.Running.{Giving, Reading, Telling, Start, job_with, IsToldSome, FrontIn}
 
 -- all of what a job's solution is told by was put, in a form
 abbrev pub IsWhole : Form → SinkTold → SinkTold → Job → TextView → Type 0
@@ -60,11 +59,11 @@ pub record HadAllOf (job : LoggedJob) (net : NetView) : Type 0 where
   pub each : (number place : ℕ) (node : PlanNode) → slice_get job.job.plan.nodes number ≡ Some node → node.box_number ≡ Some place → IsOuter node.law
       → ComesBack job streams node place net
 
--- a net stood for some job with these logs, or for one that it was wound up for since
-pub record StoodWith (logs : List (Option (List Call))) (net : NetView) : Type 0 where
+-- a net stood for some job with these calculators, or for one that it was wound up for since
+pub record StoodWith (boxes : List CalculatorTold) (net : NetView) : Type 0 where
   pub job : LoggedJob
   pub stood : StoodFor job net
-  pub logs_are : job.logs ≡ logs
+  pub boxes_are : job.boxes ≡ boxes
 
 -- Runs.
 
@@ -92,18 +91,30 @@ pub record HasRun {B : Type 0} (gives : Giving B) (form : Form) (report : Bool) 
   pub had : HadCallsOf (record { plan = plan; inputs = inputs }) boxes
 
 -- Memory ran out once there was a net.
-pub record WasShort {B T : Type 0} (gives : Giving B) (has_told : Telling T) (form : Form) (began : B) (plan : Plan) (devices : RunDevices) (boxes : Device (List CalculatorTold)) : Type 0 where
+pub record WasShort {B T : Type 0} (gives : Giving B) (reads_on : Reading B) (has_told : Telling T) (form : Form) (began : B) (plan : Plan) (devices : RunDevices) (boxes : Device (List CalculatorTold)) : Type 0 where
   pub batches : B
   pub end : BatchEnd
   pub at : SourceTold
   pub inputs : Inputs
   pub given : gives began batches plan devices.input.before at end inputs
-  pub last : IsMore end ⊎ (at ≡ devices.input.now)
+  pub last : (at ≡ devices.input.now) ⊎ (IsMore end × reads_on batches plan devices.input.before at devices.input.now)
   pub net : NetView
-  pub stood : StoodFor (logged plan inputs (map (λ b. b.log) boxes.before)) net
+  pub stood : StoodFor (logged plan inputs boxes.before) net
   pub back : boxes.now ≡ given_back net
   pub front : IsToldSome has_told (record { plan = plan; inputs = inputs }) devices.output.before devices.output.now
       ⊎ FrontIn form devices.output.before devices.output.now (record { plan = plan; inputs = inputs })
 
-abbrev pub RanShort : {B T : Type 0} → Giving B → Telling T → Form → B → Plan → RunDevices → Device (List CalculatorTold) → Type 0
-RanShort gives has_told form began plan devices boxes = WasNothing devices.output boxes ⊎ WasShort gives has_told form began plan devices boxes
+-- A first batch was given.
+pub record HasGiven {B : Type 0} (gives : Giving B) (began : B) (plan : Plan) (input : Device SourceTold) : Type 0 where
+  pub batches : B
+  pub end : BatchEnd
+  pub inputs : Inputs
+  pub given : gives began batches plan input.before input.now end inputs
+
+-- Memory ran out before there was a net: nothing was read, or what the first call of batches reads.
+abbrev pub ReadFirst : {B : Type 0} → Giving B → Reading B → B → Plan → Device SourceTold → Type 0
+ReadFirst gives reads_on began plan input = (input.now ≡ input.before) ⊎ (reads_on began plan input.before input.before input.now ⊎ HasGiven gives began plan input)
+
+abbrev pub RanShort : {B T : Type 0} → Giving B → Reading B → Telling T → Form → B → Plan → RunDevices → Device (List CalculatorTold) → Type 0
+RanShort gives reads_on has_told form began plan devices boxes =
+    (ReadFirst gives reads_on began plan devices.input × WasNothing devices.output boxes) ⊎ WasShort gives reads_on has_told form began plan devices boxes

@@ -17,6 +17,8 @@ use Rattle.mg_feed.specs.declared.feed_end.FeedEnd.TheVariants.{OutOfMemory}
 use Rattle.mg_feed.specs.declared.feed_end.BatchEnd.{BatchEnd}
 use Rattle.mg_feed.specs.declared.feed_end.BatchEnd.TheVariants.{More, End}
 use Rattle.mg_answer.specs.Answer.{is_ended}
+use Rattle.mg_answer.specs.Devices.{device}
+use Rattle.mg_answer.specs.Ran.{ReadSome}
 use Rattle.mg_drive.specs.Batches.{IsMore}
 
 -- whether the input has ended well with a batch, and whether there is more behind it
@@ -64,6 +66,18 @@ pub record HasBatch (plan : Plan) (first : SourceTold) (end : BatchEnd) (inputs 
   pub longer : IsMore end → length lines < length (lines ++ more)
   pub named : IsMore end → (given_by (inputs_of plan) (lines ++ more)).named ≡ true
   pub few : length (lines ++ more) ≤ most_lines
+
+-- A call behind these bytes read some more, if any, and all that was read was read once: the source had told `at` before. Where it had
+-- ended, nothing more was read.
+pub record HasReadOn (plan : Plan) (first at now : SourceTold) (ended : Bool) (past : List ℕ) : Type 0 where
+  pub read : ReadSome (inputs_of plan) (device first now)
+  pub later : List ℕ
+  pub split : read.came ≡ past ++ later
+  pub none : ended ≡ true → (now ≡ at) × (later ≡ [])
+
+-- and so it is whatever a feed had read before
+abbrev pub ReadsOn : Fed → Plan → SourceTold → SourceTold → SourceTold → Type 0
+ReadsOn fed plan first at now = (past : List ℕ) (lines : List (List ℕ)) → IsRead plan first More at fed past lines → HasReadOn plan first at now fed.read.ended past
 
 -- A feed that is new for a plan.
 pub record IsNew (fed : Fed) (plan : Plan) : Type 0 where

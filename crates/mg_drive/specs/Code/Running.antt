@@ -4,10 +4,10 @@ use Rattle.mg_edge.specs.Edge.{SourceTold, SinkTold}
 use Rattle.mg_value.specs.Payload.{Plain}
 use Rattle.mg_value.specs.Prefix.{StreamPrefix}
 use Rattle.mg_value.specs.Settled.{TimedSet}
-use Rattle.mg_calc.specs.declared.call.Call.{Call}
 use Rattle.mg_calc.specs.declared.inputs.Inputs.{Inputs}
 use Rattle.mg_calc.specs.declared.plan.Plan.{Plan}
 use Rattle.mg_calc.specs.Equations.{Job, IsSolution}
+use Rattle.mg_calc.specs.Told.{CalculatorTold}
 use Rattle.mg_feed.specs.declared.feed_end.FeedEnd.{FeedEnd}
 use Rattle.mg_feed.specs.declared.feed_end.BatchEnd.{BatchEnd}
 use Rattle.mg_feed.specs.declared.feed_end.BatchEnd.TheVariants.{More, End}
@@ -22,25 +22,28 @@ use Rattle.mg_sched.specs.Taking.{taken_out, settled_outputs, LeavesNodes}
 use Rattle.mg_sched.specs.GivesBack.{StoodFor}
 use Rattle.mg_drive.specs.Batches.{IsMore, logged}
 
--- what batches of a kind give, and what something of a kind was told
+-- what batches of a kind give, what a further call of one reads, and what something of a kind was told
 abbrev pub Giving : Type 0 → Type 1
 Giving B = B → B → Plan → SourceTold → SourceTold → BatchEnd → Inputs → Type 0
+
+abbrev pub Reading : Type 0 → Type 1
+Reading B = B → Plan → SourceTold → SourceTold → SourceTold → Type 0
 
 abbrev pub Telling : Type 0 → Type 1
 Telling T = T → Plan → SinkTold → SinkTold → List (TimedSet Plain) → Type 0
 
--- how a run began: its plan, the logs of the calculators that were handed in, what the input and the output told, and where its batches
+-- how a run began: its plan, the calculators that were handed in, what the input and the output told, and where its batches
 -- come from
 pub record Start (B : Type 0) : Type 0 where
   pub plan : Plan
-  pub logs : List (Option (List Call))
+  pub boxes : List CalculatorTold
   pub source : SourceTold
   pub sink : SinkTold
   pub batches : B
 
 -- the job of what was given so far
 abbrev pub job_with : {B : Type 0} → Start B → Inputs → LoggedJob
-job_with start inputs = logged start.plan inputs start.logs
+job_with start inputs = logged start.plan inputs start.boxes
 
 -- of the sets of a job's solution the first ones were told, a number of them
 pub record IsTold {T : Type 0} (has_told : Telling T) (job : Job) (first sink : SinkTold) (taken : ℕ) (telling : T) : Type 0 where
@@ -116,12 +119,12 @@ abbrev pub FrontIn : Form → SinkTold → SinkTold → Job → Type 0
 FrontIn form first sink job = (streams : List (StreamPrefix Plain)) → IsSolution job streams → TookFront (device first sink) (output_in form job.plan streams)
 
 -- Memory ran out in a run: after the batch that ended so, or while more was read behind it.
-pub record IsShort {B T : Type 0} (gives : Giving B) (has_told : Telling T) (form : Form) (start : Start B) (source : SourceTold) (sink : SinkTold) (net : NetView) : Type 0 where
+pub record IsShort {B T : Type 0} (gives : Giving B) (reads_on : Reading B) (has_told : Telling T) (form : Form) (start : Start B) (source : SourceTold) (sink : SinkTold) (net : NetView) : Type 0 where
   pub batches : B
   pub end : BatchEnd
   pub at : SourceTold
   pub inputs : Inputs
   pub given : gives start.batches batches start.plan start.source at end inputs
-  pub last : IsMore end ⊎ (at ≡ source)
+  pub last : (at ≡ source) ⊎ (IsMore end × reads_on batches start.plan start.source at source)
   pub stood : StoodFor (job_with start inputs) net
   pub front : IsToldSome has_told (job_with start inputs).job start.sink sink ⊎ FrontIn form start.sink sink (job_with start inputs).job

@@ -1,9 +1,10 @@
-//! The last Close of a run that has come to rest.
+//! The last Close of a run that has ended.
 ghost use Rattle.std.specs.Prelude.{◌≡◌, ◌<◌, length, OnOk, OnErr};
 ghost use Rattle.mg_node.specs.Standing.{EngineGrows};
-ghost use Rattle.mg_node.specs.WindingUp.{closes_after, closes_despite, lacks_close, FinishesLast, WindsUp};
+ghost use Rattle.mg_node.specs.WindingUp.{closes_after, closes_despite, lacks_close, FinishesLast, FinishesFront, WindsUp};
 
 use super::Engine;
+use crate::window::finish_first;
 use mg_calc::{Calculator, NodeFault, Phase};
 use std::alloc::AllocError;
 
@@ -28,10 +29,10 @@ fn closes_despite(fault: Option<NodeFault>) -> bool
 }
 
 impl<C: Calculator> Engine<C> {
-    /// Closes the calculator of a node that was opened and had no Close, once a run has come to rest, also where the node has failed
-    /// at a set or in a call. What it emits or answers is dropped, and nothing else changes; the engine isn't used any more. A node that
-    /// isn't begun, was closed, or failed in Open or in Close stays as it is, and so does one without an idle bench. Want of memory
-    /// changes nothing, and this may be called again.
+    /// Closes the calculator of a node that was opened and had no Close, once a run has ended, also where the node has failed at a set
+    /// or in a call, or a work of it came back and stands in its window. What it emits or answers is dropped, and nothing else changes;
+    /// the engine isn't used any more. A node that isn't begun, was closed, or failed in Open or in Close stays as it is, and so does one
+    /// whose work is out. Want of memory changes nothing, and this may be called again.
     pub fn wind_up(&mut self) -> Result<(), AllocError>
         ensures wound_up { OnOk result (WindsUp self.old self.new) }
         ensures unchanged { OnErr result (self.new ≡ self.old) }
@@ -43,7 +44,7 @@ impl<C: Calculator> Engine<C> {
             return Ok(());
         }
         if self.idle.is_empty() {
-            return Ok(());
+            return self.finish_front();
         }
         self.finish_last()
     }
@@ -53,6 +54,14 @@ impl<C: Calculator> Engine<C> {
         ensures { result ≡ lacks_close self.now }
     {
         self.begun && !self.closed && closes_despite(self.fault)
+    }
+
+    // Closes the calculator of the first work in the window, where it came back and had no Close.
+    fn finish_front(&mut self) -> Result<(), AllocError>
+        ensures finished { OnOk result (FinishesFront self.old self.new) }
+        ensures unchanged { OnErr result (self.new ≡ self.old) }
+    {
+        finish_first(&mut self.window, self.alloc)
     }
 
     // Closes the calculator of the last idle bench.

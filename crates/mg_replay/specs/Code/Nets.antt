@@ -1,25 +1,26 @@
 -- A net on which a recorded run is made again.
-use Rattle.std.specs.Prelude.{◌≡◌, ◌⊎◌, Bool, true, false, List, [], ◌∷◌, Some}
+use Rattle.std.specs.Prelude.{◌≡◌, ◌⊎◌, ℕ, Bool, true, false, List, Some, slice_get}
 use Rattle.mg_edge.specs.Edge.{SourceTold}
 use Rattle.mg_value.specs.Payload.{Plain}
 use Rattle.mg_value.specs.Prefix.{StreamPrefix}
-use Rattle.mg_calc.specs.declared.event.Event.{Event}
 use Rattle.mg_calc.specs.declared.inputs.Inputs.{Inputs}
 use Rattle.mg_calc.specs.declared.plan.Plan.{Plan}
+use Rattle.mg_calc.specs.declared.plan_node.PlanNode.{PlanNode}
+use Rattle.mg_calc.specs.Shape.{IsOuter}
 use Rattle.mg_calc.specs.Equations.{IsSolution}
 use Rattle.mg_calc.specs.Told.{CalculatorTold}
 use Rattle.mg_sched.specs.Views.{NetView}
 use Rattle.mg_node.specs.Job.{LoggedJob}
+use Rattle.mg_node.specs.Had.{HadClose}
 use Rattle.mg_sched.specs.Made.{job_of, IsMade}
-use Rattle.mg_sched.specs.GivesBack.{StoodFor}
+use Rattle.mg_sched.specs.GivesBack.{given_back, StoodFor}
 use Rattle.mg_sched.specs.StandsFor.{StandsFor}
-use Rattle.mg_sched.specs.AtRest.{IsAtRest}
 use Rattle.mg_answer.specs.Text.{output_of}
 use Rattle.mg_answer.specs.Devices.{Device, device, RunDevices, Untouched, TookFront}
 use Rattle.mg_answer.specs.declared.status.Status.{Status}
 use Rattle.mg_drive.specs.Leaves.{HadFronts}
 use Rattle.mg_drive.specs.Code.Ending.{HadAllOf}
-use Rattle.mg_replay.specs.Replay.{MayGoOn, WasRead}
+use Rattle.mg_replay.specs.Replay.{WasRead}
 use Rattle.mg_replay.specs.Replayed.{job_over, WroteEnd, HadEnd}
 use Rattle.mg_replay.specs.Reading.{HasOpened}
 use Rattle.mg_replay.specs.declared.trace_end.TraceEnd.{TraceEnd}
@@ -47,22 +48,25 @@ pub record StandsForPlan (plan : Plan) (net : NetView) : Type 0 where
   pub plan_is : job.job.plan ≡ plan
   pub stands : StandsFor job net
 
--- a net was looked over: it is at rest, and was left as it is; or it could go on
-abbrev pub LooksOver : Bool → NetView → NetView → Type 0
-LooksOver true before now = (now ≡ before) × IsAtRest before
-LooksOver false before now = MayGoOn before
+-- each calculator that a node uses comes back closed, in a solution of a job
+pub record ClosedAllOf (job : LoggedJob) (net : NetView) : Type 0 where
+  pub streams : List (StreamPrefix Plain)
+  pub solution : IsSolution job.job streams
+  pub each : (number place : ℕ) (node : PlanNode) → slice_get job.job.plan.nodes number ≡ Some node → node.box_number ≡ Some place → IsOuter node.law
+      → (told : CalculatorTold) × (slice_get (given_back net) place ≡ Some told) × HadClose job streams node told
 
--- whether there are events
-abbrev pub are_some : List Event → Bool
-are_some [] = false
-are_some (event ∷ events) = true
+-- what the calculators of a net had, by how the reading of a run ended
+abbrev pub HadBy : TraceEnd → LoggedJob → NetView → Type 0
+HadBy Accepted job net = HadAllOf job net
+HadBy (Refused line cause) job net = ClosedAllOf job net
+HadBy (Failed lines) job net = ClosedAllOf job net
 
 -- A recorded run was made again on a net that was made, and what is due then was written.
 pub record NetReplayed (report : Bool) (plan : Plan) (inputs : Inputs) (boxes : List CalculatorTold) (status : Status) (devices : RunDevices) (net : NetView) : Type 0 where
   pub end : TraceEnd
   pub read : WasRead plan boxes devices.input (Some inputs) end
   pub wrote : WroteEnd end report plan (Some inputs) status devices.output devices.notes
-  pub had : HadAllOf (job_of plan inputs boxes) net
+  pub had : HadBy end (job_of plan inputs boxes) net
   pub stood : StoodFor (job_of plan inputs boxes) net
 
 -- What the output took where memory ran out: nothing, or a front of the text of a run that is accepted.

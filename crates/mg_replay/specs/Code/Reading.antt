@@ -21,13 +21,13 @@ use Rattle.mg_trace.specs.Event.{IsEventOf, event_line}
 use Rattle.mg_trace.specs.Job.{end_word}
 use Rattle.mg_sched.specs.Views.{NetView}
 use Rattle.mg_sched.specs.Acts.{Acts}
-use Rattle.mg_sched.specs.AtRest.{IsAtRest}
+use Rattle.mg_sched.specs.AtRest.{IsAtRest, MayGoOn}
 use Rattle.mg_answer.specs.Devices.{device}
 use Rattle.mg_replay.specs.Opening.{is_end_word, ArePackets, inputs_with}
 use Rattle.mg_replay.specs.Code.Packets.{Takes}
 use Rattle.mg_replay.specs.declared.trace_end.TraceFault.{TraceFault}
 use Rattle.mg_replay.specs.declared.trace_end.TraceFault.TheVariants.{BadEvent, IdleEvent, NotAtRest, NoEnd, AfterEnd}
-use Rattle.mg_replay.specs.Replay.{IsIdleEvent, MayGoOn, WasRead}
+use Rattle.mg_replay.specs.Replay.{IsIdleEvent, WasRead}
 use Rattle.mg_replay.specs.declared.trace_end.TraceEnd.{TraceEnd}
 use Rattle.mg_replay.specs.declared.trace_end.TraceEnd.TheVariants.{Accepted, Refused, Failed as Failed_at}
 use Rattle.mg_replay.specs.declared.opening.Opened.{Opened}

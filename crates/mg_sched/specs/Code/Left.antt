@@ -5,7 +5,8 @@ use Rattle.mg_time.specs.Time.{done}
 use Rattle.mg_calc.specs.Plan.{numbers}
 use Rattle.mg_calc.specs.declared.event.Event.{Event}
 use Rattle.mg_calc.specs.declared.event.Event.TheVariants.{Deliver, Advance, Claim}
-use Rattle.mg_calc.specs.declared.event.Effect.TheVariants.{Idle}
+use Rattle.mg_calc.specs.declared.event.Effect.{Effect}
+use Rattle.mg_calc.specs.declared.event.Effect.TheVariants.{Did, Idle}
 use Rattle.mg_stream.specs.Queue.{count_of}
 use Rattle.mg_node.specs.Views.{IntakeView, OutcomeView, EntryView, EngineView}
 use Rattle.mg_node.specs.Ports.{ports_in, port_queue}
@@ -14,6 +15,7 @@ use Rattle.mg_node.specs.Shelves.{shelf_at}
 use Rattle.mg_node.specs.Windows.{has_ended}
 use Rattle.mg_sched.specs.Views.{DeskView, NetView}
 use Rattle.mg_sched.specs.Acts.{Acts}
+use Rattle.mg_sched.specs.AtRest.{MayGoOn}
 
 -- of a work that came back: it has to be claimed again, performed and committed, or only to be committed
 abbrev pub outcome_left : OutcomeView → ℕ
@@ -95,3 +97,15 @@ NodesRest net count = (node : ℕ) → node < count → RestsAt net node
 
 abbrev pub EdgesRest : NetView → ℕ → Type 0
 EdgesRest net count = (edge : ℕ) → edge < count → Acts (Deliver edge) Idle net net
+
+-- Looks.
+
+-- what a step did, where it had memory
+abbrev pub effect_if : Bool → Effect
+effect_if true = Did
+effect_if false = Idle
+
+-- an event was found that would do something; or none of these would, and the net is as it was
+abbrev pub Finds : Bool → Type 0 → NetView → NetView → Type 0
+Finds true rest before now = MayGoOn before
+Finds false rest before now = (now ≡ before) × rest

@@ -74,7 +74,7 @@ impl<C: Calculator> Net<C> {
 
         // A net that stands for a job, begun or not, or was wound up since, gives back as many as were handed in. That of a node stands
         // at the place of its number, and one that no node uses is as it lay.
-        ensures count { (job : LoggedJob) → StoodFor job self → length result.items ≡ length job.logs }
+        ensures count { (job : LoggedJob) → StoodFor job self → length result.items ≡ length job.boxes }
         ensures own { (job : LoggedJob) (number place : ℕ) (node : PlanNode) (engine : EngineView) (desk : DeskView) → StoodFor job self
             → slice_get self.plan.nodes number ≡ Some node → node.box_number ≡ Some place → slice_get self.engines number ≡ Some engine → slice_get self.desks number ≡ Some desk
             → (slice_get (map C.told result.items) place ≡ cell_told engine desk) × (is_some (cell_told engine desk) ≡ true) }

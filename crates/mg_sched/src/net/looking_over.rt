@@ -57,7 +57,7 @@ impl<C: Calculator> Net<C> {
         Ok(did)
     }
 
-    fn edge_count(&self) -> u32
+    pub(super) fn edge_count(&self) -> u32
         ensures { result ≡ length self.now.plan.edges }
     {
         self.plan.edges.len()

@@ -3,7 +3,7 @@ ghost use Rattle.std.specs.Prelude.{◌≡◌, ◌≢◌, ◌<◌, [], length, A
 ghost use Rattle.mg_node.specs.Job.{LoggedJob};
 ghost use Rattle.mg_node.specs.Shelves.{IsOut};
 ghost use Rattle.mg_sched.specs.StandsFor.{StandsFor, StandsForSome, IsRunning};
-ghost use Rattle.mg_sched.specs.ComesApart.{all_shelved, PutsBack, HasComeApart, ArePartsOf};
+ghost use Rattle.mg_sched.specs.ComesApart.{all_shelved, PutsBack, NoneOnDesks, HasComeApart, ArePartsOf};
 ghost use Rattle.mg_sched.specs.Code.Telling.{PutsBackAt};
 
 use super::{IndexedPlan, Net, NetRest};
@@ -75,13 +75,15 @@ impl<C: Calculator> Net<C> {
         }
     }
 
-    // Puts all works that lie on desks back into their windows.
-    fn put_back_all(&mut self)
+    /// Puts all works that lie on desks back into their windows, as they are: what is claimed isn't performed. What the net stands for it
+    /// stands for still.
+    pub fn put_back_all(&mut self)
         requires running { IsRunning self.old }
         requires stands { StandsForSome self.old }
         ensures puts_back { PutsBack (length self.old.plan.nodes) self.old.engines self.new.engines self.old.desks self.new.desks }
         ensures others { self.new ≡ record self.old { engines = self.new.engines; desks = self.new.desks } }
         ensures stands { (job : LoggedJob) → StandsFor job self.old → StandsFor job self.new }
+        ensures none { NoneOnDesks self.new }
     {
         for node in 0..self.plan.nodes.len() {
             self.put_back_at(node);

@@ -163,7 +163,7 @@ impl<C: Calculator> Net<C> {
     }
 
     // The number of the first work of a node that is claimed and not performed.
-    fn first_claimed(&self, node: u32) -> Option<u64>
+    pub(super) fn first_claimed(&self, node: u32) -> Option<u64>
         requires there { node < length self.now.plan.nodes }
         requires stands { StandsForSome self.now }
         ensures some { IfSome result (λ number. HasWork self.now node number) }
@@ -197,7 +197,7 @@ impl<C: Calculator> Net<C> {
     }
 
     // The number of the first work of a node that is performed and not committed.
-    fn first_performed(&self, node: u32) -> Option<u64>
+    pub(super) fn first_performed(&self, node: u32) -> Option<u64>
         requires there { node < length self.now.plan.nodes }
         requires running { IsRunning self.now }
         requires stands { StandsForSome self.now }

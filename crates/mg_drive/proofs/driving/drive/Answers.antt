@@ -13,7 +13,7 @@ begin-requires g c =
 pub returns-in_err-begin-clause-short : goal.returns-in_err-begin-clause-short
 returns-in_err-begin-clause-short g c =
     let is = err_from_is_err_and c.from_residual.result c.from_residual.ensures.1 in
-    rw is.1 (λ start u. short_here g.B.Batches.gives g.T.Telling.has_told g.T.Telling.form start c.args.first (g.S.Source.told c.args.input.now) (g.K.Sink.told c.args.output.now) c.args.ends.now.batches c.args.ends.now.telling c.args.net.now.one.net c.begin.new.self.one.net c.in_err-begin.ensures.stands u)
+    rw is.1 (λ start u. short_here g.B.Batches.gives g.B.Batches.reads_on g.T.Telling.has_told g.T.Telling.form start c.args.first (g.S.Source.told c.args.input.now) (g.K.Sink.told c.args.output.now) c.args.ends.now.batches c.args.ends.now.telling c.args.net.now.one.net c.begin.new.self.one.net c.in_err-begin.ensures.stands u)
 
 pub batches-init : goal.batches-init
 batches-init g c = record {
@@ -33,7 +33,7 @@ pub returns-in_err-advance-clause-short : goal.returns-in_err-advance-clause-sho
 returns-in_err-advance-clause-short g c =
     let is = err_from_is_err_and c.from_residual-in_err-advance.result c.from_residual-in_err-advance.ensures.1 in
     rw is.1 (λ start u.
-    short_told g.B.Batches.gives g.T.Telling.has_told g.T.Telling.form start c.batches.last (g.S.Source.told c.batches.input) (g.K.Sink.told c.batches.output) (g.K.Sink.told c.advance.new.output) c.batches.ends.batches c.batches.ends.telling c.batches.net.one.net c.advance.new.net.one.net c.in_err-advance.ensures.stands c.in_err-advance.ensures.front (c.batches.invariant.under_way start u))
+    short_told g.B.Batches.gives g.B.Batches.reads_on g.T.Telling.has_told g.T.Telling.form start c.batches.last (g.S.Source.told c.batches.input) (g.K.Sink.told c.batches.output) (g.K.Sink.told c.advance.new.output) c.batches.ends.batches c.batches.ends.telling c.batches.net.one.net c.advance.new.net.one.net c.in_err-advance.ensures.stands c.in_err-advance.ensures.front (c.batches.invariant.under_way start u))
 
 pub returns-in_err-advance-clause-keeps : goal.returns-in_err-advance-clause-keeps
 returns-in_err-advance-clause-keeps g c = keeps_on c.args.net.now.one.net c.batches.net.one.net c.advance.new.net.one.net c.batches.invariant.keeps c.in_err-advance.ensures.keeps
@@ -56,7 +56,7 @@ pub returns-in_err-last-clause-short : goal.returns-in_err-last-clause-short
 returns-in_err-last-clause-short g c =
     let is = err_from_is_err_and c.from_residual-in_err-last.result c.from_residual-in_err-last.ensures.1 in
     rw is.1 (λ start u.
-    short_more g.B.Batches.gives g.T.Telling.has_told g.T.Telling.form start (g.S.Source.told c.batches.input) (g.S.Source.told c.next_batch.new.input) (g.K.Sink.told c.pass_on.new.output) c.batches.ends.batches c.pass_on.new.self c.advance.new.net.one.net c.next_batch.new.net.one.net c.in_err-last.ensures.same
+    short_more g.B.Batches.gives g.B.Batches.reads_on g.T.Telling.has_told g.T.Telling.form start (g.S.Source.told c.batches.input) (g.S.Source.told c.next_batch.new.input) (g.K.Sink.told c.pass_on.new.output) c.batches.ends.batches c.pass_on.new.self c.advance.new.net.one.net c.next_batch.new.net.one.net c.in_err-last.ensures.same (c.in_err-last.ensures.further start.plan start.source)
     (flushed g.B.Batches.gives g.T.Telling.has_told start c.batches.last (g.S.Source.told c.batches.input) (g.K.Sink.told c.batches.output) (g.K.Sink.told c.advance.new.output) (g.K.Sink.told c.pass_on.new.output) c.batches.ends.batches c.batches.ends.telling c.advance.new.telling c.pass_on.new.self c.batches.net.one.net c.advance.new.net.one.net c.in-More.is c.in_ok-advance.ensures.stands c.in_ok-advance.ensures.told c.pass_on.ensures (c.batches.invariant.under_way start u)))
 
 pub returns-in_err-last-clause-keeps : goal.returns-in_err-last-clause-keeps

@@ -16,7 +16,7 @@ extend-requires g c =
     let first = job_with start c.requires.inputs in
     let valid = (valid_plan first (g.N.Driven.net c.args.net.now) c.requires.stands).plan in
     let go = c.in_ok-batch.ensures.goes_on start.batches start.plan start.source c.requires.inputs valid c.requires.given in
-    record { may = record { first = first; later = job_with start go.all; stands = c.trim.ensures.stands first c.requires.stands; goes_on = go.goes_on start.logs } }
+    record { may = record { first = first; later = job_with start go.all; stands = c.trim.ensures.stands first c.requires.stands; goes_on = go.goes_on start.boxes } }
 
 pub returns-in_err-batch-clause-same : goal.returns-in_err-batch-clause-same
 returns-in_err-batch-clause-same g c =
@@ -46,8 +46,8 @@ returns-clause-goes_on g c = λ start inputs given stands.
     record {
       all = go.all;
       given = go.given;
-      grows = (go.goes_on start.logs).grows;
-      stands = c.in_ok-extend.ensures.stands first (job_with start go.all) (go.goes_on start.logs) (c.trim.ensures.stands first stands);
+      grows = (go.goes_on start.boxes).grows;
+      stands = c.in_ok-extend.ensures.stands first (job_with start go.all) (go.goes_on start.boxes) (c.trim.ensures.stands first stands);
     }
 
 pub returns-clause-fewer : goal.returns-clause-fewer

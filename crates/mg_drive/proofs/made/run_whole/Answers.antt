@@ -3,7 +3,6 @@ use Rattle.std.proofs.lemmas.Result.{err_from_is_err_and}
 use Rattle.mg_answer.specs.Held.{told_by}
 use Rattle.mg_answer.specs.Devices.{device}
 use Rattle.mg_drive.specs.Batches.{logged}
-use Rattle.mg_drive.proofs.BoxesBack.{logs_of}
 use Rattle.mg_drive.proofs.LinesRan.{stood_is_job}
 use Rattle.mg_drive.proofs.PacketsRan.{made_is_job, are_waiting, none_summed, packets_ran, packets_short}
 use Rattle.mg_drive.proofs.made.run_whole.Goals as goal
@@ -23,8 +22,8 @@ pub returns-in_err-status-clause-short : goal.returns-in_err-status-clause-short
 returns-in_err-status-clause-short g c =
     let is = err_from_is_err_and c.from_residual-in_err-status.result c.from_residual-in_err-status.ensures.1 in
     rw is.1 (elim c.in_err-status.ensures.short [
-      | inl nothing ↦ inl nothing
-      | inr was ↦ inr (packets_short c.args.run.now.plan.now c.args.number c.in_ok-ends.ends.0.packets (told_by g.S.Source.told g.K.Sink.told g.E.Sink.told c.args.devices.now c.run_batches.new.devices).output (map g.C.Calculator.told c.args.boxes.now.items) (map g.C.Calculator.told c.run_batches.new.boxes.items) was.net was.end was.inputs c.requires.boxes c.in_ok-ends.ensures.packets was.given (stood_is_job (logged c.args.run.now.plan.now was.inputs (logs_of (map g.C.Calculator.told c.args.boxes.now.items))) was.net was.stood) was.front was.stood was.back c.in_err-status.ensures.back)
+      | inl nothing ↦ inl nothing.1
+      | inr was ↦ inr (packets_short c.args.run.now.plan.now c.args.number c.in_ok-ends.ends.0.packets (told_by g.S.Source.told g.K.Sink.told g.E.Sink.told c.args.devices.now c.run_batches.new.devices).output (map g.C.Calculator.told c.args.boxes.now.items) (map g.C.Calculator.told c.run_batches.new.boxes.items) was.net was.end was.inputs c.requires.boxes c.in_ok-ends.ensures.packets was.given (stood_is_job (logged c.args.run.now.plan.now was.inputs (map g.C.Calculator.told c.args.boxes.now.items)) was.net was.stood) was.front was.stood was.back c.in_err-status.ensures.back)
     ])
 
 pub returns-in_err-status-clause-unread : goal.returns-in_err-status-clause-unread

@@ -1,4 +1,4 @@
-use Rattle.std.proofs.Common.{map, refl, inl, ◌∙◌}
+use Rattle.std.proofs.Common.{map, refl, inl, inr, ◌∙◌}
 use Rattle.std.proofs.lemmas.Result.{err_from_is_err_and}
 use Rattle.mg_drive.proofs.BoxesBack.{same_back}
 use Rattle.mg_drive.proofs.running.run_batches.Goals as goal
@@ -6,7 +6,7 @@ use Rattle.mg_drive.proofs.running.run_batches.Goals as goal
 pub returns-in_err-set-clause-short : goal.returns-in_err-set-clause-short
 returns-in_err-set-clause-short g c =
     let is = err_from_is_err_and c.from_residual.result c.from_residual.ensures.1 in
-    rw is.1 (inl (record { unwritten = refl; uncalled = refl }))
+    rw is.1 (inl (inl refl, record { unwritten = refl; uncalled = refl }))
 
 pub returns-in_err-set-clause-back : goal.returns-in_err-set-clause-back
 returns-in_err-set-clause-back g c = same_back c.args.run.now.plan.now (map g.C.Calculator.told c.args.boxes.now.items) (map g.C.Calculator.told c.args.boxes.now.items) refl
@@ -14,7 +14,7 @@ returns-in_err-set-clause-back g c = same_back c.args.run.now.plan.now (map g.C.
 pub returns-in_err-first-clause-short : goal.returns-in_err-first-clause-short
 returns-in_err-first-clause-short g c =
     let is = err_from_is_err_and c.from_residual-in_err-first.result c.from_residual-in_err-first.ensures.1 in
-    rw is.1 (inl (record { unwritten = refl; uncalled = refl }))
+    rw is.1 (inl (inr (inl (c.in_err-first.ensures.further c.args.run.now.plan.now (g.S.Source.told c.args.devices.now.input.now))), record { unwritten = refl; uncalled = refl }))
 
 pub returns-in_err-first-clause-back : goal.returns-in_err-first-clause-back
 returns-in_err-first-clause-back g c = same_back c.args.run.now.plan.now (map g.C.Calculator.told c.args.boxes.now.items) (map g.C.Calculator.told c.args.boxes.now.items) refl

@@ -26,7 +26,7 @@ returns-in-Ok-clause-ran g c = IfOk-weaker c.run_net-ran.result _ _ (λ status f
 
 pub returns-in-Ok-clause-short : goal.returns-in-Ok-clause-short
 returns-in-Ok-clause-short g c = on_err_weaker c.run_net-ran.result (λ f began source given.
-    inr (run_short g.B.Batches.gives g.T.Telling.has_told g.T.Telling.form c.args.run.now.plan.now (map g.C.Calculator.told c.args.boxes.now.items) (map g.C.Calculator.told c.give_back.result.items) began source (g.S.Source.told c.run_net-ran.new.devices.input.now) (g.K.Sink.told c.args.devices.now.output.now) (g.K.Sink.told c.run_net-ran.new.devices.output.now) (device (g.E.Sink.told c.args.devices.now.notes.now) (g.E.Sink.told c.run_net-ran.new.devices.notes.now)) c.run_net-ran.new.net.one.net
+    inr (run_short g.B.Batches.gives g.B.Batches.reads_on g.T.Telling.has_told g.T.Telling.form c.args.run.now.plan.now (map g.C.Calculator.told c.args.boxes.now.items) (map g.C.Calculator.told c.give_back.result.items) began source (g.S.Source.told c.run_net-ran.new.devices.input.now) (g.K.Sink.told c.args.devices.now.output.now) (g.K.Sink.told c.run_net-ran.new.devices.output.now) (device (g.E.Sink.told c.args.devices.now.notes.now) (g.E.Sink.told c.run_net-ran.new.devices.notes.now)) c.run_net-ran.new.net.one.net
     c.give_back.ensures.told (f (start_of c.args.run.now.plan.now (map g.C.Calculator.told c.args.boxes.now.items) source (g.K.Sink.told c.args.devices.now.output.now) began) refl (begins g.B.Batches.gives g.T.Telling.has_told c.args.run.now.plan.now (map g.C.Calculator.told c.args.boxes.now.items) (map g.C.Calculator.told c.replace-handed.result.items) began c.args.ends.batches c.args.ends.telling source (g.S.Source.told c.args.devices.now.input.now) (g.K.Sink.told c.args.devices.now.output.now) c.args.first.end c.args.first.inputs c.in-Ok.net (ap (λ v. map g.C.Calculator.told v.items) c.replace-handed.ensures.value) c.in-Ok.ensures.made given c.requires.nothing)))) c.run_net-ran.ensures.short
 
 pub returns-in-Ok-clause-back : goal.returns-in-Ok-clause-back
@@ -36,11 +36,14 @@ returns-in-Ok-clause-back g c =
     came_back_then c.args.run.now.plan.now c.args.first.inputs (map g.C.Calculator.told c.args.boxes.now.items) (map g.C.Calculator.told c.replace-handed.result.items) (map g.C.Calculator.told c.give_back.result.items) c.in-Ok.net c.run_net-ran.new.net.one.net (ap (λ v. map g.C.Calculator.told v.items) c.replace-handed.ensures.value) c.in-Ok.ensures.made c.run_net-ran.ensures.keeps
     (either c.run_net-ran.result
     (IfOk-weaker c.run_net-ran.result _ _ (λ status f. stood_ended g.B.Batches.gives g.T.Telling.form c.args.run.now.report start status (g.S.Source.told c.run_net-ran.new.devices.input.now) (g.K.Sink.told c.run_net-ran.new.devices.output.now) (device (g.E.Sink.told c.args.devices.now.notes.now) (g.E.Sink.told c.run_net-ran.new.devices.notes.now)) c.run_net-ran.new.net.one.net (f start refl under)) c.run_net-ran.ensures.ended)
-    (on_err_weaker c.run_net-ran.result (λ f. stood_short g.B.Batches.gives g.T.Telling.has_told g.T.Telling.form start (g.S.Source.told c.run_net-ran.new.devices.input.now) (g.K.Sink.told c.run_net-ran.new.devices.output.now) c.run_net-ran.new.net.one.net (f start refl under)) c.run_net-ran.ensures.short)) c.give_back.ensures.told
+    (on_err_weaker c.run_net-ran.result (λ f. stood_short g.B.Batches.gives g.B.Batches.reads_on g.T.Telling.has_told g.T.Telling.form start (g.S.Source.told c.run_net-ran.new.devices.input.now) (g.K.Sink.told c.run_net-ran.new.devices.output.now) c.run_net-ran.new.net.one.net (f start refl under)) c.run_net-ran.ensures.short)) c.give_back.ensures.told
 
 pub returns-in-Err-clause-short : goal.returns-in-Err-clause-short
 returns-in-Err-clause-short g c = λ began source given.
-    inl (record { unwritten = refl; uncalled = ap (λ v. map g.C.Calculator.told v.items) (c.in-Err.ensures.returned ∙ c.replace-handed.ensures.value) })
+    inl (
+      inr (inr (record { batches = c.args.ends.batches; end = c.args.first.end; inputs = c.args.first.inputs; given = given })),
+      record { unwritten = refl; uncalled = ap (λ v. map g.C.Calculator.told v.items) (c.in-Err.ensures.returned ∙ c.replace-handed.ensures.value) },
+    )
 
 pub returns-in-Err-clause-back : goal.returns-in-Err-clause-back
 returns-in-Err-clause-back g c =

@@ -16,7 +16,7 @@ returns-in_err-end-clause-short g c =
 pub returns-in_err-text-clause-short : goal.returns-in_err-text-clause-short
 returns-in_err-text-clause-short g c =
     let is = err_from_is_err_and c.from_residual-in_err-text.result c.from_residual-in_err-text.ensures.1 in
-    rw is.1 (λ start plan u. short_over g.B.Batches.gives g.T.Telling.has_told g.T.Telling.form start c.in_ok-end.end (g.S.Source.told c.drive.new.input) (g.K.Sink.told c.drive.new.output) c.drive.new.ends.batches c.drive.new.ends.telling c.drive.new.net.one.net (c.in_ok-end.ensures.over start u))
+    rw is.1 (λ start plan u. short_over g.B.Batches.gives g.B.Batches.reads_on g.T.Telling.has_told g.T.Telling.form start c.in_ok-end.end (g.S.Source.told c.drive.new.input) (g.K.Sink.told c.drive.new.output) c.drive.new.ends.batches c.drive.new.ends.telling c.drive.new.net.one.net (c.in_ok-end.ensures.over start u))
 
 pub finish-requires : goal.finish-requires
 finish-requires g c = (let some = c.requires.under_way in
@@ -26,7 +26,7 @@ pub returns-in_err-status-clause-short : goal.returns-in_err-status-clause-short
 returns-in_err-status-clause-short g c =
     let is = err_from_is_err_and c.from_residual-in_err-status.result c.from_residual-in_err-status.ensures.1 in
     rw is.1 (λ start plan u.
-    short_end g.B.Batches.gives g.T.Telling.has_told g.T.Telling.form start c.in_ok-end.end (g.S.Source.told c.drive.new.input) (g.K.Sink.told c.drive.new.output) (g.K.Sink.told c.finish.new.output) c.drive.new.ends.batches c.drive.new.ends.telling c.drive.new.net.one.net c.finish.new.net.one.net c.in_ok-text.text c.in_ok-text.ensures c.in_err-status.ensures.front c.in_err-status.ensures.since (c.in_ok-end.ensures.over start u))
+    short_end g.B.Batches.gives g.B.Batches.reads_on g.T.Telling.has_told g.T.Telling.form start c.in_ok-end.end (g.S.Source.told c.drive.new.input) (g.K.Sink.told c.drive.new.output) (g.K.Sink.told c.finish.new.output) c.drive.new.ends.batches c.drive.new.ends.telling c.drive.new.net.one.net c.finish.new.net.one.net c.in_ok-text.text c.in_ok-text.ensures c.in_err-status.ensures.front c.in_err-status.ensures.since (c.in_ok-end.ensures.over start u))
 
 pub returns-in_err-status-clause-keeps : goal.returns-in_err-status-clause-keeps
 returns-in_err-status-clause-keeps g c = keeps_on c.args.net.now.one.net c.drive.new.net.one.net c.finish.new.net.one.net c.in_ok-end.ensures.keeps (winds_keep c.drive.new.net.one.net c.finish.new.net.one.net c.in_err-status.ensures.since)

@@ -22,4 +22,5 @@ returns-in-Err-clause-traced g c = (
   c.in-Err.ensures.short,
   noted-then (g.E.Sink.told c.args.devices.now.notes.now) (g.E.Sink.told c.trace_whole.new.devices.notes.now) (g.E.Sink.told c.note_out_of_memory.new.notes) memory_note c.in-Err.ensures.unnoted
       c.note_out_of_memory.ensures,
+  c.in-Err.ensures.read,
 )

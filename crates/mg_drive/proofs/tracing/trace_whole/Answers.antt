@@ -2,7 +2,7 @@ use Rattle.std.proofs.Common.{map, inl, inr, refl}
 use Rattle.std.proofs.lemmas.Result.{err_from_is_err_and}
 use Rattle.mg_answer.specs.Devices.{device}
 use Rattle.mg_drive.proofs.BoxesBack.{same_back}
-use Rattle.mg_drive.proofs.RecordedRuns.{traced_read, had_read, short_read, some_read}
+use Rattle.mg_drive.proofs.RecordedRuns.{traced_read, had_read, read_through, short_read, some_read}
 use Rattle.mg_drive.proofs.tracing.trace_whole.Goals as goal
 
 pub returns-in_err-whole-clause-short : goal.returns-in_err-whole-clause-short
@@ -76,3 +76,18 @@ pub returns-in_err-status-clause-unnoted : goal.returns-in_err-status-clause-unn
 returns-in_err-status-clause-unnoted g c =
     let is = err_from_is_err_and c.from_residual-in_err-status.result c.from_residual-in_err-status.ensures.1 in
     rw is.1 c.in_err-status.ensures.unnoted
+
+pub returns-in_err-whole-clause-read : goal.returns-in_err-whole-clause-read
+returns-in_err-whole-clause-read g c =
+    let is = err_from_is_err_and c.from_residual.result c.from_residual.ensures.1 in
+    rw is.1 c.in_err-whole.ensures.short
+
+pub returns-in_err-lines-clause-read : goal.returns-in_err-lines-clause-read
+returns-in_err-lines-clause-read g c =
+    let is = err_from_is_err_and c.from_residual-in_err-lines.result c.from_residual-in_err-lines.ensures.1 in
+    rw is.1 (read_through c.args.run.now.plan.now c.in_ok-whole.whole.inputs (device (g.S.Source.told c.args.devices.now.input.now) (g.S.Source.told c.read_whole.new.input)) c.in_ok-whole.whole.end c.in_ok-whole.ensures.gathered)
+
+pub returns-in_err-status-clause-read : goal.returns-in_err-status-clause-read
+returns-in_err-status-clause-read g c =
+    let is = err_from_is_err_and c.from_residual-in_err-status.result c.from_residual-in_err-status.ensures.1 in
+    rw is.1 (read_through c.args.run.now.plan.now c.in_ok-whole.whole.inputs (device (g.S.Source.told c.args.devices.now.input.now) (g.S.Source.told c.read_whole.new.input)) c.in_ok-whole.whole.end c.in_ok-whole.ensures.gathered)

@@ -1,4 +1,5 @@
-use Rattle.mg_node.proofs.FrontsHad.{engine_front, unbegun_front, work_out_front, wound_front}
+use Rattle.mg_node.proofs.FrontsHad.{engine_front, unbegun_front, work_out_front}
+use Rattle.mg_node.proofs.ClosesHad.{wound_front}
 use Rattle.mg_node.proofs.laws.what_is_under_way_had_a_front.Goals as goal
 
 pub returns-clause-engine : goal.returns-clause-engine

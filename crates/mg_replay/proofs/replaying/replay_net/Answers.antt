@@ -104,22 +104,22 @@ pub returns-in_err-status-2-clause-some : goal.returns-in_err-status-2-clause-so
 returns-in_err-status-2-clause-some g c =
     let is = err_from_is_err_and c.from_residual-in_err-status-2.result c.from_residual-in_err-status-2.ensures.1 in
     rw is.1 (λ inputs boxes first made same has.
-    short_events c.args.run.now.plan.now inputs boxes _ _ _ c.refuse.new.net.net (c.in_ok-end.ensures.opened boxes inputs first (making_begins c.args.run.now.plan.now inputs boxes first _ _ _ c.args.net.now.net c.begin.new.self made c.in_ok-begin.ensures.begins c.in_ok-begin.ensures.stands c.in_ok-begin.ensures.running has)) refl (c.in_err-status-2.ensures.stood (job_of c.args.run.now.plan.now inputs boxes) (becomes_stands (job_of c.args.run.now.plan.now inputs boxes) c.begin.new.self c.replay_events.new.net c.in_ok-begin.ensures.running (c.in_ok-begin.ensures.stands (job_of c.args.run.now.plan.now inputs boxes) made.stands) c.in_ok-end.ensures.becomes)))
+    short_events c.args.run.now.plan.now inputs boxes _ _ _ c.refuse.new.net (c.in_ok-end.ensures.opened boxes inputs first (making_begins c.args.run.now.plan.now inputs boxes first _ _ _ c.args.net.now.net c.begin.new.self made c.in_ok-begin.ensures.begins c.in_ok-begin.ensures.stands c.in_ok-begin.ensures.running has)) refl (c.in_err-status-2.ensures.stood (job_of c.args.run.now.plan.now inputs boxes) (becomes_stands (job_of c.args.run.now.plan.now inputs boxes) c.begin.new.self c.replay_events.new.net c.in_ok-begin.ensures.running (c.in_ok-begin.ensures.stands (job_of c.args.run.now.plan.now inputs boxes) made.stands) c.in_ok-end.ensures.becomes)))
 
 pub returns-in_err-status-2-clause-stood : goal.returns-in_err-status-2-clause-stood
 returns-in_err-status-2-clause-stood g c = λ job h. c.in_err-status-2.ensures.stood job (becomes_stands job c.begin.new.self c.replay_events.new.net c.in_ok-begin.ensures.running (c.in_ok-begin.ensures.stands job h) c.in_ok-end.ensures.becomes)
 
 pub returns-in_err-status-2-clause-keeps : goal.returns-in_err-status-2-clause-keeps
-returns-in_err-status-2-clause-keeps g c = keeps_on c.args.net.now.net c.replay_events.new.net c.refuse.new.net.net (keeps_later c.args.net.now.net c.begin.new.self c.replay_events.new.net c.in_ok-begin.ensures.begins c.in_ok-end.ensures.becomes) c.in_err-status-2.ensures.keeps
+returns-in_err-status-2-clause-keeps g c = keeps_on c.args.net.now.net c.replay_events.new.net c.refuse.new.net (keeps_later c.args.net.now.net c.begin.new.self c.replay_events.new.net c.in_ok-begin.ensures.begins c.in_ok-end.ensures.becomes) c.in_err-status-2.ensures.keeps
 
 pub returns-clause-replayed : goal.returns-clause-replayed
 returns-clause-replayed g c = λ inputs boxes first made same has.
-    net_refused c.args.run.now.report c.args.run.now.plan.now inputs boxes c.in_ok-end.end c.in_ok-status-2.status _ _ _ c.refuse.new.net.net (not_accepted c.in_ok-end.end (sym c.is_accepted.ensures ∙ c.if-is_accepted.false))
+    net_refused c.args.run.now.report c.args.run.now.plan.now inputs boxes c.in_ok-end.end c.in_ok-status-2.status _ _ _ c.refuse.new.net (not_accepted c.in_ok-end.end (sym c.is_accepted.ensures ∙ c.if-is_accepted.false))
     (c.in_ok-end.ensures.read boxes inputs first (making_begins c.args.run.now.plan.now inputs boxes first _ _ _ c.args.net.now.net c.begin.new.self made c.in_ok-begin.ensures.begins c.in_ok-begin.ensures.stands c.in_ok-begin.ensures.running has)) refl
-    c.in_ok-status-2.ensures.wrote (c.in_ok-status-2.ensures.had (job_of c.args.run.now.plan.now inputs boxes) (becomes_stands (job_of c.args.run.now.plan.now inputs boxes) c.begin.new.self c.replay_events.new.net c.in_ok-begin.ensures.running (c.in_ok-begin.ensures.stands (job_of c.args.run.now.plan.now inputs boxes) made.stands) c.in_ok-end.ensures.becomes)) (c.in_ok-status-2.ensures.stood (job_of c.args.run.now.plan.now inputs boxes) (becomes_stands (job_of c.args.run.now.plan.now inputs boxes) c.begin.new.self c.replay_events.new.net c.in_ok-begin.ensures.running (c.in_ok-begin.ensures.stands (job_of c.args.run.now.plan.now inputs boxes) made.stands) c.in_ok-end.ensures.becomes))
+    c.in_ok-status-2.ensures.wrote (c.in_ok-status-2.ensures.closed (job_of c.args.run.now.plan.now inputs boxes) (becomes_stands (job_of c.args.run.now.plan.now inputs boxes) c.begin.new.self c.replay_events.new.net c.in_ok-begin.ensures.running (c.in_ok-begin.ensures.stands (job_of c.args.run.now.plan.now inputs boxes) made.stands) c.in_ok-end.ensures.becomes)) (c.in_ok-status-2.ensures.stood (job_of c.args.run.now.plan.now inputs boxes) (becomes_stands (job_of c.args.run.now.plan.now inputs boxes) c.begin.new.self c.replay_events.new.net c.in_ok-begin.ensures.running (c.in_ok-begin.ensures.stands (job_of c.args.run.now.plan.now inputs boxes) made.stands) c.in_ok-end.ensures.becomes))
 
 pub returns-clause-stood : goal.returns-clause-stood
 returns-clause-stood g c = λ job h. c.in_ok-status-2.ensures.stood job (becomes_stands job c.begin.new.self c.replay_events.new.net c.in_ok-begin.ensures.running (c.in_ok-begin.ensures.stands job h) c.in_ok-end.ensures.becomes)
 
 pub returns-clause-keeps : goal.returns-clause-keeps
-returns-clause-keeps g c = keeps_on c.args.net.now.net c.replay_events.new.net c.refuse.new.net.net (keeps_later c.args.net.now.net c.begin.new.self c.replay_events.new.net c.in_ok-begin.ensures.begins c.in_ok-end.ensures.becomes) c.in_ok-status-2.ensures.keeps
+returns-clause-keeps g c = keeps_on c.args.net.now.net c.replay_events.new.net c.refuse.new.net (keeps_later c.args.net.now.net c.begin.new.self c.replay_events.new.net c.in_ok-begin.ensures.begins c.in_ok-end.ensures.becomes) c.in_ok-status-2.ensures.keeps

@@ -7,14 +7,14 @@ use Rattle.mg_drive.proofs.lines.FeedBatches.next.Goals as goal
 pub returns-clause-first : goal.returns-clause-first
 returns-clause-first g c = λ plan valid new.
     first_lines plan (g.S.Source.told c.args.input.now) (g.S.Source.told c.read_on.new.input) c.in_ok-batch.batch.end c.in_ok-batch.batch.inputs (fed c.read_on.new.feed) valid
-    (c.in_ok-batch.ensures plan (g.S.Source.told c.args.input.now) [] [] (nothing_read plan (g.S.Source.told c.args.input.now) (fed c.args.self.now) new.graph new.stands new.unread))
+    (c.in_ok-batch.ensures.batch plan (g.S.Source.told c.args.input.now) [] [] (nothing_read plan (g.S.Source.told c.args.input.now) (fed c.args.self.now) new.graph new.stands new.unread))
 
 pub returns-clause-goes_on : goal.returns-clause-goes_on
 returns-clause-goes_on g c = λ began plan first so_far valid gave.
     more_lines plan first (g.S.Source.told c.args.input.now) (g.S.Source.told c.read_on.new.input) c.in_ok-batch.batch.end c.in_ok-batch.batch.inputs so_far (fed c.args.self.now) (fed c.read_on.new.feed) valid gave
-    (c.in_ok-batch.ensures plan first gave.past gave.lines gave.is_read)
+    (c.in_ok-batch.ensures.batch plan first gave.past gave.lines gave.is_read)
 
 pub returns-clause-fewer : goal.returns-clause-fewer
 returns-clause-fewer g c = λ began plan first so_far gave more.
     fewer_lines plan first (g.S.Source.told c.args.input.now) (g.S.Source.told c.read_on.new.input) c.in_ok-batch.batch.end c.in_ok-batch.batch.inputs so_far (fed c.args.self.now) (fed c.read_on.new.feed) gave
-    (c.in_ok-batch.ensures plan first gave.past gave.lines gave.is_read) more
+    (c.in_ok-batch.ensures.batch plan first gave.past gave.lines gave.is_read) more

@@ -1,0 +1,147 @@
+-- A look whether a net is at rest.
+use Rattle.std.proofs.Common.{◌≡◌, ℕ, ◌+◌, ◌<◌, ◌++◌, Bool, true, false, not, List, [], ◌∷◌, length, Some, Ok, Err, Result, IsSomeAnd, option_map, slice_get, inr, refl, sym, ap, subst, arith}
+use borrow.Author.Count.{below_more}
+use Rattle.mg_value.specs.Payload.{Plain}
+use Rattle.mg_calc.specs.declared.cause.Cause.{Cause}
+use Rattle.mg_calc.specs.declared.emission.Laid.{Laid}
+use Rattle.mg_calc.specs.declared.event.Event.{Event}
+use Rattle.mg_calc.specs.declared.event.Event.TheVariants.{Deliver, Advance, Claim, Perform, Commit, Relax}
+use Rattle.mg_calc.specs.declared.event.Effect.{Effect}
+use Rattle.mg_calc.specs.declared.event.Effect.TheVariants.{Idle}
+use Rattle.mg_calc.specs.Answer.{Answer}
+use Rattle.mg_node.specs.Views.{WorkView, PerformedView, EngineView}
+use Rattle.mg_node.specs.Job.{calls_in}
+use Rattle.mg_node.specs.Lawful.{answer_in}
+use Rattle.mg_node.specs.Running.{IsPerformed}
+use Rattle.mg_node.specs.Shelves.{outcome_of, shelved, shelf_at}
+use Rattle.mg_sched.specs.Views.{DeskView, NetView}
+use Rattle.mg_sched.specs.Places.{with_engine, with_desk}
+use Rattle.mg_sched.specs.StandsFor.{StandsForSome, IsRunning}
+use Rattle.mg_sched.specs.Acts.{IsEventOf, Acts}
+use Rattle.mg_sched.specs.AtRest.{MayGoOn, LooksOver}
+use Rattle.mg_sched.specs.Sweeps.{Becomes}
+use Rattle.mg_sched.specs.Code.Left.{HasWork, HasNoWork, HasShelf, HasNoShelf, RestsAt, NodesRest, EdgesRest, effect_if, Finds}
+use Rattle.mg_sched.proofs.Finding.{found, places, desk_there}
+use Rattle.mg_sched.proofs.IdleStays.{idle_same}
+use Rattle.mg_sched.proofs.Becoming.{becomes_one, becomes_runs, becomes_some, becomes_trans}
+use Rattle.mg_sched.proofs.Sweeping.{rests, due_shelf, still_there}
+
+-- One event.
+
+pub finds_one : (b : Bool) (event : Event) (effect : Effect) (before now : NetView) → IsEventOf before event → IsRunning before → StandsForSome before → effect ≡ effect_if b → Acts event effect before now
+    → Finds b (Acts event Idle before before) before now
+finds_one true event effect before now of running some is acts = record { event = event; is_event = of; there = now; acts = subst (λ (x : Effect). Acts event x before now) is acts }
+finds_one false event effect before now of running some is acts =
+    let idle : Acts event Idle before now = subst (λ (x : Effect). Acts event x before now) is acts in
+    let same : now ≡ before = idle_same some.job event before now of running some.stands idle in (same, subst (λ (v : NetView). Acts event Idle before v) same idle)
+
+pub finds_that : (b : Bool) (P Q : Type 0) (before now : NetView) → (P → Q) → Finds b P before now → Finds b Q before now
+finds_that true P Q before now all h = h
+finds_that false P Q before now all h = (h.0, all h.1)
+
+pub found_some : (b : Bool) (P : Type 0) (before now : NetView) → b ≡ true → Finds b P before now → MayGoOn before
+found_some b P before now is h = subst (λ (x : Bool). Finds x P before now) is h
+
+pub found_none : (b : Bool) (P : Type 0) (before now : NetView) → b ≡ false → Finds b P before now → (now ≡ before) × P
+found_none b P before now is h = subst (λ (x : Bool). Finds x P before now) is h
+
+-- One along an edge of a net that is as it was.
+
+edge_there : (k count : ℕ) (before mid : NetView) → mid ≡ before → k < count → count ≡ length before.plan.edges → k < length mid.plan.edges
+edge_there k count before mid same less is = (let long = ap (λ (v : NetView). length v.plan.edges) same in omega (arith, less, is, long))
+
+pub edge_finds : (b : Bool) (k count : ℕ) (effect : Effect) (before mid now : NetView) → mid ≡ before → IsRunning before → StandsForSome before → k < count → count ≡ length before.plan.edges → effect ≡ effect_if b → Acts (Deliver k) effect mid now
+    → Finds b (Acts (Deliver k) Idle mid mid) mid now
+edge_finds b k count effect before mid now same running some less is tells acts =
+    finds_one b (Deliver k) effect mid now (edge_there k count before mid same less is) (subst IsRunning (sym same) running) (subst StandsForSome (sym same) some) tells acts
+
+pub edge_becomes : (k count : ℕ) (effect : Effect) (before mid now : NetView) → mid ≡ before → k < count → count ≡ length before.plan.edges → Acts (Deliver k) effect mid now → Becomes before now
+edge_becomes k count effect before mid now same less is acts = subst (λ (v : NetView). Becomes v now) same (becomes_one (Deliver k) effect mid now (edge_there k count before mid same less is) acts)
+
+-- One at a node, after others.
+
+pub raise_finds : (b : Bool) (node : ℕ) (effect : Effect) (before mid now : NetView) → node < length before.plan.nodes → IsRunning before → StandsForSome before → Becomes before mid → effect ≡ effect_if b → Acts (Advance node) effect mid now
+    → Finds b (Acts (Advance node) Idle mid mid) mid now
+raise_finds b node effect before mid now there running some since tells acts =
+    finds_one b (Advance node) effect mid now (still_there node before mid since there) (becomes_runs before mid running since) (becomes_some before mid running some since) tells acts
+
+pub raise_becomes : (node : ℕ) (effect : Effect) (before mid now : NetView) → node < length before.plan.nodes → Becomes before mid → Acts (Advance node) effect mid now → Becomes before now
+raise_becomes node effect before mid now there since acts = becomes_trans before mid now since (becomes_one (Advance node) effect mid now (still_there node before mid since there) acts)
+
+-- A work that is claimed would be performed.
+
+abbrev performed_with : WorkView → List Plain → Result (List Laid) Cause → PerformedView
+performed_with w state answer = record {
+  work = record {
+    node = w.node;
+    number = w.number;
+    phase = w.phase;
+    bench = record {
+      told = record { law = w.bench.told.law; shape = w.bench.told.shape; state = state; log = option_map (λ calls. calls ++ calls_in w.phase w.bench.set) w.bench.told.log; handed = w.bench.told.handed };
+      set = w.bench.set;
+    };
+  };
+  answer = answer;
+}
+
+some_performed : (w : WorkView) (a : Answer) → answer_in w.bench.told.law w.bench.told.state w.phase w.bench.set ≡ a → (p : PerformedView) × IsPerformed w p
+some_performed w (Ok given) is = (performed_with w given.0 (Ok given.1), record { same = refl; answer = is; log = refl; law = refl; shape = refl; same_handed = refl; set = refl })
+some_performed w (Err cause) is = (performed_with w w.bench.told.state (Err cause), record { same = refl; answer = (is, refl); log = refl; law = refl; shape = refl; same_handed = refl; set = refl })
+
+performs_one : (net : NetView) (node number : ℕ) (engine : EngineView) (desk : DeskView) (works : List WorkView) → node < length net.plan.nodes → slice_get net.engines node ≡ Some engine → slice_get net.desks node ≡ Some desk → desk.works ≡ works
+    → IsSomeAnd (slice_get works 0) (λ w. w.number ≡ number) → MayGoOn net
+performs_one net node number engine desk [] there at on are first = absurd first
+performs_one net node number engine desk (w ∷ works) there at on are first =
+    let p = some_performed w (answer_in w.bench.told.law w.bench.told.state w.phase w.bench.set) refl in
+    record {
+      event = Perform node number;
+      is_event = there;
+      there = with_desk (with_engine net node (shelved engine (outcome_of p.0))) node (record desk { works = works });
+      acts = record { desk = desk; on = on; performed = inr (record { engine = engine; at = at; work = w; front = []; back = works; works = are; number_is = first; performed = (p.0, p.1, refl) }) };
+    }
+
+pub work_goes_on : (net : NetView) (node number : ℕ) → StandsForSome net → node < length net.plan.nodes → HasWork net node number → MayGoOn net
+work_goes_on net node number some there has =
+    let long = (places net some).0 in
+    let engine = found net.engines node (omega (arith, there, long)) in
+    let desk = found net.desks node (desk_there net node some there) in
+    performs_one net node number engine.0 desk.0 desk.0.works there engine.1 desk.1 refl (has desk.0 desk.1)
+
+-- Nodes.
+
+pub commits_found : (b : Bool) (P : Type 0) (node number : ℕ) (before now : NetView) → HasShelf before node number → Finds b (Acts (Commit node number) Idle before before) before now → Finds b P before now
+commits_found true P node number before now shelf h = h
+commits_found false P node number before now shelf h = (let c = h.1 in absurd (due_shelf node number c.engine before (shelf_at c.engine number) (shelf c.engine c.at) c.committed))
+
+pub takes_found : (claimed raised : Bool) (node : ℕ) (before mid now : NetView) → HasNoWork before node → HasNoShelf before node → claimed ≡ false → Finds claimed (Acts (Claim node) Idle before before) before mid
+    → Finds raised (Acts (Advance node) Idle mid mid) mid now → Finds raised (RestsAt before node) before now
+takes_found claimed raised node before mid now works shelf is first second =
+    let none = found_none claimed (Acts (Claim node) Idle before before) before mid is first in
+    finds_that raised (Acts (Advance node) Idle before before) (RestsAt before node) before now (λ advances. record { claims = none.1; works = works; shelf = shelf; advances = advances })
+    (subst (λ (v : NetView). Finds raised (Acts (Advance node) Idle v v) v now) none.0 second)
+
+-- Nets.
+
+pub edge_more : (b : Bool) (before mid now : NetView) (k : ℕ) → mid ≡ before → EdgesRest before k → b ≡ false → Finds b (Acts (Deliver k) Idle mid mid) mid now → (now ≡ before) × EdgesRest before (k + 1)
+edge_more b before mid now k same rest is h =
+    let none = found_none b (Acts (Deliver k) Idle before before) before now is (subst (λ (v : NetView). Finds b (Acts (Deliver k) Idle v v) v now) same h) in
+    (none.0, below_more (λ (edge : ℕ). Acts (Deliver edge) Idle before before) k rest none.1)
+
+pub node_more : (b : Bool) (before mid now : NetView) (k : ℕ) → mid ≡ before → NodesRest before k → b ≡ false → Finds b (RestsAt mid k) mid now → (now ≡ before) × NodesRest before (k + 1)
+node_more b before mid now k same rest is h =
+    let none = found_none b (RestsAt before k) before now is (subst (λ (v : NetView). Finds b (RestsAt v k) v now) same h) in
+    (none.0, below_more (λ (node : ℕ). RestsAt before node) k rest none.1)
+
+pub some_later : (before mid : NetView) → mid ≡ before → MayGoOn mid → MayGoOn before
+some_later before mid same h = subst MayGoOn same h
+
+pub looked_over : (edges nodes relaxed : Bool) (a b c d : NetView) → StandsForSome a → edges ≡ false → Finds edges (EdgesRest a (length a.plan.edges)) a b → nodes ≡ false → Finds nodes (NodesRest b (length b.plan.nodes)) b c
+    → Finds relaxed (Acts Relax Idle c c) c d → LooksOver (not relaxed) a d
+looked_over edges nodes relaxed a b c d some edges_none e nodes_none n r =
+    let first = found_none edges (EdgesRest a (length a.plan.edges)) a b edges_none e in
+    let second = found_none nodes (NodesRest a (length a.plan.nodes)) a c nodes_none (subst (λ (v : NetView). Finds nodes (NodesRest v (length v.plan.nodes)) v c) first.0 n) in
+    by relaxed (subst (λ (v : NetView). Finds relaxed (Acts Relax Idle v v) v d) second.0 r) first.1 second.1
+  where
+    by : (x : Bool) → Finds x (Acts Relax Idle a a) a d → EdgesRest a (length a.plan.edges) → NodesRest a (length a.plan.nodes) → LooksOver (not x) a d
+    by true f es ns = f
+    by false f es ns = (f.0, rests a some es ns f.1)
