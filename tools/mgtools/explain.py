@@ -76,6 +76,8 @@ class Explainer:
                 return explain_run.node_fault(note, self.graph, lines)
         if note.form == "stalled":
             return explain_run.stalled(note, self.graph, self.bounds)
+        if note.form == "free":
+            return explain_run.arrival_said(note, self.graph)
         if note.form == "sets":
             return explain_run.sets_said(note, self.graph)
         return explain_run.ends_said(note, self.graph, self.bounds)

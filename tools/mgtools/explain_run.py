@@ -339,12 +339,21 @@ def stalled(note: Note, graph: Graph | None, bounds: dict[str, str]) -> list[str
     return said
 
 
+def arrival_said(note: Note, graph: Graph | None) -> list[str]:
+    """A packet that arrived at a free node. Ports go by tag and then by index."""
+    node = graph.nodes[note["node"]] if graph and note["node"] < len(graph.nodes) else None
+    if node is None or note["input"] >= len(node.inputs):
+        return [f"a packet at {note['time']} arrived at input {note['input']} of node {note['node']}"]
+    name = sorted(node.inputs, key=lambda port: port.key)[note["input"]].name
+    return [f"{node.place}: {node.describe()}: the packet of `{name}` at {note['time']} arrived next"]
+
+
 def sets_said(note: Note, graph: Graph | None) -> list[str]:
     if graph is None or note["node"] >= len(graph.nodes):
         return [f"node {note['node']}, {note['label']}: {note['sets']} sets"]
     node = graph.nodes[note["node"]]
-    what = ("packets of MAIN were answered" if node.calculator == "PreviousLoopbackCalculator" else "input sets were shown to it" if node.inputs
-            else "calls were made of it")
+    what = ("packets of MAIN were answered" if node.calculator == "PreviousLoopbackCalculator" else "packets arrived at it" if node.is_free
+            else "input sets were shown to it" if node.inputs else "calls were made of it")
     return [f"{node.place}: {node.describe()}: {note['sets']} {what}"]
 
 

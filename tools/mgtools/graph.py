@@ -137,6 +137,13 @@ class Node:
         return {read_key(first_text(info, "tag_index")) for info in infos if is_true(next(iter(info.all_of("back_edge")), None))}
 
     @property
+    def is_free(self) -> bool:
+        """Whether it takes packets as they arrive."""
+        handler = next(iter(self.field.all_of("input_stream_handler")), None)
+        at_once = handler is not None and first_text(handler, "input_stream_handler") == "ImmediateInputStreamHandler"
+        return self.calculator == "FlowLimiterCalculator" or self.calculator == "MergeCalculator" and at_once
+
+    @property
     def options(self) -> list[Field]:
         """The messages in `options` and `node_options`, in the order of the text."""
         return [inner for outer in self.field.fields if outer.name in ("options", "node_options") for inner in outer.fields]

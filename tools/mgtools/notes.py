@@ -34,12 +34,13 @@ FORMS = [(name, re.compile(form)) for name, form in (
     ("read", r"read fault after line (?P<line>\d+)"),
     ("write", r"write fault"),
     ("memory", r"out of memory"),
+    ("free", r"free (?P<node>\d+) (?P<input>\d+) (?P<time>\S+)"),
     ("sets", r"node (?P<node>\d+) (?P<label>.*) sets=(?P<sets>\d+)"),
     ("ends", r"stream (?P<name>.*) packets=(?P<packets>\d+) bound=(?P<bound>-?\d+|[A-Z]\w+)"),
     ("fault", r"node (?P<node>\d+) (?P<label>.*): (?P<phase>open|close|process (?P<time>\S+)|call (?P<call>\d+)): (?P<cause>\w+)"),
     ("stalled", r"stalled: (?P<name>.*) (?P<bound>-?\d+|[A-Z]\w+)"),
 )]
-NUMBERS = ("at", "node", "line", "has", "needs", "sets", "packets", "call")
+NUMBERS = ("at", "node", "input", "line", "has", "needs", "sets", "packets", "call")
 
 
 @dataclass

@@ -13,7 +13,7 @@ use Rattle.mg_feed.specs.Graph.{GraphInputs, inputs_of}
 use Rattle.mg_feed.specs.Ran.{EndCame, MetEnd, FailedBy}
 use Rattle.mg_feed.specs.Sent.{Sent}
 use Rattle.mg_answer.specs.Notes.{memory_note, bounds_of, notes_by}
-use Rattle.mg_answer.specs.Report.{report_by, report_of, asked_report}
+use Rattle.mg_answer.specs.Report.{report_by, report_of, asked_report, open_numbers, end_bounds}
 use Rattle.mg_answer.specs.Outcomes.{TellsOf}
 use Rattle.mg_feed.specs.declared.feed_end.FeedEnd.{FeedEnd}
 use Rattle.mg_feed.specs.declared.feed_end.FeedEnd.TheVariants.{Ended, Failed, Refused, OutOfMemory as no_lines}
@@ -26,9 +26,10 @@ use Rattle.mg_answer.specs.Ran.{CameAs, CameTo, ReadSome, RanAll, RanShort, Took
 use Rattle.mg_answer.specs.Put.{TextView, HasPut}
 use Rattle.mg_answer.specs.Frozen.{frozen_notes, frozen_answer, WroteFrozen}
 use Rattle.mg_answer.specs.Wrote.{Meets, MetShort, WroteBy, Wrote}
+use Rattle.mg_answer.specs.Live.{live_notes, live_answer, live_failed}
 use Rattle.mg_answer.specs.Code.Answered.{WroteSome}
-use Rattle.mg_answer.specs.Code.Bounds.{open_numbers, end_bounds}
 use Rattle.mg_answer.specs.Code.Said.{all_notes}
+use Rattle.mg_answer.specs.declared.live_outcomes.LiveOutcomes.{LiveOutcomes}
 use Rattle.mg_answer.specs.declared.outcomes.Outcomes.{Outcomes}
 use Rattle.mg_answer.specs.Gathered.{Gathered}
 use Rattle.mg_answer.specs.declared.status.Status.{Status}
@@ -250,6 +251,24 @@ wrote-told-frozen plan outcomes report view view' status result written noted by
     (is ∙ ap (λ (s : Status). if written then s else WriteFault) (ap (λ l. status_of Ended l []) tells.faults))
     (sent-of plan view view' written before now flush none written_is form job streams first plan_is put)
     (subst (λ (l : List ℕ). Sent noted notes_before notes_now l) (bytes_is ∙ said_is ∙ said-by status plan Ended outcomes [] report job streams plan_is tells) sent) result_is
+
+-- and of a run of a graph with free nodes
+pub wrote-live : (plan : Plan) (end : FeedEnd) (live : LiveOutcomes) (ns : List ℕ) (report : Bool) (view view' : TextView) (status result : Status) (written noted : Bool) (bytes said : List ℕ)
+    (before now notes_before notes_now : SinkTold) → ((first : SinkTold) (text : List ℕ) → HasPut first before view text → HasPut first now view' text)
+    → (view'.failed ≡ false → view'.kept ≡ []) → written ≡ not view'.failed → ns ≡ open_numbers live.outcomes.ends.items
+    → status ≡ (if written then status_of end live.outcomes.faults ns else WriteFault)
+    → said ≡ live_notes status report plan end live ns → bytes ≡ said → Sent noted notes_before notes_now bytes → result ≡ (if noted then status else WriteFault)
+    → (first : SinkTold) (whole : List ℕ) → HasPut first before view whole
+    → WroteBy result (live_answer report plan end live whole) (live_failed report plan end live) (device first now) (device notes_before notes_now)
+wrote-live plan end live ns report view view' status result written noted bytes said before now notes_before notes_now flush none written_is ns_is is said_is bytes_is sent result_is first whole put =
+    let opens = open_numbers live.outcomes.ends.items in
+    let put_now : Sent written first now whole =
+    subst (λ (b : Bool). Sent b first now whole) (sym written_is) (put-sent view'.failed first now view'.kept whole none (flush first whole put)) in
+    let told_is : status ≡ (if written then status_of end live.outcomes.faults opens else WriteFault) = is ∙ ap (λ (l : List ℕ). if written then status_of end live.outcomes.faults l else WriteFault) ns_is in
+    let said_now : bytes ≡ live_notes status report plan end live opens = bytes_is ∙ said_is ∙ ap (λ (l : List ℕ). live_notes status report plan end live l) ns_is in
+    subst (λ (s : Status). WroteBy s (live_answer report plan end live whole) (live_failed report plan end live) (device first now) (device notes_before notes_now)) (sym result_is)
+    (wrote-by end live.outcomes.faults opens (live_answer report plan end live whole) (live_failed report plan end live) status written noted (λ (s : Status). live_notes s report plan end live opens)
+    (device first now) (device notes_before notes_now) told_is refl refl refl put_now (subst (λ (l : List ℕ). Sent noted notes_before notes_now l) said_now sent))
 
 -- memory ran out after the output was written
 pub wrote-front : (job : Job) (streams : List (StreamPrefix Plain)) (output : Device SinkTold) → IsSolution job streams → TookFront output (output_of job.plan streams) → WroteSome job output

@@ -9,7 +9,9 @@ use Rattle.mg_value.specs.Prefix.{StreamPrefix, empty_prefix, appended, raised, 
 use Rattle.mg_calc.specs.declared.inputs.Inputs.{Inputs}
 use Rattle.mg_calc.specs.declared.plan.Plan.{Plan}
 use Rattle.mg_calc.specs.Side.{PlainSide, PlainSideValue, given_at, fixed}
-use Rattle.mg_calc.specs.Plan.{IsValid, InputsFit, place_of as side_place}
+use Rattle.mg_calc.specs.declared.edge.Edge.{Edge}
+use Rattle.mg_calc.specs.declared.law.Law.{Law}
+use Rattle.mg_calc.specs.Plan.{HoldsTogether, IsValid, InputsFit, place_of as side_place}
 use Rattle.mg_feed.specs.Value.{plain_of}
 use Rattle.mg_feed.specs.declared.feed_end.FeedEnd.{FeedEnd}
 use Rattle.mg_feed.specs.Graph.{GraphInputs, place_of, inputs_of, input_streams, given_sides}
@@ -38,7 +40,7 @@ found-all xs k (suc n) fits =
     let here = there xs k (omega (arith, fits)) in
     found-one (slice_get xs) k (range_with_len (k + 1) n) here.0 here.1 ∙ ap suc (found-all xs (k + 1) n (omega (arith, fits)))
 
-pub input-count : (plan : Plan) → IsValid plan → length (inputs_of plan).kinds ≡ length plan.inputs
+pub input-count : {L : Law → Type 0} {E : Plan → Edge → Type 0} (plan : Plan) → HoldsTogether L E plan → length (inputs_of plan).kinds ≡ length plan.inputs
 input-count plan valid =
     let whole : length plan.inputs + length (flat_map (λ node. node.outputs) plan.nodes) ≡ length plan.streams =
     sym (length-append plan.inputs (flat_map (λ node. node.outputs) plan.nodes)) ∙ ap length valid.streams ∙ length-range_with_len 0 (length plan.streams) in
@@ -49,7 +51,7 @@ input-count plan valid =
 
 -- Side packets --
 
-pub length-stepped : {X : Type 0} (place : ℕ) (step : X → X) (xs : List X) → length (stepped place step xs) ≡ length xs
+length-stepped : {X : Type 0} (place : ℕ) (step : X → X) (xs : List X) → length (stepped place step xs) ≡ length xs
 length-stepped place step [] = refl
 length-stepped zero step (x ∷ xs) = refl
 length-stepped (suc place) step (x ∷ xs) = ap suc (length-stepped place step xs)
@@ -103,7 +105,7 @@ pub side-count : (sides : List PlainSide) → length (given_sides sides) ≡ len
 side-count [] = refl
 side-count (s ∷ sides) = side-by s.value s sides refl (side-count sides)
 
-pub inputs-fit : (plan : Plan) (read : Read) (inputs : Inputs) → IsValid plan → AllGood (inputs_of plan) [] read.lines → inputs ≡ inputs_by (inputs_of plan) read → InputsFit plan inputs
+pub inputs-fit : {L : Law → Type 0} {E : Plan → Edge → Type 0} (plan : Plan) (read : Read) (inputs : Inputs) → HoldsTogether L E plan → AllGood (inputs_of plan) [] read.lines → inputs ≡ inputs_by (inputs_of plan) read → InputsFit plan inputs
 inputs-fit plan read inputs valid good is =
     let graph = inputs_of plan in
     let given = given_by graph read.lines in

@@ -37,8 +37,8 @@ end_by (Some refused) = Refused refused.number refused.fault
 abbrev pub ended_input : GraphInputs → List ℕ → Read
 ended_input graph bytes = record { lines = accepted graph (all_lines bytes); end = end_by (first_refused_after graph [] (all_lines bytes)) }
 
--- An input of which a read failed after these bytes: only the lines that were whole before it count. All of them are
--- good, or there was no further read.
+-- An input of which a read failed after these bytes: only the lines that were whole before it count. All of these are good, since no read
+-- comes behind a line that isn't.
 abbrev pub cut_input : GraphInputs → List ℕ → Read
 cut_input graph bytes = record { lines = accepted graph (whole_lines bytes); end = Failed (length (whole_lines bytes)) }
 
@@ -121,7 +121,7 @@ answer_of telling job end streams = record {
   status = status_of end (faults job streams) (stalled streams);
 }
 
--- An answer is that of a job whose input ended so: the answer of the solution.
+-- An answer is that of a job and of how its input ended: the one that the job's solution makes.
 pub record IsAnswerOf (telling : Telling) (job : Job) (end : FeedEnd) (answer : Answer) : Type 0 where
   pub streams : List (StreamPrefix Plain)
   pub solution : IsSolution job streams

@@ -30,7 +30,7 @@ run_devices input output notes = record { input = input; output = output; notes 
 abbrev pub HasRisen : ℕ → ℕ → Type 0
 HasRisen before now = before < now
 
--- No call has failed: the count of faults is as it was, and not at its type's end.
+-- No call has failed: the count of faults is as it was, and below 2^64 - 1, where it stops counting.
 abbrev pub Unrisen : ℕ → ℕ → Type 0
 Unrisen before now = (now ≡ before) × (now < 2 ^ 64 - 1)
 

@@ -31,13 +31,13 @@ frozen_answer telling job streams = record {
   status = frozen_status (faults job streams);
 }
 
--- An answer is that of a frozen job: the answer of the solution.
+-- An answer is that of a frozen job: the one that the job's solution makes.
 pub record IsFrozenAnswer (telling : Telling) (job : Job) (answer : Answer) : Type 0 where
   pub streams : List (StreamPrefix Plain)
   pub solution : IsSolution job streams
   pub is : answer ≡ frozen_answer telling job streams
 
--- it was written, told so
+-- the answer of a frozen job was written, in this form, and with a report or without
 pub record WroteFrozen (telling : Telling) (job : Job) (status : Status) (output notes : Device SinkTold) : Type 0 where
   pub streams : List (StreamPrefix Plain)
   pub solution : IsSolution job streams

@@ -22,13 +22,13 @@ pub record BlockView : Type 0 where
 abbrev pub nothing_kept : BlockView
 nothing_kept = record { kept = []; failed = false }
 
--- by whether a write has failed: a front of the text was taken, and nothing more is written; or all of it was sent but what
--- is kept
+-- Where a write has failed, the sink took a front of the text. Where none has, it took all of it but the bytes that are kept for the next
+-- write.
 abbrev pub PutBy : Bool → SinkTold → SinkTold → List ℕ → List ℕ → Type 0
 PutBy true first now kept text = SentPart first now text
 PutBy false first now kept text = (sent : List ℕ) × SentAll first now sent × (text ≡ sent ++ kept)
 
--- All of a text was put, since a sink told `first`.
+-- All of a text was put, into a sink that told `first` before and tells `now`.
 abbrev pub HasPutIn : SinkTold → SinkTold → BlockView → List ℕ → Type 0
 HasPutIn first now view text = PutBy view.failed first now view.kept text
 

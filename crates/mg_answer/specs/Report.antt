@@ -1,6 +1,7 @@
 -- The report: how far each node and each stream has come.
-use Rattle.std.specs.Prelude.{ℕ, Bool, List, [], ◌++◌, map, length, codes, decimal, if◌then◌else◌}
+use Rattle.std.specs.Prelude.{ℕ, ◌==◌, not, Bool, List, [], ◌++◌, map, filter, length, codes, decimal, if◌then◌else◌}
 use Rattle.std.specs.List.{flat_map}
+use Rattle.mg_time.specs.Time.{done}
 use Rattle.mg_time.specs.Text.{time_text}
 use Rattle.mg_value.specs.Payload.{Plain}
 use Rattle.mg_value.specs.Prefix.{StreamPrefix}
@@ -16,7 +17,15 @@ use Rattle.mg_answer.specs.declared.outcomes.StreamEnd.{StreamEnd}
 abbrev pub end_of : StreamPrefix Plain → StreamEnd
 end_of s = record { packets = length s.packets; bound = s.bound }
 
--- a node, and how many sets it was shown; of a source how often it was called, and of a loopback how many packets it answered
+-- the numbers of the streams that haven't ended, by the ends of all; and the bounds
+abbrev pub open_numbers : List StreamEnd → List ℕ
+open_numbers ends = map (λ entry. entry.0) (filter (λ entry. not (entry.1.bound == done)) (numbered ends))
+
+abbrev pub end_bounds : List StreamEnd → List ℕ
+end_bounds ends = map (λ e. e.bound) ends
+
+-- a node, and how many sets it was shown; of a source how often it was called, of a loopback how many packets it answered, and of a free
+-- node how many packets arrived
 abbrev pub node_line : Plan → ℕ × ℕ → List ℕ
 node_line plan entry = codes "node " ++ decimal entry.0 ++ codes " " ++ shown (label_of plan entry.0) ++ codes " sets=" ++ decimal entry.1 ++ codes "\n"
 

@@ -28,7 +28,7 @@ abbrev pub WroteBy : Status → Answer → List ℕ → Device SinkTold → Devi
 WroteBy WriteFault answer failed output notes = MetShort answer failed output notes
 WroteBy status answer failed output notes = Meets answer status output notes
 
--- the answer of a job's solution was written, told so
+-- the answer that the solution of a job makes was written, in this form, and with a report or without
 pub record Wrote (telling : Telling) (job : Job) (end : FeedEnd) (status : Status) (output notes : Device SinkTold) : Type 0 where
   pub streams : List (StreamPrefix Plain)
   pub solution : IsSolution job streams

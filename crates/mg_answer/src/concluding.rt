@@ -9,14 +9,17 @@ ghost use Rattle.mg_answer.specs.Answer.{Form, output_in};
 ghost use Rattle.mg_answer.specs.Outcomes.{TellsOf};
 ghost use Rattle.mg_answer.specs.Devices.{device, TookFront};
 ghost use Rattle.mg_answer.specs.Put.{HasPut};
-ghost use Rattle.mg_answer.specs.Wrote.{Wrote};
+ghost use Rattle.mg_answer.specs.Wrote.{Wrote, WroteBy};
+ghost use Rattle.mg_answer.specs.Live.{live_answer, live_failed, live_notes};
+ghost use Rattle.mg_answer.specs.Notes.{notes_by};
+ghost use Rattle.mg_answer.specs.Report.{end_bounds};
 ghost use Rattle.mg_answer.specs.Frozen.{WroteFrozen};
 ghost use Rattle.mg_answer.specs.Code.Said.{all_notes};
 
 use crate::notes::{put_end, put_faults, put_status};
 use crate::report::put_asked;
 use crate::told::{stalled_of, status_of};
-use crate::{Outcomes, OutputText, Run, Status};
+use crate::{LiveOutcomes, Outcomes, OutputText, Run, Status};
 use mg_edge::Sink;
 use mg_feed::{FeedEnd, put_all};
 use std::alloc::AllocError;
@@ -39,7 +42,8 @@ pub fn conclude<K: Sink, E: Sink>(
     requires sets { length outcomes.now.sets ≡ length run.now.plan.now.nodes }
     requires nodes { All (λ fault. fault.node < length run.now.plan.now.nodes) outcomes.now.faults }
 
-    // Of whatever job of the plan the outcomes are, and of whose solution the text, in either form: its answer was written.
+    // Whatever job of the plan the outcomes are told of, if its solution makes the text that was put, in whichever form, then the answer
+    // of that job was written.
     ensures wrote { IfOk result (λ status. (form : Form) (job : Job) (streams : List (StreamPrefix Plain)) (first : SinkTold)
         → job.plan ≡ run.now.plan.now → IsSolution job streams → TellsOf job streams outcomes.now
         → HasPut first (K.told output.old) text (output_in form run.now.plan.now streams)
@@ -57,8 +61,35 @@ pub fn conclude<K: Sink, E: Sink>(
     Ok(unless_failed(noted, told.status))
 }
 
-/// Ends a run whose sets are all put in the same way, where its input was frozen: it didn't end well, but nothing is said of that. No
-/// stream is told to have stalled then.
+/// Ends a run of a graph with free nodes in the same way, once its sets are all put. The lines of arrivals stand between the other notes
+/// and the report.
+pub fn conclude_live<K: Sink, E: Sink>(
+    run: &Run<'_>,
+    end: FeedEnd,
+    live: &LiveOutcomes,
+    mut text: OutputText,
+    output: &mut K,
+    notes: &mut E,
+) -> Result<Status, AllocError>
+    requires few { length live.now.outcomes.ends.items < 2 ^ 32 }
+    requires many { length live.now.outcomes.ends.items ≡ length run.now.plan.now.streams }
+    requires sets { length live.now.outcomes.sets ≡ length run.now.plan.now.nodes }
+    requires nodes { All (λ fault. fault.node < length run.now.plan.now.nodes) live.now.outcomes.faults }
+    ensures wrote { IfOk result (λ status. (first : SinkTold) (whole : List ℕ) → HasPut first (K.told output.old) text whole
+        → WroteBy status (live_answer run.now.report run.now.plan.now end live.now whole) (live_failed run.now.report run.now.plan.now end live.now) (device first (K.told output.new)) (device (E.told notes.old) (E.told notes.new))) }
+    ensures front { OnErr result ((first : SinkTold) (whole : List ℕ) → HasPut first (K.told output.old) text whole
+        → TookFront (device first (K.told output.new)) whole) }
+    ensures unnoted { OnErr result (E.told notes.new ≡ E.told notes.old) }
+{
+    text.flush(output);
+    let stalled = stalled_of(run.alloc, live.outcomes.ends.as_slice())?;
+    let told = tell_live(run, end, live, &stalled, !text.has_failed())?;
+    let noted = put_all(notes, &told.notes);
+    Ok(unless_failed(noted, told.status))
+}
+
+/// Ends a run whose input was frozen in the same way, once its sets are all put. Such an input didn't end well, but nothing is noted of
+/// that, and no stream is told to have stalled.
 pub fn conclude_frozen<K: Sink, E: Sink>(
     run: &Run<'_>,
     outcomes: &Outcomes,
@@ -84,7 +115,7 @@ pub fn conclude_frozen<K: Sink, E: Sink>(
     Ok(unless_failed(noted, told.status))
 }
 
-// The status where something was written, which was or wasn't.
+// This status, or that of a write fault where something wasn't written.
 fn unless_failed(written: bool, status: Status) -> Status
     ensures { result ≡ (if written then status else Status.WriteFault) }
 {
@@ -98,7 +129,7 @@ struct Told {
     notes: Vec<u8>,
 }
 
-// The status and the notes of a run whose input ended so, of which these streams stalled, and whose text was written or wasn't.
+// The status and the notes of a run, by how its input ended, which streams stalled, and whether its text was written.
 fn tell(
     run: &Run<'_>,
     end: FeedEnd,
@@ -114,19 +145,70 @@ fn tell(
     ensures status { IfOk result (λ told. told.status ≡ (if written then the_status end outcomes.now.faults stalled.now else Status.WriteFault)) }
     ensures notes { IfOk result (λ told. told.notes.items ≡ all_notes told.status run.now.plan.now end outcomes.now stalled.now run.now.report) }
 {
+    let mut told = begun(run, end, outcomes, stalled, written)?;
+    put_asked(
+        &mut told.notes,
+        run.report,
+        run.plan,
+        outcomes.sets.as_slice(),
+        outcomes.ends.as_slice(),
+    )?;
+    Ok(told)
+}
+
+// The same of a run of a graph with free nodes.
+fn tell_live(
+    run: &Run<'_>,
+    end: FeedEnd,
+    live: &LiveOutcomes,
+    stalled: &[u32],
+    written: bool,
+) -> Result<Told, AllocError>
+    requires few { length live.now.outcomes.ends.items < 2 ^ 32 }
+    requires numbers { All (λ number. number < length live.now.outcomes.ends.items) stalled.now }
+    requires many { length live.now.outcomes.ends.items ≡ length run.now.plan.now.streams }
+    requires sets { length live.now.outcomes.sets ≡ length run.now.plan.now.nodes }
+    requires nodes { All (λ fault. fault.node < length run.now.plan.now.nodes) live.now.outcomes.faults }
+    ensures status { IfOk result (λ told. told.status ≡ (if written then the_status end live.now.outcomes.faults stalled.now else Status.WriteFault)) }
+    ensures notes { IfOk result (λ told. told.notes.items ≡ live_notes told.status run.now.report run.now.plan.now end live.now stalled.now) }
+{
+    let mut told = begun(run, end, &live.outcomes, stalled, written)?;
+    told.notes.extend_from_slice(&live.arrivals)?;
+    put_asked(
+        &mut told.notes,
+        run.report,
+        run.plan,
+        live.outcomes.sets.as_slice(),
+        live.outcomes.ends.as_slice(),
+    )?;
+    Ok(told)
+}
+
+// The status and the notes without the report.
+fn begun(
+    run: &Run<'_>,
+    end: FeedEnd,
+    outcomes: &Outcomes,
+    stalled: &[u32],
+    written: bool,
+) -> Result<Told, AllocError>
+    requires numbers { All (λ number. number < length outcomes.now.ends.items) stalled.now }
+    requires many { length outcomes.now.ends.items ≡ length run.now.plan.now.streams }
+    requires nodes { All (λ fault. fault.node < length run.now.plan.now.nodes) outcomes.now.faults }
+    ensures status { IfOk result (λ told. told.status ≡ (if written then the_status end outcomes.now.faults stalled.now else Status.WriteFault)) }
+    ensures notes { IfOk result (λ told. told.notes.items ≡ notes_by told.status run.now.plan.now end outcomes.now.faults (end_bounds outcomes.now.ends.items) stalled.now) }
+{
     let faults = outcomes.faults.as_slice();
-    let ends = outcomes.ends.as_slice();
     let status = unless_failed(written, status_of(end, faults, stalled));
     let mut notes = Vec::new(run.alloc);
     put_end(&mut notes, end)?;
     put_faults(&mut notes, run.plan, faults)?;
-    put_status(&mut notes, status, run.plan, ends, stalled)?;
-    put_asked(
+    put_status(
         &mut notes,
-        run.report,
+        status,
         run.plan,
-        outcomes.sets.as_slice(),
-        ends,
+        outcomes.ends.as_slice(),
+        stalled,
     )?;
     Ok(Told { status, notes })
 }

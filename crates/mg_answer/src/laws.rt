@@ -7,7 +7,7 @@ ghost use Rattle.mg_value.specs.Prefix.{StreamPrefix};
 ghost use Rattle.mg_value.specs.declared.policy.Policy.TheVariants.{Default};
 ghost use Rattle.mg_value.specs.Settled.{settled_sets, inputs_of as ports_of};
 ghost use Rattle.mg_calc.specs.declared.plan.Plan.{Plan};
-ghost use Rattle.mg_calc.specs.Plan.{IsValid, InputsFit};
+ghost use Rattle.mg_calc.specs.Plan.{IsValid, IsValidWithFree, InputsFit};
 ghost use Rattle.mg_calc.specs.Equations.{Job, IsJob, IsSolution};
 ghost use Rattle.mg_calc.specs.Meaning.{faults, stalled};
 ghost use Rattle.mg_feed.specs.declared.feed_end.FeedEnd.{FeedEnd};
@@ -32,19 +32,19 @@ ghost use Rattle.mg_answer.specs.Ran.{CameTo, RanOn, RanGenerated, IsAnswered};
 ghost use Rattle.mg_answer.specs.declared.status.Status.{Status};
 ghost use Rattle.mg_answer.specs.declared.status.Status.TheVariants.{Good, NodeFault, Stalled, ReadFault, WriteFault, OutOfMemory};
 
-/// What good lines give the graph of a valid plan fits the plan: a prefix for each input, by the rule of streams, and a
+/// What good lines give the graph of a valid plan, which may have free nodes, fits the plan: a prefix for each input, by the rule of streams, and a
 /// place for each side packet.
 pub fn what_lines_give_fits()
-    ensures { (plan : Plan) (read : Read) → IsValid plan → AllGood (inputs_of plan) [] read.lines → InputsFit plan (inputs_by (inputs_of plan) read) }
+    ensures { (plan : Plan) (read : Read) → IsValidWithFree plan → AllGood (inputs_of plan) [] read.lines → InputsFit plan (inputs_by (inputs_of plan) read) }
 {}
 
-/// So many packets as the inputs of a valid plan's graph are given fit the plan, each input with a prefix that has ended.
+/// The packets that are made for such a plan's graph fit the plan: each input has a prefix, which has ended.
 pub fn generated_packets_fit()
-    ensures { (plan : Plan) (number : ℕ) → IsValid plan → number < 2 ^ 32 → InputsFit plan (generated_inputs (inputs_of plan) number) }
+    ensures { (plan : Plan) (number : ℕ) → IsValidWithFree plan → number < 2 ^ 32 → InputsFit plan (generated_inputs (inputs_of plan) number) }
 {}
 
-/// Over whatever bytes a valid plan's graph has one answer, whether the input ended after them or a read failed, and so it has
-/// over packets that are made.
+/// A valid plan's graph has one answer over any bytes, whether the input ended after them or a read failed, and one over any number of
+/// packets that are made.
 pub fn there_is_one_answer()
     ensures ended { (report : Bool) (plan : Plan) (bytes : List ℕ) → IsValid plan → (answer : Answer) × AnswersEnded report plan bytes answer }
     ensures cut { (report : Bool) (plan : Plan) (bytes : List ℕ) → IsValid plan → (answer : Answer) × AnswersCut report plan bytes answer }
@@ -64,13 +64,13 @@ pub fn what_has_no_fault_is_good()
         → AnswersGenerated report plan number answer → answer ≡ record { output = summary_of plan streams; notes = asked_report report (report_of job streams); status = Good } }
 {}
 
-/// Before anything is put of a text, all of an empty one was. And what is put of a text so far is taken in front.
+/// A text to which nothing was put holds all of the empty text. And of what was put so far the sink took a front, and nothing else.
 pub fn what_is_put_is_taken_in_front()
     ensures nothing { (first : SinkTold) (names : List (List ℕ)) → HasPut first first (nothing_put names) [] }
     ensures front { (first now : SinkTold) (view : TextView) (text : List ℕ) → HasPut first now view text → TookFront (device first now) text }
 {}
 
-/// What a sink took in front of a text it took in front of each text that begins with it.
+/// A sink that took a front of a text took a front of each longer text that begins with it.
 pub fn the_front_of_the_text()
     ensures { (sink : Device SinkTold) (text longer : List ℕ) → IsFront text longer → TookFront sink text → TookFront sink longer }
 {}
@@ -103,8 +103,8 @@ pub fn runs_over_generated_packets()
         → IsOneOf status (WriteFault ∷ OutOfMemory ∷ []) }
 {}
 
-/// Where the input came to something and the answer over it was written, a run that writes as it goes ended so; and where that
-/// over packets that are made was, a run over these did.
+/// Where an input came to something and the answer over it was written, a run that writes as it goes has ended with the answer's status;
+/// and the same is so of packets that are made and the answer over them.
 pub fn what_is_written_ran()
     ensures read { (report : Bool) (plan : Plan) (read : Read) (devices : RunDevices) (status : Status) → CameTo (inputs_of plan) devices.input read
         → Wrote (by_lines report) (job_of plan read) read.end status devices.output devices.notes → RanOn report plan status devices }
@@ -112,14 +112,14 @@ pub fn what_is_written_ran()
         → Wrote (by_summary report) (generated_job plan number) ends.Ended status devices.output devices.notes → RanGenerated report plan number status devices }
 {}
 
-/// The outputs of a solution have fewer settled sets than 64 bits count.
+/// The outputs of a solution have fewer than 2^64 settled sets.
 pub fn sets_are_few()
     ensures { (job : Job) (streams : List (StreamPrefix Plain)) → IsJob job → IsSolution job streams
         → length (settled_sets Default (ports_of streams job.plan.outputs)) < 2 ^ 64 }
 {}
 
-/// What batches in a row came to: bytes that the source gave, lines that were accepted of them, and an end that these lines
-/// and the source's calls have, and that it was read once.
+/// From batches to the input: where a source gave these bytes, these lines were accepted of them, the end is the one that the lines and
+/// the source's calls have, and all was read once, the input came to these lines and this end.
 pub fn what_batches_came_to()
     ensures { (graph : GraphInputs) (input : Device SourceTold) (came : List ℕ) (lines : List (List ℕ)) (end : FeedEnd) (ended : Bool)
         → Gave input.before.left input.now.left came → EndsAs end graph [] came lines ended → MetEnd false ended input.before input.now

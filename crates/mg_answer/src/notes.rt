@@ -3,7 +3,8 @@ ghost use Rattle.std.specs.Prelude.{◌≡◌, ◌<◌, ◌++◌, All, length, s
 ghost use Rattle.std.specs.List.{flat_map};
 ghost use Rattle.mg_time.specs.Time.{pre_stream};
 ghost use Rattle.mg_answer.specs.Notes as notes;
-ghost use Rattle.mg_answer.specs.Code.Bounds.{end_bounds};
+ghost use Rattle.mg_answer.specs.Live.{arrival_note};
+ghost use Rattle.mg_answer.specs.Report.{end_bounds};
 
 use crate::failing::{MEMORY_NOTE, WRITE_NOTE};
 use crate::pieces::{label_at, put, put_number, put_time};
@@ -99,6 +100,24 @@ fn put_phase(text: &mut Vec<u8>, phase: Phase) -> Result<(), AllocError>
         }
         Phase::Close => put(text, b"close"),
     }
+}
+
+/// Puts the line of an arrival at a free node at a text's end: the node's number, the port and the packet's timestamp.
+pub fn put_arrival(
+    text: &mut Vec<u8>,
+    node: u32,
+    port: u32,
+    at: Timestamp,
+) -> Result<(), AllocError>
+    ensures { OnOk result (text.new.items ≡ text.old.items ++ arrival_note node port at) }
+{
+    put(text, b"free ")?;
+    put_number(text, u64::from(node))?;
+    put(text, b" ")?;
+    put_number(text, u64::from(port))?;
+    put(text, b" ")?;
+    put_time(text, at)?;
+    put(text, b"\n")
 }
 
 /// Puts what a status is noted by at a text's end: the streams that stalled, that a write failed, or that memory ran out.

@@ -16,8 +16,8 @@ pub struct StreamEnd {
 pub struct Outcomes {
     /// The faults, in node order.
     pub faults: NodeFaultList,
-    /// For each node how many sets it was shown, how often it was called if it is a source, and how many packets of MAIN it
-    /// answered if it is a loopback; the set or call that failed included.
+    /// For each node how many sets it was shown, how often it was called if it is a source, how many packets of MAIN it answered if it is
+    /// a loopback, and how many packets arrived at it if it is free; the set or call that failed included.
     pub sets: BlockList<u64>,
     /// How far each stream has come.
     pub ends: Vec<StreamEnd>,

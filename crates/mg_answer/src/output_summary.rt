@@ -91,7 +91,7 @@ fn names_of(alloc: Global, plan: &Plan) -> Result<Vec<MgText>, AllocError>
     Ok(names)
 }
 
-// Of so many outputs without a packet.
+// What is told of so many outputs that have no packet.
 fn no_totals(alloc: Global, count: usize) -> Result<Vec<Total>, AllocError>
     ensures { IfOk result (λ totals. totals.items ≡ replicate count (total_of [])) }
 {
@@ -107,7 +107,7 @@ fn no_totals(alloc: Global, count: usize) -> Result<Vec<Total>, AllocError>
     Ok(totals)
 }
 
-// Adds to what is told of each output what it has in one set more, after so many.
+// Adds to what is told of each output what it has in one set more. So many sets were added before.
 fn add_set(totals: &mut Vec<Total>, set: &InputSet, sets: u64)
     requires few { sets < 2 ^ 64 - 1 }
     requires ports { length totals.old.items < 2 ^ 32 }

@@ -57,7 +57,7 @@ impl OutputText {
         }
     }
 
-    /// A text of which a part may be written. No sets are put behind it.
+    /// A text that stands in these blocks, of which a part may have been written. No sets are put behind it.
     pub fn of_blocks(alloc: Global, blocks: BlockText) -> OutputText
         ensures { result ≡ record { names = []; kept = blocks.kept; failed = blocks.failed } }
     {

@@ -37,7 +37,7 @@ pub fn stream_name(plan: &Plan, number: u32) -> &MgText
     &plan.streams.as_slice()[number as usize].name
 }
 
-/// The lines of a set, of which each output has one where it has a packet there.
+/// The lines of a set: one for each output that has a packet in it.
 #[derive(Drop)]
 pub struct SetLines<'w, 's> {
     pub writers: &'w [LineWriter],

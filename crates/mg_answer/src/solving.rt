@@ -125,7 +125,7 @@ fn answer<K: Sink, E: Sink>(
     Ok(status)
 }
 
-// Writes the text that a graph's outputs make, of all streams of its plan; less than a block of it may be left.
+// Puts the output text that the streams of a plan make, and writes its blocks. Less than a block may be left to be written.
 fn write_output<K: Sink>(
     alloc: Global,
     plan: &Plan,

@@ -2,7 +2,7 @@
 ghost use Rattle.std.specs.Prelude.{◌≡◌, ◌≢◌, ◌↔◌, ◌<◌, ◌^◌, false, length, IfOk};
 ghost use Rattle.mg_answer.specs.Answer.{is_ended};
 ghost use Rattle.mg_answer.specs.Told.{status_of};
-ghost use Rattle.mg_answer.specs.Code.Bounds.{open_numbers};
+ghost use Rattle.mg_answer.specs.Report.{open_numbers};
 
 use crate::{Status, StreamEnd};
 use mg_calc::NodeFault;

@@ -17,7 +17,7 @@ pub struct Total {
 }
 
 impl Total {
-    /// Adds what the output has in one set more, after so many: a packet, or none.
+    /// Adds what the output has in one set more: a packet, or none. So many sets were added before.
     pub fn add(&mut self, packet: Option<&Packet>, sets: u64)
         requires few { sets < 2 ^ 64 - 1 }
         requires within { IsWithin sets self.old }
@@ -29,7 +29,7 @@ impl Total {
         }
     }
 
-    // Adds a packet, after so many sets.
+    // Adds a packet. So many sets were added before.
     fn add_packet(&mut self, packet: &Packet, sets: u64)
         requires few { sets < 2 ^ 64 - 1 }
         requires within { IsWithin sets self.old }

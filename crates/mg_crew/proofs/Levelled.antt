@@ -61,7 +61,7 @@ first_place levels place seat has none of = record {
 
 -- a net that nothing was done to
 pub became_itself : (net : NetView) → Became net net
-became_itself net = record { stands = λ job h. h; taken = refl; plan = refl; spare = refl }
+became_itself net = record { stands = λ job h. h; taken = refl; plan = refl; spare = refl; whole = λ stream number h. h }
 
 module _ {X : Type 0} {g : Ghosts X} (net : SharedNet X) (tools : Tools) where
   -- a worker that goes on after some calls

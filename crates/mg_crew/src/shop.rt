@@ -69,7 +69,7 @@ impl Came {
         }
     }
 
-    /// Something was done, or nothing, and that was all.
+    /// Something was done, or nothing was; there is no more to do either way.
     pub(crate) fn if_did(did: bool) -> Came {
         Came { did, more: false }
     }
@@ -111,7 +111,7 @@ fn throttle_of(alloc: Global, plan: &Plan, count: usize) -> Result<Option<Thrott
     Ok(Some(throttle))
 }
 
-// Of so many nodes none is in the levels, and all are held.
+// The marks of so many nodes at first: none is in the levels, and all are held.
 fn marks_of(alloc: Global, nodes: u32) -> Result<NodeMarks, AllocError> {
     let inside = Marks::new(alloc, nodes, false)?;
     let held = Marks::new(alloc, nodes, true)?;

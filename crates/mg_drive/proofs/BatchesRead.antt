@@ -26,7 +26,7 @@ use Rattle.mg_feed.proofs.Joining.{taken-all}
 use Rattle.mg_answer.specs.Devices.{device}
 use Rattle.mg_answer.specs.Ran.{ReadSome}
 use Rattle.mg_drive.specs.Batches.{IsMore}
-use Rattle.mg_drive.specs.Code.Lines.{has_ended, HadMemory, ReadsAs, IsRead, HasBatch, HasReadOn, ReadsOn, LinesGave}
+use Rattle.mg_drive.specs.Code.Lines.{has_ended, inputs_at, HadMemory, ReadsAs, IsRead, HasBatch, HasReadOn, ReadsOn, LinesGave, batch_size}
 
 -- The first moment --
 
@@ -74,13 +74,13 @@ fills_some More most taken some fills more = subst (λ (n : ℕ). 0 < n) (sym fi
 fills_some (End end) most taken some fills more = absurd more
 
 pub batch_read : (plan : Plan) (first before now : SourceTold) (most : ℕ) (end : BatchEnd) (old mid new : Fed) (inputs : Inputs) (b : Bool) (past : List ℕ) (lines : List (List ℕ))
-    → 0 < most → HadMemory end → IsRead plan first More before old past lines
+    → 0 < most → most ≡ batch_size → HadMemory end → IsRead plan first More before old past lines
     → HasReadBatch most end before now old mid → MetEnd old.read.ended mid.read.ended before now → BatchFailedBy end before now
     → Spends (late old.read.ended) (idle_by end mid.read.ended) before.left now.left before.reads now.reads → mid.view.lines ≤ most_lines → mid.view.graph ≡ old.view.graph
     → b ≡ has_ended end → inputs.streams ≡ ended_streams b mid.view.given.streams → inputs.sides ≡ mid.view.given.sides → inputs.ended ≡ b
     → ((ls : List (List ℕ)) (gone : List (List (Stamped Plain))) → Stands ls gone mid.view → Stands ls (taken_with gone mid.view.given.streams) new.view)
     → new.view.graph ≡ mid.view.graph → new.read ≡ mid.read → HasBatch plan first end inputs now new past lines
-batch_read plan first before now most end old mid new inputs b past lines some had was read met failed spent few mid_graph is_b streams sides ended takes new_graph new_read =
+batch_read plan first before now most end old mid new inputs b past lines some most_is had was read met failed spent few mid_graph is_b streams sides ended takes new_graph new_read =
     let both = read.accepted [] past lines (packets_of (given_by (inputs_of plan) lines).streams) was.came in
     let came = both.0 in
     let graph : mid.view.graph ≡ inputs_of plan = mid_graph ∙ was.graph in
@@ -110,6 +110,7 @@ batch_read plan first before now most end old mid new inputs b past lines some h
       longer = λ more. let few_named = naming-few read.taken in let some_named = naming_some more in omega (arith, length-append lines read.taken, few_named, some_named);
       named = λ more. naming-names (inputs_of plan) lines read.taken (naming_some more);
       few = subst (λ (n : ℕ). n ≤ most_lines) came.stands.number few;
+      filled = subst (λ (n : ℕ). Fills end n read.taken) most_is read.filled;
     }
 
 -- A call that reads on --
@@ -216,3 +217,7 @@ first_read plan first end inputs now fed batch =
           batch.ended;
       named = batch.named;
     }
+
+pub first_inputs : (plan : Plan) (first : SourceTold) (end : BatchEnd) (inputs : Inputs) (now : SourceTold) (fed : Fed) → (batch : HasBatch plan first end inputs now fed [] []) → inputs ≡ inputs_at (inputs_of plan) batch.more (has_ended end)
+unfolding first_read
+first_inputs plan first end inputs now fed batch = (first_read plan first end inputs now fed batch).inputs_are

@@ -23,7 +23,7 @@ use Rattle.mg_drive.specs.Leaves.{HadCallsOf}
 use Rattle.mg_drive.specs.Nets.{Keeps}
 use Rattle.mg_drive.specs.Batches.{logged}
 use Rattle.mg_drive.specs.Code.Running.{Giving, Reading, Telling, Start, job_with, IsShort}
-use Rattle.mg_drive.specs.Code.Ending.{HadAllOf, CameBack, StoodWith, HasEnded, HasRun, WasShort}
+use Rattle.mg_drive.specs.Code.Ending.{HadAllOf, CameBack, StoodWith, Writing, HasEnded, HasRun, WasShort}
 use Rattle.mg_drive.proofs.Jobs.{plan_stood}
 use Rattle.mg_drive.proofs.RunsEnd.{start_of}
 
@@ -126,18 +126,18 @@ pub either : {X E P : Type 0} (r : Result X E) → IfOk r (λ x. P) → OnErr r 
 either (Ok x) one other = one
 either (Err e) one other = other
 
-pub stood_ended : {B : Type 0} (gives : Giving B) (form : Form) (report : Bool) (start : Start B) (status : Status) (source : SourceTold) (sink : SinkTold) (notes : Device SinkTold) (net : NetView) → HasEnded gives form report start status source sink notes net
+pub stood_ended : {B : Type 0} (gives : Giving B) (writes : Writing B) (form : Form) (report : Bool) (start : Start B) (status : Status) (source : SourceTold) (sink : SinkTold) (notes : Device SinkTold) (net : NetView) → HasEnded gives writes form report start status source sink notes net
     → StoodWith start.boxes net
-stood_ended {B} gives form report start status source sink notes net h = record { job = job_with start h.inputs; stood = h.stood; boxes_are = refl }
+stood_ended {B} gives writes form report start status source sink notes net h = record { job = job_with start h.inputs; stood = h.stood; boxes_are = refl }
 
 pub stood_short : {B T : Type 0} (gives : Giving B) (reads_on : Reading B) (has_told : Telling T) (form : Form) (start : Start B) (source : SourceTold) (sink : SinkTold) (net : NetView) → IsShort gives reads_on has_told form start source sink net → StoodWith start.boxes net
 stood_short {B} {T} gives reads_on has_told form start source sink net h = record { job = job_with start h.inputs; stood = h.stood; boxes_are = refl }
 
 -- a net that has ended was run
-pub run_ended : {B : Type 0} (gives : Giving B) (form : Form) (report : Bool) (plan : Plan) (boxes now : List CalculatorTold) (began : B) (source later : SourceTold) (first sink : SinkTold) (notes : Device SinkTold) (status : Status) (net : NetView) → BoxesFit plan boxes
-    → now ≡ given_back net → HasEnded gives form report (start_of plan boxes source first began) status later sink notes net
-    → HasRun gives form report began plan status (run_devices (device source later) (device first sink) notes) (device boxes now)
-run_ended {B} gives form report plan boxes now began source later first sink notes status net fit back h = record {
+pub run_ended : {B : Type 0} (gives : Giving B) (writes : Writing B) (form : Form) (report : Bool) (plan : Plan) (boxes now : List CalculatorTold) (began : B) (source later : SourceTold) (first sink : SinkTold) (notes : Device SinkTold) (status : Status) (net : NetView) → BoxesFit plan boxes
+    → now ≡ given_back net → HasEnded gives writes form report (start_of plan boxes source first began) status later sink notes net
+    → HasRun gives writes form report began plan status (run_devices (device source later) (device first sink) notes) (device boxes now)
+run_ended {B} gives writes form report plan boxes now began source later first sink notes status net fit back h = record {
   batches = h.batches;
   end = h.end;
   inputs = h.inputs;
@@ -161,4 +161,5 @@ run_short {B} {T} gives reads_on has_told form plan boxes now began source later
   stood = h.stood;
   back = back;
   front = h.front;
+  unended = h.unended;
 }

@@ -6,7 +6,10 @@ use Rattle.mg_value.specs.Prefix.{StreamPrefix}
 use Rattle.mg_value.specs.Settled.{TimedSet, settled_sets, inputs_of}
 use Rattle.mg_value.specs.declared.policy.Policy.TheVariants.{Default}
 use Rattle.mg_value.proofs.Lemmas.{inputs-extended, sets-stay}
+use Rattle.mg_calc.specs.Told.{CalculatorTold}
+use Rattle.mg_calc.specs.declared.inputs.Inputs.{Inputs}
 use Rattle.mg_calc.specs.declared.plan.Plan.{Plan}
+use Rattle.mg_calc.specs.Plan.{IsValid}
 use Rattle.mg_calc.specs.Equations.{Job, IsJob, IsSolution}
 use Rattle.mg_calc.proofs.Jobs.{solution_grows}
 use Rattle.mg_node.specs.Job.{LoggedJob, Solves}
@@ -16,6 +19,8 @@ use Rattle.mg_sched.specs.StandsFor.{StandsFor}
 use Rattle.mg_sched.specs.Taking.{taken_out, settled_outputs}
 use Rattle.mg_sched.proofs.Solved.{solved}
 use Rattle.mg_sched.proofs.OutputsTaken.{few_taken, outputs_by_default}
+use Rattle.mg_sched.specs.Extends.{GoesOnWith}
+use Rattle.mg_drive.specs.Batches.{logged, InputsGoOn}
 use Rattle.mg_drive.specs.Code.Running.{Telling, IsTold}
 
 -- What stands --
@@ -71,3 +76,13 @@ told_of_later {T} has_told first later began sink net now telling stands grows s
           (subst (λ (n : ℕ). has_told telling plan began sink (take n (settled_outputs plan streams))) (sym same)
           (subst (λ (sets : List (TimedSet Plain)). has_told telling plan began sink sets) fronts (told.told found.0 found.1.solution)));
     }
+
+-- More input --
+
+-- a job goes on where its inputs do
+pub job_goes_on : (plan : Plan) (so_far more all : Inputs) (boxes : List CalculatorTold) → IsValid plan → InputsGoOn plan so_far more all → GoesOnWith more (logged plan so_far boxes) (logged plan all boxes)
+job_goes_on plan so_far more all boxes valid g = record {
+  grows = record { plan = refl; sides = g.sides; boxes = refl; is_job = record { plan = valid; inputs = g.fits }; extended = g.extended };
+  pieces = g.pieces;
+  streams = g.streams;
+}

@@ -1,15 +1,15 @@
--- A net goes on with a further batch of lines: its job is that of more lines.
-use Rattle.std.proofs.Common.{◌≡◌, ◌<◌, ℕ, List, [], ◌∷◌, ◌++◌, length, Bool, true, false, Option, slice_index_or, refl, sym, ap, ◌∙◌, subst, arith}
+-- What comes of a further batch of lines: it goes on from the lines before.
+use Rattle.std.proofs.Common.{◌≡◌, ◌<◌, ℕ, List, [], ◌∷◌, ◌++◌, length, Bool, true, false, drop, slice_index_or, refl, sym, ap, ◌∙◌, subst, arith}
 use Rattle.std.proofs.lemmas.List.{length-map}
+use Rattle.std.proofs.lemmas.List.Elements.{All-from_recursion, recursion_from_All}
 use Rattle.mg_edge.specs.Edge.{SourceTold}
 use Rattle.mg_value.specs.Payload.{Plain}
 use Rattle.mg_value.specs.Prefix.{StreamPrefix, empty_prefix}
 use Rattle.mg_value.specs.Extension.{AreExtendedBy}
 use Rattle.mg_calc.specs.declared.inputs.Inputs.{Inputs}
 use Rattle.mg_calc.specs.declared.plan.Plan.{Plan}
-use Rattle.mg_calc.specs.Plan.{IsValid}
-use Rattle.mg_calc.specs.Equations.{IsJob}
-use Rattle.mg_calc.specs.Told.{CalculatorTold}
+use Rattle.mg_calc.specs.Plan.{IsValidWithFree, InputsFit}
+use Rattle.mg_feed.specs.Batch.{Fills}
 use Rattle.mg_feed.specs.Graph.{GraphInputs, inputs_of as graph_of}
 use Rattle.mg_feed.specs.Accepted.{given_by}
 use Rattle.mg_feed.specs.Given.{ended_stream, ended_streams}
@@ -23,10 +23,9 @@ use Rattle.mg_feed.proofs.Joining.{as-many, one-piece}
 use Rattle.mg_answer.specs.Answer.{Read, inputs_by}
 use Rattle.mg_answer.proofs.Fitting.{inputs-fit}
 use Rattle.mg_node.specs.Extending.{joined}
-use Rattle.mg_sched.specs.Extends.{GoesOnWith}
-use Rattle.mg_drive.specs.Batches.{IsMore, logged, IsFirst, GoesOn}
-use Rattle.mg_drive.specs.Code.Lines.{has_ended, inputs_at, HasBatch, LinesGave, lines_left}
-use Rattle.mg_drive.proofs.BatchesRead.{first_read}
+use Rattle.mg_drive.specs.Batches.{IsMore, IsFirst, InputsGoOn, GoesOn}
+use Rattle.mg_drive.specs.Code.Lines.{has_ended, inputs_at, batch_size, HasBatch, LinesGave, lines_of, given_after, LinesCame, lines_left}
+use Rattle.mg_drive.proofs.BatchesRead.{first_read, first_inputs}
 
 -- What lines give --
 
@@ -48,24 +47,21 @@ inputs_same : (graph : GraphInputs) (lines : List (List ℕ)) (ended : Bool) →
 inputs_same graph lines true = refl
 inputs_same graph lines false = refl
 
--- what good lines give makes a job
-pub job_of_lines : (plan : Plan) (lines : List (List ℕ)) (ended : Bool) → IsValid plan → AllGood (graph_of plan) [] lines
-    → IsJob (record { plan = plan; inputs = inputs_at (graph_of plan) lines ended })
-job_of_lines plan lines ended valid good = record {
-  plan = valid;
-  inputs = inputs-fit plan (read_at lines ended) (inputs_at (graph_of plan) lines ended) valid
-      (subst (λ (ls : List (List ℕ)). AllGood (graph_of plan) [] ls) (sym (lines_at lines ended)) good) (inputs_same (graph_of plan) lines ended);
-}
+-- what good lines give fits
+pub fits_lines : (plan : Plan) (lines : List (List ℕ)) (ended : Bool) → IsValidWithFree plan → AllGood (graph_of plan) [] lines → InputsFit plan (inputs_at (graph_of plan) lines ended)
+fits_lines plan lines ended valid good =
+    inputs-fit plan (read_at lines ended) (inputs_at (graph_of plan) lines ended) valid
+    (subst (λ (ls : List (List ℕ)). AllGood (graph_of plan) [] ls) (sym (lines_at lines ended)) good) (inputs_same (graph_of plan) lines ended)
 
 good_lines : (plan : Plan) (first now : SourceTold) (end : BatchEnd) (inputs : Inputs) (fed : Fed) (past : List ℕ) (lines : List (List ℕ))
     (batch : HasBatch plan first end inputs now fed past lines) → AllGood (graph_of plan) [] (lines ++ batch.more)
 good_lines plan first now end inputs fed past lines batch = subst (λ (g : GraphInputs). AllGood g [] (lines ++ batch.more)) batch.graph batch.stands.good
 
--- the job goes on with the batch
-pub goes_on : (plan : Plan) (first now : SourceTold) (end : BatchEnd) (inputs : Inputs) (fed : Fed) (past : List ℕ) (lines : List (List ℕ)) (boxes : List CalculatorTold) → IsValid plan
+-- the inputs go on with the batch
+pub goes_on : (plan : Plan) (first now : SourceTold) (end : BatchEnd) (inputs : Inputs) (fed : Fed) (past : List ℕ) (lines : List (List ℕ)) → IsValidWithFree plan
     → (given_by (graph_of plan) lines).named ≡ true → (batch : HasBatch plan first end inputs now fed past lines)
-    → GoesOnWith inputs (logged plan (inputs_at (graph_of plan) lines false) boxes) (logged plan (inputs_at (graph_of plan) (lines ++ batch.more) (has_ended end)) boxes)
-goes_on plan first now end inputs fed past lines boxes valid named batch =
+    → InputsGoOn plan (inputs_at (graph_of plan) lines false) inputs (inputs_at (graph_of plan) (lines ++ batch.more) (has_ended end))
+goes_on plan first now end inputs fed past lines valid named batch =
     let graph = graph_of plan in
     let good = good_lines plan first now end inputs fed past lines batch in
     let stands : Stands (lines ++ batch.more) (packets_of (given_by batch.view.graph lines).streams) batch.view =
@@ -73,14 +69,10 @@ goes_on plan first now end inputs fed past lines boxes valid named batch =
     let count : length batch.view.given.streams ≡ length (given_by graph lines).streams =
     as-many lines batch.more batch.view stands ∙ ap (λ (g : GraphInputs). length (given_by g lines).streams) batch.graph in
     record {
-      grows = record {
-        plan = refl;
-        sides = sym (sides-stay graph lines batch.more good named);
-        boxes = refl;
-        is_job = job_of_lines plan (lines ++ batch.more) (has_ended end) valid good;
-        extended = subst (λ (ss : List (StreamPrefix Plain)). AreExtendedBy ss (ended_streams (has_ended end) (given_by graph (lines ++ batch.more)).streams))
-            (sym (not_ended (given_by graph lines).streams)) (streams-grow graph lines batch.more (has_ended end) good);
-      };
+      fits = fits_lines plan (lines ++ batch.more) (has_ended end) valid good;
+      sides = sym (sides-stay graph lines batch.more good named);
+      extended = subst (λ (ss : List (StreamPrefix Plain)). AreExtendedBy ss (ended_streams (has_ended end) (given_by graph (lines ++ batch.more)).streams))
+          (sym (not_ended (given_by graph lines).streams)) (streams-grow graph lines batch.more (has_ended end) good);
       pieces = ap length batch.streams ∙ length-map batch.view.given.streams (ended_stream (has_ended end)) ∙ count ∙ ap length (sym (not_ended (given_by graph lines).streams));
       streams = λ input there.
           let there_then : input < length batch.view.given.streams = subst (λ (n : ℕ). input < n) (ap length batch.streams ∙ length-map batch.view.given.streams (ended_stream (has_ended end))) there in
@@ -96,18 +88,18 @@ goes_on plan first now end inputs fed past lines boxes valid named batch =
 -- What a feed gives --
 
 -- the first batch
-pub first_lines : (plan : Plan) (before now : SourceTold) (end : BatchEnd) (inputs : Inputs) (fed : Fed) → IsValid plan → HasBatch plan before end inputs now fed [] []
+pub first_lines : (plan : Plan) (before now : SourceTold) (end : BatchEnd) (inputs : Inputs) (fed : Fed) → IsValidWithFree plan → HasBatch plan before end inputs now fed [] []
     → IsFirst (LinesGave fed plan before now) plan end inputs
 first_lines plan before now end inputs fed valid batch =
     let gave = first_read plan before end inputs now fed batch in
     let good : AllGood (graph_of plan) [] gave.lines = subst (λ (g : GraphInputs). AllGood g [] gave.lines) gave.is_read.graph gave.is_read.came.stands.good in
     record {
       given = gave;
-      is_job = subst (λ (i : Inputs). IsJob (record { plan = plan; inputs = i })) (sym gave.inputs_are) (job_of_lines plan gave.lines (has_ended end) valid good);
+      fits = subst (InputsFit plan) (sym gave.inputs_are) (fits_lines plan gave.lines (has_ended end) valid good);
     }
 
 -- a batch more
-pub more_lines : (plan : Plan) (first before now : SourceTold) (end : BatchEnd) (inputs so_far : Inputs) (old fed : Fed) → IsValid plan → (gave : LinesGave old plan first before More so_far)
+pub more_lines : (plan : Plan) (first before now : SourceTold) (end : BatchEnd) (inputs so_far : Inputs) (old fed : Fed) → IsValidWithFree plan → (gave : LinesGave old plan first before More so_far)
     → HasBatch plan first end inputs now fed gave.past gave.lines → GoesOn (LinesGave fed plan first now end) plan so_far inputs
 more_lines plan first before now end inputs so_far old fed valid gave batch = record {
   all = inputs_at (graph_of plan) (gave.lines ++ batch.more) (has_ended end);
@@ -118,10 +110,65 @@ more_lines plan first before now end inputs so_far old fed valid gave batch = re
     inputs_are = refl;
     named = batch.named;
   };
-  goes_on = λ boxes.
-      subst (λ (i : Inputs). GoesOnWith inputs (logged plan i boxes) (logged plan (inputs_at (graph_of plan) (gave.lines ++ batch.more) (has_ended end)) boxes)) (sym gave.inputs_are)
-      (goes_on plan first now end inputs fed gave.past gave.lines boxes valid (gave.named tt) batch);
+  goes_on = subst (λ (i : Inputs). InputsGoOn plan i inputs (inputs_at (graph_of plan) (gave.lines ++ batch.more) (has_ended end))) (sym gave.inputs_are)
+      (goes_on plan first now end inputs fed gave.past gave.lines valid (gave.named tt) batch);
 }
+
+-- Batches in turn --
+
+pub first_lines_came : (plan : Plan) (before now : SourceTold) (end : BatchEnd) (inputs : Inputs) (fed : Fed) → IsValidWithFree plan → HasBatch plan before end inputs now fed [] []
+    → IsFirst (λ end inputs. LinesGave fed plan before now end inputs × LinesCame fed plan before now end (inputs ∷ [])) plan end inputs
+first_lines_came plan before now end inputs fed valid batch =
+    let first = first_lines plan before now end inputs fed valid batch in
+    record {
+      given = (
+        first.given,
+        record {
+          past = batch.came;
+          newest = batch.more;
+          earlier = [];
+          is_read = batch.is_read;
+          history_is = ap (λ (i : Inputs). i ∷ []) (first_inputs plan before end inputs now fed batch);
+          filled = batch.filled;
+          all_filled = All-from_recursion (Fills More batch_size) [] tt;
+          named = batch.named;
+        },
+      );
+      fits = first.fits;
+    }
+
+same_head : (a b : Inputs) (xs ys : List Inputs) → a ∷ xs ≡ b ∷ ys → (a ≡ b) × (xs ≡ ys)
+same_head a b xs ys same = (ap (λ (l : List Inputs). slice_index_or l 0 a) same, ap (λ (l : List Inputs). drop 1 l) same)
+
+pub more_lines_came : (plan : Plan) (first before now : SourceTold) (end : BatchEnd) (inputs so_far : Inputs) (earlier : List Inputs) (old fed : Fed) → IsValidWithFree plan → (came : LinesCame old plan first before More (so_far ∷ earlier))
+    → HasBatch plan first end inputs now fed came.past (lines_of (came.newest ∷ came.earlier)) → GoesOn (λ all. LinesGave fed plan first now end all × LinesCame fed plan first now end (all ∷ so_far ∷ earlier)) plan so_far inputs
+more_lines_came plan first before now end inputs so_far earlier old fed valid came batch =
+    let lines = lines_of (came.newest ∷ came.earlier) in
+    let heads = same_head so_far (inputs_at (graph_of plan) lines false) earlier (given_after (graph_of plan) came.earlier) came.history_is in
+    record {
+      all = inputs_at (graph_of plan) (lines ++ batch.more) (has_ended end);
+      given = (
+        record {
+          past = came.past ++ batch.came;
+          lines = lines ++ batch.more;
+          is_read = batch.is_read;
+          inputs_are = refl;
+          named = batch.named;
+        },
+        record {
+          past = came.past ++ batch.came;
+          newest = batch.more;
+          earlier = came.newest ∷ came.earlier;
+          is_read = batch.is_read;
+          history_is = ap (λ (l : List Inputs). inputs_at (graph_of plan) (lines ++ batch.more) (has_ended end) ∷ l) came.history_is;
+          filled = batch.filled;
+          all_filled = All-from_recursion (Fills More batch_size) (came.newest ∷ came.earlier) (came.filled, recursion_from_All (Fills More batch_size) came.earlier came.all_filled);
+          named = batch.named;
+        },
+      );
+      goes_on = subst (λ (i : Inputs). InputsGoOn plan i inputs (inputs_at (graph_of plan) (lines ++ batch.more) (has_ended end))) (sym heads.0)
+          (goes_on plan first now end inputs fed came.past lines valid (came.named tt) batch);
+    }
 
 -- leaves fewer to come
 pub fewer_lines : (plan : Plan) (first before now : SourceTold) (end : BatchEnd) (inputs so_far : Inputs) (old fed : Fed) (gave : LinesGave old plan first before More so_far)

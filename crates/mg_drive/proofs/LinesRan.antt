@@ -1,5 +1,5 @@
 -- What a run over lines came to.
-use Rattle.std.proofs.Common.{◌≡◌, ◌⊎◌, inl, inr, ℕ, List, [], ◌++◌, take, drop, Bool, true, false, Option, refl, sym, ap, ◌∙◌, subst, take-append-drop}
+use Rattle.std.proofs.Common.{◌≡◌, ◌⊎◌, inl, inr, ℕ, List, [], ◌++◌, take, drop, Bool, true, false, refl, sym, ap, ◌∙◌, subst, take-append-drop}
 use Rattle.std.proofs.lemmas.Grind.{flat_map-append}
 use Rattle.mg_edge.specs.Edge.{SourceTold, SinkTold}
 use Rattle.mg_value.specs.Payload.{Plain}
@@ -88,7 +88,7 @@ front_lines job first now is (inl some) = λ streams solution.
 -- There is more behind the batch --
 
 -- the lines so far stand in front of those that are accepted of the whole input
-lines_in_front : (plan : Plan) (first at : SourceTold) (fed : Fed) (inputs : Inputs) (gave : LinesGave fed plan first at More inputs) (rest : List ℕ) → (fed.read.ended ≡ true → rest ≡ [])
+pub lines_in_front : (plan : Plan) (first at : SourceTold) (fed : Fed) (inputs : Inputs) (gave : LinesGave fed plan first at More inputs) (rest : List ℕ) → (fed.read.ended ≡ true → rest ≡ [])
     → (more : List (List ℕ)) × (accepted (inputs_of plan) (all_lines (gave.past ++ rest)) ≡ gave.lines ++ more)
 lines_in_front plan first at fed inputs u rest fits =
     let front = came-front u.past rest u.lines _ fed u.is_read.came fits in
@@ -142,7 +142,7 @@ fronts_more plan first at fed inputs boxes now net fit u rest valid fits stood b
 -- The input came to its end --
 
 -- what it came to
-came_at : (plan : Plan) (first at : SourceTold) (fed : Fed) (end : FeedEnd) (inputs : Inputs) (gave : LinesGave fed plan first at (End end) inputs) → CameTo (inputs_of plan) (device first at) (record { lines = gave.lines; end = end })
+pub came_at : (plan : Plan) (first at : SourceTold) (fed : Fed) (end : FeedEnd) (inputs : Inputs) (gave : LinesGave fed plan first at (End end) inputs) → CameTo (inputs_of plan) (device first at) (record { lines = gave.lines; end = end })
 came_at plan first at fed end inputs u =
     came-by (inputs_of plan) (device first at) u.past u.lines end fed.read.ended u.is_read.gave u.is_read.so.1 u.is_read.met u.is_read.so.2 u.is_read.so.0
     (record {
@@ -164,13 +164,13 @@ lines_ran report plan devices boxes status fed end inputs u back wrote had = rec
 -- Memory ran out --
 
 -- how far the input was read while there was more
-read_on : (plan : Plan) (input : Device SourceTold) (fed : Fed) (at : SourceTold) (inputs : Inputs) (gave : LinesGave fed plan input.before at More inputs) → (at ≡ input.now) ⊎ (IsMore More × ReadsOn fed plan input.before at input.now)
+pub read_on : (plan : Plan) (input : Device SourceTold) (fed : Fed) (at : SourceTold) (inputs : Inputs) (gave : LinesGave fed plan input.before at More inputs) → (at ≡ input.now) ⊎ (IsMore More × ReadsOn fed plan input.before at input.now)
     → HasReadOn plan input.before at input.now fed.read.ended gave.past
 read_on plan input fed at inputs u (inl same) =
     subst (λ (s : SourceTold). HasReadOn plan input.before at s fed.read.ended u.past) same (none_further plan input.before at fed u.past u.lines u.is_read)
 read_on plan input fed at inputs u (inr more) = more.1 u.past u.lines u.is_read
 
-end_came : (ended : Bool) (before at : SourceTold) → MetEnd false ended before at → ended ≡ true → EndCame before at
+pub end_came : (ended : Bool) (before at : SourceTold) → MetEnd false ended before at → ended ≡ true → EndCame before at
 end_came ended before at met is = subst (λ (b : Bool). MetEnd false b before at) is met
 
 -- how far before there was a net: not at all, by a first call, or by a first batch

@@ -17,16 +17,18 @@ use Rattle.mg_sched.specs.AtRest.{IsAtRest}
 use Rattle.mg_sched.specs.Sweeps.{Becomes}
 use Rattle.mg_sched.specs.Begins.{Begins}
 use Rattle.mg_sched.specs.Trims.{Trims}
-use Rattle.mg_sched.specs.Extends.{Extends}
 use Rattle.mg_sched.specs.GivesBack.{StoodFor}
 use Rattle.mg_sched.specs.Taking.{taken_out, settled_outputs, HasAllOutputs, LeavesNodes}
 use Rattle.mg_sched.proofs.Becoming.{becomes_plan, becomes_spare}
 use Rattle.mg_sched.proofs.OutputsTaken.{all_come_at_rest}
-use Rattle.mg_drive.specs.Nets.{Keeps}
-use Rattle.mg_drive.specs.Batches.{IsMore}
+use Rattle.mg_sched.specs.Extends.{GoesOnWith, MayGoOnWith, Extends}
+use Rattle.mg_drive.specs.Nets.{Keeps, Wanted, AreRead}
+use Rattle.mg_drive.specs.Batches.{Due, IsMore, IsAsGiven, SomeGiven, GoesOnward}
+use Rattle.mg_drive.specs.declared.batches.Onward.{Onward}
+use Rattle.mg_drive.specs.declared.batches.Onward.TheVariants.{Round, Next, End as Over}
 use Rattle.mg_drive.specs.Code.Running.{Giving, Reading, Telling, Start, job_with, IsTold, IsToldSome, IsSomeTold, IsUnderWay, IsSomeMore, WentOn, HasRested, IsAllTaken, IsOver, IsShort}
 use Rattle.mg_drive.proofs.TakingSets.{told_same, told_some}
-use Rattle.mg_drive.proofs.Jobs.{told_of_later}
+use Rattle.mg_drive.proofs.Jobs.{valid_plan, job_goes_on, told_of_later}
 
 -- Measure --
 
@@ -34,6 +36,10 @@ use Rattle.mg_drive.proofs.Jobs.{told_of_later}
 abbrev pub batches_left : BatchEnd → ℕ → ℕ
 batches_left More left = left + 1
 batches_left (End end) left = 0
+
+pub fewer_rounds : (last : BatchEnd) (old new : ℕ) → last ≡ More → new < old → batches_left last new < batches_left last old
+fewer_rounds More old new is less = omega (arith, less)
+fewer_rounds (End end) old new is less = absurd cc
 
 pub fewer_batches : (last next : BatchEnd) (old new : ℕ) → last ≡ More → (IsMore next → new < old) → batches_left next new < batches_left last old
 fewer_batches last More old new is falls = subst (λ (e : BatchEnd). new + 1 < batches_left e old) (sym is) (let less = falls tt in omega (arith, less))
@@ -130,53 +136,125 @@ more_told {B} {T} gives has_told start end source sink later batches telling tel
   is_told = tells (job_with start u.inputs) start.sink u.stands u.is_told;
 }
 
--- what was told was passed on
-pub passed_on : {B T : Type 0} (gives : Giving B) (has_told : Telling T) (start : Start B) (end : BatchEnd) (source : SourceTold) (sink later : SinkTold) (batches : B) (telling telling_now : T) (net : NetView)
-    → ((plan : Plan) (first : SinkTold) (sets : List (TimedSet Plain)) → has_told telling plan first sink sets → has_told telling_now plan first later sets)
-    → IsUnderWay gives has_told start end source sink batches telling net → IsUnderWay gives has_told start end source later batches telling_now net
-passed_on {B} {T} gives has_told start end source sink later batches telling telling_now net passes u = record {
-  inputs = u.inputs;
+-- a run whose net has come to rest, with all that was given
+abbrev pub as_given : {B T : Type 0} (gives : Giving B) (has_told : Telling T) (start : Start B) (last : BatchEnd) (source : SourceTold) (sink : SinkTold) (batches : B) (telling : T) (net now : NetView)
+    → ((job : LoggedJob) → StandsFor job net → StandsFor job now) → ((job : LoggedJob) → StandsFor job net → HasRested job now × IsAllTaken job now) → (u : IsUnderWay gives has_told start last source sink batches telling net)
+    → IsAsGiven gives start.batches start.plan start.source source last u.inputs now batches
+as_given {B} {T} gives has_told start last source sink batches telling net now keeps rests u = record {
+  valid = (valid_plan (job_with start u.inputs) net u.stands).plan;
   given = u.given;
-  stands = u.stands;
-  is_told = record { told = λ streams solution. passes start.plan start.sink _ (u.is_told.told streams solution) };
+  boxes = start.boxes;
+  stands = keeps (job_with start u.inputs) u.stands;
+  has_rested = (rests (job_with start u.inputs) u.stands).0;
 }
 
--- there is more behind the batch, and what was told is passed on
-pub flushed : {B T : Type 0} (gives : Giving B) (has_told : Telling T) (start : Start B) (last : BatchEnd) (source : SourceTold) (sink later written : SinkTold) (batches : B) (telling telling_now telling_then : T) (net now : NetView) → last ≡ More
-    → ((job : LoggedJob) → StandsFor job net → StandsFor job now)
-    → ((job : LoggedJob) (first : SinkTold) → StandsFor job net → IsTold has_told job.job first sink (taken_out net) telling → IsTold has_told job.job first later (taken_out now) telling_now)
-    → ((plan : Plan) (first : SinkTold) (sets : List (TimedSet Plain)) → has_told telling_now plan first later sets → has_told telling_then plan first written sets)
-    → IsUnderWay gives has_told start last source sink batches telling net → IsUnderWay gives has_told start More source written batches telling_then now
-flushed {B} {T} gives has_told start last source sink later written batches telling telling_now telling_then net now is keeps tells passes u =
-    passed_on gives has_told start More source later written batches telling_now telling_then now passes
-    (more_told gives has_told start More source sink later batches telling telling_now net now keeps tells
-    (subst (λ (e : BatchEnd). IsUnderWay gives has_told start e source sink batches telling net) is u))
+pub some_given : {B T : Type 0} (gives : Giving B) (has_told : Telling T) (start : Start B) (last : BatchEnd) (source : SourceTold) (sink : SinkTold) (batches : B) (telling : T) (net now : NetView)
+    → ((job : LoggedJob) → StandsFor job net → StandsFor job now) → ((job : LoggedJob) → StandsFor job net → HasRested job now × IsAllTaken job now) → IsUnderWay gives has_told start last source sink batches telling net
+    → SomeGiven gives last now batches
+some_given {B} {T} gives has_told start last source sink batches telling net now keeps rests u = record {
+  began = start.batches;
+  plan = start.plan;
+  first = start.source;
+  source = source;
+  so_far = u.inputs;
+  as_given = as_given gives has_told start last source sink batches telling net now keeps rests u;
+}
 
--- the input has ended, and the net has rested
-pub over_at : {B T : Type 0} (gives : Giving B) (has_told : Telling T) (start : Start B) (last : BatchEnd) (end : FeedEnd) (source : SourceTold) (sink later : SinkTold) (batches : B) (telling telling_now : T) (net now : NetView) → last ≡ End end
+-- how it goes on
+abbrev pub Onwards : {B : Type 0} → Giving B → Due B → (B → List Wanted) → BatchEnd → SourceTold → B → B → NetView → Onward → Type 0
+Onwards {B} gives is_due wants last source batches batches_now now onward =
+    (began : B) (plan : Plan) (first source_is : SourceTold) (so_far : Inputs) → IsAsGiven gives began plan first source_is last so_far now batches → GoesOnward gives is_due wants began plan first source_is last so_far now batches_now onward
+
+-- by further input that comes before the next batch
+pub round_may : {B T : Type 0} (gives : Giving B) (is_due : Due B) (wants : B → List Wanted) (has_told : Telling T) (start : Start B) (last : BatchEnd) (source : SourceTold) (sink : SinkTold) (batches batches_now : B) (telling : T) (net now : NetView) (onward : Onward) (more : Inputs) → onward ≡ Round more
+    → ((job : LoggedJob) → StandsFor job net → StandsFor job now) → ((job : LoggedJob) → StandsFor job net → HasRested job now × IsAllTaken job now)
+    → Onwards gives is_due wants last source batches batches_now now onward → IsUnderWay gives has_told start last source sink batches telling net → MayGoOnWith more now
+round_may {B} {T} gives is_due wants has_told start last source sink batches batches_now telling net now onward more is keeps rests on u =
+    let given = as_given gives has_told start last source sink batches telling net now keeps rests u in
+    let g = subst (λ (o : Onward). GoesOnward gives is_due wants start.batches start.plan start.source source last u.inputs now batches_now o) is (on start.batches start.plan start.source source u.inputs given) in
+    record {
+      first = job_with start u.inputs;
+      later = job_with start g.1.all;
+      stands = given.stands;
+      goes_on = job_goes_on start.plan u.inputs more g.1.all start.boxes given.valid g.1.goes_on;
+    }
+
+pub round_is_more : {B T : Type 0} (gives : Giving B) (is_due : Due B) (wants : B → List Wanted) (has_told : Telling T) (start : Start B) (last : BatchEnd) (source : SourceTold) (sink : SinkTold) (batches batches_now : B) (telling : T) (net now : NetView) (onward : Onward) (more : Inputs) → onward ≡ Round more
+    → ((job : LoggedJob) → StandsFor job net → StandsFor job now) → ((job : LoggedJob) → StandsFor job net → HasRested job now × IsAllTaken job now)
+    → Onwards gives is_due wants last source batches batches_now now onward → IsUnderWay gives has_told start last source sink batches telling net → last ≡ More
+round_is_more {B} {T} gives is_due wants has_told start last source sink batches batches_now telling net now onward more is keeps rests on u =
+    (subst (λ (o : Onward). GoesOnward gives is_due wants start.batches start.plan start.source source last u.inputs now batches_now o) is
+    (on start.batches start.plan start.source source u.inputs (as_given gives has_told start last source sink batches telling net now keeps rests u))).0
+
+pub round_goes_on : {B T : Type 0} (gives : Giving B) (is_due : Due B) (wants : B → List Wanted) (has_told : Telling T) (start : Start B) (last : BatchEnd) (source : SourceTold) (sink later : SinkTold) (batches batches_now : B) (telling telling_now : T) (net now after : NetView) (onward : Onward) (more : Inputs) → onward ≡ Round more
     → ((job : LoggedJob) → StandsFor job net → StandsFor job now)
     → ((job : LoggedJob) (first : SinkTold) → StandsFor job net → IsTold has_told job.job first sink (taken_out net) telling → IsTold has_told job.job first later (taken_out now) telling_now)
     → ((job : LoggedJob) → StandsFor job net → HasRested job now × IsAllTaken job now)
-    → IsUnderWay gives has_told start last source sink batches telling net → IsOver gives has_told start end source later batches telling_now now
-over_at {B} {T} gives has_told start last end source sink later batches telling telling_now net now is keeps tells rests u =
-    let v : IsUnderWay gives has_told start (End end) source sink batches telling net = subst (λ (e : BatchEnd). IsUnderWay gives has_told start e source sink batches telling net) is u in
+    → Onwards gives is_due wants last source batches batches_now now onward
+    → ((first later : LoggedJob) → GoesOnWith more first later → StandsFor first now → StandsFor later after) → taken_out after ≡ taken_out now
+    → IsUnderWay gives has_told start last source sink batches telling net → IsUnderWay gives has_told start last source later batches_now telling_now after
+round_goes_on {B} {T} gives is_due wants has_told start last source sink later batches batches_now telling telling_now net now after onward more is keeps tells rests on extends same u =
+    let given = as_given gives has_told start last source sink batches telling net now keeps rests u in
+    let g = subst (λ (o : Onward). GoesOnward gives is_due wants start.batches start.plan start.source source last u.inputs now batches_now o) is (on start.batches start.plan start.source source u.inputs given) in
+    let goes = job_goes_on start.plan u.inputs more g.1.all start.boxes given.valid g.1.goes_on in
     record {
-      under_way = more_told gives has_told start (End end) source sink later batches telling telling_now net now keeps tells v;
-      has_rested = (rests (job_with start v.inputs) v.stands).0;
-      all = (rests (job_with start v.inputs) v.stands).1;
+      inputs = g.1.all;
+      given = subst (λ (e : BatchEnd). gives start.batches batches_now start.plan start.source source e g.1.all) (sym g.0) g.1.given;
+      stands = extends (job_with start u.inputs) (job_with start g.1.all) goes given.stands;
+      is_told = told_of_later has_told (job_with start u.inputs) (job_with start g.1.all) start.sink later now after telling_now given.stands goes.grows same (tells (job_with start u.inputs) start.sink u.stands u.is_told);
     }
 
--- there is more to read of a run
-pub run_more : {B T : Type 0} (gives : Giving B) (has_told : Telling T) (start : Start B) (source : SourceTold) (sink : SinkTold) (batches : B) (telling : T) (net : NetView)
-    → IsUnderWay gives has_told start More source sink batches telling net → IsSomeMore gives source batches net
-run_more {B} {T} gives has_told start source sink batches telling net u = record { start = start; inputs = u.inputs; given = u.given; stands = u.stands }
+-- the input has ended, and the net has rested
+pub over_at : {B T : Type 0} (gives : Giving B) (is_due : Due B) (wants : B → List Wanted) (has_told : Telling T) (start : Start B) (last : BatchEnd) (end : FeedEnd) (source : SourceTold) (sink later : SinkTold) (batches batches_now : B) (telling telling_now : T) (net now : NetView) (onward : Onward) → onward ≡ Over end
+    → ((job : LoggedJob) → StandsFor job net → StandsFor job now)
+    → ((job : LoggedJob) (first : SinkTold) → StandsFor job net → IsTold has_told job.job first sink (taken_out net) telling → IsTold has_told job.job first later (taken_out now) telling_now)
+    → ((job : LoggedJob) → StandsFor job net → HasRested job now × IsAllTaken job now)
+    → Onwards gives is_due wants last source batches batches_now now onward
+    → IsUnderWay gives has_told start last source sink batches telling net → IsOver gives has_told start end source later batches_now telling_now now
+over_at {B} {T} gives is_due wants has_told start last end source sink later batches batches_now telling telling_now net now onward is keeps tells rests on u =
+    let given = as_given gives has_told start last source sink batches telling net now keeps rests u in
+    let g = subst (λ (o : Onward). GoesOnward gives is_due wants start.batches start.plan start.source source last u.inputs now batches_now o) is (on start.batches start.plan start.source source u.inputs given) in
+    record {
+      under_way = record { inputs = u.inputs; given = g; stands = given.stands; is_told = tells (job_with start u.inputs) start.sink u.stands u.is_told };
+      has_rested = (rests (job_with start u.inputs) u.stands).0;
+      all = (rests (job_with start u.inputs) u.stands).1;
+    }
+
+-- or with the next batch, which is due
+abbrev pub IsDueNow : {B T : Type 0} → Giving B → Due B → Telling T → Start B → SourceTold → SinkTold → B → T → NetView → Type 0
+IsDueNow gives is_due has_told start source sink batches telling net =
+    (u : IsUnderWay gives has_told start More source sink batches telling net) × is_due batches start.plan u.inputs
+
+pub next_is_due : {B T : Type 0} (gives : Giving B) (is_due : Due B) (wants : B → List Wanted) (has_told : Telling T) (start : Start B) (last : BatchEnd) (source : SourceTold) (sink later written : SinkTold) (batches batches_now : B) (telling telling_now telling_then : T) (net now : NetView) (onward : Onward) → onward ≡ Next
+    → ((job : LoggedJob) → StandsFor job net → StandsFor job now)
+    → ((job : LoggedJob) (first : SinkTold) → StandsFor job net → IsTold has_told job.job first sink (taken_out net) telling → IsTold has_told job.job first later (taken_out now) telling_now)
+    → ((job : LoggedJob) → StandsFor job net → HasRested job now × IsAllTaken job now)
+    → Onwards gives is_due wants last source batches batches_now now onward
+    → ((plan : Plan) (first : SinkTold) (sets : List (TimedSet Plain)) → has_told telling_now plan first later sets → has_told telling_then plan first written sets)
+    → IsUnderWay gives has_told start last source sink batches telling net → IsDueNow gives is_due has_told start source written batches_now telling_then now × (last ≡ More) × AreRead (wants batches_now) now
+next_is_due {B} {T} gives is_due wants has_told start last source sink later written batches batches_now telling telling_now telling_then net now onward is keeps tells rests on passes u =
+    let given = as_given gives has_told start last source sink batches telling net now keeps rests u in
+    let g = subst (λ (o : Onward). GoesOnward gives is_due wants start.batches start.plan start.source source last u.inputs now batches_now o) is (on start.batches start.plan start.source source u.inputs given) in
+    let told = tells (job_with start u.inputs) start.sink u.stands u.is_told in (
+      (
+        record { inputs = u.inputs; given = g.given; stands = given.stands; is_told = record { told = λ streams solution. passes start.plan start.sink _ (told.told streams solution) } },
+        g.due,
+      ),
+      g.more,
+      g.read,
+    )
+
+pub run_more : {B T : Type 0} (gives : Giving B) (is_due : Due B) (has_told : Telling T) (start : Start B) (source : SourceTold) (sink : SinkTold) (batches : B) (telling : T) (net : NetView)
+    → IsDueNow gives is_due has_told start source sink batches telling net → IsSomeMore gives is_due source batches net
+run_more {B} {T} gives is_due has_told start source sink batches telling net u = record { start = start; inputs = u.0.inputs; given = u.0.given; due = u.1; stands = u.0.stands }
 
 -- and was read
-pub went_on : {B T : Type 0} (gives : Giving B) (has_told : Telling T) (start : Start B) (end : BatchEnd) (source later : SourceTold) (sink : SinkTold) (batches batches_now : B) (telling : T) (net now : NetView) → taken_out now ≡ taken_out net
-    → ((inputs : Inputs) → gives start.batches batches start.plan start.source source More inputs → StandsFor (job_with start inputs) net → WentOn gives start end later batches_now inputs now)
-    → IsUnderWay gives has_told start More source sink batches telling net → IsUnderWay gives has_told start end later sink batches_now telling now
-went_on {B} {T} gives has_told start end source later sink batches batches_now telling net now same goes u =
-    let on = goes u.inputs u.given u.stands in
+pub went_on : {B T : Type 0} (gives : Giving B) (is_due : Due B) (has_told : Telling T) (start : Start B) (end : BatchEnd) (source later : SourceTold) (sink : SinkTold) (batches batches_now : B) (telling : T) (net now : NetView) → taken_out now ≡ taken_out net
+    → ((inputs : Inputs) → gives start.batches batches start.plan start.source source More inputs → is_due batches start.plan inputs → StandsFor (job_with start inputs) net → WentOn gives start end later batches_now inputs now)
+    → IsDueNow gives is_due has_told start source sink batches telling net → IsUnderWay gives has_told start end later sink batches_now telling now
+went_on {B} {T} gives is_due has_told start end source later sink batches batches_now telling net now same goes d =
+    let u = d.0 in
+    let on = goes u.inputs u.given d.1 u.stands in
     record {
       inputs = on.all;
       given = on.given;
@@ -202,6 +280,7 @@ short_told {B} {T} gives reads_on has_told form start end source sink sink_now b
       last = inl refl;
       stood = stands_still job now (keeps job u.stands);
       front = inl (tells job start.sink u.stands u.is_told);
+      unended = λ _. tells job start.sink u.stands u.is_told;
     }
 
 -- where none was
@@ -225,4 +304,5 @@ short_more {B} {T} gives reads_on has_told form start source later sink batches 
       last = inr (tt, read);
       stood = stands_still job now (keeps job u.stands);
       front = inl (told_some has_told job start.sink sink (taken_out net) telling u.is_told);
+      unended = λ _. told_some has_told job start.sink sink (taken_out net) telling u.is_told;
     }

@@ -8,6 +8,7 @@ use Rattle.mg_calc.specs.declared.node_fault.NodeFault.{NodeFault}
 use Rattle.mg_calc.specs.Meaning.{faults, count_of}
 use Rattle.mg_calc.proofs.Solutions.{solution_has_each}
 use Rattle.mg_calc.proofs.Jobs.{any_state, job_known}
+use Rattle.mg_feed.specs.declared.feed_end.FeedEnd.{FeedEnd}
 use Rattle.mg_answer.specs.Report.{end_of}
 use Rattle.mg_answer.specs.Outcomes.{TellsOf}
 use Rattle.mg_answer.specs.declared.outcomes.Outcomes.{Outcomes}
@@ -19,7 +20,8 @@ use Rattle.mg_sched.specs.Views.{NetView}
 use Rattle.mg_sched.specs.Reports.{report_of, stream_end}
 use Rattle.mg_sched.proofs.Solved.{solved}
 use Rattle.mg_sched.proofs.RestingReports.{rests_with_sets, rests_with_all_faults, rests_with_ends}
-use Rattle.mg_drive.specs.Code.Running.{HasRested, SomeRested}
+use Rattle.mg_drive.specs.Batches.{Giving, logged, AreOfGiven}
+use Rattle.mg_drive.specs.Code.Running.{HasRested, SomeRested, SomeRestedOf}
 use Rattle.mg_drive.specs.Code.Ending.{told_end, TellsNet}
 use Rattle.mg_drive.proofs.Jobs.{valid_plan}
 
@@ -63,3 +65,20 @@ faults_there plan net outcomes some tells =
     let told = tells_at some.job net found.0 outcomes some.has_rested found.1 tells in
     subst (λ (fs : List NodeFault). All (λ fault. fault.node < length plan.nodes) fs) (sym told.faults)
     (subst (λ (p : Plan). All (λ fault. fault.node < length p.nodes) (faults some.job.job found.0)) some.plan_is (faults-below some.job.job found.0))
+
+-- it is told of what batches gave together
+pub of_given : {B : Type 0} (gives : Giving B) (plan : Plan) (end : FeedEnd) (net : NetView) (batches : B) (outcomes : Outcomes) → SomeRestedOf gives plan end net batches → TellsNet net outcomes → AreOfGiven gives plan end batches outcomes
+of_given {B} gives plan end net batches outcomes r tells =
+    let given = r.given in
+    let stood = given.as_given in
+    let job = logged given.plan given.so_far stood.boxes in
+    let found = solved job (valid_plan job net stood.stands) in
+    subst (λ (p : Plan). AreOfGiven gives p end batches outcomes) r.plan_is (record {
+      began = given.began;
+      first = given.first;
+      source = given.source;
+      inputs = given.so_far;
+      given = stood.given;
+      streams = found.0;
+      tells = tells_at job net found.0 outcomes stood.has_rested found.1 tells;
+    })

@@ -16,7 +16,6 @@ use Rattle.mg_answer.specs.Text.{output_names, sets_text}
 use Rattle.mg_answer.specs.Summary.{summary_text}
 use Rattle.mg_answer.specs.Answer.{Form, packet_lines, totals, in_place, output_in}
 use Rattle.mg_answer.specs.Devices.{Device, device}
-use Rattle.mg_answer.specs.Wrote.{Wrote}
 use Rattle.mg_answer.specs.Put.{TextView, HasPut}
 use Rattle.mg_answer.specs.declared.status.Status.{Status}
 use Rattle.mg_answer.proofs.Writing.{put-front}
@@ -32,8 +31,9 @@ use Rattle.mg_sched.proofs.HadBack.{used_back}
 use Rattle.mg_sched.proofs.OutputsTaken.{outputs_by_default}
 use Rattle.mg_drive.specs.Told.{told_in}
 use Rattle.mg_drive.specs.Nets.{Keeps}
-use Rattle.mg_drive.specs.Code.Running.{Giving, Reading, Telling, Start, job_with, IsTold, IsUnderWay, HasRested, IsAllTaken, SomeRested, IsOver, IsShort, FrontIn}
-use Rattle.mg_drive.specs.Code.Ending.{IsWhole, HadAllOf, HasEnded}
+use Rattle.mg_drive.specs.Batches.{logged}
+use Rattle.mg_drive.specs.Code.Running.{Giving, Reading, Telling, Start, job_with, IsTold, IsUnderWay, HasRested, IsAllTaken, SomeRested, SomeRestedOf, IsOver, IsShort, FrontIn}
+use Rattle.mg_drive.specs.Code.Ending.{IsWhole, HadAllOf, Writing, HasEnded}
 use Rattle.mg_drive.proofs.Jobs.{valid_plan, plan_stood}
 use Rattle.mg_drive.proofs.TakingSets.{told_some}
 
@@ -109,21 +109,47 @@ had_of job net wound stands h winds all =
 
 -- The end --
 
--- a run that is over has rested for its job
+-- a run that is over has rested with all that was given
 pub some_rested : {B T : Type 0} (gives : Giving B) (has_told : Telling T) (plan : Plan) (start : Start B) (end : FeedEnd) (source : SourceTold) (sink : SinkTold) (batches : B) (telling : T) (net : NetView) → start.plan ≡ plan
-    → IsOver gives has_told start end source sink batches telling net → SomeRested plan net
+    → IsOver gives has_told start end source sink batches telling net → SomeRestedOf gives plan end net batches
 some_rested {B} {T} gives has_told plan start end source sink batches telling net is over =
-    record { job = job_with start over.under_way.inputs; plan_is = is; stands = over.under_way.stands; has_rested = over.has_rested }
+    let u = over.under_way in
+    record {
+      given = record {
+        began = start.batches;
+        plan = start.plan;
+        first = start.source;
+        source = source;
+        so_far = u.inputs;
+        as_given = record {
+          valid = (valid_plan (job_with start u.inputs) net u.stands).plan;
+          given = u.given;
+          boxes = start.boxes;
+          stands = u.stands;
+          has_rested = over.has_rested;
+        };
+      };
+      plan_is = is;
+    }
+
+-- and for some job
+pub rested_of : {B : Type 0} (gives : Giving B) (plan : Plan) (end : FeedEnd) (net : NetView) (batches : B) → SomeRestedOf gives plan end net batches → SomeRested plan net
+rested_of {B} gives plan end net batches r = record {
+  job = logged r.given.plan r.given.so_far r.given.as_given.boxes;
+  plan_is = r.plan_is;
+  stands = r.given.as_given.stands;
+  has_rested = r.given.as_given.has_rested;
+}
 
 -- its answer was written
-pub ended_over : {B T : Type 0} (gives : Giving B) (has_told : Telling T) (form : Form) (report : Bool) (plan : Plan) (start : Start B) (end : FeedEnd) (source : SourceTold) (sink now : SinkTold) (batches : B) (telling : T) (net wound : NetView) (text : TextView) (status : Status)
+pub ended_over : {B T : Type 0} (gives : Giving B) (writes : Writing B) (has_told : Telling T) (form : Form) (report : Bool) (plan : Plan) (start : Start B) (end : FeedEnd) (source : SourceTold) (sink now : SinkTold) (batches : B) (telling : T) (net wound : NetView) (text : TextView) (status : Status)
     (notes : Device SinkTold) → start.plan ≡ plan
     → ((p : Plan) (f n : SinkTold) (sets : List (TimedSet Plain)) → has_told telling p f n sets → HasPut f n text (told_in form p sets))
     → ((fm : Form) (job : LoggedJob) (first : SinkTold) → job.job.plan ≡ plan → StandsFor job net → HasRested job net → IsWhole fm first sink job.job text
-    → Wrote (record { form = fm; report = report }) job.job end status (device first now) notes)
+    → writes batches fm report job.job end status (device first now) notes)
     → WindsUpNet net wound → wound.wound ≡ length net.plan.nodes
-    → IsOver gives has_told start end source sink batches telling net → HasEnded gives form report start status source now notes wound
-ended_over {B} {T} gives has_told form report plan start end source sink now batches telling net wound text status notes is puts wrote winds all over =
+    → IsOver gives has_told start end source sink batches telling net → HasEnded gives writes form report start status source now notes wound
+ended_over {B} {T} gives writes has_told form report plan start end source sink now batches telling net wound text status notes is puts wrote winds all over =
     let u = over.under_way in
     let job = job_with start u.inputs in
     record {
@@ -151,6 +177,7 @@ short_over {B} {T} gives reads_on has_told form start end source sink batches te
       last = inl refl;
       stood = record { before = net; stands = u.stands; since = inl refl };
       front = inl (told_some has_told job start.sink sink (taken_out net) telling u.is_told);
+      unended = λ more. absurd more;
     }
 
 -- or after that
@@ -170,6 +197,7 @@ short_end {B} {T} gives reads_on has_told form start end source sink now batches
       last = inl refl;
       stood = record { before = net; stands = u.stands; since = since };
       front = inr (front form job.job start.sink (whole_told has_told form job start.sink sink net telling text u.stands over.all u.is_told puts));
+      unended = λ more. absurd more;
     }
 
 pub winds_keep : (net now : NetView) → (now ≡ net) ⊎ WindsUpNet net now → Keeps net now

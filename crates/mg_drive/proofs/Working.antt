@@ -10,7 +10,7 @@ use Rattle.mg_drive.proofs.Looping.{keeps_on}
 
 -- a net is what became of itself
 pub became_itself : (net : NetView) → Became net net
-became_itself net = record { stands = λ job h. h; taken = refl; plan = refl; spare = refl }
+became_itself net = record { stands = λ job h. h; taken = refl; plan = refl; spare = refl; whole = λ stream number h. h }
 
 pub still_some : (before now : NetView) → StandsForSome before → Became before now → StandsForSome now
 still_some before now some b = record { job = some.job; stands = b.stands some.job some.stands }

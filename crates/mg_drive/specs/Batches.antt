@@ -1,13 +1,28 @@
 -- Batches: what they hand to a graph.
-use Rattle.std.specs.Prelude.{List, Option, ⊤}
+use Rattle.std.specs.Prelude.{◌≡◌, ◌⊎◌, ◌<◌, ◌^◌, ℕ, List, All, length, slice_index_or, ⊤}
+use Rattle.mg_edge.specs.Edge.{SourceTold, SinkTold}
+use Rattle.mg_value.specs.Payload.{Plain}
+use Rattle.mg_value.specs.Prefix.{StreamPrefix, empty_prefix}
+use Rattle.mg_value.specs.Extension.{AreExtendedBy}
 use Rattle.mg_calc.specs.declared.inputs.Inputs.{Inputs}
 use Rattle.mg_calc.specs.declared.plan.Plan.{Plan}
-use Rattle.mg_calc.specs.Equations.{IsJob}
+use Rattle.mg_calc.specs.Plan.{IsValid, InputsFit}
+use Rattle.mg_calc.specs.Equations.{Job, IsSolution}
 use Rattle.mg_calc.specs.Told.{CalculatorTold}
+use Rattle.mg_feed.specs.declared.feed_end.FeedEnd.{FeedEnd}
 use Rattle.mg_feed.specs.declared.feed_end.BatchEnd.{BatchEnd}
 use Rattle.mg_feed.specs.declared.feed_end.BatchEnd.TheVariants.{More, End}
 use Rattle.mg_node.specs.Job.{LoggedJob}
-use Rattle.mg_sched.specs.Extends.{GoesOnWith}
+use Rattle.mg_node.specs.Extending.{joined}
+use Rattle.mg_sched.specs.Views.{NetView}
+use Rattle.mg_sched.specs.StandsFor.{StandsFor}
+use Rattle.mg_answer.specs.Answer.{Form, output_in}
+use Rattle.mg_answer.specs.Outcomes.{TellsOf}
+use Rattle.mg_answer.specs.Put.{TextView, HasPut}
+use Rattle.mg_answer.specs.declared.outcomes.Outcomes.{Outcomes}
+use Rattle.mg_drive.specs.Nets.{HasRested, Wanted, AreRead}
+use Rattle.mg_drive.specs.declared.batches.Onward.{Onward}
+use Rattle.mg_drive.specs.declared.batches.Onward.TheVariants.{Round, Next, End as Over}
 
 -- there is more behind a batch
 abbrev pub IsMore : BatchEnd → Type 0
@@ -18,13 +33,108 @@ IsMore (End end) = ⊥
 abbrev pub logged : Plan → Inputs → List CalculatorTold → LoggedJob
 logged plan inputs boxes = record { job = record { plan = plan; inputs = inputs }; boxes = boxes }
 
--- The first batch was given: it makes a job of the plan.
+-- The first batch was given: it fits the plan.
 pub record IsFirst (gives : BatchEnd → Inputs → Type 0) (plan : Plan) (end : BatchEnd) (inputs : Inputs) : Type 0 where
   pub given : gives end inputs
-  pub is_job : IsJob (record { plan = plan; inputs = inputs })
+  pub fits : InputsFit plan inputs
 
--- A batch more was given: all together come to inputs, with which the job goes on from those so far.
+-- with more, inputs so far come to all: each has its further piece behind what it had, and all of them fit the plan
+pub record InputsGoOn (plan : Plan) (so_far more all : Inputs) : Type 0 where
+  pub fits : InputsFit plan all
+  pub sides : so_far.sides ≡ all.sides
+  pub extended : AreExtendedBy so_far.streams all.streams
+  pub pieces : length more.streams ≡ length so_far.streams
+  pub streams : (input : ℕ) → input < length more.streams → slice_index_or all.streams input empty_prefix
+      ≡ joined (slice_index_or so_far.streams input empty_prefix) (slice_index_or more.streams input empty_prefix)
+
+-- More was given: all together come to inputs that go on from those so far.
 pub record GoesOn (gives : Inputs → Type 0) (plan : Plan) (so_far more : Inputs) : Type 0 where
   pub all : Inputs
   pub given : gives all
-  pub goes_on : (boxes : List CalculatorTold) → GoesOnWith more (logged plan so_far boxes) (logged plan all boxes)
+  pub goes_on : InputsGoOn plan so_far more all
+
+-- How a run goes on --
+
+-- what batches of a kind gave, all of them together
+abbrev pub Giving : Type 0 → Type 1
+Giving B = B → B → Plan → SourceTold → SourceTold → BatchEnd → Inputs → Type 0
+
+-- what they had given together after each batch, the newest first
+abbrev pub Coming : Type 0 → Type 1
+Coming B = B → B → Plan → SourceTold → SourceTold → BatchEnd → List Inputs → Type 0
+
+-- after which inputs the next batch is due
+abbrev pub Due : Type 0 → Type 1
+Due B = B → Plan → Inputs → Type 0
+
+-- A batch may be read: none was given yet, or the next one is due.
+abbrev pub MayRead : {B : Type 0} → (B → Plan → Type 0) → Due B → B → Plan → Type 0
+MayRead is_fresh is_due batches plan = is_fresh batches plan ⊎ ((inputs : Inputs) × is_due batches plan inputs)
+
+-- A net has come to rest over what batches gave, the last of which ended so.
+pub record IsAsGiven {B : Type 0} (gives : Giving B) (began : B) (plan : Plan) (first source : SourceTold) (last : BatchEnd) (so_far : Inputs) (net : NetView) (batches : B) : Type 0 where
+  pub valid : IsValid plan
+  pub given : gives began batches plan first source last so_far
+  pub boxes : List CalculatorTold
+  pub stands : StandsFor (logged plan so_far boxes) net
+  pub has_rested : HasRested (logged plan so_far boxes) net
+
+-- there is a run of some plan in which it has
+pub record SomeGiven {B : Type 0} (gives : Giving B) (last : BatchEnd) (net : NetView) (batches : B) : Type 0 where
+  pub began : B
+  pub plan : Plan
+  pub first : SourceTold
+  pub source : SourceTold
+  pub so_far : Inputs
+  pub as_given : IsAsGiven gives began plan first source last so_far net batches
+
+-- The next batch is due: the input has no end yet, nothing comes before it, and all that is in the net was read.
+pub record NextIsDue {B : Type 0} (gives : Giving B) (is_due : Due B) (wants : B → List Wanted) (began : B) (plan : Plan) (first source : SourceTold) (last : BatchEnd) (so_far : Inputs) (net : NetView) (now : B) : Type 0 where
+  pub more : last ≡ More
+  pub given : gives began now plan first source More so_far
+  pub due : is_due now plan so_far
+  pub read : AreRead (wants now) net
+
+-- How a run goes on: something comes before the next batch; or that is due; or the input ended so, and all of it was given.
+abbrev pub GoesOnward : {B : Type 0} → Giving B → Due B → (B → List Wanted) → B → Plan → SourceTold → SourceTold → BatchEnd → Inputs → NetView → B → Onward → Type 0
+GoesOnward gives is_due wants began plan first source last so_far net now (Round more) = (last ≡ More) × GoesOn (gives began now plan first source More) plan so_far more
+GoesOnward gives is_due wants began plan first source last so_far net now Next = NextIsDue gives is_due wants began plan first source last so_far net now
+GoesOnward gives is_due wants began plan first source last so_far net now (Over end) = gives began now plan first source (End end) so_far
+
+-- the bound on the batches and rounds that may still come: it falls with each round, and else it stays
+abbrev pub RoundLeaves : Onward → ℕ → ℕ → Type 0
+RoundLeaves (Round more) before now = now < before
+RoundLeaves Next before now = now ≡ before
+RoundLeaves (Over end) before now = now ≡ before
+
+-- how a run goes on where nothing comes between batches
+abbrev pub PlainOnward : BatchEnd → Onward → Type 0
+PlainOnward More onward = onward ≡ Next
+PlainOnward (End end) onward = onward ≡ Over end
+
+-- How a run ends --
+
+-- outcomes are of as many nodes and streams as a plan has
+pub record Tells (plan : Plan) (outcomes : Outcomes) : Type 0 where
+  pub few : length outcomes.ends.items < 2 ^ 32
+  pub many : length outcomes.ends.items ≡ length plan.streams
+  pub sets : length outcomes.sets ≡ length plan.nodes
+  pub nodes : All (λ fault. fault.node < length plan.nodes) outcomes.faults
+
+-- outcomes are told of streams of the job over what batches gave together, with whose last the input ended so
+pub record AreOfGiven {B : Type 0} (gives : Giving B) (plan : Plan) (end : FeedEnd) (batches : B) (outcomes : Outcomes) : Type 0 where
+  pub began : B
+  pub first : SourceTold
+  pub source : SourceTold
+  pub inputs : Inputs
+  pub given : gives began batches plan first source (End end) inputs
+  pub streams : List (StreamPrefix Plain)
+  pub tells : TellsOf (record { plan = plan; inputs = inputs }) streams outcomes
+
+-- there is a solution of a job of the plan: outcomes are told of it, and a text was put that tells it in a form
+pub record Ends (form : Form) (job : Job) (first sink : SinkTold) (plan : Plan) (text : TextView) (outcomes : Outcomes) : Type 0 where
+  pub plan_is : job.plan ≡ plan
+  pub streams : List (StreamPrefix Plain)
+  pub solution : IsSolution job streams
+  pub tells : TellsOf job streams outcomes
+  pub put : HasPut first sink text (output_in form plan streams)

@@ -3,5 +3,8 @@ pub mod Running
 pub mod Lines
 pub mod Ending
 pub mod Packets
+pub mod InPieces
 pub mod Tracing
 pub mod Nothing
+pub mod Live
+pub mod LiveRunning

@@ -33,7 +33,7 @@ pub record HadItsCalls (job : Job) (streams : List (StreamPrefix Plain)) (node :
   pub law : now.law ≡ before.law
   pub shape : now.shape ≡ before.shape
 
--- The calculator at a place, before and now, are as a relation has it.
+-- The calculator at a place before and the one there now stand in a relation.
 pub record IsAt (place : ℕ) (P : CalculatorTold → CalculatorTold → Type 0) (boxes : Device (List CalculatorTold)) : Type 0 where
   pub before : CalculatorTold
   pub now : CalculatorTold
@@ -48,7 +48,7 @@ pub record HadCallsOf (job : Job) (boxes : Device (List CalculatorTold)) : Type 
   pub each : (number place : ℕ) (node : PlanNode) → slice_get job.plan.nodes number ≡ Some node → node.box_number ≡ Some place
       → IsAt place (HadItsCalls job streams node) boxes
 
--- So it is over what the input came to.
+-- They had them in the solution over what the input came to.
 pub record HadCalls (plan : Plan) (input : Device SourceTold) (boxes : Device (List CalculatorTold)) : Type 0 where
   pub read : Read
   pub came : CameTo (inputs_of plan) input read
@@ -82,13 +82,13 @@ pub record HadFronts (job : Job) (boxes : Device (List CalculatorTold)) : Type 0
   pub each : (number place : ℕ) (node : PlanNode) → slice_get job.plan.nodes number ≡ Some node → node.box_number ≡ Some place
       → IsAt place (HadAFront job streams node) boxes
 
--- The input was read, and so it is over what it came to.
+-- The input was read, and they had such fronts in the solution over what it came to.
 pub record HadFrontsOfRead (plan : Plan) (input : Device SourceTold) (boxes : Device (List CalculatorTold)) : Type 0 where
   pub read : Read
   pub came : CameTo (inputs_of plan) input read
   pub fronts : HadFronts (job_of plan read) boxes
 
--- Memory ran out: none had a call, or the input was read, and so it is over what it came to.
+-- Memory ran out: none had a call, or the input was read, and they had such fronts.
 abbrev pub HadSome : Plan → Device SourceTold → Device (List CalculatorTold) → Type 0
 HadSome plan input boxes = Untouched boxes ⊎ HadFrontsOfRead plan input boxes
 

@@ -6,3 +6,6 @@ pub mod Leaves
 pub mod OneRun
 pub mod Traced
 pub mod Code
+pub mod InBatches
+pub mod Live
+pub mod OneLive

@@ -26,7 +26,7 @@ pub record CameBack (plan : Plan) (before now : List CalculatorTold) : Type 0 wh
   pub count : length now ≡ length before
   pub unused : (place : ℕ) → All (λ node. ¬ (node.box_number ≡ Some place)) plan.nodes → slice_get now place ≡ slice_get before place
 
--- Each other one is to what it was as a relation of its node has it.
+-- And each that a node uses stands in a relation to what it was, which is told of the node.
 pub record AllHad (plan : Plan) (had : PlanNode → CalculatorTold → CalculatorTold → Type 0) (boxes : Device (List CalculatorTold)) : Type 0 where
   pub back : CameBack plan boxes.before boxes.now
   pub used : (number place : ℕ) (node : PlanNode) → slice_get plan.nodes number ≡ Some node → node.box_number ≡ Some place → IsAt place (had node) boxes
@@ -65,7 +65,7 @@ pub record ShortAtOnce (plan : Plan) (input : Device SourceTold) (output : Devic
   pub read : ReadSome (inputs_of plan) input
   pub nothing : WasNothing output boxes
 
--- Memory ran out once the input had been read so far.
+-- Memory ran out once the input had been read to its end, its first line that isn't good or its first failed read.
 pub record ShortAtEnd (plan : Plan) (input : Device SourceTold) (output : Device SinkTold) (boxes : Device (List CalculatorTold)) : Type 0 where
   pub read : Read
   pub came : CameTo (inputs_of plan) input read
@@ -83,7 +83,7 @@ pub record ShortBefore (plan : Plan) (input : Device SourceTold) (output : Devic
   pub met : ended ≡ true → EndCame input.before input.now × (later ≡ [])
   pub short : (rest : List ℕ) → (ended ≡ true → rest ≡ []) → OneShort packet_lines (job_of plan (ended_input (inputs_of plan) (first ++ rest))) output boxes
 
--- before anything was written or called, once the input had been read, or while there was more
+-- memory ran out before anything was written or called, once the input had been read, or while there was more
 abbrev pub ShortIn : Plan → Device SourceTold → Device SinkTold → Device (List CalculatorTold) → Type 0
 ShortIn plan input output boxes = ShortAtOnce plan input output boxes ⊎ (ShortAtEnd plan input output boxes ⊎ ShortBefore plan input output boxes)
 
@@ -93,7 +93,7 @@ pub record ShortReading (plan : Plan) (status : Status) (devices : RunDevices) (
   pub noted : Noted devices.notes memory_note
   pub by : ShortIn plan devices.input devices.output boxes
 
--- how a run ended
+-- a run over packet lines ended with this status: it was one thing, or memory ran out
 abbrev pub RanOverLines : Bool → Plan → Status → RunDevices → Device (List CalculatorTold) → Type 0
 RanOverLines report plan status devices boxes = OneReading report plan status devices boxes ⊎ ShortReading plan status devices boxes
 

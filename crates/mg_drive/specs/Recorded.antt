@@ -11,7 +11,7 @@ abbrev pub HasPutUnless : Bool → SinkTold → SinkTold → BlockView → List 
 HasPutUnless false first now blocks text = HasPutIn first now blocks text
 HasPutUnless true first now blocks text = TookFront (device first now) text
 
--- Behind whatever was put into a text before, these events' lines were, unless memory ran out.
+-- The lines of these events were put behind whatever text was put before, unless memory ran out.
 abbrev pub HasEvents : SinkTold → BlockView → Bool → SinkTold → BlockView → List Event → Type 0
 HasEvents sink blocks out_of_memory sink_now blocks_now events =
     (first : SinkTold) (text : List ℕ) → HasPutIn first sink blocks text → HasPutUnless out_of_memory first sink_now blocks_now (text ++ events_text events)

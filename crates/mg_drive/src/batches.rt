@@ -1,14 +1,23 @@
-ghost use Rattle.std.specs.Prelude.{◌≡◌, ◌<◌, ℕ, Bool, false, IfOk};
-ghost use Rattle.mg_edge.specs.Edge.{SourceTold};
+ghost use Rattle.std.specs.Prelude.{◌≡◌, ◌<◌, ◌∷◌, [], ℕ, List, Bool, false, IfOk, OnOk, OnErr};
+ghost use Rattle.mg_edge.specs.Edge.{SourceTold, SinkTold};
 ghost use Rattle.mg_calc.specs.declared.plan.Plan.{Plan};
 ghost use Rattle.mg_calc.specs.declared.inputs.Inputs.{Inputs as Given};
-ghost use Rattle.mg_calc.specs.Plan.{IsValid};
+ghost use Rattle.mg_calc.specs.Plan.{IsValidWithFree};
+ghost use Rattle.mg_calc.specs.Equations.{Job};
 ghost use Rattle.mg_feed.specs.declared.feed_end.BatchEnd.{BatchEnd as Ending};
-ghost use Rattle.mg_drive.specs.Batches.{IsMore, IsFirst, GoesOn};
+ghost use Rattle.mg_feed.specs.declared.feed_end.FeedEnd.{FeedEnd as FeedEnding};
+ghost use Rattle.mg_answer.specs.Answer.{Form};
+ghost use Rattle.mg_answer.specs.Put.{HasPut};
+ghost use Rattle.mg_answer.specs.Devices.{Device, device, TookFront};
+ghost use Rattle.mg_answer.specs.declared.status.Status.{Status as Stands};
+ghost use Rattle.mg_drive.specs.Nets.{Wanted, AreThere};
+ghost use Rattle.mg_drive.specs.Batches.{IsMore, MayRead, IsFirst, GoesOn, GoesOnward, RoundLeaves, SomeGiven, IsAsGiven, Tells, AreOfGiven, Ends};
 
+use crate::Driven;
+use mg_answer::{Outcomes, OutputText, Run, Status};
 use mg_calc::Inputs;
-use mg_edge::Source;
-use mg_feed::BatchEnd;
+use mg_edge::{Sink, Source};
+use mg_feed::{BatchEnd, FeedEnd};
 use std::alloc::AllocError;
 
 /// A batch: how it ended, and what it hands to the graph.
@@ -18,34 +27,98 @@ pub struct Batch {
     pub inputs: Inputs,
 }
 
+/// How a run goes on once its net has come to rest.
+#[derive(Drop)]
+pub enum Onward {
+    /// This comes to the graph before the next batch does.
+    Round(Inputs),
+    /// The next batch is due.
+    Next,
+    /// No batch is left: the input ended so.
+    End(FeedEnd),
+}
+
+/// How a run ended whose net has come to rest: its input, and the text of its outputs.
+#[derive(Drop)]
+pub struct Closing {
+    pub end: FeedEnd,
+    pub text: OutputText,
+}
+
 /// Where the batches of a run come from.
 pub trait Batches: Drop {
-    /// It has given no batch yet, for a plan.
+    /// It is new for a plan: it has given no batch.
     ghost is_fresh: { Self → Plan → Type 0 };
 
-    /// All that it has given together, since it was the first value, for a plan and of a source that told the first and tells the
-    /// second: by how the last batch ended, these inputs.
+    /// From the first value to the second it has given these inputs, all batches together, for a plan; the source told the first then
+    /// and tells the second now; and the last batch ended so.
     ghost gives: { Self → Self → Plan → SourceTold → SourceTold → Ending → Given → Type 0 };
 
-    /// What a call reads of a source, whatever it answers, for a plan and where all was given of a source that told the first: it told
-    /// the second before the call, and the third after it.
+    /// The same batch by batch: the list has what all batches up to each of them come to together, for the newest batch first.
+    ghost came: { Self → Self → Plan → SourceTold → SourceTold → Ending → List Given → Type 0 };
+
+    /// Where it has given these inputs for a plan, the next batch is due, and nothing else comes before it.
+    ghost is_due: { Self → Plan → Given → Type 0 };
+
+    /// What it still has to read of a net's streams, so that it mustn't be given up.
+    ghost wants: { Self → List Wanted };
+
+    /// What a further call of `next` reads of its source, whatever it answers, for a plan: the source told the first when the run
+    /// began, the second before the call, and the third after it.
     ghost reads_on: { Self → Plan → SourceTold → SourceTold → SourceTold → Type 0 };
 
-    /// A bound on the batches that may still come.
+    /// A bound on the batches and rounds that may still come.
     ghost left: { Self → ℕ };
 
     /// Whether it reads its source.
     ghost reads: { Bool };
 
-    /// The next batch. None is behind one that ended with the input's end.
+    /// What is written at the end of a run over these batches, of a job over what they gave and of an input that ended so: in this
+    /// form, with a report or without, the status, and what the output and the notes take.
+    ghost wrote: { Self → Form → Bool → Job → FeedEnding → Stands → Device SinkTold → Device SinkTold → Type 0 };
+
+    /// The next batch. Behind a batch with which the input ended there is none.
     fn next<S: Source>(&mut self, input: &mut S) -> Result<Batch, AllocError>
-        ensures first { (plan : Plan) → IsValid plan → is_fresh self.old plan
+        ensures first { (plan : Plan) → IsValidWithFree plan → is_fresh self.old plan
             → IfOk result (λ b. IsFirst (gives self.old self.new plan (S.told input.old) (S.told input.new)) plan b.end b.inputs) }
-        ensures goes_on { (began : Self) (plan : Plan) (first : SourceTold) (so_far : Given) → IsValid plan
-            → gives began self.old plan first (S.told input.old) BatchEnd.More so_far
+        ensures goes_on { (began : Self) (plan : Plan) (first : SourceTold) (so_far : Given) → IsValidWithFree plan
+            → gives began self.old plan first (S.told input.old) BatchEnd.More so_far → is_due self.old plan so_far
             → IfOk result (λ b. GoesOn (gives began self.new plan first (S.told input.new) b.end) plan so_far b.inputs) }
+        ensures first_came { (plan : Plan) → IsValidWithFree plan → is_fresh self.old plan
+            → IfOk result (λ b. IsFirst (λ end inputs. gives self.old self.new plan (S.told input.old) (S.told input.new) end inputs × came self.old self.new plan (S.told input.old) (S.told input.new) end (inputs ∷ [])) plan b.end b.inputs) }
+        ensures comes_on { (began : Self) (plan : Plan) (first : SourceTold) (so_far : Given) (earlier : List Given) → IsValidWithFree plan
+            → came began self.old plan first (S.told input.old) BatchEnd.More (so_far ∷ earlier) → is_due self.old plan so_far
+            → IfOk result (λ b. GoesOn (λ all. gives began self.new plan first (S.told input.new) b.end all × came began self.new plan first (S.told input.new) b.end (all ∷ so_far ∷ earlier)) plan so_far b.inputs) }
         ensures fewer { (began : Self) (plan : Plan) (first : SourceTold) (so_far : Given)
-            → gives began self.old plan first (S.told input.old) BatchEnd.More so_far → IfOk result (λ b. IsMore b.end → left self.new < left self.old) }
-        ensures further { (plan : Plan) (first : SourceTold) → reads_on self.old plan first (S.told input.old) (S.told input.new) }
+            → gives began self.old plan first (S.told input.old) BatchEnd.More so_far → is_due self.old plan so_far
+            → IfOk result (λ b. IsMore b.end → left self.new < left self.old) }
+        ensures wants { wants self.new ≡ wants self.old }
+        ensures further { (plan : Plan) (first : SourceTold) → MayRead is_fresh is_due self.old plan → reads_on self.old plan first (S.told input.old) (S.told input.new) }
         ensures unread { reads ≡ false → S.told input.new ≡ S.told input.old };
+
+    /// How the run goes on, once its net has come to rest over all that was given. The last batch ended so.
+    fn onward<N: Driven>(&mut self, last: BatchEnd, net: &N) -> Result<Onward, AllocError>
+        requires given { SomeGiven gives last (N.net net.now) self.old }
+        requires there { AreThere (wants self.old) (N.net net.now) }
+        ensures onward { (began : Self) (plan : Plan) (first source : SourceTold) (so_far : Given) → IsAsGiven gives began plan first source last so_far (N.net net.now) self.old
+            → IfOk result (GoesOnward gives is_due wants began plan first source last so_far (N.net net.now) self.new) }
+        ensures there { OnOk result (AreThere (wants self.new) (N.net net.now)) }
+        ensures leaves { IfOk result (λ onward. RoundLeaves onward (left self.old) (left self.new)) };
+
+    /// Ends a run over all batches: writes the rest of the text, and the notes. The outcomes are those of the net, by the numbers of its
+    /// plan.
+    fn conclude<K: Sink, E: Sink>(
+        &self,
+        run: &Run<'_>,
+        closing: Closing,
+        outcomes: Outcomes,
+        output: &mut K,
+        notes: &mut E,
+    ) -> Result<Status, AllocError>
+        requires tells { Tells run.now.plan.now outcomes }
+        requires of { AreOfGiven gives run.now.plan.now closing.end self.now outcomes }
+        ensures wrote { IfOk result (λ status. (form : Form) (job : Job) (first : SinkTold) → Ends form job first (K.told output.old) run.now.plan.now closing.text outcomes
+            → wrote self.now form run.now.report job closing.end status (device first (K.told output.new)) (device (E.told notes.old) (E.told notes.new))) }
+        ensures front { OnErr result ((first : SinkTold) (whole : List ℕ) → HasPut first (K.told output.old) closing.text whole → TookFront (device first (K.told output.new)) whole) }
+        ensures unnoted { OnErr result (E.told notes.new ≡ E.told notes.old) };
 }

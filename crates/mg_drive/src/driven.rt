@@ -1,20 +1,24 @@
-ghost use Rattle.std.specs.Prelude.{◌≡◌, List, length, IfOk, OnOk, OnErr};
+ghost use Rattle.std.specs.Prelude.{◌≡◌, ◌<◌, ◌≤◌, ℕ, List, None, length, option_copied, IfOk, OnOk, OnErr};
 ghost use Rattle.std.specs.Bool.{OnTrue};
 ghost use Rattle.mg_value.specs.Payload.{Plain};
 ghost use Rattle.mg_value.specs.Prefix.{StreamPrefix};
+ghost use Rattle.mg_stream.specs.Pool.{Backlog};
 ghost use Rattle.mg_node.specs.Job.{LoggedJob, Solves};
+ghost use Rattle.mg_node.specs.Looking.{kept_packet};
 ghost use Rattle.mg_node.specs.Intakes.{HasSet};
 ghost use Rattle.mg_sched.specs.Views.{NetView};
 ghost use Rattle.mg_sched.specs.StandsFor.{StandsFor, StandsForSome, IsRunning};
 ghost use Rattle.mg_sched.specs.Extends.{GoesOnWith, MayGoOnWith};
 ghost use Rattle.mg_sched.specs.Taking.{TakesOut, taken_out};
+ghost use Rattle.mg_sched.specs.Looks.{IsOutputOf, HasFrom};
 ghost use Rattle.mg_sched.specs.Reports.{report_of};
 ghost use Rattle.mg_sched.specs.WindsUp.{MayWindUp, WindsUpNet};
-ghost use Rattle.mg_drive.specs.Nets.{Keeps};
+ghost use Rattle.mg_drive.specs.Nets.{Keeps, GaveNothingUp, HasAtMost};
 
 use mg_calc::Inputs;
 use mg_sched::Report;
-use mg_value::InputSet;
+use mg_time::Timestamp;
+use mg_value::{InputSet, Packet};
 use std::alloc::{AllocError, Global};
 
 /// A net that can be driven, however its nodes are made to run.
@@ -27,6 +31,7 @@ pub trait Driven {
         requires stands { StandsForSome (net self.old) }
         ensures running { OnOk result (IsRunning (net self.new)) }
         ensures keeps { Keeps (net self.old) (net self.new) }
+        ensures whole { GaveNothingUp (net self.old) (net self.new) }
         ensures taken { taken_out (net self.new) ≡ taken_out (net self.old) }
         ensures stands { (job : LoggedJob) → StandsFor job (net self.old) → StandsFor job (net self.new) };
 
@@ -35,15 +40,17 @@ pub trait Driven {
         requires may { MayGoOnWith more.now (net self.old) }
         ensures running { IsRunning (net self.old) → IsRunning (net self.new) }
         ensures keeps { Keeps (net self.old) (net self.new) }
+        ensures whole { GaveNothingUp (net self.old) (net self.new) }
         ensures taken { taken_out (net self.new) ≡ taken_out (net self.old) }
         ensures unchanged { OnErr result (net self.new ≡ net self.old) }
         ensures stands { (first later : LoggedJob) → GoesOnWith more.now first later → StandsFor first (net self.old) → OnOk result (StandsFor later (net self.new)) };
 
-    /// Gives up what all that read it have got.
+    /// Gives up the packets that all readers of their stream have got.
     fn trim(&mut self)
         requires stands { StandsForSome (net self.old) }
         ensures running { IsRunning (net self.old) → IsRunning (net self.new) }
         ensures keeps { Keeps (net self.old) (net self.new) }
+        ensures laid { (stream number : ℕ) → HasAtMost (net self.old) stream number → HasFrom (net self.new) stream number }
         ensures taken { taken_out (net self.new) ≡ taken_out (net self.old) }
         ensures stands { (job : LoggedJob) → StandsFor job (net self.old) → StandsFor job (net self.new) };
 
@@ -52,9 +59,22 @@ pub trait Driven {
         requires places { length into.old ≡ length (net self.old).plan.outputs }
         requires stands { StandsForSome (net self.old) }
         ensures taken { TakesOut result into.old into.new (net self.old) (net self.new) }
+        ensures whole { GaveNothingUp (net self.old) (net self.new) }
         ensures stands { (job : LoggedJob) → StandsFor job (net self.old) → StandsFor job (net self.new) }
         ensures in_solution { (job : LoggedJob) (streams : List (StreamPrefix Plain)) → Solves job streams → StandsFor job (net self.old)
             → OnTrue result (HasSet job streams (length (net self.old).plan.nodes) (taken_out (net self.old)) into.new) };
+
+    /// A packet of a stream, by its number from 0 on. It is there exactly where it was laid and wasn't given up.
+    fn packet(&self, stream: u32, number: u64) -> Option<&Packet>
+        requires stands { StandsForSome (net self.now) }
+        ensures packet { (output : Backlog Plain) → IsOutputOf (net self.now) stream output → option_copied result ≡ kept_packet output number }
+        ensures past { length (net self.now).plan.streams ≤ stream → option_copied result ≡ None };
+
+    /// The bound of a stream.
+    fn bound(&self, stream: u32) -> Timestamp
+        requires stream { stream < length (net self.now).plan.streams }
+        requires stands { StandsForSome (net self.now) }
+        ensures { (output : Backlog Plain) → IsOutputOf (net self.now) stream output → result ≡ output.bound };
 
     /// How far the net has come.
     fn report(&self, alloc: Global) -> Result<Report, AllocError>

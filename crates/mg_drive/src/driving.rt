@@ -8,11 +8,11 @@ ghost use Rattle.mg_value.specs.Prefix.{StreamPrefix};
 ghost use Rattle.mg_node.specs.Job.{LoggedJob, Solves};
 ghost use Rattle.mg_sched.specs.StandsFor.{StandsFor, IsRunning};
 ghost use Rattle.mg_sched.specs.Taking.{taken_out, settled_outputs, HasAllOutputs, LeavesNodes};
-ghost use Rattle.mg_drive.specs.Nets.{Keeps};
+ghost use Rattle.mg_drive.specs.Nets.{Keeps, GaveNothingUp, AreThere, AreRead};
 ghost use Rattle.mg_drive.specs.Batches.{IsMore};
 ghost use Rattle.mg_drive.specs.Code.Running.{Start, job_with, IsTold, IsToldSome, IsSomeTold, IsUnderWay, IsSomeRun, IsSomeMore, WentOn, HasRested, IsAllTaken, IsOver, IsShort};
 
-use crate::{Batches, Driven, Ends, ManyThreads, Telling};
+use crate::{Batches, Driven, Ends, ManyThreads, Onward, Telling};
 use mg_calc::Calculator;
 use mg_edge::{Gate, Sink, Source};
 use mg_feed::{BatchEnd, FeedEnd};
@@ -21,21 +21,23 @@ use std::alloc::AllocError;
 use std::sync::Wait;
 use std::thread::Threads;
 
-// Reads the next batch, and goes on with it. What all parts of the net have got is given up before.
+// Gives up the packets that all readers have got, reads the next batch, and goes on with it.
 fn next_batch<N: Driven, B: Batches, S: Source>(
     net: &mut N,
     batches: &mut B,
     input: &mut S,
 ) -> Result<BatchEnd, AllocError>
-    requires { IsSomeMore B.gives (S.told input.old) batches.old (N.net net.old) }
+    requires more { IsSomeMore B.gives B.is_due (S.told input.old) batches.old (N.net net.old) }
+    requires read { AreRead (B.wants batches.old) (N.net net.old) }
     ensures goes_on { IfOk result (λ end. (start : Start B) (inputs : Given) → B.gives start.batches batches.old start.plan start.source (S.told input.old) BatchEnd.More inputs
-        → StandsFor (job_with start inputs) (N.net net.old) → WentOn B.gives start end (S.told input.new) batches.new inputs (N.net net.new)) }
+        → B.is_due batches.old start.plan inputs → StandsFor (job_with start inputs) (N.net net.old) → WentOn B.gives start end (S.told input.new) batches.new inputs (N.net net.new)) }
     ensures fewer { IfOk result (λ end. IsMore end → B.left batches.new < B.left batches.old) }
+    ensures there { AreThere (B.wants batches.new) (N.net net.new) }
     ensures same { OnErr result ((job : LoggedJob) → StandsFor job (N.net net.old) → StandsFor job (N.net net.new)) }
     ensures taken { taken_out (N.net net.new) ≡ taken_out (N.net net.old) }
     ensures running { IsRunning (N.net net.old) → IsRunning (N.net net.new) }
     ensures keeps { Keeps (N.net net.old) (N.net net.new) }
-    ensures further { (plan : Plan) (first : SourceTold) → B.reads_on batches.old plan first (S.told input.old) (S.told input.new) }
+    ensures further { (plan : Plan) (first : SourceTold) (inputs : Given) → B.is_due batches.old plan inputs → B.reads_on batches.old plan first (S.told input.old) (S.told input.new) }
     ensures unread { B.reads ≡ false → S.told input.new ≡ S.told input.old }
 {
     net.trim();
@@ -55,6 +57,7 @@ pub fn take_all<N: Driven, T: Telling, K: Sink>(
     requires told { IsSomeTold T.has_told (K.told output.old) (N.net net.old) telling.old }
     ensures places { length set.new ≡ length (N.net net.new).plan.outputs }
     ensures left { LeavesNodes (N.net net.old) (N.net net.new) }
+    ensures whole { GaveNothingUp (N.net net.old) (N.net net.new) }
     ensures stands { (job : LoggedJob) → StandsFor job (N.net net.old) → StandsFor job (N.net net.new) }
     ensures told { OnOk result ((job : LoggedJob) (first : SinkTold) → StandsFor job (N.net net.old) → IsTold T.has_told job.job first (K.told output.old) (taken_out (N.net net.old)) telling.old
         → IsTold T.has_told job.job first (K.told output.new) (taken_out (N.net net.new)) telling.new) }
@@ -84,6 +87,7 @@ fn advance<R: Threads + Wait + Sync, G: Gate + Sync, C: Calculator + Send, T: Te
     ensures places { length set.new ≡ length net.new.one.net.plan.outputs }
     ensures running { IsRunning net.new.one.net }
     ensures keeps { Keeps net.old.one.net net.new.one.net }
+    ensures whole { GaveNothingUp net.old.one.net net.new.one.net }
     ensures stands { (job : LoggedJob) → StandsFor job net.old.one.net → StandsFor job net.new.one.net }
     ensures told { OnOk result ((job : LoggedJob) (first : SinkTold) → StandsFor job net.old.one.net → IsTold T.has_told job.job first (K.told output.old) (taken_out net.old.one.net) telling.old
         → IsTold T.has_told job.job first (K.told output.new) (taken_out net.new.one.net) telling.new) }
@@ -114,6 +118,7 @@ pub fn drive<
     output: &mut K,
 ) -> Result<FeedEnd, AllocError>
     requires under_way { (plan : Plan) × IsSomeRun B.gives T.has_told plan first (S.told input.old) (K.told output.old) ends.old.batches ends.old.telling net.old.one.net }
+    requires there { AreThere (B.wants ends.old.batches) net.old.one.net }
     requires places { length ends.old.set ≡ length net.old.one.net.plan.outputs }
     ensures over { IfOk result (λ end. (start : Start B) → IsUnderWay B.gives T.has_told start first (S.told input.old) (K.told output.old) ends.old.batches ends.old.telling net.old.one.net
         → IsOver B.gives T.has_told start end (S.told input.new) (K.told output.new) ends.new.batches ends.new.telling net.new.one.net) }
@@ -126,9 +131,14 @@ pub fn drive<
     let mut last = first;
     'batches: loop {
         advance(net, &mut ends.set, &mut ends.telling, output)?;
-        match last {
-            BatchEnd::More => ends.telling.pass_on(output),
-            BatchEnd::End(end) => return Ok(end),
+        let onward = ends.batches.onward(last, net)?;
+        match onward {
+            Onward::Round(more) => {
+                net.extend(&more)?;
+                continue;
+            }
+            Onward::Next => ends.telling.pass_on(output),
+            Onward::End(end) => return Ok(end),
         }
         last = next_batch(net, &mut ends.batches, input)?;
     }

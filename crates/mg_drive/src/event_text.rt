@@ -26,8 +26,8 @@ impl Puts for EventLine {
     }
 }
 
-/// A text into which the line of each event goes that is heard, and the sink that it is written to, both of them lent. Once memory has run
-/// out no more lines go in.
+/// A text to which the line of each event is added as it is heard, and the sink to which the text is written. Both are lent. Once memory
+/// has run out no more lines are added.
 #[derive(Drop)]
 pub struct EventText<'b, 'o, K: Sink> {
     pub blocks: &'b mut BlockText,

@@ -9,10 +9,10 @@ ghost use Rattle.mg_answer.specs.Wrote.{Wrote};
 ghost use Rattle.mg_answer.specs.Devices.{device};
 ghost use Rattle.mg_sched.specs.StandsFor.{StandsFor};
 ghost use Rattle.mg_sched.specs.WindsUp.{WindsUpNet};
-ghost use Rattle.mg_drive.specs.Code.Running.{HasRested, SomeRested, FrontIn};
+ghost use Rattle.mg_drive.specs.Code.Running.{HasRested, SomeRested, SomeRestedOf, FrontIn};
 ghost use Rattle.mg_drive.specs.Code.Ending.{IsWhole, told_end, TellsNet};
 
-use crate::Driven;
+use crate::{Batches, Closing, Driven};
 use mg_answer::{Outcomes, OutputText, Run, Status, StreamEnd, conclude, conclude_frozen};
 use mg_edge::Sink;
 use mg_feed::FeedEnd;
@@ -40,6 +40,30 @@ pub fn finish<N: Driven, K: Sink, E: Sink>(
     let outcomes = outcomes_of(run.alloc, net)?;
     net.wind_up()?;
     let status = conclude(run, end, &outcomes, text, output, notes)?;
+    Ok(status)
+}
+
+/// The same for a run over batches, which say what is written at its end.
+pub(crate) fn finish_batches<N: Driven, B: Batches, K: Sink, E: Sink>(
+    run: &Run<'_>,
+    net: &mut N,
+    batches: &B,
+    closing: Closing,
+    output: &mut K,
+    notes: &mut E,
+) -> Result<Status, AllocError>
+    requires rested { SomeRestedOf B.gives run.now.plan.now closing.end (N.net net.old) batches.now }
+    ensures wrote { IfOk result (λ status. (form : Form) (job : LoggedJob) (first : SinkTold) → job.job.plan ≡ run.now.plan.now → StandsFor job (N.net net.old) → HasRested job (N.net net.old)
+        → IsWhole form first (K.told output.old) job.job closing.text
+        → B.wrote batches.now form run.now.report job.job closing.end status (device first (K.told output.new)) (device (E.told notes.old) (E.told notes.new))) }
+    ensures front { OnErr result ((form : Form) (job : Job) (first : SinkTold) → IsWhole form first (K.told output.old) job closing.text → FrontIn form first (K.told output.new) job) }
+    ensures unnoted { OnErr result (E.told notes.new ≡ E.told notes.old) }
+    ensures since { (N.net net.new ≡ N.net net.old) ⊎ WindsUpNet (N.net net.old) (N.net net.new) }
+    ensures wound { OnOk result (WindsUpNet (N.net net.old) (N.net net.new) × ((N.net net.new).wound ≡ length (N.net net.old).plan.nodes)) }
+{
+    let outcomes = outcomes_of(run.alloc, net)?;
+    net.wind_up()?;
+    let status = batches.conclude(run, closing, outcomes, output, notes)?;
     Ok(status)
 }
 

@@ -1,6 +1,7 @@
 //! How a net is driven: over batches that come from somewhere, to rest after each, with the sets of its outputs told as they come,
 //! and wound up at the end. The loop stands once, over three small traits: the net, where batches come from, and what is told.
-//! Answers to the definitions of `specs/Leaves.antt` and, of what is written, to those of mg_answer.
+//! Answers to the definitions of `specs/OneRun.antt`, `specs/OneLive.antt`, `specs/Traced.antt` and `specs/Leaves.antt`, and, of what is
+//! written, to those of mg_answer.
 #![tactic(auto)]
 
 mod batches;
@@ -10,11 +11,17 @@ mod driving;
 mod ends;
 mod event_text;
 mod finishing;
+mod in_plan;
 mod lines;
+mod live;
+mod live_running;
+mod looked;
 mod made;
 mod many_threads;
 mod nothing;
 mod one_thread;
+mod onward;
+mod pieces;
 mod recording;
 mod running;
 mod telling;
@@ -22,7 +29,7 @@ mod told_lines;
 mod told_sums;
 mod tracing;
 
-pub use batches::{Batch, Batches};
+pub use batches::{Batch, Batches, Closing, Onward};
 pub use crew::Crew;
 pub use driven::Driven;
 pub use driving::{drive, take_all};
@@ -30,6 +37,8 @@ pub use ends::Ends;
 pub use event_text::EventText;
 pub use finishing::{finish, finish_frozen};
 pub use lines::run_lines;
+pub use live::Live;
+pub use live_running::{run_live_lines, run_live_made};
 pub use made::{Made, run_made};
 pub use many_threads::ManyThreads;
 pub use one_thread::OneThread;

@@ -7,13 +7,17 @@ ghost use Rattle.mg_feed.specs.FeedSeen.{fed};
 ghost use Rattle.mg_answer.specs.Text.{output_names};
 ghost use Rattle.mg_answer.specs.Put.{nothing_put};
 ghost use Rattle.mg_answer.specs.Devices.{device};
+ghost use Rattle.mg_answer.specs.Wrote.{Wrote};
 ghost use Rattle.mg_answer.specs.Held.{told_by, SameDevices};
 ghost use Rattle.mg_sched.specs.Made.{BoxesFit};
 ghost use Rattle.mg_drive.specs.OneRun.{OneReading, ShortIn, RanOverLines};
-ghost use Rattle.mg_drive.specs.Code.Lines.{has_ended as the_end, HadMemory, IsRead, HasBatch, ReadsOn, IsNew, LinesGave, lines_left};
+ghost use Rattle.mg_drive.specs.Code.Lines.{has_ended as the_end, HadMemory, IsRead, HasBatch, ReadsOn, IsNew, LinesGave, LinesCame, lines_left};
 
-use crate::{Batch, Batches, Crew, run_batches};
-use mg_answer::{Devices, OutputText, Run, Status, is_ended, note_out_of_memory, ran_out};
+use crate::onward::plain_onward;
+use crate::{Batch, Batches, Closing, Crew, Driven, Onward, run_batches};
+use mg_answer::{
+    Devices, Outcomes, OutputText, Run, Status, conclude, is_ended, note_out_of_memory, ran_out,
+};
 use mg_calc::Calculator;
 use mg_edge::{Gate, Sink, Source};
 use mg_feed::{BatchEnd, Feed};
@@ -21,8 +25,8 @@ use std::alloc::AllocError;
 use std::sync::Wait;
 use std::thread::Threads;
 
-// How many lines that name a stream a batch has.
-const BATCH: u32 = 4096;
+/// How many lines that name a stream a batch has.
+pub const BATCH: u32 = 4096;
 
 // Whether the input ended well with a batch.
 fn has_ended(end: BatchEnd) -> bool
@@ -63,15 +67,40 @@ impl Batches for Feed {
 
     ghost gives = { λ began f plan first now end inputs. LinesGave (fed f) plan first now end inputs };
 
+    ghost came = { λ began f plan first now end history. LinesCame (fed f) plan first now end history };
+
+    ghost is_due = { λ f plan so_far. Unit {0} };
+
+    ghost wants = { λ f. [] };
+
     ghost reads_on = { λ f plan first at now. ReadsOn (fed f) plan first at now };
 
     ghost left = { λ f. lines_left (fed f) };
 
     ghost reads = { true };
 
+    ghost wrote = { λ f form report job end status output notes. Wrote (record { form = form; report = report }) job end status output notes };
+
     fn next<S: Source>(&mut self, input: &mut S) -> Result<Batch, AllocError> {
         let batch = read_on(self, input)?;
         Ok(batch)
+    }
+
+    fn onward<N: Driven>(&mut self, last: BatchEnd, net: &N) -> Result<Onward, AllocError> {
+        let _ = net;
+        Ok(plain_onward(last))
+    }
+
+    fn conclude<K: Sink, E: Sink>(
+        &self,
+        run: &Run<'_>,
+        closing: Closing,
+        outcomes: Outcomes,
+        output: &mut K,
+        notes: &mut E,
+    ) -> Result<Status, AllocError> {
+        let status = conclude(run, closing.end, &outcomes, closing.text, output, notes)?;
+        Ok(status)
     }
 }
 

@@ -6,24 +6,41 @@ ghost use Rattle.mg_answer.specs.Text.{output_names};
 ghost use Rattle.mg_answer.specs.Summary.{HasSummed};
 ghost use Rattle.mg_answer.specs.Answer.{generated_job};
 ghost use Rattle.mg_answer.specs.Devices.{device};
+ghost use Rattle.mg_answer.specs.Wrote.{Wrote};
 ghost use Rattle.mg_answer.specs.Held.{told_by, SameDevices};
 ghost use Rattle.mg_sched.specs.Made.{BoxesFit};
 ghost use Rattle.mg_drive.specs.OneRun.{OneMade, ShortInMade, RanOverPackets};
-ghost use Rattle.mg_drive.specs.Code.Packets.{AreWaiting, WereGiven};
+ghost use Rattle.mg_feed.specs.GeneratorSeen.{making};
+ghost use Rattle.mg_drive.specs.Code.Packets.{AreWaiting, WereGiven, HaveComeAtOnce};
+ghost use Rattle.mg_drive.specs.Code.InPieces.{AreToCome};
 
-use crate::{Batch, Batches, Crew, run_batches};
-use mg_answer::{Devices, OutputSummary, Run, Status, note_out_of_memory};
-use mg_calc::{Calculator, Inputs};
+use crate::onward::plain_onward;
+use crate::pieces::Pieces;
+use crate::{Batch, Batches, Closing, Crew, Driven, Onward, run_batches};
+use mg_answer::{Devices, Outcomes, OutputSummary, Run, Status, conclude, note_out_of_memory};
+use mg_calc::{Calculator, Inputs, Plan};
 use mg_edge::{Gate, Sink, Source};
 use mg_feed::{BatchEnd, FeedEnd, generate};
-use std::alloc::AllocError;
+use std::alloc::{AllocError, Global};
 use std::sync::Wait;
 use std::thread::Threads;
 
-/// Packets that are made before a run, all of which are its one batch.
+/// Packets that are made before a run, all of which are its one batch: what arrives at free nodes depends on batches.
 #[derive(Drop)]
 pub struct Made {
     packets: Option<Inputs>,
+}
+
+impl Made {
+    /// So many packets for a plan, of which none is handed on yet.
+    pub fn new(alloc: Global, plan: &Plan, number: u32) -> Result<Made, AllocError>
+        ensures { IfOk result (λ made. made.packets ≡ Some (generated_job plan.now number).inputs) }
+    {
+        let inputs = generate(alloc, plan, number)?;
+        Ok(Made {
+            packets: Some(inputs),
+        })
+    }
 }
 
 impl Batches for Made {
@@ -31,11 +48,19 @@ impl Batches for Made {
 
     ghost gives = { λ began m plan first now end inputs. WereGiven began.packets end inputs };
 
+    ghost came = { λ began m plan first now end history. HaveComeAtOnce began.packets end history };
+
+    ghost is_due = { λ m plan so_far. Unit {0} };
+
+    ghost wants = { λ m. [] };
+
     ghost reads_on = { λ m plan first at now. now ≡ at };
 
     ghost left = { λ m. 0 };
 
     ghost reads = { false };
+
+    ghost wrote = { λ m form report job end status output notes. Wrote (record { form = form; report = report }) job end status output notes };
 
     fn next<S: Source>(&mut self, input: &mut S) -> Result<Batch, AllocError> {
         let _ = input;
@@ -47,12 +72,28 @@ impl Batches for Made {
             None => Err(AllocError),
         }
     }
+
+    fn onward<N: Driven>(&mut self, last: BatchEnd, net: &N) -> Result<Onward, AllocError> {
+        let _ = net;
+        Ok(plain_onward(last))
+    }
+
+    fn conclude<K: Sink, E: Sink>(
+        &self,
+        run: &Run<'_>,
+        closing: Closing,
+        outcomes: Outcomes,
+        output: &mut K,
+        notes: &mut E,
+    ) -> Result<Status, AllocError> {
+        let status = conclude(run, closing.end, &outcomes, closing.text, output, notes)?;
+        Ok(status)
+    }
 }
 
 /// Runs the graph of a plan over so many packets that are made, with the calculators that are handed in, and leaves these in their
-/// places. It drives a net over all of them to rest, sums up the sets of its outputs, and writes the summary and then the notes, with
-/// the report behind them where it is asked for. As many workers as the plan says run the net
-/// before it is swept. Each Process call goes through the crew's gate. The input is left as it was.
+/// places. It makes them piece by piece, drives a net over each piece to rest, sums up the sets of its outputs, and writes the summary and
+/// then the notes, with the report behind them where it is asked for. As many workers as the plan says run the net before each sweep. Each Process call goes through the crew's gate. The input is left as it was.
 ///
 /// Where a write of the summary fails, the notes are written all the same, and say so. Where memory runs out they say that alone.
 pub fn run_made<
@@ -86,7 +127,7 @@ pub fn run_made<
     }
 }
 
-// Makes the packets and a summary, and runs the graph over them.
+// Makes a summary, and runs the graph over the packets, which are made as it goes on.
 fn run_whole<
     R: Threads + Wait + Sync,
     G: Gate + Sync,
@@ -114,19 +155,14 @@ fn run_whole<
     Ok(status)
 }
 
-// The packets for a plan, and a summary of which nothing is told yet.
-fn ends_of(run: &Run<'_>, number: u32) -> Result<(Made, OutputSummary), AllocError>
+// The packets that are to come for a plan, and a summary of which nothing is told yet.
+fn ends_of(run: &Run<'_>, number: u32) -> Result<(Pieces, OutputSummary), AllocError>
     requires { IsValid run.now.plan.now }
-    ensures packets { IfOk result (λ ends. ends.0.packets ≡ Some (generated_job run.now.plan.now number).inputs) }
+    ensures packets { IfOk result (λ ends. AreToCome run.now.plan.now number (making ends.0.generator)) }
     ensures names { IfOk result (λ ends. ends.1.names ≡ output_names run.now.plan.now) }
     ensures nothing { IfOk result (λ ends. HasSummed ends.1 []) }
 {
-    let inputs = generate(run.alloc, run.plan, number)?;
+    let pieces = Pieces::new(run.alloc, run.plan, number)?;
     let summary = OutputSummary::new(run.alloc, run.plan)?;
-    Ok((
-        Made {
-            packets: Some(inputs),
-        },
-        summary,
-    ))
+    Ok((pieces, summary))
 }

@@ -4,7 +4,7 @@ ghost use Rattle.mg_sched.specs.StandsFor.{StandsFor, StandsForSome, IsRunning};
 ghost use Rattle.mg_sched.specs.AtRest.{IsAtRest};
 ghost use Rattle.mg_sched.specs.Taking.{taken_out};
 ghost use Rattle.mg_workers.specs.Became.{Became};
-ghost use Rattle.mg_drive.specs.Nets.{Keeps};
+ghost use Rattle.mg_drive.specs.Nets.{Keeps, GaveNothingUp};
 
 use crate::nothing::net_of_nothing;
 use crate::{Driven, OneThread};
@@ -12,13 +12,14 @@ use mg_calc::{Calculator, Inputs};
 use mg_crew::run_workers;
 use mg_edge::Gate;
 use mg_sched::Report;
-use mg_value::InputSet;
+use mg_time::Timestamp;
+use mg_value::{InputSet, Packet};
 use std::alloc::{AllocError, Global};
 use std::mem;
 use std::sync::Wait;
 use std::thread::Threads;
 
-/// A net that workers run side by side, so many of them, and of which the thread that drives it does what they leave undone.
+/// A net that so many workers run side by side. The thread that drives it does what they leave undone.
 pub struct ManyThreads<'a, C: Calculator, R, G: Gate> {
     pub one: OneThread<'a, C, G>,
     pub rt: &'a R,
@@ -56,6 +57,7 @@ impl<'a, C: Calculator + Send, R: Threads + Wait + Sync, G: Gate + Sync> ManyThr
         ensures rest { OnOk result (IsAtRest self.new.one.net) }
         ensures running { IsRunning self.new.one.net }
         ensures keeps { Keeps self.old.one.net self.new.one.net }
+        ensures whole { GaveNothingUp self.old.one.net self.new.one.net }
         ensures taken { taken_out self.new.one.net ≡ taken_out self.old.one.net }
         ensures stands { (job : LoggedJob) → StandsFor job self.old.one.net → StandsFor job self.new.one.net }
     {
@@ -84,6 +86,14 @@ impl<'a, C: Calculator, R, G: Gate> Driven for ManyThreads<'a, C, R, G> {
 
     fn take_out(&mut self, into: &mut InputSet) -> bool {
         self.one.take_out(into)
+    }
+
+    fn packet(&self, stream: u32, number: u64) -> Option<&Packet> {
+        self.one.packet(stream, number)
+    }
+
+    fn bound(&self, stream: u32) -> Timestamp {
+        self.one.bound(stream)
     }
 
     fn report(&self, alloc: Global) -> Result<Report, AllocError> {

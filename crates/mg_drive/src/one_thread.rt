@@ -3,13 +3,14 @@ ghost use Rattle.mg_node.specs.Job.{LoggedJob};
 ghost use Rattle.mg_sched.specs.StandsFor.{StandsFor, StandsForSome, IsRunning};
 ghost use Rattle.mg_sched.specs.AtRest.{IsAtRest};
 ghost use Rattle.mg_sched.specs.Taking.{taken_out};
-ghost use Rattle.mg_drive.specs.Nets.{Keeps};
+ghost use Rattle.mg_drive.specs.Nets.{Keeps, GaveNothingUp};
 
 use crate::Driven;
 use mg_calc::{Calculator, Inputs};
 use mg_edge::Gate;
 use mg_sched::{Deaf, Net, Report};
-use mg_value::InputSet;
+use mg_time::Timestamp;
+use mg_value::{InputSet, Packet};
 use std::alloc::{AllocError, Global};
 
 /// A net whose nodes run on the one thread that drives it, each Process call through a gate.
@@ -26,6 +27,7 @@ impl<'a, C: Calculator, G: Gate> OneThread<'a, C, G> {
         ensures rest { OnOk result (IsAtRest self.new.net) }
         ensures running { IsRunning self.new.net }
         ensures keeps { Keeps self.old.net self.new.net }
+        ensures whole { GaveNothingUp self.old.net self.new.net }
         ensures taken { taken_out self.new.net ≡ taken_out self.old.net }
         ensures stands { (job : LoggedJob) → StandsFor job self.old.net → StandsFor job self.new.net }
     {
@@ -53,6 +55,14 @@ impl<'a, C: Calculator, G: Gate> Driven for OneThread<'a, C, G> {
 
     fn take_out(&mut self, into: &mut InputSet) -> bool {
         self.net.take_out(into)
+    }
+
+    fn packet(&self, stream: u32, number: u64) -> Option<&Packet> {
+        self.net.packet(stream, number)
+    }
+
+    fn bound(&self, stream: u32) -> Timestamp {
+        self.net.bound(stream)
     }
 
     fn report(&self, alloc: Global) -> Result<Report, AllocError> {

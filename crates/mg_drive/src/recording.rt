@@ -79,7 +79,7 @@ fn record_events<G: Gate, C: Calculator, K: Sink>(
     hear_run(net, &mut events)
 }
 
-// Runs a net to rest, and lets a text hear it. There was memory for all lines.
+// Runs a net to rest, and lets a text hear its events. So far there was memory for all lines.
 fn hear_run<G: Gate, C: Calculator, K: Sink>(
     net: &mut OneThread<'_, C, G>,
     events: &mut EventText<'_, '_, K>,

@@ -7,12 +7,13 @@ ghost use Rattle.mg_calc.specs.Told.{CalculatorTold};
 ghost use Rattle.mg_answer.specs.Devices.{device};
 ghost use Rattle.mg_answer.specs.Held.{told_by, SameDevices};
 ghost use Rattle.mg_sched.specs.Made.{BoxesFit};
-ghost use Rattle.mg_drive.specs.Nets.{Keeps};
+ghost use Rattle.mg_drive.specs.Nets.{Keeps, AreThere};
 ghost use Rattle.mg_drive.specs.Code.Running.{Start, IsUnderWay, IsSomeRun, IsShort};
 ghost use Rattle.mg_drive.specs.Code.Ending.{CameBack, since, HasEnded, HasRun, RanShort};
 
 use crate::crew::{has_sources, least_for, workers_for};
-use crate::{Batch, Batches, Crew, Ends, ManyThreads, OneThread, Telling, drive, finish};
+use crate::finishing::finish_batches;
+use crate::{Batch, Batches, Closing, Crew, Ends, ManyThreads, OneThread, Telling, drive};
 use mg_answer::{Devices, Run, Status};
 use mg_calc::Calculator;
 use mg_edge::{Gate, Sink, Source};
@@ -42,10 +43,11 @@ pub fn run_net<
     devices: &mut Devices<'_, '_, '_, S, K, E>,
 ) -> Result<Status, AllocError>
     requires under_way { IsSomeRun B.gives T.has_told run.now.plan.now first (S.told devices.old.input.now) (K.told devices.old.output.now) ends.batches ends.telling net.old.one.net }
+    requires there { AreThere (B.wants ends.batches) net.old.one.net }
     requires places { length ends.set ≡ length net.old.one.net.plan.outputs }
     ensures ended { IfOk result (λ status. (start : Start B) → start.plan ≡ run.now.plan.now
         → IsUnderWay B.gives T.has_told start first (S.told devices.old.input.now) (K.told devices.old.output.now) ends.batches ends.telling net.old.one.net
-        → HasEnded B.gives T.form run.now.report start status (S.told devices.new.input.now) (K.told devices.new.output.now) (told_by S.told K.told E.told devices.old devices.new).notes net.new.one.net) }
+        → HasEnded B.gives B.wrote T.form run.now.report start status (S.told devices.new.input.now) (K.told devices.new.output.now) (told_by S.told K.told E.told devices.old devices.new).notes net.new.one.net) }
     ensures short { OnErr result ((start : Start B) → start.plan ≡ run.now.plan.now
         → IsUnderWay B.gives T.has_told start first (S.told devices.old.input.now) (K.told devices.old.output.now) ends.batches ends.telling net.old.one.net
         → IsShort B.gives B.reads_on T.has_told T.form start (S.told devices.new.input.now) (K.told devices.new.output.now) net.new.one.net) }
@@ -57,7 +59,15 @@ pub fn run_net<
     let mut ends = ends;
     let end = drive(net, &mut ends, first, devices.input, devices.output)?;
     let text = ends.telling.into_text(run.alloc)?;
-    let status = finish(run, net, end, text, devices.output, devices.notes)?;
+    let closing = Closing { end, text };
+    let status = finish_batches(
+        run,
+        net,
+        &ends.batches,
+        closing,
+        devices.output,
+        devices.notes,
+    )?;
     Ok(status)
 }
 
@@ -85,7 +95,7 @@ fn run_made_net<
     requires set { length ends.set ≡ length run.now.plan.now.outputs }
     requires nothing { (sink : SinkTold) → T.has_told ends.telling run.now.plan.now sink sink [] }
     ensures ran { IfOk result (λ status. (began : B) (source : SourceTold) → B.gives began ends.batches run.now.plan.now source (S.told devices.old.input.now) first.end first.inputs
-        → HasRun B.gives T.form run.now.report began run.now.plan.now status (since source (told_by S.told K.told E.told devices.old devices.new)) (device (map C.told boxes.old.items) (map C.told boxes.new.items))) }
+        → HasRun B.gives B.wrote T.form run.now.report began run.now.plan.now status (since source (told_by S.told K.told E.told devices.old devices.new)) (device (map C.told boxes.old.items) (map C.told boxes.new.items))) }
     ensures short { OnErr result ((began : B) (source : SourceTold) → B.gives began ends.batches run.now.plan.now source (S.told devices.old.input.now) first.end first.inputs
         → RanShort B.gives B.reads_on T.has_told T.form began run.now.plan.now (since source (told_by S.told K.told E.told devices.old devices.new)) (device (map C.told boxes.old.items) (map C.told boxes.new.items))) }
     ensures unnoted { OnErr result (E.told devices.new.notes.now ≡ E.told devices.old.notes.now) }
@@ -150,7 +160,7 @@ pub fn run_batches<
     requires boxes { BoxesFit run.now.plan.now (map C.told boxes.old.items) }
     requires fresh { B.is_fresh batches run.now.plan.now }
     requires nothing { (sink : SinkTold) → T.has_told telling run.now.plan.now sink sink [] }
-    ensures ran { IfOk result (λ status. HasRun B.gives T.form run.now.report batches run.now.plan.now status (told_by S.told K.told E.told devices.old devices.new) (device (map C.told boxes.old.items) (map C.told boxes.new.items))) }
+    ensures ran { IfOk result (λ status. HasRun B.gives B.wrote T.form run.now.report batches run.now.plan.now status (told_by S.told K.told E.told devices.old devices.new) (device (map C.told boxes.old.items) (map C.told boxes.new.items))) }
     ensures short { OnErr result (RanShort B.gives B.reads_on T.has_told T.form batches run.now.plan.now (told_by S.told K.told E.told devices.old devices.new) (device (map C.told boxes.old.items) (map C.told boxes.new.items))) }
     ensures unnoted { OnErr result (E.told devices.new.notes.now ≡ E.told devices.old.notes.now) }
     ensures back { CameBack run.now.plan.now (map C.told boxes.old.items) (map C.told boxes.new.items) }

@@ -17,7 +17,7 @@ pub trait Telling: Drop {
     /// The form in which it is told.
     ghost form: { Form };
 
-    /// It was told these sets of a plan's outputs, of an output that told the first and tells the second.
+    /// It was told these sets of a plan's outputs. The output told the first before it, and tells the second now.
     ghost has_told: { Self → Plan → SinkTold → SinkTold → List (TimedSet Plain) → Type 0 };
 
     /// Tells a set behind the others.
@@ -27,12 +27,12 @@ pub trait Telling: Drop {
             → has_told self.old plan first (K.told output.old) sets → has_told self.new plan first (K.told output.new) (sets ++ timed ∷ [])) }
         ensures unwritten { OnErr result (K.told output.new ≡ K.told output.old) };
 
-    /// Writes what is told so far, where it is written before the end.
+    /// Writes what was told so far, unless all of it is written at the end.
     fn pass_on<K: Sink>(&mut self, output: &mut K)
         ensures { (plan : Plan) (first : SinkTold) (sets : List (TimedSet Plain))
             → has_told self.old plan first (K.told output.old) sets → has_told self.new plan first (K.told output.new) sets };
 
-    /// The text of it all, of which a part may be written.
+    /// The text of all that was told, of which a part may have been written.
     fn into_text(self, alloc: Global) -> Result<OutputText, AllocError>
         ensures { IfOk result (λ text. (plan : Plan) (first now : SinkTold) (sets : List (TimedSet Plain)) → has_told self plan first now sets
             → HasPut first now text (told_in form plan sets)) };

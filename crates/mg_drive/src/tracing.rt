@@ -47,7 +47,7 @@ pub fn trace_lines<G: Gate, C: Calculator, S: Source, K: Sink, E: Sink>(
     // What each status means: it is as of a run, and the output took a trace.
     ensures traced { Traced run.now.report run.now.plan.now (map C.told boxes.old.items) result (told_by S.told K.told E.told devices.old devices.new) }
 
-    // What it leaves of the calculators is what a run leaves.
+    // It leaves the calculators as a run does.
     ensures left { RunLeaves run.now.plan.now result (told_by S.told K.told E.told devices.old devices.new).input (device (map C.told boxes.old.items) (map C.told boxes.new.items)) }
     ensures same { SameDevices devices.old devices.new }
 {
@@ -88,7 +88,7 @@ fn trace_whole<G: Gate, C: Calculator, S: Source, K: Sink, E: Sink>(
     Ok(status)
 }
 
-// What was read, and the text of it that stands in front of the events.
+// What was read, and a text with its canonical lines, behind which the events come.
 #[derive(Drop)]
 struct Opening {
     whole: WholeInput,

@@ -21,7 +21,7 @@ standings-behind [] ss = refl
 standings-behind (t ∷ ts) [] = refl
 standings-behind (t ∷ ts) (s ∷ ss) = rw (has_some-append t s.packets, standings-behind ts ss) refl
 
-behind-stepped : (step : StreamPrefix Plain → StreamPrefix Plain) → ((t : List (Stamped Plain)) (s : StreamPrefix Plain) → behind t (step s) ≡ step (behind t s))
+pub behind-stepped : (step : StreamPrefix Plain → StreamPrefix Plain) → ((t : List (Stamped Plain)) (s : StreamPrefix Plain) → behind t (step s) ≡ step (behind t s))
     → (place : ℕ) (ts : List (List (Stamped Plain))) (ss : List (StreamPrefix Plain)) → behind_all ts (stepped place step ss) ≡ stepped place step (behind_all ts ss)
 behind-stepped step same place [] ss = refl
 behind-stepped step same place (t ∷ ts) [] = refl
@@ -33,7 +33,7 @@ behind-stepped_at : (step : StreamPrefix Plain → StreamPrefix Plain) → ((t :
 behind-stepped_at step same None ts ss = refl
 behind-stepped_at step same (Some place) ts ss = behind-stepped step same place ts ss
 
-behind-appended : (p : Stamped Plain) (t : List (Stamped Plain)) (s : StreamPrefix Plain) → behind t (appended s p) ≡ appended (behind t s) p
+pub behind-appended : (p : Stamped Plain) (t : List (Stamped Plain)) (s : StreamPrefix Plain) → behind t (appended s p) ≡ appended (behind t s) p
 behind-appended p t s = rw append_assoc refl
 
 behind-packets : (graph : GraphInputs) (time : ℕ) (vs : List Named) (ts : List (List (Stamped Plain))) (ss : List (StreamPrefix Plain))
@@ -87,7 +87,7 @@ refusal-seen lines ts v line stands =
     ∙ rw (standings-behind ts v.given.streams, sym stands.taken, sym stands.number) refl)
 
 -- a line leaves as many streams
-length-stepped : {X : Type 0} (place : ℕ) (step : X → X) (xs : List X) → length (stepped place step xs) ≡ length xs
+pub length-stepped : {X : Type 0} (place : ℕ) (step : X → X) (xs : List X) → length (stepped place step xs) ≡ length xs
 length-stepped place step [] = refl
 length-stepped zero step (x ∷ xs) = refl
 length-stepped (suc place) step (x ∷ xs) = ap suc (length-stepped place step xs)
@@ -186,7 +186,7 @@ stands-taken lines ts v w stands is =
     subst (λ (x : View). Stands lines (taken_with ts v.given.streams) x) (sym is) s
 
 -- where nothing was taken, the feed has all that its lines gave
-behind-none : (n : ℕ) (ss : List (StreamPrefix Plain)) → n ≡ length ss → behind_all (replicate n []) ss ≡ ss
+pub behind-none : (n : ℕ) (ss : List (StreamPrefix Plain)) → n ≡ length ss → behind_all (replicate n []) ss ≡ ss
 behind-none zero [] is = refl
 behind-none zero (s ∷ ss) is = absurd (omega (arith, is))
 behind-none (suc n) [] is = absurd (omega (arith, is))

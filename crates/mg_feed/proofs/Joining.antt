@@ -31,14 +31,14 @@ same-sides lines gone v stands = ap (λ (s : State). s.sides) (sym stands.given)
 
 -- One stream --
 
-behind-at : (gs ss : List (StreamPrefix Plain)) (i : ℕ) → i < length gs → i < length ss
+pub behind-at : (gs ss : List (StreamPrefix Plain)) (i : ℕ) → i < length gs → i < length ss
     → get_or (behind_all (packets_of gs) ss) i empty_prefix ≡ behind (get_or gs i empty_prefix).packets (get_or ss i empty_prefix)
 behind-at [] ss i here there = absurd (omega arith)
 behind-at (g ∷ gs) [] i here there = absurd (omega arith)
 behind-at (g ∷ gs) (s ∷ ss) zero here there = refl
 behind-at (g ∷ gs) (s ∷ ss) (suc i) here there = behind-at gs ss i (omega arith) (omega arith)
 
-ended-behind : (ended : Bool) (t : List (Stamped Plain)) (s : StreamPrefix Plain) → ended_stream ended (behind t s) ≡ behind t (ended_stream ended s)
+pub ended-behind : (ended : Bool) (t : List (Stamped Plain)) (s : StreamPrefix Plain) → ended_stream ended (behind t s) ≡ behind t (ended_stream ended s)
 ended-behind true t s = refl
 ended-behind false t s = refl
 
@@ -52,7 +52,7 @@ ended-at : (ended : Bool) (ss : List (StreamPrefix Plain)) (i : ℕ) → i < len
     → get_or (ended_streams ended ss) i empty_prefix ≡ ended_stream ended (get_or ss i empty_prefix)
 ended-at ended ss i there = get_or-map (ended_stream ended) ss i empty_prefix empty_prefix there
 
-joined : (g s w : StreamPrefix Plain) → w ≡ behind g.packets s → IsExtendedBy g w → w ≡ record { packets = g.packets ++ s.packets; bound = max g.bound s.bound }
+pub joined : (g s w : StreamPrefix Plain) → w ≡ behind g.packets s → IsExtendedBy g w → w ≡ record { packets = g.packets ++ s.packets; bound = max g.bound s.bound }
 joined g s w is e =
     let same : w.bound ≡ s.bound = ap (λ (x : StreamPrefix Plain). x.bound) is in
     let low = e.bound in

@@ -12,6 +12,7 @@ pub mod ItemTexts
 pub mod Sending
 pub mod Graphs
 pub mod Making
+pub mod PiecesMade
 pub mod OldLines
 pub mod Cutting
 pub mod Blocks

@@ -12,3 +12,4 @@ pub mod Filled
 pub mod Moves
 pub mod Frames
 pub mod Handing
+pub mod MadeSoFar

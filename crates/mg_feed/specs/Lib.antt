@@ -12,6 +12,8 @@ pub mod View
 pub mod Seen
 pub mod FeedSeen
 pub mod Stands
+pub mod Pieces
+pub mod GeneratorSeen
 pub mod OldText
 pub mod Sent
 pub mod Fed

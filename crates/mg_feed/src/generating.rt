@@ -3,48 +3,36 @@ ghost use Rattle.std.specs.Arc.{arc_value};
 ghost use Rattle.mg_value.specs.Payload.{plain, int, text, items, entries};
 ghost use Rattle.mg_value.specs.Plain.{item, no_items, entry, no_entries};
 ghost use Rattle.mg_calc.specs.Given.{given};
-ghost use Rattle.mg_feed.specs.Graph.{inputs_of};
-ghost use Rattle.mg_feed.specs.Generated.{generated, generated_sides, generated_value};
+ghost use Rattle.mg_feed.specs.Generated.{generated_value};
 
 use crate::collected::Collected;
 use itoa::Buffer;
-use mg_calc::{Inputs, Plan};
 use mg_time::Timestamp;
 use mg_value::{Entry, Kind, MgText, Packet, Payload, PayloadList, RecordList};
 use std::alloc::{AllocError, Global};
 use std::sync::Arc;
 
-/// Packets that are made for the inputs of a plan's graph, in all so many, and side packets: with them a graph can be tried
-/// without a file.
-pub fn generate(alloc: Global, plan: &Plan, number: u32) -> Result<Inputs, AllocError>
-    ensures streams { IfOk result (λ inputs. inputs.streams ≡ generated (inputs_of plan.now).kinds number) }
-    ensures sides { IfOk result (λ inputs. inputs.sides ≡ generated_sides (length (inputs_of plan.now).sides)) }
-    ensures ended { IfOk result (λ inputs. inputs.ended ≡ true) }
-{
-    let mut collected = Collected::new(alloc, plan)?;
-    collected.give_sides(alloc)?;
-    collected.make_packets(alloc, number)?;
-    Ok(collected.into_inputs(alloc, true))
-}
-
 impl Collected {
-    ghost use Rattle.std.specs.Prelude.{◌≡◌, ◌<◌, ◌%◌, OnOk, length, replicate};
-    ghost use Rattle.mg_value.specs.Prefix.{appended, empty_prefix};
+    ghost use Rattle.std.specs.Prelude.{◌≡◌, ◌<◌, ◌≤◌, ◌%◌, List, OnOk, length};
+    ghost use Rattle.mg_value.specs.Payload.{Plain};
+    ghost use Rattle.mg_value.specs.Prefix.{Stamped, appended};
     ghost use Rattle.mg_feed.specs.Accepted.{stepped};
-    ghost use Rattle.mg_feed.specs.Generated.{generated_streams, generated_packet, generated_sides};
+    ghost use Rattle.mg_feed.specs.Generated.{generated_packet, generated_sides};
+    ghost use Rattle.mg_feed.specs.Code.MadeSoFar.{AreMade};
     ghost use Rattle.mg_feed.specs.Seen.{collected};
 
-    // Makes so many packets.
-    fn make_packets(&mut self, alloc: Global, number: u32) -> Result<(), AllocError>
-        requires { (collected self.old).given.streams ≡ generated_streams (collected self.old).graph.kinds 0 }
-        ensures streams { OnOk result ((collected self.new).given.streams ≡ generated_streams (collected self.old).graph.kinds number) }
+    /// Makes the packets from one number up to another.
+    pub fn make_packets(&mut self, alloc: Global, from: u32, to: u32) -> Result<(), AllocError>
+        requires { from ≤ to }
+        ensures made { OnOk result ((gone : List (List (Stamped Plain))) → AreMade gone from (collected self.old) → AreMade gone to (collected self.new)) }
         ensures sides { OnOk result ((collected self.new).given.sides ≡ (collected self.old).given.sides) }
+        ensures graph { (collected self.new).graph ≡ (collected self.old).graph }
     {
         let inputs = self.graph.kinds.len();
         if inputs == 0 {
             return Ok(());
         }
-        for i in 0..number {
+        for i in from..to {
             self.make_packet(alloc, i)?;
         }
         Ok(())
@@ -67,8 +55,8 @@ impl Collected {
         Ok(())
     }
 
-    // Gives each side packet.
-    fn give_sides(&mut self, alloc: Global) -> Result<(), AllocError>
+    /// Gives each side packet.
+    pub fn give_sides(&mut self, alloc: Global) -> Result<(), AllocError>
         ensures sides { OnOk result ((collected self.new).given.sides ≡ generated_sides (length (collected self.old).graph.sides)) }
         ensures streams { OnOk result ((collected self.new).given.streams ≡ (collected self.old).given.streams) }
         ensures graph { OnOk result ((collected self.new).graph ≡ (collected self.old).graph) }

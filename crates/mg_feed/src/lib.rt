@@ -1,5 +1,5 @@
 //! Packet lines: what they give a graph's inputs, and the lines of what a graph puts out.
-//! Answers to the definitions of `specs/Form.antt`, `specs/Accepted.antt`, `specs/Output.antt` and `specs/Generated.antt`;
+//! Answers to the definitions of `specs/Form.antt`, `specs/Accepted.antt`, `specs/Output.antt`, `specs/Generated.antt` and `specs/Pieces.antt`;
 //! what a feed stands for is in `specs/Stands.antt`, and what of the bytes that it read in `specs/Came.antt` and
 //! `specs/Batch.antt`; and how the lines of an input are handed out in `specs/Handed.antt`.
 #![tactic(auto)]
@@ -13,6 +13,7 @@ mod feed_stream;
 mod form;
 mod frame;
 mod generating;
+mod generator;
 mod graph;
 mod judge;
 pub mod laws;
@@ -36,7 +37,7 @@ mod whole;
 pub use all_or_nothing::{push_bytes, whole_or_none};
 pub use feed::Feed;
 pub use feed_end::{BatchEnd, FeedEnd};
-pub use generating::generate;
+pub use generator::{Generator, generate};
 pub use limits::{LONGEST_BLOCK, LONGEST_LINE, MOST_LINES};
 pub use line_fault::LineFault;
 pub use line_writer::{LineWriter, write_line};

@@ -57,10 +57,11 @@ node_number plan n = place_in (core_numbers plan) n
 abbrev pub core_node : Plan → PlanNode → PlanNode
 core_node plan node = record node { inputs = map (stream_number plan) node.inputs; outputs = map (stream_number plan) node.outputs }
 
--- a stream of the plan, with who writes it in the core
+-- a stream that isn't there
 abbrev pub no_stream : PlanStream
 no_stream = record { name = []; kind = Any; producer = Input 0 }
 
+-- a stream of the plan, with who writes it in the core
 abbrev pub written_by : Plan → ℕ → Producer → PlanStream
 written_by plan s producer = record (slice_index_or plan.streams s no_stream) { producer = producer }
 
@@ -73,13 +74,14 @@ streams_of plan =
     map (λ e. written_by plan e.1 (Input e.0)) (enumerate_from 0 (entering plan))
     ++ flat_map (λ e. output_streams plan e.0 e.1.outputs) (enumerate_from 0 (filter is_core plan.nodes))
 
--- the edges of the core: those whose consumer isn't a free node
+-- whether the node of a number is free; the collector isn't
 abbrev pub is_free_at : Plan → ℕ → Bool
 is_free_at plan n = unwrap_or (option_map is_free (slice_get plan.nodes n)) false
 
 abbrev pub core_edge : Plan → Edge → Edge
 core_edge plan e = record e { stream = stream_number plan e.stream; node = node_number plan e.node }
 
+-- the edges of the core: those whose consumer isn't a free node
 abbrev pub edges_of : Plan → List Edge
 edges_of plan = map (core_edge plan) (filter (λ e. not (is_free_at plan e.node)) plan.edges)
 
@@ -87,7 +89,7 @@ edges_of plan = map (core_edge plan) (filter (λ e. not (is_free_at plan e.node)
 abbrev pub order_of : Plan → List ℕ
 order_of plan = map (node_number plan) (filter (λ n. not (is_free_at plan n)) plan.order)
 
--- The core.
+-- The core of a plan: the nodes that aren't free, all streams, and the edges and the order of these nodes.
 abbrev pub core_of : Plan → Plan
 core_of plan = record {
   nodes = map (core_node plan) (filter is_core plan.nodes);

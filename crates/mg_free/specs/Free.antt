@@ -44,8 +44,8 @@ risen (Limiter most) count = count + 1
 abbrev pub with_laid : {X : Type 0} → FreeLaw → Flow X → Stamped X → Flow X
 with_laid law flow packet = record { output = appended flow.output packet; in_flight = risen law flow.in_flight }
 
--- what isn't laid: FirstCome drops it; Limiter drops a packet of the first port, below whose successor nothing more comes then,
--- and a packet on FINISHED leaves one less in flight, where one is
+-- What becomes of an arrival that isn't laid. FirstCome drops it. Limiter drops a packet of the first port, and raises its output to what may
+-- follow that packet; a packet on FINISHED leaves one less in flight, where one is.
 abbrev pub without_laid : {X : Type 0} → FreeLaw → Flow X → Arrival X → Flow X
 without_laid (FirstCome lanes) flow arrival = flow
 without_laid (Limiter most) flow arrival =

@@ -23,8 +23,8 @@ pub(crate) fn is_free(node: &PlanNode) -> bool
     free_law(&node.law).is_some()
 }
 
-/// The number of a plan's first free node, where it has one. A plan that has none is as good as any other valid one: it can be
-/// run and solved as it is.
+/// The number of a plan's first free node, where it has one. A plan that may have free nodes and has none is valid: it can be run
+/// and solved as it is.
 pub fn first_free(plan: &Plan) -> Option<u32>
     ensures first { result ≡ the_first plan.now }
     ensures valid { IsValidWithFree plan.now → IfNone result (IsValid plan.now) }

@@ -20,5 +20,5 @@ pub use kinds::{first_free, free_law};
 pub use law::FreeLaw;
 pub use node::{FreeNode, FreeNodeList};
 pub use plan::FreePlan;
-pub use splitting::split;
+pub use splitting::{split, streams_in_core};
 pub use state::FreeState;

@@ -23,14 +23,14 @@ pub struct Numbering {
     pub nodes: Places,
 }
 
-// Whether a node is free, or whether it is of the core.
+// Whether a node is free, where that is asked, and else whether it is of the core.
 fn is_one(node: &PlanNode, free: bool) -> bool
     ensures { result ≡ is_one_of free node.now }
 {
     if free { is_free(node) } else { !is_free(node) }
 }
 
-// The outputs of the free nodes behind some numbers, or those of the core's nodes.
+// Some numbers, and behind them the outputs of the free nodes, or those of the core's nodes.
 fn with_outputs(before: Vec<u32>, nodes: &[PlanNode], free: bool) -> Result<Vec<u32>, AllocError>
     ensures { IfOk result (λ all. all.items ≡ before.items ++ flat_map (λ node. node.outputs) (filter (is_one_of free) nodes.now)) }
 {
@@ -60,8 +60,8 @@ pub fn entering(alloc: Global, plan: &Plan) -> Result<NumberList, AllocError>
     Ok(NumberList::from_vec(streams)?)
 }
 
-// The places of all streams in the order of the core.
-fn stream_places(alloc: Global, plan: &Plan) -> Result<Places, AllocError>
+/// The places of all streams in the order of the core.
+pub fn stream_places(alloc: Global, plan: &Plan) -> Result<Places, AllocError>
     requires { IsValidWithFree plan.now }
     ensures { IfOk result (λ places. ArePlaces places (core_streams plan.now)) }
 {

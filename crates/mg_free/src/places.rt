@@ -7,13 +7,13 @@ ghost use Rattle.mg_free.specs.Code.Places.{ArePlaces, place_at};
 use mg_value::NumberList;
 use std::alloc::{AllocError, Global};
 
-/// For each number of a list how many stand before it there; and that number for those that aren't in the list, which is how long
-/// the list is. A look takes no search.
+/// For each number of a list its place there, and for every other number the length of the list. It is a table, so that nothing is searched
+/// for.
 #[derive(Drop)]
 pub struct Places {
-    /// By number.
+    /// The places, by number.
     pub table: Vec<u32>,
-    /// That of all other numbers.
+    /// The place of all numbers past the table, and of those in it that aren't in the list.
     pub past: u32,
 }
 
@@ -33,7 +33,7 @@ fn put(table: &mut [u32], number: u32, place: u32)
 }
 
 impl Places {
-    /// The places of the numbers of a list, which are below a count. The first place counts.
+    /// The places of the numbers of a list, which are below a count. Of a number that stands there twice the first place counts.
     pub fn of(alloc: Global, list: &NumberList, count: u32) -> Result<Places, AllocError>
         requires { All (λ n. n < count) list.now }
         ensures { IfOk result (λ places. ArePlaces places list.now) }

@@ -1,12 +1,12 @@
 //! A plan split into its core and its free nodes.
-ghost use Rattle.std.specs.Prelude.{◌≡◌, IfOk, length, slice_index_or};
+ghost use Rattle.std.specs.Prelude.{◌≡◌, IfOk, length, map, slice_index_or};
 ghost use Rattle.mg_calc.specs.Plan.{IsValid, IsValidWithFree, numbers as the_numbers};
-ghost use Rattle.mg_free.specs.Core.{core_of as the_core, free_node as the_free_node, free_nodes as the_free_nodes, entering as the_entering, split_of};
+ghost use Rattle.mg_free.specs.Core.{core_of as the_core, free_node as the_free_node, free_nodes as the_free_nodes, entering as the_entering, stream_number, split_of};
 ghost use Rattle.mg_free.specs.Code.Numbering.{IsNumberingOf};
 
 use crate::core_parts::{core_edges, core_nodes, core_order};
 use crate::core_streams::core_streams;
-use crate::numbering::{Numbering, entering};
+use crate::numbering::{Numbering, entering, stream_places};
 use crate::{FreeNode, FreeNodeList, FreePlan, free_law};
 use mg_calc::{Plan, PlanNode, TryClone};
 use mg_value::NumberList;
@@ -123,4 +123,15 @@ pub fn split(alloc: Global, plan: &Plan) -> Result<FreePlan, AllocError>
         numbers,
         free,
     })
+}
+
+/// For each stream of a plan its number in the plan's core.
+pub fn streams_in_core(alloc: Global, plan: &Plan) -> Result<NumberList, AllocError>
+    requires { IsValidWithFree plan.now }
+    ensures { IfOk result (λ streams. streams ≡ map (stream_number plan.now) (the_numbers (length plan.now.streams))) }
+{
+    let places = stream_places(alloc, plan)?;
+    let all = numbers(alloc, plan.streams.len())?;
+    let streams = places.of_all(alloc, all.as_slice())?;
+    Ok(streams)
 }

@@ -133,7 +133,7 @@ impl FreeState {
         Ok(())
     }
 
-    // Takes what isn't laid.
+    // Takes a packet that isn't laid. FirstCome drops it.
     fn pass(&mut self, port: u32, at: Timestamp)
         requires { IsAllowed at }
         ensures passed { (value : Plain) → self.new.flow ≡ without_laid self.old.law self.old.flow (record { port = port; packet = record { at = at; value = value } }) }

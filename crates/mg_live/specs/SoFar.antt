@@ -1,5 +1,5 @@
--- Rounds under way: what free nodes have taken so far, over what has come after each batch of the input. Of the batches the newest
--- stands first.
+-- Rounds under way: what free nodes have taken so far. Each entry of a list of inputs is all that had come to the graph by the end of a batch,
+-- and the newest entry stands first.
 use Rattle.std.specs.Prelude.{◌≡◌, List, [], ◌∷◌, ⊤}
 use Rattle.mg_value.specs.Extension.{AreExtendedBy}
 use Rattle.mg_calc.specs.declared.inputs.Inputs.{Inputs}
@@ -24,7 +24,7 @@ HaveCome plan [] = ⊤
 HaveCome plan (inputs ∷ []) = InputsFit plan inputs
 HaveCome plan (inputs ∷ before ∷ earlier) = InputsFit plan inputs × (before.sides ≡ inputs.sides) × AreExtendedBy before.streams inputs.streams × HaveCome plan (before ∷ earlier)
 
--- the core goes on: what comes to it makes a job, which extends the one before
+-- the core goes on: what has come to it now makes a job, and its streams extend those of what had come before
 pub record CoreGoesOn (split : FreePlan) (inputs more : Inputs) (before after : List Taken) : Type 0 where
   pub is_job : IsJob (core_job split more after)
   pub sides : inputs.sides ≡ more.sides

@@ -59,7 +59,7 @@ fn log_at(takers: &[Taker], place: usize) -> &[Arrived]
     takers[place].log()
 }
 
-// Prefixes of which nothing is known, so many.
+// So many prefixes of which nothing is known.
 fn nothings(alloc: Global, count: u32) -> Result<Vec<Prefix>, AllocError>
     ensures { IfOk result (λ nothings. nothings.items ≡ replicate count empty_prefix) }
 {
@@ -74,7 +74,7 @@ fn nothings(alloc: Global, count: u32) -> Result<Vec<Prefix>, AllocError>
     Ok(nothings)
 }
 
-// Behind some pieces what came to each output.
+// Some pieces, and behind them what came to each output since it was asked before.
 fn hand_on(
     alloc: Global,
     before: Vec<Prefix>,
@@ -139,6 +139,14 @@ impl LiveNodes {
         ensures { result ≡ length self.now.takers.items }
     {
         self.takers.as_slice().len()
+    }
+
+    /// The number in the plan of a free node, by its place among them.
+    pub fn node(&self, place: usize) -> u32
+        requires { place < length self.now.free }
+        ensures { (free : FreeNodeView) → slice_get self.now.free place ≡ Some free → result ≡ free.node }
+    {
+        self.free.as_slice()[place].node
     }
 
     /// The arrivals at a free node so far, by the place of the node among them.

@@ -11,13 +11,13 @@ use Rattle.mg_node.specs.Had.{FailsToOpen}
 use Rattle.mg_drive.specs.Leaves.{HadAFront, IsAt}
 
 -- A calculator was opened and closed: its log, where it tells one, grew by a front of the calls that its node has in a solution, Open and
--- perhaps a Process for each of the first sets that the node is shown, with Close behind them; by Open alone where, and only where, that fails.
+-- perhaps a Process for each of the first sets that the node is shown, and by Close behind them. Where Open fails it grew by that alone.
 pub record HadAClose (job : Job) (streams : List (StreamPrefix Plain)) (node : PlanNode) (before now : CalculatorTold) : Type 0 where
   pub front : HadAFront job streams node before now
   pub begun : 1 ≤ front.count
   pub closed : ((front.close ≡ true) × ¬ FailsToOpen job streams node) ⊎ ((front.close ≡ false) × FailsToOpen job streams node)
 
--- So was each calculator that a node uses, in the solution of a job.
+-- Each calculator that a node uses was opened and closed, in the solution of a job.
 pub record HadCloses (job : Job) (boxes : Device (List CalculatorTold)) : Type 0 where
   pub streams : List (StreamPrefix Plain)
   pub solution : IsSolution job streams

@@ -68,7 +68,7 @@ pub record IsIdleEvent (plan : Plan) (net : NetView) (number : ℕ) (line : List
   pub idle : Acts event Idle net net
   pub is : end ≡ Refused number IdleEvent
 
--- What stands behind the last line of a run.
+-- What is said by what stands behind the last line of a run: where nothing does the run is accepted.
 abbrev pub EndsAt : ℕ → List (List ℕ) → TraceEnd → Type 0
 EndsAt number [] end = end ≡ Accepted
 EndsAt number (line ∷ more) end = end ≡ Refused (number + 1) AfterEnd
@@ -78,7 +78,7 @@ pub record IsEnd (net : NetView) (number : ℕ) (line : List ℕ) (more : List (
   pub line_is : line ≡ codes "end"
   pub ends : (MayGoOn net × (end ≡ Refused number NotAtRest)) ⊎ (IsAtRest net × EndsAt number more end)
 
--- The reading stops where the net is so, and the next line has this number.
+-- The reading stops with this net. The next line, if there is one, has this number.
 abbrev pub StopsAt : Plan → NetView → ℕ → List (List ℕ) → TraceEnd → Type 0
 StopsAt plan net number [] end = end ≡ Refused number NoEnd
 StopsAt plan net number (line ∷ more) end = IsNoEvent plan number line end ⊎ (IsIdleEvent plan net number line end ⊎ IsEnd net number line more end)
@@ -93,12 +93,13 @@ pub record StopsLater (plan : Plan) (boxes : List CalculatorTold) (lines : List 
 
 -- All lines --
 
--- What the lines of an input that ends behind them come to: the nodes of a job were begun, which has these inputs, or of none.
+-- What the lines of an input that ends behind them come to: with `None` they stop before there is a job, and no node is begun; else they
+-- tell a job that has these inputs, whose nodes are begun.
 abbrev pub ComesTo : Plan → List CalculatorTold → List (List ℕ) → Option Inputs → TraceEnd → Type 0
 ComesTo plan boxes lines None end = StopsEarly plan lines end
 ComesTo plan boxes lines (Some inputs) end = StopsLater plan boxes lines inputs end
 
--- More lines may come: none so far is refused. The last of them may be that of a run, which led to rest.
+-- More lines may come: none so far is refused. The last of them may be `end`, where the net is at rest.
 pub record GoesOn (plan : Plan) (boxes : List CalculatorTold) (lines : List (List ℕ)) (inputs : Inputs) : Type 0 where
   pub front : List (List ℕ)
   pub net : NetView
@@ -119,7 +120,7 @@ CameAs (Refused line cause) plan boxes input came job =
     (ended : Bool) × MetEnd false ended input.before input.now × ((more : List ℕ) → (ended ≡ true → more ≡ []) → ComesTo plan boxes (all_lines (came ++ more)) job (Refused line cause))
 CameAs (Failed lines) plan boxes input came job = (lines ≡ length (whole_lines came)) × MayComeTo plan boxes (whole_lines came) job
 
--- a read failed exactly where that is how the reading ended
+-- a read failed where the reading ended with that, and nowhere else
 abbrev pub FailsAs : TraceEnd → SourceTold → SourceTold → Type 0
 FailsAs Accepted before now = Unfailed before now
 FailsAs (Refused line cause) before now = Unfailed before now

@@ -30,7 +30,7 @@ job_over plan inputs = record { plan = plan; inputs = inputs }
 
 -- The answer --
 
--- The answer of a job is that of its run, by whether its input ended well or was frozen.
+-- The answer of a job is that of a run of it where its input ended well, and else that of a frozen job.
 abbrev pub AnswersJob : Bool → Bool → Job → Answer → Type 0
 AnswersJob true report job answer = IsAnswerOf (by_lines report) job Ended answer
 AnswersJob false report job answer = IsFrozenAnswer (by_lines report) job answer
@@ -64,8 +64,8 @@ WroteEnd (Failed lines) report plan job status output notes = Untouched output �
 
 -- The calculators --
 
--- Behind an accepted run each that a node uses had its calls. Otherwise each was opened and closed, if the nodes were begun, and had no call
--- before that.
+-- Behind an accepted run each that a node uses had all calls of its node. Behind any other, where the nodes were begun, each was opened,
+-- shown some of the first sets, perhaps none, and closed; where they weren't, none had a call.
 abbrev pub HadEnd : TraceEnd → Plan → Option Inputs → Device (List CalculatorTold) → Type 0
 HadEnd Accepted plan None boxes = ⊥
 HadEnd Accepted plan (Some inputs) boxes = HadCallsOf (job_over plan inputs) boxes
@@ -84,8 +84,7 @@ pub record Replayed (report : Bool) (plan : Plan) (status : Status) (devices : R
   pub wrote : WroteEnd end report plan job status devices.output devices.notes
   pub had : HadEnd end plan job boxes
 
--- Memory ran out. Nothing was written, or the run was accepted, and the output took a front of its job's text. No calculator had a call, or
--- each had a front of its calls in the job that the lines tell.
+-- Memory ran out while the text of an accepted run was written, and the output took a front of it.
 pub record TookOutput (plan : Plan) (boxes : List CalculatorTold) (input : Device SourceTold) (output : Device SinkTold) : Type 0 where
   pub inputs : Inputs
   pub read : WasRead plan boxes input (Some inputs) Accepted
@@ -93,11 +92,14 @@ pub record TookOutput (plan : Plan) (boxes : List CalculatorTold) (input : Devic
   pub solution : IsSolution (job_over plan inputs) streams
   pub front : TookFront output (output_of plan streams)
 
+-- The lines of a job were read, and each calculator had a front of the calls that it has in the solution of that job.
 pub record HadSomeCalls (plan : Plan) (input : Device SourceTold) (boxes : Device (List CalculatorTold)) : Type 0 where
   pub inputs : Inputs
   pub opened : HasOpened plan input inputs
   pub fronts : HadFronts (job_over plan inputs) boxes
 
+-- Memory ran out: nothing was written, or a front of the text of an accepted run; and no calculator had a call, or each had a front of its
+-- calls.
 pub record ReplayedSome (plan : Plan) (devices : RunDevices) (boxes : Device (List CalculatorTold)) : Type 0 where
   pub took : Untouched devices.output ⊎ TookOutput plan boxes.before devices.input devices.output
   pub had : Untouched boxes ⊎ HadSomeCalls plan devices.input boxes

@@ -23,7 +23,7 @@ pub enum Opened {
     Stopped(TraceEnd),
 }
 
-/// How the reading stops where no further line is handed out behind so many, and what such a line would be refused by that is too long.
+/// How the reading stops behind so many lines, where no further one is handed out. A line that is too long is refused with this cause.
 pub fn stopped_at(next: NextLine, lines: u64, long: TraceFault) -> Option<TraceEnd>
     requires { lines + 1 < 2 ^ 64 }
     ensures { StopsBy next lines long result }
@@ -89,7 +89,7 @@ fn next_packet<S: Source>(
     }
 }
 
-// Takes a line of a number, if it is a packet line.
+// Takes the line of a number, if it is a packet line, and answers what became of it if it isn't.
 fn take_line(feed: &mut Feed, line: &[u8], number: u64) -> Result<Option<Opened>, AllocError>
     requires { length line.now ≤ longest_line }
     ensures { IfOk result (λ opened. TakesLine opened line.now number (seen feed.old) (seen feed.new)) }

@@ -59,7 +59,7 @@ pub fn replay_lines<G: Gate, C: Calculator, S: Source, K: Sink, E: Sink>(
     requires valid { IsValid run.now.plan.now }
     requires boxes { BoxesFit run.now.plan.now (map C.told boxes.old.items) }
 
-    // What each status means.
+    // What each status says of the run, the devices and the calculators.
     ensures replayed { ReplayedBy result run.now.report run.now.plan.now (told_by S.told K.told E.told devices.old devices.new) (device (map C.told boxes.old.items) (map C.told boxes.new.items)) }
     ensures back { AllBack run.now.plan.now (device (map C.told boxes.old.items) (map C.told boxes.new.items)) }
     ensures same { SameDevices devices.old devices.new }

@@ -8,15 +8,17 @@ use Rattle.mg_feed.specs.Graph.{inputs_of}
 use Rattle.mg_feed.specs.declared.feed_end.FeedEnd.TheVariants.{Ended}
 use Rattle.mg_answer.specs.Answer.{ended_input, by_lines, by_summary, job_of as input_job, generated_job, AnswersEnded, AnswersGenerated}
 use Rattle.mg_run.proofs.Unlimited.{unlimited_answer}
+use Rattle.mg_run.proofs.LiveUnlimited.{live_asked, live_made_asked}
 use Rattle.mg_drive.specs.Traced.{TracesEnded}
 use Rattle.mg_run.proofs.OneAnswer.{EndAlike, one-of-run}
+use Rattle.mg_free.specs.Core.{first_free}
 use Rattle.mg_check.specs.Check.{check_of}
 use Rattle.mg_check.specs.declared.fault.CheckFault.{CheckFault}
 use Rattle.mg_subgraph.specs.Expansion.{expansion_of}
 use Rattle.mg_subgraph.specs.declared.fault.ExpandFault.{ExpandFault}
 use Rattle.mg_run.specs.Files.{Files, graphs, no_graphs}
 use Rattle.mg_run.specs.Task.{Task}
-use Rattle.mg_run.specs.Answer.{Answer, Job, refuse, free_refusal, unless_refused, with_limit, with_workers, limit_or, way_word, way_job, plan_job, verb_job, expanded_job, files_job, job_of, IsAnswerOf, Records, Replays}
+use Rattle.mg_run.specs.Answer.{Answer, Job, with_limit, with_workers, limit_or, way_job, live_job, used_job, plan_job, verb_job, expanded_job, files_job, job_of, IsAnswerOf, Records, Replays}
 use Rattle.mg_words.specs.declared.limits.TheConstants.{MOST_WORKERS}
 use Rattle.mg_words.specs.declared.words.Order.{Order}
 use Rattle.mg_words.specs.declared.words.Verb.{Verb}
@@ -64,12 +66,19 @@ way_same Generate order plan boxes input a unrecorded given answers = made_asked
 way_same Trace order plan boxes input a unrecorded given answers = absurd (unrecorded tt)
 way_same Replay order plan boxes input a unrecorded given answers = absurd (given tt)
 
-unless_same : (refusal : Option (List ℕ)) (one other : Job) → Answers one other → Answers (unless_refused refusal one) (unless_refused refusal other)
-unless_same None one other all = all
-unless_same (Some note) one other all = same (refuse note)
+way_same_live : (way : Way) (order : Order) (first : ℕ) (plan : Plan) → Answers (live_job way order first plan) (live_job way (free order) first plan)
+way_same_live Run order first plan boxes input a unrecorded given answers = live_asked order.report order.limit order.workers plan input a answers
+way_same_live Solve order first plan boxes input a unrecorded given answers = answers
+way_same_live Generate order first plan boxes input a unrecorded given answers = live_made_asked order.report order.number order.limit order.workers plan a answers
+way_same_live Trace order first plan boxes input a unrecorded given answers = answers
+way_same_live Replay order first plan boxes input a unrecorded given answers = answers
+
+used_same : (first : Option ℕ) (way : Way) (order : Order) (plan : Plan) → Answers (used_job first way order plan) (used_job first way (free order) plan)
+used_same None way order plan = way_same way order plan
+used_same (Some first) way order plan = way_same_live way order first plan
 
 plan_same : (way : Way) (order : Order) (checked : Result Plan CheckFault) → Answers (plan_job way order checked) (plan_job way (free order) checked)
-plan_same way order (Ok plan) = unless_same (free_refusal (way_word way) plan) (way_job way order plan) (way_job way (free order) plan) (way_same way order plan)
+plan_same way order (Ok plan) = used_same (first_free plan) way order plan
 plan_same way order (Err fault) = same (plan_job way order (Err fault))
 
 by_verb : (verb : Verb) (order : Order) (outers : List OuterShape) (g : GraphView) → Answers (verb_job verb order outers g) (verb_job verb (free order) outers g)

@@ -4,6 +4,7 @@ use Rattle.mg_edge.specs.Edge.{SourceTold, SinkTold, StoreTold, Rose, one_more}
 use Rattle.mg_calc.specs.Told.{CalculatorTold}
 use Rattle.mg_edge.proofs.Runs.{TookAll-start}
 use Rattle.mg_run.proofs.Readings.{no-status, lines-no-store, lines-no-usage, packets-no-store, packets-no-usage, lines-noted, packets-noted, lines-answered, packets-answered}
+use Rattle.mg_run.proofs.LiveReadings.{live-no-other, live-made-no-other, live-noted, live-made-noted, live-answered, live-made-answered}
 use Rattle.mg_run.proofs.Loading.{of-loads}
 use Rattle.mg_run.specs.Task.{Task}
 use Rattle.mg_run.specs.Files.{Files, AreFiles}
@@ -18,7 +19,7 @@ use Rattle.mg_answer.proofs.Answering.{ran-answered}
 use Rattle.mg_drive.specs.Traced.{TracedAll}
 use Rattle.mg_drive.proofs.TracesRan.{traced_told, traced_answered}
 use Rattle.mg_replay.proofs.Answered.{replayed_otherwise, replayed_answered}
-use Rattle.mg_run.specs.Answer.{Answer, Job, refuse, show, run_plan, solve, generate, trace, replay, job_of}
+use Rattle.mg_run.specs.Answer.{Answer, Job, refuse, show, run_plan, run_live, solve, generate, generate_live, trace, replay, job_of}
 use Rattle.mg_run.specs.Devices.{Device, device, Devices, devices, run_of, Untouched, Unrisen, NoneFailed, TookText, Noted}
 use Rattle.mg_answer.specs.Wrote.{Meets}
 use Rattle.mg_run.specs.Call.{Written, WasShown, Did, IsJob, CallDid, CallShort, Called, MetAnswer, IsAnswered}
@@ -59,8 +60,10 @@ did-store : (job : Job) (all : Devices) → Did job StoreFault all → ⊥
 did-store (refuse note) all did = let e = did.ended in cc
 did-store (show text) all did = not-shown text StoreFault all (λ e. cc) (λ e. cc) did
 did-store (run_plan report plan) all did = lines-no-store report plan (run_of all) all.boxes did
+did-store (run_live report plan) all did = live-no-other report plan StoreFault (run_of all) all.boxes (inl refl) did
 did-store (solve report plan) all did = not-ran report plan StoreFault (run_of all) (inl refl) did.ran
 did-store (generate report number plan) all did = packets-no-store report plan number all.output all.notes all.boxes did.ran
+did-store (generate_live report number plan) all did = live-made-no-other report plan number StoreFault all.output all.notes all.boxes (inl refl) did.ran
 did-store (trace report plan) all did = not-traced report plan all.boxes.before StoreFault (run_of all) (inl refl) did.ran
 did-store (replay report plan) all did = replayed_otherwise StoreFault report plan (run_of all) all.boxes (inl refl) did.replayed
 
@@ -68,8 +71,10 @@ did-usage : (job : Job) (all : Devices) → Did job Usage all → ⊥
 did-usage (refuse note) all did = let e = did.ended in cc
 did-usage (show text) all did = not-shown text Usage all (λ e. cc) (λ e. cc) did
 did-usage (run_plan report plan) all did = lines-no-usage report plan (run_of all) all.boxes did
+did-usage (run_live report plan) all did = live-no-other report plan Usage (run_of all) all.boxes (inr refl) did
 did-usage (solve report plan) all did = not-ran report plan Usage (run_of all) (inr refl) did.ran
 did-usage (generate report number plan) all did = packets-no-usage report plan number all.output all.notes all.boxes did.ran
+did-usage (generate_live report number plan) all did = live-made-no-other report plan number Usage all.output all.notes all.boxes (inr refl) did.ran
 did-usage (trace report plan) all did = not-traced report plan all.boxes.before Usage (run_of all) (inr refl) did.ran
 did-usage (replay report plan) all did = replayed_otherwise Usage report plan (run_of all) all.boxes (inr refl) did.replayed
 
@@ -80,8 +85,10 @@ did-noted (refuse note) all did = let e = did.ended in absurd (differ e)
     differ e = cc
 did-noted (show text) all did = absurd (not-shown text OutOfMemory all (λ e. cc) (λ e. cc) did)
 did-noted (run_plan report plan) all did = lines-noted report plan (run_of all) all.boxes did
+did-noted (run_live report plan) all did = live-noted report plan (run_of all) all.boxes did
 did-noted (solve report plan) all did = did.ran.1
 did-noted (generate report number plan) all did = packets-noted report plan number all.output all.notes all.boxes did.ran
+did-noted (generate_live report number plan) all did = live-made-noted report plan number all.output all.notes all.boxes did.ran
 did-noted (trace report plan) all did = did.ran.1
 did-noted (replay report plan) all did = did.replayed.1
 
@@ -137,11 +144,16 @@ did-answer (show text) status all did none some =
     if-any all.input.before.left (λ r. MetAnswer (show text) r status all) (λ r. (show_answer text, refl, shown-answer text status all did none))
 did-answer (run_plan report plan) status all did none some =
     lines-answered report plan status (run_of all) all.boxes did (none-run all none) some
+did-answer (run_live report plan) status all did none some =
+    live-answered report plan status (run_of all) all.boxes did (none-run all none) some
 did-answer (solve report plan) status all did none some =
     ran-answered report plan status (run_of all) did.ran (none-run all none) some
 did-answer (generate report number plan) status all did none some =
     if-any all.input.before.left (λ r. MetAnswer (generate report number plan) r status all)
     (λ r. packets-answered report plan number status (run_of all) all.boxes did.ran (none-run all none) some)
+did-answer (generate_live report number plan) status all did none some =
+    if-any all.input.before.left (λ r. MetAnswer (generate_live report number plan) r status all)
+    (λ r. live-made-answered report plan number status (run_of all) all.boxes did.ran (none-run all none) some)
 did-answer (trace report plan) status all did none some =
     traced_answered report plan all.boxes.before status (run_of all) did.ran (none-run all none) some
 did-answer (replay report plan) status all did none some =

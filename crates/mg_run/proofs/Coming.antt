@@ -13,7 +13,7 @@ use Rattle.mg_calc.specs.declared.shape.OuterShape.{OuterShape}
 use Rattle.mg_calc.specs.Told.{CalculatorTold}
 use Rattle.mg_run.specs.Task.{Task, task}
 use Rattle.mg_run.specs.Files.{Files, graphs, no_graphs}
-use Rattle.mg_run.specs.Answer.{Job, refuse, show, run_plan, solve, generate, trace, replay, check_job, way_job, verb_job, expanded_job, files_job}
+use Rattle.mg_run.specs.Answer.{Job, refuse, show, run_plan, run_live, solve, generate, generate_live, trace, replay, check_job, way_job, live_job, verb_job, expanded_job, files_job}
 use Rattle.mg_words.specs.Words.{Asked, asks_usage, asks_text, asks_command, command_by}
 use Rattle.mg_run.specs.Devices.{Device, device, Devices, devices, run_of, Untouched, HasEnded, HasRisen, NoneFailed, Noted}
 use Rattle.mg_answer.specs.Notes.{memory_note}
@@ -30,6 +30,7 @@ use Rattle.mg_answer.specs.declared.status.Status.{Status}
 use Rattle.mg_answer.specs.declared.status.Status.TheVariants.{Good, StoreFault, Usage, GraphRefused, LineRefused, NodeFault, Stalled, ReadFault, WriteFault, OutOfMemory}
 use Rattle.mg_feed.specs.Sent.{Sent}
 use Rattle.mg_run.proofs.Readings.{lines-boxes, packets-boxes}
+use Rattle.mg_run.proofs.LiveReadings.{live-boxes, live-made-boxes}
 use Rattle.mg_run.proofs.Calling.{short-nothing, answered-from}
 use Rattle.mg_run.proofs.Planned.{planned}
 use Rattle.mg_run.proofs.Ending.{ended_statuses, called-ended}
@@ -180,8 +181,10 @@ did-boxes : (job : Job) (status : Status) (all : Devices) → Did job status all
 did-boxes (refuse note) status all did = ap length did.uncalled
 did-boxes (show text) status all did = ap length did.uncalled
 did-boxes (run_plan report plan) status all did = lines-boxes report plan status (run_of all) all.boxes did
+did-boxes (run_live report plan) status all did = live-boxes report plan status (run_of all) all.boxes did
 did-boxes (solve report plan) status all did = ap length did.uncalled
 did-boxes (generate report number plan) status all did = packets-boxes report plan number status all.output all.notes all.boxes did.ran
+did-boxes (generate_live report number plan) status all did = live-made-boxes report plan number status all.output all.notes all.boxes did.ran
 did-boxes (trace report plan) status all did = did.left.count
 did-boxes (replay report plan) status all did = did.left.count
 
@@ -215,8 +218,10 @@ abbrev IsRun : Job → Type 0
 IsRun (refuse note) = ⊥
 IsRun (show text) = ⊥
 IsRun (run_plan report plan) = Unit {0}
+IsRun (run_live report plan) = Unit {0}
 IsRun (solve report plan) = ⊥
 IsRun (generate report number plan) = Unit {0}
+IsRun (generate_live report number plan) = Unit {0}
 IsRun (trace report plan) = Unit {0}
 IsRun (replay report plan) = Unit {0}
 
@@ -231,11 +236,18 @@ way-no-run Generate order plan is runs = false≢true (sym is)
 way-no-run Trace order plan is runs = false≢true (sym is)
 way-no-run Replay order plan is runs = false≢true (sym is)
 
+live-no-run : (way : Way) (order : Order) (first : ℕ) (plan : Plan) → calls_boxes (Use way) ≡ false → IsRun (live_job way order first plan) → ⊥
+live-no-run Run order first plan is runs = false≢true (sym is)
+live-no-run Solve order first plan is runs = runs
+live-no-run Generate order first plan is runs = false≢true (sym is)
+live-no-run Trace order first plan is runs = runs
+live-no-run Replay order first plan is runs = runs
+
 verb-no-run : (verb : Verb) (order : Order) (outers : List OuterShape) (g : GraphView) → calls_boxes verb ≡ false → IsRun (verb_job verb order outers g) → ⊥
 verb-no-run Check order outers g is runs = check-no-run (check_of outers g) runs
 verb-no-run Expand order outers g is runs = runs
 verb-no-run (Use way) order outers g is runs =
-    planned (λ job. IsRun job → ⊥) way order (check_of outers g) (λ note calls. calls) (λ plan calls. way-no-run way order plan is calls) runs
+    planned (λ job. IsRun job → ⊥) way order (check_of outers g) (λ note calls. calls) (λ plan calls. way-no-run way order plan is calls) (λ first plan calls. live-no-run way order first plan is calls) runs
 
 expanded-no-run : (order : Order) (outers : List OuterShape) (expanded : Result GraphView ExpandFault) → calls_boxes order.verb ≡ false → IsRun (expanded_job order outers expanded) → ⊥
 expanded-no-run order outers (Ok g) is runs = verb-no-run order.verb order outers g is runs
@@ -253,8 +265,10 @@ did-uncalled : (job : Job) (status : Status) (all : Devices) → (IsRun job → 
 did-uncalled (refuse note) status all none did = did.uncalled
 did-uncalled (show text) status all none did = did.uncalled
 did-uncalled (run_plan report plan) status all none did = absurd (none tt)
+did-uncalled (run_live report plan) status all none did = absurd (none tt)
 did-uncalled (solve report plan) status all none did = did.uncalled
 did-uncalled (generate report number plan) status all none did = absurd (none tt)
+did-uncalled (generate_live report number plan) status all none did = absurd (none tt)
 did-uncalled (trace report plan) status all none did = absurd (none tt)
 did-uncalled (replay report plan) status all none did = absurd (none tt)
 

@@ -12,12 +12,13 @@ use Rattle.mg_subgraph.specs.Expansion.{expansion_of}
 use Rattle.mg_subgraph.specs.declared.fault.ExpandFault.{ExpandFault}
 use Rattle.mg_answer.proofs.Answering.{ran-ended}
 use Rattle.mg_run.proofs.Readings.{lines-ended}
+use Rattle.mg_run.proofs.LiveReadings.{live-ended}
 use Rattle.mg_drive.proofs.TracesRan.{traced_ended}
 use Rattle.mg_replay.proofs.Answered.{replayed_ended}
 use Rattle.mg_words.specs.Command.{reads_input}
 use Rattle.mg_run.specs.Task.{Task}
 use Rattle.mg_run.specs.Files.{Files, graphs, no_graphs}
-use Rattle.mg_run.specs.Answer.{Job, refuse, show, run_plan, solve, generate, trace, replay, check_job, way_job, verb_job, expanded_job, files_job}
+use Rattle.mg_run.specs.Answer.{Job, refuse, show, run_plan, run_live, solve, generate, generate_live, trace, replay, check_job, way_job, live_job, verb_job, expanded_job, files_job}
 use Rattle.mg_run.specs.Devices.{Device, Devices, run_of, Untouched, HasEnded}
 use Rattle.mg_run.specs.Call.{Did, IsJob, CallDid, Called, IsOneOf}
 use Rattle.mg_run.specs.Code.Job.{MayRead}
@@ -42,11 +43,18 @@ way-unread Generate order plan is may = may
 way-unread Trace order plan is may = false≢true (sym is)
 way-unread Replay order plan is may = false≢true (sym is)
 
+live-unread : (way : Way) (order : Order) (first : ℕ) (plan : Plan) → reads_input (Use way) ≡ false → MayRead (live_job way order first plan) → ⊥
+live-unread Run order first plan is may = false≢true (sym is)
+live-unread Solve order first plan is may = may
+live-unread Generate order first plan is may = may
+live-unread Trace order first plan is may = may
+live-unread Replay order first plan is may = may
+
 graph-unread : (verb : Verb) (order : Order) (outers : List OuterShape) (g : GraphView) → reads_input verb ≡ false → MayRead (verb_job verb order outers g) → ⊥
 graph-unread Check order outers g is may = check-unread (check_of outers g) may
 graph-unread Expand order outers g is may = may
 graph-unread (Use way) order outers g is may =
-    planned (λ job. MayRead job → ⊥) way order (check_of outers g) (λ note reads. reads) (λ plan reads. way-unread way order plan is reads) may
+    planned (λ job. MayRead job → ⊥) way order (check_of outers g) (λ note reads. reads) (λ plan reads. way-unread way order plan is reads) (λ first plan reads. live-unread way order first plan is reads) may
 
 expanded-unread : (order : Order) (outers : List OuterShape) (expanded : Result GraphView ExpandFault) → reads_input order.verb ≡ false → MayRead (expanded_job order outers expanded) → ⊥
 expanded-unread order outers (Ok g) is may = graph-unread order.verb order outers g is may
@@ -67,8 +75,10 @@ abbrev NeedsNone : Job → Type 0
 NeedsNone (refuse note) = ⊥
 NeedsNone (show text) = Unit {0}
 NeedsNone (run_plan report plan) = ⊥
+NeedsNone (run_live report plan) = ⊥
 NeedsNone (solve report plan) = ⊥
 NeedsNone (generate report number plan) = Unit {0}
+NeedsNone (generate_live report number plan) = Unit {0}
 NeedsNone (trace report plan) = ⊥
 NeedsNone (replay report plan) = ⊥
 
@@ -79,11 +89,18 @@ way-reads Generate order plan is none = false≢true is
 way-reads Trace order plan is none = none
 way-reads Replay order plan is none = none
 
+live-reads : (way : Way) (order : Order) (first : ℕ) (plan : Plan) → reads_input (Use way) ≡ true → NeedsNone (live_job way order first plan) → ⊥
+live-reads Run order first plan is none = none
+live-reads Solve order first plan is none = none
+live-reads Generate order first plan is none = false≢true is
+live-reads Trace order first plan is none = none
+live-reads Replay order first plan is none = none
+
 graph-reads : (verb : Verb) (order : Order) (outers : List OuterShape) (g : GraphView) → reads_input verb ≡ true → NeedsNone (verb_job verb order outers g) → ⊥
 graph-reads Check order outers g is none = false≢true is
 graph-reads Expand order outers g is none = false≢true is
 graph-reads (Use way) order outers g is none =
-    planned (λ job. NeedsNone job → ⊥) way order (check_of outers g) (λ note needs. needs) (λ plan needs. way-reads way order plan is needs) none
+    planned (λ job. NeedsNone job → ⊥) way order (check_of outers g) (λ note needs. needs) (λ plan needs. way-reads way order plan is needs) (λ first plan needs. live-reads way order first plan is needs) none
 
 expanded-reads : (order : Order) (outers : List OuterShape) (expanded : Result GraphView ExpandFault) → reads_input order.verb ≡ true → NeedsNone (expanded_job order outers expanded) → ⊥
 expanded-reads order outers (Ok g) is none = graph-reads order.verb order outers g is none
@@ -123,9 +140,12 @@ did-ended task contents (refuse note) status all due did reads one = absurd (ref
 did-ended task contents (show text) status all due did reads one = absurd (due-reads task contents (show text) due reads tt)
 did-ended task contents (run_plan report plan) status all due did reads one =
     end-came all.input (lines-ended report plan status (run_of all) all.boxes did (short-ended status) one)
+did-ended task contents (run_live report plan) status all due did reads one =
+    end-came all.input (live-ended report plan status (run_of all) all.boxes did (short-ended status) one)
 did-ended task contents (solve report plan) status all due did reads one =
     end-came all.input (ran-ended report plan status (run_of all) did.ran one)
 did-ended task contents (generate report number plan) status all due did reads one = absurd (due-reads task contents (generate report number plan) due reads tt)
+did-ended task contents (generate_live report number plan) status all due did reads one = absurd (due-reads task contents (generate_live report number plan) due reads tt)
 did-ended task contents (trace report plan) status all due did reads one =
     end-came all.input (traced_ended report plan all.boxes.before status (run_of all) did.ran one)
 did-ended task contents (replay report plan) status all due did reads one =

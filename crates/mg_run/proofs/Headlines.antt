@@ -1,7 +1,8 @@
 -- A run or a run over packets that are made, as one thing.
-use Rattle.std.proofs.Common.{◌≡◌, ◌≢◌, ◌⊎◌, inl, inr, ℕ, ℤ, List, [], ◌∷◌, Option, None, Some, IfSome, Result, Ok, Err, option_map, refl, sym, ap, ◌∙◌, subst}
+use Rattle.std.proofs.Common.{◌≡◌, ◌≢◌, ◌⊎◌, inl, inr, ℕ, ℤ, List, [], ◌∷◌, Option, None, Some, IfSome, Result, Ok, Err, refl, sym, ap, ◌∙◌, subst}
 use Rattle.mg_edge.specs.Edge.{SourceTold, SinkTold, StoreTold}
 use Rattle.mg_config.specs.Config.{GraphView}
+use Rattle.mg_calc.specs.declared.inputs.Inputs.{Inputs}
 use Rattle.mg_calc.specs.declared.plan.Plan.{Plan}
 use Rattle.mg_calc.specs.declared.shape.OuterShape.{OuterShape}
 use Rattle.mg_calc.specs.Equations as equations
@@ -21,16 +22,17 @@ use Rattle.mg_answer.proofs.Answering.{whole-read}
 use Rattle.mg_answer.specs.declared.status.Status.{Status}
 use Rattle.mg_answer.specs.declared.status.Status.TheVariants.{Good, StoreFault, Usage, GraphRefused, LineRefused, NodeFault, Stalled, ReadFault, WriteFault, OutOfMemory}
 use Rattle.mg_drive.specs.OneRun.{OneRun, RanOverLines, RanOverPackets}
+use Rattle.mg_drive.specs.OneLive.{OneLive, AreBatchesOf, RanLive, RanLiveMade}
 use Rattle.mg_run.specs.Task.{Task, task}
 use Rattle.mg_words.specs.Words.{Asked, asks_usage, asks_text, asks_command, command_by}
-use Rattle.mg_run.specs.Notes.{expand_note, free_note}
+use Rattle.mg_run.specs.Notes.{expand_note}
 use Rattle.mg_run.specs.CheckNotes.{check_note}
 use Rattle.mg_run.specs.Files.{Files, graphs, no_graphs, AreGraphs, AreFiles}
 use Rattle.mg_run.specs.Loads.{LoadedAll, loads_of}
 use Rattle.mg_run.specs.Devices.{Device, Devices, run_of, Untouched, Unrisen}
-use Rattle.mg_run.specs.Answer.{Job, refuse, run_plan, generate, unless_refused, with_limit, with_workers, as_asked, way_word, way_job, plan_job, verb_job, expanded_job, job_of}
-use Rattle.mg_run.specs.Call.{GeneratedGraph, Did, IsJob, CallDid, Called, Came, IsOneOf}
-use Rattle.mg_run.specs.Headline.{RunsGraph, ran_statuses, IsGraph, Origin, from_input, from_number, IsOrigin, job_from, end_from, telling_from, bare, Headline}
+use Rattle.mg_run.specs.Answer.{Job, refuse, run_plan, run_live, generate, generate_live, with_limit, with_workers, as_asked, way_job, live_job, used_job, plan_job, verb_job, expanded_job, job_of}
+use Rattle.mg_run.specs.Call.{GeneratedGraph, GeneratedLive, Did, IsJob, CallDid, Called, Came, IsOneOf}
+use Rattle.mg_run.specs.Headline.{RunsGraph, ran_statuses, IsGraph, Origin, from_input, from_number, IsOrigin, job_from, end_from, telling_from, bare, Headline, IsLiveGraph, form_from, LiveHeadline, RanGraph}
 use Rattle.mg_words.specs.declared.words.Order.{Order}
 use Rattle.mg_words.specs.declared.words.Verb.{Verb}
 use Rattle.mg_words.specs.declared.words.Verb.TheVariants.{Use}
@@ -39,6 +41,7 @@ use Rattle.mg_words.specs.declared.words.Way.TheVariants.{Run, Generate}
 use Rattle.mg_run.proofs.Loading.{of-loads}
 use Rattle.mg_run.proofs.Together.{one-reading}
 use Rattle.mg_run.proofs.Unlimited.{limited_plan, unlimited_run}
+use Rattle.mg_run.proofs.LiveUnlimited.{batches_same, unlimited_live}
 
 -- What there is to do is a refusal, or the graph of the files is used so --
 
@@ -48,20 +51,29 @@ record Finds (task : Task) (contents : List (List ℕ)) (way : Way) (job : Job) 
   graph : IsGraph task contents plan
   is : job ≡ way_job way task.order plan
 
+-- or one with a free node
+record FindsLive (task : Task) (contents : List (List ℕ)) (way : Way) (job : Job) : Type 0 where
+  plan : Plan
+  graph : IsLiveGraph task contents plan
+  is : job ≡ live_job way task.order graph.first plan
+
 abbrev Due : Task → List (List ℕ) → Way → Job → Type 0
-Due task contents way job = ((note : List ℕ) × (job ≡ refuse note)) ⊎ Finds task contents way job
+Due task contents way job = ((note : List ℕ) × (job ≡ refuse note)) ⊎ (Finds task contents way job ⊎ FindsLive task contents way job)
 
 -- by whether a node is free
 by_free : (task : Task) (contents : List (List ℕ)) (way : Way) (plan : Plan) (o : Option ℕ) → first_free plan ≡ o → (first_free plan ≡ None → IsGraph task contents plan)
-    → Due task contents way (unless_refused (option_map (free_note (way_word way)) o) (way_job way task.order plan))
-by_free task contents way plan None is found = inr (record { plan = plan; graph = found is; is = refl })
-by_free task contents way plan (Some node) is found = inl (free_note (way_word way) node, refl)
+    → ((first : ℕ) → first_free plan ≡ Some first → (graph : IsLiveGraph task contents plan) × (graph.first ≡ first)) → Due task contents way (used_job o way task.order plan)
+by_free task contents way plan None is found live = inr (inl (record { plan = plan; graph = found is; is = refl }))
+by_free task contents way plan (Some node) is found live =
+    let graph = live node is in
+    inr (inr (record { plan = plan; graph = graph.0; is = ap (λ (first : ℕ). live_job way task.order first plan) (sym graph.1) }))
 
 -- by what the check answers
 by_check : (task : Task) (contents : List (List ℕ)) (way : Way) (g : GraphView) (checked : Result Plan CheckFault) → check_of task.outers g ≡ checked
-    → ((plan : Plan) → check_of task.outers g ≡ Ok plan → first_free plan ≡ None → IsGraph task contents plan) → Due task contents way (plan_job way task.order checked)
-by_check task contents way g (Ok plan) is found = by_free task contents way plan (first_free plan) refl (found plan is)
-by_check task contents way g (Err fault) is found = inl (check_note fault, refl)
+    → ((plan : Plan) → check_of task.outers g ≡ Ok plan → first_free plan ≡ None → IsGraph task contents plan)
+    → ((plan : Plan) → check_of task.outers g ≡ Ok plan → (first : ℕ) → first_free plan ≡ Some first → (graph : IsLiveGraph task contents plan) × (graph.first ≡ first)) → Due task contents way (plan_job way task.order checked)
+by_check task contents way g (Ok plan) is found live = by_free task contents way plan (first_free plan) refl (found plan is) (live plan is)
+by_check task contents way g (Err fault) is found live = inl (check_note fault, refl)
 
 -- by what the expansion answers
 by_expansion : (task : Task) (contents : List (List ℕ)) (way : Way) (main : GraphView) (library : List GraphView) (expanded : Result GraphView ExpandFault) → task.order.verb ≡ Use way → AreGraphs contents (main ∷ library) → expansion_of main library ≡ expanded
@@ -69,7 +81,8 @@ by_expansion : (task : Task) (contents : List (List ℕ)) (way : Way) (main : Gr
 by_expansion task contents way main library (Ok g) verb are is =
     subst (λ (v : Verb). Due task contents way (verb_job v task.order task.outers g)) (sym verb)
     (by_check task contents way g (check_of task.outers g) refl
-    (λ plan checked bound. record { main = main; library = library; files = are; graph = g; expanded = is; checked = checked; bound = bound }))
+    (λ plan checked bound. record { main = main; library = library; files = are; graph = g; expanded = is; checked = checked; bound = bound })
+    (λ plan checked first free. (record { main = main; library = library; files = are; graph = g; expanded = is; checked = checked; first = first; free = free }, refl)))
 by_expansion task contents way main library (Err fault) verb are is = inl (expand_note fault, refl)
 
 -- by what the files are
@@ -100,6 +113,23 @@ bare_run order plan from status output notes boxes run =
         → OneRun (telling_from order.report from) (job_from (bare plan) from) (end_from from) status output notes boxes
     by (from_input read) run = unlimited_run (by_lines order.report) (answers.job_of (bare plan) read) (as_asked order plan).limit (as_asked order plan).workers read.end status output notes boxes run
     by (from_number number) run = unlimited_run (by_summary order.report) (generated_job (bare plan) number) (as_asked order plan).limit (as_asked order plan).workers Ended status output notes boxes run
+
+bare_live : (order : Order) (plan : Plan) (from : Origin) (first : Inputs) (later : List Inputs) (status : Status) (output notes : Device SinkTold) (boxes : Device (List CalculatorTold))
+    → OneLive (form_from from) order.report (as_asked order plan) first later (end_from from) status output notes boxes → OneLive (form_from from) order.report (bare plan) first later (end_from from) status output notes boxes
+bare_live order plan from first later status output notes boxes run =
+    unlimited_live (form_from from) order.report (bare plan) (as_asked order plan).limit (as_asked order plan).workers first later (end_from from) status output notes boxes
+    (subst (λ (p : Plan). OneLive (form_from from) order.report p first later (end_from from) status output notes boxes) (asked_is order order.limit order.workers plan) run)
+
+bare_batches : (order : Order) (plan : Plan) (read : Read) (batches : List Inputs) → AreBatchesOf (as_asked order plan) read batches → AreBatchesOf (bare plan) read batches
+bare_batches order plan read batches are =
+    batches_same (bare plan) (as_asked order plan).limit (as_asked order plan).workers read batches (subst (λ (p : Plan). AreBatchesOf p read batches) (asked_is order order.limit order.workers plan) are)
+
+-- what is made for a plan doesn't ask for its limit and workers
+made_asked : (limit : Option ℤ) (workers : Option ℕ) (plan : Plan) (number : ℕ) → (generated_job (with_workers workers (with_limit limit plan)) number).inputs ≡ (generated_job (bare plan) number).inputs
+made_asked None None plan number = refl
+made_asked None (Some workers) plan number = refl
+made_asked (Some limit) None plan number = refl
+made_asked (Some limit) (Some workers) plan number = refl
 
 -- The headline --
 
@@ -134,19 +164,58 @@ packets_headline : (task : Task) (contents : List (List ℕ)) (plan : Plan) (sta
 packets_headline task contents plan status all verb some loaded graph unread (inl one) = headline task contents plan status all (from_number task.order.number) loaded graph (verb, refl, unread) one
 packets_headline task contents plan status all verb some loaded graph unread (inr short) = absurd (some short.is)
 
+live_lines_headline : (task : Task) (contents : List (List ℕ)) (plan : Plan) (status : Status) (all : Devices) → task.order.verb ≡ Use Run → status ≢ OutOfMemory → LoadedAll task.files contents all.store → IsLiveGraph task contents plan
+    → RanLive task.order.report (as_asked task.order plan) status (run_of all) all.boxes → LiveHeadline task status all
+live_lines_headline task contents plan status all verb some loaded graph (inl one) = record {
+  contents = contents;
+  loaded = loaded;
+  plan = plan;
+  graph = graph;
+  from = from_input one.read;
+  origin = (verb, came_asked task.order.limit task.order.workers plan all.input one.read one.came);
+  first = one.first;
+  later = one.later;
+  batches = bare_batches task.order plan one.read (one.first ∷ one.later) one.batches;
+  run = bare_live task.order plan (from_input one.read) one.first one.later status all.output all.notes all.boxes one.run;
+}
+live_lines_headline task contents plan status all verb some loaded graph (inr short) = absurd (some short.is)
+
+live_packets_headline : (task : Task) (contents : List (List ℕ)) (plan : Plan) (status : Status) (all : Devices) → task.order.verb ≡ Use Generate → status ≢ OutOfMemory → LoadedAll task.files contents all.store → IsLiveGraph task contents plan
+    → Untouched all.input → RanLiveMade task.order.report (as_asked task.order plan) task.order.number status all.output all.notes all.boxes → LiveHeadline task status all
+live_packets_headline task contents plan status all verb some loaded graph unread (inl one) = record {
+  contents = contents;
+  loaded = loaded;
+  plan = plan;
+  graph = graph;
+  from = from_number task.order.number;
+  origin = (verb, refl, unread);
+  first = (generated_job (as_asked task.order plan) task.order.number).inputs;
+  later = [];
+  batches = ap (λ (i : Inputs). i ∷ []) (made_asked task.order.limit task.order.workers plan task.order.number);
+  run = bare_live task.order plan (from_number task.order.number) (generated_job (as_asked task.order plan) task.order.number).inputs [] status all.output all.notes all.boxes one;
+}
+live_packets_headline task contents plan status all verb some loaded graph unread (inr short) = absurd (some short.is)
+
 -- a call did what there was to do, and the graph wasn't refused
 did_headline : (task : Task) (status : Status) (all : Devices) (called : CallDid status task all) (way : Way) → (way ≡ Run) ⊎ (way ≡ Generate) → task.order.verb ≡ Use way → status ≢ GraphRefused → status ≢ OutOfMemory
-    → Due task called.contents way called.job → Headline task status all
+    → Due task called.contents way called.job → RanGraph task status all
 did_headline task status all called way used verb good some (inl refused) = absurd (good (let d : Did (refuse refused.0) status all = subst (λ (j : Job). Did j status all) refused.1 called.did in d.ended))
-did_headline task status all called way (inl is) verb good some (inr found) =
+did_headline task status all called way (inl is) verb good some (inr (inl found)) =
     let same : called.job ≡ run_plan task.order.report (as_asked task.order found.plan) = found.is ∙ ap (λ (w : Way). way_job w task.order found.plan) is in
-    lines_headline task called.contents found.plan status all (verb ∙ ap Use is) some called.loaded found.graph (subst (λ (j : Job). Did j status all) same called.did)
-did_headline task status all called way (inr is) verb good some (inr found) =
+    inl (lines_headline task called.contents found.plan status all (verb ∙ ap Use is) some called.loaded found.graph (subst (λ (j : Job). Did j status all) same called.did))
+did_headline task status all called way (inr is) verb good some (inr (inl found)) =
     let same : called.job ≡ generate task.order.report task.order.number (as_asked task.order found.plan) = found.is ∙ ap (λ (w : Way). way_job w task.order found.plan) is in
     let d : GeneratedGraph task.order.report task.order.number (as_asked task.order found.plan) status all = subst (λ (j : Job). Did j status all) same called.did in
-    packets_headline task called.contents found.plan status all (verb ∙ ap Use is) some called.loaded found.graph d.unread d.ran
+    inl (packets_headline task called.contents found.plan status all (verb ∙ ap Use is) some called.loaded found.graph d.unread d.ran)
+did_headline task status all called way (inl is) verb good some (inr (inr found)) =
+    let same : called.job ≡ run_live task.order.report (as_asked task.order found.plan) = found.is ∙ ap (λ (w : Way). live_job w task.order found.graph.first found.plan) is in
+    inr (live_lines_headline task called.contents found.plan status all (verb ∙ ap Use is) some called.loaded found.graph (subst (λ (j : Job). Did j status all) same called.did))
+did_headline task status all called way (inr is) verb good some (inr (inr found)) =
+    let same : called.job ≡ generate_live task.order.report task.order.number (as_asked task.order found.plan) = found.is ∙ ap (λ (w : Way). live_job w task.order found.graph.first found.plan) is in
+    let d : GeneratedLive task.order.report task.order.number (as_asked task.order found.plan) status all = subst (λ (j : Job). Did j status all) same called.did in
+    inr (live_packets_headline task called.contents found.plan status all (verb ∙ ap Use is) some called.loaded found.graph d.unread d.ran)
 
-call_headline : (status : Status) (task : Task) (all : Devices) → CallDid status task all → RunsGraph task.order.verb → status ≢ GraphRefused → status ≢ OutOfMemory → Headline task status all
+call_headline : (status : Status) (task : Task) (all : Devices) → CallDid status task all → RunsGraph task.order.verb → status ≢ GraphRefused → status ≢ OutOfMemory → RanGraph task status all
 call_headline status task all called (inl verb) good some =
     did_headline task status all called Run (inl refl) verb good some (due_by task called.contents Run called.job verb called.due)
 call_headline status task all called (inr verb) good some =
@@ -180,7 +249,7 @@ memory_ran (inr (inr (inr (inr (inl e))))) = cc
 memory_ran (inr (inr (inr (inr (inr (inl e)))))) = cc
 memory_ran (inr (inr (inr (inr (inr (inr none)))))) = none
 
-called_headline : (status : Status) (task : Task) (all : Devices) → Called status task all → RunsGraph task.order.verb → IsOneOf status ran_statuses → Headline task status all
+called_headline : (status : Status) (task : Task) (all : Devices) → Called status task all → RunsGraph task.order.verb → IsOneOf status ran_statuses → RanGraph task status all
 called_headline Good task all called runs one = call_headline Good task all called runs (λ e. cc) (λ e. cc)
 called_headline StoreFault task all called runs one = absurd (store_ran one)
 called_headline Usage task all called runs one = elim called [ ]
@@ -193,7 +262,7 @@ called_headline WriteFault task all called runs one = call_headline WriteFault t
 called_headline OutOfMemory task all called runs one = absurd (memory_ran one)
 
 pub came-headline : (outers : List OuterShape) (asked : Asked) (status : Status) (all : Devices) → Came outers asked status all
-    → IfSome (command_by asked) (λ command. RunsGraph command.order.verb → IsOneOf status ran_statuses → Headline (task command outers) status all)
+    → IfSome (command_by asked) (λ command. RunsGraph command.order.verb → IsOneOf status ran_statuses → RanGraph (task command outers) status all)
 came-headline outers asks_usage status all came = tt
 came-headline outers (asks_text text) status all came = tt
 came-headline outers (asks_command command) status all came = called_headline status (task command outers) all came

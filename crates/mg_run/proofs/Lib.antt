@@ -5,14 +5,17 @@ pub mod Texts
 pub mod Fewer
 pub mod Told
 pub mod Readings
+pub mod LiveReadings
 pub mod Calling
 pub mod Planned
 pub mod Ending
+pub mod OneLiveAnswer
 pub mod OneAnswer
 pub mod Risen
 pub mod Coming
 pub mod Handing
 pub mod LimitedPlans
 pub mod Unlimited
+pub mod LiveUnlimited
 pub mod AnyLimit
 pub mod Headlines

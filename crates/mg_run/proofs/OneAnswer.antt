@@ -1,13 +1,14 @@
 -- There is one answer, and of a recorded run one end.
-use Rattle.std.proofs.Common.{◌≡◌, ℕ, Bool, List, sym, ap, ◌∙◌}
+use Rattle.std.proofs.Common.{◌≡◌, ℕ, Bool, List, [], sym, ap, ◌∙◌}
 use Rattle.mg_calc.specs.declared.plan.Plan.{Plan}
 use Rattle.mg_calc.specs.Told.{CalculatorTold}
 use Rattle.mg_feed.specs.Graph.{inputs_of}
 use Rattle.mg_feed.specs.declared.feed_end.FeedEnd.TheVariants.{Ended}
-use Rattle.mg_answer.specs.Answer.{ended_input, by_summary, generated_job, AnswersEnded, AnswersGenerated}
+use Rattle.mg_answer.specs.Answer.{totals, ended_input, by_summary, generated_job, AnswersEnded, AnswersGenerated}
 use Rattle.mg_answer.proofs.OneAnswer.{one-answer, one-of}
 use Rattle.mg_drive.specs.Traced.{TracesEnded}
-use Rattle.mg_run.specs.Answer.{Answer, Job, refuse, show, run_plan, solve, generate, trace, replay, IsAnswerOf, Records, Replays}
+use Rattle.mg_run.proofs.OneLiveAnswer.{one-of-live, one-of-lines}
+use Rattle.mg_run.specs.Answer.{Answer, Job, refuse, show, run_plan, run_live, solve, generate, generate_live, trace, replay, IsAnswerOf, Records, Replays}
 
 pub one-of-run : (report : Bool) (plan : Plan) (input : List ℕ) (a b : Answer) → AnswersEnded report plan input a → AnswersEnded report plan input b → a ≡ b
 one-of-run report plan input a b one two = one-answer report plan (ended_input (inputs_of plan) input) a b one two
@@ -19,8 +20,10 @@ pub one-of-job : (job : Job) (boxes : List CalculatorTold) (input : List ℕ) (a
 one-of-job (refuse note) boxes input a b other given one two = one ∙ sym two
 one-of-job (show text) boxes input a b other given one two = one ∙ sym two
 one-of-job (run_plan report plan) boxes input a b other given one two = one-of-run report plan input a b one two
+one-of-job (run_live report plan) boxes input a b other given one two = one-of-lines report plan input a b one two
 one-of-job (solve report plan) boxes input a b other given one two = one-of-run report plan input a b one two
 one-of-job (generate report number plan) boxes input a b other given one two = one-of-made report plan number a b one two
+one-of-job (generate_live report number plan) boxes input a b other given one two = one-of-live totals report plan (generated_job plan number).inputs [] Ended a b one two
 one-of-job (trace report plan) boxes input a b other given one two = absurd (other tt)
 one-of-job (replay report plan) boxes input a b other given one two = absurd (given tt)
 
@@ -45,7 +48,9 @@ pub one-end : (job : Job) (boxes : List CalculatorTold) (input : List ℕ) (a b 
 one-end (refuse note) boxes input a b given one two = alike a b (one ∙ sym two)
 one-end (show text) boxes input a b given one two = alike a b (one ∙ sym two)
 one-end (run_plan report plan) boxes input a b given one two = alike a b (one-of-run report plan input a b one two)
+one-end (run_live report plan) boxes input a b given one two = alike a b (one-of-lines report plan input a b one two)
 one-end (solve report plan) boxes input a b given one two = alike a b (one-of-run report plan input a b one two)
 one-end (generate report number plan) boxes input a b given one two = alike a b (one-of-made report plan number a b one two)
+one-end (generate_live report number plan) boxes input a b given one two = alike a b (one-of-live totals report plan (generated_job plan number).inputs [] Ended a b one two)
 one-end (trace report plan) boxes input a b given one two = two-traces report plan boxes input a b one two
 one-end (replay report plan) boxes input a b given one two = absurd (given tt)

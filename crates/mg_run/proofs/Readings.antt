@@ -48,7 +48,7 @@ no-status status (Failed lines) fs ns (inr usage) is = cc
 no-status status (Refused line cause) fs ns (inr usage) is = cc
 no-status status no_lines fs ns (inr usage) is = cc
 
-no_memory : (fs : List Fault) (ns : List ℕ) → OutOfMemory ≡ status_of Ended fs ns → ⊥
+pub no_memory : (fs : List Fault) (ns : List ℕ) → OutOfMemory ≡ status_of Ended fs ns → ⊥
 no_memory [] [] is = cc
 no_memory [] (n ∷ ns) is = cc
 no_memory (f ∷ fs) ns is = cc

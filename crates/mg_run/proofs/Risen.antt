@@ -4,9 +4,10 @@ use Rattle.mg_edge.specs.Edge.{SourceTold, SinkTold}
 use Rattle.mg_run.specs.Task.{Task}
 use Rattle.mg_answer.proofs.Answering.{read-risen as run-read-risen, write-risen as run-write-risen}
 use Rattle.mg_run.proofs.Readings.{lines-read-risen, lines-write-risen, packets-write-risen}
+use Rattle.mg_run.proofs.LiveReadings.{live-read-risen, live-write-risen, live-made-write-risen}
 use Rattle.mg_drive.proofs.TracesRan.{traced_read_risen, traced_write_risen}
 use Rattle.mg_replay.proofs.Answered.{replayed_read_risen, replayed_write_risen}
-use Rattle.mg_run.specs.Answer.{Job, refuse, show, run_plan, solve, generate, trace, replay}
+use Rattle.mg_run.specs.Answer.{Job, refuse, show, run_plan, run_live, solve, generate, generate_live, trace, replay}
 use Rattle.mg_run.specs.Devices.{Device, Devices, run_of, Untouched, HasRisen}
 use Rattle.mg_run.specs.Call.{Written, WasShown, Did, Called, IsOneOf}
 use Rattle.mg_answer.specs.declared.status.Status.{Status}
@@ -42,8 +43,10 @@ read-did : (job : Job) (status : Status) (all : Devices) → Did job status all 
 read-did (refuse note) status all did risen = absurd (risen-unread all.input risen did.unread)
 read-did (show text) status all did risen = absurd (risen-unread all.input risen did.unread)
 read-did (run_plan report plan) status all did risen = lines-read-risen report plan status (run_of all) all.boxes did risen
+read-did (run_live report plan) status all did risen = live-read-risen report plan status (run_of all) all.boxes did risen
 read-did (solve report plan) status all did risen = run-read-risen report plan status (run_of all) did.ran risen
 read-did (generate report number plan) status all did risen = absurd (risen-unread all.input risen did.unread)
+read-did (generate_live report number plan) status all did risen = absurd (risen-unread all.input risen did.unread)
 read-did (trace report plan) status all did risen = traced_read_risen report plan all.boxes.before status (run_of all) did.ran risen
 read-did (replay report plan) status all did risen = replayed_read_risen report plan status (run_of all) all.boxes did.replayed risen
 
@@ -85,9 +88,12 @@ write-did : (job : Job) (status : Status) (all : Devices) → Did job status all
 write-did (refuse note) status all did risen = inr (inl did.ended)
 write-did (show text) status all did risen = write-shown text status all did risen
 write-did (run_plan report plan) status all did risen = write-status status (lines-write-risen report plan status (run_of all) all.boxes did risen)
+write-did (run_live report plan) status all did risen = write-status status (live-write-risen report plan status (run_of all) all.boxes did risen)
 write-did (solve report plan) status all did risen = write-status status (run-write-risen report plan status (run_of all) did.ran risen)
 write-did (generate report number plan) status all did risen =
     write-status status (packets-write-risen report plan number status (run_of all) all.boxes did.ran risen)
+write-did (generate_live report number plan) status all did risen =
+    write-status status (live-made-write-risen report plan number status (run_of all) all.boxes did.ran risen)
 write-did (trace report plan) status all did risen = write-status status (traced_write_risen report plan all.boxes.before status (run_of all) did.ran risen)
 write-did (replay report plan) status all did risen = write-status status (replayed_write_risen report plan status (run_of all) all.boxes did.replayed risen)
 

@@ -72,19 +72,19 @@ told telling plan end fs cs streams = record {
   status = status_of end fs (stalled streams);
 }
 
-faults_same : (job : Job) (limit : ℤ) (workers : ℕ) (xs : List (StreamPrefix Plain)) → faults (limited job limit workers) xs ≡ faults job xs
+pub faults_same : (job : Job) (limit : ℤ) (workers : ℕ) (xs : List (StreamPrefix Plain)) → faults (limited job limit workers) xs ≡ faults job xs
 faults_same job limit workers xs = λ i. filter_map (λ (entry : ℕ × PlanNode).
     option_map (λ failure. (let it : NodeFault = record { node = entry.0; phase = failure.phase; cause = failure.cause } in it)) (outcome_same job limit workers xs entry.1 i).fault) (numbered job.plan.nodes)
 
-counts_same : (job : Job) (limit : ℤ) (workers : ℕ) (xs : List (StreamPrefix Plain)) → counts (limited job limit workers) xs ≡ counts job xs
+pub counts_same : (job : Job) (limit : ℤ) (workers : ℕ) (xs : List (StreamPrefix Plain)) → counts (limited job limit workers) xs ≡ counts job xs
 counts_same job limit workers xs = λ i. map (λ node. (outcome_same job limit workers xs node i).taken) job.plan.nodes
 
-output_same : (form : Form) (plan : Plan) (limit : ℤ) (workers : ℕ) (xs : List (StreamPrefix Plain)) → output_in form (limited_plan plan limit workers) xs ≡ output_in form plan xs
+pub output_same : (form : Form) (plan : Plan) (limit : ℤ) (workers : ℕ) (xs : List (StreamPrefix Plain)) → output_in form (limited_plan plan limit workers) xs ≡ output_in form plan xs
 output_same packet_lines plan limit workers xs = refl
 output_same totals plan limit workers xs = refl
 output_same (in_place text) plan limit workers xs = refl
 
-notes_same : (status : Status) (plan : Plan) (limit : ℤ) (workers : ℕ) (bounds stopped : List ℕ) → status_notes status (limited_plan plan limit workers) bounds stopped ≡ status_notes status plan bounds stopped
+pub notes_same : (status : Status) (plan : Plan) (limit : ℤ) (workers : ℕ) (bounds stopped : List ℕ) → status_notes status (limited_plan plan limit workers) bounds stopped ≡ status_notes status plan bounds stopped
 notes_same Stalled plan limit workers bounds stopped = refl
 notes_same status plan limit workers bounds stopped = refl
 
@@ -124,7 +124,7 @@ log_same : (job : Job) (limit : ℤ) (workers : ℕ) (xs : List (StreamPrefix Pl
 log_same job limit workers xs node =
     ap (λ (o : Outcome). (Begun ∷ map (λ (e : TimedSet Plain). Shown e.at e.set) (take o.taken (settled_sets node.policy (inputs_of xs node)))) ++ last_call o.fault) (outcome_same job limit workers xs node)
 
-had_same : (job : Job) (limit : ℤ) (workers : ℕ) (xs : List (StreamPrefix Plain)) (node : PlanNode) (before now : CalculatorTold) → HadItsCalls (limited job limit workers) xs node before now → HadItsCalls job xs node before now
+pub had_same : (job : Job) (limit : ℤ) (workers : ℕ) (xs : List (StreamPrefix Plain)) (node : PlanNode) (before now : CalculatorTold) → HadItsCalls (limited job limit workers) xs node before now → HadItsCalls job xs node before now
 had_same job limit workers xs node before now h = record {
   log = h.log ∙ ap (λ (more : List Call). option_map (λ (calls : List Call). calls ++ more) before.log) (log_same job limit workers xs node);
   state = h.state ∙ ap (λ (o : Outcome). o.state) (outcome_same job limit workers xs node);

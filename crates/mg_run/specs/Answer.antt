@@ -1,6 +1,6 @@
 -- What the program answers: the output text, the notes and the status, by the command, by what its files are, and by the
 -- input's bytes. There is one answer (`src/laws.rt`).
-use Rattle.std.specs.Prelude.{◌≡◌, ℕ, ℤ, pos, negsuc, Bool, ◌==◌, List, [], ◌∷◌, codes, Option, None, Some, option_map, min, Result, Ok, Err, if◌then◌else◌}
+use Rattle.std.specs.Prelude.{◌≡◌, ℕ, ℤ, pos, negsuc, Bool, ◌==◌, List, [], ◌∷◌, codes, Option, None, Some, min, Result, Ok, Err, if◌then◌else◌}
 use Rattle.mg_text.specs.Canonical.{canonical}
 use Rattle.mg_config.specs.Config.{GraphView}
 use Rattle.mg_config.specs.Written.{tree_of}
@@ -16,6 +16,7 @@ use Rattle.mg_run.specs.Files.{Files, graphs, no_graphs}
 use Rattle.mg_run.specs.CheckNotes.{check_note, check_text}
 use Rattle.mg_answer.specs.Answer.{AnswersEnded, AnswersGenerated}
 pub use Rattle.mg_answer.specs.Answer.{Answer}
+use Rattle.mg_drive.specs.OneLive.{AnswersLive, AnswersLiveMade}
 use Rattle.mg_drive.specs.Traced.{TracesEnded}
 use Rattle.mg_feed.specs.Lines.{all_lines}
 use Rattle.mg_replay.specs.Replayed.{AnswersTrace}
@@ -37,30 +38,24 @@ graph_text g = canonical (tree_of g)
 
 -- What is to be done --
 
--- A file, the expansion or the graph is refused, with a note; or a text is the output; or the graph of this plan is run; or it is
--- solved; or it is run over so many packets that are made; or it is run, and the run is recorded; or a recorded run of it is made again.
--- The notes of the last five end with a report or not.
+-- A file, the expansion or the graph is refused, with a note; or a text is the output; or the graph of this plan is run, as one without or
+-- as one with free nodes; or it is solved; or it is run over so many packets that are made, in one of these ways; or it is run, and the run
+-- is recorded; or a recorded run of it is made again. The notes of all but the first two end with a report or not.
 pub data Job : Type 0 where
   refuse : List ℕ → Job
   show : List ℕ → Job
   run_plan : Bool → Plan → Job
+  run_live : Bool → Plan → Job
   solve : Bool → Plan → Job
   generate : Bool → ℕ → Plan → Job
+  generate_live : Bool → ℕ → Plan → Job
   trace : Bool → Plan → Job
   replay : Bool → Plan → Job
 
--- A graph that is checked has a text that is written, or it is refused. One whose plan is used is checked before, and has no free nodes.
+-- A graph that is checked has a text that is written, or it is refused. One whose plan is used is checked before.
 abbrev pub check_job : Result Plan CheckFault → Job
 check_job (Ok plan) = show (check_text plan)
 check_job (Err fault) = refuse (check_note fault)
-
--- the note that a graph has free nodes, if it has some: it is refused then
-abbrev pub free_refusal : List ℕ → Plan → Option (List ℕ)
-free_refusal verb plan = option_map (free_note verb) (first_free plan)
-
-abbrev pub unless_refused : Option (List ℕ) → Job → Job
-unless_refused None job = job
-unless_refused (Some note) job = refuse note
 
 -- the limit that the words ask for; 0 asks for the plan's own
 abbrev pub limit_or : ℤ → ℤ → ℤ
@@ -96,8 +91,20 @@ way_job Generate order plan = generate order.report order.number (as_asked order
 way_job Trace order plan = trace order.report (with_limit order.limit plan)
 way_job Replay order plan = replay order.report (with_limit order.limit plan)
 
+-- A graph with free nodes, of which this is the first, is run, over the input or over packets that are made. In each other way it is refused.
+abbrev pub live_job : Way → Order → ℕ → Plan → Job
+live_job Run order first plan = run_live order.report (as_asked order plan)
+live_job Solve order first plan = refuse (free_note (way_word Solve) first)
+live_job Generate order first plan = generate_live order.report order.number (as_asked order plan)
+live_job Trace order first plan = refuse (free_note (way_word Trace) first)
+live_job Replay order first plan = refuse (free_note (way_word Replay) first)
+
+abbrev pub used_job : Option ℕ → Way → Order → Plan → Job
+used_job None way order plan = way_job way order plan
+used_job (Some first) way order plan = live_job way order first plan
+
 abbrev pub plan_job : Way → Order → Result Plan CheckFault → Job
-plan_job way order (Ok plan) = unless_refused (free_refusal (way_word way) plan) (way_job way order plan)
+plan_job way order (Ok plan) = used_job (first_free plan) way order plan
 plan_job way order (Err fault) = refuse (check_note fault)
 
 abbrev pub verb_job : Verb → Order → List OuterShape → GraphView → Job
@@ -134,8 +141,10 @@ abbrev pub IsAnswerOf : Job → List CalculatorTold → List ℕ → Answer → 
 IsAnswerOf (refuse note) boxes input given = given ≡ record { output = []; notes = note; status = GraphRefused }
 IsAnswerOf (show text) boxes input given = given ≡ record { output = text; notes = []; status = Good }
 IsAnswerOf (run_plan report plan) boxes input given = AnswersEnded report plan input given
+IsAnswerOf (run_live report plan) boxes input given = AnswersLive report plan input given
 IsAnswerOf (solve report plan) boxes input given = AnswersEnded report plan input given
 IsAnswerOf (generate report number plan) boxes input given = AnswersGenerated report plan number given
+IsAnswerOf (generate_live report number plan) boxes input given = AnswersLiveMade report plan number given
 IsAnswerOf (trace report plan) boxes input given = TracesEnded report plan boxes input given
 IsAnswerOf (replay report plan) boxes input given = AnswersTrace report plan boxes (all_lines input) given
 
@@ -144,8 +153,10 @@ abbrev pub Records : Job → Type 0
 Records (refuse note) = ⊥
 Records (show text) = ⊥
 Records (run_plan report plan) = ⊥
+Records (run_live report plan) = ⊥
 Records (solve report plan) = ⊥
 Records (generate report number plan) = ⊥
+Records (generate_live report number plan) = ⊥
 Records (trace report plan) = Unit {0}
 Records (replay report plan) = ⊥
 
@@ -154,7 +165,9 @@ abbrev pub Replays : Job → Type 0
 Replays (refuse note) = ⊥
 Replays (show text) = ⊥
 Replays (run_plan report plan) = ⊥
+Replays (run_live report plan) = ⊥
 Replays (solve report plan) = ⊥
 Replays (generate report number plan) = ⊥
+Replays (generate_live report number plan) = ⊥
 Replays (trace report plan) = ⊥
 Replays (replay report plan) = Unit {0}

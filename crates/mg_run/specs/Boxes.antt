@@ -30,6 +30,6 @@ outer_told told = record { shape = told.shape; law = told.law }
 abbrev pub outers_told : List CalculatorTold → List OuterShape
 outers_told boxes = map outer_told boxes
 
--- a law may be handed in
+-- a calculator of its law may be handed in
 abbrev pub MayBeHandedIn : OuterShape → Type 0
 MayBeHandedIn outer = IsOuter outer.law

@@ -15,8 +15,9 @@ use Rattle.mg_drive.specs.Traced.{Traced}
 use Rattle.mg_replay.specs.Leaves.{AllBack}
 use Rattle.mg_replay.specs.Replayed.{ReplayedBy}
 use Rattle.mg_drive.specs.OneRun.{RanOverLines, RanOverPackets}
+use Rattle.mg_drive.specs.OneLive.{RanLive, RanLiveMade}
 use Rattle.mg_run.specs.Boxes.{RunLeaves}
-use Rattle.mg_run.specs.Answer.{Answer, Job, refuse, show, run_plan, solve, generate, trace, replay, job_of, IsAnswerOf}
+use Rattle.mg_run.specs.Answer.{Answer, Job, refuse, show, run_plan, run_live, solve, generate, generate_live, trace, replay, job_of, IsAnswerOf}
 use Rattle.mg_run.specs.Devices.{Devices, run_of, Untouched, TookText, TookPart, Noted}
 pub use Rattle.mg_answer.specs.Status.{IsOneOf}
 use Rattle.mg_answer.specs.declared.status.Status.{Status}
@@ -46,7 +47,7 @@ pub record WasTold (text : List ℕ) (status : Status) (devices : Devices) : Typ
   pub unread : Untouched devices.input
   pub uncalled : Untouched devices.boxes
 
--- A file couldn't be loaded, the first such of these, and the note is of it.
+-- One of these files couldn't be loaded, the first of which that is so, and the note names it.
 pub record WasUnloaded (files : List (List ℕ)) (devices : Devices) : Type 0 where
   pub file : List ℕ
   pub failed : FailedAt files file devices.store
@@ -82,6 +83,11 @@ pub record GeneratedGraph (report : Bool) (number : ℕ) (plan : Plan) (status :
   pub ran : RanOverPackets report plan number status devices.output devices.notes devices.boxes
   pub unread : Untouched devices.input
 
+-- The graph of this plan, which has free nodes, was run over so many packets that are made, in the same way.
+pub record GeneratedLive (report : Bool) (number : ℕ) (plan : Plan) (status : Status) (devices : Devices) : Type 0 where
+  pub ran : RanLiveMade report plan number status devices.output devices.notes devices.boxes
+  pub unread : Untouched devices.input
+
 -- The graph of this plan was run over the input, and a trace of the run was written.
 pub record TracedGraph (report : Bool) (plan : Plan) (status : Status) (devices : Devices) : Type 0 where
   pub ran : Traced report plan devices.boxes.before status (run_of devices)
@@ -99,8 +105,10 @@ abbrev pub Did : Job → Status → Devices → Type 0
 Did (refuse note) status devices = WasRefused note status devices
 Did (show text) status devices = WasShown text status devices
 Did (run_plan report plan) status devices = RanOverLines report plan status (run_of devices) devices.boxes
+Did (run_live report plan) status devices = RanLive report plan status (run_of devices) devices.boxes
 Did (solve report plan) status devices = SolvedGraph report plan status devices
 Did (generate report number plan) status devices = GeneratedGraph report number plan status devices
+Did (generate_live report number plan) status devices = GeneratedLive report number plan status devices
 Did (trace report plan) status devices = TracedGraph report plan status devices
 Did (replay report plan) status devices = ReplayedGraph report plan status devices
 

@@ -1,8 +1,9 @@
 -- What a `run` or a `generate` that no fault of the files and no want of memory kept from its graph is, as one thing: there are one content
 -- of each file, one graph and its plan, one reading of the input and one solution, and all that is seen of the call is theirs.
-use Rattle.std.specs.Prelude.{◌≡◌, ◌⊎◌, ℕ, negsuc, Bool, List, [], ◌∷◌, None, Ok}
+use Rattle.std.specs.Prelude.{◌≡◌, ◌⊎◌, ℕ, negsuc, Bool, List, [], ◌∷◌, None, Some, Ok}
 use Rattle.mg_edge.specs.Edge.{SourceTold}
 use Rattle.mg_config.specs.Config.{GraphView}
+use Rattle.mg_calc.specs.declared.inputs.Inputs.{Inputs}
 use Rattle.mg_calc.specs.declared.plan.Plan.{Plan}
 use Rattle.mg_calc.specs.Equations as equations
 use Rattle.mg_check.specs.Check.{check_of}
@@ -11,11 +12,12 @@ use Rattle.mg_free.specs.Core.{first_free}
 use Rattle.mg_feed.specs.Graph.{inputs_of}
 use Rattle.mg_feed.specs.declared.feed_end.FeedEnd.{FeedEnd}
 use Rattle.mg_feed.specs.declared.feed_end.FeedEnd.TheVariants.{Ended}
-use Rattle.mg_answer.specs.Answer.{Read, Telling, by_lines, by_summary, job_of, generated_job}
+use Rattle.mg_answer.specs.Answer.{Form, packet_lines, totals, Read, Telling, by_lines, by_summary, job_of, generated_job}
 use Rattle.mg_answer.specs.Ran.{CameTo}
 use Rattle.mg_answer.specs.declared.status.Status.{Status}
 use Rattle.mg_answer.specs.declared.status.Status.TheVariants.{Good, LineRefused, NodeFault, Stalled, ReadFault, WriteFault}
 use Rattle.mg_drive.specs.OneRun.{OneRun}
+use Rattle.mg_drive.specs.OneLive.{AreBatchesOf, OneLive}
 use Rattle.mg_run.specs.Task.{Task}
 use Rattle.mg_run.specs.Files.{AreGraphs}
 use Rattle.mg_run.specs.Loads.{LoadedAll}
@@ -25,10 +27,11 @@ use Rattle.mg_words.specs.declared.words.Verb.{Verb}
 use Rattle.mg_words.specs.declared.words.Verb.TheVariants.{Use}
 use Rattle.mg_words.specs.declared.words.Way.TheVariants.{Run, Generate}
 
--- the commands, and the statuses: all went well, a line was refused, a node failed, a stream never closed, a read failed, a write failed
+-- the commands of which it is told
 abbrev pub RunsGraph : Verb → Type 0
 RunsGraph verb = (verb ≡ Use Run) ⊎ (verb ≡ Use Generate)
 
+-- and the statuses: all went well, a line was refused, a node failed, a stream never closed, a read failed, a write failed
 abbrev pub ran_statuses : List Status
 ran_statuses = Good ∷ LineRefused ∷ NodeFault ∷ Stalled ∷ ReadFault ∷ WriteFault ∷ []
 
@@ -77,3 +80,43 @@ pub record Headline (task : Task) (status : Status) (devices : Devices) : Type 0
   pub from : Origin
   pub origin : IsOrigin task.order plan devices.input from
   pub run : OneRun (telling_from task.order.report from) (job_from (bare plan) from) (end_from from) status devices.output devices.notes devices.boxes
+
+-- Graphs with free nodes --
+
+-- The same, but that a node of it is free, and this is the first.
+pub record IsLiveGraph (task : Task) (contents : List (List ℕ)) (plan : Plan) : Type 0 where
+  pub main : GraphView
+  pub library : List GraphView
+  pub files : AreGraphs contents (main ∷ library)
+  pub graph : GraphView
+  pub expanded : expansion_of main library ≡ Ok graph
+  pub checked : check_of task.outers graph ≡ Ok plan
+  pub first : ℕ
+  pub free : first_free plan ≡ Some first
+
+-- What had come to the graph by the end of each batch: of the lines to which the input came; or all packets that are made, as one batch.
+abbrev pub AreBatchesFrom : Plan → Origin → List Inputs → Type 0
+AreBatchesFrom plan (from_input read) batches = AreBatchesOf plan read batches
+AreBatchesFrom plan (from_number number) batches = batches ≡ (generated_job plan number).inputs ∷ []
+
+abbrev pub form_from : Origin → Form
+form_from (from_input read) = packet_lines
+form_from (from_number number) = totals
+
+-- There are one content of each file, one graph and its plan, one reading of the input, the logs to which the rounds of the free nodes come
+-- over its batches, and one solution of the core for what these lay.
+pub record LiveHeadline (task : Task) (status : Status) (devices : Devices) : Type 0 where
+  pub contents : List (List ℕ)
+  pub loaded : LoadedAll task.files contents devices.store
+  pub plan : Plan
+  pub graph : IsLiveGraph task contents plan
+  pub from : Origin
+  pub origin : IsOrigin task.order plan devices.input from
+  pub first : Inputs
+  pub later : List Inputs
+  pub batches : AreBatchesFrom (bare plan) from (first ∷ later)
+  pub run : OneLive (form_from from) task.order.report (bare plan) first later (end_from from) status devices.output devices.notes devices.boxes
+
+-- what was run, a graph without free nodes or one with such
+abbrev pub RanGraph : Task → Status → Devices → Type 0
+RanGraph task status devices = Headline task status devices ⊎ LiveHeadline task status devices

@@ -60,6 +60,6 @@ expand_refusal expansions.OutOfMemory = []
 abbrev pub expand_note : ExpandFault → List ℕ
 expand_note fault = codes "refused: expand " ++ expand_refusal fault ++ codes "\n"
 
--- A graph that has free nodes isn't run or solved so far: it is refused with the first of them
+-- A graph that has free nodes is refused in some ways to use it: the note tells the way, and the first of these nodes.
 abbrev pub free_note : List ℕ → ℕ → List ℕ
 free_note verb node = codes "refused: " ++ verb ++ codes " FreeNode " ++ decimal node ++ codes "\n"

@@ -5,7 +5,7 @@ ghost use Rattle.mg_run.specs.Boxes.{outers_told, MayBeHandedIn};
 ghost use Rattle.mg_run.specs.Task.{task};
 ghost use Rattle.mg_words.specs.Words.{asks_usage, asks_text, asked_of, command_by, command_of};
 ghost use Rattle.mg_run.specs.Devices.{Device, device, with_run, told_at, told_apart, told_by, SameDevices, Untouched, HasEnded, HasRisen, NoneFailed, TookText, TookPart, Noted};
-ghost use Rattle.mg_run.specs.Headline.{RunsGraph, ran_statuses, Headline};
+ghost use Rattle.mg_run.specs.Headline.{RunsGraph, ran_statuses, RanGraph};
 ghost use Rattle.mg_run.specs.Call.{WasUsage, WasTold, Came, Called, Did, IsAnswered, IsOneOf};
 ghost use Rattle.mg_answer.specs.Notes.{write_note, memory_note};
 ghost use Rattle.mg_words.specs.Asked.{asked_view};
@@ -18,7 +18,7 @@ use crate::load::load_all;
 use crate::outers::outers_of;
 use mg_answer::{Devices, Run, Status, note_out_of_memory, note_write_fault, solve_input};
 use mg_calc::{Calculator, OuterShape};
-use mg_drive::{Crew, run_lines, run_made, trace_lines};
+use mg_drive::{Crew, run_lines, run_live_lines, run_live_made, run_made, trace_lines};
 use mg_edge::{Gate, Sink, Source, Store};
 use mg_feed::put_all;
 use mg_replay::replay_lines;
@@ -42,7 +42,7 @@ pub fn run_words<R: Threads + Wait + Sync, S: Source, K: Sink, E: Sink, T: Store
     boxes: &mut Vec<Box<dyn Calculator + Send>>,
     gate: &G,
 ) -> Status
-    // The words are judged first, and no device matters to it.
+    // Whether the words are a command is judged first, and no device has a part in it.
     ensures usage { result ≢ Status.OutOfMemory → (result ≡ Status.Usage) ↔ (asked_of words.now ≡ asks_usage) }
     ensures usage_note { asked_of words.now ≡ asks_usage → WasUsage result (told_apart T.told S.told K.told E.told (λ b. (Calculator-box b).told b.value)
         store.old store.new input.old input.new output.old output.new notes.old notes.new boxes.old boxes.new) }
@@ -52,13 +52,14 @@ pub fn run_words<R: Threads + Wait + Sync, S: Source, K: Sink, E: Sink, T: Store
         store.old store.new input.old input.new output.old output.new notes.old notes.new boxes.old boxes.new) }
 
     // A `run` or a `generate` that nothing kept from its graph is one thing: there are one content of each file, one graph and its plan, one
-    // reading of the input and one solution, and the output, the notes, the status and the calls of every box are those of it. No limit of
-    // queues and no number of workers has a part in it.
+    // reading of the input and one solution, and the output, the notes, the status and the calls of every box are those of it. Where a node
+    // is free there are besides the logs to which the free nodes' rounds come over the batches of the input, and the notes tell them. No limit
+    // of queues and no number of workers has a part in it.
     ensures headline { IfSome (command_of words.now) (λ command. RunsGraph command.order.verb → IsOneOf result ran_statuses
-        → Headline (task command (outers_told (map (λ b. (Calculator-box b).told b.value) boxes.old.items))) result (told_apart T.told S.told K.told E.told (λ b. (Calculator-box b).told b.value)
+        → RanGraph (task command (outers_told (map (λ b. (Calculator-box b).told b.value) boxes.old.items))) result (told_apart T.told S.told K.told E.told (λ b. (Calculator-box b).told b.value)
         store.old store.new input.old input.new output.old output.new notes.old notes.new boxes.old boxes.new)) }
 
-    // What each other status means.
+    // What a call with a command came to, by its status.
     ensures called { IfSome (command_of words.now) (λ command. Called result (task command (outers_told (map (λ b. (Calculator-box b).told b.value) boxes.old.items))) (told_apart T.told S.told K.told E.told (λ b. (Calculator-box b).told b.value)
         store.old store.new input.old input.new output.old output.new notes.old notes.new boxes.old boxes.new)) }
 
@@ -90,7 +91,7 @@ pub fn run_words<R: Threads + Wait + Sync, S: Source, K: Sink, E: Sink, T: Store
     ensures write_rose { HasRisen (K.told output.old).faults (K.told output.new).faults ⊎ HasRisen (E.told notes.old).faults (E.told notes.new).faults
         → IsOneOf result (Status.Usage ∷ Status.StoreFault ∷ Status.GraphRefused ∷ Status.WriteFault ∷ Status.OutOfMemory ∷ []) }
 
-    // All boxes come back, and what isn't a run calls none.
+    // As many boxes come back as were handed in, and a command that doesn't run its graph calls none.
     ensures boxes { length boxes.new.items ≡ length boxes.old.items }
     ensures uncalled { IfSome (command_of words.now) (λ command. calls_boxes command.order.verb ≡ false
         → map (λ b. (Calculator-box b).told b.value) boxes.new.items ≡ map (λ b. (Calculator-box b).told b.value) boxes.old.items) }
@@ -319,6 +320,16 @@ fn do_job<
             boxes,
             devices,
         ),
+        Job::RunLive(report, plan) => run_live_lines(
+            &Run {
+                alloc,
+                plan: &plan,
+                report,
+            },
+            crew,
+            boxes,
+            devices,
+        ),
         Job::Solve(report, plan) => solve_input(
             &Run {
                 alloc,
@@ -328,6 +339,17 @@ fn do_job<
             devices,
         ),
         Job::Generate(report, number, plan) => run_made(
+            &Run {
+                alloc,
+                plan: &plan,
+                report,
+            },
+            number,
+            crew,
+            boxes,
+            devices,
+        ),
+        Job::GenerateLive(report, number, plan) => run_live_made(
             &Run {
                 alloc,
                 plan: &plan,

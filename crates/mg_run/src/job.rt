@@ -15,12 +15,12 @@ ghost use Rattle.mg_run.specs.Call.{IsJob};
 use crate::check_note::{check_note, check_text};
 use crate::fault::Fault;
 use crate::files::graphs_of;
-use crate::free_note::free_note;
 use crate::note::expand_note;
-use crate::way::{way_job, way_word};
+use crate::way::{live_job, way_job};
 use mg_calc::{OuterShape, Plan};
 use mg_check::{CheckFault, check};
 use mg_config::{GraphConfig, write};
+use mg_free::first_free;
 use mg_subgraph::expand;
 use mg_text::print;
 use mg_value::MgText;
@@ -30,16 +30,20 @@ use std::alloc::{AllocError, Global};
 /// What there is to do.
 #[derive(Debug, Drop)]
 pub enum Job {
-    /// A file or the expansion is refused, with this note.
+    /// A file, the expansion or the graph is refused, with this note.
     Refuse(Vec<u8>),
     /// This text is written.
     Show(Vec<u8>),
     /// The graph of this plan is run, with a report or without.
     Run(bool, Plan),
+    /// The graph of this plan, which has free nodes, is run, with a report or without.
+    RunLive(bool, Plan),
     /// The graph of this plan is solved, with a report or without.
     Solve(bool, Plan),
     /// The graph of this plan is run over so many packets that are made, with a report or without.
     Generate(bool, u32, Plan),
+    /// The graph of this plan, which has free nodes, is run over so many packets that are made, with a report or without.
+    GenerateLive(bool, u32, Plan),
     /// The graph of this plan is run, and the run is recorded, with a report or without.
     Trace(bool, Plan),
     /// A recorded run of the graph of this plan is made again, with a report or without.
@@ -140,7 +144,7 @@ fn graph_job(
     }
 }
 
-// A graph that has a plan is told, and any other is refused.
+// What `check` writes of a graph that has a plan; any other graph is refused.
 fn check_job(alloc: Global, outers: &[OuterShape], graph: &GraphConfig) -> Result<Job, AllocError>
     requires few { length graph.now.nodes ≤ 4096 }
     requires outers { All IsOuterShape outers.now }
@@ -153,7 +157,7 @@ fn check_job(alloc: Global, outers: &[OuterShape], graph: &GraphConfig) -> Resul
     }
 }
 
-// A graph that has a plan without free nodes is run, solved or whatever else the way is, and any other is refused.
+// A graph that has a plan is used in this way, if its free nodes allow that, and any other is refused.
 fn plan_job(
     alloc: Global,
     way: Way,
@@ -167,8 +171,8 @@ fn plan_job(
     ensures valid { IfOk result (λ job. CanBeDone outers.now (job_view job)) }
 {
     match check(alloc, graph, outers) {
-        Ok(plan) => match free_note(alloc, way_word(way).as_bytes(), &plan)? {
-            Some(note) => Ok(Job::Refuse(note)),
+        Ok(plan) => match first_free(&plan) {
+            Some(node) => live_job(alloc, way, order, node, plan),
             None => Ok(way_job(way, order, plan)),
         },
         Err(fault) => Ok(Job::Refuse(check_note(alloc, &fault)?)),

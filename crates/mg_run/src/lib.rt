@@ -1,5 +1,5 @@
 //! The top call: from the words of the command line and the devices to the bytes and the status.
-//! Answers to the definitions of `specs/Answer.antt`.
+//! Answers to the definitions of `specs/Headline.antt`, `specs/Call.antt` and `specs/Answer.antt`.
 #![tactic(auto)]
 
 mod call;

@@ -1,7 +1,7 @@
 //! Plans with the limit of queues and the number of workers that the words ask for.
 ghost use Rattle.std.specs.Prelude.{◌≡◌, ◌≢◌, pos, List, Some};
 ghost use Rattle.mg_calc.specs.declared.shape.OuterShape.{OuterShape};
-ghost use Rattle.mg_calc.specs.Plan.{IsValid, OutersFit};
+ghost use Rattle.mg_calc.specs.Plan.{IsValid, IsValidWithFree, OutersFit};
 ghost use Rattle.mg_run.specs.Answer as answers;
 
 use mg_calc::Plan;
@@ -11,6 +11,7 @@ use mg_words::{MOST_WORKERS, Order};
 pub fn limited(limit: Option<i32>, plan: Plan) -> Plan
     ensures limit { result ≡ answers.with_limit limit plan }
     ensures valid { IsValid plan → IsValid result }
+    ensures valid_with_free { IsValidWithFree plan → IsValidWithFree result }
     ensures fit { (outers : List OuterShape) → OutersFit plan outers → OutersFit result outers }
 {
     match limit {
@@ -30,6 +31,7 @@ fn limit_or(limit: i32, own: i32) -> i32
 fn with_limit(limit: i32, plan: Plan) -> Plan
     ensures limit { result ≡ answers.with_limit (Some limit) plan }
     ensures valid { IsValid plan → IsValid result }
+    ensures valid_with_free { IsValidWithFree plan → IsValidWithFree result }
     ensures fit { (outers : List OuterShape) → OutersFit plan outers → OutersFit result outers }
 {
     let mut plan = plan;
@@ -41,6 +43,7 @@ fn with_limit(limit: i32, plan: Plan) -> Plan
 fn with_workers(workers: Option<u32>, plan: Plan) -> Plan
     ensures workers { result ≡ answers.with_workers workers plan }
     ensures valid { IsValid plan → IsValid result }
+    ensures valid_with_free { IsValidWithFree plan → IsValidWithFree result }
     ensures fit { (outers : List OuterShape) → OutersFit plan outers → OutersFit result outers }
 {
     match workers {
@@ -52,6 +55,7 @@ fn with_workers(workers: Option<u32>, plan: Plan) -> Plan
 fn worked_by(workers: u32, plan: Plan) -> Plan
     ensures workers { result ≡ answers.with_workers (Some workers) plan }
     ensures valid { IsValid plan → IsValid result }
+    ensures valid_with_free { IsValidWithFree plan → IsValidWithFree result }
     ensures fit { (outers : List OuterShape) → OutersFit plan outers → OutersFit result outers }
 {
     let mut plan = plan;
@@ -63,6 +67,7 @@ fn worked_by(workers: u32, plan: Plan) -> Plan
 pub fn as_asked(order: Order, plan: Plan) -> Plan
     ensures asked { result ≡ answers.as_asked order plan }
     ensures valid { IsValid plan → IsValid result }
+    ensures valid_with_free { IsValidWithFree plan → IsValidWithFree result }
     ensures fit { (outers : List OuterShape) → OutersFit plan outers → OutersFit result outers }
 {
     with_workers(order.workers, limited(order.limit, plan))

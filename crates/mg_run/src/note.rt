@@ -65,7 +65,7 @@ fn text_refusal(alloc: Global, fault: &TextFault) -> Result<Vec<u8>, AllocError>
     }
 }
 
-// A refusal and its place.
+// The word of a refusal, and behind it the number of its place.
 pub(crate) fn at_place(alloc: Global, refusal: &[u8], place: u32) -> Result<Vec<u8>, AllocError>
     ensures { IfOk result (λ v. v.items ≡ refusal.now ++ decimal place) }
 {
@@ -88,7 +88,7 @@ fn config_refusal(alloc: Global, fault: &ConfigFault) -> Result<Vec<u8>, AllocEr
     }
 }
 
-// A refusal and what it is of.
+// The word of a refusal, and behind it the text that it is about.
 pub(crate) fn of_text(alloc: Global, refusal: &[u8], part: &MgText) -> Result<Vec<u8>, AllocError>
     ensures { IfOk result (λ v. v.items ≡ refusal.now ++ shown part.now) }
 {

@@ -1,14 +1,17 @@
-//! What is done with the plan of a graph that has no free nodes.
-ghost use Rattle.std.specs.Prelude.{◌≡◌, List};
+//! What is done with the plan of a graph.
+ghost use Rattle.std.specs.Prelude.{◌≡◌, List, IfOk};
 ghost use Rattle.mg_calc.specs.declared.shape.OuterShape.{OuterShape};
-ghost use Rattle.mg_calc.specs.Plan.{IsValid, OutersFit};
+ghost use Rattle.mg_calc.specs.Plan.{IsValid, IsValidWithFree, OutersFit};
 ghost use Rattle.mg_run.specs.Answer as answers;
+ghost use Rattle.mg_run.specs.Notes.{free_note as the_note};
 ghost use Rattle.mg_run.specs.Code.Job.{job_view, CanBeDone};
 
+use crate::free_note::free_note;
 use crate::job::Job;
 use crate::limited::{as_asked, limited};
 use mg_calc::Plan;
 use mg_words::{Order, Way};
+use std::alloc::{AllocError, Global};
 
 /// The word for it on a command line.
 pub fn way_word(way: Way) -> &'static str
@@ -23,7 +26,7 @@ pub fn way_word(way: Way) -> &'static str
     }
 }
 
-/// What there is to do with a plan in this way. A recorded run has no workers.
+/// What there is to do with a plan without free nodes in this way. A recorded run has no workers.
 pub fn way_job(way: Way, order: Order, plan: Plan) -> Job
     ensures due { job_view result ≡ answers.way_job way order plan }
     ensures valid { (outers : List OuterShape) → IsValid plan → OutersFit plan outers → CanBeDone outers (job_view result) }
@@ -36,4 +39,33 @@ pub fn way_job(way: Way, order: Order, plan: Plan) -> Job
         Way::Trace => Job::Trace(report, limited(order.limit, plan)),
         Way::Replay => Job::Replay(report, limited(order.limit, plan)),
     }
+}
+
+/// What there is to do with a plan that has free nodes, of which this is the first: it is run, over the input or over packets that are made,
+/// and refused in any other way.
+pub fn live_job(
+    alloc: Global,
+    way: Way,
+    order: Order,
+    first: u32,
+    plan: Plan,
+) -> Result<Job, AllocError>
+    ensures due { IfOk result (λ job. job_view job ≡ answers.live_job way order first plan) }
+    ensures valid { (outers : List OuterShape) → IsValidWithFree plan → OutersFit plan outers → IfOk result (λ job. CanBeDone outers (job_view job)) }
+{
+    match way {
+        Way::Run => Ok(Job::RunLive(order.report, as_asked(order, plan))),
+        Way::Generate => Ok(Job::GenerateLive(order.report, order.number, as_asked(order, plan))),
+        Way::Solve => refused(alloc, way, first),
+        Way::Trace => refused(alloc, way, first),
+        Way::Replay => refused(alloc, way, first),
+    }
+}
+
+// A graph with a free node, its first, is refused in this way.
+fn refused(alloc: Global, way: Way, first: u32) -> Result<Job, AllocError>
+    ensures { IfOk result (λ job. job_view job ≡ answers.refuse (the_note (answers.way_word way) first)) }
+{
+    let note = free_note(alloc, way_word(way).as_bytes(), first)?;
+    Ok(Job::Refuse(note))
 }

@@ -12,8 +12,8 @@ fn passing() -> &'static str {
 node { calculator: "PassThroughCalculator" input_stream: "in" output_stream: "out" }"#
 }
 
-// Two streams and two side packets, of which the second comes first in the graph.
-fn two_of_each() -> &'static str {
+/// Two streams and two side packets, of which the second comes first in the graph.
+pub fn two_of_each() -> &'static str {
     r#"input_stream: "b" input_stream: "a" output_stream: "b" output_stream: "a"
 input_side_packet: "z" input_side_packet: "y""#
 }
@@ -43,8 +43,8 @@ frozen {"side":"y","value":1}={"side":"y","value":1};frozen;
 frozen {"stream":"a","close":true};{"stream":"b","bound":9}={"bound":9,"stream":"b"};{"close":true,"stream":"a"};frozen;"#
 }
 
-// The parts of a text that aren't empty, each with an end.
-fn rejoined(alloc: Global, text: &str, between: char, end: &str) -> Result<String, Fail> {
+/// The parts of a text that aren't empty, each with an end.
+pub fn rejoined(alloc: Global, text: &str, between: char, end: &str) -> Result<String, Fail> {
     let mut joined = String::new(alloc);
     for part in text.split(between) {
         if !part.is_empty() {

@@ -1,12 +1,12 @@
 -- The parts that come back of a shared net are those of one net, and it is what the shared one became.
-use Rattle.std.proofs.Common.{◌≡◌, ℕ, ◌+◌, ◌-◌, ◌*◌, ◌<◌, ◌≤◌, true, false, List, [], ◌++◌, map, reverse, length, Option, Some, None, is_some, option_map, unwrap_or, slice_get, slice_index_or, slice_index, get_or, append-nil, inl, inr, refl, ap, sym, subst, ◌∙◌, arith}
+use Rattle.std.proofs.Common.{◌≡◌, ℕ, ◌+◌, ◌-◌, ◌*◌, ◌<◌, ◌≤◌, true, false, List, [], ◌∷◌, ◌++◌, map, reverse, length, Option, Some, None, is_some, option_map, unwrap_or, slice_get, slice_index_or, slice_index, get_or, append-nil, inl, inr, refl, ap, sym, subst, ◌∙◌, arith}
 use Rattle.std.proofs.lemmas.Bool.{cases_Bool, false≢true}
 use Rattle.std.proofs.lemmas.Option.{slice_get_within, slice_get-get_or}
 use Rattle.mg_value.specs.Payload.{Plain}
 use Rattle.mg_stream.specs.Pool.{Backlog}
 use Rattle.mg_stream.specs.Queue.{count_of}
 use Rattle.mg_calc.specs.declared.edge.Edge.{Edge}
-use Rattle.mg_node.specs.Views.{IntakeView, OutcomeView, EngineView}
+use Rattle.mg_node.specs.Views.{IntakeView, WorkView, OutcomeView, EngineView}
 use Rattle.mg_node.specs.Job.{LoggedJob}
 use Rattle.mg_node.specs.Lawful.{of_node, of_input}
 use Rattle.mg_node.specs.Leaving.{NoneOut}
@@ -19,9 +19,11 @@ use Rattle.mg_sched.specs.Views.{NetView}
 use Rattle.mg_sched.specs.Places.{source_of}
 use Rattle.mg_sched.specs.StandsFor.{IsJoined, StandsFor, StandsForSome}
 use Rattle.mg_sched.specs.Taking.{taken_out}
-use Rattle.mg_sched.specs.ComesApart.{PartsView, HasComeApart, ArePartsOf, AreParts, IsPutTogether}
+use Rattle.mg_sched.specs.ComesApart.{PartsView, all_shelved, HasComeApart, ArePartsOf, AreParts, IsPutTogether}
 use Rattle.mg_sched.proofs.EdgesInPlace.{in_place}
 use Rattle.mg_sched.proofs.Finding.{found}
+use Rattle.mg_sched.proofs.NothingGone.{gones, HadGone, SameGone, has_from}
+use Rattle.mg_sched.proofs.WoundNets.{order_of}
 use Rattle.mg_turns.specs.Words.{Whose, intake_of, engine_of}
 use Rattle.mg_turns.specs.Parts.{PartView, FrameView, blank_part, at, nodes_in, owner_in, an_engine, an_intake, LawfulPart, Grown, gone_in, first_in, count_by, claimed_by, source_at}
 use Rattle.mg_turns.specs.Ends.{Unshared}
@@ -194,17 +196,67 @@ module _ (job : LoggedJob) (ps : PartsView) (h : ArePartsOf job ps) (v : View) (
       sym (ap (λ (p : PartView). claimed_by p.intake) (intake_is n now.0 (omega arith) now.1)) ∙ same ∙ ap (λ (p : PartView). claimed_by p.intake) was in
       taken_at is n now.0 now.1 ∙ claimed ∙ sym (taken_at ps.intakes n old.0 old.1)
 
+  -- each engine has given up as much as the one that was shared
+  of_word : (word : ℕ) (old now : EngineView) → word < length key.parts → at key word ≡ an_engine old → slice_index_or parts word blank_part ≡ an_engine now → gones now ≡ gones old
+  of_word word old now within was is = ap gone_in (sym is) ∙ (u.follows word within).gave_up ∙ ap gone_in was
+
+  pub gone_back : (place : ℕ) (engine : EngineView) → slice_get es place ≡ Some engine → HadGone ps.engines place engine
+  gone_back place engine there =
+      let c = h.engine_count in let d = h.intake_count in let w = woven_back.engines in let l = long in
+      let old = found ps.engines place (let within = slice_get_within es place engine there in omega (arith, within, c, w, l)) in
+      elim (order_of place n) [
+        | inl less ↦ record {
+          old = old.0;
+          at = old.1;
+          gone = of_word (2 * place + 1) old.0 engine (few_engines place less) (engine_slot n place ps.engines ps.intakes old.0 less (omega (arith, c)) (omega (arith, d)) old.1) (engine_is place engine less there);
+        }
+        | inr past ↦
+            (let same : place ≡ n + (place - n) = omega (arith, past) in
+            let there_now = ap (λ (k : ℕ). slice_get es k) (sym same) ∙ there in
+            let there_then = ap (λ (k : ℕ). slice_get ps.engines k) (sym same) ∙ old.1 in
+            record {
+              old = old.0;
+              at = old.1;
+              gone = of_word (2 * n + 1 + (place - n)) old.0 engine (few_inputs (place - n) engine there_now) (input_slot n (place - n) ps.engines ps.intakes old.0 (omega (arith, c)) d there_then) (input_is (place - n) engine there_now);
+            })
+      ]
+
   pub woven_again : parts ≡ woven n es is
   woven_again = woven_back.woven_is
 
+-- Works that come back from desks leave what an engine has given up.
+
+shelved_gone : (engine : EngineView) (works : List WorkView) → gones (all_shelved engine works) ≡ gones engine
+shelved_gone engine [] = refl
+shelved_gone engine (work ∷ works) = shelved_gone engine works
+
+pub apart_gone : (before : NetView) (ps : PartsView) (place : ℕ) (engine : EngineView) → StandsForSome before → HasComeApart before ps → slice_get ps.engines place ≡ Some engine → HadGone before.engines place engine
+unfolding StandsFor
+apart_gone before ps place engine some apart there =
+    let back = apart.puts_back in
+    elim (order_of place (length before.plan.nodes)) [
+      | inl less ↦
+          (let count = back.engine_count in
+          let old = found before.engines place (let within = slice_get_within ps.engines place engine there in omega (arith, within, count)) in
+          let many = some.stands.desks in
+          let desk = found before.desks place (omega (arith, less, many)) in
+          let is = some_same (slice_get ps.engines place) engine (all_shelved old.0 desk.0.works) there (back.shelves place old.0 desk.0 less old.1 desk.1) in
+          record { old = old.0; at = old.1; gone = ap gones is ∙ shelved_gone old.0 desk.0.works })
+      | inr past ↦ record { old = engine; at = sym (back.others place past) ∙ there; gone = refl }
+    ]
+
 -- What came apart and is put together is what it was.
 
-pub same_became : (before now : NetView) (ps : PartsView) → HasComeApart before ps → IsPutTogether ps now → ((job : LoggedJob) → StandsFor job before → StandsFor job now) → Became before now
-same_became before now ps apart put stands = record {
+pub same_became : (before now : NetView) (ps : PartsView) → StandsForSome before → HasComeApart before ps → IsPutTogether ps now → ((job : LoggedJob) → StandsFor job before → StandsFor job now) → Became before now
+same_became before now ps some apart put stands = record {
   stands = stands;
   taken = ap taken_out put.made ∙ ap (λ (p : PartsView). unwrap_or (option_map (λ (x : IntakeView). x.claimed) (slice_get p.intakes (length p.plan.nodes))) 0) apart.others;
   plan = ap (λ (x : NetView). x.plan) put.made ∙ ap (λ (p : PartsView). p.plan) apart.others;
   spare = ap (λ (x : NetView). x.spare) put.made ∙ ap (λ (p : PartsView). p.rest.spare) apart.others;
+  whole = λ stream number. has_from before now stream number (record {
+    plan = ap (λ (x : NetView). x.plan) put.made ∙ ap (λ (p : PartsView). p.plan) apart.others;
+    engines = λ place engine there. apart_gone before ps place engine some apart (ap (λ (x : NetView). slice_get x.engines place) (sym put.made) ∙ there);
+  });
 }
 
 -- What a shared net became while threads had it.
@@ -251,6 +303,13 @@ module _ (before : NetView) (some : StandsForSome before) (key : FrameView) (kep
         ∙ ap (λ (p : PartsView). unwrap_or (option_map (λ (x : IntakeView). x.claimed) (slice_get p.intakes (length p.plan.nodes))) 0) s.apart.others;
     plan = ap (λ (x : NetView). x.plan) put.made ∙ ap (λ (k : KeptView). k.plan) s.stays ∙ ap (λ (p : PartsView). p.plan) s.apart.others;
     spare = ap (λ (x : NetView). x.spare) put.made ∙ ap (λ (k : KeptView). k.rest.spare) s.stays ∙ ap (λ (p : PartsView). p.rest.spare) s.apart.others;
+    whole = λ stream number. has_from before net stream number (record {
+      plan = ap (λ (x : NetView). x.plan) put.made ∙ ap (λ (k : KeptView). k.plan) s.stays ∙ ap (λ (p : PartsView). p.plan) s.apart.others;
+      engines = λ place engine there.
+          let shared = gone_back some.job s.parts (s.of some.job some.stands) v parts own place engine (ap (λ (x : NetView). slice_get x.engines place) (sym put.made) ∙ there) in
+          let first = apart_gone before s.parts place shared.old some s.apart shared.at in
+          record { old = first.old; at = first.at; gone = shared.gone ∙ first.gone };
+    });
   }
 
 -- the parts as the code has them

@@ -1,20 +1,22 @@
 -- What becomes of a net that threads share.
-use Rattle.std.specs.Prelude.{◌≡◌}
+use Rattle.std.specs.Prelude.{◌≡◌, ℕ}
 use Rattle.mg_node.specs.Job.{LoggedJob}
 use Rattle.mg_sched.specs.Views.{NetView}
 use Rattle.mg_sched.specs.StandsFor.{StandsFor}
 use Rattle.mg_sched.specs.Taking.{taken_out}
+use Rattle.mg_sched.specs.Looks.{HasFrom}
 use Rattle.mg_sched.specs.ComesApart.{PartsView, HasComeApart, IsPutTogether}
 
--- a net is what another one became: it stands for each job for which that one did, with as many sets taken out of its outputs, and with
--- the same plan and the same places of the calculators that were handed in
+-- A net is what another one became: it stands for each job for which that one stood. As many sets were taken out of its outputs, its plan and
+-- the calculators that no node uses are the same, and no packet of a stream was given up in between.
 pub record Became (before now : NetView) : Type 0 where
   pub stands : (job : LoggedJob) → StandsFor job before → StandsFor job now
   pub taken : taken_out now ≡ taken_out before
   pub plan : now.plan ≡ before.plan
   pub spare : now.spare ≡ before.spare
+  pub whole : (stream number : ℕ) → HasFrom before stream number → HasFrom now stream number
 
--- a net is another one as it was, but that the works on its desks stand in their windows again
+-- A net is another one as it was, but that the works that lay on its desks stand in their windows again.
 pub record CameBack (before now : NetView) : Type 0 where
   pub parts : PartsView
   pub apart : HasComeApart before parts

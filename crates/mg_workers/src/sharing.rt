@@ -89,7 +89,7 @@ pub fn share<C: Calculator>(alloc: Global, net: Net<C>) -> Result<Shared<C>, Net
     // What is shared and what is kept aside are what the net came apart into.
     ensures of { IfOk result (λ r. IsSharedOf net (key_of r.0) r.2) }
 
-    // Its parts are those of each job for which the net stood.
+    // Its parts are lawful for each job for which the net stood.
     ensures jobs { IfOk result (λ r. (job : LoggedJob) → StandsFor job net → Fits job (key_of r.0)) }
     ensures back { IfErr result (λ n. CameBack net n) }
     ensures became { IfErr result (λ n. IsRunning n × Became net n) }

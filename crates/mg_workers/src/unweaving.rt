@@ -16,8 +16,8 @@ fn is_intake(nodes: u32, word: usize) -> bool
     word <= 2 * nodes as usize && word % 2 == 0
 }
 
-/// Parts, the first of those of a net, become its engines and its intakes again, in front of those that lie in the lists, which are the
-/// last ones first. There is room for all of them.
+/// The first parts of a net become engines and intakes again. The others lie in the two lists as they are called, the last ones first, and
+/// in the end all lie there in their own order. There is room for all of them.
 pub(crate) fn unweave<C: Calculator>(
     nodes: u32,
     parts: Vec<Part<C>>,

@@ -21,7 +21,7 @@ with_set [] set = []
 with_set (total ∷ totals) [] = total ∷ totals
 with_set (total ∷ totals) (place ∷ places) = with_place total place ∷ with_set totals places
 
--- What comes of so many sets: no more packets, and a sum no further from 0 than 2^63 for each.
+-- What is told of an output after so many sets: it has no more packets than these, and its sum is no further from 0 than 2^63 times as much.
 abbrev pub IsWithin : ℕ → Total → Type 0
 IsWithin sets total =
     (total.packets ≤ sets) × (neg_ℤ (pos (9223372036854775808 * sets)) ≤ℤ total.sum) × (total.sum ≤ℤ pos (9223372036854775808 * sets))

@@ -13,6 +13,6 @@ pub record WroteFront (job : Job) (output : Device SinkTold) : Type 0 where
   pub solution : IsSolution job streams
   pub front : TookFront output (output_of job.plan streams)
 
--- memory ran out
+-- memory ran out before anything was written, or once a front was
 abbrev pub WroteSome : Job → Device SinkTold → Type 0
 WroteSome job output = Untouched output ⊎ WroteFront job output

@@ -3,8 +3,7 @@ use Rattle.std.specs.Prelude.{ℕ, Bool, List, ◌++◌}
 use Rattle.mg_calc.specs.declared.plan.Plan.{Plan}
 use Rattle.mg_feed.specs.declared.feed_end.FeedEnd.{FeedEnd}
 use Rattle.mg_answer.specs.Notes.{notes_by}
-use Rattle.mg_answer.specs.Report.{report_by, asked_report}
-use Rattle.mg_answer.specs.Code.Bounds.{end_bounds}
+use Rattle.mg_answer.specs.Report.{report_by, asked_report, end_bounds}
 use Rattle.mg_answer.specs.declared.outcomes.Outcomes.{Outcomes}
 use Rattle.mg_answer.specs.declared.status.Status.{Status}
 

@@ -4,13 +4,13 @@ use Rattle.mg_edge.specs.Edge.{SinkTold}
 use Rattle.mg_feed.specs.Sent.{SentAll, SentPart}
 use Rattle.mg_answer.specs.Put.{TextView, HasPut}
 
--- Of a whole text so much was put, and the rest is still to come.
+-- A first part of a whole text was put, and the rest is still to come.
 pub record Pours (first now : SinkTold) (view : TextView) (whole rest : List ℕ) : Type 0 where
   pub so_far : List ℕ
   pub has : HasPut first now view so_far
   pub is : whole ≡ so_far ++ rest
 
--- What was handed on of a text, and what is left of it. Where a write failed a front of it was.
+-- What a sink took of a text of which this is left: where no write failed all but what is left, and else a front.
 abbrev pub HandedOn : Bool → SinkTold → SinkTold → List ℕ → List ℕ → Type 0
 HandedOn true before now text left = (sent : List ℕ) × SentAll before now sent × (text ≡ sent ++ left)
 HandedOn false before now text left = SentPart before now text

@@ -9,7 +9,7 @@ use Rattle.mg_crew.specs.declared.putting.Place.{Place}
 abbrev pub IsAnyOf : Levels → Option LevelSeat → Type 0
 IsAnyOf levels seat = IfSome seat (λ s. IsSeatOf levels s)
 
--- and so much of the portion is left to it
+-- and at least so much of the portion is left to it
 abbrev pub IsLeft : ℕ → Option LevelSeat → Type 0
 IsLeft portion seat = IfSome seat (λ s. portion ≤ portion_of s)
 

@@ -41,7 +41,7 @@ pub record IsAtWork {X : Type 0} {g : Ghosts X} (net : SharedNet X) (tools : Too
   pub fits : AreToolsOf net tools
   pub placed : IsPlaceAt tools.levels place
 
--- and so it is after a call
+-- behind a call a worker has as much of the portion as before, and again no work
 pub record StaysAtWork {X : Type 0} {g : Ghosts X} (net : SharedNet X) (tools : Tools) (before now : NetSeat X g) (place : Place) : Type 0 where
   pub stays : StaysShared net before now
   pub placed : IsPlaceAt tools.levels place

@@ -1,5 +1,5 @@
 -- How a run of a net ends, and what it leaves.
-use Rattle.std.specs.Prelude.{◌≡◌, ◌⊎◌, ℕ, Bool, List, map, Option, Some, slice_get}
+use Rattle.std.specs.Prelude.{◌≡◌, ◌⊎◌, ℕ, Bool, List, map, Some, slice_get}
 use Rattle.mg_edge.specs.Edge.{SourceTold, SinkTold}
 use Rattle.mg_value.specs.Payload.{Plain}
 use Rattle.mg_value.specs.Prefix.{StreamPrefix}
@@ -15,7 +15,6 @@ use Rattle.mg_feed.specs.declared.feed_end.BatchEnd.TheVariants.{End}
 use Rattle.mg_answer.specs.Answer.{Form, output_in}
 use Rattle.mg_answer.specs.Devices.{Device, device, RunDevices}
 use Rattle.mg_answer.specs.Put.{TextView, HasPut}
-use Rattle.mg_answer.specs.Wrote.{Wrote}
 use Rattle.mg_answer.specs.declared.outcomes.Outcomes.{Outcomes}
 use Rattle.mg_answer.specs.declared.outcomes.StreamEnd.{StreamEnd}
 use Rattle.mg_answer.specs.declared.status.Status.{Status}
@@ -67,27 +66,31 @@ pub record StoodWith (boxes : List CalculatorTold) (net : NetView) : Type 0 wher
 
 -- Runs.
 
+-- what is written at the end of a run over batches of a kind
+abbrev pub Writing : Type 0 → Type 1
+Writing B = B → Form → Bool → Job → FeedEnd → Status → Device SinkTold → Device SinkTold → Type 0
+
 -- the devices of a run whose input told this at its beginning
 abbrev pub since : SourceTold → RunDevices → RunDevices
 since source devices = record devices { input = device source devices.input.now }
 
 -- A net was run: the answer of the job of all that was given was written, and its nodes had their calls.
-pub record HasEnded {B : Type 0} (gives : Giving B) (form : Form) (report : Bool) (start : Start B) (status : Status) (source : SourceTold) (sink : SinkTold) (notes : Device SinkTold) (net : NetView) : Type 0 where
+pub record HasEnded {B : Type 0} (gives : Giving B) (writes : Writing B) (form : Form) (report : Bool) (start : Start B) (status : Status) (source : SourceTold) (sink : SinkTold) (notes : Device SinkTold) (net : NetView) : Type 0 where
   pub batches : B
   pub end : FeedEnd
   pub inputs : Inputs
   pub given : gives start.batches batches start.plan start.source source (End end) inputs
-  pub wrote : Wrote (record { form = form; report = report }) (job_with start inputs).job end status (device start.sink sink) notes
+  pub wrote : writes batches form report (job_with start inputs).job end status (device start.sink sink) notes
   pub had : HadAllOf (job_with start inputs) net
   pub stood : StoodFor (job_with start inputs) net
 
 -- So it is of a run as a whole, by what the devices tell and the calculators that were handed in.
-pub record HasRun {B : Type 0} (gives : Giving B) (form : Form) (report : Bool) (began : B) (plan : Plan) (status : Status) (devices : RunDevices) (boxes : Device (List CalculatorTold)) : Type 0 where
+pub record HasRun {B : Type 0} (gives : Giving B) (writes : Writing B) (form : Form) (report : Bool) (began : B) (plan : Plan) (status : Status) (devices : RunDevices) (boxes : Device (List CalculatorTold)) : Type 0 where
   pub batches : B
   pub end : FeedEnd
   pub inputs : Inputs
   pub given : gives began batches plan devices.input.before devices.input.now (End end) inputs
-  pub wrote : Wrote (record { form = form; report = report }) (record { plan = plan; inputs = inputs }) end status devices.output devices.notes
+  pub wrote : writes batches form report (record { plan = plan; inputs = inputs }) end status devices.output devices.notes
   pub had : HadCallsOf (record { plan = plan; inputs = inputs }) boxes
 
 -- Memory ran out once there was a net.
@@ -103,6 +106,7 @@ pub record WasShort {B T : Type 0} (gives : Giving B) (reads_on : Reading B) (ha
   pub back : boxes.now ≡ given_back net
   pub front : IsToldSome has_told (record { plan = plan; inputs = inputs }) devices.output.before devices.output.now
       ⊎ FrontIn form devices.output.before devices.output.now (record { plan = plan; inputs = inputs })
+  pub unended : IsMore end → IsToldSome has_told (record { plan = plan; inputs = inputs }) devices.output.before devices.output.now
 
 -- A first batch was given.
 pub record HasGiven {B : Type 0} (gives : Giving B) (began : B) (plan : Plan) (input : Device SourceTold) : Type 0 where

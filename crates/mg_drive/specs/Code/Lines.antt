@@ -1,5 +1,5 @@
 -- Batches of lines: what a feed has read, and what its lines gave.
-use Rattle.std.specs.Prelude.{◌≡◌, ◌≢◌, ◌+◌, ◌-◌, ◌<◌, ◌≤◌, ℕ, List, [], ◌++◌, length, Bool, true, false, ⊤}
+use Rattle.std.specs.Prelude.{◌≡◌, ◌≢◌, ◌+◌, ◌-◌, ◌<◌, ◌≤◌, ℕ, List, [], ◌∷◌, ◌++◌, length, All, Bool, true, false, ⊤}
 use Rattle.mg_edge.specs.Edge.{SourceTold}
 use Rattle.mg_edge.specs.Runs.{Gave}
 use Rattle.mg_calc.specs.declared.inputs.Inputs.{Inputs}
@@ -12,7 +12,7 @@ use Rattle.mg_feed.specs.Stands.{Stands, nothing_taken, packets_of}
 use Rattle.mg_feed.specs.Fed.{Fed}
 use Rattle.mg_feed.specs.Came.{Came}
 use Rattle.mg_feed.specs.Ran.{MetEnd, Spends, Unfailed, FailedBy}
-use Rattle.mg_feed.specs.Batch.{EndsAs, idle_by}
+use Rattle.mg_feed.specs.Batch.{EndsAs, Fills, idle_by}
 use Rattle.mg_feed.specs.declared.feed_end.FeedEnd.TheVariants.{OutOfMemory}
 use Rattle.mg_feed.specs.declared.feed_end.BatchEnd.{BatchEnd}
 use Rattle.mg_feed.specs.declared.feed_end.BatchEnd.TheVariants.{More, End}
@@ -20,6 +20,7 @@ use Rattle.mg_answer.specs.Answer.{is_ended}
 use Rattle.mg_answer.specs.Devices.{device}
 use Rattle.mg_answer.specs.Ran.{ReadSome}
 use Rattle.mg_drive.specs.Batches.{IsMore}
+pub use Rattle.mg_drive.specs.InBatches.{inputs_at, batch_size}
 
 -- whether the input has ended well with a batch, and whether there is more behind it
 abbrev pub has_ended : BatchEnd → Bool
@@ -30,10 +31,6 @@ has_ended (End end) = is_ended end
 abbrev pub HadMemory : BatchEnd → Type 0
 HadMemory More = ⊤
 HadMemory (End end) = end ≢ OutOfMemory
-
--- what lines give a graph, where the input has ended well or not
-abbrev pub inputs_at : GraphInputs → List (List ℕ) → Bool → Inputs
-inputs_at graph lines ended = record { streams = ended_streams ended (given_by graph lines).streams; sides = (given_by graph lines).sides; ended = ended }
 
 -- what is known of all reads, by how the last batch ended: none failed, and there may be more; or the input came to its end
 abbrev pub ReadsAs : BatchEnd → Plan → SourceTold → SourceTold → Fed → List ℕ → List (List ℕ) → Type 0
@@ -66,6 +63,7 @@ pub record HasBatch (plan : Plan) (first : SourceTold) (end : BatchEnd) (inputs 
   pub longer : IsMore end → length lines < length (lines ++ more)
   pub named : IsMore end → (given_by (inputs_of plan) (lines ++ more)).named ≡ true
   pub few : length (lines ++ more) ≤ most_lines
+  pub filled : Fills end batch_size more
 
 -- A call behind these bytes read some more, if any, and all that was read was read once: the source had told `at` before. Where it had
 -- ended, nothing more was read.
@@ -75,7 +73,7 @@ pub record HasReadOn (plan : Plan) (first at now : SourceTold) (ended : Bool) (p
   pub split : read.came ≡ past ++ later
   pub none : ended ≡ true → (now ≡ at) × (later ≡ [])
 
--- and so it is whatever a feed had read before
+-- a call of a feed reads on so, whatever the feed had read before
 abbrev pub ReadsOn : Fed → Plan → SourceTold → SourceTold → SourceTold → Type 0
 ReadsOn fed plan first at now = (past : List ℕ) (lines : List (List ℕ)) → IsRead plan first More at fed past lines → HasReadOn plan first at now fed.read.ended past
 
@@ -92,6 +90,26 @@ pub record LinesGave (fed : Fed) (plan : Plan) (first source : SourceTold) (end 
   pub is_read : IsRead plan first end source fed past lines
   pub inputs_are : inputs ≡ inputs_at (inputs_of plan) lines (has_ended end)
   pub named : IsMore end → (given_by (inputs_of plan) lines).named ≡ true
+
+-- of batches, the newest first: all lines in order, and what had been given after each batch
+abbrev pub lines_of : List (List (List ℕ)) → List (List ℕ)
+lines_of [] = []
+lines_of (batch ∷ batches) = lines_of batches ++ batch
+
+abbrev pub given_after : GraphInputs → List (List (List ℕ)) → List Inputs
+given_after graph [] = []
+given_after graph (batch ∷ batches) = inputs_at graph (lines_of (batch ∷ batches)) false ∷ given_after graph batches
+
+-- A feed took batches, one after the other, and had handed on this by the end of each.
+pub record LinesCame (fed : Fed) (plan : Plan) (first source : SourceTold) (end : BatchEnd) (history : List Inputs) : Type 0 where
+  pub past : List ℕ
+  pub newest : List (List ℕ)
+  pub earlier : List (List (List ℕ))
+  pub is_read : IsRead plan first end source fed past (lines_of (newest ∷ earlier))
+  pub history_is : history ≡ inputs_at (inputs_of plan) (lines_of (newest ∷ earlier)) (has_ended end) ∷ given_after (inputs_of plan) earlier
+  pub filled : Fills end batch_size newest
+  pub all_filled : All (λ batch. Fills More batch_size batch) earlier
+  pub named : IsMore end → (given_by (inputs_of plan) (lines_of (newest ∷ earlier))).named ≡ true
 
 -- how many lines may still come
 abbrev pub lines_left : Fed → ℕ

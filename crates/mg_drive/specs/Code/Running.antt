@@ -1,5 +1,5 @@
 -- A run of a net over batches, while it is under way.
-use Rattle.std.specs.Prelude.{◌≡◌, ◌⊎◌, ℕ, List, length, take, Option}
+use Rattle.std.specs.Prelude.{◌≡◌, ◌⊎◌, ℕ, List, length, take}
 use Rattle.mg_edge.specs.Edge.{SourceTold, SinkTold}
 use Rattle.mg_value.specs.Payload.{Plain}
 use Rattle.mg_value.specs.Prefix.{StreamPrefix}
@@ -16,16 +16,14 @@ use Rattle.mg_answer.specs.Devices.{device, TookFront}
 use Rattle.mg_node.specs.Job.{LoggedJob, Solves}
 use Rattle.mg_node.specs.Batches.{Grows}
 use Rattle.mg_sched.specs.Views.{NetView}
-use Rattle.mg_sched.specs.StandsFor.{StandsFor, IsRunning}
-use Rattle.mg_sched.specs.AtRest.{IsAtRest}
-use Rattle.mg_sched.specs.Taking.{taken_out, settled_outputs, LeavesNodes}
+use Rattle.mg_sched.specs.StandsFor.{StandsFor}
+use Rattle.mg_sched.specs.Taking.{taken_out, settled_outputs}
 use Rattle.mg_sched.specs.GivesBack.{StoodFor}
-use Rattle.mg_drive.specs.Batches.{IsMore, logged}
+pub use Rattle.mg_drive.specs.Nets.{HasRested}
+pub use Rattle.mg_drive.specs.Batches.{Giving, Due}
+use Rattle.mg_drive.specs.Batches.{IsMore, logged, SomeGiven}
 
--- what batches of a kind give, what a further call of one reads, and what something of a kind was told
-abbrev pub Giving : Type 0 → Type 1
-Giving B = B → B → Plan → SourceTold → SourceTold → BatchEnd → Inputs → Type 0
-
+-- what a further call of batches of a kind reads, and what something of a kind was told
 abbrev pub Reading : Type 0 → Type 1
 Reading B = B → Plan → SourceTold → SourceTold → SourceTold → Type 0
 
@@ -45,17 +43,17 @@ pub record Start (B : Type 0) : Type 0 where
 abbrev pub job_with : {B : Type 0} → Start B → Inputs → LoggedJob
 job_with start inputs = logged start.plan inputs start.boxes
 
--- of the sets of a job's solution the first ones were told, a number of them
+-- the first sets of a job's solution were told, a number of them
 pub record IsTold {T : Type 0} (has_told : Telling T) (job : Job) (first sink : SinkTold) (taken : ℕ) (telling : T) : Type 0 where
   pub told : (streams : List (StreamPrefix Plain)) → IsSolution job streams → has_told telling job.plan first sink (take taken (settled_outputs job.plan streams))
 
--- some number of them was, in some state of what is told
+-- a first number of them was told, whatever has become of what tells them
 pub record IsToldSome {T : Type 0} (has_told : Telling T) (job : Job) (first sink : SinkTold) : Type 0 where
   pub telling : T
   pub taken : ℕ
   pub is_told : IsTold has_told job first sink taken telling
 
--- what a net's job has settled and was taken out of it was told
+-- there is a job for which a net stands and of whose sets those were told that were taken out of the net
 pub record IsSomeTold {T : Type 0} (has_told : Telling T) (sink : SinkTold) (net : NetView) (telling : T) : Type 0 where
   pub job : LoggedJob
   pub first : SinkTold
@@ -69,17 +67,18 @@ pub record IsUnderWay {B T : Type 0} (gives : Giving B) (has_told : Telling T) (
   pub stands : StandsFor (job_with start inputs) net
   pub is_told : IsTold has_told (job_with start inputs).job start.sink sink (taken_out net) telling
 
--- there is a run of a plan that is so
+-- some run of a plan is under way with these
 pub record IsSomeRun {B T : Type 0} (gives : Giving B) (has_told : Telling T) (plan : Plan) (end : BatchEnd) (source : SourceTold) (sink : SinkTold) (batches : B) (telling : T) (net : NetView) : Type 0 where
   pub start : Start B
   pub plan_is : start.plan ≡ plan
   pub under_way : IsUnderWay gives has_told start end source sink batches telling net
 
--- and for a net and its batches alone, where there is more
-pub record IsSomeMore {B : Type 0} (gives : Giving B) (source : SourceTold) (batches : B) (net : NetView) : Type 0 where
+-- some run has this net and these batches, and its next batch is due
+pub record IsSomeMore {B : Type 0} (gives : Giving B) (is_due : Due B) (source : SourceTold) (batches : B) (net : NetView) : Type 0 where
   pub start : Start B
   pub inputs : Inputs
   pub given : gives start.batches batches start.plan start.source source More inputs
+  pub due : is_due batches start.plan inputs
   pub stands : StandsFor (job_with start inputs) net
 
 -- A net went on with a batch more.
@@ -88,14 +87,6 @@ pub record WentOn {B : Type 0} (gives : Giving B) (start : Start B) (end : Batch
   pub given : gives start.batches batches start.plan start.source source end all
   pub grows : Grows (job_with start inputs) (job_with start all)
   pub stands : StandsFor (job_with start all) net
-
--- A net came to rest for a job, and since then sets alone were taken.
-pub record HasRested (job : LoggedJob) (net : NetView) : Type 0 where
-  pub rested : NetView
-  pub stands : StandsFor job rested
-  pub running : IsRunning rested
-  pub rests : IsAtRest rested
-  pub since : LeavesNodes rested net
 
 -- all sets of a job's solution were taken out of a net
 abbrev pub IsAllTaken : LoggedJob → NetView → Type 0
@@ -107,6 +98,11 @@ pub record SomeRested (plan : Plan) (net : NetView) : Type 0 where
   pub plan_is : job.job.plan ≡ plan
   pub stands : StandsFor job net
   pub has_rested : HasRested job net
+
+-- a net has rested over what batches gave for a plan, with whose last the input ended so
+pub record SomeRestedOf {B : Type 0} (gives : Giving B) (plan : Plan) (end : FeedEnd) (net : NetView) (batches : B) : Type 0 where
+  pub given : SomeGiven gives (End end) net batches
+  pub plan_is : given.plan ≡ plan
 
 -- A run whose input has ended so, and whose net has come to rest with it: all sets were told.
 pub record IsOver {B T : Type 0} (gives : Giving B) (has_told : Telling T) (start : Start B) (end : FeedEnd) (source : SourceTold) (sink : SinkTold) (batches : B) (telling : T) (net : NetView) : Type 0 where
@@ -128,3 +124,5 @@ pub record IsShort {B T : Type 0} (gives : Giving B) (reads_on : Reading B) (has
   pub last : (at ≡ source) ⊎ (IsMore end × reads_on batches start.plan start.source at source)
   pub stood : StoodFor (job_with start inputs) net
   pub front : IsToldSome has_told (job_with start inputs).job start.sink sink ⊎ FrontIn form start.sink sink (job_with start inputs).job
+  -- while there was more, sets were told and nothing else was written
+  pub unended : IsMore end → IsToldSome has_told (job_with start inputs).job start.sink sink

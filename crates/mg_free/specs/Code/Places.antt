@@ -12,7 +12,7 @@ place_at places n = slice_index_or places.table.items n places.past
 abbrev pub ArePlaces : Places → List ℕ → Type 0
 ArePlaces places list = (n : ℕ) → place_at places n ≡ place_in list n
 
--- whether a node is free, or whether it is of the core
+-- of `true` whether a node is free, and of `false` whether it is of the core
 abbrev pub is_one_of : Bool → PlanNode → Bool
 is_one_of true node = is_free node
 is_one_of false node = is_core node

@@ -81,7 +81,7 @@ pub record NetShort (plan : Plan) (inputs : Inputs) (boxes : List CalculatorTold
   pub opened : HasOpened plan devices.input inputs
   pub stood : StoodFor (job_of plan inputs boxes) net
 
--- So it is of the run as a whole, by the calculators that were handed in.
+-- The same of the run as a whole, by the calculators that were handed in.
 pub record JobReplayed (report : Bool) (plan : Plan) (inputs : Inputs) (status : Status) (devices : RunDevices) (boxes : Device (List CalculatorTold)) : Type 0 where
   pub end : TraceEnd
   pub read : WasRead plan boxes.before devices.input (Some inputs) end

@@ -41,7 +41,7 @@ pub record ComesBehind (before now : SourceTold) (old new : Reading) : Type 0 wh
   pub met : MetEnd old.ended new.ended before now
   pub in_front : (past : List ℕ) (lines : List (List ℕ)) → HasHanded past lines old → (more : List ℕ) → (new.ended ≡ true → more ≡ []) → (rest : List (List ℕ)) × (all_lines ((past ++ came) ++ more) ≡ lines ++ rest)
 
--- how the reading stops where no line is handed out, behind so many
+-- how the reading stops behind so many lines, where the next one is too long, the lines end or a read fails; else it goes on
 abbrev pub StopsBy : NextLine → ℕ → TraceFault → Option TraceEnd → Type 0
 StopsBy Line lines long stop = stop ≡ None
 StopsBy TooLong lines long stop = stop ≡ Some (Refused (lines + 1) long)
@@ -54,14 +54,14 @@ TakesOther None line number old new = Takes None line old new
 TakesOther (Some (Job ended)) line number old new = ⊥
 TakesOther (Some (Stopped end)) line number old new = (cause : TraceFault) × (end ≡ Refused number cause) × Takes (Some cause) line old new
 
--- what a line that was handed out came to: it was taken as a packet line; or it ends these, or isn't good, and the feed stays as it was or
--- isn't used any more
+-- what a line that was handed out came to: it was taken as a packet line; or it ends the packet lines, and the feed is as it was; or it isn't
+-- good, and the reading stops
 abbrev pub TakesLine : Option Opened → List ℕ → ℕ → View → View → Type 0
 TakesLine None line number old new = (is_end_word line ≡ false) × Takes None line old new
 TakesLine (Some (Job ended)) line number old new = (line ≡ end_word ended) × (new ≡ old)
 TakesLine (Some (Stopped end)) line number old new = (is_end_word line ≡ false) × ((cause : TraceFault) × (end ≡ Refused number cause) × Takes (Some cause) line old new)
 
--- one line more was read
+-- one line more of a job was read: it is a packet line, or the job's lines ended with it, or the reading stopped
 abbrev pub OpensOn : Option Opened → Plan → SourceTold → SourceTold → Reading → ℕ → View → View → Type 0
 OpensOn None plan first now read number old view = IsOpening plan first now read number view × (view.lines ≡ old.lines + 1) × (view.lines ≤ most_lines)
 OpensOn (Some opened) plan first now read number old view = Opens opened plan first now read number view
@@ -73,25 +73,25 @@ pub record HasInputs (plan : Plan) (inputs : Inputs) (first now : SourceTold) (r
   pub packets : ArePackets (inputs_of plan) [] given
   pub inputs_are : inputs ≡ inputs_with plan given inputs.ended
 
--- one line more was read, or the reading ended
+-- one line more behind a job was read: its event was made, or the reading ended
 abbrev pub MakesOn : Option TraceEnd → Plan → List CalculatorTold → Inputs → SourceTold → SourceTold → Reading → ℕ → NetView → Type 0
 MakesOn None plan boxes inputs first now read number net = IsMaking plan boxes inputs first now read number net
 MakesOn (Some end) plan boxes inputs first now read number net = WasRead plan boxes (device first now) (Some inputs) end
 
--- what the line of a number behind a run came to: its event was made, or it is refused
+-- what the next line of a run, which has this number, came to: its event was made, or it is refused
 abbrev pub MakesLine : Option TraceEnd → Plan → List ℕ → ℕ → NetView → NetView → Type 0
 MakesLine None plan line number before now = (event : Event) × IsEventOf plan event × (line ≡ event_line event) × Acts event Did before now
 MakesLine (Some end) plan line number before now =
     (((event : Event) → ¬ (IsEventOf plan event × (line ≡ event_line event))) × (end ≡ Refused number BadEvent)) ⊎ IsIdleEvent plan before number line end
 
--- what stands behind the last line of a run, by what comes next
+-- how the reading ends behind the last line of a run, by what comes next
 abbrev pub StopsBehind : NextLine → ℕ → TraceEnd → Type 0
 StopsBehind Line number end = end ≡ Refused (number + 1) AfterEnd
 StopsBehind TooLong number end = end ≡ Refused (number + 1) AfterEnd
 StopsBehind Ended number end = end ≡ Accepted
 StopsBehind Failed number end = end ≡ Failed_at number
 
--- how the reading ends at the last line of a run, which has this number: the net isn't at rest, or nothing is handed out behind it, or a line
+-- how the reading ends at the last line of a run, which has this number: the net isn't at rest; or it is, and what comes next decides
 abbrev pub EndsRun : TraceEnd → SourceTold → SourceTold → Reading → Reading → ℕ → NetView → NetView → Type 0
 EndsRun end before now old new number net net_now =
     (MayGoOn net × (end ≡ Refused number NotAtRest) × (now ≡ before) × (new ≡ old))

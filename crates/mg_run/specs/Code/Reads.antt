@@ -12,7 +12,7 @@ use Rattle.mg_run.specs.declared.fault.Fault.TheVariants.{Noted, OutOfMemory}
 abbrev pub contents_of : List (Vec ℕ) → List (List ℕ)
 contents_of contents = map (λ content. content.items) contents
 
--- One of the files couldn't be loaded, and the note is of it. Nothing is said of want of memory.
+-- One of the files couldn't be loaded, and the note names it. Nothing is said where there was no memory.
 abbrev pub HasFailed : Fault → List (List ℕ) → Device StoreTold → Type 0
 HasFailed (Noted note) names store = (file : List ℕ) × FailedAt names file store × (note.items ≡ store_note file)
 HasFailed OutOfMemory names store = Unit {0}

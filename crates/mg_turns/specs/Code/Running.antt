@@ -55,7 +55,8 @@ IsPutBack work e f = (o : OutcomeView) × IsOutcomeOf work o × (f ≡ shelved e
 abbrev pub SomeRound : EngineView → EngineView → IntakeView → IntakeView → Type 0
 SomeRound e f i k = (laid : ℕ) × Round laid e f i k
 
--- this many rounds were made, at most as many as were asked for; where they are fewer, the cell is at an end for now
+-- This many rounds were made, at most as many as were asked for. Where they are fewer, no further one could be made, for one of the reasons of
+-- `Stops`.
 abbrev pub Ran : ℕ → ℕ → EngineView → EngineView → IntakeView → IntakeView → Type 0
 Ran done most e f i k = (m : EngineView) × (l : IntakeView) × (laid : ℕ) × Rounds done laid e m i l × (done ≤ most)
     × (((done ≡ most) × (f ≡ m) × (k ≡ l)) ⊎ ((done < most) × Stops m f l k))

@@ -1,5 +1,5 @@
 use Rattle.std.proofs.Common.{not, ap, ◌∙◌}
-use Rattle.mg_answer.specs.Code.Bounds.{open_numbers}
+use Rattle.mg_answer.specs.Report.{open_numbers}
 use Rattle.mg_answer.proofs.Answering.{wrote-told}
 use Rattle.mg_answer.proofs.Telling.{open-there}
 use Rattle.mg_answer.proofs.concluding.conclude.Goals as goal

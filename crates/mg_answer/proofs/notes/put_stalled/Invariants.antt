@@ -1,7 +1,7 @@
 use Rattle.std.proofs.Common.{◌≡◌, ◌++◌, take}
 use Rattle.std.specs.List.{flat_map}
 use Rattle.mg_answer.specs.Notes.{stall_note}
-use Rattle.mg_answer.specs.Code.Bounds.{end_bounds}
+use Rattle.mg_answer.specs.Report.{end_bounds}
 use Rattle.mg_answer.proofs.notes.put_stalled.Given as goal
 
 abbrev pub invariant-loop-number : goal.invariant-loop-number

@@ -1,7 +1,7 @@
 use Rattle.std.proofs.Common.{◌≡◌, ◌==◌, ◌++◌, not, map, filter, drop}
 use Rattle.std.specs.List.{enumerate_from}
 use Rattle.mg_time.specs.Time.{done}
-use Rattle.mg_answer.specs.Code.Bounds.{open_numbers}
+use Rattle.mg_answer.specs.Report.{open_numbers}
 use Rattle.mg_answer.proofs.told.stalled_of.Given as goal
 
 abbrev pub invariant-loop-number : goal.invariant-loop-number

@@ -4,6 +4,7 @@ use Rattle.mg_calc.specs.declared.plan.Plan.{Plan}
 use Rattle.mg_sched.specs.Taking.{taken_out}
 use Rattle.mg_drive.proofs.TakingSets.{told_same, told_some, told_stands}
 use Rattle.mg_drive.proofs.Looping.{takings_keep, takings_run, keeps_on, rested_at}
+use Rattle.mg_drive.proofs.StillThere.{given_on}
 use Rattle.mg_drive.proofs.driving.advance.Goals as goal
 
 pub to_rest-requires-clause-stands : goal.to_rest-requires-clause-stands
@@ -69,3 +70,9 @@ pub returns-clause-rested : goal.returns-clause-rested
 returns-clause-rested g c = λ job h.
     rested_at job c.args.net.now.one.net c.to_rest.new.self.one.net c.take_all.new.net.one.net c.in_ok-to_rest.ensures.stands h c.in_ok-to_rest.ensures.running c.in_ok-to_rest.ensures.rest
     c.in_ok-take_all.ensures.left c.in_ok-take_all.ensures.all
+
+pub returns-in_err-take_all-clause-whole : goal.returns-in_err-take_all-clause-whole
+returns-in_err-take_all-clause-whole g c = given_on c.args.net.now.one.net c.to_rest.new.self.one.net c.take_all.new.net.one.net c.in_ok-to_rest.ensures.whole c.in_err-take_all.ensures.whole
+
+pub returns-clause-whole : goal.returns-clause-whole
+returns-clause-whole g c = given_on c.args.net.now.one.net c.to_rest.new.self.one.net c.take_all.new.net.one.net c.in_ok-to_rest.ensures.whole c.in_ok-take_all.ensures.whole

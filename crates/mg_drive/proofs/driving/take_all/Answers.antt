@@ -6,6 +6,7 @@ use Rattle.mg_drive.specs.Code.Running.{IsTold}
 use Rattle.mg_sched.proofs.HadBack.{left_itself, left_further}
 use Rattle.mg_sched.proofs.OutputsTaken.{taking_leaves_nodes, taking_keeps, all_were_taken, nothing_changes}
 use Rattle.mg_drive.proofs.TakingSets.{told_more, told_few, told_some_then, fewer_to_take, taken_true, taken_false, set_shown, set_places}
+use Rattle.mg_drive.proofs.StillThere.{takings_whole}
 use Rattle.mg_drive.proofs.driving.take_all.Goals as goal
 
 pub sets-init : goal.sets-init
@@ -92,3 +93,9 @@ returns-clause-all g c = λ job streams h s a.
     let same = nothing_changes c.sets.set c.take_out.new.into (g.N.Driven.net c.sets.net) (g.N.Driven.net c.take_out.new.self) none in
     subst (λ (v : NetView). taken_out v ≡ length (settled_outputs v.plan streams)) (sym same.0)
     (all_were_taken job streams c.sets.set c.take_out.new.into (g.N.Driven.net c.sets.net) (g.N.Driven.net c.take_out.new.self) (c.sets.invariant.stands job h) s (c.sets.invariant.has job streams h s a) none)
+
+pub returns-in_err-tell-clause-whole : goal.returns-in_err-tell-clause-whole
+returns-in_err-tell-clause-whole g c = takings_whole (g.N.Driven.net c.args.net.now) (g.N.Driven.net c.take_out.new.self) (returns-in_err-tell-clause-left g c)
+
+pub returns-clause-whole : goal.returns-clause-whole
+returns-clause-whole g c = takings_whole (g.N.Driven.net c.args.net.now) (g.N.Driven.net c.take_out.new.self) (returns-clause-left g c)

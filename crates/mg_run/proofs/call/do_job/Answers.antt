@@ -4,13 +4,23 @@ use Rattle.mg_run.specs.Code.Job.{job_view, CanBeDone}
 use Rattle.mg_run.specs.declared.job.Job.{Job}
 use Rattle.mg_run.specs.Call.{Did}
 use Rattle.mg_run.specs.Devices.{device, with_run, told_by}
-use Rattle.mg_run.proofs.Handing.{boxes_fit}
+use Rattle.mg_run.proofs.Handing.{boxes_fit, boxes_fit_core}
 use Rattle.mg_run.proofs.call.do_job.Goals as goal
 
 pub run_lines-requires-clause-boxes : goal.run_lines-requires-clause-boxes
 run_lines-requires-clause-boxes g c κs within =
     let can = subst (λ (job : Job). CanBeDone (outers_told (map g.C.Calculator.told c.args.boxes.now.items)) (job_view job)) c.in-Run.is c.requires.can in
     boxes_fit c.in-Run.plan (map g.C.Calculator.told c.args.boxes.now.items) can.1 c.requires.lawful
+
+pub run_live_lines-requires-clause-boxes : goal.run_live_lines-requires-clause-boxes
+run_live_lines-requires-clause-boxes g c κs within =
+    let can = subst (λ (job : Job). CanBeDone (outers_told (map g.C.Calculator.told c.args.boxes.now.items)) (job_view job)) c.in-RunLive.is c.requires.can in
+    boxes_fit_core c.in-RunLive.plan (map g.C.Calculator.told c.args.boxes.now.items) can.1 c.requires.lawful
+
+pub run_live_made-requires-clause-boxes : goal.run_live_made-requires-clause-boxes
+run_live_made-requires-clause-boxes g c κs within =
+    let can = subst (λ (job : Job). CanBeDone (outers_told (map g.C.Calculator.told c.args.boxes.now.items)) (job_view job)) c.in-GenerateLive.is c.requires.can in
+    boxes_fit_core c.in-GenerateLive.plan (map g.C.Calculator.told c.args.boxes.now.items) can.1 c.requires.lawful
 
 pub trace_lines-requires-clause-boxes : goal.trace_lines-requires-clause-boxes
 trace_lines-requires-clause-boxes g c =
@@ -31,3 +41,8 @@ pub returns-in-Run-clause-did : goal.returns-in-Run-clause-did
 returns-in-Run-clause-did g c = λ store.
     subst (λ (job : Job). Did (job_view job) c.run_lines.result (with_run store (told_by g.S.Source.told g.K.Sink.told g.E.Sink.told c.args.devices.now c.run_lines.new.devices) (device (map g.C.Calculator.told c.args.boxes.now.items) (map g.C.Calculator.told c.run_lines.new.boxes.items)))) (sym c.in-Run.is)
     c.run_lines.ensures.ran
+
+pub returns-in-RunLive-clause-did : goal.returns-in-RunLive-clause-did
+returns-in-RunLive-clause-did g c = λ store.
+    subst (λ (job : Job). Did (job_view job) c.run_live_lines.result (with_run store (told_by g.S.Source.told g.K.Sink.told g.E.Sink.told c.args.devices.now c.run_live_lines.new.devices) (device (map g.C.Calculator.told c.args.boxes.now.items) (map g.C.Calculator.told c.run_live_lines.new.boxes.items)))) (sym c.in-RunLive.is)
+    c.run_live_lines.ensures.ran

@@ -52,6 +52,6 @@ returns-in-None-clause-became g c =
     let given : PartsView = record { plan = c.apart-plan.result.plan; engines = c.share_parts.new.engines.items; intakes = c.share_parts.new.intakes.items; rest = c.apart-plan.result.rest } in
     let is : ps ≡ given = λ k. record { plan = c.apart-plan.result.plan; engines = sym same.0 k; intakes = sym same.1 k; rest = c.apart-plan.result.rest } in (
       c.put_together.ensures.running,
-      same_became c.args.net c.put_together.result ps c.apart-plan.ensures.apart (subst (λ (p : PartsView). IsPutTogether p c.put_together.result) (sym is) c.put_together.ensures.together)
+      same_became c.args.net c.put_together.result ps some c.apart-plan.ensures.apart (subst (λ (p : PartsView). IsPutTogether p c.put_together.result) (sym is) c.put_together.ensures.together)
           (λ job h. c.put_together.ensures.stands job (subst (λ (p : PartsView). ArePartsOf job p) is (c.apart-plan.ensures.parts job h))),
     )

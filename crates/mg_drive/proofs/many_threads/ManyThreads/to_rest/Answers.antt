@@ -1,4 +1,5 @@
 use Rattle.mg_drive.proofs.Working.{still_some, keeps_then, taken_then, stands_then}
+use Rattle.mg_drive.proofs.StillThere.{given_on}
 use Rattle.mg_drive.proofs.many_threads.ManyThreads.to_rest.Goals as goal
 
 pub to_rest-requires-clause-stands : goal.to_rest-requires-clause-stands
@@ -21,3 +22,9 @@ returns-clause-taken g c = taken_then c.args.self.now.one.net c.work.new.self.on
 
 pub returns-clause-stands : goal.returns-clause-stands
 returns-clause-stands g c = stands_then c.args.self.now.one.net c.work.new.self.one.net c.to_rest.new.self.net c.work.ensures.became c.in_ok-to_rest.ensures.stands
+
+pub returns-in_err-to_rest-clause-whole : goal.returns-in_err-to_rest-clause-whole
+returns-in_err-to_rest-clause-whole g c = given_on c.args.self.now.one.net c.work.new.self.one.net c.to_rest.new.self.net c.work.ensures.became.whole c.in_err-to_rest.ensures.whole
+
+pub returns-clause-whole : goal.returns-clause-whole
+returns-clause-whole g c = given_on c.args.self.now.one.net c.work.new.self.one.net c.to_rest.new.self.net c.work.ensures.became.whole c.in_ok-to_rest.ensures.whole

@@ -1,0 +1,56 @@
+-- Runs of a plan with free nodes over packets that are made.
+use Rattle.std.proofs.Common.{◌≡◌, ◌⊎◌, ℕ, Bool, List, [], ◌∷◌, drop, slice_index_or, reverse, Option, Some, sym, ap, ◌∙◌, subst, append-nil}
+use Rattle.mg_edge.specs.Edge.{SinkTold}
+use Rattle.mg_value.specs.Payload.{Plain}
+use Rattle.mg_value.specs.Prefix.{StreamPrefix}
+use Rattle.mg_calc.specs.declared.inputs.Inputs.{Inputs}
+use Rattle.mg_calc.specs.declared.plan.Plan.{Plan}
+use Rattle.mg_calc.specs.Equations.{IsJob, IsSolution}
+use Rattle.mg_calc.specs.Told.{CalculatorTold}
+use Rattle.mg_feed.specs.declared.feed_end.FeedEnd.{FeedEnd}
+use Rattle.mg_feed.specs.declared.feed_end.BatchEnd.TheVariants.{End}
+use Rattle.mg_free.specs.Core.{split_of}
+use Rattle.mg_free.specs.Rounds.{Taken, core_inputs, core_job}
+use Rattle.mg_live.specs.SoFar.{SoFar}
+use Rattle.mg_answer.specs.Answer.{totals, generated_job}
+use Rattle.mg_answer.specs.Devices.{Device}
+use Rattle.mg_answer.specs.declared.status.Status.{Status}
+use Rattle.mg_drive.specs.Batches.{logged}
+use Rattle.mg_drive.specs.Leaves.{KeepsAFront}
+use Rattle.mg_drive.specs.OneRun.{AllHad}
+use Rattle.mg_drive.specs.OneLive.{OneLive, LiveShort, OneLiveMade}
+use Rattle.mg_drive.specs.Code.Running.{IsToldSome, FrontIn}
+use Rattle.mg_drive.specs.Code.Live.{end_by}
+use Rattle.mg_drive.specs.Code.Packets.{HaveComeAtOnce}
+use Rattle.mg_drive.specs.Told.{HasSums}
+use Rattle.mg_drive.proofs.PacketsRan.{given_made, end_same, front_sums}
+
+pub live_made : (report : Bool) (whole : Plan) (number : ℕ) (packets : Option Inputs) (output notes : Device SinkTold) (boxes : Device (List CalculatorTold)) (status : Status) (end : FeedEnd) (base : Inputs) (earlier : List Inputs) (first : Inputs) (later : List Inputs)
+    → packets ≡ Some (generated_job whole number).inputs → HaveComeAtOnce packets (End end) (base ∷ earlier) → reverse (base ∷ earlier) ≡ first ∷ later → OneLive totals report whole first later end status output notes boxes
+    → OneLiveMade report whole number status output notes boxes
+live_made report whole number packets output notes boxes status end base earlier first later are came order run =
+    let all : first ∷ later ≡ came.inputs ∷ [] = sym order ∙ ap reverse came.history_is in
+    let first_is = ap (λ (l : List Inputs). slice_index_or l 0 first) all ∙ given_made whole number packets (End end) came.inputs are came.given in
+    subst (λ (e : FeedEnd). OneLive totals report whole (generated_job whole number).inputs [] e status output notes boxes) (end_same end came.given.ended)
+    (subst (λ (l : List Inputs). OneLive totals report whole (generated_job whole number).inputs l end status output notes boxes) (ap (λ (l : List Inputs). drop 1 l) all)
+    (subst (λ (i : Inputs). OneLive totals report whole i later end status output notes boxes) first_is run))
+
+-- Memory ran out --
+
+pub short_made : (whole : Plan) (number : ℕ) (packets : Option Inputs) (output : Device SinkTold) (boxes : Device (List CalculatorTold)) (ended : Option FeedEnd) (base : Inputs) (earlier : List Inputs) (takens : List Taken) (streams : List (StreamPrefix Plain))
+    → packets ≡ Some (generated_job whole number).inputs → HaveComeAtOnce packets (end_by ended) (base ∷ earlier) → SoFar (split_of whole) (base ∷ earlier) takens → IsJob (core_job (split_of whole) base takens)
+    → IsSolution (core_job (split_of whole) base takens) streams
+    → IsToldSome HasSums (core_job (split_of whole) base takens) output.before output.now ⊎ FrontIn totals output.before output.now (core_job (split_of whole) base takens)
+    → AllHad (split_of whole).core (KeepsAFront (core_job (split_of whole) base takens) streams) boxes → LiveShort totals whole ((generated_job whole number).inputs ∷ []) output boxes
+short_made whole number packets output boxes ended base earlier takens streams are came so_far is_job solution front had = record {
+  base = base;
+  earlier = earlier;
+  later = [];
+  first = sym (append-nil (reverse (base ∷ earlier)) ∙ ap reverse came.history_is ∙ ap (λ (i : Inputs). i ∷ []) (given_made whole number packets (end_by ended) came.inputs are came.given));
+  takens = takens;
+  so_far = so_far;
+  streams = streams;
+  solution = solution;
+  front = front_sums (logged (split_of whole).core (core_inputs (split_of whole) base takens) []) output.before output.now is_job front streams solution;
+  had = had;
+}

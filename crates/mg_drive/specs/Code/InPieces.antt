@@ -1,0 +1,44 @@
+-- Packets that are made piece by piece.
+use Rattle.std.specs.Prelude.{◌≡◌, ◌<◌, ◌-◌, ◌==◌, ◌^◌, ℕ, Bool, true, false, List, ◌∷◌, length, map}
+use Rattle.mg_calc.specs.declared.inputs.Inputs.{Inputs}
+use Rattle.mg_calc.specs.declared.plan.Plan.{Plan}
+use Rattle.mg_feed.specs.Graph.{GraphInputs, inputs_of}
+use Rattle.mg_feed.specs.Given.{ended_streams}
+use Rattle.mg_feed.specs.Generated.{generated_streams, generated_sides}
+use Rattle.mg_feed.specs.Pieces.{Making, HasHandedOn}
+use Rattle.mg_feed.specs.declared.feed_end.FeedEnd.TheVariants.{Ended}
+use Rattle.mg_feed.specs.declared.feed_end.BatchEnd.{BatchEnd}
+use Rattle.mg_feed.specs.declared.feed_end.BatchEnd.TheVariants.{More, End}
+
+-- what so many packets come to, where the streams have ended with them or not
+abbrev pub made_inputs : GraphInputs → ℕ → Bool → Inputs
+made_inputs graph number ended = record { streams = ended_streams ended (generated_streams graph.kinds number); sides = generated_sides (length graph.sides); ended = ended }
+
+-- there is more behind a piece, or the input has ended with it
+abbrev pub end_of : Bool → BatchEnd
+end_of true = End Ended
+end_of false = More
+
+-- so many packets are to be made for a plan, and none is yet
+pub record AreToCome (plan : Plan) (number : ℕ) (m : Making) : Type 0 where
+  pub handed_on : HasHandedOn (inputs_of plan) number m
+  pub none : m.made ≡ 0
+  pub few : number < 2 ^ 32
+
+-- Of so many packets for a plan some were given, and these are what they come to.
+pub record WereMade (plan : Plan) (number : ℕ) (m : Making) (end : BatchEnd) (inputs : Inputs) : Type 0 where
+  pub handed_on : HasHandedOn (inputs_of plan) number m
+  pub few : number < 2 ^ 32
+  pub end_is : end ≡ end_of (m.made == number)
+  pub inputs_are : inputs ≡ made_inputs (inputs_of plan) m.made (m.made == number)
+
+-- they came piece by piece: so many had come by the end of each earlier one
+pub record HaveComeInPieces (plan : Plan) (number : ℕ) (m : Making) (end : BatchEnd) (history : List Inputs) : Type 0 where
+  pub inputs : Inputs
+  pub given : WereMade plan number m end inputs
+  pub earlier : List ℕ
+  pub history_is : history ≡ inputs ∷ map (λ made. made_inputs (inputs_of plan) made false) earlier
+
+-- how many are still to be made
+abbrev pub packets_left : Making → ℕ
+packets_left m = m.number - m.made

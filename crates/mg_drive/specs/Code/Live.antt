@@ -1,0 +1,145 @@
+-- Runs of graphs with free nodes: what comes to the core of a plan, batch by batch and round by round, and what is written at the end.
+use Rattle.std.specs.Prelude.{◌≡◌, ◌+◌, ◌-◌, ◌^◌, ℕ, Bool, true, false, List, ◌∷◌, map, length, replicate, Option, Some, None, sum_by, ⊤}
+use Rattle.std.specs.List.{flat_map, zip}
+use Rattle.mg_edge.specs.Edge.{SourceTold, SinkTold}
+use Rattle.mg_value.specs.Payload.{Plain}
+use Rattle.mg_value.specs.Prefix.{StreamPrefix}
+use Rattle.mg_calc.specs.declared.inputs.Inputs.{Inputs}
+use Rattle.mg_calc.specs.declared.plan.Plan.{Plan}
+use Rattle.mg_calc.specs.Plan.{IsValidWithFree, numbers}
+use Rattle.mg_calc.specs.Equations.{Job, IsSolution}
+use Rattle.mg_free.specs.declared.node.FreeNode.{FreeNode}
+use Rattle.mg_free.specs.Core.{split_of, stream_number}
+use Rattle.mg_free.specs.Rounds.{Taken, none_taken, core_inputs, IsRound}
+use Rattle.mg_live.specs.declared.taker.Taker.{Taker}
+use Rattle.mg_live.specs.Takes.{HaveTaken, handed_of, outputs_so_far}
+use Rattle.mg_live.specs.SoFar.{SoFar, HaveCome}
+use Rattle.mg_feed.specs.declared.feed_end.FeedEnd.{FeedEnd}
+use Rattle.mg_feed.specs.declared.feed_end.BatchEnd.{BatchEnd}
+use Rattle.mg_feed.specs.declared.feed_end.BatchEnd.TheVariants.{More, End}
+use Rattle.mg_answer.specs.Answer.{Form, output_in}
+use Rattle.mg_answer.specs.Devices.{Device}
+use Rattle.mg_answer.specs.Live.{live_answer, live_failed}
+use Rattle.mg_answer.specs.Wrote.{WroteBy}
+use Rattle.mg_answer.specs.declared.live_outcomes.LiveOutcomes.{LiveOutcomes}
+use Rattle.mg_answer.specs.declared.status.Status.{Status}
+use Rattle.mg_node.specs.Job.{LoggedJob, Solves}
+use Rattle.mg_sched.specs.Views.{NetView}
+use Rattle.mg_sched.specs.StandsFor.{StandsFor}
+use Rattle.mg_drive.specs.Nets.{HasRested, Wanted}
+use Rattle.mg_drive.specs.Batches.{Giving, Coming, Due}
+use Rattle.mg_drive.specs.Live.{LiveTells}
+
+-- The streams --
+
+-- the streams of a net that has come to rest: they solve the job for which it stands
+pub record AreRested (net : NetView) (streams : List (StreamPrefix Plain)) : Type 0 where
+  pub job : LoggedJob
+  pub stands : StandsFor job net
+  pub has_rested : HasRested job net
+  pub solves : Solves job streams
+
+-- of each port of the free nodes the stream, and how many of its packets arrived there
+abbrev pub wanted_at : FreeNode × Taker → List Wanted
+wanted_at e = map (λ p. record { stream = p.0; from = p.1 }) (zip e.0.inputs e.1.counts.items)
+
+abbrev pub wanted_by : List FreeNode → List Taker → List Wanted
+wanted_by frees takers = flat_map wanted_at (zip frees takers)
+
+-- The batches --
+
+-- how the input ended with a batch, where it did
+abbrev pub ended_of : BatchEnd → Option FeedEnd
+ended_of More = None
+ended_of (End end) = Some end
+
+abbrev pub end_by : Option FeedEnd → BatchEnd
+end_by None = More
+end_by (Some end) = End end
+
+-- the numbers of a plan's core: in the plan those of the core's nodes, and in the core those of the plan's streams
+pub record AreNumbersOf (whole : Plan) (nodes streams : List ℕ) : Type 0 where
+  pub nodes_are : nodes ≡ (split_of whole).numbers
+  pub streams_are : streams ≡ map (stream_number whole) (numbers (length whole.streams))
+
+-- What is kept of a run of a graph with free nodes: the batches of its plan, the plan that it began with, the plan with the numbers of its
+-- core, how the input ended, once it has, whether a round did nothing since the last batch came, and what is kept of the free nodes.
+pub record LiveView (B : Type 0) : Type 0 where
+  pub batches : B
+  pub plan : Plan
+  pub whole : Plan
+  pub nodes : List ℕ
+  pub streams : List ℕ
+  pub ended : Option FeedEnd
+  pub rested : Bool
+  pub frees : List FreeNode
+  pub takers : List Taker
+
+-- what is kept is of the plan of this core, and of batches of which the next one is always due
+pub record IsLiveOf {B : Type 0} (is_due : Due B) (core : Plan) (live : LiveView B) : Type 0 where
+  pub whole_is : live.whole ≡ live.plan
+  pub valid : IsValidWithFree live.whole
+  pub core_is : core ≡ (split_of live.whole).core
+  pub numbers_are : AreNumbersOf live.whole live.nodes live.streams
+  pub frees_are : live.frees ≡ (split_of live.whole).free
+  pub due : (batches : B) (plan : Plan) (inputs : Inputs) → is_due batches plan inputs
+
+-- nothing has come to a core yet: the batches of its plan are fresh, and the free nodes have taken nothing
+pub record IsFreshLive {B : Type 0} (is_fresh : B → Plan → Type 0) (is_due : Due B) (core : Plan) (live : LiveView B) : Type 0 where
+  pub of : IsLiveOf is_due core live
+  pub fresh : is_fresh live.batches live.whole
+  pub taken : HaveTaken live.frees (none_taken (split_of live.whole)) live.takers
+  pub none_handed : handed_of live.takers ≡ replicate (length live.frees) 0
+  pub unended : live.ended ≡ None
+
+-- where no batch is left: the input ended with the last one, and a round over it did nothing
+abbrev pub EndsLive : {B : Type 0} → BatchEnd → LiveView B → Type 0
+EndsLive More live = ⊤
+EndsLive (End end) live = (live.ended ≡ Some end) × (live.rested ≡ true)
+
+-- What came to a core: what the batches of the plan gave together, now and by the end of each earlier batch, and rounds over these, by which
+-- the free nodes have taken what they have.
+pub record LiveGives {B : Type 0} (gives : Giving B) (came : Coming B) (is_due : Due B) (began : B) (live : LiveView B) (core : Plan) (first source : SourceTold) (end : BatchEnd) (inputs : Inputs) : Type 0 where
+  pub of : IsLiveOf is_due core live
+  pub base : Inputs
+  pub earlier : List Inputs
+  pub given : gives began live.batches live.whole first source (end_by live.ended) base
+  pub in_turn : came began live.batches live.whole first source (end_by live.ended) (base ∷ earlier)
+  pub come : HaveCome live.whole (base ∷ earlier)
+  pub takens : List Taken
+  pub taken : HaveTaken live.frees takens live.takers
+  pub handed : handed_of live.takers ≡ map (λ s. length s.packets) (outputs_so_far live.frees takens)
+  pub so_far : SoFar (split_of live.whole) (base ∷ earlier) takens
+  pub inputs_are : inputs ≡ core_inputs (split_of live.whole) base takens
+  pub rests : live.rested ≡ true → IsRound (split_of live.whole) base takens takens
+  pub ends : EndsLive end live
+
+-- The same as a history: its newest entry is all that came to the core. Of the others nothing is said.
+pub record LiveCame {B : Type 0} (gives : Giving B) (came : Coming B) (is_due : Due B) (began : B) (live : LiveView B) (core : Plan) (first source : SourceTold) (end : BatchEnd) (history : List Inputs) : Type 0 where
+  pub inputs : Inputs
+  pub earlier : List Inputs
+  pub history_is : history ≡ inputs ∷ earlier
+  pub given : LiveGives gives came is_due began live core first source end inputs
+
+-- The next batch is due: there is one, and a round did nothing.
+abbrev pub IsLiveDue : {B : Type 0} → LiveView B → Type 0
+IsLiveDue live = (live.ended ≡ None) × (live.rested ≡ true)
+
+-- A bound on the rounds that do something: a log has fewer than 2^64 arrivals, and an output closes once.
+abbrev pub rounds_left : List Taker → ℕ
+rounds_left takers = sum_by (λ taker. (2 ^ 64 - length taker.log.items) + (elim taker.closed [ true ↦ 0 | false ↦ 1 ])) takers
+
+abbrev pub batches_left : Option FeedEnd → ℕ → ℕ
+batches_left None left = left + 1
+batches_left (Some end) left = 0
+
+-- What is written --
+
+-- The answer of a solution of the core was written, with the notes by the plan's numbers and the lines of the logs, which are those of all
+-- that the free nodes may have taken by what is kept of them.
+pub record LiveWrote (whole : Plan) (frees : List FreeNode) (takers : List Taker) (form : Form) (report : Bool) (job : Job) (end : FeedEnd) (status : Status) (output notes : Device SinkTold) : Type 0 where
+  pub streams : List (StreamPrefix Plain)
+  pub solution : IsSolution job streams
+  pub live : LiveOutcomes
+  pub tells : (takens : List Taken) → HaveTaken frees takens takers → LiveTells whole job streams frees takens live
+  pub by : WroteBy status (live_answer report whole end live (output_in form job.plan streams)) (live_failed report whole end live) output notes

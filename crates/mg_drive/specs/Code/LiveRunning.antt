@@ -1,0 +1,70 @@
+-- A run of a core over batches of its plan, once it is over.
+use Rattle.std.specs.Prelude.{◌≡◌, ◌⊎◌, ℕ, Bool, List, ◌∷◌, ◌++◌, replicate, reverse, Option}
+use Rattle.mg_edge.specs.Edge.{SourceTold}
+use Rattle.mg_value.specs.Payload.{Plain}
+use Rattle.mg_value.specs.Prefix.{StreamPrefix, empty_prefix}
+use Rattle.mg_calc.specs.declared.inputs.Inputs.{Inputs}
+use Rattle.mg_calc.specs.declared.plan.Plan.{Plan}
+use Rattle.mg_calc.specs.Equations.{IsJob, IsSolution}
+use Rattle.mg_calc.specs.Told.{CalculatorTold}
+use Rattle.mg_free.specs.Core.{split_of}
+use Rattle.mg_free.specs.Rounds.{Taken, core_job}
+use Rattle.mg_live.specs.SoFar.{SoFar}
+use Rattle.mg_feed.specs.declared.feed_end.FeedEnd.{FeedEnd}
+use Rattle.mg_feed.specs.declared.feed_end.BatchEnd.TheVariants.{End}
+use Rattle.mg_answer.specs.Answer.{Form}
+use Rattle.mg_answer.specs.Devices.{Device, RunDevices}
+use Rattle.mg_answer.specs.declared.status.Status.{Status}
+use Rattle.mg_drive.specs.Leaves.{KeepsAFront}
+use Rattle.mg_drive.specs.OneLive.{OneLive}
+use Rattle.mg_drive.specs.OneRun.{AllHad, WasNothing}
+use Rattle.mg_drive.specs.Batches.{Giving, Coming, Due, MayRead, IsMore}
+use Rattle.mg_drive.specs.Code.Running.{Reading, Telling, IsToldSome, FrontIn}
+use Rattle.mg_drive.specs.Code.Ending.{ReadFirst}
+use Rattle.mg_drive.specs.Code.Live.{end_by}
+
+-- All batches were given: `base` is what they gave together, and the earlier ones are what they had given by the end of each earlier batch.
+pub record HasRunLive {B : Type 0} (gives : Giving B) (came : Coming B) (form : Form) (report : Bool) (began : B) (whole : Plan) (status : Status) (devices : RunDevices) (boxes : Device (List CalculatorTold)) : Type 0 where
+  pub batches : B
+  pub end : FeedEnd
+  pub base : Inputs
+  pub earlier : List Inputs
+  pub given : gives began batches whole devices.input.before devices.input.now (End end) base
+  pub in_turn : came began batches whole devices.input.before devices.input.now (End end) (base ∷ earlier)
+  pub first : Inputs
+  pub later : List Inputs
+  pub in_order : reverse (base ∷ earlier) ≡ first ∷ later
+  pub run : OneLive form report whole first later end status devices.output devices.notes boxes
+
+-- what a further call of batches reads, where it may come
+abbrev pub ReadsWhere : {B : Type 0} → (B → Plan → Type 0) → Due B → Reading B → Reading B
+ReadsWhere is_fresh is_due reads_on batches plan first at now = MayRead is_fresh is_due batches plan → reads_on batches plan first at now
+
+-- Memory ran out once there was a net of the core: after a batch of the plan had come by which the input ended, or didn't, or while more
+-- was read behind it.
+pub record CoreShort {B T : Type 0} (came : Coming B) (reads_on : Reading B) (has_told : Telling T) (form : Form) (began : B) (whole : Plan) (devices : RunDevices) (boxes : Device (List CalculatorTold)) : Type 0 where
+  pub batches : B
+  pub ended : Option FeedEnd
+  pub at : SourceTold
+  pub base : Inputs
+  pub earlier : List Inputs
+  pub in_turn : came began batches whole devices.input.before at (end_by ended) (base ∷ earlier)
+  pub last : (at ≡ devices.input.now) ⊎ (IsMore (end_by ended) × reads_on batches whole devices.input.before at devices.input.now)
+  pub takens : List Taken
+  pub so_far : SoFar (split_of whole) (base ∷ earlier) takens
+  pub is_job : IsJob (core_job (split_of whole) base takens)
+  pub streams : List (StreamPrefix Plain)
+  pub solution : IsSolution (core_job (split_of whole) base takens) streams
+  pub front : IsToldSome has_told (core_job (split_of whole) base takens) devices.output.before devices.output.now
+      ⊎ FrontIn form devices.output.before devices.output.now (core_job (split_of whole) base takens)
+  pub had : AllHad (split_of whole).core (KeepsAFront (core_job (split_of whole) base takens) streams) boxes
+
+abbrev pub HasRunLiveShort : {B T : Type 0} → Giving B → Coming B → Reading B → Telling T → Form → B → Plan → RunDevices → Device (List CalculatorTold) → Type 0
+HasRunLiveShort gives came reads_on has_told form began whole devices boxes =
+    (ReadFirst gives reads_on began whole devices.input × WasNothing devices.output boxes) ⊎ CoreShort came reads_on has_told form began whole devices boxes
+
+-- inputs to which so many streams come of which nothing is known, behind the others
+pub record IsOpened (inputs more : Inputs) (count : ℕ) : Type 0 where
+  pub streams : more.streams ≡ inputs.streams ++ replicate count empty_prefix
+  pub sides : more.sides ≡ inputs.sides
+  pub ended : more.ended ≡ inputs.ended

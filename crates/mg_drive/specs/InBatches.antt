@@ -1,0 +1,30 @@
+-- The lines of an input in batches, and what has come after each of them.
+use Rattle.std.specs.Prelude.{ℕ, ◌<◌, List, [], ◌∷◌, ◌++◌, Bool, false}
+use Rattle.mg_calc.specs.declared.inputs.Inputs.{Inputs}
+use Rattle.mg_feed.specs.Graph.{GraphInputs}
+use Rattle.mg_feed.specs.Accepted.{given_by}
+use Rattle.mg_feed.specs.Given.{ended_streams}
+use Rattle.mg_feed.specs.Batch.{Fills, naming}
+use Rattle.mg_feed.specs.declared.feed_end.FeedEnd.{FeedEnd}
+use Rattle.mg_feed.specs.declared.feed_end.BatchEnd.TheVariants.{More}
+use Rattle.mg_answer.specs.Answer.{is_ended}
+use Rattle.mg_drive.specs.declared.lines.TheConstants.{BATCH}
+
+-- what lines give a graph, where the input has ended well or not
+abbrev pub inputs_at : GraphInputs → List (List ℕ) → Bool → Inputs
+inputs_at graph lines ended = record { streams = ended_streams ended (given_by graph lines).streams; sides = (given_by graph lines).sides; ended = ended }
+
+-- how many lines that name a stream a batch has
+abbrev pub batch_size : ℕ
+batch_size = BATCH
+
+-- Lines in batches: each but the last has as many lines that name a stream as a batch may have, of which one is its last line.
+pub data InBatches : List (List ℕ) → List (List (List ℕ)) → Type 0 where
+  last : {lines : List (List ℕ)} → naming lines < batch_size → InBatches lines (lines ∷ [])
+  more : {batch rest : List (List ℕ)} {batches : List (List (List ℕ))} → Fills More batch_size batch → InBatches rest batches → InBatches (batch ++ rest) (batch ∷ batches)
+
+-- what has come after each batch, behind these lines
+abbrev pub come_after : GraphInputs → FeedEnd → List (List ℕ) → List (List (List ℕ)) → List Inputs
+come_after graph end past [] = []
+come_after graph end past (batch ∷ []) = inputs_at graph (past ++ batch) (is_ended end) ∷ []
+come_after graph end past (batch ∷ next ∷ batches) = inputs_at graph (past ++ batch) false ∷ come_after graph end (past ++ batch) (next ∷ batches)

@@ -1,0 +1,154 @@
+-- A run of a graph with free nodes as one thing: there are one reading of its input, the batches of its lines, the logs to which the rounds
+-- over these come, and one solution of the core for them; and all that is seen of the run is theirs.
+use Rattle.std.specs.Prelude.{◌≡◌, ◌⊎◌, ℕ, List, [], ◌∷◌, ◌++◌, reverse, Bool, true}
+use Rattle.std.specs.List.{AllZip}
+use Rattle.mg_edge.specs.Edge.{SourceTold, SinkTold}
+use Rattle.mg_value.specs.Payload.{Plain}
+use Rattle.mg_value.specs.Prefix.{StreamPrefix}
+use Rattle.mg_calc.specs.declared.inputs.Inputs.{Inputs}
+use Rattle.mg_calc.specs.declared.plan.Plan.{Plan}
+use Rattle.mg_calc.specs.Equations.{IsSolution}
+use Rattle.mg_calc.specs.Told.{CalculatorTold}
+use Rattle.mg_free.specs.Core.{split_of}
+use Rattle.mg_free.specs.Logs.{output_of}
+use Rattle.mg_free.specs.Rounds.{Taken, none_taken, free_inputs, output_so_far, core_job, AllRounds}
+use Rattle.mg_free.specs.Turns.{AreLawful, last_batch}
+use Rattle.mg_live.specs.SoFar.{SoFar}
+use Rattle.mg_feed.specs.Graph.{inputs_of}
+use Rattle.mg_feed.specs.Ran.{EndCame}
+use Rattle.mg_feed.specs.declared.feed_end.FeedEnd.{FeedEnd}
+use Rattle.mg_feed.specs.declared.feed_end.FeedEnd.TheVariants.{Ended}
+use Rattle.mg_answer.specs.Answer.{Form, packet_lines, totals, output_in, Read, Answer, ended_input, generated_job}
+use Rattle.mg_answer.specs.Devices.{Device, RunDevices, TookFront, Noted}
+use Rattle.mg_answer.specs.Live.{live_answer, live_failed}
+use Rattle.mg_answer.specs.Notes.{memory_note}
+use Rattle.mg_answer.specs.Ran.{CameTo, ReadSome}
+use Rattle.mg_answer.specs.Wrote.{WroteBy}
+use Rattle.mg_answer.specs.declared.live_outcomes.LiveOutcomes.{LiveOutcomes}
+use Rattle.mg_answer.specs.declared.status.Status.{Status}
+use Rattle.mg_answer.specs.declared.status.Status.TheVariants.{OutOfMemory}
+use Rattle.mg_drive.specs.Leaves.{HadItsCalls, KeepsAFront}
+use Rattle.mg_drive.specs.OneRun.{AllHad, WasNothing, ShortAtOnce}
+use Rattle.mg_drive.specs.Live.{LiveTells}
+use Rattle.mg_drive.specs.InBatches.{InBatches, come_after}
+
+-- A run --
+
+-- The rounds over some batches come to logs. In the solution of the core for these the log of each free node is lawful, its output is the
+-- one that its law gives for its log, and this is told of the plan.
+pub record ComesTo (whole : Plan) (first : Inputs) (later : List Inputs) : Type 0 where
+  pub takens : List Taken
+  pub rounds : AllRounds (split_of whole) (first ∷ later) (none_taken (split_of whole)) takens
+  pub streams : List (StreamPrefix Plain)
+  pub solution : IsSolution (core_job (split_of whole) (last_batch first later) takens) streams
+  pub logs : AreLawful streams (split_of whole).free takens
+  pub outputs : AllZip (λ free taken. output_so_far free taken ≡ output_of free.law (free_inputs streams free) taken.log) (split_of whole).free takens
+  pub live : LiveOutcomes
+  pub tells : LiveTells whole (core_job (split_of whole) (last_batch first later) takens) streams (split_of whole).free takens live
+
+-- the answer of a run over batches, whose input ended so
+pub record IsLiveAnswer (form : Form) (report : Bool) (whole : Plan) (first : Inputs) (later : List Inputs) (end : FeedEnd) (answer : Answer) : Type 0 where
+  pub comes : ComesTo whole first later
+  pub is : answer ≡ live_answer report whole end comes.live (output_in form (split_of whole).core comes.streams)
+
+-- A run over batches, whose input ended so. The output, the status and the notes are those of the core's solution, told by the plan's
+-- numbers, with a line for each arrival; and each calculator that is handed in had exactly the calls that its node has in that solution.
+pub record OneLive (form : Form) (report : Bool) (whole : Plan) (first : Inputs) (later : List Inputs) (end : FeedEnd) (status : Status) (output notes : Device SinkTold) (boxes : Device (List CalculatorTold)) : Type 0 where
+  pub comes : ComesTo whole first later
+  pub wrote : WroteBy status (live_answer report whole end comes.live (output_in form (split_of whole).core comes.streams)) (live_failed report whole end comes.live) output notes
+  pub had : AllHad (split_of whole).core (HadItsCalls (core_job (split_of whole) (last_batch first later) comes.takens) comes.streams) boxes
+
+-- A run over batches in which memory ran out. By then some of the first batches had come: the last of them is `base`, and the others
+-- stand in `earlier`, the newest first. Rounds over these had come to logs: in the solution of the core for what the free nodes had
+-- taken, the output took a front of the text, and each calculator had a front of its calls and keeps what its node has come to after
+-- them.
+pub record LiveShort (form : Form) (whole : Plan) (batches : List Inputs) (output : Device SinkTold) (boxes : Device (List CalculatorTold)) : Type 0 where
+  pub base : Inputs
+  pub earlier : List Inputs
+  pub later : List Inputs
+  pub first : batches ≡ reverse (base ∷ earlier) ++ later
+  pub takens : List Taken
+  pub so_far : SoFar (split_of whole) (base ∷ earlier) takens
+  pub streams : List (StreamPrefix Plain)
+  pub solution : IsSolution (core_job (split_of whole) base takens) streams
+  pub front : TookFront output (output_in form (split_of whole).core streams)
+  pub had : AllHad (split_of whole).core (KeepsAFront (core_job (split_of whole) base takens) streams) boxes
+
+-- Over packet lines --
+
+-- what has come after each batch of the lines to which an input came
+pub record AreBatchesOf (whole : Plan) (read : Read) (batches : List Inputs) : Type 0 where
+  pub lines : List (List (List ℕ))
+  pub in_batches : InBatches read.lines lines
+  pub are : come_after (inputs_of whole) read.end [] lines ≡ batches
+
+-- The input was read to its end, its first line that isn't good or its first failed read, and the batches of its lines were run.
+pub record OneLiveReading (report : Bool) (whole : Plan) (status : Status) (devices : RunDevices) (boxes : Device (List CalculatorTold)) : Type 0 where
+  pub read : Read
+  pub came : CameTo (inputs_of whole) devices.input read
+  pub first : Inputs
+  pub later : List Inputs
+  pub batches : AreBatchesOf whole read (first ∷ later)
+  pub run : OneLive packet_lines report whole first later read.end status devices.output devices.notes boxes
+
+-- Memory ran out once the input had been read to its end, its first line that isn't good or its first failed read.
+pub record LiveShortAtEnd (whole : Plan) (input : Device SourceTold) (output : Device SinkTold) (boxes : Device (List CalculatorTold)) : Type 0 where
+  pub read : Read
+  pub came : CameTo (inputs_of whole) input read
+  pub batches : List Inputs
+  pub are : AreBatchesOf whole read batches
+  pub short : LiveShort packet_lines whole batches output boxes
+
+-- Memory ran out while there was more. The input was read once, and these bytes are the first of those that came. Whatever bytes follow
+-- them, of which there are none where the source had ended with them, what was written and called is a front of what belongs to the batches
+-- of the whole input.
+pub record LiveShortBefore (whole : Plan) (input : Device SourceTold) (output : Device SinkTold) (boxes : Device (List CalculatorTold)) : Type 0 where
+  pub read : ReadSome (inputs_of whole) input
+  pub first : List ℕ
+  pub later : List ℕ
+  pub split : read.came ≡ first ++ later
+  pub ended : Bool
+  pub met : ended ≡ true → EndCame input.before input.now × (later ≡ [])
+  pub short : (rest : List ℕ) → (ended ≡ true → rest ≡ []) → (batches : List Inputs) → AreBatchesOf whole (ended_input (inputs_of whole) (first ++ rest)) batches
+      → LiveShort packet_lines whole batches output boxes
+
+-- memory ran out before anything was written or called, once the input had been read, or while there was more
+abbrev pub LiveShortIn : Plan → Device SourceTold → Device SinkTold → Device (List CalculatorTold) → Type 0
+LiveShortIn whole input output boxes = ShortAtOnce whole input output boxes ⊎ (LiveShortAtEnd whole input output boxes ⊎ LiveShortBefore whole input output boxes)
+
+-- Memory ran out, and the notes say that alone.
+pub record LiveShortReading (whole : Plan) (status : Status) (devices : RunDevices) (boxes : Device (List CalculatorTold)) : Type 0 where
+  pub is : status ≡ OutOfMemory
+  pub noted : Noted devices.notes memory_note
+  pub by : LiveShortIn whole devices.input devices.output boxes
+
+abbrev pub RanLive : Bool → Plan → Status → RunDevices → Device (List CalculatorTold) → Type 0
+RanLive report whole status devices boxes = OneLiveReading report whole status devices boxes ⊎ LiveShortReading whole status devices boxes
+
+-- the answer of a graph over an input that ended after these bytes
+pub record AnswersLive (report : Bool) (whole : Plan) (bytes : List ℕ) (answer : Answer) : Type 0 where
+  pub first : Inputs
+  pub later : List Inputs
+  pub batches : AreBatchesOf whole (ended_input (inputs_of whole) bytes) (first ∷ later)
+  pub answers : IsLiveAnswer packet_lines report whole first later (ended_input (inputs_of whole) bytes).end answer
+
+-- Over packets that are made, all of which are one batch --
+
+abbrev pub OneLiveMade : Bool → Plan → ℕ → Status → Device SinkTold → Device SinkTold → Device (List CalculatorTold) → Type 0
+OneLiveMade report whole number status output notes boxes = OneLive totals report whole (generated_job whole number).inputs [] Ended status output notes boxes
+
+-- Memory ran out: before anything was done, or in that run.
+abbrev pub LiveShortInMade : Plan → ℕ → Device SinkTold → Device (List CalculatorTold) → Type 0
+LiveShortInMade whole number output boxes = WasNothing output boxes ⊎ LiveShort totals whole ((generated_job whole number).inputs ∷ []) output boxes
+
+pub record LiveShortMade (whole : Plan) (number : ℕ) (status : Status) (output notes : Device SinkTold) (boxes : Device (List CalculatorTold)) : Type 0 where
+  pub is : status ≡ OutOfMemory
+  pub noted : Noted notes memory_note
+  pub by : LiveShortInMade whole number output boxes
+
+abbrev pub RanLiveMade : Bool → Plan → ℕ → Status → Device SinkTold → Device SinkTold → Device (List CalculatorTold) → Type 0
+RanLiveMade report whole number status output notes boxes =
+    OneLiveMade report whole number status output notes boxes ⊎ LiveShortMade whole number status output notes boxes
+
+abbrev pub AnswersLiveMade : Bool → Plan → ℕ → Answer → Type 0
+AnswersLiveMade report whole number answer = IsLiveAnswer totals report whole (generated_job whole number).inputs [] Ended answer

@@ -1,0 +1,144 @@
+//! What is told of a core, by the numbers of its plan.
+ghost use Rattle.std.specs.Prelude.{◌≡◌, ◌<◌, ◌++◌, List, All, Some, map, length, filter, slice_get, IfOk, OnOk};
+ghost use Rattle.mg_value.specs.Payload.{Plain};
+ghost use Rattle.mg_value.specs.Prefix.{StreamPrefix};
+ghost use Rattle.mg_calc.specs.Plan.{IsValidWithFree};
+ghost use Rattle.mg_calc.specs.Equations.{Job, stream_of};
+ghost use Rattle.mg_free.specs.declared.node.FreeNode.{FreeNode as FreeNodeView};
+ghost use Rattle.mg_free.specs.Core.{is_free, is_core, split_of};
+ghost use Rattle.mg_free.specs.Rounds.{Taken};
+ghost use Rattle.mg_live.specs.Takes.{HaveTaken};
+ghost use Rattle.mg_answer.specs.Outcomes.{TellsOf};
+ghost use Rattle.mg_answer.specs.Report.{end_of};
+ghost use Rattle.mg_drive.specs.Batches.{Tells};
+ghost use Rattle.mg_drive.specs.Live.{TellsPlan, fault_in, sets_by, lines_at, arrivals_text};
+ghost use Rattle.mg_drive.specs.Code.Live.{AreNumbersOf};
+
+use mg_answer::{Outcomes, StreamEnd, put_arrival};
+use mg_calc::{NodeFault, NodeFaultList, Plan, PlanNode};
+use mg_free::free_law;
+use mg_live::LiveNodes;
+use mg_value::{BlockList, NumberList};
+use std::alloc::{AllocError, Global};
+
+/// A plan with free nodes, and the numbers of its core. `nodes` has the plan's number of each node of the core, and `streams` the core's
+/// number of each stream of the plan.
+#[derive(Clone, Copy)]
+pub struct InPlan<'p> {
+    pub plan: &'p Plan,
+    pub nodes: &'p NumberList,
+    pub streams: &'p NumberList,
+}
+
+// The faults of a core's nodes, by the plan's numbers of these.
+fn faults_in(
+    alloc: Global,
+    numbers: &[u32],
+    faults: &[NodeFault],
+) -> Result<NodeFaultList, AllocError>
+    requires { All (λ fault. fault.node < length numbers.now) faults.now }
+    ensures { IfOk result (λ now. now ≡ map (fault_in numbers.now) faults.now) }
+{
+    let mut now = Vec::with_capacity(alloc, faults.len())?;
+    for fault in faults {
+        now.push(NodeFault {
+            node: numbers[fault.node as usize],
+            phase: fault.phase,
+            cause: fault.cause,
+        })?;
+    }
+    Ok(NodeFaultList::from_vec(now)?)
+}
+
+// For each node of a plan how many sets it was shown, or how many packets arrived at it, if it is free.
+fn sets_of(
+    alloc: Global,
+    nodes: &[PlanNode],
+    sets: &[u64],
+    live: &LiveNodes,
+) -> Result<BlockList<u64>, AllocError>
+    requires free { length live.now.takers.items ≡ length (filter is_free nodes.now) }
+    requires core { length sets.now ≡ length (filter is_core nodes.now) }
+    ensures { (takens : List Taken) → HaveTaken live.now.free takens live.now.takers.items → IfOk result (λ now. now ≡ sets_by nodes.now sets.now (map (λ taken. length taken.log) takens)) }
+{
+    let mut now = Vec::with_capacity(alloc, nodes.len())?;
+    let mut free = 0;
+    let mut core = 0;
+    for node in nodes {
+        if free_law(&node.law).is_some() {
+            now.push(live.log(free).len() as u64)?;
+            free += 1;
+        } else {
+            now.push(sets[core])?;
+            core += 1;
+        }
+    }
+    Ok(BlockList::from_vec(now)?)
+}
+
+// How far the streams of a plan have come, by the numbers that they have in its core and how far the core's have come.
+fn ends_of(alloc: Global, streams: &[u32], ends: &[StreamEnd]) -> Result<Vec<StreamEnd>, AllocError>
+    requires { All (λ stream. stream < length ends.now) streams.now }
+    ensures { (prefixes : List (StreamPrefix Plain)) → ends.now ≡ map end_of prefixes → IfOk result (λ now. now.items ≡ map (λ stream. end_of (stream_of prefixes stream)) streams.now) }
+{
+    let mut now = Vec::with_capacity(alloc, streams.len())?;
+    for stream in streams {
+        now.push(ends[*stream as usize])?;
+    }
+    Ok(now)
+}
+
+impl<'p> InPlan<'p> {
+    /// What came of the nodes and streams of a core, by the plan's numbers.
+    pub fn outcomes(
+        &self,
+        alloc: Global,
+        core: &Outcomes,
+        live: &LiveNodes,
+    ) -> Result<Outcomes, AllocError>
+        requires valid { IsValidWithFree self.now.plan.now }
+        requires numbers { AreNumbersOf self.now.plan.now self.now.nodes.now self.now.streams.now }
+        requires free { live.now.free ≡ (split_of self.now.plan.now).free }
+        requires long { length live.now.free ≡ length live.now.takers.items }
+        requires tells { Tells (split_of self.now.plan.now).core core.now }
+        ensures { (job : Job) (streams : List (StreamPrefix Plain)) (takens : List Taken) → job.plan ≡ (split_of self.now.plan.now).core → TellsOf job streams core.now
+            → HaveTaken live.now.free takens live.now.takers.items → IfOk result (TellsPlan self.now.plan.now job streams takens) }
+    {
+        let faults = faults_in(alloc, self.nodes.as_slice(), core.faults.as_slice())?;
+        let sets = sets_of(
+            alloc,
+            self.plan.nodes.as_slice(),
+            core.sets.as_slice(),
+            live,
+        )?;
+        let ends = ends_of(alloc, self.streams.as_slice(), core.ends.as_slice())?;
+        Ok(Outcomes { faults, sets, ends })
+    }
+}
+
+/// The lines of all arrivals at free nodes, node by node.
+pub fn arrival_lines(alloc: Global, live: &LiveNodes) -> Result<Vec<u8>, AllocError>
+    requires { length live.now.free ≡ length live.now.takers.items }
+    ensures { (takens : List Taken) → HaveTaken live.now.free takens live.now.takers.items → IfOk result (λ lines. lines.items ≡ arrivals_text live.now.free takens) }
+{
+    let mut lines = Vec::new(alloc);
+    for place in 0..live.len() {
+        put_arrivals(&mut lines, live, place)?;
+    }
+    Ok(lines)
+}
+
+// Puts the lines of the arrivals at a free node.
+fn put_arrivals(text: &mut Vec<u8>, live: &LiveNodes, place: usize) -> Result<(), AllocError>
+    requires free { place < length live.now.free }
+    requires takers { place < length live.now.takers.items }
+    ensures { (takens : List Taken) (free : FreeNodeView) (taken : Taken) → HaveTaken live.now.free takens live.now.takers.items → slice_get live.now.free place ≡ Some free
+        → slice_get takens place ≡ Some taken → OnOk result (text.new.items ≡ text.old.items ++ lines_at (free, taken)) }
+{
+    let node = live.node(place);
+    let log = live.log(place);
+    for arrived in log {
+        put_arrival(text, node, arrived.port, arrived.at)?;
+    }
+    Ok(())
+}

@@ -1,0 +1,167 @@
+//! Batches of the core of a graph with free nodes: between two batches of the input the free nodes have their rounds.
+ghost use Rattle.std.specs.Prelude.{◌≡◌, ◌+◌, ◌++◌, List, true, None, map, length, replicate, IfOk, OnOk};
+ghost use Rattle.mg_value.specs.Prefix.{empty_prefix};
+ghost use Rattle.mg_free.specs.Rounds.{Taken};
+ghost use Rattle.mg_live.specs.Takes.{HaveTaken, handed_of, outputs_so_far, pieces_behind};
+ghost use Rattle.mg_drive.specs.Code.LiveRunning.{ReadsWhere, IsOpened};
+ghost use Rattle.mg_drive.specs.Code.Live.{IsFreshLive, LiveGives, LiveCame, LiveWrote, wanted_by, rounds_left, ended_of, batches_left};
+
+use crate::in_plan::{InPlan, arrival_lines};
+use crate::looked::Looked;
+use crate::{Batch, Batches, Closing, Driven, Onward};
+use mg_answer::{LiveOutcomes, Outcomes, Run, Status, conclude_live};
+use mg_calc::{GivenList, Inputs};
+use mg_edge::{Sink, Source};
+use mg_feed::{BatchEnd, FeedEnd};
+use mg_live::LiveNodes;
+use mg_time::Timestamp;
+use mg_value::{PacketList, Prefix, PrefixList};
+use std::alloc::{AllocError, Global};
+
+/// Where the batches of a core come from: the batches of a graph with free nodes, and between two of them what a round of these lays.
+#[derive(Drop)]
+pub struct Live<'p, B> {
+    /// The batches of the plan with free nodes.
+    pub batches: B,
+    pub nodes: LiveNodes,
+    /// That plan, with the numbers of its core.
+    pub whole: InPlan<'p>,
+    pub alloc: Global,
+    /// How the input ended, once it has.
+    pub end: Option<FeedEnd>,
+    /// Whether a round did nothing since the last batch came.
+    pub rested: bool,
+}
+
+// How an input ended with a batch, where it did.
+fn ended_by(end: BatchEnd) -> Option<FeedEnd>
+    ensures { result ≡ ended_of end }
+{
+    match end {
+        BatchEnd::More => None,
+        BatchEnd::End(end) => Some(end),
+    }
+}
+
+// Some streams, and behind them so many further ones of which nothing is known.
+fn opened(alloc: Global, streams: Vec<Prefix>, count: usize) -> Result<Vec<Prefix>, AllocError>
+    ensures { IfOk result (λ opened. opened.items ≡ streams.items ++ replicate count empty_prefix) }
+{
+    let mut opened = streams;
+    for place in 0..count {
+        let _ = place;
+        opened.push(Prefix {
+            packets: PacketList::from_vec(Vec::new(alloc))?,
+            bound: Timestamp::PRE_STREAM,
+        })?;
+    }
+    Ok(opened)
+}
+
+// What comes to a core with a batch: the batch at the plan's own inputs, and nothing at the outputs of the free nodes, of which there
+// are so many.
+fn with_open(alloc: Global, inputs: Inputs, count: usize) -> Result<Inputs, AllocError>
+    ensures { IfOk result (λ more. IsOpened inputs more count) }
+{
+    let Inputs {
+        streams,
+        sides,
+        ended,
+    } = inputs;
+    let streams = opened(alloc, streams.into_vec(), count)?;
+    let streams = PrefixList::from_vec(streams)?;
+    Ok(Inputs {
+        streams,
+        sides,
+        ended,
+    })
+}
+
+// What came to the outputs of free nodes since they were asked before, as further input of a core. So many inputs stand before them, to
+// which nothing comes.
+fn handed_on(alloc: Global, nodes: &mut LiveNodes, own: u32) -> Result<Inputs, AllocError>
+    ensures streams { (takens : List Taken) → HaveTaken nodes.old.free takens nodes.old.takers.items
+        → IfOk result (λ more. more.streams ≡ replicate own empty_prefix ++ pieces_behind (handed_of nodes.old.takers.items) (outputs_so_far nodes.old.free takens)) }
+    ensures taken { (takens : List Taken) → HaveTaken nodes.old.free takens nodes.old.takers.items → OnOk result (HaveTaken nodes.old.free takens nodes.new.takers.items) }
+    ensures handed { (takens : List Taken) → HaveTaken nodes.old.free takens nodes.old.takers.items
+        → OnOk result (handed_of nodes.new.takers.items ≡ map (λ s. length s.packets) (outputs_so_far nodes.old.free takens)) }
+    ensures free { nodes.new.free ≡ nodes.old.free }
+{
+    let streams = nodes.hand_on(alloc, own)?;
+    let sides = GivenList::from_vec(Vec::new(alloc))?;
+    Ok(Inputs {
+        streams,
+        sides,
+        ended: false,
+    })
+}
+
+impl<'p, B: Batches> Batches for Live<'p, B> {
+    ghost is_fresh = { λ l core. IsFreshLive B.is_fresh B.is_due core (record { batches = l.batches; plan = l.whole.plan.now; whole = l.whole.plan.now; nodes = l.whole.nodes.now; streams = l.whole.streams.now; ended = l.end; rested = l.rested; frees = l.nodes.free; takers = l.nodes.takers.items }) };
+
+    ghost gives = { λ began l core first now end inputs. LiveGives B.gives B.came B.is_due began.batches (record { batches = l.batches; plan = began.whole.plan.now; whole = l.whole.plan.now; nodes = l.whole.nodes.now; streams = l.whole.streams.now; ended = l.end; rested = l.rested; frees = l.nodes.free; takers = l.nodes.takers.items }) core first now end inputs };
+
+    ghost came = { λ began l core first now end history. LiveCame B.gives B.came B.is_due began.batches (record { batches = l.batches; plan = began.whole.plan.now; whole = l.whole.plan.now; nodes = l.whole.nodes.now; streams = l.whole.streams.now; ended = l.end; rested = l.rested; frees = l.nodes.free; takers = l.nodes.takers.items }) core first now end history };
+
+    ghost is_due = { λ l core inputs. (l.end ≡ None) × (l.rested ≡ true) };
+
+    ghost wants = { λ l. wanted_by l.nodes.free l.nodes.takers.items };
+
+    ghost reads_on = { λ l core first at now. (l.end ≡ None) × ReadsWhere B.is_fresh B.is_due B.reads_on l.batches l.whole.plan.now first at now };
+
+    ghost left = { λ l. batches_left l.end (B.left l.batches) + rounds_left l.nodes.takers.items };
+
+    ghost reads = { B.reads };
+
+    ghost wrote = { λ l form report job end status output notes. LiveWrote l.whole.plan.now l.nodes.free l.nodes.takers.items form report job end status output notes };
+
+    fn next<S: Source>(&mut self, input: &mut S) -> Result<Batch, AllocError> {
+        let batch = self.batches.next(input)?;
+        let count = self.nodes.len();
+        let inputs = with_open(self.alloc, batch.inputs, count)?;
+        self.end = ended_by(batch.end);
+        self.rested = false;
+        Ok(Batch {
+            end: BatchEnd::More,
+            inputs,
+        })
+    }
+
+    fn onward<N: Driven>(&mut self, last: BatchEnd, net: &N) -> Result<Onward, AllocError> {
+        match last {
+            BatchEnd::End(end) => return Ok(Onward::End(end)),
+            BatchEnd::More => {}
+        }
+        let did = self.nodes.round(&Looked { net })?;
+        self.rested = !did;
+        if did {
+            let own = self.whole.plan.inputs.len();
+            let more = handed_on(self.alloc, &mut self.nodes, own)?;
+            return Ok(Onward::Round(more));
+        }
+        match self.end {
+            Some(end) => Ok(Onward::End(end)),
+            None => Ok(Onward::Next),
+        }
+    }
+
+    fn conclude<K: Sink, E: Sink>(
+        &self,
+        run: &Run<'_>,
+        closing: Closing,
+        outcomes: Outcomes,
+        output: &mut K,
+        notes: &mut E,
+    ) -> Result<Status, AllocError> {
+        let outcomes = self.whole.outcomes(run.alloc, &outcomes, &self.nodes)?;
+        let arrivals = arrival_lines(run.alloc, &self.nodes)?;
+        let live = LiveOutcomes { outcomes, arrivals };
+        let whole = Run {
+            alloc: run.alloc,
+            plan: self.whole.plan,
+            report: run.report,
+        };
+        let status = conclude_live(&whole, closing.end, &live, closing.text, output, notes)?;
+        Ok(status)
+    }
+}

@@ -1,0 +1,207 @@
+//! Runs of graphs with free nodes, over packet lines and over packets that are made.
+ghost use Rattle.std.specs.Prelude.{◌≡◌, [], map, false, IfOk, OnErr};
+ghost use Rattle.mg_edge.specs.Edge.{SinkTold};
+ghost use Rattle.mg_calc.specs.declared.inputs.Inputs.{Inputs as Given};
+ghost use Rattle.mg_calc.specs.declared.plan.Plan.{Plan};
+ghost use Rattle.mg_calc.specs.Plan.{IsValidWithFree};
+ghost use Rattle.mg_free.specs.Core.{split_of};
+ghost use Rattle.mg_answer.specs.Devices.{device};
+ghost use Rattle.mg_answer.specs.Held.{told_by, SameDevices};
+ghost use Rattle.mg_sched.specs.Made.{BoxesFit};
+ghost use Rattle.mg_drive.specs.OneLive.{OneLiveMade, OneLiveReading, LiveShortIn, LiveShortInMade, RanLive, RanLiveMade};
+ghost use Rattle.mg_drive.specs.Code.LiveRunning.{HasRunLive, HasRunLiveShort, ReadsWhere};
+
+use crate::in_plan::InPlan;
+use crate::{Batches, Crew, Live, Made, Telling, run_batches};
+use mg_answer::{Devices, OutputSummary, OutputText, Run, Status, note_out_of_memory};
+use mg_calc::Calculator;
+use mg_edge::{Gate, Sink, Source};
+use mg_feed::Feed;
+use mg_free::{FreePlan, split, streams_in_core};
+use mg_live::LiveNodes;
+use std::alloc::AllocError;
+use std::sync::Wait;
+use std::thread::Threads;
+
+/// Runs the graph of a plan with free nodes over packet lines. It brings the net of the graph's core to rest, lets each free node take a
+/// packet or close its output, goes on with what that comes to, and so on until none of them does anything; then comes the next batch of
+/// lines. All else is as of any other run, and the notes tell each arrival at a free node.
+pub fn run_live_lines<
+    R: Threads + Wait + Sync,
+    G: Gate + Sync,
+    C: Calculator + Send,
+    S: Source,
+    K: Sink,
+    E: Sink,
+>(
+    run: &Run<'_>,
+    crew: &Crew<'_, R, G>,
+    boxes: &mut Vec<C>,
+    devices: &mut Devices<'_, '_, '_, S, K, E>,
+) -> Status
+    requires valid { IsValidWithFree run.now.plan.now }
+    requires boxes { BoxesFit (split_of run.now.plan.now).core (map C.told boxes.old.items) }
+
+    // There are one reading of the input, its batches, the logs to which the rounds over them come, and one solution, and all that is seen is
+    // theirs; or memory ran out.
+    ensures ran { RanLive run.now.report run.now.plan.now result (told_by S.told K.told E.told devices.old devices.new) (device (map C.told boxes.old.items) (map C.told boxes.new.items)) }
+    ensures same { SameDevices devices.old devices.new }
+{
+    match lines_whole(run, crew, boxes, devices) {
+        Ok(status) => status,
+        Err(_) => {
+            note_out_of_memory(devices.notes);
+            Status::OutOfMemory
+        }
+    }
+}
+
+// Makes a feed and a text, and runs the graph over the lines.
+fn lines_whole<
+    R: Threads + Wait + Sync,
+    G: Gate + Sync,
+    C: Calculator + Send,
+    S: Source,
+    K: Sink,
+    E: Sink,
+>(
+    run: &Run<'_>,
+    crew: &Crew<'_, R, G>,
+    boxes: &mut Vec<C>,
+    devices: &mut Devices<'_, '_, '_, S, K, E>,
+) -> Result<Status, AllocError>
+    requires valid { IsValidWithFree run.now.plan.now }
+    requires boxes { BoxesFit (split_of run.now.plan.now).core (map C.told boxes.old.items) }
+    ensures ran { IfOk result (λ status. OneLiveReading run.now.report run.now.plan.now status (told_by S.told K.told E.told devices.old devices.new) (device (map C.told boxes.old.items) (map C.told boxes.new.items))) }
+    ensures short { OnErr result (LiveShortIn run.now.plan.now (told_by S.told K.told E.told devices.old devices.new).input (told_by S.told K.told E.told devices.old devices.new).output (device (map C.told boxes.old.items) (map C.told boxes.new.items))) }
+    ensures unnoted { OnErr result (E.told devices.new.notes.now ≡ E.told devices.old.notes.now) }
+    ensures same { SameDevices devices.old devices.new }
+{
+    let parts = split(run.alloc, run.plan)?;
+    let feed = Feed::new(run.alloc, run.plan)?;
+    let text = OutputText::new(run.alloc, &parts.core)?;
+    let status = run_live(run, crew, boxes, parts, (feed, text), devices)?;
+    Ok(status)
+}
+
+/// Runs the graph of a plan with free nodes over so many packets that are made.
+pub fn run_live_made<
+    R: Threads + Wait + Sync,
+    G: Gate + Sync,
+    C: Calculator + Send,
+    S: Source,
+    K: Sink,
+    E: Sink,
+>(
+    run: &Run<'_>,
+    number: u32,
+    crew: &Crew<'_, R, G>,
+    boxes: &mut Vec<C>,
+    devices: &mut Devices<'_, '_, '_, S, K, E>,
+) -> Status
+    requires valid { IsValidWithFree run.now.plan.now }
+    requires boxes { BoxesFit (split_of run.now.plan.now).core (map C.told boxes.old.items) }
+
+    // There are one job, the logs to which its rounds come, and one solution, and all that is seen is theirs; or memory ran out. No input has
+    // a part in it.
+    ensures ran { RanLiveMade run.now.report run.now.plan.now number result (told_by S.told K.told E.told devices.old devices.new).output (told_by S.told K.told E.told devices.old devices.new).notes (device (map C.told boxes.old.items) (map C.told boxes.new.items)) }
+    ensures unread { S.told devices.new.input.now ≡ S.told devices.old.input.now }
+    ensures same { SameDevices devices.old devices.new }
+{
+    match made_whole(run, number, crew, boxes, devices) {
+        Ok(status) => status,
+        Err(_) => {
+            note_out_of_memory(devices.notes);
+            Status::OutOfMemory
+        }
+    }
+}
+
+// Makes the packets and a summary, and runs the graph over them.
+fn made_whole<
+    R: Threads + Wait + Sync,
+    G: Gate + Sync,
+    C: Calculator + Send,
+    S: Source,
+    K: Sink,
+    E: Sink,
+>(
+    run: &Run<'_>,
+    number: u32,
+    crew: &Crew<'_, R, G>,
+    boxes: &mut Vec<C>,
+    devices: &mut Devices<'_, '_, '_, S, K, E>,
+) -> Result<Status, AllocError>
+    requires valid { IsValidWithFree run.now.plan.now }
+    requires boxes { BoxesFit (split_of run.now.plan.now).core (map C.told boxes.old.items) }
+    ensures ran { IfOk result (λ status. OneLiveMade run.now.report run.now.plan.now number status (told_by S.told K.told E.told devices.old devices.new).output (told_by S.told K.told E.told devices.old devices.new).notes (device (map C.told boxes.old.items) (map C.told boxes.new.items))) }
+    ensures short { OnErr result (LiveShortInMade run.now.plan.now number (told_by S.told K.told E.told devices.old devices.new).output (device (map C.told boxes.old.items) (map C.told boxes.new.items))) }
+    ensures unnoted { OnErr result (E.told devices.new.notes.now ≡ E.told devices.old.notes.now) }
+    ensures unread { S.told devices.new.input.now ≡ S.told devices.old.input.now }
+    ensures same { SameDevices devices.old devices.new }
+{
+    let parts = split(run.alloc, run.plan)?;
+    let made = Made::new(run.alloc, run.plan, number)?;
+    let summary = OutputSummary::new(run.alloc, &parts.core)?;
+    let status = run_live(run, crew, boxes, parts, (made, summary), devices)?;
+    Ok(status)
+}
+
+// Runs the core of a plan that was split into these parts, over batches. Between two batches the free nodes have their rounds.
+fn run_live<
+    R: Threads + Wait + Sync,
+    G: Gate + Sync,
+    C: Calculator + Send,
+    B: Batches,
+    T: Telling,
+    S: Source,
+    K: Sink,
+    E: Sink,
+>(
+    run: &Run<'_>,
+    crew: &Crew<'_, R, G>,
+    boxes: &mut Vec<C>,
+    parts: FreePlan,
+    ends: (B, T),
+    devices: &mut Devices<'_, '_, '_, S, K, E>,
+) -> Result<Status, AllocError>
+    requires valid { IsValidWithFree run.now.plan.now }
+    requires boxes { BoxesFit (split_of run.now.plan.now).core (map C.told boxes.old.items) }
+    requires parts { parts ≡ split_of run.now.plan.now }
+    requires fresh { B.is_fresh ends.0 run.now.plan.now }
+    requires due { (batches : B) (plan : Plan) (inputs : Given) → B.is_due batches plan inputs }
+    requires nothing { (sink : SinkTold) → T.has_told ends.1 (split_of run.now.plan.now).core sink sink [] }
+    ensures ran { IfOk result (λ status. HasRunLive B.gives B.came T.form run.now.report ends.0 run.now.plan.now status (told_by S.told K.told E.told devices.old devices.new) (device (map C.told boxes.old.items) (map C.told boxes.new.items))) }
+    ensures short { OnErr result (HasRunLiveShort B.gives B.came (ReadsWhere B.is_fresh B.is_due B.reads_on) T.has_told T.form ends.0 run.now.plan.now (told_by S.told K.told E.told devices.old devices.new) (device (map C.told boxes.old.items) (map C.told boxes.new.items))) }
+    ensures unnoted { OnErr result (E.told devices.new.notes.now ≡ E.told devices.old.notes.now) }
+    ensures unread { B.reads ≡ false → S.told devices.new.input.now ≡ S.told devices.old.input.now }
+    ensures same { SameDevices devices.old devices.new }
+{
+    let FreePlan {
+        core,
+        numbers,
+        free,
+    } = parts;
+    let (batches, telling) = ends;
+    let streams = streams_in_core(run.alloc, run.plan)?;
+    let nodes = LiveNodes::new(run.alloc, free)?;
+    let live = Live {
+        batches,
+        nodes,
+        whole: InPlan {
+            plan: run.plan,
+            nodes: &numbers,
+            streams: &streams,
+        },
+        alloc: run.alloc,
+        end: None,
+        rested: false,
+    };
+    let run = Run {
+        alloc: run.alloc,
+        plan: &core,
+        report: run.report,
+    };
+    let status = run_batches(&run, crew, boxes, live, telling, devices)?;
+    Ok(status)
+}

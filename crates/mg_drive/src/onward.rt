@@ -1,0 +1,15 @@
+//! How a run goes on where nothing comes between its batches.
+ghost use Rattle.mg_drive.specs.Batches.{PlainOnward};
+
+use crate::Onward;
+use mg_feed::BatchEnd;
+
+/// The next batch is due, or the input ended with the last one.
+pub(crate) fn plain_onward(last: BatchEnd) -> Onward
+    ensures { PlainOnward last result }
+{
+    match last {
+        BatchEnd::More => Onward::Next,
+        BatchEnd::End(end) => Onward::End(end),
+    }
+}

@@ -1,0 +1,103 @@
+//! Packets that are made while a run goes on.
+ghost use Rattle.std.specs.Prelude.{◌≡◌, ◌<◌, [], false, IfOk};
+ghost use Rattle.mg_feed.specs.GeneratorSeen.{making};
+ghost use Rattle.mg_answer.specs.Wrote.{Wrote};
+ghost use Rattle.mg_drive.specs.Code.InPieces.{end_of, AreToCome, WereMade, HaveComeInPieces, packets_left};
+
+use crate::onward::plain_onward;
+use crate::{Batch, Batches, Closing, Driven, Onward};
+use mg_answer::{Outcomes, Run, Status, conclude};
+use mg_calc::Plan;
+use mg_edge::{Sink, Source};
+use mg_feed::{BatchEnd, FeedEnd, Generator};
+use std::alloc::{AllocError, Global};
+
+// How many packets the nodes of a graph have together of a piece, where each hands all of it on. As a net holds a piece and not much more,
+// what it holds of all packets doesn't grow with their number, nor with the number of its nodes.
+const MOST_HELD: u32 = 1 << 16;
+
+/// Packets that are made piece by piece, each of which is a batch.
+#[derive(Drop)]
+pub struct Pieces {
+    generator: Generator,
+    // How many packets a piece has, but for the last one.
+    most: u32,
+    ghost some: { 0 < most },
+}
+
+impl Pieces {
+    /// So many packets for a plan, of which none is made yet.
+    pub fn new(alloc: Global, plan: &Plan, number: u32) -> Result<Pieces, AllocError>
+        ensures { IfOk result (λ pieces. AreToCome plan.now number (making pieces.generator)) }
+    {
+        let generator = Generator::new(alloc, plan, number)?;
+        let most = piece_for(plan);
+        Ok(Pieces { generator, most })
+    }
+}
+
+// How many packets a piece has for a plan. A graph without an input gets all of them at once, which are none.
+fn piece_for(plan: &Plan) -> u32
+    ensures { 0 < result }
+{
+    if plan.inputs.is_empty() {
+        return u32::MAX;
+    }
+    let nodes = plan.nodes.len().max(1);
+    (MOST_HELD / nodes).max(1)
+}
+
+// How a piece ends, of which this tells whether it is the last.
+fn end_by(ended: bool) -> BatchEnd
+    ensures { result ≡ end_of ended }
+{
+    if ended {
+        BatchEnd::End(FeedEnd::Ended)
+    } else {
+        BatchEnd::More
+    }
+}
+
+impl Batches for Pieces {
+    ghost is_fresh = { λ p plan. AreToCome plan (making p.generator).number (making p.generator) };
+
+    ghost gives = { λ began p plan first now end inputs. WereMade plan (making began.generator).number (making p.generator) end inputs };
+
+    ghost came = { λ began p plan first now end history. HaveComeInPieces plan (making began.generator).number (making p.generator) end history };
+
+    ghost is_due = { λ p plan so_far. Unit {0} };
+
+    ghost wants = { λ p. [] };
+
+    ghost reads_on = { λ p plan first at now. now ≡ at };
+
+    ghost left = { λ p. packets_left (making p.generator) };
+
+    ghost reads = { false };
+
+    ghost wrote = { λ p form report job end status output notes. Wrote (record { form = form; report = report }) job end status output notes };
+
+    fn next<S: Source>(&mut self, input: &mut S) -> Result<Batch, AllocError> {
+        let _ = input;
+        let inputs = self.generator.next_piece(self.most)?;
+        let end = end_by(inputs.ended);
+        Ok(Batch { end, inputs })
+    }
+
+    fn onward<N: Driven>(&mut self, last: BatchEnd, net: &N) -> Result<Onward, AllocError> {
+        let _ = net;
+        Ok(plain_onward(last))
+    }
+
+    fn conclude<K: Sink, E: Sink>(
+        &self,
+        run: &Run<'_>,
+        closing: Closing,
+        outcomes: Outcomes,
+        output: &mut K,
+        notes: &mut E,
+    ) -> Result<Status, AllocError> {
+        let status = conclude(run, closing.end, &outcomes, closing.text, output, notes)?;
+        Ok(status)
+    }
+}

@@ -1,0 +1,12 @@
+-- Packets that were made, some of which were handed on.
+use Rattle.std.specs.Prelude.{◌≡◌, ℕ, List, length}
+use Rattle.mg_value.specs.Payload.{Plain}
+use Rattle.mg_value.specs.Prefix.{Stamped}
+use Rattle.mg_feed.specs.View.{View}
+use Rattle.mg_feed.specs.Stands.{behind_all}
+use Rattle.mg_feed.specs.Generated.{generated_streams}
+
+-- with the packets that were handed on the streams are those of so many packets
+pub record AreMade (gone : List (List (Stamped Plain))) (number : ℕ) (v : View) : Type 0 where
+  pub count : length v.given.streams ≡ length v.graph.kinds
+  pub streams : behind_all gone v.given.streams ≡ generated_streams v.graph.kinds number

@@ -1,0 +1,7 @@
+-- What a `Generator` stands for.
+use Rattle.mg_feed.specs.Seen.{collected}
+use Rattle.mg_feed.specs.Pieces.{Making}
+use Rattle.mg_feed.specs.declared.generator.Generator.{Generator}
+
+abbrev pub making : Generator → Making
+making g = record { view = collected g.collected; number = g.number; made = g.made }

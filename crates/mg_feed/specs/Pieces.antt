@@ -1,0 +1,30 @@
+-- Packets that are made piece by piece.
+use Rattle.std.specs.Prelude.{◌≡◌, ◌≤◌, ℕ, Bool, map, length}
+use Rattle.mg_calc.specs.declared.inputs.Inputs.{Inputs}
+use Rattle.mg_feed.specs.Graph.{GraphInputs}
+use Rattle.mg_feed.specs.Given.{ended_streams}
+use Rattle.mg_feed.specs.View.{View, without_packets}
+use Rattle.mg_feed.specs.Stands.{behind_all, packets_of}
+use Rattle.mg_feed.specs.Generated.{generated_streams, generated_sides}
+
+-- what a generator has: what it made but for packets that it handed on, how many packets there are in all, and how many it made
+pub record Making : Type 0 where
+  pub view : View
+  pub number : ℕ
+  pub made : ℕ
+
+-- Of so many packets for a graph a generator made the first ones, and handed all of these on.
+pub record HasHandedOn (graph : GraphInputs) (number : ℕ) (m : Making) : Type 0 where
+  pub graph_is : m.view.graph ≡ graph
+  pub number_is : m.number ≡ number
+  pub few : m.made ≤ number
+  pub streams : m.view.given.streams ≡ map without_packets (generated_streams graph.kinds m.made)
+  pub sides : m.view.given.sides ≡ generated_sides (length graph.sides)
+
+-- A piece is what comes to a graph once `now` packets are made, where those of `before` came to it already: stream by stream the further
+-- packets, and the bound as it is now, or Done where the streams have ended. All side packets are in each piece.
+pub record IsPiece (graph : GraphInputs) (before now : ℕ) (ended : Bool) (piece : Inputs) : Type 0 where
+  pub many : length piece.streams ≡ length graph.kinds
+  pub streams : ended_streams ended (generated_streams graph.kinds now) ≡ behind_all (packets_of (generated_streams graph.kinds before)) piece.streams
+  pub sides : piece.sides ≡ generated_sides (length graph.sides)
+  pub ended_is : piece.ended ≡ ended

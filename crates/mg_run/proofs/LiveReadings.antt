@@ -1,0 +1,205 @@
+-- What follows of a run of a graph with free nodes as one thing, by its status.
+use Rattle.std.proofs.Common.{◌≡◌, ◌≢◌, ◌⊎◌, inl, inr, ℕ, Bool, List, [], ◌∷◌, ◌++◌, length, Option, None, Some, IfSome, refl, ap, subst}
+use Rattle.mg_edge.specs.Edge.{SourceTold, SinkTold}
+use Rattle.mg_calc.specs.declared.inputs.Inputs.{Inputs}
+use Rattle.mg_calc.specs.declared.plan.Plan.{Plan}
+use Rattle.mg_calc.specs.Told.{CalculatorTold}
+use Rattle.mg_free.specs.Core.{split_of}
+use Rattle.mg_feed.specs.Graph.{inputs_of}
+use Rattle.mg_feed.specs.Ran.{EndCame}
+use Rattle.mg_feed.specs.declared.feed_end.FeedEnd.{FeedEnd}
+use Rattle.mg_feed.specs.declared.feed_end.FeedEnd.TheVariants.{Ended}
+use Rattle.mg_answer.specs.Answer.{Form, packet_lines, totals, Read, Answer, output_in, ended_input, generated_job}
+use Rattle.mg_answer.specs.Devices as answers
+use Rattle.mg_answer.specs.Live.{live_answer, live_failed}
+use Rattle.mg_answer.specs.Notes.{memory_note}
+use Rattle.mg_answer.specs.Report.{open_numbers}
+use Rattle.mg_answer.specs.Wrote.{Meets, MetShort, WroteBy}
+use Rattle.mg_answer.specs.declared.live_outcomes.LiveOutcomes.{LiveOutcomes}
+use Rattle.mg_answer.specs.declared.status.Status.{Status}
+use Rattle.mg_answer.specs.declared.status.Status.TheVariants.{Good, StoreFault, Usage, GraphRefused, LineRefused, NodeFault, Stalled, ReadFault, WriteFault, OutOfMemory}
+use Rattle.mg_answer.proofs.Answering.{no-want, end-by, no-one, failed-by, steady-risen, rose-unrisen, whole-read}
+use Rattle.mg_drive.specs.InBatches.{come_after}
+use Rattle.mg_drive.specs.OneLive.{OneLive, OneLiveReading, OneLiveMade, AreBatchesOf, IsLiveAnswer, LiveShortIn, LiveShortInMade, RanLive, RanLiveMade, AnswersLive, AnswersLiveMade}
+use Rattle.mg_drive.proofs.Cuts.{some_cut}
+use Rattle.mg_run.specs.Devices.{Device, RunDevices, HasRisen, Noted}
+use Rattle.mg_run.specs.Call.{IsOneOf}
+use Rattle.mg_run.proofs.Readings.{no-status, no_memory}
+
+-- What was written --
+
+-- the answer was written, or a write failed
+either_wrote : (status : Status) (answer : Answer) (failed : List ℕ) (output notes : Device SinkTold) → WroteBy status answer failed output notes → Meets answer status output notes ⊎ ((status ≡ WriteFault) × MetShort answer failed output notes)
+either_wrote Good answer failed output notes wrote = inl wrote
+either_wrote StoreFault answer failed output notes wrote = inl wrote
+either_wrote Usage answer failed output notes wrote = inl wrote
+either_wrote GraphRefused answer failed output notes wrote = inl wrote
+either_wrote LineRefused answer failed output notes wrote = inl wrote
+either_wrote NodeFault answer failed output notes wrote = inl wrote
+either_wrote Stalled answer failed output notes wrote = inl wrote
+either_wrote ReadFault answer failed output notes wrote = inl wrote
+either_wrote WriteFault answer failed output notes wrote = inr (refl, wrote)
+either_wrote OutOfMemory answer failed output notes wrote = inl wrote
+
+-- of a run of a graph with free nodes
+abbrev Ended_so : Bool → Plan → FeedEnd → LiveOutcomes → List ℕ → Status → Device SinkTold → Device SinkTold → Type 0
+Ended_so report whole end live text status output notes =
+    Meets (live_answer report whole end live text) status output notes ⊎ ((status ≡ WriteFault) × MetShort (live_answer report whole end live text) (live_failed report whole end live) output notes)
+
+ended_so : (form : Form) (report : Bool) (whole : Plan) (first : Inputs) (later : List Inputs) (end : FeedEnd) (status : Status) (output notes : Device SinkTold) (boxes : Device (List CalculatorTold))
+    → (run : OneLive form report whole first later end status output notes boxes) → Ended_so report whole end run.comes.live (output_in form (split_of whole).core run.comes.streams) status output notes
+ended_so form report whole first later end status output notes boxes run =
+    either_wrote status (live_answer report whole end run.comes.live (output_in form (split_of whole).core run.comes.streams)) (live_failed report whole end run.comes.live) output notes run.wrote
+
+-- over an input, and over packets that are made
+read_so : (report : Bool) (whole : Plan) (status : Status) (all : RunDevices) (boxes : Device (List CalculatorTold)) → (one : OneLiveReading report whole status all boxes)
+    → Ended_so report whole one.read.end one.run.comes.live (output_in packet_lines (split_of whole).core one.run.comes.streams) status all.output all.notes
+read_so report whole status all boxes one = ended_so packet_lines report whole one.first one.later one.read.end status all.output all.notes boxes one.run
+
+made_so : (report : Bool) (whole : Plan) (number : ℕ) (status : Status) (output notes : Device SinkTold) (boxes : Device (List CalculatorTold)) → (one : OneLiveMade report whole number status output notes boxes)
+    → Ended_so report whole Ended one.comes.live (output_in totals (split_of whole).core one.comes.streams) status output notes
+made_so report whole number status output notes boxes one = ended_so totals report whole (generated_job whole number).inputs [] Ended status output notes boxes one
+
+-- Its status --
+
+not_failed : (status : Status) → (status ≡ StoreFault) ⊎ (status ≡ Usage) → status ≡ WriteFault → ⊥
+not_failed status (inl store) is = cc
+not_failed status (inr usage) is = cc
+
+no_other : (report : Bool) (whole : Plan) (end : FeedEnd) (live : LiveOutcomes) (text : List ℕ) (status : Status) (output notes : Device SinkTold) → (status ≡ StoreFault) ⊎ (status ≡ Usage) → Ended_so report whole end live text status output notes → ⊥
+no_other report whole end live text status output notes other (inl met) = no-status status end live.outcomes.faults (open_numbers live.outcomes.ends.items) other met.told
+no_other report whole end live text status output notes other (inr short) = not_failed status other short.0
+
+not_short : (status : Status) → (status ≡ StoreFault) ⊎ (status ≡ Usage) → status ≡ OutOfMemory → ⊥
+not_short status (inl store) is = cc
+not_short status (inr usage) is = cc
+
+pub live-no-other : (report : Bool) (whole : Plan) (status : Status) (all : RunDevices) (boxes : Device (List CalculatorTold)) → (status ≡ StoreFault) ⊎ (status ≡ Usage) → RanLive report whole status all boxes → ⊥
+live-no-other report whole status all boxes other (inl one) =
+    no_other report whole one.read.end one.run.comes.live (output_in packet_lines (split_of whole).core one.run.comes.streams) status all.output all.notes other (read_so report whole status all boxes one)
+live-no-other report whole status all boxes other (inr short) = not_short status other short.is
+
+pub live-made-no-other : (report : Bool) (whole : Plan) (number : ℕ) (status : Status) (output notes : Device SinkTold) (boxes : Device (List CalculatorTold)) → (status ≡ StoreFault) ⊎ (status ≡ Usage) → RanLiveMade report whole number status output notes boxes → ⊥
+live-made-no-other report whole number status output notes boxes other (inl one) =
+    no_other report whole Ended one.comes.live (output_in totals (split_of whole).core one.comes.streams) status output notes other (made_so report whole number status output notes boxes one)
+live-made-no-other report whole number status output notes boxes other (inr short) = not_short status other short.is
+
+-- Where memory ran out the notes say so.
+pub live-noted : (report : Bool) (whole : Plan) (all : RunDevices) (boxes : Device (List CalculatorTold)) → RanLive report whole OutOfMemory all boxes → Noted all.notes memory_note
+live-noted report whole all boxes (inr short) = short.noted
+live-noted report whole all boxes (inl one) = absurd (by (read_so report whole OutOfMemory all boxes one))
+  where
+    by : Ended_so report whole one.read.end one.run.comes.live (output_in packet_lines (split_of whole).core one.run.comes.streams) OutOfMemory all.output all.notes → ⊥
+    by (inl met) = no-want whole all.input one.read.end one.run.comes.live.outcomes.faults (open_numbers one.run.comes.live.outcomes.ends.items) one.came.came one.read one.came.by met.told
+    by (inr short) = let e = short.0 in cc
+
+pub live-made-noted : (report : Bool) (whole : Plan) (number : ℕ) (output notes : Device SinkTold) (boxes : Device (List CalculatorTold)) → RanLiveMade report whole number OutOfMemory output notes boxes → Noted notes memory_note
+live-made-noted report whole number output notes boxes (inr short) = short.noted
+live-made-noted report whole number output notes boxes (inl one) = absurd (by (made_so report whole number OutOfMemory output notes boxes one))
+  where
+    by : Ended_so report whole Ended one.comes.live (output_in totals (split_of whole).core one.comes.streams) OutOfMemory output notes → ⊥
+    by (inl met) = no_memory one.comes.live.outcomes.faults (open_numbers one.comes.live.outcomes.ends.items) met.told
+    by (inr short) = let e = short.0 in cc
+
+-- The calculators --
+
+short_count : (whole : Plan) (input : Device SourceTold) (output : Device SinkTold) (boxes : Device (List CalculatorTold)) → LiveShortIn whole input output boxes → length boxes.now ≡ length boxes.before
+short_count whole input output boxes (inl short) = ap length short.nothing.uncalled
+short_count whole input output boxes (inr (inl short)) = short.short.had.back.count
+short_count whole input output boxes (inr (inr short)) =
+    let read = ended_input (inputs_of whole) (short.first ++ []) in
+    let cut = some_cut read.lines in
+    (short.short [] (λ ended. refl) (come_after (inputs_of whole) read.end [] cut.0) (record { lines = cut.0; in_batches = cut.1; are = refl })).had.back.count
+
+pub live-boxes : (report : Bool) (whole : Plan) (status : Status) (all : RunDevices) (boxes : Device (List CalculatorTold)) → RanLive report whole status all boxes → length boxes.now ≡ length boxes.before
+live-boxes report whole status all boxes (inl one) = one.run.had.back.count
+live-boxes report whole status all boxes (inr short) = short_count whole all.input all.output boxes short.by
+
+made_count : (whole : Plan) (number : ℕ) (output : Device SinkTold) (boxes : Device (List CalculatorTold)) → LiveShortInMade whole number output boxes → length boxes.now ≡ length boxes.before
+made_count whole number output boxes (inl nothing) = ap length nothing.uncalled
+made_count whole number output boxes (inr short) = short.had.back.count
+
+pub live-made-boxes : (report : Bool) (whole : Plan) (number : ℕ) (status : Status) (output notes : Device SinkTold) (boxes : Device (List CalculatorTold)) → RanLiveMade report whole number status output notes boxes → length boxes.now ≡ length boxes.before
+live-made-boxes report whole number status output notes boxes (inl one) = one.had.back.count
+live-made-boxes report whole number status output notes boxes (inr short) = made_count whole number output boxes short.by
+
+-- The answer, the input's end and faults --
+
+no_short : (answer : Answer) (failed : List ℕ) (output notes : Device SinkTold) → MetShort answer failed output notes → answers.Unrisen output.before.faults output.now.faults → answers.Unrisen notes.before.faults notes.now.faults → ⊥
+no_short answer failed output notes short one two = elim short.rose [ inl rose ↦ rose-unrisen _ _ rose one | inr rose ↦ rose-unrisen _ _ rose two ]
+
+met_then : (report : Bool) (whole : Plan) (end : FeedEnd) (live : LiveOutcomes) (text : List ℕ) (status : Status) (output notes : Device SinkTold) → answers.Unrisen output.before.faults output.now.faults → answers.Unrisen notes.before.faults notes.now.faults
+    → Ended_so report whole end live text status output notes → Meets (live_answer report whole end live text) status output notes
+met_then report whole end live text status output notes one two (inl met) = met
+met_then report whole end live text status output notes one two (inr short) = absurd (no_short (live_answer report whole end live text) (live_failed report whole end live) output notes short.1 one two)
+
+abbrev MetLive : Bool → Plan → Status → RunDevices → List ℕ → Type 0
+MetLive report whole status all bytes = (answer : Answer) × AnswersLive report whole bytes answer × Meets answer status all.output all.notes
+
+pub live-answered : (report : Bool) (whole : Plan) (status : Status) (all : RunDevices) (boxes : Device (List CalculatorTold)) → RanLive report whole status all boxes → answers.NoneFailed all → status ≢ OutOfMemory
+    → IfSome all.input.before.left (MetLive report whole status all)
+live-answered report whole status all boxes (inr short) none some = absurd (some short.is)
+live-answered report whole status all boxes (inl one) none some = by all.input.before.left refl
+  where
+    by : (o : Option (List ℕ)) → all.input.before.left ≡ o → IfSome o (MetLive report whole status all)
+    by None is = tt
+    by (Some bytes) is =
+        let same = whole-read (inputs_of whole) all.input one.read bytes one.came is none.input in
+        let text = output_in packet_lines (split_of whole).core one.run.comes.streams in
+        let answer = live_answer report whole one.read.end one.run.comes.live text in (
+          answer,
+          record {
+            first = one.first;
+            later = one.later;
+            batches = subst (λ (r : Read). AreBatchesOf whole r (one.first ∷ one.later)) same one.batches;
+            answers = subst (λ (r : Read). IsLiveAnswer packet_lines report whole one.first one.later r.end answer) same (record { comes = one.run.comes; is = refl });
+          },
+          met_then report whole one.read.end one.run.comes.live text status all.output all.notes none.output none.notes (read_so report whole status all boxes one),
+        )
+
+pub live-made-answered : (report : Bool) (whole : Plan) (number : ℕ) (status : Status) (all : RunDevices) (boxes : Device (List CalculatorTold)) → RanLiveMade report whole number status all.output all.notes boxes → answers.NoneFailed all → status ≢ OutOfMemory
+    → (answer : Answer) × AnswersLiveMade report whole number answer × Meets answer status all.output all.notes
+live-made-answered report whole number status all boxes (inr short) none some = absurd (some short.is)
+live-made-answered report whole number status all boxes (inl one) none some =
+    let text = output_in totals (split_of whole).core one.comes.streams in (
+      live_answer report whole Ended one.comes.live text,
+      record { comes = one.comes; is = refl },
+      met_then report whole Ended one.comes.live text status all.output all.notes none.output none.notes (made_so report whole number status all.output all.notes boxes one),
+    )
+
+pub live-ended : (report : Bool) (whole : Plan) (status : Status) (all : RunDevices) (boxes : Device (List CalculatorTold)) → RanLive report whole status all boxes → (status ≡ OutOfMemory → IsOneOf status (Good ∷ NodeFault ∷ Stalled ∷ []) → ⊥)
+    → IsOneOf status (Good ∷ NodeFault ∷ Stalled ∷ []) → EndCame all.input.before all.input.now
+live-ended report whole status all boxes (inr out) short one_of = absurd (short out.is one_of)
+live-ended report whole status all boxes (inl one) short one_of = by (read_so report whole status all boxes one)
+  where
+    by : Ended_so report whole one.read.end one.run.comes.live (output_in packet_lines (split_of whole).core one.run.comes.streams) status all.output all.notes → EndCame all.input.before all.input.now
+    by (inl met) = end-by one.read.end status one.run.comes.live.outcomes.faults (open_numbers one.run.comes.live.outcomes.ends.items) (inputs_of whole) all.input one.came.came one.read met.told one_of one.came.by
+    by (inr failed) = absurd (no-one status (inl failed.0) one_of)
+
+pub live-read-risen : (report : Bool) (whole : Plan) (status : Status) (all : RunDevices) (boxes : Device (List CalculatorTold)) → RanLive report whole status all boxes → HasRisen all.input.before.faults all.input.now.faults
+    → IsOneOf status (ReadFault ∷ WriteFault ∷ OutOfMemory ∷ [])
+live-read-risen report whole status all boxes (inr short) risen = inr (inr (inl short.is))
+live-read-risen report whole status all boxes (inl one) risen = by (read_so report whole status all boxes one)
+  where
+    by : Ended_so report whole one.read.end one.run.comes.live (output_in packet_lines (split_of whole).core one.run.comes.streams) status all.output all.notes → IsOneOf status (ReadFault ∷ WriteFault ∷ OutOfMemory ∷ [])
+    by (inl met) = failed-by one.read.end status one.run.comes.live.outcomes.faults (open_numbers one.run.comes.live.outcomes.ends.items) all.input.before all.input.now (inputs_of whole) all.input one.came.came one.read met.told one.came.faults one.came.by risen
+    by (inr failed) = inr (inl failed.0)
+
+abbrev EitherRisen : RunDevices → Type 0
+EitherRisen all = HasRisen all.output.before.faults all.output.now.faults ⊎ HasRisen all.notes.before.faults all.notes.now.faults
+
+write_so : (report : Bool) (whole : Plan) (end : FeedEnd) (live : LiveOutcomes) (text : List ℕ) (status : Status) (all : RunDevices) → EitherRisen all → Ended_so report whole end live text status all.output all.notes → IsOneOf status (WriteFault ∷ OutOfMemory ∷ [])
+write_so report whole end live text status all (inl risen) (inl met) = absurd (steady-risen _ _ met.text.steady risen)
+write_so report whole end live text status all (inr risen) (inl met) = absurd (steady-risen _ _ met.noted.steady risen)
+write_so report whole end live text status all risen (inr failed) = inl failed.0
+
+pub live-write-risen : (report : Bool) (whole : Plan) (status : Status) (all : RunDevices) (boxes : Device (List CalculatorTold)) → RanLive report whole status all boxes → EitherRisen all → IsOneOf status (WriteFault ∷ OutOfMemory ∷ [])
+live-write-risen report whole status all boxes (inl one) risen =
+    write_so report whole one.read.end one.run.comes.live (output_in packet_lines (split_of whole).core one.run.comes.streams) status all risen (read_so report whole status all boxes one)
+live-write-risen report whole status all boxes (inr short) risen = inr (inl short.is)
+
+pub live-made-write-risen : (report : Bool) (whole : Plan) (number : ℕ) (status : Status) (all : RunDevices) (boxes : Device (List CalculatorTold)) → RanLiveMade report whole number status all.output all.notes boxes → EitherRisen all
+    → IsOneOf status (WriteFault ∷ OutOfMemory ∷ [])
+live-made-write-risen report whole number status all boxes (inl one) risen =
+    write_so report whole Ended one.comes.live (output_in totals (split_of whole).core one.comes.streams) status all risen (made_so report whole number status all.output all.notes boxes one)
+live-made-write-risen report whole number status all boxes (inr short) risen = inr (inl short.is)
