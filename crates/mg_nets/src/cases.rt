@@ -6,22 +6,23 @@ use crate::graphs::{
 
 /// A graph over packet lines.
 #[derive(Clone, Copy)]
-pub struct Case {
-    pub graph: &'static str,
-    pub lines: &'static str,
+pub struct Case<'a> {
+    pub graph: &'a str,
+    pub lines: &'a str,
     /// The limit of the queues under which it is tried.
     pub limit: i32,
-    /// What comes out of it at rest, as `come_out` shows it: one of these.
-    pub wanted: &'static str,
+    /// What comes out of it at rest, as `come_out` shows it: one of these lines. A line may have `..` in place of the sets, whatever
+    /// they are.
+    pub wanted: &'a str,
     /// The calls of the two calculators that come back at its end.
-    pub calls: &'static str,
+    pub calls: &'a str,
 }
 
 /// How many cases there are.
 pub const CASES: u32 = 9;
 
 /// The case of a number.
-pub fn case_of(number: u32) -> Case {
+pub fn case_of(number: u32) -> Case<'static> {
     match number {
         0 => passed(),
         1 => merged(),
@@ -35,13 +36,43 @@ pub fn case_of(number: u32) -> Case {
     }
 }
 
-/// Whether something is one of what is wanted.
-pub fn is_wanted(case: &Case, shown: &str) -> bool {
-    case.wanted.split('\n').any(|one| one == shown)
+/// A case under another limit.
+pub fn under(case: Case<'_>, limit: i32) -> Case<'_> {
+    Case {
+        graph: case.graph,
+        lines: case.lines,
+        limit,
+        wanted: case.wanted,
+        calls: case.calls,
+    }
+}
+
+// What a line says behind the sets.
+fn behind_sets(line: &str) -> &str {
+    match line.split_once('|') {
+        Some((_, behind)) => behind,
+        None => "",
+    }
+}
+
+// Whether a line is what is wanted.
+fn is_line(wanted: &str, shown: &str) -> bool {
+    if wanted == shown {
+        return true;
+    }
+    match wanted.split_once('|') {
+        Some(("..", behind)) => behind == behind_sets(shown),
+        _ => false,
+    }
+}
+
+/// Whether what comes out of a case is wanted.
+pub(crate) fn is_wanted(case: &Case, shown: &str) -> bool {
+    case.wanted.split('\n').any(|line| is_line(line, shown))
 }
 
 // The packet is laid and taken, and all are closed.
-fn passed() -> Case {
+fn passed() -> Case<'static> {
     Case {
         graph: passing(),
         lines: r#"{"stream":"in","ts":5,"value":7}"#,
@@ -52,7 +83,7 @@ fn passed() -> Case {
 }
 
 // The packets at 10 are one set, and the first one goes on. All that is laid is claimed or taken, so nothing is left.
-fn merged() -> Case {
+fn merged() -> Case<'static> {
     Case {
         graph: merging(),
         lines: r#"{"at":10,"packets":{"a":1,"b":5}}
@@ -66,7 +97,7 @@ fn merged() -> Case {
 
 // The second choice is of no stream, and its node stops at it, with its output raised to its time. The first choice waits for the
 // packets of b, and with the second one all go that have come. Where those of a come only then, both wait there in vain.
-fn chosen() -> Case {
+fn chosen() -> Case<'static> {
     Case {
         graph: choosing(),
         lines: r#"{"at":10,"packets":{"a":1,"b":2,"sel":1}}
@@ -79,7 +110,7 @@ fn chosen() -> Case {
 }
 
 /// Of three answers the first is nothing. The last sum waits at LOOP: it would answer a packet behind 30.
-pub fn summed() -> Case {
+pub fn summed() -> Case<'static> {
     Case {
         graph: summing(),
         lines: one_two_three(),
@@ -90,7 +121,7 @@ pub fn summed() -> Case {
 }
 
 // The first sum is odd and doesn't come back, so the packets at 20 and 30 wait at MAIN and at the sum, which has come to 20.
-fn stalled() -> Case {
+fn stalled() -> Case<'static> {
     Case {
         graph: stalling(),
         lines: one_two_three(),
@@ -101,7 +132,7 @@ fn stalled() -> Case {
 }
 
 /// None of three packets passes the filter.
-pub fn throttled() -> Case {
+pub fn throttled() -> Case<'static> {
     Case {
         graph: throttling(),
         lines: "",
@@ -111,8 +142,8 @@ pub fn throttled() -> Case {
     }
 }
 
-// Each packet is ten more.
-fn added() -> Case {
+/// Each packet is ten more.
+pub fn added() -> Case<'static> {
     Case {
         graph: adding(),
         lines: r#"{"stream":"in","ts":1,"value":5}
@@ -124,7 +155,7 @@ fn added() -> Case {
 }
 
 // The first calculator is shown all three packets, the other the even one.
-fn counted() -> Case {
+fn counted() -> Case<'static> {
     Case {
         graph: counting(),
         lines: one_two_three(),
@@ -135,7 +166,7 @@ fn counted() -> Case {
 }
 
 // A calculator that is handed in is shown both packets.
-fn tallied() -> Case {
+fn tallied() -> Case<'static> {
     Case {
         graph: tallying(),
         lines: r#"{"stream":"in","ts":1,"value":"a"}

@@ -48,8 +48,25 @@ fn begun(alloc: Global, plan: &Plan, inputs: &Inputs) -> Result<Net<LawBox>, Fai
     ensures { IfOk result (λ n. IsDriven plan.now inputs.now n) }
 {
     let mut net = net_of(alloc, plan, inputs)?;
-    net.begin()?;
-    Ok(net)
+    match net.begin() {
+        Ok(()) => Ok(net),
+        Err(_) => {
+            drop(net);
+            Err(Fail::from("no memory"))
+        }
+    }
+}
+
+// The net of a plan over inputs that perhaps don't fit it.
+fn net_over(alloc: Global, plan: &Plan, inputs: &Inputs) -> Result<Net<LawBox>, Fail>
+    requires valid { IsValid plan.now }
+    requires fit { OutersFit plan.now two_outers }
+    ensures { IfOk result (λ n. IsDriven plan.now inputs.now n) }
+{
+    if !do_fit(plan, inputs) {
+        return Err(Fail::from("inputs don't fit"));
+    }
+    begun(alloc, plan, inputs)
 }
 
 /// The net of a plan over inputs, with its nodes begun.
@@ -58,11 +75,14 @@ pub fn driver_over(alloc: Global, plan: Plan, inputs: Inputs) -> Result<Driver, 
     requires fit { OutersFit plan two_outers }
     ensures { IfOk result (λ d. IsDriven d.plan d.inputs d.net) }
 {
-    if !do_fit(&plan, &inputs) {
-        return Err(Fail::from("inputs don't fit"));
+    match net_over(alloc, &plan, &inputs) {
+        Ok(net) => Ok(Driver { plan, inputs, net }),
+        Err(fail) => {
+            drop(plan);
+            drop(inputs);
+            Err(fail)
+        }
     }
-    let net = begun(alloc, &plan, &inputs)?;
-    Ok(Driver { plan, inputs, net })
 }
 
 /// The net of a graph over packet lines, with its nodes begun.
@@ -70,8 +90,18 @@ pub fn driver_of(alloc: Global, graph: &str, lines: &str) -> Result<Driver, Fail
     ensures { IfOk result (λ d. IsDriven d.plan d.inputs d.net) }
 {
     let plan = plan_of(alloc, graph)?;
-    let inputs = inputs_of(alloc, &plan, lines, true)?;
-    driver_over(alloc, plan, inputs)
+    match inputs_of(alloc, &plan, lines, true) {
+        Ok(inputs) => driver_over(alloc, plan, inputs),
+        Err(fail) => {
+            drop(plan);
+            Err(fail)
+        }
+    }
+}
+
+/// Lets a net go.
+pub fn let_go(driver: Driver) {
+    drop(driver);
 }
 
 // Whether an event's node or edge is of a plan.
@@ -140,12 +170,9 @@ pub(crate) fn report(alloc: Global, driver: &Driver) -> Result<Report, Fail> {
     Ok(driver.net.report(alloc)?)
 }
 
-/// Winds the net up: how far it has come then, and the calculators that were handed in.
-pub(crate) fn end(alloc: Global, driver: Driver) -> Result<(Report, Vec<LawBox>), Fail>
-    requires { IsDriven driver.plan driver.inputs driver.net }
+/// Winds the net up.
+pub(crate) fn wind_up(driver: &mut Driver) -> Result<(), Fail>
+    requires { IsDriven driver.old.plan driver.old.inputs driver.old.net }
 {
-    let Driver { mut net, .. } = driver;
-    net.wind_up()?;
-    let report = net.report(alloc)?;
-    Ok((report, net.give_back()))
+    Ok(driver.net.wind_up()?)
 }

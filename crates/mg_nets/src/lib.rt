@@ -1,5 +1,6 @@
 //! What the crates of tests share that drive whole nets: a net with its plan and its inputs, two calculators that are handed in, what
-//! comes out of it, graphs with what they come to, and graphs at random. Answers to `specs/Driven.antt`.
+//! comes out of it, graphs with what they come to, graphs at random, and what owns a net while a way of the tests drives it. Answers
+//! to `specs/Driven.antt`.
 #![tactic(auto)]
 
 mod boxes;
@@ -11,12 +12,14 @@ mod outcome;
 mod plans;
 mod seeds;
 mod shown;
+mod ways;
 
-pub use cases::{CASES, Case, case_of, is_wanted, summed, throttled};
+pub use cases::{CASES, Case, added, case_of, summed, throttled, under};
 pub use chance::Chance;
-pub use driver::{Driver, act, driver_of, driver_over, held, sweep, trim};
+pub use driver::{Driver, act, driver_of, driver_over, held, let_go, sweep, trim};
 pub use graphs::{adding, counting, limited, merging, passing, stalling, summing};
-pub use outcome::{all_taken, come_out, ended, told};
+pub use outcome::{all_taken, told};
 pub use plans::plan_of;
-pub use seeds::{Drawn, draw_graph};
+pub use seeds::{Drawn, draw_graph, drawn_case};
 pub use shown::{show_packets, show_report};
+pub use ways::{Way, driven, driver_under, expect, swept};

@@ -1,7 +1,7 @@
 //! What comes out of a net, what it tells, and what it gives back at its end.
 ghost use Rattle.mg_nets.specs.Driven.{IsDriven};
 
-use crate::driver::{Driver, end, held, report, take_out, trim};
+use crate::driver::{Driver, held, report, take_out, trim, wind_up};
 use crate::shown::{show_boxes, show_report};
 use mg_tables::show_set_at;
 use std::alloc::Global;
@@ -13,7 +13,7 @@ pub fn all_taken(alloc: Global, driver: &mut Driver) -> Result<String, Fail>
     ensures { IsDriven driver.new.plan driver.new.inputs driver.new.net }
 {
     let mut shown = String::new(alloc);
-    for _ in 0..1000u32 {
+    for _ in 0..2000u32 {
         let Some(set) = take_out(alloc, driver)? else {
             return Ok(shown);
         };
@@ -40,12 +40,38 @@ pub fn come_out(alloc: Global, driver: &mut Driver) -> Result<String, Fail>
     Ok(format!(in alloc; "{}| {held} | {}", sets.as_str(), told.as_str())?)
 }
 
+// What a net tells once it is wound up.
+fn told_wound_up(alloc: Global, driver: &mut Driver) -> Result<String, Fail>
+    requires { IsDriven driver.old.plan driver.old.inputs driver.old.net }
+{
+    wind_up(driver)?;
+    told(alloc, driver)
+}
+
+// The calls of the calculators that a net gives back.
+fn given_back(alloc: Global, driver: Driver) -> Result<String, Fail> {
+    let Driver { plan, inputs, net } = driver;
+    drop(plan);
+    drop(inputs);
+    let boxes = net.give_back();
+    let calls = show_boxes(alloc, boxes.as_slice());
+    drop(boxes);
+    calls
+}
+
 /// What a net tells once it is wound up, and the calls of the calculators that come back.
-pub fn ended(alloc: Global, driver: Driver) -> Result<(String, String), Fail>
+pub(crate) fn ended(alloc: Global, driver: Driver) -> Result<(String, String), Fail>
     requires { IsDriven driver.plan driver.inputs driver.net }
 {
-    let (report, boxes) = end(alloc, driver)?;
-    let report = show_report(alloc, &report)?;
-    let boxes = show_boxes(alloc, boxes.as_slice())?;
-    Ok((report, boxes))
+    let mut driver = driver;
+    match told_wound_up(alloc, &mut driver) {
+        Ok(told) => {
+            let calls = given_back(alloc, driver)?;
+            Ok((told, calls))
+        }
+        Err(fail) => {
+            drop(driver);
+            Err(fail)
+        }
+    }
 }

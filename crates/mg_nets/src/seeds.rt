@@ -1,5 +1,6 @@
 //! Graphs at random: a stream that is handed in, or a source, or both, and behind them nodes, each of which reads streams that stand
 //! before it. The last stream is the graph's output. No loop goes round, and no node fails.
+use crate::cases::Case;
 use crate::chance::Chance;
 use std::alloc::Global;
 use std::test::Fail;
@@ -110,4 +111,15 @@ pub fn draw_graph(alloc: Global, seed: u64) -> Result<Drawn, Fail> {
     let last = end.saturating_sub(1);
     write!(drawn.graph, "output_stream: \"s{last}\"\n")?;
     Ok(drawn)
+}
+
+/// The case of a graph that was drawn, of which this is wanted.
+pub fn drawn_case<'a>(drawn: &'a Drawn, wanted: &'a str) -> Case<'a> {
+    Case {
+        graph: drawn.graph.as_str(),
+        lines: drawn.lines.as_str(),
+        limit: 100,
+        wanted,
+        calls: ";;",
+    }
 }

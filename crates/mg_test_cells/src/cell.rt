@@ -1,16 +1,17 @@
 //! The cell of a plan's first node, and how it is made.
-ghost use Rattle.std.specs.Prelude.{◌≡◌, ◌<◌, ◌≤◌, length, slice_get, Some, None, IfOk, OnOk, [], true};
+ghost use Rattle.std.specs.Prelude.{◌≡◌, ◌<◌, ◌≤◌, length, slice_get, Some, None, IfOk, OnOk, [], true, All};
 ghost use Rattle.mg_calc.specs.Shape.{IsOuter, IsServed, ParametersFit, IsShapeOf};
 ghost use Rattle.mg_calc.specs.Plan.{IsValid, InputsFit};
 ghost use Rattle.mg_calc.specs.Equations.{IsJob};
 ghost use Rattle.mg_calc.specs.declared.plan_node.PlanNode.{PlanNode};
+ghost use Rattle.mg_check.specs.Check.{IsOuterShape};
 ghost use Rattle.mg_node.specs.Fresh.{fresh_engine};
 ghost use Rattle.mg_node.specs.Lawful.{LawfulEngine, LawfulIntake, of_node};
 ghost use Rattle.mg_test_cells.specs.Cell.{IsCell, KeepsAll, job_of, held_of};
 
 use mg_calc::{GivenList, Inputs, Law, OuterShape, Plan, PlanNode, TryClone};
 use mg_node::{Engine, Intake};
-use mg_plans::do_fit;
+use mg_plans::{do_fit, inputs_of, plan_of};
 use mg_route::{Builtin, Holder, LawBox};
 use std::alloc::Global;
 use std::test::Fail;
@@ -84,11 +85,11 @@ fn unbegun(alloc: Global, plan: &Plan) -> Result<Engine<LawBox>, Fail>
     ensures fresh { IfOk result (λ e. (node : PlanNode) → slice_get plan.now.nodes 0 ≡ Some node → (node.sides ≡ []) × (e ≡ fresh_engine node 0 (held_of node))) }
     ensures there { OnOk result (0 < length plan.now.nodes) }
 {
-    let holder = holder_of(alloc, plan)?;
     let node = plan.nodes.get(0).ok_or("no node")?;
     if !node.sides.is_empty() {
         return Err(Fail::from("a node with side packets"));
     }
+    let holder = holder_of(alloc, plan)?;
     match Engine::new(alloc, plan, 0, holder) {
         Ok(engine) => Ok(engine),
         Err(_) => Err(Fail::from("no memory")),
@@ -109,10 +110,15 @@ fn engine_of(alloc: Global, plan: &Plan, inputs: &Inputs) -> Result<Engine<LawBo
     ensures none { IfOk result (λ e. e.claimed ≡ 0) }
     ensures keeps { IfOk result (λ e. KeepsAll e) }
 {
-    let mut engine = unbegun(alloc, plan)?;
     let sides = no_sides(alloc)?;
-    engine.begin(&sides)?;
-    Ok(engine)
+    let mut engine = unbegun(alloc, plan)?;
+    match engine.begin(&sides) {
+        Ok(()) => Ok(engine),
+        Err(_) => {
+            drop(engine);
+            Err(Fail::from("no memory"))
+        }
+    }
 }
 
 // The intake of a consumer, to which nothing came.
@@ -125,22 +131,116 @@ fn intake_of(alloc: Global, plan: &Plan, inputs: &Inputs, consumer: u32) -> Resu
     Ok(Intake::new(alloc, plan, consumer)?)
 }
 
-/// The cell of a plan's first node, which is begun, and to which nothing came.
-pub(crate) fn cell_of(alloc: Global, plan: Plan, inputs: Inputs) -> Result<Cell, Fail>
+// What waits at the first node of a plan, and at the collector: nothing.
+fn intakes_of(alloc: Global, plan: &Plan, inputs: &Inputs) -> Result<(Intake, Intake), Fail>
+    requires { IsJob (record { plan = plan.now; inputs = inputs.now }) }
+    ensures lawful { IfOk result (λ i. LawfulIntake (job_of plan.now inputs.now) 0 i.0) }
+    ensures none { IfOk result (λ i. i.0.claimed ≡ 0) }
+    ensures sink { IfOk result (λ i. LawfulIntake (job_of plan.now inputs.now) (length plan.now.nodes) i.1) }
+{
+    let intake = intake_of(alloc, plan, inputs, 0)?;
+    match intake_of(alloc, plan, inputs, plan.nodes.len()) {
+        Ok(sink) => Ok((intake, sink)),
+        Err(fail) => {
+            drop(intake);
+            Err(fail)
+        }
+    }
+}
+
+// The parts of a cell.
+fn parts_of(
+    alloc: Global,
+    plan: &Plan,
+    inputs: &Inputs,
+) -> Result<(Engine<LawBox>, Intake, Intake), Fail>
+    requires { IsValid plan.now }
+    ensures { IfOk result (λ p. IsCell plan.now inputs.now p.0 p.1 p.2) }
+{
+    if !do_fit(plan, inputs) {
+        return Err(Fail::from("inputs don't fit"));
+    }
+    let engine = engine_of(alloc, plan, inputs)?;
+    match intakes_of(alloc, plan, inputs) {
+        Ok((intake, sink)) => Ok((engine, intake, sink)),
+        Err(fail) => {
+            drop(engine);
+            Err(fail)
+        }
+    }
+}
+
+// The cell of a plan's first node, which is begun, and to which nothing came.
+fn cell_over(alloc: Global, plan: Plan, inputs: Inputs) -> Result<Cell, Fail>
     requires { IsValid plan }
     ensures { IfOk result (λ c. IsCell c.plan c.inputs c.engine c.intake c.sink) }
 {
-    if !do_fit(&plan, &inputs) {
-        return Err(Fail::from("inputs don't fit"));
+    match parts_of(alloc, &plan, &inputs) {
+        Ok((engine, intake, sink)) => Ok(Cell {
+            plan,
+            inputs,
+            engine,
+            intake,
+            sink,
+        }),
+        Err(fail) => {
+            drop(plan);
+            drop(inputs);
+            Err(fail)
+        }
     }
-    let engine = engine_of(alloc, &plan, &inputs)?;
-    let intake = intake_of(alloc, &plan, &inputs, 0)?;
-    let sink = intake_of(alloc, &plan, &inputs, plan.nodes.len())?;
-    Ok(Cell {
+}
+
+/// A graph over packet lines, which are the whole input or the first ones of it.
+#[derive(Clone, Copy)]
+pub(crate) struct Given {
+    pub(crate) graph: &'static str,
+    pub(crate) lines: &'static str,
+    pub(crate) ended: bool,
+}
+
+/// The cell of a graph's first node.
+pub(crate) fn cell_of(alloc: Global, given: Given, outers: &[OuterShape]) -> Result<Cell, Fail>
+    requires { All IsOuterShape outers.now }
+    ensures { IfOk result (λ c. IsCell c.plan c.inputs c.engine c.intake c.sink) }
+{
+    let plan = plan_of(alloc, given.graph, outers)?;
+    match inputs_of(alloc, &plan, given.lines, given.ended) {
+        Ok(inputs) => cell_over(alloc, plan, inputs),
+        Err(fail) => {
+            drop(plan);
+            Err(fail)
+        }
+    }
+}
+
+/// The cell of a graph's first node, for which no calculator is handed in.
+pub(crate) fn own_cell(alloc: Global, given: Given) -> Result<Cell, Fail>
+    ensures { IfOk result (λ c. IsCell c.plan c.inputs c.engine c.intake c.sink) }
+{
+    let outers: &[OuterShape] = &[];
+    let cell = cell_of(alloc, given, outers)?;
+    Ok(cell)
+}
+
+/// Lets a cell go, and tells whether a calculator that was handed in comes back.
+pub(crate) fn gives_back(cell: Cell) -> bool {
+    let Cell {
         plan,
         inputs,
         engine,
         intake,
         sink,
-    })
+    } = cell;
+    drop(plan);
+    drop(inputs);
+    drop(intake);
+    drop(sink);
+    match engine.into_calculator() {
+        Some(calculator) => {
+            drop(calculator);
+            true
+        }
+        None => false,
+    }
 }

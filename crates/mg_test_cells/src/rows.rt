@@ -9,17 +9,16 @@
 //! - `take` takes a set of the collector: each packet as its number, `@` and its timestamp.
 //! - `laid` tells how many sets or calls were laid; `output NUMBER` how many packets an output has, and its bound; `held` how many wait at
 //!   all ports and all outputs; `fault` the node's fault.
-ghost use Rattle.std.specs.Prelude.{OnOk};
+ghost use Rattle.std.specs.Prelude.{IfOk, OnOk};
 ghost use Rattle.mg_test_cells.specs.Cell.{IsCell};
 
-use crate::cell::Cell;
+use crate::cell::{Cell, gives_back};
 use crate::shown::{show_delivered, show_fault};
 use crate::sink::take_out;
 use crate::streams::{deliver, deliver_out};
 use crate::works::{advance, commit, commit_unrun, shelve_unrun, work};
 use mg_tables::{show_set_at, text_of};
 use std::alloc::Global;
-use std::process::Abort;
 use std::test::Fail;
 
 // How many packets an output has, and its bound.
@@ -81,8 +80,8 @@ fn taken(alloc: Global, cell: &mut Cell) -> Result<String, Fail>
     }
 }
 
-/// What a row's call answers.
-pub(crate) fn answer(alloc: Global, cell: &mut Cell, call: &str) -> Result<String, Fail>
+// What a row's call answers.
+fn answer(alloc: Global, cell: &mut Cell, call: &str) -> Result<String, Fail>
     requires { IsCell cell.old.plan cell.old.inputs cell.old.engine cell.old.intake cell.old.sink }
     ensures { OnOk result (IsCell cell.new.plan cell.new.inputs cell.new.engine cell.new.intake cell.new.sink) }
 {
@@ -100,19 +99,48 @@ pub(crate) fn answer(alloc: Global, cell: &mut Cell, call: &str) -> Result<Strin
     }
 }
 
-/// Makes the call of each row, and compares what it answers with what the row wants.
-pub(crate) fn assert_rows(
-    rt: &impl Abort,
-    alloc: Global,
-    cell: &mut Cell,
-    rows: &str,
-) -> Result<(), Fail>
+// Makes the call of each row, and compares what it answers with what the row wants.
+fn answered(alloc: Global, cell: &mut Cell, rows: &str) -> Result<(), Fail>
     requires { IsCell cell.old.plan cell.old.inputs cell.old.engine cell.old.intake cell.old.sink }
+    ensures { OnOk result (IsCell cell.new.plan cell.new.inputs cell.new.engine cell.new.intake cell.new.sink) }
 {
     for row in rows.split('\n') {
         let (call, wanted) = row.split_once('=').ok_or("no `=`")?;
         let answer = answer(alloc, cell, call)?;
-        assert!(rt; answer.as_str() == wanted, "{row}: {answer}");
+        if answer.as_str() != wanted {
+            return Err(Fail::new(format_args!("{row}: {answer}")));
+        }
     }
     Ok(())
+}
+
+/// A cell that answers each row's call with what the row wants. It takes no handle, so that any thread may run it.
+pub(crate) fn called(alloc: Global, cell: Cell, rows: &str) -> Result<Cell, Fail>
+    requires { IsCell cell.plan cell.inputs cell.engine cell.intake cell.sink }
+    ensures { IfOk result (λ c. IsCell c.plan c.inputs c.engine c.intake c.sink) }
+{
+    let mut cell = cell;
+    match answered(alloc, &mut cell, rows) {
+        Ok(()) => Ok(cell),
+        Err(fail) => {
+            drop(cell);
+            Err(fail)
+        }
+    }
+}
+
+/// A cell answers so to the end. At last a calculator that was handed in comes back, or none does.
+pub(crate) fn expect_rows(
+    alloc: Global,
+    cell: Cell,
+    rows: &str,
+    gives_one: bool,
+) -> Result<(), Fail>
+    requires { IsCell cell.plan cell.inputs cell.engine cell.intake cell.sink }
+{
+    let cell = called(alloc, cell, rows)?;
+    if gives_back(cell) == gives_one {
+        return Ok(());
+    }
+    Err(Fail::from("a calculator is lost, or came of nothing"))
 }

@@ -1,5 +1,5 @@
 //! Calculators whose emissions are written down.
-ghost use Rattle.std.specs.Prelude.{◌≡◌, length, IfOk};
+ghost use Rattle.std.specs.Prelude.{◌≡◌, length, All, IfOk};
 ghost use Rattle.mg_calc.specs.Shape.{BoundsAreTimes};
 ghost use Rattle.mg_check.specs.Check.{IsOuterShape};
 
@@ -33,8 +33,8 @@ fn emission_of(alloc: Global, text: &str) -> Result<Emission, Fail>
     }))
 }
 
-/// One that emits at its one output what is written down: in Open, at its first set, and in Close.
-pub(crate) fn scripted(
+// One that emits at its one output what is written down: in Open, at its first set, and in Close.
+fn scripted(
     alloc: Global,
     offset: Option<i64>,
     first: &str,
@@ -56,4 +56,12 @@ pub(crate) fn scripted(
         last,
     };
     Ok(OuterShape { shape, law })
+}
+
+/// The calculators that are handed in: one that emits this at its first set, at the time of the set or behind it, and else nothing.
+pub(crate) fn one_scripted(alloc: Global, step: &str) -> Result<Vec<OuterShape>, Fail>
+    ensures { IfOk result (λ outers. All IsOuterShape outers.items) }
+{
+    let outer = scripted(alloc, Some(0), "-", step, "-")?;
+    Ok(vec![in alloc; outer]?)
 }

@@ -45,7 +45,9 @@ pub(crate) fn deliver(
         port,
         back: false,
     };
-    Ok(feed.deliver(edge, &mut cell.intake, most))
+    let delivered = feed.deliver(edge, &mut cell.intake, most);
+    drop(feed);
+    Ok(delivered)
 }
 
 /// Delivers at most so many packets of the node's outputs to a port of the collector.

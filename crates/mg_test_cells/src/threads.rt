@@ -2,43 +2,22 @@
 ghost use Rattle.std.specs.Prelude.{IfOk};
 ghost use Rattle.mg_test_cells.specs.Cell.{IsCell};
 
-use crate::cell::{Cell, cell_of};
-use crate::rows::answer;
+use crate::cell::{Cell, Given, own_cell};
+use crate::rows::{called, expect_rows};
 use crate::windows::map;
-use mg_calc::OuterShape;
-use mg_plans::{inputs_of, plan_of};
 use std::alloc::Global;
 use std::test::Fail;
 use std::thread::{Threads, join};
 
-// The cell of the first node of a graph that adds ten, in a window of four, over three packets.
-fn adding_cell(alloc: Global) -> Result<Cell, Fail>
-    ensures { IfOk result (λ c. IsCell c.plan c.inputs c.engine c.intake c.sink) }
-{
-    let outers: &[OuterShape] = &[];
-    let lines = r#"{"stream":"in","ts":1,"value":5}
+// A graph that adds ten, in a window of four, over three packets.
+fn adding() -> Given {
+    Given {
+        graph: map(),
+        lines: r#"{"stream":"in","ts":1,"value":5}
 {"stream":"in","ts":2,"value":6}
-{"stream":"in","ts":3,"value":7}"#;
-    let plan = plan_of(alloc, map(), outers)?;
-    let inputs = inputs_of(alloc, &plan, lines, false)?;
-    let cell = cell_of(alloc, plan, inputs)?;
-    Ok(cell)
-}
-
-// Makes the call of each row, and compares what it answers with what the row wants. It takes no handle, so that any thread may run it.
-fn called(alloc: Global, cell: Cell, rows: &str) -> Result<Cell, Fail>
-    requires { IsCell cell.plan cell.inputs cell.engine cell.intake cell.sink }
-    ensures { IfOk result (λ c. IsCell c.plan c.inputs c.engine c.intake c.sink) }
-{
-    let mut cell = cell;
-    for row in rows.split('\n') {
-        let (call, wanted) = row.split_once('=').ok_or("no `=`")?;
-        let answer = answer(alloc, &mut cell, call)?;
-        if answer.as_str() != wanted {
-            return Err(Fail::new(format_args!("{row}: {answer}")));
-        }
+{"stream":"in","ts":3,"value":7}"#,
+        ended: false,
     }
-    Ok(cell)
 }
 
 // Makes the calls of some rows in another thread, to which the cell goes, and from which it comes back.
@@ -92,18 +71,17 @@ take=nothing"
 
 #[test]
 fn an_engine_goes_on_in_another_thread(rt: HostRuntime) -> Result<(), Fail> {
-    let cell = adding_cell(rt.alloc())?;
+    let cell = own_cell(rt.alloc(), adding())?;
     let cell = called(rt.alloc(), cell, begun())?;
     let cell = called_there(&rt, rt.alloc(), cell, goes_on())?;
-    let _ = called(rt.alloc(), cell, ends())?;
-    Ok(())
+    expect_rows(rt.alloc(), cell, ends(), false)
 }
 
 #[test]
 fn an_engine_from_another_thread_goes_on_here(rt: HostRuntime) -> Result<(), Fail> {
-    let cell = adding_cell(rt.alloc())?;
+    let cell = own_cell(rt.alloc(), adding())?;
     let cell = called_there(&rt, rt.alloc(), cell, begun())?;
     let cell = called(rt.alloc(), cell, goes_on())?;
-    let _ = called_there(&rt, rt.alloc(), cell, ends())?;
-    Ok(())
+    let cell = called_there(&rt, rt.alloc(), cell, ends())?;
+    expect_rows(rt.alloc(), cell, "laid=3", false)
 }

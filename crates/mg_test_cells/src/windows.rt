@@ -1,34 +1,25 @@
 //! Windows of several works: they are committed in any order, and laid in that of their sets.
-use crate::cell::{Cell, cell_of};
-use crate::rows::assert_rows;
-use mg_calc::OuterShape;
-use mg_plans::{inputs_of, plan_of};
+use crate::cell::{Given, own_cell};
+use crate::rows::expect_rows;
 use std::alloc::Global;
 use std::fmt::Write;
-use std::process::Abort;
 use std::test::Fail;
 
-// The table of the first node of a graph, over some packet lines, whose input has ended or not. No calculator was handed in,
-// and none comes back.
-fn assert_cell(
-    rt: &impl Abort,
+// The table of the first node of a graph. No calculator was handed in, and none comes back.
+fn expect_cell(
     alloc: Global,
-    graph: &str,
-    lines: &str,
+    graph: &'static str,
+    lines: &'static str,
     ended: bool,
     rows: &str,
 ) -> Result<(), Fail> {
-    let outers: &[OuterShape] = &[];
-    let plan = plan_of(alloc, graph, outers)?;
-    let inputs = inputs_of(alloc, &plan, lines, ended)?;
-    let mut cell = cell_of(alloc, plan, inputs)?;
-    assert_rows(rt, alloc, &mut cell, rows)?;
-    let Cell { engine, .. } = cell;
-    assert!(rt;
-        engine.into_calculator().is_none(),
-        "a calculator came back"
-    );
-    Ok(())
+    let given = Given {
+        graph,
+        lines,
+        ended,
+    };
+    let cell = own_cell(alloc, given)?;
+    expect_rows(alloc, cell, rows, false)
 }
 
 /// Ten more than each number, in a window of four.
@@ -62,7 +53,7 @@ take=nothing"
 fn sets_are_laid_in_order(rt: HostRuntime) -> Result<(), Fail> {
     let lines = r#"{"stream":"in","ts":1,"value":5}
 {"stream":"in","ts":2,"value":6}"#;
-    assert_cell(&rt, rt.alloc(), map(), lines, true, crossed())
+    expect_cell(rt.alloc(), map(), lines, true, crossed())
 }
 
 // At the end, works that aren't laid hold up Close.
@@ -86,7 +77,7 @@ output 0=2 Done"
 fn close_waits_for_the_window(rt: HostRuntime) -> Result<(), Fail> {
     let lines = r#"{"stream":"in","ts":1,"value":5}
 {"stream":"in","ts":2,"value":6}"#;
-    assert_cell(&rt, rt.alloc(), map(), lines, true, drained())
+    expect_cell(rt.alloc(), map(), lines, true, drained())
 }
 
 // Works that come back unrun are handed out first.
@@ -116,7 +107,7 @@ fn unrun_works_come_first(rt: HostRuntime) -> Result<(), Fail> {
     let lines = r#"{"stream":"in","ts":1,"value":5}
 {"stream":"in","ts":2,"value":6}
 {"stream":"in","ts":3,"value":7}"#;
-    assert_cell(&rt, rt.alloc(), map(), lines, false, unrun())
+    expect_cell(rt.alloc(), map(), lines, false, unrun())
 }
 
 fn running() -> &'static str {
@@ -142,7 +133,7 @@ take=11@2"
 fn a_state_goes_from_set_to_set(rt: HostRuntime) -> Result<(), Fail> {
     let lines = r#"{"stream":"in","ts":1,"value":5}
 {"stream":"in","ts":2,"value":6}"#;
-    assert_cell(&rt, rt.alloc(), running(), lines, false, one_by_one())
+    expect_cell(rt.alloc(), running(), lines, false, one_by_one())
 }
 
 // The orders in which four works are committed, and after `=` how many sets each commit lays.
@@ -189,20 +180,20 @@ fn rows_of(alloc: Global, order: &str) -> Result<String, Fail> {
     Ok(rows)
 }
 
-fn assert_order(rt: &impl Abort, alloc: Global, order: &str) -> Result<(), Fail> {
+fn expect_order(alloc: Global, order: &str) -> Result<(), Fail> {
     let lines = r#"{"stream":"in","ts":1,"value":1}
 {"stream":"in","ts":2,"value":2}
 {"stream":"in","ts":3,"value":3}
 {"stream":"in","ts":4,"value":4}
 {"stream":"in","ts":5,"value":5}"#;
     let rows = rows_of(alloc, order)?;
-    assert_cell(rt, alloc, map(), lines, false, rows.as_str())
+    expect_cell(alloc, map(), lines, false, rows.as_str())
 }
 
 #[test]
 fn commits_come_in_any_order(rt: HostRuntime) -> Result<(), Fail> {
     for order in orders().split('\n') {
-        assert_order(&rt, rt.alloc(), order)?;
+        expect_order(rt.alloc(), order)?;
     }
     Ok(())
 }
@@ -237,5 +228,5 @@ fn nothing_is_laid_behind_a_fault(rt: HostRuntime) -> Result<(), Fail> {
     let lines = r#"{"stream":"in","ts":1,"value":-1}
 {"stream":"in","ts":5,"value":1}
 {"stream":"in","ts":9,"value":-1}"#;
-    assert_cell(&rt, rt.alloc(), overflowing(), lines, true, mapped())
+    expect_cell(rt.alloc(), overflowing(), lines, true, mapped())
 }

@@ -44,16 +44,30 @@ fn claim_work(cell: &mut Cell) -> Result<Work<LawBox>, Idle>
     }
 }
 
-// Performs a work.
-fn performed(alloc: Global, work: Work<LawBox>) -> Result<Outcome<LawBox>, Fail>
+// Performs a work. It gives nothing where there is no memory.
+fn performed(alloc: Global, work: Work<LawBox>) -> Option<Outcome<LawBox>>
     requires { SomeJobHas work }
-    ensures lawful { IfOk result (λ o. (job : LoggedJob) → LawfulWork job work → LawfulOutcome job o) }
-    ensures out { IfOk result (λ o. (engine : EngineView) → IsOut engine work → IsOut engine o.work) }
+    ensures lawful { IfSome result (λ o. (job : LoggedJob) → LawfulWork job work → LawfulOutcome job o) }
+    ensures out { IfSome result (λ o. (engine : EngineView) → IsOut engine work → IsOut engine o.work) }
 {
-    let Ok(performed) = perform(alloc, work, &StillGate) else {
-        return Err(Fail::from("no memory"));
-    };
-    Ok(Outcome::ran(performed))
+    match perform(alloc, work, &StillGate) {
+        Ok(performed) => Some(Outcome::ran(performed)),
+        Err(_) => None,
+    }
+}
+
+// A work, with its number and its phase as a text.
+fn told(alloc: Global, work: Work<LawBox>) -> Result<(String, Work<LawBox>), Fail>
+    ensures lawful { IfOk result (λ t. (job : LoggedJob) → LawfulWork job work → LawfulWork job t.1) }
+    ensures out { IfOk result (λ t. (engine : EngineView) → IsOut engine work → IsOut engine t.1) }
+{
+    match show_work(alloc, work.number(), work.phase()) {
+        Ok(shown) => Ok((shown, work)),
+        Err(fail) => {
+            drop(work);
+            Err(fail)
+        }
+    }
 }
 
 // Puts a work that is out back into its window, not committed.
@@ -96,10 +110,14 @@ pub(crate) fn work(alloc: Global, cell: &mut Cell) -> Result<String, Fail>
         Ok(work) => work,
         Err(idle) => return show_idle(alloc, idle),
     };
-    let shown = show_work(alloc, work.number(), work.phase())?;
-    let outcome = performed(alloc, work)?;
-    put_back(cell, outcome);
-    Ok(shown)
+    let (shown, work) = told(alloc, work)?;
+    match performed(alloc, work) {
+        Some(outcome) => {
+            put_back(cell, outcome);
+            Ok(shown)
+        }
+        None => Err(Fail::from("no memory")),
+    }
 }
 
 /// Claims the next work, and puts it back into its window, unrun.
@@ -111,7 +129,7 @@ pub(crate) fn shelve_unrun(alloc: Global, cell: &mut Cell) -> Result<String, Fai
         Ok(work) => work,
         Err(idle) => return show_idle(alloc, idle),
     };
-    let shown = show_work(alloc, work.number(), work.phase())?;
+    let (shown, work) = told(alloc, work)?;
     put_back(cell, unrun(work));
     Ok(shown)
 }
@@ -125,7 +143,7 @@ pub(crate) fn commit_unrun(alloc: Global, cell: &mut Cell) -> Result<String, Fai
         Ok(work) => work,
         Err(idle) => return show_idle(alloc, idle),
     };
-    let shown = show_work(alloc, work.number(), work.phase())?;
+    let (shown, work) = told(alloc, work)?;
     if commit_outcome(cell, unrun(work))? != 0 {
         return Err(Fail::from("something was laid"));
     }

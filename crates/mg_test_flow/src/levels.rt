@@ -1,5 +1,6 @@
 //! The nodes that may run, for threads that share them: what is put in, taken out and left, and where a level is full.
-ghost use Rattle.std.specs.Prelude.{◌≡◌};
+ghost use Rattle.std.specs.Prelude.{◌≡◌, OnOk};
+ghost use Rattle.mg_levels.specs.Balance.{whole};
 ghost use Rattle.mg_levels.specs.Levels.{IsSeatOf, order_of, portion_of};
 
 use crate::ready::is_distinct;
@@ -54,22 +55,61 @@ fn left_in(alloc: Global, left: &LeftList) -> Result<String, Fail> {
     Ok(text)
 }
 
-// Of three nodes two are put in; a seat is split off, one node is taken out, the seat comes back, and the other is left.
-fn three<R: Wait>(rt: &R, alloc: Global) -> Result<String, Fail> {
-    let order = nodes_from(alloc, 0, 3)?;
+// Two nodes are put in; a seat is split off, one node is taken out, and the seat comes back.
+fn in_and_out<R: Wait>(
+    rt: &R,
+    alloc: Global,
+    levels: &Levels,
+    seat: &mut LevelSeat,
+    order: &NumberList,
+) -> Result<String, Fail>
+    requires of { IsSeatOf levels.now seat.old }
+    requires order { order_of levels.now ≡ order.now }
+    requires whole { portion_of seat.old ≡ whole }
+    ensures of { OnOk result (IsSeatOf levels.now seat.new) }
+    ensures whole { OnOk result (portion_of seat.new ≡ whole) }
+{
+    let first = put(rt, levels, seat, order, 1);
+    let second = put(rt, levels, seat, order, 2);
+    let other = seat.split(alloc, levels, 1)?;
+    let taken = levels.take(rt, seat);
+    seat.join(levels, other);
+    let taken = shown(alloc, taken)?;
+    Ok(format!(in alloc; "{first} {second} {}", taken.as_str())?)
+}
+
+// What came, and the nodes that are left.
+fn closed<R: Wait>(
+    rt: &R,
+    alloc: Global,
+    levels: Levels,
+    seat: LevelSeat,
+    came: &str,
+) -> Result<String, Fail>
+    requires of { IsSeatOf levels seat }
+    requires whole { portion_of seat ≡ whole }
+{
+    let left = levels.close(rt, seat);
+    let shown = left_in(alloc, &left);
+    drop(left);
+    let shown = shown?;
+    Ok(format!(in alloc; "{came}{}", shown.as_str())?)
+}
+
+// Of three nodes two are put in, one is taken out, and the other is left.
+fn three<R: Wait>(rt: &R, alloc: Global, order: &NumberList) -> Result<String, Fail> {
     if !is_distinct(order.as_slice()) {
         return Err(Fail::from("a node stands twice"));
     }
-    let (levels, mut seat) = Levels::new(alloc, &order)?;
-    let first = put(rt, &levels, &mut seat, &order, 1);
-    let second = put(rt, &levels, &mut seat, &order, 2);
-    let other = seat.split(alloc, &levels, 1)?;
-    let taken = levels.take(rt, &mut seat);
-    seat.join(&levels, other);
-    let left = levels.close(rt, seat);
-    let taken = shown(alloc, taken)?;
-    let left = left_in(alloc, &left)?;
-    Ok(format!(in alloc; "{first} {second} {}{}", taken.as_str(), left.as_str())?)
+    let (levels, mut seat) = Levels::new(alloc, order)?;
+    match in_and_out(rt, alloc, &levels, &mut seat, order) {
+        Ok(came) => closed(rt, alloc, levels, seat, came.as_str()),
+        Err(fail) => {
+            drop(levels);
+            drop(seat);
+            Err(fail)
+        }
+    }
 }
 
 // Puts a node in so often, and counts how often there was room.
@@ -97,19 +137,20 @@ fn put_often<R: Wait>(
 fn one_and_many<R: Wait>(
     rt: &R,
     alloc: Global,
-    count: u32,
+    order: &NumberList,
     puts: u32,
     node: u32,
 ) -> Result<String, Fail> {
-    let order = nodes_from(alloc, 7, count)?;
     if !is_distinct(order.as_slice()) {
         return Err(Fail::from("a node stands twice"));
     }
-    let (levels, mut seat) = Levels::new(alloc, &order)?;
-    let came = put_often(rt, &levels, &mut seat, &order, puts);
-    let late = put(rt, &levels, &mut seat, &order, node);
+    let (levels, mut seat) = Levels::new(alloc, order)?;
+    let came = put_often(rt, &levels, &mut seat, order, puts);
+    let late = put(rt, &levels, &mut seat, order, node);
     let taken = levels.take(rt, &mut seat);
     let next = levels.take(rt, &mut seat);
+    drop(levels);
+    drop(seat);
     let taken = shown(alloc, taken)?;
     let next = shown(alloc, next)?;
     Ok(format!(in alloc; "{came} {late} {} {}", taken.as_str(), next.as_str())?)
@@ -117,7 +158,8 @@ fn one_and_many<R: Wait>(
 
 #[test]
 fn what_is_put_in_is_taken_or_left(rt: HostRuntime) -> Result<(), Fail> {
-    let text = three(&rt, rt.alloc())?;
+    let order = nodes_from(rt.alloc(), 0, 3)?;
+    let text = three(&rt, rt.alloc(), &order)?;
     assert_eq!(rt; text.as_str(), "true true 1 2");
     Ok(())
 }
@@ -125,9 +167,11 @@ fn what_is_put_in_is_taken_or_left(rt: HostRuntime) -> Result<(), Fail> {
 #[test]
 fn a_level_has_room_for_four_entries_a_node(rt: HostRuntime) -> Result<(), Fail> {
     let alloc = rt.alloc();
-    let full = one_and_many(&rt, alloc, 1, 5, 7)?;
+    let one = nodes_from(alloc, 7, 1)?;
+    let full = one_and_many(&rt, alloc, &one, 5, 7)?;
     assert_eq!(rt; full.as_str(), "4 false 7 7");
-    let last = one_and_many(&rt, alloc, 40, 1, 46)?;
+    let many = nodes_from(alloc, 7, 40)?;
+    let last = one_and_many(&rt, alloc, &many, 1, 46)?;
     assert_eq!(rt; last.as_str(), "1 true 46 7");
     Ok(())
 }

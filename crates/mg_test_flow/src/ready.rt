@@ -224,17 +224,31 @@ impl Calls for Nodes {
     }
 }
 
+// Each row of some nodes is answered.
+fn expect_rows(alloc: Global, nodes: Nodes, rows: &str) -> Result<(), Fail> {
+    let mut nodes = nodes;
+    let answered = assert_rows(alloc, &mut nodes, rows);
+    drop(nodes);
+    answered
+}
+
+// The nodes of five places.
+fn five_places(alloc: Global) -> Result<Nodes, Fail> {
+    nodes_in(alloc, vec![in alloc; 5, 9, 0, 2, 4]?)
+}
+
+// A node that isn't 0.
+fn one_place(alloc: Global) -> Result<Nodes, Fail> {
+    nodes_in(alloc, vec![in alloc; 7]?)
+}
+
 #[test]
 fn the_last_in_the_order_goes_first(rt: HostRuntime) -> Result<(), Fail> {
     let alloc = rt.alloc();
-    assert_rows(alloc, &mut counted(alloc, 3)?, three())?;
-    assert_rows(alloc, &mut nodes_in(alloc, vec![in alloc; 7]?)?, one())?;
-    assert_rows(
-        alloc,
-        &mut nodes_in(alloc, vec![in alloc; 5, 9, 0, 2, 4]?)?,
-        by_place(),
-    )?;
-    assert_rows(alloc, &mut counted(alloc, 32)?, one_bucket())?;
-    assert_rows(alloc, &mut counted(alloc, 33)?, two_buckets())?;
-    assert_rows(alloc, &mut counted(alloc, 4096)?, many())
+    expect_rows(alloc, counted(alloc, 3)?, three())?;
+    expect_rows(alloc, one_place(alloc)?, one())?;
+    expect_rows(alloc, five_places(alloc)?, by_place())?;
+    expect_rows(alloc, counted(alloc, 32)?, one_bucket())?;
+    expect_rows(alloc, counted(alloc, 33)?, two_buckets())?;
+    expect_rows(alloc, counted(alloc, 4096)?, many())
 }

@@ -8,8 +8,6 @@ mod carrying;
 #[cfg(test)]
 mod driving;
 #[cfg(test)]
-mod ending;
-#[cfg(test)]
 mod events;
 #[cfg(test)]
 mod lines;
@@ -27,3 +25,5 @@ mod rest;
 mod solutions;
 #[cfg(test)]
 mod sweeps;
+#[cfg(test)]
+mod ways;

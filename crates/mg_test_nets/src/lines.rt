@@ -1,20 +1,18 @@
 //! Nets whose input comes line by line.
-ghost use Rattle.std.specs.Prelude.{IfOk};
 ghost use Rattle.mg_calc.specs.Plan.{IsValid, OutersFit};
 ghost use Rattle.mg_nets.specs.Driven.{IsDriven};
 ghost use Rattle.mg_nets.specs.Handed.{two_outers};
 
 use crate::driving::extend;
-use crate::ending::assert_end;
 use crate::rest::settle;
+use crate::ways::Settle;
 use mg_calc::{Inputs, Plan};
 use mg_feed::Feed;
 use mg_nets::{
-    Driver, adding, all_taken, counting, driver_of, driver_over, held, merging, plan_of, stalling,
-    summing, told, trim,
+    Case, Driver, Way, adding, all_taken, counting, driver_of, driver_over, expect, held, merging,
+    plan_of, stalling, summing, trim,
 };
 use std::alloc::Global;
-use std::process::Abort;
 use std::test::Fail;
 
 // What a line gives, or the end of the input.
@@ -49,21 +47,31 @@ fn answer(alloc: Global, feed: &mut Feed, driver: &mut Driver, line: &str) -> Re
     given(alloc, driver)
 }
 
+// A net that goes on with each row's line from nothing on, and rests behind each. What comes of a line is what its row wants.
+#[derive(Drop)]
+struct Lines<'a> {
+    feed: Feed,
+    rows: &'a str,
+}
+
+impl<'a> Way for Lines<'a> {
+    fn drive(&mut self, alloc: Global, driver: &mut Driver) -> Result<(), Fail> {
+        settle(driver)?;
+        expect_lines(alloc, &mut self.feed, driver, self.rows)
+    }
+}
+
 // Goes on with each row's line, and compares what comes of it with what the row wants.
-fn assert_lines(
-    rt: &impl Abort,
-    alloc: Global,
-    feed: &mut Feed,
-    driver: &mut Driver,
-    rows: &str,
-) -> Result<(), Fail>
+fn expect_lines(alloc: Global, feed: &mut Feed, driver: &mut Driver, rows: &str) -> Result<(), Fail>
     requires { IsDriven driver.old.plan driver.old.inputs driver.old.net }
     ensures { IsDriven driver.new.plan driver.new.inputs driver.new.net }
 {
     for row in rows.split('\n') {
         let (line, wanted) = row.split_once('=').ok_or("no `=`")?;
         let answer = answer(alloc, feed, driver, line)?;
-        assert!(rt; answer.as_str() == wanted, "{row}: {answer}");
+        if answer.as_str() != wanted {
+            return Err(Fail::new(format_args!("{row}: {answer}")));
+        }
     }
     Ok(())
 }
@@ -83,54 +91,75 @@ fn whole_of(alloc: Global, rows: &str) -> Result<(String, String), Fail> {
     Ok((lines, sets))
 }
 
-// A net that has all lines of rows from the start gives the same sets.
-fn assert_whole(rt: &impl Abort, alloc: Global, graph: &str, rows: &str) -> Result<(), Fail> {
-    let (lines, wanted) = whole_of(alloc, rows)?;
-    let mut driver = driver_of(alloc, graph, lines.as_str())?;
-    settle(&mut driver)?;
-    let sets = all_taken(alloc, &mut driver)?;
-    assert!(rt; sets.as_str() == wanted.as_str(), "{sets}");
-    Ok(())
+// A net that has all lines of rows from the start gives the same sets, and comes to the same.
+fn expect_whole(alloc: Global, case: &Case) -> Result<(), Fail> {
+    let (lines, sets) = whole_of(alloc, case.lines)?;
+    let wanted = format!(in alloc; "{}{}", sets.as_str(), case.wanted)?;
+    let whole = Case {
+        graph: case.graph,
+        lines: lines.as_str(),
+        limit: case.limit,
+        wanted: wanted.as_str(),
+        calls: case.calls,
+    };
+    let driver = driver_of(alloc, whole.graph, whole.lines)?;
+    expect(alloc, driver, &mut Settle, &whole)
 }
 
-// A net over inputs of which nothing has come yet.
-fn driver_before(alloc: Global, feed: &mut Feed, plan: Plan) -> Result<Driver, Fail>
+// A net of a plan to which lines come one by one.
+fn expect_over(alloc: Global, plan: Plan, lines: &mut Lines, case: &Case) -> Result<(), Fail>
     requires valid { IsValid plan }
     requires fit { OutersFit plan two_outers }
-    ensures { IfOk result (λ d. IsDriven d.plan d.inputs d.net) }
 {
-    let nothing = feed.take_inputs(false)?;
-    driver_over(alloc, plan, nothing)
+    match lines.feed.take_inputs(false) {
+        Ok(nothing) => {
+            let driver = driver_over(alloc, plan, nothing)?;
+            expect(alloc, driver, lines, case)
+        }
+        Err(_) => {
+            drop(plan);
+            Err(Fail::from("no memory"))
+        }
+    }
 }
 
-// Goes on with a net line by line, from nothing on.
-fn assert_rows(rt: &impl Abort, alloc: Global, graph: &str, rows: &str) -> Result<Driver, Fail>
-    ensures { IfOk result (λ d. IsDriven d.plan d.inputs d.net) }
-{
-    let plan = plan_of(alloc, graph)?;
-    let mut feed = Feed::new(alloc, &plan)?;
-    let mut driver = driver_before(alloc, &mut feed, plan)?;
-    settle(&mut driver)?;
-    assert_lines(rt, alloc, &mut feed, &mut driver, rows)?;
-    Ok(driver)
+// A net to which the lines of rows come one by one.
+fn expect_each(alloc: Global, case: &Case) -> Result<(), Fail> {
+    let plan = plan_of(alloc, case.graph)?;
+    match Feed::new(alloc, &plan) {
+        Ok(feed) => {
+            let rows = case.lines;
+            let mut lines = Lines { feed, rows };
+            let came = expect_over(alloc, plan, &mut lines, case);
+            drop(lines);
+            came
+        }
+        Err(_) => {
+            drop(plan);
+            Err(Fail::from("no memory"))
+        }
+    }
 }
 
-// A row is a line, or `end`, and after `=` the sets that the graph's outputs have then, and how many packets are left. At the end the
-// net has come so far, the calculators that were handed in have had these calls, and the sets in all are those of a net that had all
-// lines from the start.
-fn assert_net(
-    rt: &impl Abort,
+// A row is a line, or `end`, and after `=` the sets that the graph's outputs have then, and how many packets are left. At the end
+// nothing more comes out of the net, the same is left in it, it has come so far, and the calculators that were handed in have had these
+// calls. The sets in all are those of a net that had all lines from the start, which comes to the same.
+fn expect_rows(
     alloc: Global,
     graph: &str,
-    rows: &str,
+    lines: &str,
     wanted: &str,
     calls: &str,
 ) -> Result<(), Fail> {
-    let driver = assert_rows(rt, alloc, graph, rows)?;
-    let shown = told(alloc, &driver)?;
-    assert!(rt; shown.as_str() == wanted, "{shown}");
-    assert_end(rt, alloc, driver, calls)?;
-    assert_whole(rt, alloc, graph, rows)
+    let case = Case {
+        graph,
+        lines,
+        limit: 100,
+        wanted,
+        calls,
+    };
+    expect_each(alloc, &case)?;
+    expect_whole(alloc, &case)
 }
 
 // A set waits until both streams have come past it, by a packet or by a bound.
@@ -175,20 +204,20 @@ end=3@30 - | 0"#
 #[test]
 fn streams_go_on_line_by_line(rt: HostRuntime) -> Result<(), Fail> {
     let alloc = rt.alloc();
-    let told = "3 ; 2@Done 2@Done 3@Done ;";
-    assert_net(&rt, alloc, merging(), merged(), told, ";;")?;
-    let told = "2 ; 2@Done 2@Done ;";
-    assert_net(&rt, alloc, adding(), added(), told, ";;")?;
-    let told = "3 3 1 ; 3@Done 3@Done 1@Done 1@Done ;";
+    let wanted = "| 0 | 3 ; 2@Done 2@Done 3@Done ;";
+    expect_rows(alloc, merging(), merged(), wanted, ";;")?;
+    let wanted = "| 0 | 2 ; 2@Done 2@Done ;";
+    expect_rows(alloc, adding(), added(), wanted, ";;")?;
+    let wanted = "| 0 | 3 3 1 ; 3@Done 3@Done 1@Done 1@Done ;";
     let calls = " begun 10 20 30 finished; begun 20 finished;";
-    assert_net(&rt, alloc, counting(), counted(), told, calls)
+    expect_rows(alloc, counting(), counted(), wanted, calls)
 }
 
 #[test]
 fn loops_go_on_line_by_line(rt: HostRuntime) -> Result<(), Fail> {
     let alloc = rt.alloc();
-    let told = "3 3 ; 3@Done 2@Done 3@Done ;";
-    assert_net(&rt, alloc, summing(), summed(), told, ";;")?;
-    let told = "1 1 1 ; 3@Done 0@20 1@20 0@PreStream ;";
-    assert_net(&rt, alloc, stalling(), stalled(), told, ";;")
+    let wanted = "| 1 | 3 3 ; 3@Done 2@Done 3@Done ;";
+    expect_rows(alloc, summing(), summed(), wanted, ";;")?;
+    let wanted = "| 4 | 1 1 1 ; 3@Done 0@20 1@20 0@PreStream ;";
+    expect_rows(alloc, stalling(), stalled(), wanted, ";;")
 }

@@ -5,7 +5,7 @@ use crate::driving::{show_bound, show_packet};
 use crate::rest::make_each;
 use mg_calc::{Effect, Event};
 use mg_edge::StillGate;
-use mg_nets::{Driver, driver_of, passing, sweep, trim};
+use mg_nets::{Case, Driver, Way, driver_of, expect, passing, sweep, trim};
 use mg_sched::Deaf;
 use std::alloc::Global;
 use std::test::Fail;
@@ -23,7 +23,7 @@ fn show_stream(alloc: Global, driver: &Driver, stream: u32) -> Result<String, Fa
 }
 
 // A net has this of a stream.
-fn assert_stream(alloc: Global, driver: &Driver, stream: u32, wanted: &str) -> Result<(), Fail>
+fn expect_stream(alloc: Global, driver: &Driver, stream: u32, wanted: &str) -> Result<(), Fail>
     requires { IsDriven driver.now.plan driver.now.inputs driver.now.net }
 {
     let shown = show_stream(alloc, driver, stream)?;
@@ -34,12 +34,12 @@ fn assert_stream(alloc: Global, driver: &Driver, stream: u32, wanted: &str) -> R
 }
 
 // A net of one node has this of its input and its output, and nothing of a stream that isn't there.
-fn assert_streams(alloc: Global, driver: &Driver, input: &str, output: &str) -> Result<(), Fail>
+fn expect_streams(alloc: Global, driver: &Driver, input: &str, output: &str) -> Result<(), Fail>
     requires { IsDriven driver.now.plan driver.now.inputs driver.now.net }
 {
-    assert_stream(alloc, driver, 0, input)?;
-    assert_stream(alloc, driver, 1, output)?;
-    assert_stream(alloc, driver, 2, "- - - | -")
+    expect_stream(alloc, driver, 0, input)?;
+    expect_stream(alloc, driver, 1, output)?;
+    expect_stream(alloc, driver, 2, "- - - | -")
 }
 
 // Both packets go through the node. The first one also goes to the collector.
@@ -56,33 +56,47 @@ fn goes_through() -> &'static [Event] {
     ]
 }
 
-// What was laid is there.
-fn assert_laid(alloc: Global, driver: &mut Driver) -> Result<(), Fail>
-    requires { IsDriven driver.old.plan driver.old.inputs driver.old.net }
-    ensures { IsDriven driver.new.plan driver.new.inputs driver.new.net }
-{
-    assert_streams(alloc, driver, "1@10 2@20 - | Done", "- - - | PreStream")?;
-    make_each(driver, goes_through(), Effect::Did)?;
-    assert_streams(alloc, driver, "1@10 2@20 - | Done", "1@10 2@20 - | 21")
+// What was laid is there; and then, what all have got is given up, and the others keep their numbers.
+#[derive(Drop)]
+struct Looks;
+
+impl Way for Looks {
+    fn drive(&mut self, alloc: Global, driver: &mut Driver) -> Result<(), Fail> {
+        expect_laid(alloc, driver)?;
+        expect_given_up(alloc, driver)
+    }
 }
 
-// What all have got is given up, and the others keep their numbers.
-fn assert_given_up(alloc: Global, driver: &mut Driver) -> Result<(), Fail>
+fn expect_laid(alloc: Global, driver: &mut Driver) -> Result<(), Fail>
+    requires { IsDriven driver.old.plan driver.old.inputs driver.old.net }
+    ensures { IsDriven driver.new.plan driver.new.inputs driver.new.net }
+{
+    expect_streams(alloc, driver, "1@10 2@20 - | Done", "- - - | PreStream")?;
+    make_each(driver, goes_through(), Effect::Did)?;
+    expect_streams(alloc, driver, "1@10 2@20 - | Done", "1@10 2@20 - | 21")
+}
+
+fn expect_given_up(alloc: Global, driver: &mut Driver) -> Result<(), Fail>
     requires { IsDriven driver.old.plan driver.old.inputs driver.old.net }
     ensures { IsDriven driver.new.plan driver.new.inputs driver.new.net }
 {
     trim(driver);
-    assert_streams(alloc, driver, "- - - | Done", "- 2@20 - | 21")?;
+    expect_streams(alloc, driver, "- - - | Done", "- 2@20 - | 21")?;
     sweep(driver, &StillGate, &mut Deaf)?;
     trim(driver);
-    assert_streams(alloc, driver, "- - - | Done", "- - - | Done")
+    expect_streams(alloc, driver, "- - - | Done", "- - - | Done")
 }
 
 #[test]
 fn packets_are_there_until_they_are_given_up(rt: HostRuntime) -> Result<(), Fail> {
-    let lines = r#"{"stream":"in","ts":10,"value":1}
-{"stream":"in","ts":20,"value":2}"#;
-    let mut driver = driver_of(rt.alloc(), passing(), lines)?;
-    assert_laid(rt.alloc(), &mut driver)?;
-    assert_given_up(rt.alloc(), &mut driver)
+    let case = Case {
+        graph: passing(),
+        lines: r#"{"stream":"in","ts":10,"value":1}
+{"stream":"in","ts":20,"value":2}"#,
+        limit: 100,
+        wanted: "1@10 2@20 | 0 | 2 ; 2@Done 2@Done ;",
+        calls: ";;",
+    };
+    let driver = driver_of(rt.alloc(), case.graph, case.lines)?;
+    expect(rt.alloc(), driver, &mut Looks, &case)
 }

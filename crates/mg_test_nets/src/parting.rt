@@ -4,11 +4,13 @@ ghost use Rattle.std.specs.Prelude.{IfOk};
 ghost use Rattle.mg_nets.specs.Driven.{IsDriven};
 
 use crate::driving::part_and_join;
-use crate::rest::{assert_rest, make_each, wander};
+use crate::ways::{Settle, Steps, Wander};
 use mg_calc::{Effect, Event};
-use mg_nets::{CASES, Case, Chance, Driver, case_of, driver_of, limited, summed, throttled};
+use mg_nets::{
+    CASES, Case, Chance, Driver, case_of, driven, driver_of, driver_under, expect, summed,
+    throttled,
+};
 use std::alloc::Global;
-use std::process::Abort;
 use std::test::Fail;
 
 // At how many places of its run each net comes apart.
@@ -21,13 +23,27 @@ const PARTINGS: u32 = 3;
 const NO_EDGE: u32 = u32::MAX;
 
 // Makes steps that each do something. Then the net comes apart, with something that goes along an edge meanwhile.
-fn parted_behind(driver: Driver, events: &[Event], edge: u32) -> Result<Driver, Fail>
+fn parted_behind(
+    alloc: Global,
+    driver: Driver,
+    events: &'static [Event],
+    edge: u32,
+) -> Result<Driver, Fail>
     requires { IsDriven driver.plan driver.inputs driver.net }
     ensures { IfOk result (λ d. IsDriven d.plan d.inputs d.net) }
 {
-    let mut driver = driver;
-    make_each(&mut driver, events, Effect::Did)?;
+    let effect = Effect::Did;
+    let driver = driven(alloc, driver, &mut Steps { events, effect })?;
     Ok(part_and_join(driver, edge))
+}
+
+// Makes steps that do nothing.
+fn idle_at(alloc: Global, driver: Driver, events: &'static [Event]) -> Result<Driver, Fail>
+    requires { IsDriven driver.plan driver.inputs driver.net }
+    ensures { IfOk result (λ d. IsDriven d.plan d.inputs d.net) }
+{
+    let effect = Effect::Idle;
+    driven(alloc, driver, &mut Steps { events, effect })
 }
 
 // Until the first set of the sum lies on its desk: the packets come to the loopback and to the sum, the loopback answers the first
@@ -59,23 +75,28 @@ fn performs_first() -> &'static [Event] {
     ]
 }
 
+// What was performed is committed.
+fn commits_first() -> &'static [Event] {
+    &[Event::Commit { node: 1, number: 0 }]
+}
+
 // The net comes apart with the first set of the sum on its desk, then with what was performed in its window, and once more behind the
 // commit.
 fn parted_thrice(alloc: Global, case: &Case) -> Result<Driver, Fail>
     ensures { IfOk result (λ d. IsDriven d.plan d.inputs d.net) }
 {
     let driver = driver_of(alloc, case.graph, case.lines)?;
-    let mut driver = parted_behind(driver, claims_first(), NO_EDGE)?;
-    make_each(&mut driver, lost_steps(), Effect::Idle)?;
-    let driver = parted_behind(driver, performs_first(), NO_EDGE)?;
-    parted_behind(driver, &[Event::Commit { node: 1, number: 0 }], NO_EDGE)
+    let driver = parted_behind(alloc, driver, claims_first(), NO_EDGE)?;
+    let driver = idle_at(alloc, driver, lost_steps())?;
+    let driver = parted_behind(alloc, driver, performs_first(), NO_EDGE)?;
+    parted_behind(alloc, driver, commits_first(), NO_EDGE)
 }
 
 #[test]
 fn a_work_on_a_desk_is_handed_out_again(rt: HostRuntime) -> Result<(), Fail> {
     let case = summed();
     let driver = parted_thrice(rt.alloc(), &case)?;
-    assert_rest(&rt, rt.alloc(), &case, driver)
+    expect(rt.alloc(), driver, &mut Settle, &case)
 }
 
 // The first packet of the source is laid.
@@ -87,52 +108,51 @@ fn lays_first() -> &'static [Event] {
     ]
 }
 
+// Nothing goes along an edge, and the source isn't called.
+fn waits() -> &'static [Event] {
+    &[Event::Deliver { edge: 2 }, Event::Claim { node: 0 }]
+}
+
 // The packet goes to the merge while the net is apart, and fills its queue. So it doesn't go there again, and the source is throttled.
 fn throttled_apart(alloc: Global, case: &Case) -> Result<Driver, Fail>
     ensures { IfOk result (λ d. IsDriven d.plan d.inputs d.net) }
 {
-    let graph = limited(alloc, case.limit, case.graph)?;
-    let driver = driver_of(alloc, graph.as_str(), case.lines)?;
-    let mut driver = parted_behind(driver, lays_first(), 2)?;
-    let waits = &[Event::Deliver { edge: 2 }, Event::Claim { node: 0 }];
-    make_each(&mut driver, waits, Effect::Idle)?;
-    Ok(driver)
+    let driver = driver_under(alloc, case, case.limit)?;
+    let driver = parted_behind(alloc, driver, lays_first(), 2)?;
+    idle_at(alloc, driver, waits())
 }
 
 #[test]
 fn limits_know_what_came_while_a_net_was_apart(rt: HostRuntime) -> Result<(), Fail> {
     let case = throttled();
     let driver = throttled_apart(rt.alloc(), &case)?;
-    assert_rest(&rt, rt.alloc(), &case, driver)
+    expect(rt.alloc(), driver, &mut Settle, &case)
 }
 
 // A net that comes apart at a place of its run, and again so many steps behind that.
-fn parted_at(driver: Driver, place: u32) -> Result<Driver, Fail>
+fn parted_at(alloc: Global, driver: Driver, place: u32) -> Result<Driver, Fail>
     requires { IsDriven driver.plan driver.inputs driver.net }
     ensures { IfOk result (λ d. IsDriven d.plan d.inputs d.net) }
 {
     let mut driver = driver;
-    let mut chance = Chance::new(u64::from(place));
+    let mut wander = Wander {
+        chance: Chance::new(u64::from(place)),
+        steps: place,
+    };
     for _ in 0..PARTINGS {
-        wander(&mut driver, &mut chance, place)?;
-        let edge = chance.below(driver.plan.edges.len().saturating_add(1));
-        driver = part_and_join(driver, edge);
+        driver = driven(alloc, driver, &mut wander)?;
+        let edges = driver.plan.edges.len().saturating_add(1);
+        driver = part_and_join(driver, wander.chance.below(edges));
     }
     Ok(driver)
 }
 
-// The outcome of a graph under its limit is a wanted one where its net comes apart at a place of its run.
-fn assert_parted(rt: &impl Abort, alloc: Global, case: &Case, place: u32) -> Result<(), Fail> {
-    let graph = limited(alloc, case.limit, case.graph)?;
-    let driver = driver_of(alloc, graph.as_str(), case.lines)?;
-    let driver = parted_at(driver, place)?;
-    assert_rest(rt, alloc, case, driver)
-}
-
-// And at many of them.
-fn assert_places(rt: &impl Abort, alloc: Global, case: &Case) -> Result<(), Fail> {
+// The outcome of a graph under its limit is a wanted one where its net comes apart at each of many places of its run.
+fn expect_places(alloc: Global, case: &Case) -> Result<(), Fail> {
     for place in 0..PLACES {
-        assert_parted(rt, alloc, case, place)?;
+        let driver = driver_under(alloc, case, case.limit)?;
+        let driver = parted_at(alloc, driver, place)?;
+        expect(alloc, driver, &mut Settle, case)?;
     }
     Ok(())
 }
@@ -140,7 +160,7 @@ fn assert_places(rt: &impl Abort, alloc: Global, case: &Case) -> Result<(), Fail
 #[test]
 fn nets_come_to_the_same_where_they_come_apart(rt: HostRuntime) -> Result<(), Fail> {
     for number in 0..CASES {
-        assert_places(&rt, rt.alloc(), &case_of(number))?;
+        expect_places(rt.alloc(), &case_of(number))?;
     }
     Ok(())
 }

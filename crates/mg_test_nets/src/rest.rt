@@ -1,12 +1,9 @@
 //! Nets that are driven until nothing is left to do.
 ghost use Rattle.mg_nets.specs.Driven.{IsDriven};
 
-use crate::ending::assert_end;
 use crate::events::{event_at, event_count};
 use mg_calc::{Effect, Event};
-use mg_nets::{Case, Chance, Driver, act, come_out, is_wanted};
-use std::alloc::Global;
-use std::process::Abort;
+use mg_nets::{Chance, Driver, act};
 use std::test::Fail;
 
 /// Makes steps, each of which has the same effect.
@@ -82,28 +79,4 @@ pub(crate) fn is_at_rest(driver: &mut Driver) -> Result<bool, Fail>
     let count = event_count(&driver.plan);
     let did = pass(driver, count)?;
     Ok(!did)
-}
-
-// What comes out of a net once nothing is left to do.
-fn outcome(alloc: Global, driver: &mut Driver) -> Result<String, Fail>
-    requires { IsDriven driver.old.plan driver.old.inputs driver.old.net }
-    ensures { IsDriven driver.new.plan driver.new.inputs driver.new.net }
-{
-    settle(driver)?;
-    come_out(alloc, driver)
-}
-
-/// Runs a net to rest, and winds it up. What comes out of it is wanted, and so are the calls of the calculators that come back.
-pub(crate) fn assert_rest(
-    rt: &impl Abort,
-    alloc: Global,
-    case: &Case,
-    driver: Driver,
-) -> Result<(), Fail>
-    requires { IsDriven driver.plan driver.inputs driver.net }
-{
-    let mut driver = driver;
-    let shown = outcome(alloc, &mut driver)?;
-    assert!(rt; is_wanted(case, shown.as_str()), "{shown}");
-    assert_end(rt, alloc, driver, case.calls)
 }

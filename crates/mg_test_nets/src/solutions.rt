@@ -1,7 +1,7 @@
 //! What the plain program computes of a graph, as a net at rest shows it.
 ghost use Rattle.mg_calc.specs.Plan.{IsValid};
 
-use mg_calc::Plan;
+use mg_calc::{Inputs, Plan};
 use mg_equations::{Streams, solve};
 use mg_nets::{plan_of, show_packets, show_report};
 use mg_plans::{do_fit, inputs_of};
@@ -10,15 +10,24 @@ use mg_value::{BlockList, PrefixList};
 use std::alloc::Global;
 use std::test::Fail;
 
+// The solution over inputs.
+fn solution_over(alloc: Global, plan: &Plan, inputs: &Inputs) -> Result<Streams, Fail>
+    requires { IsValid plan.now }
+{
+    if !do_fit(plan, inputs) {
+        return Err(Fail::from("inputs don't fit"));
+    }
+    Ok(solve(alloc, plan, inputs)?)
+}
+
 // The solution over packet lines.
 fn solution_of(alloc: Global, plan: &Plan, lines: &str) -> Result<Streams, Fail>
     requires { IsValid plan.now }
 {
     let inputs = inputs_of(alloc, plan, lines, true)?;
-    if !do_fit(plan, &inputs) {
-        return Err(Fail::from("inputs don't fit"));
-    }
-    Ok(solve(alloc, plan, &inputs)?)
+    let streams = solution_over(alloc, plan, &inputs);
+    drop(inputs);
+    streams
 }
 
 // How far streams have come.
@@ -43,26 +52,61 @@ fn show_output(alloc: Global, plan: &Plan, prefixes: &PrefixList) -> Result<Stri
     show_packets(alloc, prefix.packets.as_slice())
 }
 
-// What a net tells that has come to the solution.
-fn show_solution(alloc: Global, streams: Streams) -> Result<String, Fail> {
+// What a net tells that has come to the solution, whose streams end so.
+fn show_told(alloc: Global, solution: Streams, streams: StreamEndList) -> Result<String, Fail> {
     let Streams {
         prefixes,
         sets,
         faults,
-    } = streams;
+    } = solution;
+    drop(prefixes);
     let report = Report {
         sets,
-        streams: ends_of(alloc, &prefixes)?,
+        streams,
         faults,
     };
-    show_report(alloc, &report)
+    let told = show_report(alloc, &report);
+    drop(report);
+    told
+}
+
+// What a net tells that has come to the solution.
+fn show_solution(alloc: Global, solution: Streams) -> Result<String, Fail> {
+    match ends_of(alloc, &solution.prefixes) {
+        Ok(ends) => show_told(alloc, solution, ends),
+        Err(fail) => {
+            drop(solution);
+            Err(fail)
+        }
+    }
+}
+
+// What comes out of a net that has come to the solution.
+fn show_outcome(alloc: Global, plan: &Plan, solution: Streams) -> Result<String, Fail> {
+    match show_output(alloc, plan, &solution.prefixes) {
+        Ok(sets) => {
+            let told = show_solution(alloc, solution)?;
+            Ok(format!(in alloc; "{}| 0 | {}", sets.as_str(), told.as_str())?)
+        }
+        Err(fail) => {
+            drop(solution);
+            Err(fail)
+        }
+    }
+}
+
+// What comes out of a plan over packet lines.
+fn solved_over(alloc: Global, plan: &Plan, lines: &str) -> Result<String, Fail>
+    requires { IsValid plan.now }
+{
+    let solution = solution_of(alloc, plan, lines)?;
+    show_outcome(alloc, plan, solution)
 }
 
 /// What comes out of a graph with one output, of which no packet waits in vain.
 pub(crate) fn solved(alloc: Global, graph: &str, lines: &str) -> Result<String, Fail> {
     let plan = plan_of(alloc, graph)?;
-    let streams = solution_of(alloc, &plan, lines)?;
-    let sets = show_output(alloc, &plan, &streams.prefixes)?;
-    let told = show_solution(alloc, streams)?;
-    Ok(format!(in alloc; "{}| 0 | {}", sets.as_str(), told.as_str())?)
+    let shown = solved_over(alloc, &plan, lines);
+    drop(plan);
+    shown
 }

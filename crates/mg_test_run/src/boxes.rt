@@ -1,12 +1,13 @@
 //! The calculators that are handed in have the calls of their nodes, and come back in their places.
 
-use crate::graphs::{counting, two_packets};
-use crate::outside::{Outside, assert_text, outside_of, show_came};
-use crate::shown::{show_first, show_logs};
+use crate::graphs::{counting, counting_behind, two_packets};
+use crate::outside::{Outside, assert_text, outside_of, put_came};
+use crate::shown::{put_first, put_logs};
 use mg_calc::Calculator;
 use mg_edge::{MemorySink, MemorySource, MemoryStore, StillGate};
+use mg_route::LawBox;
 use mg_run::{Status, tally_box};
-use std::alloc::Global;
+use std::alloc::{AllocError, Global};
 use std::sync::Wait;
 use std::test::Fail;
 use std::thread::Threads;
@@ -22,32 +23,64 @@ fn tell<C: Calculator>(
     outside: &Outside<MemoryStore, MemorySource, MemorySink, MemorySink>,
     calculators: &mut Vec<C>,
 ) -> Result<(), Fail> {
-    let came = show_came(alloc, status, &outside.output, &outside.notes)?;
-    let logs = show_logs(alloc, calculators)?;
-    let first = show_first(alloc, calculators)?;
-    writeln!(told, "{}{}{}", came.as_str(), logs.as_str(), first.as_str())?;
+    put_came(told, status, &outside.output, &outside.notes)?;
+    put_logs(alloc, told, calculators)?;
+    put_first(alloc, told, calculators)?;
+    told.push_str("\n")?;
     Ok(())
 }
 
-// What so many calls come to with the same four calculators, which tell their calls.
+// A box that counts, and tells its calls.
+fn tally(alloc: Global) -> Result<Box<LawBox>, AllocError> {
+    let tally = tally_box(alloc, true)?;
+    Ok(Box::new(alloc, tally)?)
+}
+
+// What so many calls over a graph come to with the same four calculators, which tell their calls.
 fn told_of<R: Threads + Wait + Sync>(
     rt: &R,
     alloc: Global,
     command: &str,
+    graph: &str,
     calls: u32,
 ) -> Result<String, Fail> {
+    let mut told = String::new(alloc);
+    tell_calls(rt, alloc, command, graph, calls, &mut told)?;
+    Ok(told)
+}
+
+// Makes the calls, and puts down what came of each.
+fn tell_calls<R: Threads + Wait + Sync>(
+    rt: &R,
+    alloc: Global,
+    command: &str,
+    graph: &str,
+    calls: u32,
+    told: &mut String,
+) -> Result<(), Fail> {
     let mut boxes = Vec::new(alloc);
     for _ in 0..BOXES {
-        let tally: Box<dyn Calculator + Send> = Box::new(alloc, tally_box(alloc, true)?)?;
+        let tally: Box<dyn Calculator + Send> = tally(alloc)?;
         boxes.push(tally)?;
     }
-    let mut told = String::new(alloc);
     for _ in 0..calls {
-        let mut outside = outside_of(alloc, command, counting(), two_packets())?;
-        let status = outside.run(rt, alloc, &mut boxes, &StillGate);
-        tell(alloc, &mut told, status, &outside, &mut boxes)?;
+        tell_call(rt, alloc, command, graph, &mut boxes, told)?;
     }
-    Ok(told)
+    Ok(())
+}
+
+// Makes a call, and puts down what came of it.
+fn tell_call<R: Threads + Wait + Sync>(
+    rt: &R,
+    alloc: Global,
+    command: &str,
+    graph: &str,
+    boxes: &mut Vec<Box<dyn Calculator + Send>>,
+    told: &mut String,
+) -> Result<(), Fail> {
+    let mut outside = outside_of(alloc, command, graph, two_packets())?;
+    let status = outside.run(rt, alloc, boxes, &StillGate);
+    tell(alloc, told, status, &outside, boxes)
 }
 
 // The first has the four calls of the one node, and goes on counting from there. A second run begins anew.
@@ -65,14 +98,14 @@ fn told_by_runs() -> &'static str {
 
 #[test]
 fn boxes_have_their_calls(rt: HostRuntime) -> Result<(), Fail> {
-    let told = told_of(&rt, rt.alloc(), "run", 2)?;
+    let told = told_of(&rt, rt.alloc(), "run", counting(), 2)?;
     assert_text(told.as_str(), told_by_runs())
 }
 
-// Workers make the same calls.
+// Workers make the same calls, behind a node that hands the packets on.
 #[test]
 fn boxes_have_their_calls_by_workers(rt: HostRuntime) -> Result<(), Fail> {
-    let told = told_of(&rt, rt.alloc(), "run --workers 2", 2)?;
+    let told = told_of(&rt, rt.alloc(), "run --workers 2", counting_behind(), 2)?;
     assert_text(told.as_str(), told_by_runs())
 }
 
@@ -95,7 +128,13 @@ stream out packets=3 bound=Done
 
 #[test]
 fn boxes_have_their_calls_of_packets_that_are_made(rt: HostRuntime) -> Result<(), Fail> {
-    let told = told_of(&rt, rt.alloc(), "generate --report --number 3", 2)?;
+    let told = told_of(
+        &rt,
+        rt.alloc(),
+        "generate --report --number 3",
+        counting(),
+        2,
+    )?;
     assert_text(told.as_str(), told_by_generating())
 }
 
@@ -123,7 +162,7 @@ end
 
 #[test]
 fn boxes_have_their_calls_of_a_recorded_run(rt: HostRuntime) -> Result<(), Fail> {
-    let told = told_of(&rt, rt.alloc(), "trace", 1)?;
+    let told = told_of(&rt, rt.alloc(), "trace", counting(), 1)?;
     assert_text(told.as_str(), told_by_tracing())
 }
 
@@ -138,6 +177,6 @@ fn told_by_solve() -> &'static str {
 
 #[test]
 fn solve_calls_none(rt: HostRuntime) -> Result<(), Fail> {
-    let told = told_of(&rt, rt.alloc(), "solve", 1)?;
+    let told = told_of(&rt, rt.alloc(), "solve", counting(), 1)?;
     assert_text(told.as_str(), told_by_solve())
 }

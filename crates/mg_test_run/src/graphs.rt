@@ -1,9 +1,10 @@
 //! The graphs that are tried, with their packet lines and what they come to.
 
-/// One packet goes through.
+/// Packets go through two nodes, one after the other.
 pub(crate) fn passing() -> &'static str {
     r#"input_stream: "in" output_stream: "out"
-node { calculator: "PassThroughCalculator" input_stream: "in" output_stream: "out" }"#
+node { calculator: "PassThroughCalculator" input_stream: "in" output_stream: "between" }
+node { calculator: "PassThroughCalculator" input_stream: "between" output_stream: "out" }"#
 }
 
 /// Packets that come too early are left out.
@@ -11,6 +12,15 @@ pub(crate) fn thinning() -> &'static str {
     r#"input_stream: "in" output_stream: "out"
 node { calculator: "PacketThinnerCalculator" input_stream: "in" output_stream: "out"
   node_options: { [type.googleapis.com/mediapipe.PacketThinnerCalculatorOptions] { period: 10 } } }"#
+}
+
+/// The same beside a source of one packet, at which workers begin however few packets there are.
+pub(crate) fn thinning_beside_a_source() -> &'static str {
+    r#"input_stream: "in" output_stream: "out"
+node { calculator: "PacketThinnerCalculator" input_stream: "in" output_stream: "out"
+  node_options: { [type.googleapis.com/mediapipe.PacketThinnerCalculatorOptions] { period: 10 } } }
+node { calculator: "CountingSourceCalculator" output_stream: "beat"
+  options { [mediapipe.CountingSourceCalculatorOptions.ext] { count: 1 } } }"#
 }
 
 /// Five packets, of which two come too early.
@@ -38,9 +48,35 @@ pub(crate) fn counting() -> &'static str {
 node { calculator: "TallyCalculator" input_stream: "in" output_stream: "out" }"#
 }
 
+/// The same behind a node that hands the packets on, so that two works may be under way at once.
+pub(crate) fn counting_behind() -> &'static str {
+    r#"input_stream: "in" output_stream: "out"
+node { calculator: "PassThroughCalculator" input_stream: "in" output_stream: "between" }
+node { calculator: "TallyCalculator" input_stream: "between" output_stream: "out" }"#
+}
+
 /// Two packets.
 pub(crate) fn two_packets() -> &'static str {
     r#"{"stream":"in","ts":1,"value":"a"}
 {"stream":"in","ts":4,"value":"b"}
+"#
+}
+
+/// Two nodes read the one packet of a source.
+pub(crate) fn parting() -> &'static str {
+    r#"output_stream: "one" output_stream: "two"
+node { calculator: "CountingSourceCalculator" output_stream: "beat"
+  options { [mediapipe.CountingSourceCalculatorOptions.ext] { count: 1 } } }
+node { calculator: "IntMapCalculator" input_stream: "beat" output_stream: "one"
+  options { [mediapipe.IntMapCalculatorOptions.ext] { op: ADD operand: 10 } } }
+node { calculator: "IntMapCalculator" input_stream: "beat" output_stream: "two"
+  options { [mediapipe.IntMapCalculatorOptions.ext] { op: ADD operand: 10 } } }"#
+}
+
+/// The status, and what the two nodes make of the packet.
+pub(crate) fn parted() -> &'static str {
+    r#"0
+{"stream":"one","ts":0,"value":10}
+{"stream":"two","ts":0,"value":10}
 "#
 }

@@ -5,6 +5,7 @@ use mg_edge::{Gate, MemorySink, MemorySource, MemoryStore, Sink, Source, Store};
 use mg_run::{Status, run_words};
 use mg_value::MgText;
 use std::alloc::Global;
+use std::str;
 use std::sync::Wait;
 use std::test::Fail;
 use std::thread::Threads;
@@ -65,29 +66,30 @@ pub(crate) fn outside_over<S: Source + Drop, K: Sink + Drop>(
     input: S,
     output: K,
 ) -> Result<Outside<MemoryStore, S, K, MemorySink>, Fail> {
-    Ok(Outside {
-        words: words_of(alloc, command)?,
-        store: store_of(alloc, graph)?,
+    let notes = sink(alloc)?;
+    let mut outside = Outside {
+        words: Vec::new(alloc),
+        store: MemoryStore::new(alloc),
         input,
         output,
-        notes: sink(alloc)?,
-    })
+        notes,
+    };
+    put_words(alloc, &mut outside.words, command)?;
+    outside.store.put("g.pbtxt", graph.as_bytes())?;
+    Ok(outside)
 }
 
 // The words of a command, with blanks between them, and behind them the name of the graph's file.
-fn words_of(alloc: Global, command: &str) -> Result<Vec<MgText>, Fail> {
-    let mut words = Vec::new(alloc);
+fn put_words(alloc: Global, words: &mut Vec<MgText>, command: &str) -> Result<(), Fail> {
     for word in command.split(' ') {
-        words.push(MgText::new(alloc, word)?)?;
+        put_word(alloc, words, word)?;
     }
-    words.push(MgText::new(alloc, "g.pbtxt")?)?;
-    Ok(words)
+    put_word(alloc, words, "g.pbtxt")
 }
 
-fn store_of(alloc: Global, graph: &str) -> Result<MemoryStore, Fail> {
-    let mut store = MemoryStore::new(alloc);
-    store.put("g.pbtxt", graph.as_bytes())?;
-    Ok(store)
+fn put_word(alloc: Global, words: &mut Vec<MgText>, word: &str) -> Result<(), Fail> {
+    words.push(MgText::new(alloc, word)?)?;
+    Ok(())
 }
 
 // An empty sink.
@@ -102,14 +104,27 @@ pub(crate) fn show_came(
     output: &MemorySink,
     notes: &MemorySink,
 ) -> Result<String, Fail> {
-    let output = String::from_utf8(output.taken().to_vec(alloc)?)?;
-    let notes = String::from_utf8(notes.taken().to_vec(alloc)?)?;
-    Ok(format!(in alloc;
-        "{}\n{}{}",
-        status.number(),
-        output.as_str(),
-        notes.as_str()
-    )?)
+    let mut told = String::new(alloc);
+    put_came(&mut told, status, output, notes)?;
+    Ok(told)
+}
+
+/// Puts these down behind a text.
+pub(crate) fn put_came(
+    told: &mut String,
+    status: Status,
+    output: &MemorySink,
+    notes: &MemorySink,
+) -> Result<(), Fail> {
+    writeln!(told, "{}", status.number())?;
+    put_taken(told, output)?;
+    put_taken(told, notes)
+}
+
+/// Puts down the text that a sink took.
+pub(crate) fn put_taken(told: &mut String, sink: &MemorySink) -> Result<(), Fail> {
+    told.push_str(str::from_utf8(sink.taken())?)?;
+    Ok(())
 }
 
 /// Compares a text with what it has to be.

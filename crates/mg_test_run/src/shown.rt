@@ -2,51 +2,63 @@
 
 use mg_calc::{Calculator, Call, CallList, Emission, Laid};
 use mg_tables::{packet_at, show_packet_at, text_of, time_of};
-use mg_value::InputSet;
+use mg_value::{InputSet, Packet};
 use std::alloc::Global;
 use std::test::Fail;
 
-// The calls that a calculator had, each behind a blank: a set by its time.
-fn show_calls(alloc: Global, calls: &CallList) -> Result<String, Fail> {
-    let mut shown = String::new(alloc);
-    for call in calls.as_slice() {
-        match call {
-            Call::Begun => shown.push_str(" begun")?,
-            Call::Finished => shown.push_str(" finished")?,
-            Call::Shown { at, .. } => {
-                let at = text_of(alloc, *at)?;
-                write!(shown, " {}", at.as_str())?;
-            }
+// Puts down a call behind a blank: a set by its time.
+fn put_call(alloc: Global, told: &mut String, call: &Call) -> Result<(), Fail> {
+    match call {
+        Call::Begun => told.push_str(" begun")?,
+        Call::Finished => told.push_str(" finished")?,
+        Call::Shown { at, .. } => {
+            let at = text_of(alloc, *at)?;
+            write!(told, " {}", at.as_str())?;
         }
-    }
-    Ok(shown)
-}
-
-/// The calls of calculators, `;` behind those of each.
-pub(crate) fn show_logs<C: Calculator>(alloc: Global, calculators: &[C]) -> Result<String, Fail> {
-    let mut shown = String::new(alloc);
-    for calculator in calculators {
-        let calls = show_calls(alloc, calculator.log())?;
-        write!(shown, "{};", calls.as_str())?;
-    }
-    Ok(shown)
-}
-
-fn put_laid(alloc: Global, shown: &mut String, laid: &Laid) -> Result<(), Fail> {
-    for packet in laid.packets.as_slice() {
-        let packet = show_packet_at(alloc, packet)?;
-        write!(shown, " {}", packet.as_str())?;
     }
     Ok(())
 }
 
-// The packets that are emitted, each behind a blank.
-fn show_emission(alloc: Global, emission: &Emission) -> Result<String, Fail> {
-    let mut shown = String::new(alloc);
-    for laid in emission.as_slice() {
-        put_laid(alloc, &mut shown, laid)?;
+fn put_calls(alloc: Global, told: &mut String, calls: &CallList) -> Result<(), Fail> {
+    for call in calls.as_slice() {
+        put_call(alloc, told, call)?;
     }
-    Ok(shown)
+    Ok(())
+}
+
+/// Puts down the calls of calculators, `;` behind those of each.
+pub(crate) fn put_logs<C: Calculator>(
+    alloc: Global,
+    told: &mut String,
+    calculators: &[C],
+) -> Result<(), Fail> {
+    for calculator in calculators {
+        put_calls(alloc, told, calculator.log())?;
+        told.push_str(";")?;
+    }
+    Ok(())
+}
+
+// Puts down a packet behind a blank.
+fn put_packet(alloc: Global, told: &mut String, packet: &Packet) -> Result<(), Fail> {
+    let packet = show_packet_at(alloc, packet)?;
+    write!(told, " {}", packet.as_str())?;
+    Ok(())
+}
+
+fn put_laid(alloc: Global, told: &mut String, laid: &Laid) -> Result<(), Fail> {
+    for packet in laid.packets.as_slice() {
+        put_packet(alloc, told, packet)?;
+    }
+    Ok(())
+}
+
+// Puts down the packets that are emitted, each behind a blank.
+fn put_emission(alloc: Global, told: &mut String, emission: &Emission) -> Result<(), Fail> {
+    for laid in emission.as_slice() {
+        put_laid(alloc, told, laid)?;
+    }
+    Ok(())
 }
 
 // A set of one packet, at time 9.
@@ -57,26 +69,31 @@ fn set_at_nine(alloc: Global) -> Result<InputSet, Fail> {
     Ok(set)
 }
 
-// What a calculator with one input emits for one set more.
-fn show_further<C: Calculator>(alloc: Global, calculator: &mut C) -> Result<String, Fail> {
+// Puts down what a calculator with one input emits for one set more.
+fn put_further<C: Calculator>(
+    alloc: Global,
+    told: &mut String,
+    calculator: &mut C,
+) -> Result<(), Fail> {
     let at = time_of(alloc, "9")?;
     let set = set_at_nine(alloc)?;
     if calculator.shape().inputs.len() != set.len() {
         return Err(Fail::from("another number of ports"));
     }
     match calculator.process(alloc, at, &set) {
-        Ok(emission) => show_emission(alloc, &emission),
+        Ok(emission) => put_emission(alloc, told, &emission),
         Err(_) => Err(Fail::from("it failed")),
     }
 }
 
-/// What the first of some calculators emits for one set more.
-pub(crate) fn show_first<C: Calculator>(
+/// Puts down what the first of some calculators emits for one set more.
+pub(crate) fn put_first<C: Calculator>(
     alloc: Global,
+    told: &mut String,
     calculators: &mut Vec<C>,
-) -> Result<String, Fail> {
+) -> Result<(), Fail> {
     match calculators.first_mut() {
-        Some(first) => show_further(alloc, first),
+        Some(first) => put_further(alloc, told, first),
         None => Err(Fail::from("no calculator")),
     }
 }

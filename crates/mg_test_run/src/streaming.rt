@@ -2,8 +2,9 @@
 ghost use Rattle.std.specs.Prelude.{None};
 
 use crate::graphs::passing;
-use crate::outside::{assert_text, outside_over};
-use mg_edge::{Got, MemorySource, Put, Sink, Source, StillGate};
+use crate::outside::{assert_text, outside_over, put_taken};
+use mg_edge::{Got, MemorySink, MemorySource, Put, Sink, Source, StillGate};
+use mg_run::Status;
 use std::alloc::Global;
 use std::sync::Wait;
 use std::sync::atomic::{AtomicBool, Ordering};
@@ -90,13 +91,15 @@ fn came_by<R: Threads + Wait + Sync>(rt: &R, alloc: Global, command: &str) -> Re
     let input = source(alloc, &has_taken)?;
     let mut outside = outside_over(alloc, command, passing(), input, output)?;
     let status = outside.run(rt, alloc, &mut Vec::new(alloc), &StillGate);
-    let notes = String::from_utf8(outside.notes.taken().to_vec(alloc)?)?;
-    Ok(format!(in alloc;
-        "{} {} {}",
-        status.number(),
-        outside.output.bytes,
-        notes.as_str()
-    )?)
+    show(alloc, status, outside.output.bytes, &outside.notes)
+}
+
+// A status, how many bytes were written, and notes.
+fn show(alloc: Global, status: Status, bytes: u64, notes: &MemorySink) -> Result<String, Fail> {
+    let mut told = String::new(alloc);
+    write!(told, "{} {bytes} ", status.number())?;
+    put_taken(&mut told, notes)?;
+    Ok(told)
 }
 
 #[test]

@@ -1,15 +1,15 @@
 //! A gate is called round each Process call.
 
-use crate::graphs::{five_packets, thinned, thinning};
+use crate::graphs::{five_packets, parted, parting, thinned, thinning, thinning_beside_a_source};
 use crate::outside::{assert_text, outside_of, show_came};
-use mg_edge::Gate;
+use mg_edge::{Gate, MeetGate};
 use std::alloc::Global;
 use std::sync::Wait;
 use std::sync::atomic::{AtomicU64, Ordering};
 use std::test::Fail;
 use std::thread::Threads;
 
-// Counts its calls, and those that don't come in turn: node 0 with the numbers from 0 on, in and out again.
+// Counts the calls of node 0, and those of them that don't come in turn: with the numbers from 0 on, in and out again.
 #[derive(Drop)]
 struct Counts {
     entered: AtomicU64,
@@ -26,9 +26,9 @@ impl Counts {
         }
     }
 
-    // Counts a call for which these two have to be this number, at node 0.
-    fn note(&self, node: u32, number: u64, others: u64) {
-        if node != 0 || number != others {
+    // Counts a call for which these two have to be one number, where they aren't.
+    fn note(&self, number: u64, others: u64) {
+        if number != others {
             self.out_of_turn.fetch_add(1, Ordering::SeqCst);
         }
     }
@@ -43,25 +43,42 @@ impl Counts {
 
 impl Gate for Counts {
     fn enter(&self, node: u32, number: u64) {
-        self.note(node, number, self.left.load(Ordering::SeqCst));
-        self.note(node, number, self.entered.fetch_add(1, Ordering::SeqCst));
+        if node == 0 {
+            self.note(number, self.left.load(Ordering::SeqCst));
+            self.note(number, self.entered.fetch_add(1, Ordering::SeqCst));
+        }
     }
 
     fn leave(&self, node: u32, number: u64) {
-        self.note(node, number, self.left.fetch_add(1, Ordering::SeqCst));
+        if node == 0 {
+            self.note(number, self.left.fetch_add(1, Ordering::SeqCst));
+        }
     }
 }
 
-// The status and the texts that a command comes to through a gate, over five packets where it reads any.
+// The status and the texts that a command comes to over a graph and packet lines, through a gate.
+fn came_over<R: Threads + Wait + Sync, G: Gate + Sync>(
+    rt: &R,
+    alloc: Global,
+    command: &str,
+    graph: &str,
+    lines: &str,
+    gate: &G,
+) -> Result<String, Fail> {
+    let mut outside = outside_of(alloc, command, graph, lines)?;
+    let status = outside.run(rt, alloc, &mut Vec::new(alloc), gate);
+    show_came(alloc, status, &outside.output, &outside.notes)
+}
+
+// The same over five packets, where the command reads any, through a gate that counts.
 fn came_through<R: Threads + Wait + Sync>(
     rt: &R,
     alloc: Global,
     command: &str,
+    graph: &str,
     gate: &Counts,
 ) -> Result<String, Fail> {
-    let mut outside = outside_of(alloc, command, thinning(), five_packets())?;
-    let status = outside.run(rt, alloc, &mut Vec::new(alloc), gate);
-    show_came(alloc, status, &outside.output, &outside.notes)
+    came_over(rt, alloc, command, graph, five_packets(), gate)
 }
 
 // Five sets are shown, of which two are left out: each enters once, and leaves before the next one enters.
@@ -69,17 +86,23 @@ fn came_through<R: Threads + Wait + Sync>(
 fn gate_counts(rt: HostRuntime) -> Result<(), Fail> {
     let alloc = rt.alloc();
     let gate = Counts::new();
-    let came = came_through(&rt, alloc, "run", &gate)?;
+    let came = came_through(&rt, alloc, "run", thinning(), &gate)?;
     assert_text(came.as_str(), thinned())?;
     assert_text(gate.show(alloc)?.as_str(), "5 5 0")
 }
 
-// Workers show a node its sets in the same turn.
+// Workers show a node its sets in the same turn, beside a source.
 #[test]
 fn gate_counts_with_workers(rt: HostRuntime) -> Result<(), Fail> {
     let alloc = rt.alloc();
     let gate = Counts::new();
-    let came = came_through(&rt, alloc, "run --workers 2", &gate)?;
+    let came = came_through(
+        &rt,
+        alloc,
+        "run --workers 2",
+        thinning_beside_a_source(),
+        &gate,
+    )?;
     assert_text(came.as_str(), thinned())?;
     assert_text(gate.show(alloc)?.as_str(), "5 5 0")
 }
@@ -89,7 +112,18 @@ fn gate_counts_with_workers(rt: HostRuntime) -> Result<(), Fail> {
 fn gate_counts_packets_that_are_made(rt: HostRuntime) -> Result<(), Fail> {
     let alloc = rt.alloc();
     let gate = Counts::new();
-    let came = came_through(&rt, alloc, "generate --number 7", &gate)?;
+    let came = came_through(&rt, alloc, "generate --number 7", thinning(), &gate)?;
     assert_text(came.as_str(), "0\nout packets=7 first=0 last=60 sum=21\n")?;
     assert_text(gate.show(alloc)?.as_str(), "7 7 0")
+}
+
+// Two workers make two calls side by side: the one that comes first is held until the other one has come.
+#[test]
+fn calls_meet_with_workers(rt: HostRuntime) -> Result<(), Fail> {
+    let alloc = rt.alloc();
+    let gate = MeetGate::new((1, 0), (2, 0), 200_000_000);
+    let came = came_over(&rt, alloc, "run --workers 2", parting(), "", &gate)?;
+    assert_text(came.as_str(), parted())?;
+    assert_eq!(rt; gate.met(), true);
+    Ok(())
 }

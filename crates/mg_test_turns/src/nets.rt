@@ -1,20 +1,56 @@
 //! How the nets of the tests are shared, and what comes out of them at the end.
-ghost use Rattle.std.specs.Prelude.{◌≡◌, ◌^◌, IfOk};
+ghost use Rattle.std.specs.Prelude.{◌≡◌, ◌^◌, [], IfOk};
+ghost use Rattle.mg_calc.specs.Plan.{IsValid, OutersFit};
 ghost use Rattle.mg_sched.specs.StandsFor.{IsRunning};
 ghost use Rattle.mg_turns.specs.Calls.{key_of, view_of};
 ghost use Rattle.mg_workers.specs.Shared.{IsShared};
 ghost use Rattle.mg_seats.specs.Held.{HasOutputs, CameOf};
 
-use mg_calc::OuterShape;
+use mg_calc::{Inputs, OuterShape, Plan};
 use mg_edge::StillGate;
 use mg_plans::{do_fit, inputs_of, plan_of};
 use mg_route::LawBox;
 use mg_sched::{Deaf, Net};
 use mg_seats::{Shared, begun, shared_net, take_next};
 use mg_tables::show_set_at;
+use mg_turns::{NetSeat, SharedNet};
 use mg_value::InputSet;
+use mg_workers::Kept;
 use std::alloc::Global;
 use std::test::Fail;
+
+// The net of a plan with one output over inputs, shared before anything came or was laid.
+fn shared_over(alloc: Global, plan: &Plan, inputs: &Inputs) -> Result<Shared, Fail>
+    requires valid { IsValid plan.now }
+    requires none { OutersFit plan.now [] }
+    ensures shared { IfOk result (λ r. IsShared r.net r.seat) }
+    ensures whole { IfOk result (λ r. (view_of r.seat).portion ≡ 2 ^ 32) }
+    ensures kept { IfOk result (λ r. CameOf 1 (key_of r.net) r.kept) }
+{
+    if !do_fit(plan, inputs) {
+        return Err(Fail::from("inputs don't fit"));
+    }
+    if plan.outputs.len() != 1 {
+        return Err(Fail::from("not one output"));
+    }
+    let net = begun(alloc, plan, inputs)?;
+    let shared = shared_net(alloc, net)?;
+    Ok(shared)
+}
+
+// The same over packet lines.
+fn shared_by(alloc: Global, plan: &Plan, lines: &str) -> Result<Shared, Fail>
+    requires valid { IsValid plan.now }
+    requires none { OutersFit plan.now [] }
+    ensures shared { IfOk result (λ r. IsShared r.net r.seat) }
+    ensures whole { IfOk result (λ r. (view_of r.seat).portion ≡ 2 ^ 32) }
+    ensures kept { IfOk result (λ r. CameOf 1 (key_of r.net) r.kept) }
+{
+    let inputs = inputs_of(alloc, plan, lines, true)?;
+    let shared = shared_over(alloc, plan, &inputs);
+    drop(inputs);
+    shared
+}
 
 /// The net of a graph with one output over packet lines, shared before anything came or was laid.
 pub(crate) fn shared_of(alloc: Global, graph: &str, lines: &str) -> Result<Shared, Fail>
@@ -24,41 +60,59 @@ pub(crate) fn shared_of(alloc: Global, graph: &str, lines: &str) -> Result<Share
 {
     let outers: &[OuterShape] = &[];
     let plan = plan_of(alloc, graph, outers)?;
-    let inputs = inputs_of(alloc, &plan, lines, true)?;
-    if !do_fit(&plan, &inputs) {
-        return Err(Fail::from("inputs don't fit"));
-    }
-    if plan.outputs.len() != 1 {
-        return Err(Fail::from("not one output"));
-    }
-    let net = begun(alloc, &plan, &inputs)?;
-    let shared = shared_net(alloc, net)?;
-    Ok(shared)
+    let shared = shared_by(alloc, &plan, lines);
+    drop(plan);
+    shared
 }
 
 // Takes all sets that come out of a net, which have to be so many. It shows the last one.
-fn last_taken(alloc: Global, net: Net<LawBox>, wanted: u32) -> Result<String, Fail>
-    requires { HasOutputs 1 net }
+fn last_taken(alloc: Global, net: &mut Net<LawBox>, count: u32) -> Result<String, Fail>
+    requires { HasOutputs 1 net.old }
 {
-    let mut net = net;
     let mut set = InputSet::new(alloc, 1)?;
-    for _ in 0..wanted {
-        if !take_next(&mut net, &mut set) {
+    for _ in 0..count {
+        if !take_next(net, &mut set) {
             return Err(Fail::from("a set is missing"));
         }
     }
-    if take_next(&mut net, &mut set) {
+    if take_next(net, &mut set) {
         return Err(Fail::from("a set too many"));
     }
     show_set_at(alloc, &set)
 }
 
-/// Sweeps a net, and takes all sets that come out, which have to be so many. It shows the last one.
-pub(crate) fn last_of(alloc: Global, net: Net<LawBox>, wanted: u32) -> Result<String, Fail>
+// Sweeps a net, and takes all sets that come out, which have to be so many. It shows the last one.
+fn last_swept(alloc: Global, net: &mut Net<LawBox>, count: u32) -> Result<String, Fail>
+    requires running { IsRunning net.old }
+    requires outputs { HasOutputs 1 net.old }
+{
+    net.sweep(&StillGate, &mut Deaf)?;
+    last_taken(alloc, net, count)
+}
+
+/// Sweeps a net, and takes all sets that come out, which have to be so many, and the last one this.
+pub(crate) fn expect_last(
+    alloc: Global,
+    net: Net<LawBox>,
+    count: u32,
+    wanted: &str,
+) -> Result<(), Fail>
     requires running { IsRunning net }
     requires outputs { HasOutputs 1 net }
 {
     let mut net = net;
-    net.sweep(&StillGate, &mut Deaf)?;
-    last_taken(alloc, net, wanted)
+    let last = last_swept(alloc, &mut net, count);
+    drop(net);
+    let last = last?;
+    if last.as_str() == wanted {
+        return Ok(());
+    }
+    Err(Fail::new(format_args!("{last} is the last")))
+}
+
+/// Lets a shared net go.
+pub(crate) fn let_go(net: SharedNet<LawBox>, seat: NetSeat<LawBox>, kept: Kept<LawBox>) {
+    drop(net);
+    drop(seat);
+    drop(kept);
 }

@@ -7,12 +7,13 @@ ghost use Rattle.mg_turns.specs.Calls.{key_of, view_of};
 ghost use Rattle.mg_workers.specs.Shared.{IsShared, IsSharedWith};
 ghost use Rattle.mg_seats.specs.Held.{CameOf};
 
-use crate::nets::{last_of, shared_of};
+use crate::nets::{expect_last, let_go, shared_of};
 use mg_calc::Phase;
 use mg_node::{Outcome, Work};
 use mg_route::LawBox;
 use mg_seats::{Idle, Shared, append, claim, commit, performed, shelve, together};
 use mg_turns::{NetSeat, SharedNet};
+use mg_workers::Kept;
 use std::alloc::Global;
 use std::test::Fail;
 
@@ -31,6 +32,7 @@ fn one_node(alloc: Global) -> Result<Shared, Fail>
 {
     let shared = shared_of(alloc, passing(), r#"{"stream":"in","ts":5,"value":7}"#)?;
     if shared.net.nodes() != 1 {
+        drop(shared);
         return Err(Fail::from("not one node"));
     }
     Ok(shared)
@@ -49,22 +51,27 @@ fn work_at_five(net: &SharedNet<LawBox>, seat: &mut NetSeat<LawBox>) -> Result<W
     };
     match work.phase() {
         Phase::Process(time) if time.raw() == 5 => Ok(work),
-        _ => Err(Fail::from("not the set at 5")),
+        _ => {
+            drop(work);
+            Err(Fail::from("not the set at 5"))
+        }
     }
 }
 
 // A second seat gets no work meanwhile.
-fn gets_none(net: &SharedNet<LawBox>, seat: NetSeat<LawBox>) -> Result<NetSeat<LawBox>, Fail>
-    requires shared { IsShared net.now seat }
+fn gets_none(net: &SharedNet<LawBox>, seat: &mut NetSeat<LawBox>) -> Result<(), Fail>
+    requires shared { IsShared net.now seat.old }
     requires one { nodes_in (key_of net.now) ≡ 1 }
-    ensures shared { IfOk result (λ s. IsShared net.now s) }
-    ensures portion { IfOk result (λ s. (view_of s).portion ≡ (view_of seat).portion) }
+    ensures shared { OnOk result (IsShared net.now seat.new) }
+    ensures portion { (view_of seat.new).portion ≡ (view_of seat.old).portion }
 {
-    let mut seat = seat;
-    match claim(net, &mut seat, 0) {
-        Err(Idle::InFlightFull) => Ok(seat),
+    match claim(net, seat, 0) {
+        Err(Idle::InFlightFull) => Ok(()),
         Err(Idle::Other) => Err(Fail::from("not as many as may be")),
-        Ok(_) => Err(Fail::from("one work twice")),
+        Ok(work) => {
+            drop(work);
+            Err(Fail::from("one work twice"))
+        }
     }
 }
 
@@ -93,32 +100,99 @@ fn comes_back(
     }
 }
 
-// The work goes to one seat and none to another, and comes back; then the packet comes out.
+// A seat has a work, of which a second one gets none. It is performed, and comes back.
+fn comes_round(
+    alloc: Global,
+    net: &SharedNet<LawBox>,
+    seat: &mut NetSeat<LawBox>,
+    second: &mut NetSeat<LawBox>,
+    work: Work<LawBox>,
+    shelves: bool,
+) -> Result<(), Fail>
+    requires has { IsSharedWith net.now seat.old work }
+    requires lawful { (job : LoggedJob) → Fits job (key_of net.now) → LawfulWork job work }
+    requires second { IsShared net.now second.old }
+    requires one { nodes_in (key_of net.now) ≡ 1 }
+    ensures portion { (view_of seat.new).portion ≡ (view_of seat.old).portion }
+    ensures portion_too { (view_of second.new).portion ≡ (view_of second.old).portion }
+    ensures free { OnOk result (IsShared net.now seat.new × IsShared net.now second.new) }
+{
+    match gets_none(net, second) {
+        Ok(()) => {
+            let Some(outcome) = performed(alloc, work) else {
+                return Err(Fail::from("no memory"));
+            };
+            comes_back(net, seat, outcome, shelves)?;
+            Ok(())
+        }
+        Err(fail) => {
+            drop(work);
+            Err(fail)
+        }
+    }
+}
+
+// The work goes to one seat and none to another, and comes back. No turn is missed.
+fn goes_round(
+    alloc: Global,
+    net: &SharedNet<LawBox>,
+    seat: &mut NetSeat<LawBox>,
+    shelves: bool,
+) -> Result<(), Fail>
+    requires shared { IsShared net.now seat.old }
+    requires whole { (view_of seat.old).portion ≡ 2 ^ 32 }
+    requires one { nodes_in (key_of net.now) ≡ 1 }
+    ensures shared { OnOk result (IsShared net.now seat.new) }
+    ensures whole { OnOk result ((view_of seat.new).portion ≡ 2 ^ 32) }
+{
+    if append(net, seat, 0) != Some((1, true)) {
+        return Err(Fail::from("not one packet and the bound"));
+    }
+    let work = work_at_five(net, seat)?;
+    let mut second = seat.split(net, 1);
+    match comes_round(alloc, net, seat, &mut second, work, shelves) {
+        Ok(()) => {
+            seat.join(net, second);
+            Ok(())
+        }
+        Err(fail) => {
+            drop(second);
+            Err(fail)
+        }
+    }
+}
+
+// Then the packet comes out.
 fn one_work(alloc: Global, shelves: bool) -> Result<(), Fail> {
     let Shared {
         net,
         mut seat,
         kept,
     } = one_node(alloc)?;
-    if append(&net, &mut seat, 0) != Some((1, true)) {
-        return Err(Fail::from("not one packet and the bound"));
+    match goes_round(alloc, &net, &mut seat, shelves) {
+        Ok(()) => ends(alloc, net, seat, kept),
+        Err(fail) => {
+            let_go(net, seat, kept);
+            Err(fail)
+        }
     }
-    let work = work_at_five(&net, &mut seat)?;
-    let second = seat.split(&net, 1);
-    let second = gets_none(&net, second)?;
-    let Some(outcome) = performed(alloc, work) else {
-        return Err(Fail::from("no memory"));
-    };
-    comes_back(&net, &mut seat, outcome, shelves)?;
-    seat.join(&net, second);
+}
+
+fn ends(
+    alloc: Global,
+    net: SharedNet<LawBox>,
+    seat: NetSeat<LawBox>,
+    kept: Kept<LawBox>,
+) -> Result<(), Fail>
+    requires shared { IsShared net seat }
+    requires whole { (view_of seat).portion ≡ 2 ^ 32 }
+    requires kept { CameOf 1 (key_of net) kept }
+{
     if seat.misses() != 0 {
+        let_go(net, seat, kept);
         return Err(Fail::from("a turn was missed"));
     }
-    let last = last_of(alloc, together(net, seat, kept), 1)?;
-    if last.as_str() != "7@5" {
-        return Err(Fail::from("not 7 at 5"));
-    }
-    Ok(())
+    expect_last(alloc, together(net, seat, kept), 1, "7@5")
 }
 
 #[test]

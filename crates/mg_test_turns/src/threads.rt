@@ -4,7 +4,7 @@ ghost use Rattle.std.specs.Thread.{IsSync};
 ghost use Rattle.mg_turns.specs.Calls.{view_of};
 ghost use Rattle.mg_workers.specs.Shared.{IsShared, StaysShared};
 
-use crate::nets::{last_of, shared_of};
+use crate::nets::{expect_last, let_go, shared_of};
 use mg_route::LawBox;
 use mg_seats::{Shared, append, run, together};
 use mg_turns::{NetSeat, SharedNet};
@@ -170,13 +170,10 @@ fn add_up<R: Threads + Sync>(rt: &R, alloc: Global, threads: u32) -> Result<(), 
         brought,
     } = all_work(rt, alloc, &net, seat, threads);
     if done != 2002 || brought != 2000 {
+        let_go(net, seat, kept);
         return Err(Fail::new(format_args!("{done} works, {brought} packets")));
     }
-    let last = last_of(alloc, together(net, seat, kept), 1000)?;
-    if last.as_str() != "999@999" {
-        return Err(Fail::new(format_args!("{last} is the last")));
-    }
-    Ok(())
+    expect_last(alloc, together(net, seat, kept), 1000, "999@999")
 }
 
 #[test]

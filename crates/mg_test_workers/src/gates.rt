@@ -1,12 +1,9 @@
 //! Each Process call goes through the gate once, whoever makes it.
-use crate::running::rested;
+use crate::running::expect_run;
 use mg_edge::Gate;
-use mg_nets::told;
-use std::alloc::Global;
-use std::sync::Wait;
+use mg_nets::Case;
 use std::sync::atomic::{AtomicU64, Ordering};
 use std::test::*;
-use std::thread::Threads;
 
 // Counts its calls.
 #[derive(Drop)]
@@ -50,17 +47,21 @@ fn five_packets() -> &'static str {
 {"stream":"in","ts":20,"value":5}"#
 }
 
-// How far the net comes that two workers run through a gate.
-fn thinned<R: Threads + Wait + Sync>(rt: &R, alloc: Global, gate: &Counts) -> Result<String, Fail> {
-    let driver = rested(rt, alloc, thinning(), five_packets(), 2, gate)?;
-    told(alloc, &driver)
+// The case of it, of which two packets don't come out.
+fn thinned() -> Case<'static> {
+    Case {
+        graph: thinning(),
+        lines: five_packets(),
+        limit: 100,
+        wanted: "1@0 3@10 5@20 | 0 | 5 ; 5@Done 3@Done ;",
+        calls: ";;",
+    }
 }
 
 #[test]
 fn gate_counts(rt: HostRuntime) -> Result<(), Fail> {
     let gate = Counts::new();
-    let text = thinned(&rt, rt.alloc(), &gate)?;
-    assert_eq!(rt; text.as_str(), "5 ; 5@Done 3@Done ;");
+    expect_run(&rt, rt.alloc(), &thinned(), 2, &gate)?;
     assert_eq!(rt; gate.entered.load(Ordering::SeqCst), 5);
     assert_eq!(rt; gate.left.load(Ordering::SeqCst), 5);
     Ok(())

@@ -1,14 +1,37 @@
 //! Two Process calls that meet, since two workers make them. Workers that make one after the other don't get them to meet.
-use crate::running::run;
+use crate::running::expect_run;
 use mg_edge::MeetGate;
-use mg_nets::{adding, driver_of, told};
+use mg_nets::{Case, added};
 use std::alloc::Global;
 use std::sync::Wait;
-use std::test::*;
+use std::test::Fail;
 use std::thread::Threads;
 
-// How often a call that waits at a gate looks for the other one.
-const TURNS: u64 = 200_000_000;
+/// A Process call: its node, and the number of its set.
+pub(crate) type Call = (u32, u64);
+
+// How often a call that waits at a gate looks for the other one, where that is to come and where it isn't.
+const LONG: u64 = 200_000_000;
+
+const SHORT: u64 = 20_000;
+
+/// Two workers run the net of a case, and two of its Process calls meet, or they don't.
+pub(crate) fn expect_met<R: Threads + Wait + Sync>(
+    rt: &R,
+    alloc: Global,
+    case: &Case,
+    first: Call,
+    second: Call,
+    wanted: bool,
+) -> Result<(), Fail> {
+    let turns = if wanted { LONG } else { SHORT };
+    let gate = MeetGate::new(first, second, turns);
+    expect_run(rt, alloc, case, 2, &gate)?;
+    if gate.met() == wanted {
+        return Ok(());
+    }
+    Err(Fail::new(format_args!("call {}: {}", second.1, case.graph)))
+}
 
 // Two nodes read one stream.
 fn side_by_side() -> &'static str {
@@ -19,36 +42,23 @@ node { calculator: "IntMapCalculator" input_stream: "in" output_stream: "two"
   options { [mediapipe.IntMapCalculatorOptions.ext] { op: ADD operand: 10 } } }"#
 }
 
-// How far a graph comes that two workers run through a gate, before any sweep.
-fn came<R: Threads + Wait + Sync>(
-    rt: &R,
-    alloc: Global,
-    graph: &str,
-    lines: &str,
-    gate: &MeetGate,
-) -> Result<String, Fail> {
-    let driver = driver_of(alloc, graph, lines)?;
-    let driver = run(rt, alloc, driver, 2, gate);
-    told(alloc, &driver)
+// The packet goes through both.
+fn both() -> Case<'static> {
+    Case {
+        graph: side_by_side(),
+        lines: r#"{"stream":"in","ts":1,"value":5}"#,
+        limit: 100,
+        wanted: "15@1 15@1 | 0 | 1 1 ; 1@Done 1@Done 1@Done ;",
+        calls: ";;",
+    }
 }
 
 #[test]
 fn two_nodes_meet(rt: HostRuntime) -> Result<(), Fail> {
-    let gate = MeetGate::new((0, 0), (1, 0), TURNS);
-    let line = r#"{"stream":"in","ts":1,"value":5}"#;
-    let text = came(&rt, rt.alloc(), side_by_side(), line, &gate)?;
-    assert_eq!(rt; text.as_str(), "1 1 ; 1@Done 1@Done 1@Done ;");
-    assert_eq!(rt; gate.met(), true);
-    Ok(())
+    expect_met(&rt, rt.alloc(), &both(), (0, 0), (1, 0), true)
 }
 
 #[test]
 fn two_sets_meet(rt: HostRuntime) -> Result<(), Fail> {
-    let gate = MeetGate::new((0, 0), (0, 1), TURNS);
-    let lines = r#"{"stream":"in","ts":1,"value":5}
-{"stream":"in","ts":2,"value":6}"#;
-    let text = came(&rt, rt.alloc(), adding(), lines, &gate)?;
-    assert_eq!(rt; text.as_str(), "2 ; 2@Done 2@Done ;");
-    assert_eq!(rt; gate.met(), true);
-    Ok(())
+    expect_met(&rt, rt.alloc(), &added(), (0, 0), (0, 1), true)
 }

@@ -1,11 +1,11 @@
-//! Nets that workers run, and what they leave to do.
-ghost use Rattle.std.specs.Prelude.{⊤, IfOk};
+//! Nets that workers run: they leave nothing to do, and what comes out is wanted.
+ghost use Rattle.std.specs.Prelude.{⊤};
 ghost use Rattle.mg_nets.specs.Driven.{IsDriven};
 
 use mg_calc::Event;
 use mg_crew::run_workers;
 use mg_edge::{Gate, StillGate};
-use mg_nets::{Driver, driver_of, sweep};
+use mg_nets::{Case, Driver, Way, driver_under, expect, sweep, told};
 use mg_sched::Hears;
 use std::alloc::Global;
 use std::sync::Wait;
@@ -28,8 +28,37 @@ impl Hears for First {
     }
 }
 
-/// Lets so many workers run a net.
-pub(crate) fn run<R: Threads + Wait + Sync, G: Gate + Sync>(
+// A sweep that finds nothing to do. The net told the same before it.
+#[derive(Drop)]
+struct Rest;
+
+impl Way for Rest {
+    fn drive(&mut self, alloc: Global, driver: &mut Driver) -> Result<(), Fail> {
+        let before = told(alloc, driver)?;
+        expect_rest(driver)?;
+        let now = told(alloc, driver)?;
+        if now.as_str() == before.as_str() {
+            return Ok(());
+        }
+        Err(Fail::new(format_args!("{before}, and then {now}")))
+    }
+}
+
+// A sweep finds nothing to do.
+fn expect_rest(driver: &mut Driver) -> Result<(), Fail>
+    requires { IsDriven driver.old.plan driver.old.inputs driver.old.net }
+    ensures { IsDriven driver.new.plan driver.new.inputs driver.new.net }
+{
+    let mut first = First { event: None };
+    sweep(driver, &StillGate, &mut first)?;
+    match first.event {
+        None => Ok(()),
+        Some(event) => Err(Fail::new(format_args!("left to do: {event:?}"))),
+    }
+}
+
+// Lets so many workers run a net.
+fn run<R: Threads + Wait + Sync, G: Gate + Sync>(
     rt: &R,
     alloc: Global,
     driver: Driver,
@@ -44,32 +73,31 @@ pub(crate) fn run<R: Threads + Wait + Sync, G: Gate + Sync>(
     Driver { plan, inputs, net }
 }
 
-/// A sweep finds nothing to do.
-pub(crate) fn assert_rest(driver: &mut Driver) -> Result<(), Fail>
-    requires { IsDriven driver.old.plan driver.old.inputs driver.old.net }
-    ensures { IsDriven driver.new.plan driver.new.inputs driver.new.net }
-{
-    let mut first = First { event: None };
-    sweep(driver, &StillGate, &mut first)?;
-    match first.event {
-        None => Ok(()),
-        Some(event) => Err(Fail::new(format_args!("left to do: {event:?}"))),
-    }
-}
-
-/// The net of a graph over packet lines that so many workers have run. They left nothing to do.
-pub(crate) fn rested<R: Threads + Wait + Sync, G: Gate + Sync>(
+/// So many workers run the net of a case under its limit, each Process call through a gate. They leave nothing to do, and what comes
+/// out is wanted.
+pub(crate) fn expect_run<R: Threads + Wait + Sync, G: Gate + Sync>(
     rt: &R,
     alloc: Global,
-    graph: &str,
-    lines: &str,
+    case: &Case,
     workers: u32,
     gate: &G,
-) -> Result<Driver, Fail>
-    ensures { IfOk result (λ d. IsDriven d.plan d.inputs d.net) }
-{
-    let driver = driver_of(alloc, graph, lines)?;
-    let mut driver = run(rt, alloc, driver, workers, gate);
-    assert_rest(&mut driver)?;
-    Ok(driver)
+) -> Result<(), Fail> {
+    let driver = driver_under(alloc, case, case.limit)?;
+    let driver = run(rt, alloc, driver, workers, gate);
+    expect(alloc, driver, &mut Rest, case)
+}
+
+/// How many workers are tried.
+const WORKERS: [u32; 4] = [1, 2, 4, 8];
+
+/// So it is for each number of workers.
+pub(crate) fn expect_each<R: Threads + Wait + Sync>(
+    rt: &R,
+    alloc: Global,
+    case: &Case,
+) -> Result<(), Fail> {
+    for workers in WORKERS {
+        expect_run(rt, alloc, case, workers, &StillGate)?;
+    }
+    Ok(())
 }

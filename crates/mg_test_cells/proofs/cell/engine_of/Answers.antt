@@ -6,19 +6,19 @@ use Rattle.mg_test_cells.proofs.cell.engine_of.Goals as goal
 pub begin-requires : goal.begin-requires
 begin-requires c = made_unbegun c.args.plan.now _ _ (made c.args.plan.now _ c.in_ok-engine.ensures.there c.in_ok-engine.ensures.fresh)
 
-pub returns-clause-lawful : goal.returns-clause-lawful
-returns-clause-lawful c =
+pub returns-in-Ok-clause-lawful : goal.returns-in-Ok-clause-lawful
+returns-in-Ok-clause-lawful c =
     let m = made c.args.plan.now _ c.in_ok-engine.ensures.there c.in_ok-engine.ensures.fresh in
     let s = solved c.args.plan.now c.args.inputs.now c.requires in
-    c.in_ok-begin.ensures.lawful (job_of c.args.plan.now c.args.inputs.now) 0 m.node s.0 s.1 m.there
+    c.in-Ok.ensures.lawful (job_of c.args.plan.now c.args.inputs.now) 0 m.node s.0 s.1 m.there
     (c.in_ok-sides.ensures ∙ sym (sides_none (job_of c.args.plan.now c.args.inputs.now).job m.node m.sides)) (made_lawful c.args.plan.now c.args.inputs.now _ m)
 
-pub returns-clause-none : goal.returns-clause-none
-returns-clause-none c =
+pub returns-in-Ok-clause-none : goal.returns-in-Ok-clause-none
+returns-in-Ok-clause-none c =
     let m = made c.args.plan.now _ c.in_ok-engine.ensures.there c.in_ok-engine.ensures.fresh in
-    begun_none m.node (held_of m.node) _ _ (c.in_ok-begin.ensures.begun m.node 0 (held_of m.node) (is_new m.node (held_of m.node) refl) (inl m.fresh))
+    begun_none m.node (held_of m.node) _ _ (c.in-Ok.ensures.begun m.node 0 (held_of m.node) (is_new m.node (held_of m.node) refl) (inl m.fresh))
 
-pub returns-clause-keeps : goal.returns-clause-keeps
-returns-clause-keeps c =
+pub returns-in-Ok-clause-keeps : goal.returns-in-Ok-clause-keeps
+returns-in-Ok-clause-keeps c =
     let m = made c.args.plan.now _ c.in_ok-engine.ensures.there c.in_ok-engine.ensures.fresh in
-    begun_keeps m.node (held_of m.node) _ _ (c.in_ok-begin.ensures.begun m.node 0 (held_of m.node) (is_new m.node (held_of m.node) refl) (inl m.fresh))
+    begun_keeps m.node (held_of m.node) _ _ (c.in-Ok.ensures.begun m.node 0 (held_of m.node) (is_new m.node (held_of m.node) refl) (inl m.fresh))

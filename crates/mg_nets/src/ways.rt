@@ -1,0 +1,98 @@
+//! Nets that are driven in some way, and what they have to come to. Here alone a net is owned and let go: what drives it has it by
+//! `&mut`, and so nothing else proves how it is dropped.
+ghost use Rattle.std.specs.Prelude.{IfOk};
+ghost use Rattle.mg_nets.specs.Driven.{IsDriven};
+
+use crate::cases::{Case, is_wanted};
+use crate::driver::{Driver, driver_of, let_go, sweep};
+use crate::graphs::limited;
+use crate::outcome::{come_out, ended, told};
+use mg_edge::StillGate;
+use mg_sched::Deaf;
+use std::alloc::Global;
+use std::test::Fail;
+
+/// A way in which a net is driven.
+pub trait Way {
+    /// Drives a net.
+    fn drive(&mut self, alloc: Global, driver: &mut Driver) -> Result<(), Fail>
+        requires { IsDriven driver.old.plan driver.old.inputs driver.old.net }
+        ensures { IsDriven driver.new.plan driver.new.inputs driver.new.net };
+}
+
+/// The net of a case under a limit of its queues, with its nodes begun.
+pub fn driver_under(alloc: Global, case: &Case, limit: i32) -> Result<Driver, Fail>
+    ensures { IfOk result (λ d. IsDriven d.plan d.inputs d.net) }
+{
+    let graph = limited(alloc, limit, case.graph)?;
+    driver_of(alloc, graph.as_str(), case.lines)
+}
+
+/// A net that is driven in a way.
+pub fn driven<W: Way>(alloc: Global, driver: Driver, way: &mut W) -> Result<Driver, Fail>
+    requires { IsDriven driver.plan driver.inputs driver.net }
+    ensures { IfOk result (λ d. IsDriven d.plan d.inputs d.net) }
+{
+    let mut driver = driver;
+    match way.drive(alloc, &mut driver) {
+        Ok(()) => Ok(driver),
+        Err(fail) => {
+            let_go(driver);
+            Err(fail)
+        }
+    }
+}
+
+// What comes out of a net that is swept.
+fn come_out_swept(alloc: Global, driver: &mut Driver) -> Result<String, Fail>
+    requires { IsDriven driver.old.plan driver.old.inputs driver.old.net }
+{
+    sweep(driver, &StillGate, &mut Deaf)?;
+    come_out(alloc, driver)
+}
+
+/// What comes out of the net of a case under its limit, which is swept on one thread.
+pub fn swept(alloc: Global, case: &Case) -> Result<String, Fail> {
+    let mut driver = driver_under(alloc, case, case.limit)?;
+    let shown = come_out_swept(alloc, &mut driver);
+    let_go(driver);
+    shown
+}
+
+/// Drives a net to rest in a way. What comes out of it is wanted; and wound up it tells the same as before, and gives its calculators
+/// back in their order, with the calls that are wanted.
+pub fn expect<W: Way>(alloc: Global, driver: Driver, way: &mut W, case: &Case) -> Result<(), Fail>
+    requires { IsDriven driver.plan driver.inputs driver.net }
+{
+    let mut driver = driven(alloc, driver, way)?;
+    match expect_rest(alloc, &mut driver, case) {
+        Ok(before) => expect_end(alloc, driver, before.as_str(), case.calls),
+        Err(fail) => {
+            let_go(driver);
+            Err(fail)
+        }
+    }
+}
+
+// What comes out of a net at rest is wanted. This is what it tells.
+fn expect_rest(alloc: Global, driver: &mut Driver, case: &Case) -> Result<String, Fail>
+    requires { IsDriven driver.old.plan driver.old.inputs driver.old.net }
+    ensures { IsDriven driver.new.plan driver.new.inputs driver.new.net }
+{
+    let shown = come_out(alloc, driver)?;
+    if is_wanted(case, shown.as_str()) {
+        return told(alloc, driver);
+    }
+    Err(Fail::new(format_args!("{shown}, of {}", case.graph)))
+}
+
+// What a net tells once it is wound up, and the calls of the calculators that come back, are wanted.
+fn expect_end(alloc: Global, driver: Driver, told: &str, calls: &str) -> Result<(), Fail>
+    requires { IsDriven driver.plan driver.inputs driver.net }
+{
+    let (told_then, calls_then) = ended(alloc, driver)?;
+    if told_then.as_str() == told && calls_then.as_str() == calls {
+        return Ok(());
+    }
+    Err(Fail::new(format_args!("{told}, and then {told_then}{calls_then}")))
+}

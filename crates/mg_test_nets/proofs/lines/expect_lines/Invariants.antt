@@ -1,0 +1,5 @@
+use Rattle.mg_nets.specs.Driven.{IsDriven}
+use Rattle.mg_test_nets.proofs.lines.expect_lines.Given as goal
+
+abbrev pub invariant-loop-row : goal.invariant-loop-row
+invariant-loop-row l = IsDriven l.driver.plan l.driver.inputs l.driver.net

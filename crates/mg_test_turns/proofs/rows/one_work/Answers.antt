@@ -1,4 +1,0 @@
-use Rattle.mg_test_turns.proofs.rows.one_work.Goals as goal
-
-pub last_of-requires-clause-outputs : goal.last_of-requires-clause-outputs
-last_of-requires-clause-outputs c = c.together.ensures.outputs 1 c.in_ok-net.ensures.kept
