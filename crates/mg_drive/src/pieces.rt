@@ -12,8 +12,8 @@ use mg_edge::{Sink, Source};
 use mg_feed::{BatchEnd, FeedEnd, Generator};
 use std::alloc::{AllocError, Global};
 
-// How many packets the nodes of a graph have together of a piece, where each hands all of it on. As a net holds a piece and not much more,
-// what it holds of all packets doesn't grow with their number, nor with the number of its nodes.
+// How many packets wait before all ports of a graph's nodes together, or are kept of all its streams, where each has the whole of a piece. As
+// a net holds a piece and not much more, what it holds of all packets doesn't grow with their number, nor with that of its nodes and edges.
 const MOST_HELD: u32 = 1 << 16;
 
 /// Packets that are made piece by piece, each of which is a batch.
@@ -43,8 +43,8 @@ fn piece_for(plan: &Plan) -> u32
     if plan.inputs.is_empty() {
         return u32::MAX;
     }
-    let nodes = plan.nodes.len().max(1);
-    (MOST_HELD / nodes).max(1)
+    let most = plan.edges.len().max(plan.streams.len()).max(1);
+    (MOST_HELD / most).max(1)
 }
 
 // How a piece ends, of which this tells whether it is the last.

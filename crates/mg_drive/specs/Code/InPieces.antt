@@ -32,7 +32,7 @@ pub record WereMade (plan : Plan) (number : ℕ) (m : Making) (end : BatchEnd) (
   pub end_is : end ≡ end_of (m.made == number)
   pub inputs_are : inputs ≡ made_inputs (inputs_of plan) m.made (m.made == number)
 
--- they came piece by piece: so many had come by the end of each earlier one
+-- they came piece by piece: each earlier entry is what some number of packets comes to, and of these numbers nothing is said
 pub record HaveComeInPieces (plan : Plan) (number : ℕ) (m : Making) (end : BatchEnd) (history : List Inputs) : Type 0 where
   pub inputs : Inputs
   pub given : WereMade plan number m end inputs
