@@ -2,7 +2,7 @@
 //! functions of the plan, of the input's bytes and of the solution; how it is written, set by set and then the end; and a run
 //! that computes its answer plainly.
 //! Answers to the definitions of `specs/Text.antt`, `specs/Summary.antt`, `specs/Told.antt`, `specs/Notes.antt`, `specs/Report.antt`,
-//! `specs/Answer.antt`, `specs/Frozen.antt`, `specs/Put.antt`, `specs/Wrote.antt` and `specs/Ran.antt`.
+//! `specs/Answer.antt`, `specs/Frozen.antt`, `specs/Live.antt`, `specs/Put.antt`, `specs/Wrote.antt` and `specs/Ran.antt`.
 #![tactic(auto)]
 
 mod block_text;

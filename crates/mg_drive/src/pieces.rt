@@ -12,8 +12,9 @@ use mg_edge::{Sink, Source};
 use mg_feed::{BatchEnd, FeedEnd, Generator};
 use std::alloc::{AllocError, Global};
 
-// How many packets wait before all ports of a graph's nodes together, or are kept of all its streams, where each has the whole of a piece. As
-// a net holds a piece and not much more, what it holds of all packets doesn't grow with their number, nor with that of its nodes and edges.
+// How many packets wait before all ports of a graph's nodes together, or are kept of all its streams, where each has the whole of a piece. Where
+// nothing waits, a net holds a piece and not much more: what it holds of all packets doesn't grow with their number, nor with that of its
+// nodes and edges.
 const MOST_HELD: u32 = 1 << 16;
 
 /// Packets that are made piece by piece, each of which is a batch.

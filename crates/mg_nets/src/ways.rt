@@ -1,5 +1,5 @@
-//! Nets that are driven in some way, and what they have to come to. Here alone a net is owned and let go: what drives it has it by
-//! `&mut`, and so nothing else proves how it is dropped.
+//! Nets that are driven in some way, and what they have to come to. What drives a net has it by `&mut`, and
+//! what owns it here lets it go, so that no crate of tests proves how it is dropped.
 ghost use Rattle.std.specs.Prelude.{IfOk};
 ghost use Rattle.mg_nets.specs.Driven.{IsDriven};
 

@@ -133,10 +133,10 @@ job_of task files = files_job task.order task.outers files
 
 -- The answers --
 
--- An answer is that of a job where an input of these bytes ends well, and these calculators are handed in. To run a graph and to solve it
--- is to answer the same, and to record a run is to answer the same but for the output, which is a trace of any run of the job. To make a
--- recorded run again is to answer what its job's run answers, where the input's lines are such a run to rest, and else to refuse a line of it.
--- Where packets are made no input matters.
+-- An answer is that of a job where an input of these bytes ends well, and these calculators are handed in. To run a graph without free
+-- nodes and to solve it is to answer the same, and to record a run is to answer the same but for the output, which is a trace of any run of
+-- the job. To make a recorded run again is to answer what its job's run answers, where the input's lines are such a run to rest, and else
+-- to refuse a line of it. Where packets are made no input matters.
 abbrev pub IsAnswerOf : Job → List CalculatorTold → List ℕ → Answer → Type 0
 IsAnswerOf (refuse note) boxes input given = given ≡ record { output = []; notes = note; status = GraphRefused }
 IsAnswerOf (show text) boxes input given = given ≡ record { output = text; notes = []; status = Good }

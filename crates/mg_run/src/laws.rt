@@ -50,7 +50,7 @@ pub fn limits_and_workers_change_no_answer()
         → (a.notes ≡ b.notes) × (a.status ≡ b.status) }
 {}
 
-/// To run a graph, with whatever limit of queues, and to solve it is to answer the same.
+/// To run a graph without free nodes, with whatever limit of queues, and to solve it is to answer the same.
 pub fn run_and_solve_answer_the_same()
     ensures { (report : Bool) (limit : Option ℤ) (plan : Plan) (boxes : List CalculatorTold) (input : List ℕ) (a b : Answer)
         → IsAnswerOf (run_plan report (with_limit limit plan)) boxes input a → IsAnswerOf (solve report plan) boxes input b → a ≡ b }
@@ -79,8 +79,8 @@ pub fn told_devices_pin_a_headline()
         → Unrisen input.before.faults input.now.faults → read ≡ ended_input (inputs_of plan) bytes }
 {}
 
-/// There is one headline: two calls with the same words and boxes, whose stores and inputs tell the same and of which no read failed, have
-/// the same plan, the same reading and the same solution, and so the same answer.
+/// There is one headline where no node is free: two calls with the same words and boxes, whose stores and inputs tell the same and of which
+/// no read failed, have the same plan, the same reading and the same solution, and so the same answer.
 pub fn one_headline()
     ensures { (task : Task) (status other_status : Status) (devices other : Devices) (contents : List (List ℕ)) (bytes : List ℕ) (a : Headline task status devices) (b : Headline task other_status other)
         → loads_of devices.store.before.content task.files ≡ Some contents → loads_of other.store.before.content task.files ≡ Some contents
