@@ -29,7 +29,7 @@ pub struct Live<'p, B> {
     pub alloc: Global,
     /// How the input ended, once it has.
     pub end: Option<FeedEnd>,
-    /// Whether a round did nothing since the last batch came.
+    /// Whether a round did nothing since the last batch came. Contracts alone read it.
     pub rested: bool,
 }
 

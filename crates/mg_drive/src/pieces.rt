@@ -37,7 +37,8 @@ impl Pieces {
     }
 }
 
-// How many packets a piece has for a plan. A graph without an input gets all of them at once, which are none.
+// How many packets a piece has for a plan: at least one for each input, as the packets go to the inputs in turn, and each piece has the net
+// looked over. A graph without an input gets all of them at once, which are none.
 fn piece_for(plan: &Plan) -> u32
     ensures { 0 < result }
 {
@@ -45,7 +46,7 @@ fn piece_for(plan: &Plan) -> u32
         return u32::MAX;
     }
     let most = plan.edges.len().max(plan.streams.len()).max(1);
-    (MOST_HELD / most).max(1)
+    (MOST_HELD / most).max(plan.inputs.len()).max(1)
 }
 
 // How a piece ends, of which this tells whether it is the last.
