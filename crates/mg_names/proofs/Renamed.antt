@@ -1,8 +1,10 @@
 -- Ports under other names.
-use Rattle.std.proofs.Common.{ℕ, suc, ◌+◌, ◌<◌, ◌≤◌, ◌≡◌, List, [], ◌∷◌, ◌++◌, length, slice_index_or, slice_set, refl, ap, arith, cond, not, min, subst, sym, ◌∙◌}
+use Rattle.std.proofs.Common.{ℕ, suc, ◌+◌, ◌<◌, ◌≤◌, ◌≡◌, Option, None, Some, List, [], ◌∷◌, ◌++◌, length, slice_index_or, slice_set, refl, ap, arith, cond, not, min, subst, sym, ◌∙◌}
 use Rattle.std.specs.List.{position_or_len}
 use Rattle.mg_names.specs.Ports.{is_at, place_of}
+use Rattle.mg_names.specs.Code.Places.{found_in}
 use Rattle.mg_names.specs.Renaming.{with_names}
+use Rattle.mg_names.specs.declared.places.Places.{Places}
 use Rattle.mg_names.specs.declared.port.Port.{Port}
 
 pub no_names : (ports : List Port) → with_names ports [] ≡ ports
@@ -47,3 +49,9 @@ same_places tag index ports names =
     let first = same_first tag index ports names in
     let count = length-with_names ports names in
     cc
+
+-- a table says the places under other names too
+pub found_renamed : (places : Option Places) (ports renamed : List Port) (names : List (List ℕ)) (tag : List ℕ) (index : ℕ) → renamed ≡ with_names ports names
+    → found_in places ports tag index ≡ place_of tag index ports → found_in places renamed tag index ≡ place_of tag index renamed
+found_renamed None ports renamed names tag index same found = refl
+found_renamed (Some places) ports renamed names tag index same found = found ∙ sym (ap (place_of tag index) same ∙ same_places tag index ports names)

@@ -12,6 +12,7 @@ use Rattle.std.proofs.lemmas.List.Folds.{position_or_len_push, list_any-append}
 use Rattle.std.proofs.lemmas.List.Sums.{prefix_len-le-length}
 use Rattle.mg_names.specs.Ports.{is_at, has_port, stands_twice, has_gap, place_of, after, ports_after, checked, placed_ports_of}
 use Rattle.mg_names.specs.declared.fault.NameFault.TheVariants.{Gap}
+use Rattle.mg_names.specs.declared.placed_fault.PlacedFault.{PlacedFault}
 use Rattle.mg_names.specs.declared.placed_fault.PlacedFault.TheVariants.{Whole}
 use Rattle.mg_names.specs.Code.Places.{kept_place, lacks_lower}
 use Rattle.mg_names.specs.declared.places.Places.{Places}
@@ -158,29 +159,31 @@ gap_by_places ports places kept =
     (ap is_none (kept port.tag (port.index - 1)) ∙ (none_is_not_some (place_of port.tag (port.index - 1) ports) ∙ ap not (sym (any_has_place (is_at port.tag (port.index - 1)) ports)))))
     ports
 
--- the ports of texts, each spelled, by their table: it says whether there is a gap
-pub record IsChecked (texts : List (List ℕ)) (made ports slice : List Port) (places : Places) : Type 0 where
-  pub spelled : ports_after [] texts ≡ Ok made
-  pub same : ports ≡ made
-  pub sliced : slice ≡ ports
-  pub once : stands_twice slice ≡ false
-  pub kept : (tag : List ℕ) (index : ℕ) → kept_place places tag index ≡ place_of tag index slice
+-- the test of ports of which none stands twice, by their table
+checked_by_places : (ports : List Port) (places : Places) → stands_twice ports ≡ false
+    → ((tag : List ℕ) (index : ℕ) → kept_place places tag index ≡ place_of tag index ports)
+    → checked ports ≡ (if list_any (lacks_lower places) ports then Err (Whole Gap) else Ok ports)
+checked_by_places ports places once kept =
+    let gap : checked ports ≡ (if has_gap ports then Err (Whole Gap) else Ok ports) = rw once refl in
+    gap ∙ ap (λ b. if b then Err (Whole Gap) else Ok ports) (sym (gap_by_places ports places kept))
 
-checked_ports : (texts : List (List ℕ)) (made ports slice : List Port) (places : Places) → IsChecked texts made ports slice places
-    → placed_ports_of texts ≡ (if list_any (lacks_lower places) slice then Err (Whole Gap) else Ok ports)
-checked_ports texts made ports slice places known =
-    let all : placed_ports_of texts ≡ checked slice = ap (λ r. after r checked) known.spelled ∙ ap checked (sym known.same ∙ sym known.sliced) in
-    let gap : checked slice ≡ (if has_gap slice then Err (Whole Gap) else Ok slice) = rw known.once refl in
-    all ∙ (gap
-    ∙ (ap (λ b. if b then Err (Whole Gap) else Ok slice) (sym (gap_by_places slice places known.kept))
-    ∙ ap (λ l. if list_any (lacks_lower places) slice then Err (Whole Gap) else Ok l) known.sliced))
+pub table_ok : (ports : List Port) (places : Places) → stands_twice ports ≡ false
+    → ((tag : List ℕ) (index : ℕ) → kept_place places tag index ≡ place_of tag index ports)
+    → list_any (lacks_lower places) ports ≡ false → checked ports ≡ Ok ports
+table_ok ports places once kept filled = checked_by_places ports places once kept ∙ ap (λ b. if b then Err (Whole Gap) else Ok ports) filled
 
-pub read_ok : (texts : List (List ℕ)) (made ports slice : List Port) (places : Places) → IsChecked texts made ports slice places
-    → list_any (lacks_lower places) slice ≡ false → placed_ports_of texts ≡ Ok ports
-read_ok texts made ports slice places known filled =
-    checked_ports texts made ports slice places known ∙ ap (λ b. if b then Err (Whole Gap) else Ok ports) filled
+pub table_gap : (ports : List Port) (places : Places) → stands_twice ports ≡ false
+    → ((tag : List ℕ) (index : ℕ) → kept_place places tag index ≡ place_of tag index ports)
+    → list_any (lacks_lower places) ports ≡ true → checked ports ≡ Err (Whole Gap)
+table_gap ports places once kept gap = checked_by_places ports places once kept ∙ ap (λ b. if b then Err (Whole Gap) else Ok ports) gap
 
-pub read_gap : (texts : List (List ℕ)) (made ports slice : List Port) (places : Places) → IsChecked texts made ports slice places
-    → list_any (lacks_lower places) slice ≡ true → placed_ports_of texts ≡ Err (Whole Gap)
-read_gap texts made ports slice places known gap =
-    checked_ports texts made ports slice places known ∙ ap (λ b. if b then Err (Whole Gap) else Ok ports) gap
+-- the ports of texts, each spelled, and what the test of the whole list says
+pub judged_ok : (texts : List (List ℕ)) (made ports slice : List Port) → ports_after [] texts ≡ Ok made → ports ≡ made → slice ≡ ports
+    → checked slice ≡ Ok slice → placed_ports_of texts ≡ Ok ports
+judged_ok texts made ports slice spelled same sliced fine =
+    ap (λ r. after r checked) spelled ∙ (ap checked (sym same ∙ sym sliced) ∙ (fine ∙ ap (λ l. Ok l) sliced))
+
+pub judged_err : (texts : List (List ℕ)) (made ports slice : List Port) (fault : PlacedFault) → ports_after [] texts ≡ Ok made → ports ≡ made → slice ≡ ports
+    → checked slice ≡ Err fault → placed_ports_of texts ≡ Err fault
+judged_err texts made ports slice fault spelled same sliced refused =
+    ap (λ r. after r checked) spelled ∙ (ap checked (sym same ∙ sym sliced) ∙ refused)

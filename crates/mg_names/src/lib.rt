@@ -3,6 +3,7 @@
 #![tactic(auto)]
 
 mod fault;
+mod few;
 mod grammar;
 mod indexing;
 pub mod laws;

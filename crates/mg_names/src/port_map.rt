@@ -1,7 +1,8 @@
 ghost use Rattle.std.specs.Prelude.{◌≡◌, ◌≢◌, [], IfOk, IfErr, length, slice_get, option_copied, Ok, Err, ◌==◌};
 
 use crate::fault::NameFault;
-use crate::indexing::{any_lacks_lower, places_of};
+use crate::few::place_among;
+use crate::indexing::{copied_places, judged_places};
 use crate::numbering::read_ports;
 use crate::placed_fault::PlacedFault;
 use crate::places::Places;
@@ -16,7 +17,8 @@ use std::marker::Model;
 #[derive(Debug, Drop)]
 pub struct PortMap {
     ports: BlockList<Port>,
-    places: Places,
+    // Where each of many ports stands. Few ports are looked through.
+    places: Option<Places>,
 }
 
 impl Model for PortMap {
@@ -25,12 +27,12 @@ impl Model for PortMap {
 
     ghost Value = { List Port };
 
-    ghost use Rattle.mg_names.specs.Code.Places.{kept_place};
+    ghost use Rattle.mg_names.specs.Code.Places.{found_in};
     ghost use Rattle.mg_names.specs.Ports.{place_of};
 
     ghost view = { λ m. m.ports };
 
-    ghost invariant = { λ m. (length m.ports < 2 ^ 32) × ((tag : List ℕ) (index : ℕ) → kept_place m.places tag index ≡ place_of tag index m.ports) };
+    ghost invariant = { λ m. (length m.ports < 2 ^ 32) × ((tag : List ℕ) (index : ℕ) → found_in m.places m.ports tag index ≡ place_of tag index m.ports) };
 }
 
 impl PortMap {
@@ -43,7 +45,7 @@ impl PortMap {
     {
         PortMap {
             ports: BlockList::from_vec(Vec::new(alloc)).unwrap(),
-            places: Places::new(alloc),
+            places: None,
         }
     }
 
@@ -66,13 +68,7 @@ impl PortMap {
         ensures cause { IfErr result HasCause }
     {
         let ports = BlockList::from_vec(read_ports(alloc, texts)?)?;
-        let slice = ports.as_slice();
-        let places = places_of(alloc, slice)?;
-        if any_lacks_lower(&places, slice) {
-            return Err(PlacedFault::Whole {
-                cause: NameFault::Gap,
-            });
-        }
+        let places = judged_places(alloc, ports.as_slice())?;
         Ok(PortMap { ports, places })
     }
 
@@ -97,12 +93,15 @@ impl PortMap {
         self.ports.get(i)
     }
 
-    /// The place of the port with a tag, which is empty for the untagged, and an index. It is looked up in a tree of
-    /// the tags.
+    /// The place of the port with a tag, which is empty for the untagged, and an index. Among many ports it is looked
+    /// up in a tree of the tags.
     pub fn find(&self, tag: &[u8], index: u8) -> Option<u32>
         ensures { result ≡ place_of tag.now index self.now }
     {
-        self.places.get(tag, index)
+        match &self.places {
+            Some(places) => places.get(tag, index),
+            None => place_among(self.ports.as_slice(), tag, index),
+        }
     }
 
     /// A second copy.
@@ -110,11 +109,8 @@ impl PortMap {
         ensures { IfOk result (λ map. map ≡ self.now) }
     {
         let ports = BlockList::from_vec(copies_of(alloc, self.ports.as_slice())?)?;
-        // No tag and index stands twice in a map that was read, so nothing but memory can want.
-        match places_of(alloc, ports.as_slice()) {
-            Ok(places) => Ok(PortMap { ports, places }),
-            Err(_) => Err(AllocError),
-        }
+        let places = copied_places(alloc, ports.as_slice(), &self.places)?;
+        Ok(PortMap { ports, places })
     }
 
     /// The ports under other names, in their order. Ports past the last name keep theirs.

@@ -16,6 +16,7 @@ pub mod Finish
 pub mod Depth
 pub mod Clean
 pub mod Faults
+pub mod Tables
 pub mod Lasting
 pub mod Printing
 pub mod Unicode

@@ -16,6 +16,7 @@ mod printer;
 mod reader;
 mod state;
 mod step;
+mod table;
 mod tree;
 
 pub use fault::TextFault;

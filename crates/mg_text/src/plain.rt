@@ -2,14 +2,23 @@
 ghost use Rattle.std.specs.Prelude.{◌≡◌, ◌≤◌, ◌++◌, take, length, IfOk, OnOk};
 ghost use Rattle.mg_text.specs.Byte.{class_of};
 ghost use Rattle.mg_text.specs.Code.Running.{state_of, Lasts};
-ghost use Rattle.mg_text.specs.Code.Plain.{lengthens, run_of, AllLengthen};
+ghost use Rattle.mg_text.specs.Code.Plain.{lengthens, run_of, AllLengthen, flag_of};
 
-use crate::class::class_of;
-use crate::inside::in_piece;
 use crate::machine::Machine;
-use crate::parts::Tail;
+use crate::parts::{Quote, Tail};
 use crate::state::{Inside, NamePart, Reading, Run, ScalarPart};
 use std::alloc::AllocError;
+
+// Which runs each byte lengthens, as a letter: 64 and the flags of those runs.
+static RUNS: [u8; 256] = *b"\
+    ZZZZZZZZZ[A[[[ZZZZZZZZZZZZZZZZZZ\
+    [ZJZZZZRZZZZZZZZ^^^^^^^^^^ZZZZZZ\
+    Z^^^^^^^^^^^^^^^^^^^^^^^^^^ZBZZ^\
+    Z^^^^^^^^^^^^^^^^^^^^^^^^^^ZZZZZ\
+    @@@@@@@@@@@@@@@@@@@@@@@@@@@@@@@@\
+    @@@@@@@@@@@@@@@@@@@@@@@@@@@@@@@@\
+    @@@@@@@@@@@@@@@@@@@@@@@@@@@@@@@@\
+    @@@@@@@@@@@@@@@@@@@@@@@@@@@@@@@@";
 
 impl Machine {
     /// Takes the first of some bytes, those that only lengthen what is being read, and answers how many they are. No message
@@ -73,11 +82,19 @@ fn front(run: Run, bytes: &[u8]) -> usize
 fn lengthens(run: Run, b: u8) -> bool
     ensures { result ≡ lengthens run (class_of b) }
 {
-    let class = class_of(b);
+    RUNS[b as usize] & flag_of(run) != 0
+}
+
+// The flag that a run has in the table.
+#[inline(always)]
+fn flag_of(run: Run) -> u8
+    ensures { result ≡ flag_of run }
+{
     match run {
-        Run::Blank => class.is_blank(),
-        Run::Comment => class.in_line(),
-        Run::Word => class.is_word_byte(),
-        Run::Piece(quote) => in_piece(quote, class),
+        Run::Blank => 1,
+        Run::Comment => 2,
+        Run::Word => 4,
+        Run::Piece(Quote::Single) => 8,
+        Run::Piece(Quote::Double) => 16,
     }
 }

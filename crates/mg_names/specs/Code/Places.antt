@@ -3,6 +3,7 @@ use Rattle.std.specs.Prelude.{ℕ, List, Option, None, Some, unwrap_or, slice_ge
 use Rattle.std.specs.Ordering.{nat_cmp}
 use Rattle.std.specs.Cmp.Lexicographic.{slice_cmp}
 use Rattle.std.specs.BTreeMap as tree
+use Rattle.mg_names.specs.Ports.{place_of, has_port}
 use Rattle.mg_names.specs.declared.port.Port.{Port}
 use Rattle.mg_names.specs.declared.places.Places.{Places}
 
@@ -21,3 +22,12 @@ kept_place places tag index = slot_of (option_map (λ slots. slots.items) (tree.
 -- whether a port has an index above 0 while no place is kept of its tag and the index below
 abbrev pub lacks_lower : Places → Port → Bool
 lacks_lower places port = not (port.index == 0) && is_none (kept_place places port.tag (port.index - 1))
+
+-- the place of a tag and index among ports, by their table where they have one
+abbrev pub found_in : Option Places → List Port → List ℕ → ℕ → Option ℕ
+found_in None ports tag index = place_of tag index ports
+found_in (Some places) ports tag index = kept_place places tag index
+
+-- whether a port has an index above 0 while none of the ports has its tag and the index below
+abbrev pub lacks_below : List Port → Port → Bool
+lacks_below ports port = not (port.index == 0) && not (has_port port.tag (port.index - 1) ports)

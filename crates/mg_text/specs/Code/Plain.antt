@@ -2,6 +2,7 @@
 use Rattle.std.specs.Prelude.{◌≡◌, ℕ, List, Bool, true, Option, Some, None}
 use Rattle.std.specs.List.{All}
 use Rattle.mg_text.specs.declared.parts.Class.{Class}
+use Rattle.mg_text.specs.declared.parts.Quote.TheVariants.{Single, Double}
 use Rattle.mg_text.specs.declared.parts.Tail.TheVariants.{Whole}
 use Rattle.mg_text.specs.declared.state.NamePart.TheVariants as np
 use Rattle.mg_text.specs.declared.state.ScalarPart.TheVariants as sp
@@ -32,3 +33,11 @@ run_of (reading.Name np.Word) = Some Word
 run_of (reading.Scalar slot sp.Word) = Some Word
 run_of (reading.Piece slot q (inside.Plain Whole)) = Some (Piece q)
 run_of _ = None
+
+-- the flag of a run in the parser's table of bytes
+abbrev pub flag_of : Run → ℕ
+flag_of Blank = 1
+flag_of Comment = 2
+flag_of Word = 4
+flag_of (Piece Single) = 8
+flag_of (Piece Double) = 16
