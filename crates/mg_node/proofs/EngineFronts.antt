@@ -35,19 +35,19 @@ same_stands q s h = record { prefix = h.prefix; gone = h.gone; waiting = h.waiti
 seen_stands : (q : Waiting Plain) (s : StreamPrefix Plain) → StandsFor q s → StandsFor (queue_of 0 (backlog_of q)) s
 seen_stands q s h = record { prefix = h.prefix; gone = h.gone; waiting = h.waiting; bound = h.bound }
 
-queues_stand : (qs : List (Waiting Plain)) (whole : List (StreamPrefix Plain)) → StandForAll (map backlog_of qs) whole → Stand qs whole
+pub queues_stand : (qs : List (Waiting Plain)) (whole : List (StreamPrefix Plain)) → StandForAll (map backlog_of qs) whole → Stand qs whole
 queues_stand [] [] z = z
 queues_stand [] (s ∷ whole) z = z
 queues_stand (q ∷ qs) [] z = z
 queues_stand (q ∷ qs) (s ∷ whole) z = (same_stands q s z.0, queues_stand qs whole z.1)
 
-backlogs_stand : (qs : List (Waiting Plain)) (whole : List (StreamPrefix Plain)) → Stand qs whole → StandForAll (map backlog_of qs) whole
+pub backlogs_stand : (qs : List (Waiting Plain)) (whole : List (StreamPrefix Plain)) → Stand qs whole → StandForAll (map backlog_of qs) whole
 backlogs_stand [] [] z = z
 backlogs_stand [] (s ∷ whole) z = z
 backlogs_stand (q ∷ qs) [] z = z
 backlogs_stand (q ∷ qs) (s ∷ whole) z = (seen_stands q s z.0, backlogs_stand qs whole z.1)
 
-seen_gone : (qs : List (Waiting Plain)) → map (λ b. b.gone) (map backlog_of qs) ≡ map (λ q. q.gone) qs
+pub seen_gone : (qs : List (Waiting Plain)) → map (λ b. b.gone) (map backlog_of qs) ≡ map (λ q. q.gone) qs
 seen_gone [] = refl
 seen_gone (q ∷ qs) = ap (λ (ns : List ℕ). q.gone ∷ ns) (seen_gone qs)
 
@@ -75,7 +75,7 @@ lays_none e h ended = record {
 
 -- Any other lays what is ready.
 
-not_ended : (closed : Bool) (fault : Option NodeFault) → (closed || is_some fault) ≡ false → (closed ≡ false) × (fault ≡ None)
+pub not_ended : (closed : Bool) (fault : Option NodeFault) → (closed || is_some fault) ≡ false → (closed ≡ false) × (fault ≡ None)
 not_ended true fault e = absurd cc
 not_ended false None e = (refl, refl)
 not_ended false (Some f) e = absurd cc
@@ -141,7 +141,7 @@ counted_set (e ∷ window) (suc i) old new is phase = ap (λ (n : ℕ). counted 
 few_by : (job : LoggedJob) (number : ℕ) (e : EngineView) → IsEngineOf job number e → e.laid + counted_in e.window ≤ e.claimed
 few_by job number e h = (let order = h.order in let all = counted_all e.window in omega (arith, order, all))
 
-whole_by : (job : LoggedJob) (number : ℕ) (e : EngineView) (window : List EntryView) → LawfulEngine job (of_node number) e → (e.laid + counted_in e.window ≤ e.claimed) × HasWhole (record e { window = window })
+pub whole_by : (job : LoggedJob) (number : ℕ) (e : EngineView) (window : List EntryView) → LawfulEngine job (of_node number) e → (e.laid + counted_in e.window ≤ e.claimed) × HasWhole (record e { window = window })
 unfolding LawfulEngine
 whole_by job number e window h = (
   few_by job number e h,

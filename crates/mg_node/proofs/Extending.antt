@@ -1,19 +1,23 @@
 -- The engine of a graph input goes on with what came later.
-use Rattle.std.proofs.Common.{◌≡◌, true, false, None, ℕ, ◌≤◌, ◌<◌, max, List, [], ◌∷◌, ◌++◌, length, length-append, map, get_or, ap, sym, refl, subst, ◌∙◌, arith}
+use Rattle.std.proofs.Common.{◌≡◌, ℕ, Result, Ok, Err, ◌≤◌, ◌<◌, max, List, [], ◌∷◌, ◌++◌, ◌-◌, length, length-append, length-drop, append-nil, map, set, take, take_at, get_or, ap, sym, refl, subst, subst₂, ◌∙◌, arith}
 use Rattle.std.proofs.lemmas.List.{drop-append-le}
+use Rattle.std.specs.Result.{OnErr}
 use Rattle.mg_value.specs.Payload.{Plain}
 use Rattle.mg_value.specs.Prefix.{Stamped, StreamPrefix, IsPrefix, Ascends, first_time, empty_prefix}
-use Rattle.mg_stream.specs.Queue.{Waiting, StandsFor, IsLike}
+use Rattle.mg_value.proofs.Behind.{drop_is_prefix}
+use Rattle.mg_stream.specs.Queue.{Waiting, StandsFor, IsLike, IsQueue, cut_back}
 use Rattle.mg_stream.specs.Pool.{Backlog, backlog_of, queue_of, empty_backlog}
 use Rattle.mg_calc.proofs.Jobs.{any_state, job_known}
 use Rattle.mg_calc.proofs.Rounds.{stream_is_prefix}
 use Rattle.mg_calc.proofs.Solutions.{one_solution, solution_keeps}
-use Rattle.mg_node.specs.declared.role.Role.TheVariants.{Input}
-use Rattle.mg_node.specs.Views.{BenchView, EntryView, EngineView}
+use Rattle.mg_node.specs.Views.{EngineView}
+use Rattle.mg_node.specs.Outputs.{laid_at}
 use Rattle.mg_node.specs.Job.{LoggedJob, Solves}
 use Rattle.mg_node.specs.Lawful.{of_input, StandForAll, LawfulEngine}
-use Rattle.mg_node.specs.Extending.{joined, lengthened, extended, MayLengthen, MayExtend}
+use Rattle.mg_node.specs.Extending.{joined, lengthened, extended, MayLengthen, MayExtend, WasExtended, SomeExtended}
 use Rattle.mg_node.proofs.Filling.{same_backlog}
+use Rattle.mg_node.proofs.FewWait.{prefix_counted}
+use Rattle.mg_node.proofs.Giving.{with_outputs}
 use Rattle.mg_node.proofs.Knowing.{input_known}
 
 -- what ascends behind other packets ascends
@@ -21,29 +25,65 @@ ascends_behind : (ps qs : List (Stamped Plain)) (b : ℕ) → Ascends (ps ++ qs)
 ascends_behind [] qs b asc = asc
 ascends_behind (p ∷ ps) qs b asc = ascends_behind ps qs b asc.1
 
--- a second queue that was filled and raised
-lengthened_so : (q copy full r : Waiting Plain) (more : StreamPrefix Plain) → MayLengthen q more → IsLike copy q → full.gone ≡ copy.gone → full.packets ≡ copy.packets ++ more.packets
-    → ((b : ℕ) → Ascends more.packets b → copy.bound ≤ first_time more.packets b → full.bound ≤ b) → ((b : ℕ) → copy.bound ≤ b → copy.bound ≤ first_time more.packets b) → copy.bound ≤ full.bound
+-- a queue that was filled and raised
+lengthened_so : (q full r : Waiting Plain) (more : StreamPrefix Plain) → MayLengthen q more → full.gone ≡ q.gone → full.packets ≡ q.packets ++ more.packets
+    → ((b : ℕ) → Ascends more.packets b → q.bound ≤ first_time more.packets b → full.bound ≤ b) → ((b : ℕ) → q.bound ≤ b → q.bound ≤ first_time more.packets b) → q.bound ≤ full.bound
     → r ≡ record full { bound = max full.bound more.bound } → backlog_of r ≡ lengthened (backlog_of q) more
-lengthened_so q copy full r more may like gone packets below above grows raised =
+lengthened_so q full r more may gone packets below above grows raised =
     let most = max may.whole.bound more.bound in
-    let same = like.bound in
     let stands = may.stands.bound in
     let asc : Ascends more.packets most = ascends_behind may.whole.packets more.packets most may.is_prefix.ascends in
-    let high : full.bound ≤ most = below most asc (above most (omega (arith, same, stands))) in
+    let high : full.bound ≤ most = below most asc (above most (omega (arith, stands))) in
     same_backlog (backlog_of r) (lengthened (backlog_of q) more)
-    (ap (λ (w : Waiting Plain). w.gone) raised ∙ gone ∙ like.gone)
-    (ap (λ (w : Waiting Plain). w.packets) raised ∙ packets ∙ ap (λ (ps : List (Stamped Plain)). ps ++ more.packets) like.packets)
-    (ap (λ (w : Waiting Plain). w.bound) raised ∙ omega (arith, same, stands, high, grows))
+    (ap (λ (w : Waiting Plain). w.gone) raised ∙ gone)
+    (ap (λ (w : Waiting Plain). w.packets) raised ∙ packets)
+    (ap (λ (w : Waiting Plain). w.bound) raised ∙ omega (arith, stands, high, grows))
 
-pub lengthened_from : (q copy full r : Waiting Plain) (more : StreamPrefix Plain) (ps : List (Stamped Plain)) (b : ℕ) → MayLengthen q more → ps ≡ more.packets → b ≡ more.bound → IsLike copy q → full.gone ≡ copy.gone → full.packets ≡ copy.packets ++ ps
-    → ((c : ℕ) → Ascends ps c → copy.bound ≤ first_time ps c → full.bound ≤ c) → ((c : ℕ) → copy.bound ≤ c → copy.bound ≤ first_time ps c) → copy.bound ≤ full.bound
+pub lengthened_from : (q full r : Waiting Plain) (more : StreamPrefix Plain) (ps : List (Stamped Plain)) (b : ℕ) → MayLengthen q more → ps ≡ more.packets → b ≡ more.bound → full.gone ≡ q.gone → full.packets ≡ q.packets ++ ps
+    → ((c : ℕ) → Ascends ps c → q.bound ≤ first_time ps c → full.bound ≤ c) → ((c : ℕ) → q.bound ≤ c → q.bound ≤ first_time ps c) → q.bound ≤ full.bound
     → r ≡ record full { bound = max full.bound b } → backlog_of r ≡ lengthened (backlog_of q) more
-lengthened_from q copy full r more ps b may ps_is b_is like gone packets below above grows raised =
+lengthened_from q full r more ps b may ps_is b_is gone packets below above grows raised =
     let given : StreamPrefix Plain = record { packets = ps; bound = b } in
     let same : given ≡ more = (λ i. record { packets = ps_is i; bound = b_is i }) in
     subst (λ (m : StreamPrefix Plain). backlog_of r ≡ lengthened (backlog_of q) m) same
-    (lengthened_so q copy full r given (subst (MayLengthen q) (sym same) may) like gone packets below above grows raised)
+    (lengthened_so q full r given (subst (MayLengthen q) (sym same) may) gone packets below above grows raised)
+
+-- a queue of which what came last was taken back
+
+-- what stands for a prefix is a queue
+stands_queue : (q : Waiting Plain) (s : StreamPrefix Plain) → StandsFor q s → IsQueue q
+stands_queue q s h = record {
+  rest = subst IsPrefix (λ i. record { packets = (sym h.waiting) i; bound = (sym h.bound) i }) (drop_is_prefix q.gone s h.prefix);
+  counted = (let counted = prefix_counted s h.prefix in let gone = h.gone in let bound = h.bound in omega (arith, counted, gone, bound, ap length h.waiting, length-drop q.gone s.packets));
+}
+
+like_queue : (q r : Waiting Plain) → IsLike r q → IsQueue q → IsQueue r
+like_queue q r like is = record {
+  rest = subst IsPrefix (λ i. record { packets = (sym like.packets) i; bound = (sym like.bound) i }) is.rest;
+  counted = (let counted = is.counted in let gone = like.gone in let bound = like.bound in omega (arith, counted, gone, bound, ap length like.packets));
+}
+
+-- what is there before is a queue, when it is filled in part
+pub left_queue : (q full : Waiting Plain) (more : StreamPrefix Plain) (waiting bound : ℕ) → MayLengthen q more → waiting ≡ length q.packets → bound ≡ q.bound → IsLike (cut_back (length q.packets) q.bound full) q
+    → IsQueue (cut_back waiting bound full)
+left_queue q full more waiting bound may waiting_is bound_is like =
+    subst₂ (λ (n b : ℕ). IsQueue (cut_back n b full)) (sym waiting_is) (sym bound_is)
+    (like_queue q (cut_back (length q.packets) q.bound full) like (stands_queue q may.whole may.stands))
+
+pub left_same : (q full r : Waiting Plain) (waiting bound : ℕ) → waiting ≡ length q.packets → bound ≡ q.bound → IsLike (cut_back (length q.packets) q.bound full) q → IsLike r (cut_back waiting bound full)
+    → backlog_of r ≡ backlog_of q
+left_same q full r waiting bound waiting_is bound_is left like =
+    same_backlog (backlog_of r) (backlog_of q) (like.gone ∙ left.gone) (like.packets ∙ ap (λ (n : ℕ). take n full.packets) waiting_is ∙ left.packets) (like.bound ∙ bound_is)
+
+-- a queue that was lengthened, without what stands behind
+back_again : (b : Backlog Plain) (q : Waiting Plain) (more : StreamPrefix Plain) (bound : ℕ) → backlog_of q ≡ lengthened b more → b.bound ≡ bound → backlog_of (cut_back (length q.packets - length more.packets) bound q) ≡ b
+back_again b q more bound is bound_was =
+    let packets : q.packets ≡ b.packets ++ more.packets = ap (λ (c : Backlog Plain). c.packets) is in
+    same_backlog (backlog_of (cut_back (length q.packets - length more.packets) bound q)) b
+    (ap (λ (c : Backlog Plain). c.gone) is)
+    (ap (λ (ps : List (Stamped Plain)). take (length q.packets - length more.packets) ps) packets
+    ∙ take_at b.packets more.packets (length q.packets - length more.packets) (omega (arith, ap length packets, length-append b.packets more.packets)))
+    (sym bound_was)
 
 -- it stands for the longer prefix
 longer_stands : (b : Backlog Plain) (s more : StreamPrefix Plain) → StandsFor (queue_of 0 b) s → IsPrefix (joined s more) → StandsFor (queue_of 0 (lengthened b more)) (joined s more)
@@ -72,17 +112,30 @@ extended_lawful job later input streams longer engine more h solves further ther
       streams = longer;
       solves = further;
       there = there;
-      role = refl;
+      role = h.role;
       number_is = h.number_is;
       first = h.first;
       kept = subst (λ (s : StreamPrefix Plain). StandForAll (map (λ b. lengthened b more) engine.outputs) (s ∷ [])) (sym is)
           (one_longer engine.outputs (get_or streams input empty_prefix) more stand (subst IsPrefix is whole));
-      laid = refl;
-      claimed = refl;
-      window = refl;
-      idle = refl;
-      fault = refl;
+      laid = h.laid;
+      claimed = h.claimed;
+      window = h.window;
+      idle = h.idle;
+      fault = h.fault;
     }
+
+-- with nothing behind an engine is as it was
+nothing_behind : (outputs : List (Backlog Plain)) (s : StreamPrefix Plain) → StandForAll outputs (s ∷ []) → map (λ b. lengthened b empty_prefix) outputs ≡ outputs
+nothing_behind [] s stand = refl
+nothing_behind (b ∷ []) s stand =
+    let opened = stand.0.prefix.opened in
+    let bound = stand.0.bound in
+    ap (λ (c : Backlog Plain). c ∷ []) (same_backlog (lengthened b empty_prefix) b refl (append-nil b.packets) (omega (arith, opened, bound)))
+nothing_behind (b ∷ c ∷ outputs) s stand = absurd stand.1
+
+pub extended_by_nothing : (job : LoggedJob) (input : ℕ) (engine : EngineView) → LawfulEngine job (of_input input) engine → extended engine empty_prefix ≡ engine
+unfolding LawfulEngine
+extended_by_nothing job input engine h = ap (with_outputs engine) (nothing_behind engine.outputs (get_or h.streams input empty_prefix) h.kept)
 
 -- the code's steps
 
@@ -91,12 +144,17 @@ some_output engine more [] is may = absurd (let one = (input_known may.job may.i
 some_output engine more (q ∷ qs) is may = omega arith
 
 -- what the code makes
-pub made_longer : (engine : EngineView) (more : StreamPrefix Plain) (q : Waiting Plain) (qs items : List (Waiting Plain)) (b : Waiting Plain) → MayExtend engine more → map backlog_of qs ≡ engine.outputs → b ≡ get_or qs 0 b
-    → backlog_of q ≡ lengthened (backlog_of b) more → items ≡ q ∷ [] → map backlog_of items ≡ (extended engine more).outputs
-made_longer engine more q [] items b may is first longer items_are = absurd (let one = (input_known may.job may.input engine may.lawful).one in let none = ap length is in omega (arith, one, none))
-made_longer engine more q (p ∷ []) items b may is first longer items_are =
-    ap (map backlog_of) items_are ∙ ap (λ (c : Backlog Plain). c ∷ []) (longer ∙ ap (λ (w : Waiting Plain). lengthened (backlog_of w) more) first) ∙ ap (map (λ c. lengthened c more)) is
-made_longer engine more q (p ∷ r ∷ qs) items b may is first longer items_are = absurd (let one = (input_known may.job may.input engine may.lawful).one in let two = ap length is in omega (arith, one, two))
+pub made_longer : (engine : EngineView) (more : StreamPrefix Plain) (items : List (Waiting Plain)) (b q : Waiting Plain) → MayExtend engine more → map backlog_of items ≡ engine.outputs → b ≡ get_or items 0 b
+    → backlog_of q ≡ lengthened (backlog_of b) more → with_outputs engine (map backlog_of (set items 0 q)) ≡ extended engine more
+made_longer engine more [] b q may is first longer = absurd (let one = (input_known may.job may.input engine may.lawful).one in let none = ap length is in omega (arith, one, none))
+made_longer engine more (p ∷ []) b q may is first longer =
+    ap (with_outputs engine) (ap (λ (c : Backlog Plain). c ∷ []) (longer ∙ ap (λ (w : Waiting Plain). lengthened (backlog_of w) more) first) ∙ ap (map (λ c. lengthened c more)) is)
+made_longer engine more (p ∷ r ∷ items) b q may is first longer = absurd (let one = (input_known may.job may.input engine may.lawful).one in let two = ap length is in omega (arith, one, two))
+
+pub made_same : (engine : EngineView) (items : List (Waiting Plain)) (b q : Waiting Plain) → map backlog_of items ≡ engine.outputs → b ≡ get_or items 0 b → backlog_of q ≡ backlog_of b
+    → with_outputs engine (map backlog_of (set items 0 q)) ≡ engine
+made_same engine [] b q is first same = ap (with_outputs engine) is
+made_same engine (p ∷ items) b q is first same = ap (with_outputs engine) (ap (λ (c : Backlog Plain). c ∷ map backlog_of items) (same ∙ ap backlog_of first) ∙ is)
 
 pub may_lengthen : (engine : EngineView) (more : StreamPrefix Plain) (qs : List (Waiting Plain)) (b : Waiting Plain) → MayExtend engine more → map backlog_of qs ≡ engine.outputs → b ≡ get_or qs 0 b → MayLengthen b more
 may_lengthen engine more [] b may is first = absurd (let one = (input_known may.job may.input engine may.lawful).one in let none = ap length is in omega (arith, one, none))
@@ -106,37 +164,73 @@ may_lengthen engine more (q ∷ qs) b may is first =
     subst (λ (w : Waiting Plain). MayLengthen w more) (sym first)
     (record { whole = o.whole; stands = record { prefix = stands.prefix; gone = stands.gone; waiting = stands.waiting; bound = stands.bound }; is_prefix = o.is_prefix })
 
-pub extended_made : (engine : EngineView) (more : StreamPrefix Plain) (node first : ℕ) (outputs : List (Backlog Plain)) (window : List EntryView) (idle : List BenchView) → node ≡ engine.node → first ≡ engine.first
-    → outputs ≡ (extended engine more).outputs → window ≡ [] → idle ≡ []
-    → (let e : EngineView = record {
-      role = Input;
-      node = node;
-      first = first;
-      offset = None;
-      in_flight = 0;
-      inputs = 0;
-      outputs = outputs;
-      laid = 0;
-      claimed = 0;
-      window = window;
-      idle = idle;
-      begun = true;
-      closed = false;
-      fault = None;
-    } in e) ≡ extended engine more
-extended_made engine more node first outputs window idle node_is first_is outputs_are window_is idle_is = λ i. record {
-  role = Input;
-  node = node_is i;
-  first = first_is i;
-  offset = None;
-  in_flight = 0;
-  inputs = 0;
-  outputs = outputs_are i;
-  laid = 0;
-  claimed = 0;
-  window = window_is i;
-  idle = idle_is i;
-  begun = true;
-  closed = false;
-  fault = None;
-}
+pub at_err : {A E : Type 0} (r : Result A E) (P : Type 0) → P → OnErr r P
+at_err (Ok a) P p = tt
+at_err (Err e) P p = p
+
+-- and what it makes again of an engine that was extended
+
+-- it has one output, which was lengthened
+record WasLonger (more : StreamPrefix Plain) (bound : ℕ) (before : EngineView) (items : List (Waiting Plain)) : Type 0 where
+  q : Waiting Plain
+  b : Backlog Plain
+  items_are : items ≡ q ∷ []
+  outputs_were : before.outputs ≡ b ∷ []
+  longer : backlog_of q ≡ lengthened b more
+  bound_was : b.bound ≡ bound
+  whole : StreamPrefix Plain
+  stood : StandsFor (queue_of 0 b) whole
+
+was_longer : (more : StreamPrefix Plain) (bound : ℕ) (before now : EngineView) (items : List (Waiting Plain)) → WasExtended more bound before now → map backlog_of items ≡ now.outputs → WasLonger more bound before items
+was_longer more bound before now items was is =
+    by_lists before.outputs items refl (is ∙ ap (λ (v : EngineView). v.outputs) was.is) was.may.output.stands
+  where
+    by_lists : (bs : List (Backlog Plain)) (qs : List (Waiting Plain)) → before.outputs ≡ bs → map backlog_of qs ≡ map (λ c. lengthened c more) before.outputs → StandsFor (laid_at before 0) was.may.output.whole
+        → WasLonger more bound before qs
+    by_lists [] qs bs_are qs_are stood = absurd (let one = (input_known was.may.job was.may.input before was.may.lawful).one in let none = ap length bs_are in omega (arith, one, none))
+    by_lists (b ∷ c ∷ bs) qs bs_are qs_are stood = absurd (let one = (input_known was.may.job was.may.input before was.may.lawful).one in let two = ap length bs_are in omega (arith, one, two))
+    by_lists (b ∷ []) [] bs_are qs_are stood = absurd (let none : 0 ≡ 1 = ap length (qs_are ∙ ap (map (λ c. lengthened c more)) bs_are) in omega (arith, none))
+    by_lists (b ∷ []) (q ∷ p ∷ qs) bs_are qs_are stood = absurd (let two = ap length (qs_are ∙ ap (map (λ c. lengthened c more)) bs_are) in omega (arith, two))
+    by_lists (b ∷ []) (q ∷ []) bs_are qs_are stood = record {
+      q = q;
+      b = b;
+      items_are = refl;
+      outputs_were = bs_are;
+      longer = ap (λ (cs : List (Backlog Plain)). get_or cs 0 (backlog_of q)) (qs_are ∙ ap (map (λ c. lengthened c more)) bs_are);
+      bound_was = ap (λ (cs : List (Backlog Plain)). (get_or cs 0 empty_backlog).bound) (sym bs_are) ∙ was.bound_was;
+      whole = was.may.output.whole;
+      stood = subst (λ (cs : List (Backlog Plain)). StandsFor (queue_of 0 (get_or cs 0 empty_backlog)) was.may.output.whole) bs_are stood;
+    }
+
+pub has_output : (more : StreamPrefix Plain) (bound : ℕ) (now : EngineView) (items : List (Waiting Plain)) → SomeExtended more bound now → map backlog_of items ≡ now.outputs → 0 < length items
+has_output more bound now items h is = (let w = was_longer more bound h.before now items h.was is in let one = ap length w.items_are in omega (arith, one))
+
+pub has_more : (more : StreamPrefix Plain) (bound : ℕ) (now : EngineView) (items : List (Waiting Plain)) (q : Waiting Plain) → SomeExtended more bound now → map backlog_of items ≡ now.outputs → q ≡ get_or items 0 q
+    → length more.packets ≤ length q.packets
+has_more more bound now items q h is first =
+    let w = was_longer more bound h.before now items h.was is in
+    let same : q ≡ w.q = first ∙ ap (λ (qs : List (Waiting Plain)). get_or qs 0 q) w.items_are in
+    let long = ap (λ (r : Waiting Plain). length r.packets) same in
+    let longer = ap (λ (c : Backlog Plain). length c.packets) w.longer in
+    omega (arith, long, longer, length-append w.b.packets more.packets)
+
+pub is_left : (more : StreamPrefix Plain) (bound : ℕ) (now : EngineView) (items : List (Waiting Plain)) (q : Waiting Plain) → SomeExtended more bound now → map backlog_of items ≡ now.outputs → q ≡ get_or items 0 q
+    → IsQueue (cut_back (length q.packets - length more.packets) bound q)
+is_left more bound now items q h is first =
+    let w = was_longer more bound h.before now items h.was is in
+    let same : q ≡ w.q = first ∙ ap (λ (qs : List (Waiting Plain)). get_or qs 0 q) w.items_are in
+    let again : backlog_of (cut_back (length q.packets - length more.packets) bound q) ≡ w.b = back_again w.b q more bound (ap backlog_of same ∙ w.longer) w.bound_was in
+    like_queue (queue_of 0 w.b) (cut_back (length q.packets - length more.packets) bound q)
+    (record { gone = ap (λ (c : Backlog Plain). c.gone) again; packets = ap (λ (c : Backlog Plain). c.packets) again; bound = ap (λ (c : Backlog Plain). c.bound) again })
+    (stands_queue (queue_of 0 w.b) w.whole w.stood)
+
+pub made_again : (more : StreamPrefix Plain) (bound : ℕ) (before now : EngineView) (items : List (Waiting Plain)) (q r : Waiting Plain) → WasExtended more bound before now → map backlog_of items ≡ now.outputs → q ≡ get_or items 0 q
+    → IsLike r (cut_back (length q.packets - length more.packets) bound q) → with_outputs now (map backlog_of (set items 0 r)) ≡ before
+made_again more bound before now items q r was is first like =
+    let w = was_longer more bound before now items was is in
+    let same : q ≡ w.q = first ∙ ap (λ (qs : List (Waiting Plain)). get_or qs 0 q) w.items_are in
+    let again : backlog_of (cut_back (length q.packets - length more.packets) bound q) ≡ w.b = back_again w.b q more bound (ap backlog_of same ∙ w.longer) w.bound_was in
+    let taken : backlog_of r ≡ w.b = same_backlog (backlog_of r) (backlog_of (cut_back (length q.packets - length more.packets) bound q)) like.gone like.packets like.bound ∙ again in
+    let outputs : map backlog_of (set items 0 r) ≡ before.outputs =
+    ap (λ (qs : List (Waiting Plain)). map backlog_of (set qs 0 r)) w.items_are ∙ ap (λ (c : Backlog Plain). c ∷ []) taken ∙ sym w.outputs_were in
+    ap (λ (v : EngineView). with_outputs v (map backlog_of (set items 0 r))) was.is ∙ ap (with_outputs before) outputs

@@ -20,16 +20,17 @@ climbs_long : {X : Type 0} (a b : ℕ) (ps : List (Stamped X)) → Climbs a ps b
 climbs_long a b [] h = omega (arith, h)
 climbs_long a b (p ∷ ps) h = (let rest = climbs_long (p.at + 1) b ps h.1 in let first = h.0 in omega (arith, rest, first))
 
-pub prefix_few : {X : Type 0} (s : StreamPrefix X) → IsPrefix s → length s.packets + pre_stream ≤ done
-prefix_few {X} s h =
+pub prefix_counted : {X : Type 0} (s : StreamPrefix X) → IsPrefix s → length s.packets + pre_stream ≤ s.bound
+prefix_counted {X} s h =
     let allowed = recursion_from_All (λ (p : Stamped X). IsAllowed p.at) s.packets h.allowed in
-    let long = climbs_long pre_stream s.bound s.packets (Ascends-climbs pre_stream s.bound s.packets allowed h.ascends (starts s.packets allowed)) in
-    let within = h.within in
-    omega (arith, long, within)
+    climbs_long pre_stream s.bound s.packets (Ascends-climbs pre_stream s.bound s.packets allowed h.ascends (starts s.packets allowed))
   where
     starts : (ps : List (Stamped X)) → AllByRecursion (λ p. IsAllowed p.at) ps → pre_stream ≤ first_time ps s.bound
     starts [] all = h.opened
     starts (p ∷ ps) all = all.0.0
+
+pub prefix_few : {X : Type 0} (s : StreamPrefix X) → IsPrefix s → length s.packets + pre_stream ≤ done
+prefix_few s h = (let counted = prefix_counted s h in let within = h.within in omega (arith, counted, within))
 
 stands_few : (q : Waiting Plain) (s : StreamPrefix Plain) → StandsFor q s → length q.packets + 1 < 2 ^ 64
 stands_few q s h = (let few = prefix_few s h.prefix in omega (arith, few, ap length h.waiting, length-drop q.gone s.packets))

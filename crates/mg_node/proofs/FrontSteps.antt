@@ -7,6 +7,7 @@ use Rattle.mg_value.specs.Prefix.{StreamPrefix}
 use Rattle.mg_stream.specs.Queue.{Waiting, IsLike}
 use Rattle.mg_stream.specs.Pool.{backlog_of}
 use Rattle.mg_calc.specs.declared.cause.Cause.{Cause}
+use Rattle.mg_calc.specs.declared.emission.Laid.{Laid}
 use Rattle.mg_calc.specs.declared.node_fault.Phase.{Phase}
 use Rattle.mg_calc.specs.declared.node_fault.NodeFault.{NodeFault}
 use Rattle.mg_calc.specs.Outcome.{Failure}
@@ -74,12 +75,12 @@ reserved_same qs before i q r like so_far =
     ∙ ap (map backlog_of) (set_same qs i q)
     ∙ so_far
 
-room_set : (qs : List (Waiting Plain)) (i : ℕ) (r : Waiting Plain) → i < length qs → room_at i (set qs i r) ≡ r.spare
+pub room_set : (qs : List (Waiting Plain)) (i : ℕ) (r : Waiting Plain) → i < length qs → room_at i (set qs i r) ≡ r.spare
 room_set [] i r le = absurd (omega (arith, le))
 room_set (q ∷ qs) zero r le = refl
 room_set (q ∷ qs) (suc i) r le = room_set qs i r (omega (arith, le))
 
-room_other : (qs : List (Waiting Plain)) (i k : ℕ) (r : Waiting Plain) → k < i → room_at k (set qs i r) ≡ room_at k qs
+pub room_other : (qs : List (Waiting Plain)) (i k : ℕ) (r : Waiting Plain) → k < i → room_at k (set qs i r) ≡ room_at k qs
 room_other [] i k r le = refl
 room_other (q ∷ qs) zero k r le = absurd (omega (arith, le))
 room_other (q ∷ qs) (suc i) zero r le = refl
@@ -90,6 +91,14 @@ pub reserved_room : (qs : List (Waiting Plain)) (i : ℕ) (r : Waiting Plain) (e
 reserved_room qs i r entries more there is room so_far k le = elim (eq-or-lt_of_le {n = k} {m = i} (omega (arith, le))) [
   | inl same ↦
       (subst (λ (j : ℕ). needed j entries ≤ room_at j (set qs i r)) (sym same) (let here = room_set qs i r there in omega (arith, is, room, here)))
+  | inr less ↦ (let before = so_far k less in let same = room_other qs i k r less in omega (arith, before, same))
+]
+
+pub answer_room : (qs : List (Waiting Plain)) (i : ℕ) (r : Waiting Plain) (answer : Result (List Laid) Cause) (more : ℕ) → i < length qs → more ≡ packets_by i answer → more ≤ r.spare
+    → ((k : ℕ) → k < i → packets_by k answer ≤ room_at k qs) → (k : ℕ) → k < i + 1 → packets_by k answer ≤ room_at k (set qs i r)
+answer_room qs i r answer more there is room so_far k le = elim (eq-or-lt_of_le {n = k} {m = i} (omega (arith, le))) [
+  | inl same ↦
+      (subst (λ (j : ℕ). packets_by j answer ≤ room_at j (set qs i r)) (sym same) (let here = room_set qs i r there in omega (arith, is, room, here)))
   | inr less ↦ (let before = so_far k less in let same = room_other qs i k r less in omega (arith, before, same))
 ]
 
@@ -162,7 +171,7 @@ failure_is : (phase : Phase) (given : Result (List (StreamPrefix Plain)) Cause) 
 failure_is phase (Ok outputs) cause is = ap (option_map (λ c. (let f : Failure = record { phase = phase; cause = c } in f))) is
 failure_is phase (Err c) cause is = ap (option_map (λ d. (let f : Failure = record { phase = phase; cause = d } in f))) is
 
-fault_is : (node : ℕ) (phase : Phase) (given : Result (List (StreamPrefix Plain)) Cause) (cause : Option Cause) → cause ≡ reason_of given → (end_of node phase cause).fault ≡ option_map (fault_at node) (failure_by phase given)
+pub fault_is : (node : ℕ) (phase : Phase) (given : Result (List (StreamPrefix Plain)) Cause) (cause : Option Cause) → cause ≡ reason_of given → (end_of node phase cause).fault ≡ option_map (fault_at node) (failure_by phase given)
 fault_is node phase (Ok outputs) cause is = ap (λ (o : Option Cause). (end_of node phase o).fault) is
 fault_is node phase (Err c) cause is = ap (λ (o : Option Cause). (end_of node phase o).fault) is
 

@@ -23,7 +23,7 @@ pub use Rattle.mg_node.proofs.Making.{fresh_unbegun}
 pub use Rattle.mg_node.proofs.BeginKeeps.{is_new, unbegun_parts}
 pub use Rattle.mg_node.proofs.HandedBack.{first_told}
 -- and for the job of more input
-pub use Rattle.mg_node.proofs.Extending.{extended_lawful}
+pub use Rattle.mg_node.proofs.Extending.{extended_lawful, extended_by_nothing}
 pub use Rattle.mg_node.proofs.LaterParts.{engine_stays, intake_stays, unbegun_stays, work_stays}
 -- what lawful parts are known by
 pub use Rattle.mg_node.proofs.Knowing.{engine_known, engine_there, input_known, intake_ports, may_begin, nothing_ready}

@@ -79,3 +79,5 @@ pub mod CallsHad
 pub mod StatesKept
 pub mod FrontsHad
 pub mod ClosesHad
+pub mod ShownAtOnce
+pub mod AtOnceKeeps

@@ -3,3 +3,4 @@ pub mod Bringing
 pub mod Replying
 pub mod QueueLaying
 pub mod FrontLaying
+pub mod Showing

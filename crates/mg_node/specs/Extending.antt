@@ -1,13 +1,13 @@
 -- How the engine of a graph input goes on with further packets of its stream, which came later.
-use Rattle.std.specs.Prelude.{ℕ, ◌++◌, map, max}
+use Rattle.std.specs.Prelude.{◌≡◌, ℕ, ◌++◌, map, max}
 use Rattle.mg_value.specs.Payload.{Plain}
-use Rattle.mg_value.specs.Prefix.{StreamPrefix, IsPrefix, empty_prefix}
+use Rattle.mg_value.specs.Prefix.{StreamPrefix, IsPrefix}
 use Rattle.mg_stream.specs.Queue.{Waiting, StandsFor}
 use Rattle.mg_stream.specs.Pool.{Backlog}
 use Rattle.mg_node.specs.Views.{EngineView}
 use Rattle.mg_node.specs.Job.{LoggedJob}
 use Rattle.mg_node.specs.Lawful.{LawfulEngine, of_input}
-use Rattle.mg_node.specs.Outputs.{laid_at, input_engine}
+use Rattle.mg_node.specs.Outputs.{laid_at}
 
 -- a prefix with what came later behind it; the greater of the two bounds stands
 abbrev pub joined : {X : Type 0} → StreamPrefix X → StreamPrefix X → StreamPrefix X
@@ -17,9 +17,9 @@ joined s more = record { packets = s.packets ++ more.packets; bound = max s.boun
 abbrev pub lengthened : Backlog Plain → StreamPrefix Plain → Backlog Plain
 lengthened output more = record { gone = output.gone; packets = output.packets ++ more.packets; bound = max output.bound more.bound }
 
--- the engine of the same graph input, whose output goes on so
+-- the engine of the same graph input, whose output goes on so; nothing else of it changes
 abbrev pub extended : EngineView → StreamPrefix Plain → EngineView
-extended engine more = record (input_engine engine.node engine.first empty_prefix) { outputs = map (λ output. lengthened output more) engine.outputs }
+extended engine more = record engine { outputs = map (λ output. lengthened output more) engine.outputs }
 
 -- a queue may be lengthened: with this behind, what it stands for is a prefix
 pub record MayLengthen (q : Waiting Plain) (more : StreamPrefix Plain) : Type 0 where
@@ -33,3 +33,14 @@ pub record MayExtend (engine : EngineView) (more : StreamPrefix Plain) : Type 0 
   pub input : ℕ
   pub lawful : LawfulEngine job (of_input input) engine
   pub output : MayLengthen (laid_at engine 0) more
+
+-- an engine was extended: it might be, this is it now, and its output's bound was this
+pub record WasExtended (more : StreamPrefix Plain) (bound : ℕ) (before now : EngineView) : Type 0 where
+  pub may : MayExtend before more
+  pub is : now ≡ extended before more
+  pub bound_was : (laid_at before 0).bound ≡ bound
+
+-- there is an engine that was extended to this one
+pub record SomeExtended (more : StreamPrefix Plain) (bound : ℕ) (now : EngineView) : Type 0 where
+  pub before : EngineView
+  pub was : WasExtended more bound before now

@@ -14,6 +14,7 @@ pub mod Begun
 pub mod Batches
 pub mod Advances
 pub mod Commits
+pub mod AtOnce
 pub mod Running
 pub mod Leading
 pub mod Leaving

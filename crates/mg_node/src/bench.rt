@@ -7,13 +7,16 @@ ghost use Rattle.mg_node.specs.Ports.{ports_in};
 ghost use Rattle.mg_node.specs.Intakes.{next_set_of, SomeJobHasIntake};
 ghost use Rattle.mg_node.specs.Claims.{Takes};
 ghost use Rattle.mg_node.specs.Running.{MayRun, HasRun};
+ghost use Rattle.mg_calc.specs.declared.node_fault.Phase.TheVariants.{Process};
 ghost use Rattle.mg_node.specs.Begun.{IsOpened};
+ghost use Rattle.mg_node.specs.Code.Showing.{HasShown};
 ghost use Rattle.mg_node.specs.Leaving.{handed_told};
 ghost use Rattle.mg_node.specs.WindingUp.{IsFinished};
 
 use crate::Intake;
 use mg_calc::{CalcFault, Calculator, Call, Cause, Emission, GivenList, Phase};
 use mg_route::Holder;
+use mg_time::Timestamp;
 use mg_value::InputSet;
 use std::alloc::{AllocError, Global};
 use std::marker::Model;
@@ -99,6 +102,20 @@ impl<C: Calculator> Bench<C> {
             Phase::Call(number) => self.holder.call(alloc, number),
             Phase::Process(at) => self.holder.process(alloc, at, &self.set),
             Phase::Close => self.holder.finish(alloc),
+        }
+    }
+
+    /// Shows the calculator the set that lies here, and tells what it answers, where there is memory for that. Want of memory changes
+    /// nothing.
+    pub(crate) fn show(&mut self, alloc: Global, at: Timestamp) -> Option<Result<Emission, Cause>>
+        requires { MayRun (Process at) self.old }
+        ensures shown { IfSome result (λ answer. HasShown at answer self.old self.new) }
+        ensures unchanged { IfNone result (self.new ≡ self.old) }
+    {
+        match self.run(alloc, Phase::Process(at)) {
+            Ok(emission) => Some(Ok(emission)),
+            Err(CalcFault::Fault(cause)) => Some(Err(cause)),
+            Err(CalcFault::OutOfMemory) => None,
         }
     }
 

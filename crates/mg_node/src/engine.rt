@@ -12,6 +12,7 @@ mod looking;
 mod making;
 mod opening;
 mod shelving;
+mod showing;
 mod winding;
 
 use crate::counting::held_at;

@@ -4,15 +4,15 @@ ghost use Rattle.std.specs.VecDeque.{deque_len, deque_capacity};
 ghost use Rattle.mg_stream.specs.Pool.{backlog_of};
 ghost use Rattle.mg_node.specs.Lawful.{is_close as is_close_phase};
 ghost use Rattle.mg_node.specs.Commits.{counted as counted_phase};
-ghost use Rattle.mg_node.specs.Code.QueueLaying.{StandForSome};
+ghost use Rattle.mg_node.specs.Code.QueueLaying.{StandForSome, HasRoomFor, packets_by};
 ghost use Rattle.mg_node.specs.Code.FrontLaying.{needed as needed_at, HasRoom, counted_in, end_of, IsFirstLaid, IsFrontLaid};
 ghost use Rattle.mg_node.specs.Windows.{starts_ready};
 
 use crate::Bench;
 use crate::entry::Entry;
-use crate::laying::lay;
+use crate::laying::{lay, packets_in};
 use crate::window::is_ready;
-use mg_calc::{Calculator, Cause, NodeFault, Phase};
+use mg_calc::{Calculator, Cause, Emission, NodeFault, Phase};
 use mg_stream::Queue;
 use std::alloc::AllocError;
 use std::collections::VecDeque;
@@ -48,6 +48,32 @@ pub(crate) fn reserve<C: Calculator>(
         outputs[i].reserve(more)?;
     }
     Ok(())
+}
+
+/// Makes room at each output for all that an answer emits there.
+pub(crate) fn reserve_for(
+    outputs: &mut [Queue],
+    answer: &Result<Emission, Cause>,
+) -> Result<(), AllocError>
+    requires { length outputs.old < 2 ^ 32 }
+    ensures same { map backlog_of outputs.new ≡ map backlog_of outputs.old }
+    ensures room { OnOk result (HasRoomFor outputs.new answer.now) }
+{
+    for i in 0..outputs.len() {
+        let more = packets_by(answer, i as u32);
+        outputs[i].reserve(more)?;
+    }
+    Ok(())
+}
+
+// How many packets an answer emits at an output.
+fn packets_by(answer: &Result<Emission, Cause>, output: u32) -> u32
+    ensures { result ≡ packets_by output answer.now }
+{
+    match answer {
+        Ok(emission) => packets_in(emission, output),
+        Err(_) => 0,
+    }
 }
 
 // How many packets the entries that are ready at the front of a window have at an output. A number that is too large counts as want
@@ -147,7 +173,8 @@ fn end(node: u32, phase: &Phase, cause: Option<Cause>) -> FrontEnd
     }
 }
 
-fn fault_of(node: u32, phase: &Phase, cause: Option<Cause>) -> Option<NodeFault>
+/// The fault of a node that can't lay what an entry of a phase has.
+pub(crate) fn fault_of(node: u32, phase: &Phase, cause: Option<Cause>) -> Option<NodeFault>
     ensures { result ≡ (end_of node phase.now cause).fault }
 {
     match cause {

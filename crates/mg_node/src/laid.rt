@@ -1,13 +1,14 @@
 //! Queues of what was laid at an output.
-ghost use Rattle.std.specs.Prelude.{◌≡◌, ◌<◌, ◌≤◌, ◌++◌, ℕ, IfOk, OnOk};
+ghost use Rattle.std.specs.Prelude.{◌≡◌, ◌<◌, ◌≤◌, ◌-◌, ◌++◌, ℕ, IfOk, OnOk, OnErr, length};
 ghost use Rattle.mg_value.specs.Prefix.{IsPrefix, Ascends, first_time};
 ghost use Rattle.mg_stream.specs.Pool.{backlog_of};
-ghost use Rattle.mg_stream.specs.Queue.{count_of, MayCome};
+ghost use Rattle.mg_stream.specs.Queue.{count_of, MayCome, IsLike, IsQueue, cut_back};
 ghost use Rattle.mg_node.specs.Outputs.{without_first, kept_whole};
 ghost use Rattle.mg_node.specs.Extending.{lengthened, MayLengthen};
 ghost use Rattle.mg_node.specs.Code.QueueLaying.{appended};
 
 use mg_stream::Queue;
+use mg_time::Timestamp;
 use mg_value::{Packet, Prefix};
 use std::alloc::{AllocError, Global};
 
@@ -29,6 +30,9 @@ fn fill(queue: &mut Queue, packets: &[Packet]) -> Result<(), AllocError>
     ensures bound { (b : ℕ) → Ascends packets.now b → queue.old.bound ≤ first_time packets.now b → OnOk result (queue.new.bound ≤ b) }
     ensures above { (b : ℕ) → queue.old.bound ≤ b → OnOk result (queue.old.bound ≤ first_time packets.now b) }
     ensures grows { OnOk result (queue.old.bound ≤ queue.new.bound) }
+
+    // What was there before is there at want of memory, and further packets perhaps.
+    ensures left { OnErr result (IsLike (cut_back (length queue.old.packets) queue.old.bound queue.new) queue.old) }
 {
     for packet in packets {
         let Ok(()) = queue.append(packet.try_clone()?) else {
@@ -38,15 +42,31 @@ fn fill(queue: &mut Queue, packets: &[Packet]) -> Result<(), AllocError>
     Ok(())
 }
 
-/// A second queue with the packets of one and those of a prefix behind them, and the greater of the two bounds. Payloads are shared.
-pub(crate) fn lengthened(alloc: Global, queue: &Queue, more: &Prefix) -> Result<Queue, AllocError>
-    requires { MayLengthen queue.now more.now }
-    ensures { IfOk result (λ q. backlog_of q ≡ lengthened (backlog_of queue.now) more.now) }
+/// Puts the packets of a prefix behind those of a queue, and raises its bound to that of the prefix. Payloads are shared. Where memory
+/// is short, the packets that are there by then are taken back.
+pub(crate) fn lengthen(queue: &mut Queue, more: &Prefix) -> Result<(), AllocError>
+    requires { MayLengthen queue.old more.now }
+    ensures longer { OnOk result (backlog_of queue.new ≡ lengthened (backlog_of queue.old) more.now) }
+    ensures unchanged { OnErr result (backlog_of queue.new ≡ backlog_of queue.old) }
 {
-    let mut longer = queue.try_clone(alloc)?;
-    fill(&mut longer, more.packets.as_slice())?;
-    longer.raise(more.bound);
-    Ok(longer)
+    let waiting = queue.waiting();
+    let bound = queue.bound();
+    let Ok(()) = fill(queue, more.packets.as_slice()) else {
+        queue.cut_back(waiting, bound);
+        return Err(AllocError);
+    };
+    queue.raise(more.bound);
+    Ok(())
+}
+
+/// Takes the packets of a prefix back, which stand behind all others of a queue, and gives the queue this bound.
+pub(crate) fn shorten(queue: &mut Queue, more: &Prefix, bound: Timestamp)
+    requires count { length more.now.packets ≤ length queue.old.packets }
+    requires left { IsQueue (cut_back (length queue.old.packets - length more.now.packets) bound queue.old) }
+    ensures { IsLike queue.new (cut_back (length queue.old.packets - length more.now.packets) bound queue.old) }
+{
+    let waiting = queue.waiting() - u64::from(more.packets.len());
+    queue.cut_back(waiting, bound);
 }
 
 /// Gives up the first packets of a queue, until so many in all are given up.

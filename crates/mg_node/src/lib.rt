@@ -3,6 +3,7 @@
 //! Answers to the definitions of `specs/Lawful.antt`.
 #![tactic(auto)]
 
+mod at_once;
 mod bench;
 mod claimed;
 mod counting;
@@ -27,6 +28,7 @@ mod waits;
 mod window;
 mod work;
 
+pub use at_once::AtOnce;
 pub use bench::Bench;
 pub use claimed::Claimed;
 pub use delivered::Delivered;

@@ -1,5 +1,5 @@
 -- An advance keeps what a net stands for.
-use Rattle.std.proofs.Common.{◌≡◌, ℕ, ◌<◌, length, sym, refl, subst, ◌∙◌, arith}
+use Rattle.std.proofs.Common.{ℕ, ◌<◌, length, sym, refl, subst, ◌∙◌, arith}
 use Rattle.mg_calc.specs.declared.event.Effect.{Effect}
 use Rattle.mg_node.specs.Advances.{advanced}
 use Rattle.mg_node.specs.Job.{LoggedJob}

@@ -1,6 +1,6 @@
 -- A claim keeps what a net stands for.
 use Rattle.std.proofs.lemmas.Grind.{length_at_push}
-use Rattle.std.proofs.Common.{◌≡◌, ℕ, ◌<◌, ◌≤◌, true, List, [], ◌∷◌, ◌++◌, length, map, Option, Some, None, inl, inr, ap, sym, refl, subst, ◌∙◌, arith}
+use Rattle.std.proofs.Common.{◌≡◌, ℕ, ◌<◌, true, List, [], ◌∷◌, ◌++◌, length, inl, inr, ap, sym, refl, subst, ◌∙◌, arith}
 use Rattle.mg_calc.specs.declared.event.Effect.{Effect}
 use Rattle.mg_calc.specs.declared.event.Effect.TheVariants.{Did, Idle, OutOfMemory}
 use Rattle.mg_calc.specs.declared.plan.Plan.{Plan}

@@ -1,7 +1,9 @@
 -- A net that goes on with further input stands for the job that has it.
-use Rattle.std.proofs.Common.{◌≡◌, ◌⊎◌, inl, inr, ℕ, zero, suc, ◌+◌, ◌-◌, ◌<◌, ◌≤◌, nat_lt, Bool, true, false, List, [], ◌∷◌, ◌++◌, length, length-append, length-drop, set, map, drop, Option, Some, get_or, slice_get, ap, sym, refl, subst, ◌∙◌, arith}
+use Rattle.std.proofs.Common.{◌≡◌, ◌⊎◌, inl, inr, ℕ, zero, suc, ◌+◌, ◌-◌, ◌<◌, ◌≤◌, nat_lt, Bool, true, false, List, [], ◌∷◌, ◌++◌, length, length-append, replicate, drop_at, map, Result, Ok, Err, Option, Some, get_or, slice_get, ap, sym, refl, subst, ◌∙◌, arith}
+use Rattle.std.proofs.lemmas.List.{length-replicate}
 use Rattle.std.proofs.lemmas.List.Elements.{All-weaker}
 use Rattle.std.proofs.lemmas.Option.{same_Some, slice_get_within, get_or_from_slice_get}
+use Rattle.std.specs.Result.{OnErr}
 use Rattle.mg_value.specs.Payload.{Plain}
 use Rattle.mg_value.specs.Prefix.{StreamPrefix, IsPrefix, empty_prefix}
 use Rattle.mg_stream.specs.Queue.{StandsFor as StandsForPrefix}
@@ -23,12 +25,11 @@ use Rattle.mg_node.specs.Leading.{output_at}
 use Rattle.mg_node.specs.Ports.{port_queue}
 use Rattle.mg_node.specs.IntakeStanding.{HasGrown}
 use Rattle.mg_node.specs.Extending.{joined, lengthened, extended, MayExtend}
-use Rattle.mg_node.proofs.Lemmas.{engine_stays, extended_lawful, get_drop, get_first, grown_by_itself, grown_further, intake_stays, unbegun_stays, work_stays}
+use Rattle.mg_node.proofs.Lemmas.{engine_stays, extended_lawful, extended_by_nothing, get_drop, get_first, grown_by_itself, grown_further, intake_stays, unbegun_stays, work_stays}
 use Rattle.mg_sched.specs.Views.{DeskView, NetView}
 use Rattle.mg_sched.specs.StandsFor.{IsEngine, IsCell, IsJoined, HasSpare, IsNetOf, StandsFor}
 use Rattle.mg_sched.specs.Extends.{GoesOnWith, MayGoOnWith, Extends}
-use Rattle.mg_sched.specs.Code.Made.{AtPlaces}
-use Rattle.mg_sched.specs.Code.Longer.{IsLonger, laid_over}
+use Rattle.mg_sched.specs.Code.Longer.{MayEach, AreLonger}
 use Rattle.mg_sched.proofs.Finding.{found}
 use Rattle.mg_sched.proofs.WoundNets.{order_of}
 
@@ -207,115 +208,102 @@ pub extended_stands : (more : Inputs) (first later : LoggedJob) (before now : Ne
 unfolding StandsFor
 extended_stands more first later before now g x h = subst (λ (v : NetView). IsNetOf later v) (sym x.parts) (stands_so more first later before now g x h)
 
--- Elements that are laid over others.
+-- Nets.
 
-over_none : {X : Type 0} (n : ℕ) (xs : List X) → laid_over n xs [] ≡ xs
-over_none n [] = refl
-over_none zero (x ∷ xs) = refl
-over_none {X} (suc n) (x ∷ xs) = ap (λ (ys : List X). x ∷ ys) (over_none n xs)
+-- the pieces of the last graph inputs, where nothing came of those before
+record AreLast (more : Inputs) (pieces : List (StreamPrefix Plain)) (net : NetView) : Type 0 where
+  n : ℕ
+  streams : more.streams ≡ replicate n empty_prefix ++ pieces
+  from : length net.engines ≡ length net.plan.nodes + n + length pieces
 
-over_next : {X : Type 0} (n k : ℕ) (xs ys : List X) (x : X) → k ≡ n + length ys → laid_over n (set xs k x) ys ≡ laid_over n xs (ys ++ x ∷ [])
-over_next n k [] ys x is = refl
-over_next {X} (suc n) zero (z ∷ xs) ys x is = absurd (omega (arith, is))
-over_next {X} (suc n) (suc k) (z ∷ xs) ys x is = ap (λ (zs : List X). z ∷ zs) (over_next n k xs ys x (omega (arith, is)))
-over_next {X} zero zero (z ∷ xs) [] x is = ap (λ (zs : List X). x ∷ zs) (sym (over_none zero xs))
-over_next {X} zero (suc k) (z ∷ xs) [] x is = absurd (omega (arith, is))
-over_next {X} zero zero (z ∷ xs) (y ∷ ys) x is = absurd (omega (arith, is))
-over_next {X} zero (suc k) (z ∷ xs) (y ∷ ys) x is = ap (λ (zs : List X). y ∷ zs) (over_next zero k xs ys x (omega (arith, is)))
+behind_first : {X : Type 0} (n i : ℕ) (x : X) (xs : List X) → slice_get (replicate n x ++ xs) (n + i) ≡ slice_get xs i
+behind_first {X} n i x xs = sym (get_drop n (replicate n x ++ xs) i) ∙ ap (λ (ys : List X). slice_get ys i) (drop_at (replicate n x) xs n (length-replicate n x))
 
--- the last one is popped, and put into its place; and at last none is left
-pub over_popped : {X : Type 0} (n k : ℕ) (xs now ys zs : List X) (x : X) → now ≡ set xs k x → zs ≡ ys ++ x ∷ [] → k ≡ n + length ys → laid_over n now ys ≡ laid_over n xs zs
-over_popped {X} n k xs now ys zs x put popped is =
-    ap (λ (es : List X). laid_over n es ys) put ∙ over_next n k xs ys x is ∙ ap (λ (es : List X). laid_over n xs es) (sym popped)
+among_first : {X : Type 0} (n i : ℕ) (x : X) (xs : List X) → i < n → slice_get (replicate n x ++ xs) i ≡ Some x
+among_first zero i x xs less = absurd (omega (arith, less))
+among_first (suc n) zero x xs less = refl
+among_first (suc n) (suc i) x xs less = among_first n i x xs (omega (arith, less))
 
-pub over_emptied : {X : Type 0} (n : ℕ) (xs ys : List X) → ys ≡ [] → xs ≡ laid_over n xs ys
-over_emptied {X} n xs ys none = sym (over_none n xs) ∙ ap (λ (es : List X). laid_over n xs es) (sym none)
-
-pub over_long : {X : Type 0} (n : ℕ) (xs ys : List X) → length (laid_over n xs ys) ≡ length xs
-over_long n [] ys = refl
-over_long zero (x ∷ xs) [] = refl
-over_long zero (x ∷ xs) (y ∷ ys) = ap suc (over_long zero xs ys)
-over_long (suc n) (x ∷ xs) ys = ap suc (over_long n xs ys)
-
-over_front : {X : Type 0} (n i : ℕ) (xs ys : List X) → i < n → slice_get (laid_over n xs ys) i ≡ slice_get xs i
-over_front n i [] ys less = refl
-over_front zero i (x ∷ xs) ys less = absurd (omega (arith, less))
-over_front (suc n) zero (x ∷ xs) ys less = refl
-over_front (suc n) (suc i) (x ∷ xs) ys less = over_front n i xs ys (omega (arith, less))
-
-over_there : {X : Type 0} (n k i : ℕ) (xs ys : List X) → k ≡ n + i → k < length xs → i < length ys → slice_get (laid_over n xs ys) k ≡ slice_get ys i
-over_there n k i [] ys is within less = absurd (omega (arith, within))
-over_there zero k i (x ∷ xs) [] is within less = absurd (omega (arith, less))
-over_there zero zero zero (x ∷ xs) (y ∷ ys) is within less = refl
-over_there zero zero (suc i) (x ∷ xs) (y ∷ ys) is within less = absurd (omega (arith, is))
-over_there zero (suc k) zero (x ∷ xs) (y ∷ ys) is within less = absurd (omega (arith, is))
-over_there zero (suc k) (suc i) (x ∷ xs) (y ∷ ys) is within less = over_there zero k i xs ys (omega (arith, is)) (omega (arith, within)) (omega (arith, less))
-over_there (suc n) zero i (x ∷ xs) ys is within less = absurd (omega (arith, is))
-over_there (suc n) (suc k) i (x ∷ xs) ys is within less = over_there n k i xs ys (omega (arith, is)) (omega (arith, within)) less
-
--- engines in the places of those of graph inputs
-pub extends_so : (more : Inputs) (net : NetView) (longer : List EngineView) → MayGoOnWith more net → length longer ≡ length more.streams → AtPlaces (IsLonger (drop (length net.plan.nodes) net.engines) more.streams) longer
-    → Extends more net (record net { engines = laid_over (length net.engines - length longer) net.engines longer })
+are_last : (more : Inputs) (pieces : List (StreamPrefix Plain)) (net : NetView) (n : ℕ) → MayGoOnWith more net → more.streams ≡ replicate n empty_prefix ++ pieces → AreLast more pieces net
 unfolding StandsFor
-extends_so more net longer may count all =
-    let h = may.stands in
-    let pieces = may.goes_on.pieces in let streams = h.is_job.inputs.streams in let engines = h.engines in
-    let plan : length net.plan.inputs ≡ length may.first.job.plan.inputs = ap (λ (p : Plan). length p.inputs) h.plan in
-    let from : length net.engines - length longer ≡ length net.plan.nodes = omega (arith, count, pieces, streams, engines, plan) in
-    subst (λ (n : ℕ). Extends more net (record net { engines = laid_over n net.engines longer })) (sym from) (record {
-      parts = refl;
-      places = over_long (length net.plan.nodes) net.engines longer;
-      nodes = λ place less. over_front (length net.plan.nodes) place net.engines longer less;
-      inputs = λ input engine piece at piece_at.
-          (let less = slice_get_within more.streams input piece piece_at in
-          let within = slice_get_within net.engines (length net.plan.nodes + input) engine at in
-          let it = found longer input (omega (arith, less, count)) in
-          over_there (length net.plan.nodes) (length net.plan.nodes + input) input net.engines longer refl within (omega (arith, less, count))
-          ∙ it.1
-          ∙ ap (λ (v : EngineView). Some v) (all input it.0 it.1 engine piece (get_drop (length net.plan.nodes) net.engines input ∙ at) piece_at));
-    })
+are_last more pieces net n may is = record {
+  n = n;
+  streams = is;
+  from = (let h = may.stands in
+      let count = may.goes_on.pieces in let streams = h.is_job.inputs.streams in let engines = h.engines in
+      let plan : length net.plan.inputs ≡ length may.first.job.plan.inputs = ap (λ (p : Plan). length p.inputs) h.plan in
+      let all : length more.streams ≡ length (replicate n (empty_prefix {X = Plain}) ++ pieces) = ap length is in
+      omega (arith, count, streams, engines, plan, all, length-append (replicate n (empty_prefix {X = Plain})) pieces, length-replicate n (empty_prefix {X = Plain})));
+}
+
+-- the engine of a graph input is lawful, and may be extended by its piece
+may_last : (more : Inputs) (pieces : List (StreamPrefix Plain)) (net : NetView) → MayGoOnWith more net → AreLast more pieces net → MayEach (length net.engines - length pieces) pieces net.engines
+unfolding StandsFor
+may_last more pieces net may last input engine piece at piece_at =
+    let from = last.from in
+    let place : length net.engines - length pieces + input ≡ length net.plan.nodes + (last.n + input) = omega (arith, from) in
+    may_extend more may.first may.later engine (last.n + input) piece may.goes_on
+    (may.stands.inputs (last.n + input) engine (ap (λ (k : ℕ). slice_get net.engines k) (sym place) ∙ at))
+    (ap (λ (ss : List (StreamPrefix Plain)). slice_get ss (last.n + input)) last.streams ∙ behind_first last.n input empty_prefix pieces ∙ piece_at)
+
+extends_at : (more : Inputs) (pieces : List (StreamPrefix Plain)) (net : NetView) (now : List EngineView) → MayGoOnWith more net → AreLast more pieces net → AreLonger (length net.engines - length pieces) pieces (length pieces) net.engines now
+    → (input : ℕ) (engine : EngineView) (piece : StreamPrefix Plain) → slice_get net.engines (length net.plan.nodes + input) ≡ Some engine → slice_get more.streams input ≡ Some piece
+    → slice_get now (length net.plan.nodes + input) ≡ Some (extended engine piece)
+unfolding StandsFor
+extends_at more pieces net now may last are input engine piece at piece_at = elim (order_of input last.n) [
+  | inl less ↦
+      (let from = last.from in
+      let nothing : empty_prefix ≡ piece =
+      same_Some empty_prefix piece (sym (among_first last.n input empty_prefix pieces less) ∙ ap (λ (ss : List (StreamPrefix Plain)). slice_get ss input) (sym last.streams) ∙ piece_at) in
+      are.others (length net.plan.nodes + input) (inl (omega (arith, from, less))) ∙ at
+      ∙ ap (λ (v : EngineView). Some v) (sym (extended_by_nothing may.first input engine (may.stands.inputs input engine at)))
+      ∙ ap (λ (s : StreamPrefix Plain). Some (extended engine s)) nothing)
+  | inr past ↦
+      (let from = last.from in
+      let place : length net.plan.nodes + input ≡ length net.engines - length pieces + (input - last.n) = omega (arith, from, past) in
+      let same : input ≡ last.n + (input - last.n) = omega (arith, past) in
+      let there : slice_get pieces (input - last.n) ≡ Some piece =
+      sym (behind_first last.n (input - last.n) empty_prefix pieces) ∙ ap (λ (k : ℕ). slice_get (replicate last.n empty_prefix ++ pieces) k) (sym same)
+      ∙ ap (λ (ss : List (StreamPrefix Plain)). slice_get ss input) (sym last.streams) ∙ piece_at in
+      ap (λ (k : ℕ). slice_get now k) place
+      ∙ are.longer (input - last.n) engine piece (slice_get_within pieces (input - last.n) piece there) (ap (λ (k : ℕ). slice_get net.engines k) (sym place) ∙ at) there)
+]
+
+extends_so : (more : Inputs) (pieces : List (StreamPrefix Plain)) (net : NetView) (now : List EngineView) → MayGoOnWith more net → AreLast more pieces net → AreLonger (length net.engines - length pieces) pieces (length pieces) net.engines now
+    → Extends more net (record net { engines = now })
+extends_so more pieces net now may last are = record {
+  parts = refl;
+  places = are.places;
+  nodes = λ place less. are.others place (inl (let from = last.from in omega (arith, less, from)));
+  inputs = extends_at more pieces net now may last are;
+}
 
 -- The net as it is kept.
 
-engines_from : (shown : NetView) (n : ℕ) (inputs : List EngineView) → n ≡ length shown.plan.nodes → inputs ≡ drop n shown.engines → inputs ≡ drop (length shown.plan.nodes) shown.engines
-engines_from shown n inputs n_is inputs_are = inputs_are ∙ ap (λ (k : ℕ). drop k shown.engines) n_is
-
-pub pieces_fit : (more : Inputs) (shown net : NetView) (n : ℕ) (inputs : List EngineView) → shown ≡ net → MayGoOnWith more net → n ≡ length shown.plan.nodes → inputs ≡ drop n shown.engines → length more.streams ≤ length inputs
-unfolding StandsFor
-pieces_fit more shown net n inputs is may n_is inputs_are =
-    let there : MayGoOnWith more shown = subst (MayGoOnWith more) (sym is) may in
-    let h = there.stands in
-    let pieces = there.goes_on.pieces in let streams = h.is_job.inputs.streams in let engines = h.engines in
-    let plan : length shown.plan.inputs ≡ length there.first.job.plan.inputs = ap (λ (p : Plan). length p.inputs) h.plan in
-    let long : length inputs ≡ length shown.engines - n = ap length inputs_are ∙ length-drop n shown.engines in
-    omega (arith, pieces, streams, engines, plan, long, n_is)
-
-pub nodes_fit : (more : Inputs) (shown net : NetView) (n : ℕ) (engines : List EngineView) → shown ≡ net → MayGoOnWith more net → n ≡ length shown.plan.nodes → engines ≡ shown.engines → n ≤ length engines
-unfolding StandsFor
-nodes_fit more shown net n engines is may n_is engines_are =
-    let there : MayGoOnWith more shown = subst (MayGoOnWith more) (sym is) may in
-    let count = there.stands.engines in
+pub pieces_fit : (more : Inputs) (pieces : List (StreamPrefix Plain)) (shown net : NetView) (n : ℕ) (engines : List EngineView) → shown ≡ net → MayGoOnWith more net → more.streams ≡ replicate n empty_prefix ++ pieces → engines ≡ shown.engines
+    → length pieces ≤ length engines
+pieces_fit more pieces shown net n engines is may last engines_are =
+    let from = (are_last more pieces shown n (subst (MayGoOnWith more) (sym is) may) last).from in
     let same = ap length engines_are in
-    omega (arith, count, same, n_is)
+    omega (arith, from, same)
 
-pub may_each : (more : Inputs) (shown net : NetView) (n : ℕ) (inputs : List EngineView) → shown ≡ net → MayGoOnWith more net → n ≡ length shown.plan.nodes → inputs ≡ drop n shown.engines
-    → (input : ℕ) (engine : EngineView) (piece : StreamPrefix Plain) → slice_get inputs input ≡ Some engine → slice_get more.streams input ≡ Some piece → MayExtend engine piece
-unfolding StandsFor
-may_each more shown net n inputs is may n_is inputs_are input engine piece at piece_at =
+pub may_each : (more : Inputs) (pieces : List (StreamPrefix Plain)) (shown net : NetView) (n : ℕ) (engines : List EngineView) → shown ≡ net → MayGoOnWith more net → more.streams ≡ replicate n empty_prefix ++ pieces → engines ≡ shown.engines
+    → MayEach (length engines - length pieces) pieces engines
+may_each more pieces shown net n engines is may last engines_are =
     let there : MayGoOnWith more shown = subst (MayGoOnWith more) (sym is) may in
-    let h = there.stands in
-    may_extend more there.first there.later engine input piece there.goes_on
-    (h.inputs input engine (sym (get_drop (length shown.plan.nodes) shown.engines input) ∙ ap (λ (es : List EngineView). slice_get es input) (sym (engines_from shown n inputs n_is inputs_are)) ∙ at)) piece_at
+    subst (λ (es : List EngineView). MayEach (length es - length pieces) pieces es) (sym engines_are) (may_last more pieces shown there (are_last more pieces shown n there last))
 
-pub extends_shown : (more : Inputs) (shown net : NetView) (n : ℕ) (inputs longer engines_now : List EngineView) → shown ≡ net → MayGoOnWith more net → n ≡ length shown.plan.nodes → inputs ≡ drop n shown.engines → length longer ≡ length more.streams
-    → AtPlaces (IsLonger inputs more.streams) longer → engines_now ≡ laid_over (length shown.engines - length longer) shown.engines longer → Extends more net (record shown { engines = engines_now })
-extends_shown more shown net n inputs longer engines_now is may n_is inputs_are count all over =
-    let each : AtPlaces (IsLonger (drop (length shown.plan.nodes) shown.engines) more.streams) longer = subst (λ (es : List EngineView). AtPlaces (IsLonger es more.streams) longer) (engines_from shown n inputs n_is inputs_are) all in
-    subst (λ (v : NetView). Extends more v (record shown { engines = engines_now })) is
-    (subst (λ (es : List EngineView). Extends more shown (record shown { engines = es })) (sym over)
-    (extends_so more shown longer (subst (MayGoOnWith more) (sym is) may) count each))
+pub extends_shown : (more : Inputs) (pieces : List (StreamPrefix Plain)) (shown net : NetView) (n : ℕ) (engines longer now : List EngineView) → shown ≡ net → MayGoOnWith more net → more.streams ≡ replicate n empty_prefix ++ pieces → engines ≡ shown.engines
+    → AreLonger (length engines - length pieces) pieces (length pieces) engines longer → now ≡ longer → Extends more net (record shown { engines = now })
+extends_shown more pieces shown net n engines longer now is may last engines_are are now_is =
+    let there : MayGoOnWith more shown = subst (MayGoOnWith more) (sym is) may in
+    let all : AreLonger (length shown.engines - length pieces) pieces (length pieces) shown.engines longer =
+    subst (λ (es : List EngineView). AreLonger (length es - length pieces) pieces (length pieces) es longer) engines_are are in
+    subst (λ (v : NetView). Extends more v (record shown { engines = now })) is
+    (subst (λ (es : List EngineView). Extends more shown (record shown { engines = es })) (sym now_is)
+    (extends_so more pieces shown longer there (are_last more pieces shown n there last) all))
 
-pub longer_there : (engines : List EngineView) (pieces : List (StreamPrefix Plain)) (input : ℕ) (engine now : EngineView) (piece : StreamPrefix Plain) → slice_get engines input ≡ Some engine → slice_get pieces input ≡ Some piece → now ≡ extended engine piece
-    → IsLonger engines pieces input now
-longer_there engines pieces input engine now piece at piece_at is = λ other further other_at further_at.
-    is ∙ ap (λ (v : EngineView). extended v piece) (same_Some engine other (sym at ∙ other_at)) ∙ ap (λ (s : StreamPrefix Plain). extended other s) (same_Some piece further (sym piece_at ∙ further_at))
+-- where nothing was laid, it is as it was
+pub same_shown : {A E : Type 0} (r : Result A E) (shown net : NetView) (engines left now : List EngineView) → shown ≡ net → engines ≡ shown.engines → left ≡ engines → now ≡ left → OnErr r (record shown { engines = now } ≡ net)
+same_shown (Ok a) shown net engines left now is engines_are unchanged now_is = tt
+same_shown (Err e) shown net engines left now is engines_are unchanged now_is = ap (λ (es : List EngineView). record shown { engines = es }) (now_is ∙ unchanged ∙ engines_are) ∙ is

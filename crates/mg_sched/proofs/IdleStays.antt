@@ -33,13 +33,13 @@ use Rattle.mg_sched.proofs.PlanEdges.{mapped_at, edge_number}
 use Rattle.mg_sched.proofs.PlanStreams.{number_of}
 
 -- what was told already
-noted_same : (qs : List Queue) (k n : ℕ) (q : Queue) → slice_get qs k ≡ Some q → q.waiting ≡ n → noted qs k n ≡ qs
+pub noted_same : (qs : List Queue) (k n : ℕ) (q : Queue) → slice_get qs k ≡ Some q → q.waiting ≡ n → noted qs k n ≡ qs
 noted_same [] k n q at is = refl
 noted_same (x ∷ qs) zero n q at is = ap (λ (y : Queue). y ∷ qs) (let same : x ≡ q = cc in ap (λ (m : ℕ). record x { waiting = m }) (sym is ∙ ap (λ (y : Queue). y.waiting) (sym same)))
 noted_same (x ∷ qs) (suc k) n q at is = ap (λ (rest : List Queue). x ∷ rest) (noted_same qs k n q at is)
 
 -- queues whose lengths are told once more
-all_noted_same : (ns : List ℕ) (qs : List Queue) (k : ℕ) → ((j n : ℕ) → slice_get ns j ≡ Some n → (q : Queue) × (slice_get qs (k + j) ≡ Some q) × (q.waiting ≡ n)) → all_noted qs k ns ≡ qs
+pub all_noted_same : (ns : List ℕ) (qs : List Queue) (k : ℕ) → ((j n : ℕ) → slice_get ns j ≡ Some n → (q : Queue) × (slice_get qs (k + j) ≡ Some q) × (q.waiting ≡ n)) → all_noted qs k ns ≡ qs
 all_noted_same [] qs k know = refl
 all_noted_same (n ∷ ns) qs k know =
     let first = know 0 n refl in
@@ -52,7 +52,7 @@ all_noted_same (n ∷ ns) qs k know =
     (q.0, ap (slice_get qs) (sym next) ∙ q.1, q.2)))
 
 -- what a net's limits know of the ports of a node
-know_ports : (job : LoggedJob) (net : NetView) (node : ℕ) (intake : IntakeView) → StandsFor job net → IsRunning net → node < length net.plan.nodes → slice_get net.intakes node ≡ Some intake
+pub know_ports : (job : LoggedJob) (net : NetView) (node : ℕ) (intake : IntakeView) → StandsFor job net → IsRunning net → node < length net.plan.nodes → slice_get net.intakes node ≡ Some intake
     → (j n : ℕ) → slice_get (lengths_of intake.waits) j ≡ Some n → (q : Queue) × (slice_get net.limits.queues (first_edge net.plan node + j) ≡ Some q) × (q.waiting ≡ n)
 unfolding StandsFor
 know_ports job net node intake h running less to j n at =
@@ -85,14 +85,14 @@ some_moved : (none raised : Bool) → none ≡ false → (if not none || raised 
 some_moved true raised is e = absurd cc
 some_moved false raised is e = not_busy Did e tt
 
-brought_none : (answer : Delivered) → effect_of answer ≡ Idle → answer ≡ Moved 0 false
+pub brought_none : (answer : Delivered) → effect_of answer ≡ Idle → answer ≡ Moved 0 false
 brought_none (Moved zero false) e = refl
 brought_none (Moved zero true) e = absurd (not_busy Did e tt)
 brought_none (Moved (suc n) raised) e = (let none : (suc n == 0) ≡ false = grind (arith, nat_tests) in absurd (some_moved (suc n == 0) raised none e))
 brought_none (NoRoom n) e = absurd (not_busy OutOfMemory e tt)
 
 -- the parts of a node as they were
-same_parts : (net : NetView) (node : ℕ) (engine : EngineView) (intake : IntakeView) (desk : DeskView) → slice_get net.engines node ≡ Some engine → slice_get net.intakes node ≡ Some intake → slice_get net.desks node ≡ Some desk
+pub same_parts : (net : NetView) (node : ℕ) (engine : EngineView) (intake : IntakeView) (desk : DeskView) → slice_get net.engines node ≡ Some engine → slice_get net.intakes node ≡ Some intake → slice_get net.desks node ≡ Some desk
     → with_desk (with_intake (with_engine net node engine) node intake) node desk ≡ net
 same_parts net node engine intake desk at to on = λ i. record net { engines = same_put net.engines node engine at i; intakes = same_put net.intakes node intake to i; desks = same_put net.desks node desk on i }
 
@@ -123,13 +123,13 @@ raised_first b bs bound false is none rest =
     let high : max b.bound bound ≡ b.bound = grind (arith, nat_tests, is) in
     ap (λ (n : ℕ). record b { bound = n } ∷ map (raised_output (Some bound)) bs) high ∙ ap (λ (more : List (Backlog Plain)). b ∷ more) (rest none)
 
-raised_none : (bound : Option ℕ) (outputs : List (Backlog Plain)) → any_moved_by bound outputs ≡ false → map (raised_output bound) outputs ≡ outputs
+pub raised_none : (bound : Option ℕ) (outputs : List (Backlog Plain)) → any_moved_by bound outputs ≡ false → map (raised_output bound) outputs ≡ outputs
 raised_none None [] none = refl
 raised_none None (b ∷ bs) none = ap (λ (more : List (Backlog Plain)). b ∷ more) (raised_none None bs refl)
 raised_none (Some bound) [] none = refl
 raised_none (Some bound) (b ∷ bs) none = raised_first b bs bound (nat_lt b.bound bound) refl none (raised_none (Some bound) bs)
 
-not_advanced : (moved : Bool) → (if moved then Did else Idle) ≡ Idle → moved ≡ false
+pub not_advanced : (moved : Bool) → (if moved then Did else Idle) ≡ Idle → moved ≡ false
 not_advanced true e = absurd (not_busy Did e tt)
 not_advanced false e = refl
 

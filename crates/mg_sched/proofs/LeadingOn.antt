@@ -1,9 +1,8 @@
 -- The edges by the places from which they lead, one more at a time.
-use Rattle.std.proofs.Common.{◌≡◌, ◌≢◌, ℕ, zero, suc, ◌+◌, ◌<◌, ◌≤◌, List, Option, Some, None, length, get_or, slice_get, slice_set, replicate, refl, ap, sym, ◌∙◌, subst, inl, inr, arith, get_or-set_same, get_or-set_other}
+use Rattle.std.proofs.Common.{◌≡◌, ℕ, zero, suc, ◌+◌, ◌<◌, ◌≤◌, List, Option, Some, None, length, get_or, slice_set, replicate, refl, ap, sym, ◌∙◌, subst, inl, inr, arith, get_or-set_same, get_or-set_other}
 use Rattle.std.proofs.lemmas.Bool.{cases_eq}
 use Rattle.std.proofs.lemmas.List.{get_or-replicate, get_or_default, length-replicate}
 use Rattle.std.proofs.lemmas.Option.{none-some, same_Some, slice_get_within}
-use Rattle.mg_calc.specs.declared.edge.Edge.{Edge}
 use Rattle.mg_calc.specs.declared.plan.Plan.{Plan}
 use Rattle.mg_sched.specs.Places.{source_of}
 use Rattle.mg_sched.specs.Code.Agendas.{LeadOn, LeadsFrom, IsFirstFrom, AreLeads}
@@ -52,6 +51,13 @@ pub lead_none : (low count a b : ℕ) (heads links : List (Option ℕ)) → head
 lead_none low count a b heads links heads_are links_are = record {
   first = λ place edge at. absurd (none-some edge (sym (ap (λ (l : List (Option ℕ)). get_or l place None) heads_are ∙ nothing_there a place) ∙ at));
   next = λ edge later at. absurd (none-some later (sym (ap (λ (l : List (Option ℕ)). get_or l edge None) links_are ∙ nothing_there b edge) ∙ at));
+}
+
+-- no place goes on along an edge
+pub lead_nowhere : (count a : ℕ) (heads starts links : List (Option ℕ)) → heads ≡ replicate a None → LeadOn 0 count starts links → LeadOn 0 count heads links
+lead_nowhere count a heads starts links are h = record {
+  first = λ place edge at. absurd (none-some edge (sym (ap (λ (l : List (Option ℕ)). get_or l place None) are ∙ nothing_there a place) ∙ at));
+  next = h.next;
 }
 
 pub lead_more_by : (low edges place : ℕ) (heads links now next : List (Option ℕ)) → LeadOn (low + 1) edges heads links → place < length heads → low < length links → low < edges → now ≡ slice_set heads place (Some low)

@@ -39,6 +39,7 @@ pub mod Solved
 pub mod Hearing
 pub mod HeldIn
 pub mod StreamOutputs
+pub mod Touching
 pub mod Trimming
 pub mod TrimKeeps
 pub mod KeptStreams
@@ -46,6 +47,7 @@ pub mod NothingGone
 pub mod RestingLooks
 pub mod IdleStays
 pub mod WoundNets
+pub mod LaidPieces
 pub mod ExtendedNets
 pub mod RestingEdges
 pub mod RestingNodes
@@ -68,6 +70,8 @@ pub mod LeftAdvance
 pub mod LeftDeliver
 pub mod Sweeping
 pub mod RestingFinds
+pub mod RestingPlaces
+pub mod TouchedOutside
 pub mod LeftEngines
 pub mod LeftPerform
 pub mod LeftCommit
@@ -81,3 +85,4 @@ pub mod RunsOn
 pub mod HeardOn
 pub mod Alike
 pub mod WorkingAtOnce
+pub mod ShowingAtOnce

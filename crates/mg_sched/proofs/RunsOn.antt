@@ -10,7 +10,7 @@ use Rattle.mg_calc.specs.Told.{CalculatorTold}
 use Rattle.mg_calc.specs.Meaning.{counts, faults}
 use Rattle.mg_node.specs.Job.{LoggedJob, Solves}
 use Rattle.mg_sched.specs.Views.{NetView}
-use Rattle.mg_sched.specs.StandsFor.{StandsFor, StandsForSome, IsRunning}
+use Rattle.mg_sched.specs.StandsFor.{StandsFor, IsRunning}
 use Rattle.mg_sched.specs.Acts.{IsEventOf, Acts}
 use Rattle.mg_sched.specs.Made.{job_of}
 use Rattle.mg_sched.specs.Reports.{stream_end, report_of}

@@ -1,6 +1,5 @@
 -- The steps of a sweep, one after the other, and what is left once none does anything.
-use Rattle.std.proofs.Common.{◌≡◌, ◌≢◌, ℕ, ◌+◌, ◌<◌, ◌≤◌, ◌-◌, ◌||◌, Bool, true, false, List, [], ◌∷◌, length, All, Option, Some, None, IfSome, IfNone, IfOk, Result, Ok, Err, IsSome, IsSomeAnd, slice_get, slice_set, ◌⊎◌, inl, inr, refl, sym, ap, subst, ◌∙◌, length-set, arith}
-use borrow.Author.Count.{below_more}
+use Rattle.std.proofs.Common.{◌≡◌, ◌≢◌, ℕ, ◌<◌, ◌≤◌, ◌-◌, ◌||◌, Bool, true, false, List, [], ◌∷◌, length, All, Option, Some, None, IfSome, IfNone, IfOk, Result, Ok, Err, IsSome, IsSomeAnd, slice_get, slice_set, ◌⊎◌, inl, inr, refl, sym, ap, subst, ◌∙◌, length-set, arith}
 use Rattle.std.proofs.lemmas.Bool.{false≢true}
 use Rattle.std.proofs.lemmas.List.Elements.{All-nil, recursion_from_All}
 use Rattle.std.proofs.lemmas.Option.{same_Some}
@@ -17,7 +16,7 @@ use Rattle.mg_sched.specs.Acts.{Acts, Rests, Performs, Performed, CommittedAt}
 use Rattle.mg_sched.specs.AtRest.{IsAtRest}
 use Rattle.mg_sched.specs.Code.Left.{left_in, Goes, Steps, HasWork, HasNoWork, HasShelf, HasNoShelf, WorksRest, RestsAt, NodesRest, EdgesRest}
 use Rattle.mg_sched.specs.Sweeps.{Becomes}
-use Rattle.mg_sched.specs.Code.Agendas.{AgendaView, IsAgendaOf}
+use Rattle.mg_sched.specs.Code.Agendas.{AgendaView, IsAgendaOf, AreLeads}
 use Rattle.mg_sched.proofs.Finding.{found, places, cell_at, desk_there, intake_there}
 use Rattle.mg_sched.proofs.Becoming.{becomes_plan}
 
@@ -183,20 +182,6 @@ some_engine net node engine some running there at =
     let intake = found net.intakes node (intake_there net node some there) in
     record { job = some.job; number = node; lawful = (cell_at some.job net node engine intake.0 desk.0 some.stands running there at intake.1 desk.1).lawful_engine }
 
--- Passes over all edges and nodes.
-
-pub edges_more : (did moved : Bool) (a b : NetView) (k : ℕ) → (did ≡ false → EdgesRest a k) → Steps moved (Deliver k) a b → (did || moved) ≡ false → EdgesRest b (k + 1)
-edges_more true moved a b k rest s isnt = absurd (false≢true (sym isnt))
-edges_more false true a b k rest s isnt = absurd (false≢true (sym isnt))
-edges_more false false a b k rest s isnt =
-    below_more (λ (edge : ℕ). Acts (Deliver edge) Idle b b) k (λ edge less. still_idle (Deliver edge) a b (sym s.0) (rest refl edge less)) (still_idle (Deliver k) a b (sym s.0) s.1)
-
-pub nodes_more : (did worked : Bool) (a b : NetView) (k : ℕ) → (did ≡ false → NodesRest a k) → Goes worked a b → (worked ≡ false → RestsAt b k) → (did || worked) ≡ false → NodesRest b (k + 1)
-nodes_more true worked a b k rest g rests_now isnt = absurd (false≢true (sym isnt))
-nodes_more false true a b k rest g rests_now isnt = absurd (false≢true (sym isnt))
-nodes_more false false a b k rest g rests_now isnt =
-    below_more (λ (node : ℕ). RestsAt b node) k (λ node less. subst (λ (v : NetView). RestsAt v node) (sym g) (rest refl node less)) (rests_now refl)
-
 -- an agenda stays for the plan, and is as it was where nothing was done
 
 pub agenda_on : (a b : NetView) (agenda : AgendaView) → Becomes a b → IsAgendaOf a.plan agenda → IsAgendaOf b.plan agenda
@@ -222,15 +207,20 @@ pub second_of : (next : Option ℕ) (edge count : ℕ) → IfSome next (λ e. (e
 second_of None edge count h = tt
 second_of (Some e) edge count h = h.1
 
-pub agenda_same : (plan : Plan) (a b : AgendaView) → IsAgendaOf plan a → b.heads ≡ a.heads → b.links ≡ a.links → IsAgendaOf plan b
-agenda_same plan a b of heads links = record { places = ap (λ (l : List (Option ℕ)). length l) heads ∙ of.places; edges = ap (λ (l : List (Option ℕ)). length l) links ∙ of.edges }
+pub agenda_long : (plan : Plan) (a b : AgendaView) → IsAgendaOf plan a → length b.heads ≡ length a.heads → b.links ≡ a.links → b.starts ≡ a.starts → IsAgendaOf plan b
+agenda_long plan a b of heads links starts = record {
+  places = heads ∙ of.places;
+  edges = ap (λ (l : List (Option ℕ)). length l) links ∙ of.edges;
+  start_count = ap (λ (l : List (Option ℕ)). length l) starts ∙ of.start_count ∙ sym heads;
+  leads = subst (λ (l : List (Option ℕ)). AreLeads plan 0 b.starts l) (sym links) (subst (λ (l : List (Option ℕ)). AreLeads plan 0 l a.links) (sym starts) of.leads);
+}
+
+pub agenda_same : (plan : Plan) (a b : AgendaView) → IsAgendaOf plan a → b.heads ≡ a.heads → b.links ≡ a.links → b.starts ≡ a.starts → IsAgendaOf plan b
+agenda_same plan a b of heads links starts = agenda_long plan a b of (ap (λ (l : List (Option ℕ)). length l) heads) links starts
 
 -- where a place goes on elsewhere
-pub agenda_set : (plan : Plan) (a b : AgendaView) (place : ℕ) (head : Option ℕ) → IsAgendaOf plan a → b.heads ≡ slice_set a.heads place head → b.links ≡ a.links → IsAgendaOf plan b
-agenda_set plan a b place head of heads links = record {
-  places = ap (λ (l : List (Option ℕ)). length l) heads ∙ length-set a.heads place head ∙ of.places;
-  edges = ap (λ (l : List (Option ℕ)). length l) links ∙ of.edges;
-}
+pub agenda_set : (plan : Plan) (a b : AgendaView) (place : ℕ) (head : Option ℕ) → IsAgendaOf plan a → b.heads ≡ slice_set a.heads place head → b.links ≡ a.links → b.starts ≡ a.starts → IsAgendaOf plan b
+agenda_set plan a b place head of heads links starts = agenda_long plan a b of (ap (λ (l : List (Option ℕ)). length l) heads ∙ length-set a.heads place head) links starts
 
 pub same_places : (plan : Plan) (a b : AgendaView) → IsAgendaOf plan a → IsAgendaOf plan b → length b.heads ≡ length a.heads
 same_places plan a b of now = now.places ∙ sym of.places
@@ -241,28 +231,6 @@ node_place plan agenda node of there = (let places = of.places in omega (arith, 
 pub in_ok : {E : Type 0} (P Q : Bool → Type 0) (r : Result Bool E) → ((b : Bool) → P b → Q b) → IfOk r P → IfOk r Q
 in_ok P Q (Ok b) all h = all b h
 in_ok P Q (Err e) all h = tt
-
--- all was looked over
-pub over_goes : (delivered worked relaxed : Bool) (a b c d : NetView) → Goes delivered a b → Goes worked b c → (delivered || worked) ≡ false → Steps relaxed Relax c d → Goes relaxed a d
-over_goes true worked relaxed a b c d delivers works isnt s = absurd (false≢true (sym isnt))
-over_goes false true relaxed a b c d delivers works isnt s = absurd (false≢true (sym isnt))
-over_goes false false relaxed a b c d delivers works isnt s = subst (λ (v : NetView). Goes relaxed v d) (works ∙ delivers) (steps_go relaxed Relax c d s)
-
-pub over_rests : (delivered worked relaxed : Bool) (a b c d : NetView) → StandsForSome d → (delivered ≡ false → EdgesRest b (length b.plan.edges)) → Goes worked b c → (worked ≡ false → NodesRest c (length c.plan.nodes))
-    → (delivered || worked) ≡ false → Steps relaxed Relax c d → relaxed ≡ false → IsAtRest d
-over_rests true worked relaxed a b c d some edges works nodes isnt s still = absurd (false≢true (sym isnt))
-over_rests false true relaxed a b c d some edges works nodes isnt s still = absurd (false≢true (sym isnt))
-over_rests false false true a b c d some edges works nodes isnt s still = absurd (false≢true (sym still))
-over_rests false false false a b c d some edges works nodes isnt s still =
-    rests d some
-    (subst (λ (v : NetView). EdgesRest v (length v.plan.edges)) (sym (s.0 ∙ works)) (edges refl))
-    (subst (λ (v : NetView). NodesRest v (length v.plan.nodes)) (sym s.0) (nodes refl))
-    (still_idle Relax c d (sym s.0) s.1)
-
-pub agenda_made : {E : Type 0} (r : Result AgendaView E) (shown net : NetView) → shown ≡ net → IfOk r (λ a. length a.heads ≡ length shown.plan.nodes + length shown.plan.inputs) → IfOk r (λ a. length a.links ≡ length shown.plan.edges)
-    → IfOk r (λ a. IsAgendaOf net.plan a)
-agenda_made (Ok agenda) shown net is places edges = subst (λ (v : NetView). IsAgendaOf v.plan agenda) is (record { places = places; edges = edges })
-agenda_made (Err e) shown net is places edges = tt
 
 pub later_less : (a b c : NetView) → left_in b ≤ left_in a → left_in c < left_in b → left_in c < left_in a
 later_less a b c no_more less = omega (arith, no_more, less)

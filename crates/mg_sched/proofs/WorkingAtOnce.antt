@@ -1,5 +1,5 @@
 -- What comes of a node's next work that is claimed, performed and committed at once.
-use Rattle.std.proofs.Common.{◌≡◌, ℕ, zero, suc, ◌+◌, ◌-◌, ◌<◌, Bool, true, false, List, [], ◌∷◌, ◌++◌, length, set, Option, Some, None, slice_get, inl, inr, ap, sym, refl, subst, ◌∙◌, append-nil, arith}
+use Rattle.std.proofs.Common.{◌≡◌, ℕ, zero, suc, ◌-◌, ◌<◌, Bool, true, false, List, [], ◌∷◌, ◌++◌, length, set, Option, Some, None, slice_get, inl, inr, ap, sym, refl, subst, ◌∙◌, append-nil, arith}
 use Rattle.std.proofs.lemmas.List.{length-set, set-set}
 use Rattle.std.proofs.lemmas.Option.{same_Some}
 use Rattle.mg_calc.specs.declared.event.Event.{Event}

@@ -1,9 +1,9 @@
 -- A desk has the works of its engine that are out, whatever is claimed, performed and committed.
-use Rattle.std.proofs.Common.{◌≡◌, ◌≢◌, ℕ, ◌+◌, ◌-◌, ◌≤◌, List, [], ◌∷◌, ◌++◌, get_or, All, slice_get, inl, inr, ap, sym, subst, ◌∙◌}
+use Rattle.std.proofs.Common.{◌≡◌, ◌≢◌, ℕ, ◌+◌, List, [], ◌∷◌, ◌++◌, get_or, All, inl, inr, sym, subst, ◌∙◌}
 use Rattle.std.specs.Prelude.{AllPairs, Any}
 use Rattle.std.proofs.lemmas.List.Elements.{All-push, All-weaker}
 use Rattle.std.proofs.lemmas.List.Quantifiers.{all_pairs_push, Any-push}
-use Rattle.mg_node.specs.Views.{WorkView, EntryView, EngineView}
+use Rattle.mg_node.specs.Views.{WorkView, EngineView}
 use Rattle.mg_node.specs.Job.{LoggedJob}
 use Rattle.mg_node.specs.Lawful.{LawfulWork}
 use Rattle.mg_node.specs.Shelves.{IsOut}

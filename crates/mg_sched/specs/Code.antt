@@ -7,5 +7,6 @@ pub mod Outputs
 pub mod Agendas
 pub mod AtLimits
 pub mod Left
+pub mod Quiet
 pub mod Telling
 pub mod AtOnce

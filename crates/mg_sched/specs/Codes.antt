@@ -24,8 +24,9 @@ ready_code = code_by (List ℕ × List Bool) (coded× (coded_list coded_ℕ) (co
 
 abbrev pub agenda_code : Coded AgendaView
 agenda_code =
-    code_by ((ReadyNodes × ReadyNodes) × (List (Option ℕ) × List (Option ℕ))) (coded× (coded× ready_code ready_code) (coded× (coded_list (coded_option coded_ℕ)) (coded_list (coded_option coded_ℕ))))
-    (λ a. ((a.ready, a.held), (a.heads, a.links))) (λ p. record { ready = p.0.0; held = p.0.1; heads = p.1.0; links = p.1.1 }) (λ _. refl)
+    code_by ((ReadyNodes × (ReadyNodes × ReadyNodes)) × (List (Option ℕ) × (List (Option ℕ) × List (Option ℕ))))
+    (coded× (coded× ready_code (coded× ready_code ready_code)) (coded× (coded_list (coded_option coded_ℕ)) (coded× (coded_list (coded_option coded_ℕ)) (coded_list (coded_option coded_ℕ)))))
+    (λ a. ((a.ready, (a.held, a.touched)), (a.heads, (a.starts, a.links)))) (λ p. record { ready = p.0.0; held = p.0.1.0; touched = p.0.1.1; heads = p.1.0; starts = p.1.1.0; links = p.1.1.1 }) (λ _. refl)
 
 abbrev pub limits_code : Coded QueueLimits
 limits_code =

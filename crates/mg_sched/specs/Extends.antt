@@ -1,5 +1,5 @@
 -- How a net goes on with further input: what comes of each graph input stands behind what came before, and nothing else changes.
-use Rattle.std.specs.Prelude.{◌≡◌, ℕ, ◌+◌, ◌<◌, length, Some, slice_get, slice_index_or}
+use Rattle.std.specs.Prelude.{◌≡◌, ℕ, ◌+◌, ◌-◌, ◌<◌, List, [], ◌++◌, false, length, replicate, Some, slice_get, slice_index_or}
 use Rattle.mg_value.specs.Payload.{Plain}
 use Rattle.mg_value.specs.Prefix.{StreamPrefix, empty_prefix}
 use Rattle.mg_calc.specs.declared.inputs.Inputs.{Inputs}
@@ -16,6 +16,10 @@ pub record GoesOnWith (more : Inputs) (first later : LoggedJob) : Type 0 where
   pub pieces : length more.streams ≡ length first.job.inputs.streams
   pub streams : (input : ℕ) → input < length more.streams → slice_index_or later.job.inputs.streams input empty_prefix
       ≡ joined (slice_index_or first.job.inputs.streams input empty_prefix) (slice_index_or more.streams input empty_prefix)
+
+-- further input of the last graph inputs alone, of so many in all
+abbrev pub for_last : ℕ → List (StreamPrefix Plain) → Inputs
+for_last inputs pieces = record { streams = replicate (inputs - length pieces) empty_prefix ++ pieces; sides = []; ended = false }
 
 -- a net may go on with further input: it stands for a job that does
 pub record MayGoOnWith (more : Inputs) (net : NetView) : Type 0 where

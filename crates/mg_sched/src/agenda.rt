@@ -1,9 +1,10 @@
-ghost use Rattle.std.specs.Prelude.{◌≡◌, ℕ, ◌+◌, ◌<◌, ◌⊎◌, ◌↔◌, Contains, IfSome, IfNone, IfOk, None, Some, length, replicate, slice_get, slice_set, slice_index_or, vec_len};
+ghost use Rattle.std.specs.Prelude.{◌≡◌, ℕ, ◌+◌, ◌-◌, ◌^◌, ◌<◌, ◌≤◌, ◌⊎◌, ◌↔◌, Contains, IfSome, IfNone, IfOk, None, Some, length, replicate, slice_get, slice_set, slice_index_or, vec_len};
 ghost use Rattle.mg_calc.specs.Plan.{IsValid, HasEachOnce};
 ghost use Rattle.mg_ready.specs.Ready.{none_ready, IsIn, IsEmpty, IsHighest, ChangesOnly};
 ghost use Rattle.mg_calc.specs.declared.edge.Edge.{Edge};
 ghost use Rattle.mg_sched.specs.Places.{source_of};
-ghost use Rattle.mg_sched.specs.Code.Agendas.{LeadOn, AreLeads, waiting_in, priorities};
+ghost use Rattle.mg_sched.specs.Code.Quiet.{WakesLast, Touches, OfKept};
+ghost use Rattle.mg_sched.specs.Code.Agendas.{LeadOn, AreLeads, IsAgendaOf, waiting_in, touched_in, priorities};
 
 use crate::sources::source_of;
 use mg_calc::Plan;
@@ -15,14 +16,20 @@ use std::marker::Model;
 /// The places of a net whose parts may have something to do, the one of the highest priority first, and the edges that lead from each.
 /// The places are those of the net's engines: the nodes', and behind them those of the graph inputs. Nodes stand before graph inputs,
 /// and of two nodes the one goes first that stands later in the plan's order (MediaPipe, Synchronization).
+///
+/// It is kept from sweep to sweep, with the places whose parts may have changed since the net was at rest. These are the places of the
+/// engines and of the intakes: at the number behind those of the nodes stand the collector and the first graph input.
 #[derive(Drop)]
 pub(crate) struct Agenda {
     ready: Ready,
     // The feeders that were found throttled, until a queue falls below its limit.
     held: Ready,
+    // The places whose parts may have changed since the net was at rest.
+    touched: Ready,
     // The edge along which each place goes on: the first that leads from it, and of a graph input the first along which not all has
-    // gone; and behind each edge the next one from the same place.
+    // gone; the first edge that leads from each place; and behind each edge the next one from the same place.
     first: Vec<Option<u32>>,
+    starts: Vec<Option<u32>>,
     next: Vec<Option<u32>>,
 }
 
@@ -35,9 +42,17 @@ impl Model for Agenda {
 
     ghost coded = { agenda_code };
 
-    ghost view = { λ a. record { ready = a.ready; held = a.held; heads = a.first.items; links = a.next.items } };
+    ghost view = { λ a. record { ready = a.ready; held = a.held; touched = a.touched; heads = a.first.items; starts = a.starts.items; links = a.next.items } };
 
-    ghost invariant = { λ a. IsAgenda (vec_len a.first) (vec_len a.next) a.ready.order a.held.order a.first.items a.next.items };
+    ghost invariant = { λ a. IsAgenda (vec_len a.first) (vec_len a.next) a.ready.order a.held.order a.touched.order a.first.items a.starts.items a.next.items };
+}
+
+/// The sets of an agenda, in which no place is.
+#[derive(Drop)]
+struct Sets {
+    ready: Ready,
+    held: Ready,
+    touched: Ready,
 }
 
 /// The first edge that leads from each place, and behind each edge the next one from the same place.
@@ -47,12 +62,18 @@ struct Leads {
     next: Vec<Option<u32>>,
 }
 
-// How many places a plan's parts have. There is no memory for 2^32 or more.
+// How many places a plan's parts have. There is no memory for 2^32 - 1 or more.
 fn count_of(plan: &Plan) -> Result<u32, AllocError>
-    ensures { IfOk result (λ n. n ≡ length plan.now.nodes + length plan.now.inputs) }
+    ensures count { IfOk result (λ n. n ≡ length plan.now.nodes + length plan.now.inputs) }
+    ensures few { IfOk result (λ n. n + 1 < 2 ^ 32) }
 {
     match plan.nodes.len().checked_add(plan.inputs.len()) {
-        Some(count) => Ok(count),
+        Some(count) => {
+            if count == u32::MAX {
+                return Err(AllocError);
+            }
+            Ok(count)
+        }
         None => Err(AllocError),
     }
 }
@@ -122,15 +143,37 @@ fn leads_of(alloc: Global, plan: &Plan, count: u32) -> Result<Leads, AllocError>
     Ok(leads)
 }
 
-// Puts in each of the first numbers.
-fn put_each(ready: &mut Ready, count: u32)
-    requires { (n : ℕ) → n < count → Contains ready.old.order n }
-    ensures order { ready.new.order ≡ ready.old.order }
-    ensures all { (n : ℕ) → n < count → IsIn ready.new n }
+// The first numbers, so many.
+fn first_numbers(alloc: Global, count: u32) -> Result<NumberList, AllocError>
+    ensures { IfOk result (λ l. HasEachOnce count l) }
 {
-    for place in 0..count {
-        ready.put(place);
+    let mut numbers = Vec::new(alloc);
+    for number in 0..count {
+        numbers.push(number)?;
     }
+    Ok(BlockList::from_vec(numbers)?)
+}
+
+// The sets of the places of a plan.
+fn sets_of(alloc: Global, plan: &Plan, count: u32) -> Result<Sets, AllocError>
+    requires valid { IsValid plan.now }
+    requires count { count ≡ length plan.now.nodes + length plan.now.inputs }
+    requires few { count + 1 < 2 ^ 32 }
+    ensures ready { IfOk result (λ s. s.ready ≡ none_ready (priorities plan.now)) }
+    ensures held { IfOk result (λ s. s.held ≡ none_ready (priorities plan.now)) }
+    ensures each { IfOk result (λ s. HasEachOnce count s.ready.order) }
+    ensures touched { IfOk result (λ s. HasEachOnce (count + 1) s.touched.order) }
+{
+    let order = order_of(alloc, plan, count)?;
+    let numbers = first_numbers(alloc, count + 1)?;
+    let ready = Ready::new(alloc, &order)?;
+    let held = Ready::new(alloc, &order)?;
+    let touched = Ready::new(alloc, &numbers)?;
+    Ok(Sets {
+        ready,
+        held,
+        touched,
+    })
 }
 
 // Takes all that are in one set, and puts them into another.
@@ -146,26 +189,45 @@ fn pour(from: &mut Ready, into: &mut Ready)
     }
 }
 
+/// Puts in the last places of an agenda that is kept, if one is, so many.
+pub(crate) fn wake_last(kept: &mut Option<Agenda>, count: u32)
+    requires { IfSome kept.old (λ a. count ≤ length a.heads) }
+    ensures { OfKept (WakesLast count) kept.old kept.new }
+{
+    if let Some(agenda) = kept {
+        agenda.wake_last(count);
+    }
+}
+
+/// Keeps in mind that the parts of a place have changed, in an agenda that is kept, if one is.
+pub(crate) fn touch(kept: &mut Option<Agenda>, place: u32)
+    requires { IfSome kept.old (λ a. place ≤ length a.heads) }
+    ensures { OfKept (Touches place) kept.old kept.new }
+{
+    if let Some(agenda) = kept {
+        agenda.touch(place);
+    }
+}
+
 impl Agenda {
     /// An agenda of a plan's net. No place is in.
     pub(crate) fn new(alloc: Global, plan: &Plan) -> Result<Agenda, AllocError>
         requires { IsValid plan.now }
-        ensures places { IfOk result (λ a. length a.heads ≡ length plan.now.nodes + length plan.now.inputs) }
-        ensures edges { IfOk result (λ a. length a.links ≡ length plan.now.edges) }
-        ensures leads { IfOk result (λ a. AreLeads plan.now 0 a.heads a.links) }
+        ensures of_plan { IfOk result (λ a. IsAgendaOf plan.now a) }
         ensures ready { IfOk result (λ a. a.ready ≡ none_ready (priorities plan.now)) }
         ensures held { IfOk result (λ a. a.held ≡ none_ready (priorities plan.now)) }
     {
         let count = count_of(plan)?;
-        let order = order_of(alloc, plan, count)?;
-        let Leads { first, next } = leads_of(alloc, plan, count)?;
-        let ready = Ready::new(alloc, &order)?;
-        let held = Ready::new(alloc, &order)?;
+        let first = nowhere(alloc, count)?;
+        let leads = leads_of(alloc, plan, count)?;
+        let sets = sets_of(alloc, plan, count)?;
         Ok(Agenda {
-            ready,
-            held,
+            ready: sets.ready,
+            held: sets.held,
+            touched: sets.touched,
             first,
-            next,
+            starts: leads.first,
+            next: leads.next,
         })
     }
 
@@ -179,13 +241,70 @@ impl Agenda {
         self.ready.put(place);
     }
 
-    /// Puts all places in.
-    pub(crate) fn put_all(&mut self)
-        ensures all { (n : ℕ) → n < length self.old.heads → IsIn self.new.ready n }
-        ensures order { self.new.ready.order ≡ self.old.ready.order }
-        ensures others { self.new ≡ record self.old { ready = self.new.ready } }
+    /// Keeps in mind that the parts of a place have changed.
+    pub(crate) fn touch(&mut self, place: u32)
+        requires { place ≤ length self.old.heads }
+        ensures touched { IsIn self.new.touched place }
+        ensures only { ChangesOnly self.old.touched self.new.touched place }
+        ensures others { self.new ≡ record self.old { touched = self.new.touched } }
     {
-        put_each(&mut self.ready, self.first.len() as u32);
+        self.touched.put(place);
+    }
+
+    /// Puts in a place whose parts have changed from outside. It goes on with the first edge that leads from it.
+    pub(crate) fn wake(&mut self, place: u32)
+        requires { place < length self.old.heads }
+        ensures touched { IsIn self.new.touched place }
+        ensures only { ChangesOnly self.old.touched self.new.touched place }
+        ensures heads { length self.new.heads ≡ length self.old.heads }
+        ensures leads { (self.new.starts ≡ self.old.starts) × (self.new.links ≡ self.old.links) }
+    {
+        self.ready.put(place);
+        self.touched.put(place);
+        self.first[place as usize] = self.starts[place as usize];
+    }
+
+    /// Puts in the last places, so many, whose parts have changed from outside.
+    pub(crate) fn wake_last(&mut self, count: u32)
+        requires { count ≤ length self.old.heads }
+        ensures { WakesLast count self.old self.new }
+    {
+        let end = self.count();
+        let first = end - count;
+        for place in first..end {
+            self.wake(place);
+        }
+    }
+
+    /// Puts in all places, as nothing is known of any.
+    pub(crate) fn wake_all(&mut self)
+        ensures all { (n : ℕ) → n ≤ length self.old.heads → IsIn self.new.touched n }
+        ensures heads { length self.new.heads ≡ length self.old.heads }
+        ensures leads { (self.new.starts ≡ self.old.starts) × (self.new.links ≡ self.old.links) }
+    {
+        let count = self.count();
+        self.wake_last(count);
+        self.touch(count);
+    }
+
+    /// How many places there are, but for that of the collector where there are no graph inputs.
+    pub(crate) fn count(&self) -> u32
+        ensures count { result ≡ length self.now.heads }
+        ensures few { result < 2 ^ 32 - 1 }
+    {
+        self.first.len() as u32
+    }
+
+    /// Takes out a place whose parts may have changed.
+    pub(crate) fn next_touched(&mut self) -> Option<u32>
+        ensures place { IfSome result (λ p. p ≤ length self.old.heads) }
+        ensures only { IfSome result (λ p. ChangesOnly self.old.touched self.new.touched p) }
+        ensures fewer { IfSome result (λ _. touched_in self.new < touched_in self.old) }
+        ensures none { IfNone result (IsEmpty self.old.touched) }
+        ensures unchanged { IfNone result (self.new ≡ self.old) }
+        ensures others { self.new ≡ record self.old { touched = self.new.touched } }
+    {
+        self.touched.take()
     }
 
     /// Takes out the place of the highest priority.
@@ -229,6 +348,15 @@ impl Agenda {
         ensures there { IfSome result (λ edge. edge < length self.now.links) }
     {
         self.first[place as usize]
+    }
+
+    /// The first edge that leads from a place.
+    pub(crate) fn start(&self, place: u32) -> Option<u32>
+        requires { place < length self.now.heads }
+        ensures start { result ≡ slice_index_or self.now.starts place None }
+        ensures there { IfSome result (λ edge. edge < length self.now.links) }
+    {
+        self.starts[place as usize]
     }
 
     /// The next edge that leads from where an edge leads from.

@@ -12,6 +12,7 @@ mod making;
 mod parting;
 mod reporting;
 mod resting;
+mod sending;
 mod sweeping;
 mod taking;
 mod trimming;
@@ -20,6 +21,7 @@ mod working;
 mod working_at_once;
 mod working_long;
 
+use crate::agenda::Agenda;
 use crate::desk::Desk;
 use mg_calc::{Calculator, GivenList, Plan};
 use mg_node::{Engine, Intake};
@@ -49,6 +51,9 @@ pub struct Net<C: Calculator> {
     boxes: Vec<C>,
     begun: u32,
     wound: u32,
+    // What a sweep left for the next one, and whether nothing but the places that it has kept has changed since the net was at rest.
+    agenda: Option<Agenda>,
+    known: bool,
 }
 
 /// A plan with the tables that nets look up: a net's, while its parts are elsewhere.
@@ -122,7 +127,9 @@ impl<C: Calculator> Model for Net<C> {
     ghost use Rattle.std.specs.Prelude.{◌≡◌, ◌≤◌, map, option_map, length, vec_len, vec_capacity};
     ghost use Rattle.mg_sched.specs.Views.{NetView};
     ghost use Rattle.mg_sched.specs.Codes.{net_code};
+    ghost use Rattle.std.specs.Prelude.{true};
     ghost use Rattle.mg_sched.specs.Code.Tables.{AreTables};
+    ghost use Rattle.mg_sched.specs.Code.Quiet.{IsKeptBy, RestsButKept};
 
     ghost Value = { NetView };
 
@@ -143,5 +150,7 @@ impl<C: Calculator> Model for Net<C> {
 
     ghost invariant = { λ n. AreTables n.plan n.first_edges.items n.own_feeders.items
         × (vec_len n.boxes ≡ 0) × (vec_len n.spare ≤ vec_capacity n.boxes)
-        × (vec_len n.got ≡ length n.plan.streams) };
+        × (vec_len n.got ≡ length n.plan.streams)
+        × IsKeptBy n.plan n.agenda
+        × (n.known ≡ true → RestsButKept n.plan n.engines.items n.intakes.items n.desks.items n.agenda) };
 }

@@ -1,7 +1,7 @@
 -- A queue holds the packets of a stream that wait at one input, after the page Synchronization of the MediaPipe
 -- framework. Definitions see how many packets are gone, the list that waits, the bound, and for how many more packets
 -- there is room.
-use Rattle.std.specs.Prelude.{◌≡◌, ℕ, ◌+◌, ◌≤◌, List, [], ◌∷◌, ◌++◌, length, drop, max, is_some, if◌then◌else◌}
+use Rattle.std.specs.Prelude.{◌≡◌, ℕ, ◌+◌, ◌≤◌, List, [], ◌∷◌, ◌++◌, length, take, drop, max, is_some, if◌then◌else◌}
 use Rattle.mg_time.specs.Time.{pre_stream, post_stream, IsAllowed, next}
 use Rattle.mg_value.specs.Prefix.{Stamped, StreamPrefix, IsPrefix}
 pub use Rattle.mg_value.specs.FirstSet.{front_at}
@@ -60,6 +60,10 @@ popped q = record { gone = q.gone + 1; packets = drop 1 q.packets; bound = q.bou
 -- a queue whose first packet is gone where it stands at a time, and the queue itself otherwise
 abbrev pub popped_at : {X : Type 0} → ℕ → Waiting X → Waiting X
 popped_at t q = if is_some (front_at t q.packets) then popped q else q
+
+-- a queue of whose waiting packets the first are left, a number of them, with another bound
+abbrev pub cut_back : {X : Type 0} → ℕ → ℕ → Waiting X → Waiting X
+cut_back waiting bound q = record q { packets = take waiting q.packets; bound = bound }
 
 -- what holds of every queue: what waits is itself a prefix of a stream, and no more packets came than there are times
 -- below the bound

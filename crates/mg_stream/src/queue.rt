@@ -3,7 +3,7 @@ ghost use Rattle.std.specs.VecDeque.{deque_len, deque_capacity};
 ghost use Rattle.mg_time.specs.Time.{pre_stream, post_stream, done, IsAllowed};
 ghost use Rattle.mg_value.specs.Payload.{Plain};
 ghost use Rattle.mg_value.specs.Prefix.{StreamPrefix, IsPrefix, empty_prefix, appended, raised, closed};
-ghost use Rattle.mg_stream.specs.Queue.{StandsFor, IsLike, empty_queue, MayCome, count_of, rest_of, with_packet, raised_to, front_at, popped_at};
+ghost use Rattle.mg_stream.specs.Queue.{StandsFor, IsLike, empty_queue, MayCome, count_of, rest_of, with_packet, raised_to, front_at, popped_at, cut_back, IsQueue};
 
 use crate::{Refused, StreamFault};
 use mg_time::Timestamp;
@@ -126,6 +126,15 @@ impl Queue {
         if self.bound < bound {
             self.bound = bound;
         }
+    }
+
+    /// Takes back what came last: of the packets that wait the first are left, so many, with the bound that stood then. The others go.
+    pub fn cut_back(&mut self, waiting: u64, bound: Timestamp)
+        requires { IsQueue (cut_back waiting bound self.old) }
+        ensures { IsLike self.new (cut_back waiting bound self.old) }
+    {
+        self.packets.truncate(waiting as usize);
+        self.bound = bound;
     }
 
     /// Closes the queue: no packet comes any more.

@@ -136,7 +136,7 @@ impl<C: Calculator> Engine<C> {
     }
 
     // Takes the last idle bench for a work that is handed out.
-    fn take_bench(&mut self, phase: Phase, more: u64) -> Bench<C>
+    pub(super) fn take_bench(&mut self, phase: Phase, more: u64) -> Bench<C>
         requires room { length self.old.window < self.old.in_flight }
         requires fits { self.old.claimed + more < 2 ^ 64 }
         ensures { Hands self.old self.new phase more result }

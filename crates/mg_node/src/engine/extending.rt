@@ -1,49 +1,42 @@
 //! How the engine of a graph input goes on with packets that came later.
-ghost use Rattle.std.specs.Prelude.{◌≡◌, ◌<◌, ℕ, List, IfOk, length, slice_index_or};
+ghost use Rattle.std.specs.Prelude.{◌≡◌, ◌<◌, ℕ, List, OnOk, OnErr, length, slice_index_or};
 ghost use Rattle.mg_value.specs.Payload.{Plain};
 ghost use Rattle.mg_value.specs.Prefix.{StreamPrefix, empty_prefix};
+ghost use Rattle.mg_node.specs.Views.{EngineView};
 ghost use Rattle.mg_node.specs.Job.{LoggedJob, Solves};
 ghost use Rattle.mg_node.specs.Lawful.{of_input, LawfulEngine};
-ghost use Rattle.mg_node.specs.Extending.{joined, extended, MayExtend};
+ghost use Rattle.mg_node.specs.Extending.{joined, extended, MayExtend, WasExtended, SomeExtended};
 
 use super::Engine;
-use crate::Role;
-use crate::laid::lengthened;
+use crate::laid::{lengthen, shorten};
 use mg_calc::Calculator;
+use mg_time::Timestamp;
 use mg_value::Prefix;
 use std::alloc::AllocError;
-use std::collections::VecDeque;
 
 impl<C: Calculator> Engine<C> {
-    /// The engine of the same graph input once more of its stream came: its output has the packets that are kept here, and behind them
-    /// the further ones. Payloads are shared.
-    pub fn extended(&self, more: &Prefix) -> Result<Engine<C>, AllocError>
-        requires { MayExtend self.now more.now }
-        ensures engine { IfOk result (λ e. e ≡ extended self.now more.now) }
+    /// Goes on with more of the graph input's stream: the further packets stand behind those that its output keeps. Payloads are shared.
+    /// Want of memory changes nothing.
+    pub fn extend(&mut self, more: &Prefix) -> Result<(), AllocError>
+        requires { MayExtend self.old more.now }
+        ensures engine { OnOk result (self.new ≡ extended self.old more.now) }
+        ensures unchanged { OnErr result (self.new ≡ self.old) }
 
         // It is lawful for every job whose stream of this input is that of a job for which this one is, with the further packets behind.
-        ensures lawful { (job later : LoggedJob) (input : ℕ) (streams longer : List (StreamPrefix Plain)) → LawfulEngine job (of_input input) self.now → Solves job streams
+        ensures lawful { (job later : LoggedJob) (input : ℕ) (streams longer : List (StreamPrefix Plain)) → LawfulEngine job (of_input input) self.old → Solves job streams
             → Solves later longer → input < length later.job.plan.inputs
             → slice_index_or longer input empty_prefix ≡ joined (slice_index_or streams input empty_prefix) more.now
-            → IfOk result (λ e. LawfulEngine later (of_input input) e) }
+            → OnOk result (LawfulEngine later (of_input input) self.new) }
     {
-        let outputs = vec![in self.alloc; lengthened(self.alloc, &self.outputs[0], more)?]?;
-        Ok(Engine {
-            alloc: self.alloc,
-            role: Role::Input,
-            node: self.node,
-            first: self.first,
-            offset: None,
-            in_flight: 0,
-            inputs: 0,
-            outputs,
-            laid: 0,
-            claimed: 0,
-            window: VecDeque::new(self.alloc),
-            idle: Vec::new(self.alloc),
-            begun: true,
-            closed: false,
-            fault: None,
-        })
+        lengthen(&mut self.outputs[0], more)?;
+        Ok(())
+    }
+
+    /// Takes back the packets with which it was extended last, and gives its output the bound that it had before: it is as it was.
+    pub fn shorten(&mut self, more: &Prefix, bound: Timestamp)
+        requires { SomeExtended more.now bound self.old }
+        ensures { (before : EngineView) → WasExtended more.now bound before self.old → self.new ≡ before }
+    {
+        shorten(&mut self.outputs[0], more, bound);
     }
 }

@@ -1,5 +1,5 @@
 -- What contracts see of an agenda. And how it is kept.
-use Rattle.std.specs.Prelude.{◌≡◌, ℕ, ◌+◌, ◌^◌, ◌<◌, ◌≤◌, ◌⊎◌, ◌++◌, Bool, List, length, count_by, Option, Some, None, slice_get, slice_index_or}
+use Rattle.std.specs.Prelude.{◌≡◌, ℕ, ◌+◌, ◌^◌, ◌<◌, ◌≤◌, ◌++◌, List, length, count_by, Option, Some, None, slice_get, slice_index_or}
 use Rattle.std.specs.List.{range_with_len}
 use Rattle.mg_calc.specs.declared.edge.Edge.{Edge}
 use Rattle.mg_calc.specs.declared.plan.Plan.{Plan}
@@ -11,18 +11,20 @@ pub record AgendaView : Type 0 where
   -- the places that may have something to do, and the feeders that were found throttled
   pub ready : ReadyNodes
   pub held : ReadyNodes
-  -- the edge along which each place goes on, and behind each edge the next one from the same place
+  -- the places whose parts may have changed since the net was at rest
+  pub touched : ReadyNodes
+  -- the edge along which each place goes on, the first one from each place, and behind each edge the next one from the same place
   pub heads : List (Option ℕ)
+  pub starts : List (Option ℕ)
   pub links : List (Option ℕ)
 
 -- how many places are ready
 abbrev pub waiting_in : AgendaView → ℕ
 waiting_in agenda = count_by (λ b. b) agenda.ready.is_in
 
--- an agenda is for a plan's nets
-pub record IsAgendaOf (plan : Plan) (agenda : AgendaView) : Type 0 where
-  pub places : length agenda.heads ≡ length plan.nodes + length plan.inputs
-  pub edges : length agenda.links ≡ length plan.edges
+-- and how many are touched
+abbrev pub touched_in : AgendaView → ℕ
+touched_in agenda = count_by (λ b. b) agenda.touched.is_in
 
 -- the places by priority, the highest last: those of the graph inputs, and behind them those of the nodes in the plan's order
 abbrev pub priorities : Plan → List ℕ
@@ -49,9 +51,20 @@ pub record AreLeads (plan : Plan) (low : ℕ) (heads links : List (Option ℕ)) 
   pub first : (place : ℕ) → place < length heads → IsFirstFrom plan low place (slice_index_or heads place None)
   pub next : (place edge : ℕ) → low ≤ edge → LeadsFrom plan place edge → IsFirstFrom plan (edge + 1) place (slice_index_or links edge None)
 
--- both sets of an agenda are of all places, and its edges lead on
-pub record IsAgenda (places edges : ℕ) (ready held : List ℕ) (heads links : List (Option ℕ)) : Type 0 where
-  pub few : places < 2 ^ 32
+-- an agenda is for a plan's nets: it has the edges by the places from which they lead
+pub record IsAgendaOf (plan : Plan) (agenda : AgendaView) : Type 0 where
+  pub places : length agenda.heads ≡ length plan.nodes + length plan.inputs
+  pub edges : length agenda.links ≡ length plan.edges
+  pub start_count : length agenda.starts ≡ length agenda.heads
+  pub leads : AreLeads plan 0 agenda.starts agenda.links
+
+-- the sets of an agenda are of all places, and that of the touched ones has one place more, for the collector where there are no graph
+-- inputs; and its edges lead on
+pub record IsAgenda (places edges : ℕ) (ready held touched : List ℕ) (heads starts links : List (Option ℕ)) : Type 0 where
+  pub few : places + 1 < 2 ^ 32
   pub ready_order : HasEachOnce places ready
   pub held_order : HasEachOnce places held
+  pub touched_order : HasEachOnce (places + 1) touched
   pub edges_lead : LeadOn 0 edges heads links
+  pub starts_lead : LeadOn 0 edges starts links
+  pub start_count : length starts ≡ places

@@ -1,5 +1,5 @@
 -- Whether as many packets wait at a port as its queue's limit is, or more.
-use Rattle.std.specs.Prelude.{◌≡◌, ℕ, ◌+◌, ◌<◌, Bool, true, false, List, length, Option, option_and_then, slice_get}
+use Rattle.std.specs.Prelude.{◌≡◌, ℕ, ◌+◌, ◌<◌, Bool, true, false, List, length, option_and_then, slice_get}
 use Rattle.mg_node.specs.declared.waits.Waits.{Waits}
 use Rattle.mg_node.specs.Ports.{ports_in, port_queue}
 use Rattle.mg_throttle.specs.declared.queue.Queue.{Queue}

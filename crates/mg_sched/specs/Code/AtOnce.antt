@@ -3,11 +3,14 @@ use Rattle.std.specs.Prelude.{◌≡◌, ℕ, ◌<◌, Bool, true, false, List, 
 use Rattle.mg_calc.specs.declared.event.Event.{Event}
 use Rattle.mg_calc.specs.declared.event.Event.TheVariants.{Claim, Perform, Commit}
 use Rattle.mg_calc.specs.declared.event.Effect.TheVariants.{Idle, OutOfMemory}
+use Rattle.mg_node.specs.declared.at_once.AtOnce.{AtOnce}
+use Rattle.mg_node.specs.declared.at_once.AtOnce.TheVariants.{Other, NotReady as NoSet}
 use Rattle.mg_node.specs.declared.claimed.Claimed.{Claimed}
 use Rattle.mg_node.specs.declared.claimed.Claimed.TheVariants.{NotReady, InFlightFull, Draining, Ended}
 use Rattle.mg_node.specs.Views.{IntakeView, WorkView, PerformedView, EngineView}
 use Rattle.mg_node.specs.Running.{IsPerformed}
 use Rattle.mg_node.specs.Claims.{Claims}
+use Rattle.mg_node.specs.AtOnce.{DoesAtOnce}
 use Rattle.mg_sched.specs.declared.reached.Reached.{Reached}
 use Rattle.mg_sched.specs.declared.reached.Reached.TheVariants.{Nothing, NotClaimed, Answered, Claimed as OnlyClaimed, Performed, Committed}
 use Rattle.mg_sched.specs.Views.{DeskView, NetView}
@@ -27,6 +30,29 @@ pub record HandsOut {C : Type 0} (node : ℕ) (claimed : Claimed C) (before now 
   pub intake_now : IntakeView
   pub claims : Claims {C = C} claimed engine engine_now intake intake_now
   pub now_is : now ≡ with_noted (with_intake (with_engine before node engine_now) node intake_now) (first_edge before.plan node) (lengths_of intake_now.waits)
+
+-- no set was shown
+abbrev pub did_nothing : {C : Type 0} → AtOnce C → Bool
+did_nothing Other = true
+did_nothing NoSet = true
+did_nothing done = false
+
+-- a node's next set is shown to its calculator by its engine, and the limits hear how many packets wait now at each of its ports
+pub record ShowsTo {C : Type 0} (node : ℕ) (done : AtOnce C) (before now : NetView) : Type 0 where
+  pub engine : EngineView
+  pub at : slice_get before.engines node ≡ Some engine
+  pub intake : IntakeView
+  pub to : slice_get before.intakes node ≡ Some intake
+  pub engine_now : EngineView
+  pub intake_now : IntakeView
+  pub does : DoesAtOnce {C = C} done engine engine_now intake intake_now
+  pub now_is : now ≡ with_noted (with_intake (with_engine before node engine_now) node intake_now) (first_edge before.plan node) (lengths_of intake_now.waits)
+
+-- where there is none that can be told yet, that is a claim that hands out nothing
+abbrev pub ShowsAt : {C : Type 0} → ℕ → AtOnce C → NetView → NetView → Type 0
+ShowsAt node Other before now = now ≡ before
+ShowsAt {C} node NoSet before now = HandsOut {C = C} node NotReady before now
+ShowsAt {C} node done before now = ShowsTo {C = C} node done before now
 
 -- a claim took nothing
 abbrev pub took_none : {C : Type 0} → Claimed C → Bool

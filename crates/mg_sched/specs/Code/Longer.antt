@@ -1,17 +1,34 @@
--- The engines of graph inputs while they take the places of the old ones.
-use Rattle.std.specs.Prelude.{◌≡◌, ℕ, zero, suc, List, [], ◌∷◌, Some, slice_get}
+-- The engines of some graph inputs, the last ones, while they are extended one by one.
+use Rattle.std.specs.Prelude.{◌≡◌, ◌⊎◌, ℕ, ◌+◌, ◌<◌, ◌≤◌, List, Some, length, slice_get}
 use Rattle.mg_value.specs.Payload.{Plain}
 use Rattle.mg_value.specs.Prefix.{StreamPrefix}
 use Rattle.mg_node.specs.Views.{EngineView}
-use Rattle.mg_node.specs.Extending.{extended}
+use Rattle.mg_node.specs.Outputs.{laid_at}
+use Rattle.mg_node.specs.Extending.{extended, MayExtend}
 
--- an engine is that of a number, extended by the piece of that number
-abbrev pub IsLonger : List EngineView → List (StreamPrefix Plain) → ℕ → EngineView → Type 0
-IsLonger engines pieces input now = (engine : EngineView) (piece : StreamPrefix Plain) → slice_get engines input ≡ Some engine → slice_get pieces input ≡ Some piece → now ≡ extended engine piece
+-- each of the engines from a place on may be extended by its piece
+abbrev pub MayEach : ℕ → List (StreamPrefix Plain) → List EngineView → Type 0
+MayEach from pieces engines = (input : ℕ) (engine : EngineView) (piece : StreamPrefix Plain) → slice_get engines (from + input) ≡ Some engine → slice_get pieces input ≡ Some piece → MayExtend engine piece
 
--- other elements in the places from a number on
-abbrev pub laid_over : {X : Type 0} → ℕ → List X → List X → List X
-laid_over n [] ys = []
-laid_over zero (x ∷ xs) [] = x ∷ xs
-laid_over zero (x ∷ xs) (y ∷ ys) = y ∷ laid_over zero xs ys
-laid_over (suc n) (x ∷ xs) ys = x ∷ laid_over n xs ys
+-- the first of them are extended, a number of them, and nothing else has changed
+pub record AreLonger (from : ℕ) (pieces : List (StreamPrefix Plain)) (count : ℕ) (before now : List EngineView) : Type 0 where
+  pub places : length now ≡ length before
+  pub longer : (input : ℕ) (engine : EngineView) (piece : StreamPrefix Plain) → input < count → slice_get before (from + input) ≡ Some engine → slice_get pieces input ≡ Some piece
+      → slice_get now (from + input) ≡ Some (extended engine piece)
+  pub others : (place : ℕ) → (place < from) ⊎ (from + count ≤ place) → slice_get now place ≡ slice_get before place
+
+-- the bound that the output of an engine has, the engine of a number from a place on
+abbrev pub IsBound : ℕ → List EngineView → ℕ → ℕ → Type 0
+IsBound from engines input bound = (engine : EngineView) → slice_get engines (from + input) ≡ Some engine → (laid_at engine 0).bound ≡ bound
+
+-- the first of them were extended, a number of them, each as it might be, and their bounds were noted
+pub record WereLonger (from : ℕ) (pieces : List (StreamPrefix Plain)) (bounds : List ℕ) (count : ℕ) (before now : List EngineView) : Type 0 where
+  pub are : AreLonger from pieces count before now
+  pub may : MayEach from pieces before
+  pub bounds_were : (input bound : ℕ) → slice_get bounds input ≡ Some bound → IsBound from before input bound
+  pub within : from + count ≤ length before
+
+-- there are engines that were
+pub record SomeLonger (from : ℕ) (pieces : List (StreamPrefix Plain)) (bounds : List ℕ) (count : ℕ) (now : List EngineView) : Type 0 where
+  pub before : List EngineView
+  pub were : WereLonger from pieces bounds count before now

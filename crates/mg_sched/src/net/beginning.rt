@@ -46,6 +46,7 @@ impl<C: Calculator> Net<C> {
         ensures next { OnOk result (self.new.begun ≡ self.old.begun + 1) }
         ensures stands { (job : LoggedJob) → StandsFor job self.old → StandsFor job self.new }
     {
+        self.known = false;
         let node = self.begun;
         let sides = sides_at(self.alloc, &self.plan, &self.given, node)?;
         self.engines[node as usize].begin(&sides)?;

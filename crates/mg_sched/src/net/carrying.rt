@@ -84,6 +84,7 @@ impl<C: Calculator> Net<C> {
         ensures { Brings number edge result self.old self.new }
     {
         let place = self.source_of(edge);
+        self.known = false;
         let engine = &self.engines[place];
         let intake = &mut self.intakes[edge.node as usize];
         let delivered = engine.deliver(edge, intake, u32::MAX);
@@ -98,6 +99,7 @@ impl<C: Calculator> Net<C> {
         requires running { IsRunning self.old }
         ensures { Advanced node result self.old self.new }
     {
+        self.known = false;
         let place = node as usize;
         let moved = self.engines[place].advance(&self.intakes[place]);
         done_if(moved)

@@ -113,6 +113,7 @@ impl<C: Calculator> Net<C> {
         requires running { IsRunning self.old }
         ensures { HandsOut node result self.old self.new }
     {
+        self.known = false;
         let place = node as usize;
         let claimed = self.engines[place].claim(&mut self.intakes[place]);
         if took_none(&claimed) {
@@ -128,6 +129,7 @@ impl<C: Calculator> Net<C> {
         requires room { (desk : DeskView) → slice_get self.old.desks node ≡ Some desk → length desk.works < desk.room }
         ensures { (desk : DeskView) → slice_get self.old.desks node ≡ Some desk → self.new ≡ with_work self.old node desk work }
     {
+        self.known = false;
         self.desks[node as usize].put(work);
     }
 

@@ -1,64 +1,131 @@
 //! How a net goes on with further input.
-ghost use Rattle.std.specs.Prelude.{◌≡◌, ◌-◌, ◌<◌, ◌≤◌, ℕ, IfOk, OnOk, OnErr, Some, length, slice_get, slice_set};
-ghost use Rattle.mg_value.specs.Payload.{Plain};
-ghost use Rattle.mg_value.specs.Prefix.{StreamPrefix};
+ghost use Rattle.std.specs.Prelude.{◌≡◌, ◌-◌, ◌+◌, ◌<◌, ◌≤◌, List, IfOk, OnOk, OnErr, Some, length, slice_get, slice_set};
 ghost use Rattle.mg_node.specs.Views.{EngineView};
 ghost use Rattle.mg_node.specs.Job.{LoggedJob};
-ghost use Rattle.mg_node.specs.Extending.{MayExtend};
+ghost use Rattle.mg_node.specs.Extending.{extended, MayExtend, WasExtended, SomeExtended};
 ghost use Rattle.mg_sched.specs.StandsFor.{StandsFor};
 ghost use Rattle.mg_sched.specs.Code.Made.{AtPlaces};
-ghost use Rattle.mg_sched.specs.Code.Longer.{IsLonger, laid_over};
-ghost use Rattle.mg_sched.specs.Extends.{GoesOnWith, MayGoOnWith, Extends};
+ghost use Rattle.mg_sched.specs.Code.Longer.{MayEach, AreLonger, IsBound, WereLonger, SomeLonger};
+ghost use Rattle.mg_sched.specs.Extends.{GoesOnWith, MayGoOnWith, Extends, for_last};
 
 use super::Net;
+use crate::agenda::wake_last;
 use mg_calc::{Calculator, Inputs};
 use mg_node::Engine;
-use mg_value::PrefixList;
+use mg_time::Timestamp;
+use mg_value::{Prefix, PrefixList};
 use std::alloc::{AllocError, Global};
 
-// The engines of graph inputs, each extended by its piece of further input.
-fn longer_engines<C: Calculator>(
+// The bounds of graph inputs, whose engines stand from a place on, one for each piece.
+fn bounds_of<C: Calculator>(
     alloc: Global,
     engines: &[Engine<C>],
+    from: usize,
     pieces: &PrefixList,
-) -> Result<Vec<Engine<C>>, AllocError>
-    requires room { length pieces.now ≤ length engines.now }
-    requires may { (input : ℕ) (engine : EngineView) (piece : StreamPrefix Plain) → slice_get engines.now input ≡ Some engine → slice_get pieces.now input ≡ Some piece → MayExtend engine piece }
+) -> Result<Vec<Timestamp>, AllocError>
+    requires within { from + length pieces.now ≤ length engines.now }
+    requires may { MayEach from pieces.now engines.now }
     ensures count { IfOk result (λ v. length v.items ≡ length pieces.now) }
-    ensures longer { IfOk result (λ v. AtPlaces (IsLonger engines.now pieces.now) v.items) }
+    ensures bounds { IfOk result (λ v. AtPlaces (IsBound from engines.now) v.items) }
 {
-    let mut longer = Vec::with_capacity(alloc, pieces.len() as usize)?;
+    let mut bounds = Vec::with_capacity(alloc, pieces.len() as usize)?;
+    for input in 0..pieces.len() {
+        bounds.push(engines[from + input as usize].bound(0))?;
+    }
+    Ok(bounds)
+}
+
+// Extends the engine at a place.
+fn extend_at<C: Calculator>(
+    engines: &mut [Engine<C>],
+    place: usize,
+    piece: &Prefix,
+) -> Result<(), AllocError>
+    requires there { place < length engines.old }
+    requires may { (engine : EngineView) → slice_get engines.old place ≡ Some engine → MayExtend engine piece.now }
+    ensures extended { (engine : EngineView) → slice_get engines.old place ≡ Some engine → OnOk result (engines.new ≡ slice_set engines.old place (extended engine piece.now)) }
+    ensures unchanged { OnErr result (engines.new ≡ engines.old) }
+{
+    engines[place].extend(piece)?;
+    Ok(())
+}
+
+// Extends engines from a place on, each by its piece, as far as there is memory, and tells how many are extended.
+fn extend_each<C: Calculator>(engines: &mut [Engine<C>], from: usize, pieces: &PrefixList) -> u32
+    requires within { from + length pieces.now ≤ length engines.old }
+    requires may { MayEach from pieces.now engines.old }
+    ensures count { result ≤ length pieces.now }
+    ensures longer { AreLonger from pieces.now result engines.old engines.new }
+{
     for input in 0..pieces.len() {
         let piece = &pieces.as_slice()[input as usize];
-        longer.push(engines[input as usize].extended(piece)?)?;
+        let Ok(()) = extend_at(engines, from + input as usize, piece) else {
+            return input;
+        };
     }
-    Ok(longer)
+    pieces.len()
 }
 
-// Lays an engine in a place.
-fn put_at<C: Calculator>(engines: &mut [Engine<C>], place: usize, engine: Engine<C>)
-    requires { place < length engines.old }
-    ensures { engines.new ≡ slice_set engines.old place engine }
+// Takes a piece back from the engine at a place.
+fn shorten_at<C: Calculator>(
+    engines: &mut [Engine<C>],
+    place: usize,
+    piece: &Prefix,
+    bound: Timestamp,
+)
+    requires there { place < length engines.old }
+    requires some { (now : EngineView) → slice_get engines.old place ≡ Some now → SomeExtended piece.now bound now }
+    ensures { (before now : EngineView) → slice_get engines.old place ≡ Some now → WasExtended piece.now bound before now → engines.new ≡ slice_set engines.old place before }
 {
-    engines[place] = engine;
+    engines[place].shorten(piece, bound);
 }
 
-// Lays engines in the last places, in their order.
-fn lay_over<C: Calculator>(engines: &mut [Engine<C>], longer: Vec<Engine<C>>)
-    requires room { length longer.items ≤ length engines.old }
-    ensures { engines.new ≡ laid_over (length engines.old - length longer.items) engines.old longer.items }
+// Takes the pieces back from the first of some engines, so many.
+fn shorten_each<C: Calculator>(
+    engines: &mut [Engine<C>],
+    from: usize,
+    pieces: &PrefixList,
+    bounds: &[Timestamp],
+    count: u32,
+)
+    requires pieces { count ≤ length pieces.now }
+    requires bounds { count ≤ length bounds.now }
+    requires some { SomeLonger from pieces.now bounds.now count engines.old }
+    ensures { (before : List EngineView) → WereLonger from pieces.now bounds.now count before engines.old → engines.new ≡ before }
 {
-    let mut longer = longer;
-    let mut place = engines.len();
-    while let Some(engine) = longer.pop() {
-        place -= 1;
-        put_at(engines, place, engine);
+    let mut left = count;
+    while left > 0 {
+        left -= 1;
+        let piece = &pieces.as_slice()[left as usize];
+        shorten_at(engines, from + left as usize, piece, bounds[left as usize]);
     }
+}
+
+// Extends the last engines, each by its piece. Where one can't be, the pieces that were laid before are taken back: only while they are
+// laid does it show whether there is memory for all.
+fn extend_last<C: Calculator>(
+    alloc: Global,
+    engines: &mut [Engine<C>],
+    pieces: &PrefixList,
+) -> Result<(), AllocError>
+    requires room { length pieces.now ≤ length engines.old }
+    requires may { MayEach (length engines.old - length pieces.now) pieces.now engines.old }
+    ensures longer { OnOk result (AreLonger (length engines.old - length pieces.now) pieces.now (length pieces.now) engines.old engines.new) }
+    ensures unchanged { OnErr result (engines.new ≡ engines.old) }
+{
+    let from = engines.len() - pieces.len() as usize;
+    let bounds = bounds_of(alloc, engines, from, pieces)?;
+    let done = extend_each(engines, from, pieces);
+    if done < pieces.len() {
+        shorten_each(engines, from, pieces, bounds.as_slice(), done);
+        return Err(AllocError);
+    }
+    Ok(())
 }
 
 impl<C: Calculator> Net<C> {
     /// Goes on with further input: the packets of each piece go behind those of its graph input, and the greater bound stands. Payloads
-    /// are shared. Want of memory changes nothing.
+    /// are shared. Want of memory changes nothing. It costs a step for each graph input, and one for each packet.
     pub fn extend(&mut self, more: &Inputs) -> Result<(), AllocError>
         requires may { MayGoOnWith more.now self.old }
         ensures extends { OnOk result (Extends more.now self.old self.new) }
@@ -67,10 +134,29 @@ impl<C: Calculator> Net<C> {
         // A net that stands for a job then stands for every job that goes on from it with this input.
         ensures stands { (first later : LoggedJob) → GoesOnWith more.now first later → StandsFor first self.old → OnOk result (StandsFor later self.new) }
     {
-        let nodes = self.plan.nodes.len() as usize;
-        let (_, inputs) = self.engines.as_slice().split_at(nodes);
-        let longer = longer_engines(self.alloc, inputs, &more.streams)?;
-        lay_over(&mut self.engines, longer);
+        let known = self.known;
+        self.known = false;
+        extend_last(self.alloc, &mut self.engines, &more.streams)?;
+        wake_last(&mut self.agenda, more.streams.len());
+        self.known = known;
+        Ok(())
+    }
+
+    /// Goes on with further input of the last graph inputs alone, a piece for each of them. Nothing further came of those before, and they
+    /// cost nothing.
+    pub fn extend_last(&mut self, pieces: &PrefixList) -> Result<(), AllocError>
+        requires may { MayGoOnWith (for_last (length self.old.plan.inputs) pieces.now) self.old }
+        ensures extends { OnOk result (Extends (for_last (length self.old.plan.inputs) pieces.now) self.old self.new) }
+        ensures unchanged { OnErr result (self.new ≡ self.old) }
+
+        // A net that stands for a job then stands for every job that goes on from it with this input.
+        ensures stands { (first later : LoggedJob) → GoesOnWith (for_last (length self.old.plan.inputs) pieces.now) first later → StandsFor first self.old → OnOk result (StandsFor later self.new) }
+    {
+        let known = self.known;
+        self.known = false;
+        extend_last(self.alloc, &mut self.engines, pieces)?;
+        wake_last(&mut self.agenda, pieces.len());
+        self.known = known;
         Ok(())
     }
 }

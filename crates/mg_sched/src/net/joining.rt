@@ -53,6 +53,8 @@ fn joined<C: Calculator>(parts: NetParts<C>) -> Net<C>
         boxes,
         begun,
         wound: 0,
+        agenda: None,
+        known: false,
     }
 }
 

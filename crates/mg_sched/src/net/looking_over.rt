@@ -1,93 +1,273 @@
-//! How a net looks over all its events, and makes one of them.
-ghost use Rattle.std.specs.Prelude.{◌≡◌, length, IfOk, OnOk, OnErr, false};
+//! How a net looks over the places whose parts may have changed, and makes one of its events.
+ghost use Rattle.std.specs.Prelude.{◌≡◌, ◌<◌, ◌≤◌, ℕ, length, IfOk, OnOk, OnErr, false};
+ghost use Rattle.mg_node.specs.Job.{ports_of};
 ghost use Rattle.mg_sched.specs.StandsFor.{StandsForSome, IsRunning};
-ghost use Rattle.mg_sched.specs.Acts.{IsEventOf};
+ghost use Rattle.mg_sched.specs.Acts.{IsEventOf, IsAnyFull};
 ghost use Rattle.mg_sched.specs.AtRest.{IsAtRest};
 ghost use Rattle.mg_sched.specs.Sweeps.{Becomes};
 ghost use Rattle.mg_sched.specs.Heard.{Heard, HeardSome};
-ghost use Rattle.mg_sched.specs.Code.Left.{Goes, Steps, EdgesRest, NodesRest};
+ghost use Rattle.mg_sched.specs.Code.Agendas.{IsAgendaOf};
+ghost use Rattle.mg_sched.specs.Code.Left.{Goes, Steps, RestsAt};
+ghost use Rattle.mg_sched.specs.Code.Quiet.{IsAt, OnlyAt, Notes, RestsBut, EdgesRestInto, EdgesRestBehind, RestsHere};
 
 use super::Net;
+use super::sweeping::go_on_with;
 use crate::Hears;
+use crate::agenda::Agenda;
 use mg_calc::{Calculator, Effect, Event};
 use mg_edge::Gate;
 use std::alloc::AllocError;
 
 impl<C: Calculator> Net<C> {
-    // Looks over all events, and makes those that do something. Tells whether there was one.
+    // Relaxes the limits of full queues, and where none is full looks over the places whose parts may have changed, one after the other,
+    // up to the first at which something is done. Tells whether something was done.
     pub(super) fn look_over<G: Gate, H: Hears>(
         &mut self,
+        agenda: &mut Agenda,
         gate: &G,
         hearer: &mut H,
     ) -> Result<bool, AllocError>
         requires running { IsRunning self.old }
         requires stands { StandsForSome self.old }
+        requires agenda { IsAgendaOf self.old.plan agenda.old }
+        requires rests { RestsBut self.old agenda.old }
         ensures becomes { Becomes self.old self.new }
         ensures heard { OnOk result (Heard H.has_heard hearer.old hearer.new self.old self.new) }
         ensures heard_some { OnErr result (HeardSome H.has_heard hearer.old hearer.new self.old) }
         ensures goes { IfOk result (λ did. Goes did self.old self.new) }
+        ensures agenda { IsAgendaOf self.old.plan agenda.new }
         ensures rest { IfOk result (λ did. did ≡ false → IsAtRest self.new) }
+        ensures left { OnOk result (RestsBut self.new agenda.new) }
     {
-        let delivered = self.look_over_edges(gate, hearer)?;
-        let worked = self.look_over_nodes(gate, hearer)?;
-        if delivered | worked {
+        let relaxed = self.step(Event::Relax, gate, hearer)?;
+        if relaxed {
             return Ok(true);
         }
-        self.step(Event::Relax, gate, hearer)
+        let did = self.look_at_touched(agenda, gate, hearer)?;
+        Ok(did)
     }
 
-    // Brings along each edge what its port hasn't got. Tells whether something was brought.
-    fn look_over_edges<G: Gate, H: Hears>(
+    // So it is where no queue is full.
+    fn look_at_touched<G: Gate, H: Hears>(
         &mut self,
+        agenda: &mut Agenda,
         gate: &G,
         hearer: &mut H,
     ) -> Result<bool, AllocError>
         requires running { IsRunning self.old }
         requires stands { StandsForSome self.old }
+        requires agenda { IsAgendaOf self.old.plan agenda.old }
+        requires rests { RestsBut self.old agenda.old }
+        requires free { ¬ IsAnyFull self.old.limits }
         ensures becomes { Becomes self.old self.new }
         ensures heard { OnOk result (Heard H.has_heard hearer.old hearer.new self.old self.new) }
         ensures heard_some { OnErr result (HeardSome H.has_heard hearer.old hearer.new self.old) }
         ensures goes { IfOk result (λ did. Goes did self.old self.new) }
-        ensures rest { IfOk result (λ did. did ≡ false → EdgesRest self.new (length self.new.plan.edges)) }
+        ensures agenda { IsAgendaOf self.old.plan agenda.new }
+        ensures rest { IfOk result (λ did. did ≡ false → IsAtRest self.new) }
+        ensures left { OnOk result (RestsBut self.new agenda.new) }
     {
+        'places: while let Some(place) = agenda.next_touched() {
+            if self.look_at(place, agenda, gate, hearer)? {
+                agenda.touch(place);
+                return Ok(true);
+            }
+        }
+        Ok(false)
+    }
+
+    // Brings what there is to bring to a place and from it, and lets its node work. Tells whether something was done.
+    fn look_at<G: Gate, H: Hears>(
+        &mut self,
+        place: u32,
+        agenda: &mut Agenda,
+        gate: &G,
+        hearer: &mut H,
+    ) -> Result<bool, AllocError>
+        requires running { IsRunning self.old }
+        requires stands { StandsForSome self.old }
+        requires agenda { IsAgendaOf self.old.plan agenda.old }
+        requires there { place ≤ length agenda.old.heads }
+        ensures becomes { Becomes self.old self.new }
+        ensures heard { OnOk result (Heard H.has_heard hearer.old hearer.new self.old self.new) }
+        ensures heard_some { OnErr result (HeardSome H.has_heard hearer.old hearer.new self.old) }
+        ensures goes { IfOk result (λ did. Goes did self.old self.new) }
+        ensures agenda { IsAgendaOf self.old.plan agenda.new }
+        ensures notes { OnOk result (Notes self.old agenda.old self.new agenda.new) }
+        ensures unchanged { IfOk result (λ did. did ≡ false → agenda.new ≡ agenda.old) }
+        ensures rest { IfOk result (λ did. did ≡ false → RestsHere self.new place) }
+    {
+        let came = self.look_into(place, agenda, gate, hearer)?;
+        let sent = self.look_from(place, agenda, gate, hearer)?;
+        let worked = self.look_on(place, agenda, gate, hearer)?;
+        Ok(came | sent | worked)
+    }
+
+    // Brings along each edge into a place what its port hasn't got. Tells whether something was brought.
+    fn look_into<G: Gate, H: Hears>(
+        &mut self,
+        place: u32,
+        agenda: &mut Agenda,
+        gate: &G,
+        hearer: &mut H,
+    ) -> Result<bool, AllocError>
+        requires running { IsRunning self.old }
+        requires stands { StandsForSome self.old }
+        requires agenda { IsAgendaOf self.old.plan agenda.old }
+        ensures becomes { Becomes self.old self.new }
+        ensures heard { OnOk result (Heard H.has_heard hearer.old hearer.new self.old self.new) }
+        ensures heard_some { OnErr result (HeardSome H.has_heard hearer.old hearer.new self.old) }
+        ensures goes { IfOk result (λ did. Goes did self.old self.new) }
+        ensures agenda { IsAgendaOf self.old.plan agenda.new }
+        ensures notes { OnOk result (Notes self.old agenda.old self.new agenda.new) }
+        ensures unchanged { IfOk result (λ did. did ≡ false → agenda.new ≡ agenda.old) }
+        ensures rest { IfOk result (λ did. did ≡ false → EdgesRestInto self.new place) }
+    {
+        let nodes = self.node_count();
+        if nodes < place {
+            return Ok(false);
+        }
+        let did = self.receive(place, agenda, gate, hearer)?;
+        Ok(did)
+    }
+
+    // So it is where a consumer stands there.
+    fn receive<G: Gate, H: Hears>(
+        &mut self,
+        consumer: u32,
+        agenda: &mut Agenda,
+        gate: &G,
+        hearer: &mut H,
+    ) -> Result<bool, AllocError>
+        requires running { IsRunning self.old }
+        requires stands { StandsForSome self.old }
+        requires agenda { IsAgendaOf self.old.plan agenda.old }
+        requires there { consumer ≤ length self.old.plan.nodes }
+        ensures becomes { Becomes self.old self.new }
+        ensures heard { OnOk result (Heard H.has_heard hearer.old hearer.new self.old self.new) }
+        ensures heard_some { OnErr result (HeardSome H.has_heard hearer.old hearer.new self.old) }
+        ensures goes { IfOk result (λ did. Goes did self.old self.new) }
+        ensures agenda { IsAgendaOf self.old.plan agenda.new }
+        ensures notes { OnOk result (Notes self.old agenda.old self.new agenda.new) }
+        ensures unchanged { IfOk result (λ did. did ≡ false → agenda.new ≡ agenda.old) }
+        ensures rest { IfOk result (λ did. did ≡ false → EdgesRestInto self.new consumer) }
+    {
+        let first = self.first_edge(consumer);
+        let ports = self.port_count(consumer);
         let mut did = false;
-        'edges: for edge in 0..self.edge_count() {
-            did |= self.step(Event::Deliver { edge }, gate, hearer)?;
+        'ports: for port in 0..ports {
+            did |= self.send_along(first + port, agenda, gate, hearer)?;
         }
         Ok(did)
     }
 
-    pub(super) fn edge_count(&self) -> u32
-        ensures { result ≡ length self.now.plan.edges }
+    // How many ports a consumer has.
+    fn port_count(&self, consumer: u32) -> u32
+        requires stands { StandsForSome self.now }
+        requires there { consumer ≤ length self.now.plan.nodes }
+        ensures { result ≡ length (ports_of self.now.plan consumer) }
     {
-        self.plan.edges.len()
+        self.intakes[consumer as usize].ports()
     }
 
+    // Brings along each edge from a place what its port hasn't got. Tells whether something was brought.
+    fn look_from<G: Gate, H: Hears>(
+        &mut self,
+        place: u32,
+        agenda: &mut Agenda,
+        gate: &G,
+        hearer: &mut H,
+    ) -> Result<bool, AllocError>
+        requires running { IsRunning self.old }
+        requires stands { StandsForSome self.old }
+        requires agenda { IsAgendaOf self.old.plan agenda.old }
+        requires there { place ≤ length agenda.old.heads }
+        ensures becomes { Becomes self.old self.new }
+        ensures heard { OnOk result (Heard H.has_heard hearer.old hearer.new self.old self.new) }
+        ensures heard_some { OnErr result (HeardSome H.has_heard hearer.old hearer.new self.old) }
+        ensures goes { IfOk result (λ did. Goes did self.old self.new) }
+        ensures agenda { IsAgendaOf self.old.plan agenda.new }
+        ensures notes { OnOk result (Notes self.old agenda.old self.new agenda.new) }
+        ensures unchanged { IfOk result (λ did. did ≡ false → agenda.new ≡ agenda.old) }
+        ensures rest { IfOk result (λ did. did ≡ false → EdgesRestBehind self.new place) }
+    {
+        let count = agenda.count();
+        if place < count {
+            let first = agenda.start(place);
+            let did = self.send_from(first, agenda, gate, hearer)?;
+            return Ok(did);
+        }
+        Ok(false)
+    }
+
+    // Lets the node of a place work, if it is one. Tells whether something was done.
+    fn look_on<G: Gate, H: Hears>(
+        &mut self,
+        place: u32,
+        agenda: &mut Agenda,
+        gate: &G,
+        hearer: &mut H,
+    ) -> Result<bool, AllocError>
+        requires running { IsRunning self.old }
+        requires stands { StandsForSome self.old }
+        requires agenda { IsAgendaOf self.old.plan agenda.old }
+        ensures becomes { Becomes self.old self.new }
+        ensures heard { OnOk result (Heard H.has_heard hearer.old hearer.new self.old self.new) }
+        ensures heard_some { OnErr result (HeardSome H.has_heard hearer.old hearer.new self.old) }
+        ensures goes { IfOk result (λ did. Goes did self.old self.new) }
+        ensures agenda { IsAgendaOf self.old.plan agenda.new }
+        ensures notes { OnOk result (Notes self.old agenda.old self.new agenda.new) }
+        ensures unchanged { IfOk result (λ did. did ≡ false → agenda.new ≡ agenda.old) }
+        ensures rest { IfOk result (λ did. did ≡ false → place < length self.new.plan.nodes → RestsAt self.new place) }
+    {
+        let nodes = self.node_count();
+        if place < nodes {
+            let worked = self.work_here(place, agenda, gate, hearer)?;
+            return Ok(worked);
+        }
+        Ok(false)
+    }
+
+    // Lets a node work, and puts it in where it did something. Tells whether something was done.
+    fn work_here<G: Gate, H: Hears>(
+        &mut self,
+        node: u32,
+        agenda: &mut Agenda,
+        gate: &G,
+        hearer: &mut H,
+    ) -> Result<bool, AllocError>
+        requires running { IsRunning self.old }
+        requires stands { StandsForSome self.old }
+        requires agenda { IsAgendaOf self.old.plan agenda.old }
+        requires there { node < length self.old.plan.nodes }
+        ensures becomes { Becomes self.old self.new }
+        ensures heard { OnOk result (Heard H.has_heard hearer.old hearer.new self.old self.new) }
+        ensures heard_some { OnErr result (HeardSome H.has_heard hearer.old hearer.new self.old) }
+        ensures goes { IfOk result (λ did. Goes did self.old self.new) }
+        ensures agenda { IsAgendaOf self.old.plan agenda.new }
+        ensures notes { OnOk result (Notes self.old agenda.old self.new agenda.new) }
+        ensures unchanged { IfOk result (λ did. did ≡ false → agenda.new ≡ agenda.old) }
+        ensures rest { IfOk result (λ did. did ≡ false → RestsAt self.new node) }
+    {
+        let worked = self.work(node, gate, hearer)?;
+        if worked {
+            go_on_with(agenda, node, true);
+            return Ok(true);
+        }
+        Ok(false)
+    }
+
+    // How many nodes there are.
     pub(super) fn node_count(&self) -> u32
         ensures { result ≡ length self.now.plan.nodes }
     {
         self.plan.nodes.len()
     }
 
-    // Lets each node work. Tells whether one did something.
-    fn look_over_nodes<G: Gate, H: Hears>(
-        &mut self,
-        gate: &G,
-        hearer: &mut H,
-    ) -> Result<bool, AllocError>
-        requires running { IsRunning self.old }
-        requires stands { StandsForSome self.old }
-        ensures becomes { Becomes self.old self.new }
-        ensures heard { OnOk result (Heard H.has_heard hearer.old hearer.new self.old self.new) }
-        ensures heard_some { OnErr result (HeardSome H.has_heard hearer.old hearer.new self.old) }
-        ensures goes { IfOk result (λ did. Goes did self.old self.new) }
-        ensures rest { IfOk result (λ did. did ≡ false → NodesRest self.new (length self.new.plan.nodes)) }
+    pub(super) fn edge_count(&self) -> u32
+        ensures { result ≡ length self.now.plan.edges }
     {
-        let mut did = false;
-        'nodes: for node in 0..self.node_count() {
-            did |= self.work(node, gate, hearer)?;
-        }
-        Ok(did)
+        self.plan.edges.len()
     }
 
     // Makes a step, and tells what hears it. Tells whether it did something.
@@ -104,6 +284,7 @@ impl<C: Calculator> Net<C> {
         ensures heard { OnOk result (Heard H.has_heard hearer.old hearer.new self.old self.new) }
         ensures heard_some { OnErr result (HeardSome H.has_heard hearer.old hearer.new self.old) }
         ensures steps { IfOk result (λ did. Steps did event self.old self.new) }
+        ensures only { OnOk result ((place : ℕ) → IsAt self.old.plan event place → OnlyAt place self.old self.new) }
     {
         match self.act(event, gate) {
             Effect::Did => {

@@ -114,6 +114,8 @@ fn joined<C: Calculator>(alloc: Global, plan: &Plan, parts: Parts<C>, boxes: Vec
         boxes,
         begun: 0,
         wound: 0,
+        agenda: None,
+        known: false,
     }
 }
 

@@ -97,6 +97,7 @@ impl<C: Calculator> Net<C> {
         requires stands { StandsForSome self.old }
         ensures { PutsBackAt node self.old self.new }
     {
+        self.known = false;
         let place = node as usize;
         put_back(&mut self.engines[place], &mut self.desks[place]);
     }

@@ -1,14 +1,12 @@
 //! How a net comes to rest.
-ghost use Rattle.std.specs.Prelude.{◌≡◌, ◌<◌, ◌+◌, ◌≤◌, ◌^◌, List, length, slice_get, slice_set, Some, IfOk, OnOk, OnErr, true, false};
+ghost use Rattle.std.specs.Prelude.{◌≡◌, ℕ, ◌<◌, ◌+◌, ◌≤◌, ◌^◌, List, length, slice_get, Some, IfOk, OnOk, OnErr, true, false};
 ghost use Rattle.mg_value.specs.Payload.{Plain};
 ghost use Rattle.mg_value.specs.Prefix.{StreamPrefix};
 ghost use Rattle.mg_calc.specs.Meaning.{weight};
 ghost use Rattle.mg_node.specs.Job.{LoggedJob, Solves};
 ghost use Rattle.mg_node.specs.Ports.{ports_in};
-ghost use Rattle.mg_ready.specs.Ready.{IsIn};
+ghost use Rattle.mg_ready.specs.Ready.{IsIn, ChangesOnly};
 ghost use Rattle.mg_sched.specs.StandsFor.{StandsFor, StandsForSome, IsRunning};
-ghost use Rattle.mg_calc.specs.declared.edge.Edge.{Edge};
-ghost use Rattle.mg_sched.specs.Acts.{IsHeld};
 ghost use Rattle.mg_sched.specs.AtRest.{IsAtRest};
 ghost use Rattle.mg_sched.specs.Taking.{taken_out};
 ghost use Rattle.mg_sched.specs.Reports.{claimed_in};
@@ -19,6 +17,7 @@ ghost use Rattle.mg_sched.specs.Places.{first_edge};
 ghost use Rattle.mg_sched.specs.Code.Agendas.{IsAgendaOf};
 ghost use Rattle.mg_sched.specs.Code.AtLimits.{is_at_limit, TellsAtLimit};
 ghost use Rattle.mg_sched.specs.Code.Left.{Goes};
+ghost use Rattle.mg_sched.specs.Code.Quiet.{Notes, RestsBut};
 
 use super::Net;
 use crate::Hears;
@@ -55,28 +54,32 @@ fn is_at_limit(limits: &Limits, first: u32, intake: &Intake) -> bool
 }
 
 // Puts in a node that has worked, and the feeders that were kept where one of its queues was full.
-fn go_on_with(agenda: &mut Agenda, node: u32, was_full: bool)
+pub(super) fn go_on_with(agenda: &mut Agenda, node: u32, was_full: bool)
     requires { node < length agenda.old.heads }
     ensures put { IsIn agenda.new.ready node }
-    ensures leads { (agenda.new.heads ≡ agenda.old.heads) × (agenda.new.links ≡ agenda.old.links) }
+    ensures touched { IsIn agenda.new.touched node }
+    ensures only { ChangesOnly agenda.old.touched agenda.new.touched node }
+    ensures leads { (agenda.new.heads ≡ agenda.old.heads) × (agenda.new.links ≡ agenda.old.links) × (agenda.new.starts ≡ agenda.old.starts) }
 {
     agenda.put(node);
+    agenda.touch(node);
     if was_full {
         agenda.release();
     }
 }
 
-// Keeps a graph input that is throttled, which goes on with an edge then.
-fn hold_at(agenda: &mut Agenda, place: u32, edge: u32)
-    requires place { place < length agenda.old.heads }
-    requires edge { edge < length agenda.old.links }
-    ensures held { IsIn agenda.new.held place }
-    ensures ready { agenda.new.ready ≡ agenda.old.ready }
-    ensures heads { agenda.new.heads ≡ slice_set agenda.old.heads place (Some edge) }
-    ensures links { agenda.new.links ≡ agenda.old.links }
+// An agenda in which all places are, unless the one before was known to have those that matter.
+fn woken_unless(known: bool, agenda: Agenda) -> Agenda
+    ensures heads { length result.heads ≡ length agenda.heads }
+    ensures leads { (result.starts ≡ agenda.starts) × (result.links ≡ agenda.links) }
+    ensures known { known ≡ true → result ≡ agenda }
+    ensures all { known ≡ false → (n : ℕ) → n ≤ length agenda.heads → IsIn result.touched n }
 {
-    agenda.hold(place);
-    agenda.resume_at(place, edge);
+    let mut agenda = agenda;
+    if !known {
+        agenda.wake_all();
+    }
+    agenda
 }
 
 impl<C: Calculator> Net<C> {
@@ -88,7 +91,9 @@ impl<C: Calculator> Net<C> {
     /// Each event that does something is told, once it has done it: what hears them hears a run of the net. That run leads to where the
     /// net is now; at want of memory it may end before a step that wasn't made whole.
     ///
-    /// A packet costs what the steps on its way cost. All events are looked over only once nothing is known any more that may be done.
+    /// A packet costs what the steps on its way cost. The first sweep looks over the whole net at its end. One that follows a rest looks
+    /// over the places that it has touched alone, and goes on from those alone that were touched since: the graph inputs that were
+    /// extended, and the collector. The first one takes memory for what it keeps.
     pub fn sweep<G: Gate, H: Hears>(&mut self, gate: &G, hearer: &mut H) -> Result<(), AllocError>
         requires running { IsRunning self.old }
         requires stands { StandsForSome self.old }
@@ -106,7 +111,7 @@ impl<C: Calculator> Net<C> {
         self.come_to_rest(gate, hearer)
     }
 
-    // Makes steps until none would do anything.
+    // Makes steps until none would do anything, and keeps the agenda for the next sweep.
     fn come_to_rest<G: Gate, H: Hears>(
         &mut self,
         gate: &G,
@@ -119,22 +124,79 @@ impl<C: Calculator> Net<C> {
         ensures heard_some { OnErr result (HeardSome H.has_heard hearer.old hearer.new self.old) }
         ensures rest { IfOk result (λ _. IsAtRest self.new) }
     {
-        let mut agenda = self.agenda()?;
-        'passes: loop {
-            agenda.put_all();
-            self.work_off(&mut agenda, gate, hearer)?;
-            if !self.look_over(gate, hearer)? {
-                return Ok(());
+        let mut agenda = self.take_agenda()?;
+        match self.rest_by(&mut agenda, gate, hearer) {
+            Ok(()) => {
+                self.keep_agenda(agenda, true);
+                Ok(())
+            }
+            Err(error) => {
+                self.keep_agenda(agenda, false);
+                Err(error)
             }
         }
     }
 
-    // An agenda for the net.
-    fn agenda(&self) -> Result<Agenda, AllocError>
-        requires { StandsForSome self.now }
-        ensures { IfOk result (λ agenda. IsAgendaOf self.now.plan agenda) }
+    // The agenda that the last sweep left, or a new one. Where nothing is known of the net all places are in.
+    fn take_agenda(&mut self) -> Result<Agenda, AllocError>
+        requires { StandsForSome self.old }
+        ensures same { self.new ≡ self.old }
+        ensures agenda { IfOk result (λ a. IsAgendaOf self.old.plan a) }
+        ensures rests { IfOk result (λ a. RestsBut self.old a) }
     {
-        Agenda::new(self.alloc, &self.plan)
+        let known = self.known;
+        self.known = false;
+        let Some(agenda) = self.agenda.take() else {
+            let agenda = self.made_agenda()?;
+            return Ok(agenda);
+        };
+        Ok(woken_unless(known, agenda))
+    }
+
+    // A new agenda, in which all places are.
+    fn made_agenda(&self) -> Result<Agenda, AllocError>
+        requires { StandsForSome self.now }
+        ensures agenda { IfOk result (λ a. IsAgendaOf self.now.plan a) }
+        ensures rests { IfOk result (λ a. RestsBut self.now a) }
+    {
+        let agenda = Agenda::new(self.alloc, &self.plan)?;
+        Ok(woken_unless(false, agenda))
+    }
+
+    // Keeps an agenda for the next sweep.
+    fn keep_agenda(&mut self, agenda: Agenda, known: bool)
+        requires agenda { IsAgendaOf self.old.plan agenda }
+        requires rests { known ≡ true → RestsBut self.old agenda }
+        ensures { self.new ≡ self.old }
+    {
+        self.agenda = Some(agenda);
+        self.known = known;
+    }
+
+    // Makes the steps that are known of, and looks over the places whose parts have changed, until nothing is done.
+    fn rest_by<G: Gate, H: Hears>(
+        &mut self,
+        agenda: &mut Agenda,
+        gate: &G,
+        hearer: &mut H,
+    ) -> Result<(), AllocError>
+        requires running { IsRunning self.old }
+        requires stands { StandsForSome self.old }
+        requires agenda { IsAgendaOf self.old.plan agenda.old }
+        requires rests { RestsBut self.old agenda.old }
+        ensures becomes { Becomes self.old self.new }
+        ensures heard { OnOk result (Heard H.has_heard hearer.old hearer.new self.old self.new) }
+        ensures heard_some { OnErr result (HeardSome H.has_heard hearer.old hearer.new self.old) }
+        ensures rest { IfOk result (λ _. IsAtRest self.new) }
+        ensures agenda { IsAgendaOf self.old.plan agenda.new }
+        ensures left { OnOk result (RestsBut self.new agenda.new) }
+    {
+        'passes: loop {
+            self.work_off(agenda, gate, hearer)?;
+            if !self.look_over(agenda, gate, hearer)? {
+                return Ok(());
+            }
+        }
     }
 
     // Makes the steps that are known of, and those that they bring about.
@@ -151,6 +213,7 @@ impl<C: Calculator> Net<C> {
         ensures heard { OnOk result (Heard H.has_heard hearer.old hearer.new self.old self.new) }
         ensures heard_some { OnErr result (HeardSome H.has_heard hearer.old hearer.new self.old) }
         ensures agenda { IsAgendaOf self.old.plan agenda.new }
+        ensures notes { OnOk result (Notes self.old agenda.old self.new agenda.new) }
     {
         'steps: while self.go_on(agenda, gate, hearer)? {}
         Ok(())
@@ -171,6 +234,7 @@ impl<C: Calculator> Net<C> {
         ensures heard_some { OnErr result (HeardSome H.has_heard hearer.old hearer.new self.old) }
         ensures goes { IfOk result (λ did. Goes did self.old self.new) }
         ensures agenda { IsAgendaOf self.old.plan agenda.new }
+        ensures notes { OnOk result (Notes self.old agenda.old self.new agenda.new) }
     {
         'places: while let Some(place) = agenda.take() {
             if self.visit(place, agenda, gate, hearer)? {
@@ -199,6 +263,7 @@ impl<C: Calculator> Net<C> {
         ensures heard_some { OnErr result (HeardSome H.has_heard hearer.old hearer.new self.old) }
         ensures goes { IfOk result (λ did. Goes did self.old self.new) }
         ensures agenda { IsAgendaOf self.old.plan agenda.new }
+        ensures notes { OnOk result (Notes self.old agenda.old self.new agenda.new) }
         ensures unchanged { IfOk result (λ did. did ≡ false → agenda.new.ready ≡ agenda.old.ready) }
     {
         if place < self.node_count() {
@@ -206,50 +271,6 @@ impl<C: Calculator> Net<C> {
         } else {
             self.send_until_held(place, agenda, gate, hearer)
         }
-    }
-
-    // Brings what came at a graph input along its edges until it is throttled. It is kept then, and goes on with that edge: along those
-    // before it all has gone, since no more comes at a graph input while a net is swept. Tells whether something was brought.
-    fn send_until_held<G: Gate, H: Hears>(
-        &mut self,
-        place: u32,
-        agenda: &mut Agenda,
-        gate: &G,
-        hearer: &mut H,
-    ) -> Result<bool, AllocError>
-        requires running { IsRunning self.old }
-        requires stands { StandsForSome self.old }
-        requires agenda { IsAgendaOf self.old.plan agenda.old }
-        requires there { place < length agenda.old.heads }
-        ensures becomes { Becomes self.old self.new }
-        ensures heard { OnOk result (Heard H.has_heard hearer.old hearer.new self.old self.new) }
-        ensures heard_some { OnErr result (HeardSome H.has_heard hearer.old hearer.new self.old) }
-        ensures goes { IfOk result (λ did. Goes did self.old self.new) }
-        ensures agenda { IsAgendaOf self.old.plan agenda.new }
-        ensures unchanged { IfOk result (λ did. did ≡ false → agenda.new.ready ≡ agenda.old.ready) }
-    {
-        let mut did = false;
-        let mut cursor = agenda.first_edge(place);
-        'edges: while let Some(edge) = cursor {
-            if self.is_held_at(edge) {
-                hold_at(agenda, place, edge);
-                return Ok(did);
-            }
-            did |= self.send_along(edge, agenda, gate, hearer)?;
-            cursor = agenda.next_edge(edge);
-        }
-        agenda.finish(place);
-        Ok(did)
-    }
-
-    // Whether the edge of a number leads from a graph input that is throttled.
-    fn is_held_at(&self, edge: u32) -> bool
-        requires there { edge < length self.now.plan.edges }
-        requires stands { StandsForSome self.now }
-        ensures held { (e : Edge) → slice_get self.now.plan.edges edge ≡ Some e → result ≡ true → IsHeld self.now e }
-        ensures not_held { (e : Edge) → slice_get self.now.plan.edges edge ≡ Some e → result ≡ false → ¬ IsHeld self.now e }
-    {
-        self.is_held(self.plan.edges.as_slice()[edge as usize])
     }
 
     // Lets a node work, unless it is a source that is throttled, and sends on what it laid. Where it took packets from a full queue, the
@@ -270,6 +291,7 @@ impl<C: Calculator> Net<C> {
         ensures heard_some { OnErr result (HeardSome H.has_heard hearer.old hearer.new self.old) }
         ensures goes { IfOk result (λ did. Goes did self.old self.new) }
         ensures agenda { IsAgendaOf self.old.plan agenda.new }
+        ensures notes { OnOk result (Notes self.old agenda.old self.new agenda.new) }
         ensures unchanged { IfOk result (λ did. did ≡ false → agenda.new.ready ≡ agenda.old.ready) }
     {
         if self.is_held_source(node) {
@@ -297,72 +319,5 @@ impl<C: Calculator> Net<C> {
             self.first_edge(node),
             &self.intakes[node as usize],
         )
-    }
-
-    // Brings along the edges that lead from a place what their ports haven't got, and puts in the nodes to which something came. Tells
-    // whether something did.
-    fn send<G: Gate, H: Hears>(
-        &mut self,
-        place: u32,
-        agenda: &mut Agenda,
-        gate: &G,
-        hearer: &mut H,
-    ) -> Result<bool, AllocError>
-        requires running { IsRunning self.old }
-        requires stands { StandsForSome self.old }
-        requires agenda { IsAgendaOf self.old.plan agenda.old }
-        requires there { place < length agenda.old.heads }
-        ensures becomes { Becomes self.old self.new }
-        ensures heard { OnOk result (Heard H.has_heard hearer.old hearer.new self.old self.new) }
-        ensures heard_some { OnErr result (HeardSome H.has_heard hearer.old hearer.new self.old) }
-        ensures goes { IfOk result (λ did. Goes did self.old self.new) }
-        ensures agenda { IsAgendaOf self.old.plan agenda.new }
-        ensures unchanged { IfOk result (λ did. did ≡ false → agenda.new ≡ agenda.old) }
-    {
-        let mut did = false;
-        let mut cursor = agenda.first_edge(place);
-        'edges: while let Some(edge) = cursor {
-            did |= self.send_along(edge, agenda, gate, hearer)?;
-            cursor = agenda.next_edge(edge);
-        }
-        Ok(did)
-    }
-
-    // Brings along an edge what its port hasn't got, and puts in the node to which something came. Tells whether something did.
-    fn send_along<G: Gate, H: Hears>(
-        &mut self,
-        edge: u32,
-        agenda: &mut Agenda,
-        gate: &G,
-        hearer: &mut H,
-    ) -> Result<bool, AllocError>
-        requires running { IsRunning self.old }
-        requires stands { StandsForSome self.old }
-        requires agenda { IsAgendaOf self.old.plan agenda.old }
-        requires there { edge < length self.old.plan.edges }
-        ensures becomes { Becomes self.old self.new }
-        ensures heard { OnOk result (Heard H.has_heard hearer.old hearer.new self.old self.new) }
-        ensures heard_some { OnErr result (HeardSome H.has_heard hearer.old hearer.new self.old) }
-        ensures goes { IfOk result (λ did. Goes did self.old self.new) }
-        ensures agenda { IsAgendaOf self.old.plan agenda.new }
-        ensures unchanged { IfOk result (λ did. did ≡ false → agenda.new ≡ agenda.old) }
-    {
-        if !self.step(Event::Deliver { edge }, gate, hearer)? {
-            return Ok(false);
-        }
-        self.put_consumer(edge, agenda);
-        Ok(true)
-    }
-
-    // Puts in the node into which an edge leads. The collector is none.
-    fn put_consumer(&self, edge: u32, agenda: &mut Agenda)
-        requires there { edge < length self.now.plan.edges }
-        requires agenda { IsAgendaOf self.now.plan agenda.old }
-        ensures { IsAgendaOf self.now.plan agenda.new }
-    {
-        let node = self.plan.edges.as_slice()[edge as usize].node;
-        if node < self.plan.nodes.len() {
-            agenda.put(node);
-        }
     }
 }

@@ -9,6 +9,7 @@ ghost use Rattle.mg_sched.specs.StandsFor.{StandsFor, StandsForSome};
 ghost use Rattle.mg_sched.specs.Taking.{TakesOut, taken_out};
 
 use super::Net;
+use crate::agenda::touch;
 use mg_calc::Calculator;
 use mg_value::InputSet;
 
@@ -29,6 +30,7 @@ impl<C: Calculator> Net<C> {
         if !self.intakes[place as usize].claim(into) {
             return false;
         }
+        touch(&mut self.agenda, place);
         self.note_ports(place);
         true
     }

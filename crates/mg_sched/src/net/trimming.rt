@@ -98,6 +98,7 @@ impl<C: Calculator> Net<C> {
         // What stands for a job still stands for it.
         ensures stands { (job : LoggedJob) → StandsFor job self.old → StandsFor job self.new }
     {
+        self.known = false;
         set_laid(&mut self.got, &self.plan, &self.engines);
         lower(&mut self.got, self.plan.edges.as_slice(), &self.intakes);
         spare(&mut self.got, &self.kept);

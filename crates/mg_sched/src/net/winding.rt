@@ -28,6 +28,7 @@ impl<C: Calculator> Net<C> {
         ensures next { OnOk result (WindsNext self.old self.new) }
         ensures unchanged { OnErr result (self.new ≡ self.old) }
     {
+        self.known = false;
         let node = self.wound as usize;
         self.engines[node].wind_up()?;
         self.wound += 1;

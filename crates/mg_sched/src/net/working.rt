@@ -19,6 +19,7 @@ impl<C: Calculator> Net<C> {
         requires running { IsRunning self.old }
         ensures { Performed node number result self.old self.new }
     {
+        self.known = false;
         let place = node as usize;
         let Some((lay, work)) = self.desks[place].take(number) else {
             return Effect::Idle;
@@ -42,6 +43,7 @@ impl<C: Calculator> Net<C> {
         requires running { IsRunning self.old }
         ensures { Committed node number result self.old self.new }
     {
+        self.known = false;
         let engine = &mut self.engines[node as usize];
         let Some(performed) = engine.unshelve(number) else {
             return Effect::Idle;

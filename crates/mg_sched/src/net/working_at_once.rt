@@ -5,17 +5,19 @@ ghost use Rattle.mg_node.specs.Views.{WorkView};
 ghost use Rattle.mg_node.specs.Running.{IsPerformed};
 ghost use Rattle.mg_sched.specs.Views.{DeskView};
 ghost use Rattle.mg_sched.specs.StandsFor.{StandsForSome, IsRunning};
+ghost use Rattle.mg_sched.specs.Acts.{IsHeldSource};
 ghost use Rattle.mg_sched.specs.Sweeps.{Becomes};
 ghost use Rattle.mg_sched.specs.Heard.{Heard, HeardSome};
-ghost use Rattle.mg_sched.specs.Code.AtOnce.{IsHandedOut, IsPerformedOut, with_work, ComesOn, Comes, steps_of, did_of, HearsMore};
+ghost use Rattle.mg_sched.specs.Code.AtOnce.{ShowsAt, did_nothing, IsHandedOut, IsPerformedOut, with_work, ComesOn, Comes, steps_of, did_of, HearsMore};
 ghost use Rattle.mg_sched.specs.Code.Left.{Steps};
+ghost use Rattle.mg_sched.specs.Code.Quiet.{OnlyAt};
 
 use super::Net;
 use crate::Hears;
 use crate::reached::Reached;
 use mg_calc::{Calculator, Event};
 use mg_edge::Gate;
-use mg_node::{Claimed, Outcome, Performed, Work, perform};
+use mg_node::{AtOnce, Claimed, Outcome, Performed, Work, perform};
 use std::alloc::AllocError;
 
 // Hears the steps that were made.
@@ -56,6 +58,19 @@ fn did(reached: &Reached) -> Result<bool, AllocError>
     }
 }
 
+// Whether no set was shown.
+fn did_nothing<C: Calculator>(done: &AtOnce<C>) -> bool
+    ensures { result ≡ did_nothing done.now }
+{
+    match done {
+        AtOnce::Other => true,
+        AtOnce::NotReady => true,
+        AtOnce::Claimed(_) => false,
+        AtOnce::Performed(_) => false,
+        AtOnce::Committed(_) => false,
+    }
+}
+
 impl<C: Calculator> Net<C> {
     /// Claims a node's next work, and performs and commits it at once: it lies on the node's desk or in its window only where there is
     /// no memory for the next step. Tells whether something was done.
@@ -72,6 +87,7 @@ impl<C: Calculator> Net<C> {
         ensures heard { OnOk result (Heard H.has_heard hearer.old hearer.new self.old self.new) }
         ensures heard_some { OnErr result (HeardSome H.has_heard hearer.old hearer.new self.old) }
         ensures steps { IfOk result (λ did. Steps did (ToClaim node) self.old self.new) }
+        ensures only { OnOk result (OnlyAt node self.old self.new) }
     {
         let reached = self.turn(node, gate);
         hear(hearer, node, &reached);
@@ -89,6 +105,46 @@ impl<C: Calculator> Net<C> {
         if self.is_held_source(node) {
             return Reached::Nothing;
         }
+        match self.show(node, gate) {
+            AtOnce::Other => self.turn_over(node, gate),
+            AtOnce::NotReady => Reached::Nothing,
+            AtOnce::Claimed(work) => {
+                self.put_on_desk(node, work);
+                Reached::Claimed
+            }
+            AtOnce::Performed(number) => Reached::Performed(number),
+            AtOnce::Committed(number) => {
+                self.stop_ended(node);
+                Reached::Committed(number)
+            }
+        }
+    }
+
+    // Shows a node's calculator its next set where no work is under way, lays what it answers, and tells the limits how many packets wait.
+    fn show<G: Gate>(&mut self, node: u32, gate: &G) -> AtOnce<C>
+        requires there { node < length self.old.plan.nodes }
+        requires stands { StandsForSome self.old }
+        requires running { IsRunning self.old }
+        ensures { ShowsAt node result self.old self.new }
+    {
+        self.known = false;
+        let place = node as usize;
+        let done = self.engines[place].work_at_once(&mut self.intakes[place], gate);
+        if did_nothing(&done) {
+            return done;
+        }
+        self.note_ports(node);
+        done
+    }
+
+    // Claims a node's next work, whatever it is, and performs and commits it.
+    fn turn_over<G: Gate>(&mut self, node: u32, gate: &G) -> Reached
+        requires running { IsRunning self.old }
+        requires stands { StandsForSome self.old }
+        requires there { node < length self.old.plan.nodes }
+        requires free { ¬ IsHeldSource self.old node }
+        ensures { Comes node result self.old self.new }
+    {
         match self.hand_out(node) {
             Claimed::Work(work) => self.finish(node, work, gate),
             Claimed::Answered => Reached::Answered,
@@ -123,6 +179,7 @@ impl<C: Calculator> Net<C> {
             → IsRunning (with_work self.old node desk work) → IsPerformed work performed → number ≡ work.number
             → ComesOn node result (with_work self.old node desk work) self.new }
     {
+        self.known = false;
         let engine = &mut self.engines[node as usize];
         match engine.commit(Outcome::ran(performed)) {
             Ok(_) => {

@@ -5,6 +5,7 @@ ghost use Rattle.mg_sched.specs.StandsFor.{StandsForSome, IsRunning};
 ghost use Rattle.mg_sched.specs.Sweeps.{Becomes};
 ghost use Rattle.mg_sched.specs.Heard.{Heard, HeardSome};
 ghost use Rattle.mg_sched.specs.Code.Left.{Goes, HasWork, HasNoWork, HasShelf, HasNoShelf, WorksRest, RestsAt};
+ghost use Rattle.mg_sched.specs.Code.Quiet.{OnlyAt};
 
 use super::Net;
 use crate::Hears;
@@ -28,6 +29,7 @@ impl<C: Calculator> Net<C> {
         ensures heard { OnOk result (Heard H.has_heard hearer.old hearer.new self.old self.new) }
         ensures heard_some { OnErr result (HeardSome H.has_heard hearer.old hearer.new self.old) }
         ensures goes { IfOk result (λ did. Goes did self.old self.new) }
+        ensures only { OnOk result (OnlyAt node self.old self.new) }
     {
         if self.has_no_input(node) {
             let did = self.work(node, gate, hearer)?;
@@ -59,6 +61,7 @@ impl<C: Calculator> Net<C> {
         ensures heard { OnOk result (Heard H.has_heard hearer.old hearer.new self.old self.new) }
         ensures heard_some { OnErr result (HeardSome H.has_heard hearer.old hearer.new self.old) }
         ensures goes { IfOk result (λ did. Goes did self.old self.new) }
+        ensures only { OnOk result (OnlyAt node self.old self.new) }
     {
         let worked = self.do_works(node, gate, hearer)?;
         let raised = self.step(Event::Advance { node }, gate, hearer)?;
@@ -79,6 +82,7 @@ impl<C: Calculator> Net<C> {
         ensures heard { OnOk result (Heard H.has_heard hearer.old hearer.new self.old self.new) }
         ensures heard_some { OnErr result (HeardSome H.has_heard hearer.old hearer.new self.old) }
         ensures goes { IfOk result (λ did. Goes did self.old self.new) }
+        ensures only { OnOk result (OnlyAt node self.old self.new) }
     {
         let mut did = false;
         'works: while self.work_on(node, gate, hearer)? {
@@ -102,6 +106,7 @@ impl<C: Calculator> Net<C> {
         ensures heard { OnOk result (Heard H.has_heard hearer.old hearer.new self.old self.new) }
         ensures heard_some { OnErr result (HeardSome H.has_heard hearer.old hearer.new self.old) }
         ensures goes { IfOk result (λ did. Goes did self.old self.new) }
+        ensures only { OnOk result (OnlyAt node self.old self.new) }
         ensures rest { IfOk result (λ did. did ≡ false → RestsAt self.new node) }
     {
         let worked = self.work_on(node, gate, hearer)?;
@@ -127,6 +132,7 @@ impl<C: Calculator> Net<C> {
         ensures heard { OnOk result (Heard H.has_heard hearer.old hearer.new self.old self.new) }
         ensures heard_some { OnErr result (HeardSome H.has_heard hearer.old hearer.new self.old) }
         ensures goes { IfOk result (λ did. Goes did self.old self.new) }
+        ensures only { OnOk result (OnlyAt node self.old self.new) }
         ensures rest { IfOk result (λ did. did ≡ false → WorksRest self.new node) }
     {
         let worked = self.work_at_once(node, gate, hearer)?;
@@ -152,6 +158,7 @@ impl<C: Calculator> Net<C> {
         ensures heard { OnOk result (Heard H.has_heard hearer.old hearer.new self.old self.new) }
         ensures heard_some { OnErr result (HeardSome H.has_heard hearer.old hearer.new self.old) }
         ensures goes { IfOk result (λ did. Goes did self.old self.new) }
+        ensures only { OnOk result (OnlyAt node self.old self.new) }
         ensures none { IfOk result (λ did. did ≡ false → HasNoWork self.new node) }
     {
         let mut did = false;
@@ -186,6 +193,7 @@ impl<C: Calculator> Net<C> {
         ensures heard { OnOk result (Heard H.has_heard hearer.old hearer.new self.old self.new) }
         ensures heard_some { OnErr result (HeardSome H.has_heard hearer.old hearer.new self.old) }
         ensures goes { IfOk result (λ did. Goes did self.old self.new) }
+        ensures only { OnOk result (OnlyAt node self.old self.new) }
         ensures none { IfOk result (λ did. did ≡ false → HasNoShelf self.new node) }
     {
         let mut did = false;

@@ -1,4 +1,4 @@
-use Rattle.std.proofs.Common.{ℕ, ◌≡◌, ◌+◌, ◌-◌, ◌<◌, length, ◌∙◌, sym, subst, arith, vec_len}
+use Rattle.std.proofs.Common.{ℕ, ◌≡◌, ◌+◌, ◌-◌, ◌<◌, length, ◌∙◌, subst, arith}
 use Rattle.mg_sched.specs.Code.Agendas.{LeadOn, LeadsFrom, AreLeads}
 use Rattle.mg_sched.proofs.Finding.{found}
 use Rattle.mg_sched.proofs.LeadingOn.{lead_none, lead_more_by, leads_none, leads_more}

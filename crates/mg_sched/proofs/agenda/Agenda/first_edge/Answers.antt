@@ -1,4 +1,4 @@
-use Rattle.std.proofs.Common.{◌≡◌, ◌<◌, ◌∙◌, ℕ, Option, None, IfSome, length, get_or, ap, subst, arith, vec_len}
+use Rattle.std.proofs.Common.{◌≡◌, ◌<◌, ◌∙◌, ℕ, None, IfSome, length, get_or, ap, subst, arith, vec_len}
 use Rattle.std.proofs.lemmas.List.{get_or_read}
 use Rattle.mg_sched.specs.Code.Agendas.{AgendaView}
 use Rattle.mg_sched.proofs.Leading.{lead_first}

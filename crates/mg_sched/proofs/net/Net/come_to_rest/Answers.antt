@@ -1,78 +1,53 @@
-use Rattle.std.proofs.Common.{ap}
-use Rattle.mg_sched.specs.Code.Agendas.{AgendaView}
-use Rattle.mg_sched.specs.Sweeps.{itself}
-use Rattle.mg_sched.proofs.Becoming.{becomes_runs, becomes_some, becomes_trans}
-use Rattle.mg_sched.proofs.LeftIn.{becomes_no_more}
-use Rattle.mg_sched.proofs.Sweeping.{later_less, goes_true, agenda_on, agenda_back, agenda_same}
-use Rattle.mg_sched.proofs.HeardOn.{heard_none, heard_then, heard_so_far, heard_then_some, on_err}
+use Rattle.std.proofs.Common.{sym, subst}
+use Rattle.mg_sched.specs.Views.{NetView}
+use Rattle.mg_sched.specs.StandsFor.{StandsForSome, IsRunning}
+use Rattle.mg_sched.specs.AtRest.{IsAtRest}
+use Rattle.mg_sched.specs.Heard.{HeardSome}
+use Rattle.mg_sched.specs.Code.Agendas.{IsAgendaOf}
+use Rattle.mg_sched.specs.Code.Quiet.{RestsBut}
+use Rattle.mg_sched.proofs.Sweeping.{agenda_on}
+use Rattle.mg_sched.proofs.HeardOn.{heard_so_far, on_err}
+use Rattle.mg_sched.proofs.RestingPlaces.{becomes_between, heard_between, becomes_same}
 use Rattle.mg_sched.proofs.net.Net.come_to_rest.Goals as goal
 
-pub passes-init : goal.passes-init
-passes-init g c = record { becomes = itself; agenda = c.in_ok-agenda.ensures; heard = heard_none g.H.Hears.has_heard c.args.hearer.now c.args.self.now }
-
-pub work_off-requires-clause-running : goal.work_off-requires-clause-running
-work_off-requires-clause-running g c = becomes_runs c.args.self.now c.passes.self c.requires.running c.passes.invariant.becomes
-
-pub work_off-requires-clause-stands : goal.work_off-requires-clause-stands
-work_off-requires-clause-stands g c = becomes_some c.args.self.now c.passes.self c.requires.running c.requires.stands c.passes.invariant.becomes
-
-pub work_off-requires-clause-agenda : goal.work_off-requires-clause-agenda
-work_off-requires-clause-agenda g c =
-    agenda_on c.args.self.now c.passes.self c.put_all.new.self c.passes.invariant.becomes
-    (agenda_same c.args.self.now.plan c.passes.agenda c.put_all.new.self c.passes.invariant.agenda (ap (λ (a : AgendaView). a.heads) c.put_all.ensures.others) (ap (λ (a : AgendaView). a.links) c.put_all.ensures.others))
-
 pub returns-in_err-agenda-clause-becomes : goal.returns-in_err-agenda-clause-becomes
-returns-in_err-agenda-clause-becomes g c = itself
-
-pub returns-then-not-branch-clause-rest : goal.returns-then-not-branch-clause-rest
-returns-then-not-branch-clause-rest g c = c.in_ok-look_over.ensures.rest c.if-not-branch.true
-
-pub returns-in_err-work_off-clause-becomes : goal.returns-in_err-work_off-clause-becomes
-returns-in_err-work_off-clause-becomes g c = becomes_trans c.args.self.now c.passes.self c.work_off.new.self c.passes.invariant.becomes c.in_err-work_off.ensures.becomes
-
-pub look_over-requires-clause-running : goal.look_over-requires-clause-running
-look_over-requires-clause-running g c =
-    becomes_runs c.args.self.now c.work_off.new.self c.requires.running (becomes_trans c.args.self.now c.passes.self c.work_off.new.self c.passes.invariant.becomes c.in_ok-work_off.ensures.becomes)
-
-pub look_over-requires-clause-stands : goal.look_over-requires-clause-stands
-look_over-requires-clause-stands g c =
-    becomes_some c.args.self.now c.work_off.new.self c.requires.running c.requires.stands
-    (becomes_trans c.args.self.now c.passes.self c.work_off.new.self c.passes.invariant.becomes c.in_ok-work_off.ensures.becomes)
-
-pub returns-in_err-look_over-clause-becomes : goal.returns-in_err-look_over-clause-becomes
-returns-in_err-look_over-clause-becomes g c =
-    becomes_trans c.args.self.now c.work_off.new.self c.look_over.new.self
-    (becomes_trans c.args.self.now c.passes.self c.work_off.new.self c.passes.invariant.becomes c.in_ok-work_off.ensures.becomes) c.in_err-look_over.ensures.becomes
-
-pub returns-then-not-branch-clause-becomes : goal.returns-then-not-branch-clause-becomes
-returns-then-not-branch-clause-becomes g c =
-    becomes_trans c.args.self.now c.work_off.new.self c.look_over.new.self
-    (becomes_trans c.args.self.now c.passes.self c.work_off.new.self c.passes.invariant.becomes c.in_ok-work_off.ensures.becomes) c.in_ok-look_over.ensures.becomes
-
-pub passes-smaller : goal.passes-smaller
-passes-smaller g c =
-    later_less c.passes.self c.work_off.new.self c.look_over.new.self
-    (becomes_no_more c.passes.self c.work_off.new.self (becomes_runs c.args.self.now c.passes.self c.requires.running c.passes.invariant.becomes)
-    (becomes_some c.args.self.now c.passes.self c.requires.running c.requires.stands c.passes.invariant.becomes) c.in_ok-work_off.ensures.becomes)
-    (goes_true c.in_ok-look_over.field-0 c.work_off.new.self c.look_over.new.self c.if-not-branch.false c.in_ok-look_over.ensures.goes)
-
-pub passes-preserved : goal.passes-preserved
-passes-preserved g c =
-    (let first = becomes_trans c.args.self.now c.passes.self c.work_off.new.self c.passes.invariant.becomes c.in_ok-work_off.ensures.becomes in
-    record {
-      heard = heard_then g.H.Hears.has_heard c.args.hearer.now c.work_off.new.hearer c.look_over.new.hearer c.args.self.now c.work_off.new.self c.look_over.new.self (heard_then g.H.Hears.has_heard c.args.hearer.now c.passes.hearer c.work_off.new.hearer c.args.self.now c.passes.self c.work_off.new.self c.passes.invariant.heard c.in_ok-work_off.ensures.heard) c.in_ok-look_over.ensures.heard;
-      becomes = becomes_trans c.args.self.now c.work_off.new.self c.look_over.new.self first c.in_ok-look_over.ensures.becomes;
-      agenda = agenda_back c.args.self.now c.passes.self c.work_off.new.agenda c.passes.invariant.becomes c.in_ok-work_off.ensures.agenda;
-    })
+returns-in_err-agenda-clause-becomes g c = becomes_same c.args.self.now c.take_agenda.new.self c.in_err-agenda.ensures.same
 
 pub returns-in_err-agenda-clause-heard_some : goal.returns-in_err-agenda-clause-heard_some
 returns-in_err-agenda-clause-heard_some g c = on_err c.from_residual.result (heard_so_far g.H.Hears.has_heard c.args.hearer.now c.args.self.now)
 
-pub returns-in_err-work_off-clause-heard_some : goal.returns-in_err-work_off-clause-heard_some
-returns-in_err-work_off-clause-heard_some g c = on_err c.from_residual-in_err-work_off.result (heard_then_some g.H.Hears.has_heard c.args.hearer.now c.passes.hearer c.work_off.new.hearer c.args.self.now c.passes.self c.passes.invariant.heard c.in_err-work_off.ensures.heard_some)
+pub rest_by-requires-clause-running : goal.rest_by-requires-clause-running
+rest_by-requires-clause-running g c = subst (λ (v : NetView). IsRunning v) (sym c.in_ok-agenda.ensures.same) c.requires.running
 
-pub returns-in_err-look_over-clause-heard_some : goal.returns-in_err-look_over-clause-heard_some
-returns-in_err-look_over-clause-heard_some g c = on_err c.from_residual-in_err-look_over.result (heard_then_some g.H.Hears.has_heard c.args.hearer.now c.work_off.new.hearer c.look_over.new.hearer c.args.self.now c.work_off.new.self (heard_then g.H.Hears.has_heard c.args.hearer.now c.passes.hearer c.work_off.new.hearer c.args.self.now c.passes.self c.work_off.new.self c.passes.invariant.heard c.in_ok-work_off.ensures.heard) c.in_err-look_over.ensures.heard_some)
+pub rest_by-requires-clause-stands : goal.rest_by-requires-clause-stands
+rest_by-requires-clause-stands g c = subst (λ (v : NetView). StandsForSome v) (sym c.in_ok-agenda.ensures.same) c.requires.stands
 
-pub returns-then-not-branch-clause-heard : goal.returns-then-not-branch-clause-heard
-returns-then-not-branch-clause-heard g c = heard_then g.H.Hears.has_heard c.args.hearer.now c.work_off.new.hearer c.look_over.new.hearer c.args.self.now c.work_off.new.self c.look_over.new.self (heard_then g.H.Hears.has_heard c.args.hearer.now c.passes.hearer c.work_off.new.hearer c.args.self.now c.passes.self c.work_off.new.self c.passes.invariant.heard c.in_ok-work_off.ensures.heard) c.in_ok-look_over.ensures.heard
+pub rest_by-requires-clause-agenda : goal.rest_by-requires-clause-agenda
+rest_by-requires-clause-agenda g c = subst (λ (v : NetView). IsAgendaOf v.plan c.in_ok-agenda.agenda) (sym c.in_ok-agenda.ensures.same) c.in_ok-agenda.ensures.agenda
+
+pub rest_by-requires-clause-rests : goal.rest_by-requires-clause-rests
+rest_by-requires-clause-rests g c = subst (λ (v : NetView). RestsBut v c.in_ok-agenda.agenda) (sym c.in_ok-agenda.ensures.same) c.in_ok-agenda.ensures.rests
+
+pub keep_agenda-requires-clause-agenda : goal.keep_agenda-requires-clause-agenda
+keep_agenda-requires-clause-agenda g c = agenda_on c.take_agenda.new.self c.rest_by.new.self c.rest_by.new.agenda c.in-Ok.ensures.becomes c.in-Ok.ensures.agenda
+
+pub keep_agenda-requires-clause-rests : goal.keep_agenda-requires-clause-rests
+keep_agenda-requires-clause-rests g c = λ is. c.in-Ok.ensures.left
+
+pub returns-in-Ok-clause-becomes : goal.returns-in-Ok-clause-becomes
+returns-in-Ok-clause-becomes g c = becomes_between c.args.self.now c.take_agenda.new.self c.rest_by.new.self c.keep_agenda.new.self c.in_ok-agenda.ensures.same c.keep_agenda.ensures c.in-Ok.ensures.becomes
+
+pub returns-in-Ok-clause-heard : goal.returns-in-Ok-clause-heard
+returns-in-Ok-clause-heard g c = heard_between g.H.Hears.has_heard c.args.hearer.now c.rest_by.new.hearer c.args.self.now c.take_agenda.new.self c.rest_by.new.self c.keep_agenda.new.self c.in_ok-agenda.ensures.same c.keep_agenda.ensures c.in-Ok.ensures.heard
+
+pub returns-in-Ok-clause-rest : goal.returns-in-Ok-clause-rest
+returns-in-Ok-clause-rest g c = subst (λ (v : NetView). IsAtRest v) (sym c.keep_agenda.ensures) c.in-Ok.ensures.rest
+
+pub keep_agenda-requires-in-Err-clause-agenda : goal.keep_agenda-requires-in-Err-clause-agenda
+keep_agenda-requires-in-Err-clause-agenda g c = agenda_on c.take_agenda.new.self c.rest_by.new.self c.rest_by.new.agenda c.in-Err.ensures.becomes c.in-Err.ensures.agenda
+
+pub returns-in-Err-clause-becomes : goal.returns-in-Err-clause-becomes
+returns-in-Err-clause-becomes g c = becomes_between c.args.self.now c.take_agenda.new.self c.rest_by.new.self c.keep_agenda-in-Err.new.self c.in_ok-agenda.ensures.same c.keep_agenda-in-Err.ensures c.in-Err.ensures.becomes
+
+pub returns-in-Err-clause-heard_some : goal.returns-in-Err-clause-heard_some
+returns-in-Err-clause-heard_some g c = subst (λ (v : NetView). HeardSome g.H.Hears.has_heard c.args.hearer.now c.rest_by.new.hearer v) c.in_ok-agenda.ensures.same c.in-Err.ensures.heard_some

@@ -3,10 +3,11 @@ use Rattle.mg_sched.specs.Sweeps.{itself}
 use Rattle.mg_sched.proofs.Becoming.{becomes_runs, becomes_some, becomes_trans}
 use Rattle.mg_sched.proofs.Sweeping.{goes_less, commits_less, still_there}
 use Rattle.mg_sched.proofs.HeardOn.{heard_none, heard_then, heard_then_some, on_err}
+use Rattle.mg_sched.proofs.Touching.{only_none, only_then}
 use Rattle.mg_sched.proofs.net.Net.commit_all.Goals as goal
 
 pub works-init : goal.works-init
-works-init g c = record { becomes = itself; goes = refl; heard = heard_none g.H.Hears.has_heard c.args.hearer.now c.args.self.now }
+works-init g c = record { becomes = itself; goes = refl; only = only_none c.args.node c.args.self.now c.args.self.now refl; heard = heard_none g.H.Hears.has_heard c.args.hearer.now c.args.self.now }
 
 pub first_performed-requires-clause-there : goal.first_performed-requires-clause-there
 first_performed-requires-clause-there g c = still_there c.args.node c.args.self.now c.works.self c.works.invariant.becomes c.requires.there
@@ -34,6 +35,7 @@ works-smaller g c = commits_less c.in_ok-step.field-0 c.args.node c.in-Some.numb
 
 pub works-preserved : goal.works-preserved
 works-preserved g c = record {
+  only = only_then c.args.node c.args.self.now c.works.self c.step.new.self c.works.invariant.only (c.in_ok-step.ensures.only c.args.node refl);
   heard = heard_then g.H.Hears.has_heard c.args.hearer.now c.works.hearer c.step.new.hearer c.args.self.now c.works.self c.step.new.self c.works.invariant.heard c.in_ok-step.ensures.heard;
   becomes = becomes_trans c.args.self.now c.works.self c.step.new.self c.works.invariant.becomes c.in_ok-step.ensures.becomes;
   goes = goes_less c.works.did c.args.self.now c.works.self c.step.new.self c.works.invariant.goes (commits_less c.in_ok-step.field-0 c.args.node c.in-Some.number c.works.self c.step.new.self c.in-Some.ensures.some c.in_ok-step.ensures.steps);

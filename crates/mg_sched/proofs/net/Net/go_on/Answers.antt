@@ -8,10 +8,11 @@ use Rattle.mg_sched.specs.Code.Agendas.{AgendaView, IsAgendaOf, waiting_in}
 use Rattle.mg_sched.specs.Code.Left.{left_in, Goes}
 use Rattle.mg_sched.proofs.Sweeping.{steps_go, goes_true, goes_false, agenda_same}
 use Rattle.mg_sched.proofs.HeardOn.{heard_none, heard_then, heard_then_some, on_err}
+use Rattle.mg_sched.proofs.Touching.{notes_same, notes_after, notes_limits}
 use Rattle.mg_sched.proofs.net.Net.go_on.Goals as goal
 
 pub places-init : goal.places-init
-places-init g c = record { same = refl; agenda = c.requires.agenda; heard = heard_none g.H.Hears.has_heard c.args.hearer.now c.args.self.now }
+places-init g c = record { same = refl; agenda = c.requires.agenda; notes = notes_same c.args.self.now c.args.self.now c.args.agenda.now c.args.agenda.now refl refl; heard = heard_none g.H.Hears.has_heard c.args.hearer.now c.args.self.now }
 
 pub visit-requires-clause-running : goal.visit-requires-clause-running
 visit-requires-clause-running g c = subst (λ (v : NetView). IsRunning v) (sym c.places.invariant.same) c.requires.running
@@ -22,13 +23,14 @@ visit-requires-clause-stands g c = subst (λ (v : NetView). StandsForSome v) (sy
 pub visit-requires-clause-agenda : goal.visit-requires-clause-agenda
 visit-requires-clause-agenda g c =
     subst (λ (v : NetView). IsAgendaOf v.plan c.take.new.self) (sym c.places.invariant.same)
-    (agenda_same c.args.self.now.plan c.places.agenda c.take.new.self c.places.invariant.agenda (ap (λ (a : AgendaView). a.heads) c.take.ensures.others) (ap (λ (a : AgendaView). a.links) c.take.ensures.others))
+    (agenda_same c.args.self.now.plan c.places.agenda c.take.new.self c.places.invariant.agenda (ap (λ (a : AgendaView). a.heads) c.take.ensures.others) (ap (λ (a : AgendaView). a.links) c.take.ensures.others) (ap (λ (a : AgendaView). a.starts) c.take.ensures.others))
 
 pub visit-requires-clause-there : goal.visit-requires-clause-there
 visit-requires-clause-there g c = subst (λ (n : ℕ). c.in-Some.place < n) (sym (ap (λ (a : AgendaView). length a.heads) c.take.ensures.others)) c.in-Some.ensures.place
 
 pub places-preserved : goal.places-preserved
 places-preserved g c = record {
+  notes = notes_after c.args.self.now c.args.agenda.now c.places.self c.places.agenda c.take.new.self c.visit.new.self c.visit.new.agenda c.places.invariant.notes (ap (λ (a : AgendaView). a.touched) c.take.ensures.others) c.in_ok-visit.ensures.notes;
   heard = heard_then g.H.Hears.has_heard c.args.hearer.now c.places.hearer c.visit.new.hearer c.args.self.now c.places.self c.visit.new.self c.places.invariant.heard c.in_ok-visit.ensures.heard;
   same = goes_false c.in_ok-visit.field-0 c.places.self c.visit.new.self c.if-branch.false c.in_ok-visit.ensures.goes ∙ c.places.invariant.same;
   agenda = subst (λ (v : NetView). IsAgendaOf v.plan c.visit.new.agenda) c.places.invariant.same c.in_ok-visit.ensures.agenda;
@@ -62,7 +64,7 @@ pub returns-in_err-relaxed-clause-becomes : goal.returns-in_err-relaxed-clause-b
 returns-in_err-relaxed-clause-becomes g c = subst (λ (v : NetView). Becomes v c.step.new.self) c.places.invariant.same c.in_err-relaxed.ensures.becomes
 
 pub returns-in_err-relaxed-clause-agenda : goal.returns-in_err-relaxed-clause-agenda
-returns-in_err-relaxed-clause-agenda g c = agenda_same c.args.self.now.plan c.places.agenda c.take.new.self c.places.invariant.agenda (ap (λ (a : AgendaView). a.heads) c.take.ensures.others) (ap (λ (a : AgendaView). a.links) c.take.ensures.others)
+returns-in_err-relaxed-clause-agenda g c = agenda_same c.args.self.now.plan c.places.agenda c.take.new.self c.places.invariant.agenda (ap (λ (a : AgendaView). a.heads) c.take.ensures.others) (ap (λ (a : AgendaView). a.links) c.take.ensures.others) (ap (λ (a : AgendaView). a.starts) c.take.ensures.others)
 
 pub returns-clause-becomes : goal.returns-clause-becomes
 returns-clause-becomes g c = subst (λ (v : NetView). Becomes v c.step.new.self) c.places.invariant.same c.in_ok-relaxed.ensures.becomes
@@ -73,7 +75,7 @@ returns-clause-goes g c = subst (λ (v : NetView). Goes c.in_ok-relaxed.relaxed 
 pub returns-clause-agenda : goal.returns-clause-agenda
 returns-clause-agenda g c =
     agenda_same c.args.self.now.plan c.take.new.self c.release.new.self
-    (agenda_same c.args.self.now.plan c.places.agenda c.take.new.self c.places.invariant.agenda (ap (λ (a : AgendaView). a.heads) c.take.ensures.others) (ap (λ (a : AgendaView). a.links) c.take.ensures.others)) (ap (λ (a : AgendaView). a.heads) c.release.ensures.others) (ap (λ (a : AgendaView). a.links) c.release.ensures.others)
+    (agenda_same c.args.self.now.plan c.places.agenda c.take.new.self c.places.invariant.agenda (ap (λ (a : AgendaView). a.heads) c.take.ensures.others) (ap (λ (a : AgendaView). a.links) c.take.ensures.others) (ap (λ (a : AgendaView). a.starts) c.take.ensures.others)) (ap (λ (a : AgendaView). a.heads) c.release.ensures.others) (ap (λ (a : AgendaView). a.links) c.release.ensures.others) (ap (λ (a : AgendaView). a.starts) c.release.ensures.others)
 
 pub returns-in_err-visit-clause-heard_some : goal.returns-in_err-visit-clause-heard_some
 returns-in_err-visit-clause-heard_some g c = on_err c.from_residual.result (heard_then_some g.H.Hears.has_heard c.args.hearer.now c.places.hearer c.visit.new.hearer c.args.self.now c.places.self c.places.invariant.heard c.in_err-visit.ensures.heard_some)
@@ -86,3 +88,10 @@ returns-in_err-relaxed-clause-heard_some g c = on_err c.from_residual-in_err-rel
 
 pub returns-clause-heard : goal.returns-clause-heard
 returns-clause-heard g c = heard_then g.H.Hears.has_heard c.args.hearer.now c.places.hearer c.step.new.hearer c.args.self.now c.places.self c.step.new.self c.places.invariant.heard c.in_ok-relaxed.ensures.heard
+
+pub returns-then-branch-clause-notes : goal.returns-then-branch-clause-notes
+returns-then-branch-clause-notes g c = notes_after c.args.self.now c.args.agenda.now c.places.self c.places.agenda c.take.new.self c.visit.new.self c.visit.new.agenda c.places.invariant.notes (ap (λ (a : AgendaView). a.touched) c.take.ensures.others) c.in_ok-visit.ensures.notes
+
+pub returns-clause-notes : goal.returns-clause-notes
+returns-clause-notes g c = notes_after c.args.self.now c.args.agenda.now c.places.self c.places.agenda c.take.new.self c.step.new.self c.release.new.self c.places.invariant.notes (ap (λ (a : AgendaView). a.touched) c.take.ensures.others)
+    (notes_limits c.places.self c.step.new.self c.take.new.self c.release.new.self (λ place. c.in_ok-relaxed.ensures.only place tt) (ap (λ (a : AgendaView). a.touched) c.release.ensures.others))

@@ -1,4 +1,4 @@
-use Rattle.std.proofs.Common.{◌≡◌, ◌≤◌, length, sym, ap, subst, arith}
+use Rattle.std.proofs.Common.{◌≡◌, length, sym, ap, subst, arith}
 use Rattle.mg_sched.specs.Views.{NetView}
 use Rattle.mg_sched.specs.Code.Outputs.{HaveOutputs}
 use Rattle.mg_sched.proofs.StreamOutputs.{have_outputs}

@@ -1,4 +1,4 @@
-use Rattle.std.proofs.Common.{ap, sym, ◌∙◌, map}
+use Rattle.std.proofs.Common.{ap, ◌∙◌, map}
 use Rattle.std.specs.List.{list_any}
 use Rattle.mg_throttle.specs.Throttle.{is_full, relaxed}
 use Rattle.mg_sched.specs.Views.{NetView}

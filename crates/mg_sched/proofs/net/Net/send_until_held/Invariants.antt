@@ -5,6 +5,7 @@ use Rattle.mg_sched.specs.Code.Agendas.{IsAgendaOf}
 use Rattle.mg_sched.specs.Code.Left.{Goes}
 use Rattle.mg_sched.proofs.Sweeping.{edges_left}
 use Rattle.mg_sched.specs.Heard.{Heard}
+use Rattle.mg_sched.specs.Code.Quiet.{Notes}
 use Rattle.mg_sched.proofs.net.Net.send_until_held.Given as goal
 
 abbrev pub invariant-edges : goal.invariant-edges
@@ -15,6 +16,7 @@ invariant-edges g l = record {
   places : length l.agenda.heads ≡ length l.fn.agenda.heads;
   unchanged : l.did ≡ false → l.agenda ≡ l.fn.agenda;
   there : IfSome l.cursor (λ e. e < length l.fn.self.plan.edges);
+  notes : Notes l.fn.self l.fn.agenda l.self l.agenda;
   heard : Heard g.H.Hears.has_heard l.fn.hearer l.hearer l.fn.self l.self;
 }
 

@@ -3,6 +3,7 @@ use Rattle.mg_sched.proofs.Becoming.{becomes_one}
 use Rattle.mg_sched.proofs.LeftIn.{acts_less}
 use Rattle.mg_sched.proofs.Sweeping.{steps_none}
 use Rattle.mg_sched.proofs.HeardOn.{heard_same, heard_one, heard_so_far}
+use Rattle.mg_sched.proofs.Touching.{acts_only_all}
 use Rattle.mg_sched.proofs.net.Net.step.Goals as goal
 
 pub returns-in-Did-clause-becomes : goal.returns-in-Did-clause-becomes
@@ -29,3 +30,9 @@ returns-in-Idle-clause-heard g c = heard_same g.H.Hears.has_heard c.args.hearer.
 
 pub returns-in-OutOfMemory-clause-heard_some : goal.returns-in-OutOfMemory-clause-heard_some
 returns-in-OutOfMemory-clause-heard_some g c = heard_so_far g.H.Hears.has_heard c.args.hearer.now c.args.self.now
+
+pub returns-in-Did-clause-only : goal.returns-in-Did-clause-only
+returns-in-Did-clause-only g c = acts_only_all c.args.event _ c.args.self.now c.act.new.self c.in-Did.ensures.acts
+
+pub returns-in-Idle-clause-only : goal.returns-in-Idle-clause-only
+returns-in-Idle-clause-only g c = acts_only_all c.args.event _ c.args.self.now c.act.new.self c.in-Idle.ensures.acts

@@ -1,5 +1,6 @@
 use Rattle.std.proofs.Common.{refl, sym, ◌∙◌}
 use Rattle.mg_sched.proofs.Taking.{last_fits, last_at, set_fits, has_intake, ports_known, short_kept, queues_kept, few_kept, next_taken, in_order, shown_and, none_next, nothing_taken, nothing_stands, take_stands}
+use Rattle.mg_sched.proofs.TouchedOutside.{taken_none, touches_kept, touches_rests}
 use Rattle.mg_sched.proofs.net.Net.take_out.Goals as goal
 
 pub index_mut-requires : goal.index_mut-requires
@@ -50,3 +51,24 @@ returns-then-not-claim-clause-taken g c = nothing_taken _ c.args.self.now c.len-
 
 pub returns-then-not-claim-clause-stands : goal.returns-then-not-claim-clause-stands
 returns-then-not-claim-clause-stands g c = λ job h. nothing_stands job c.args.self.now _ c.args.into.now c.claim.new.into (returns-then-not-claim-clause-taken g c) h
+
+pub invariant_of-self : goal.invariant_of-self
+invariant_of-self g c = (
+  c.self.invariant.0,
+  c.self.invariant.1,
+  c.self.invariant.2,
+  c.self.invariant.3,
+  c.self.invariant.4,
+  λ is. taken_none c.self.inside.plan c.self.inside.engines.items c.self.inside.intakes.items c.self.inside.desks.items c.len-place.result c.index_mut.result.now c.claim.new.self c.self.inside.agenda c.index_mut.ensures.value c.if-not-claim.ensures.unchanged.0
+      (last_fits _ c.args.self.now c.len-place.result _ c.self.view_is c.requires.stands c.len-place.ensures refl) (c.self.invariant.5 is),
+)
+
+pub invariant_of-self-2 : goal.invariant_of-self-2
+invariant_of-self-2 g c = (
+  c.self.invariant.0,
+  c.self.invariant.1,
+  c.self.invariant.2,
+  c.self.invariant.3,
+  touches_kept c.self.inside.plan c.len-place.result c.self.inside.agenda c.touch.new.kept c.touch.ensures c.self.invariant.4,
+  λ is. touches_rests c.self.inside.plan c.self.inside.engines.items c.self.inside.intakes.items c.self.inside.desks.items c.len-place.result c.claim.new.self c.self.inside.agenda c.touch.new.kept c.touch.ensures (c.self.invariant.5 is),
+)

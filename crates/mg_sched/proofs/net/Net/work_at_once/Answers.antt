@@ -1,5 +1,6 @@
 use Rattle.mg_sched.proofs.HeardOn.{on_err}
 use Rattle.mg_sched.proofs.WorkingAtOnce.{comes_becomes, comes_heard, comes_heard_some, comes_steps}
+use Rattle.mg_sched.proofs.Touching.{comes_only}
 use Rattle.mg_sched.proofs.net.Net.work_at_once.Goals as goal
 
 pub returns-in_err-did-clause-becomes : goal.returns-in_err-did-clause-becomes
@@ -18,3 +19,6 @@ returns-clause-heard g c =
 
 pub returns-clause-steps : goal.returns-clause-steps
 returns-clause-steps g c = comes_steps c.args.node c.turn-reached.result c.in_ok-did.did c.args.self.now c.turn-reached.new.self c.requires.stands c.requires.running c.turn-reached.ensures c.in_ok-did.ensures.some
+
+pub returns-clause-only : goal.returns-clause-only
+returns-clause-only g c = comes_only c.args.node c.turn-reached.result c.args.self.now c.turn-reached.new.self c.turn-reached.ensures

@@ -4,6 +4,7 @@ use Rattle.mg_sched.specs.Code.Left.{Steps}
 use Rattle.mg_sched.proofs.Becoming.{becomes_runs, becomes_some, becomes_trans}
 use Rattle.mg_sched.proofs.Sweeping.{still_there, works_go, works_rest}
 use Rattle.mg_sched.proofs.HeardOn.{heard_then, heard_then_some, on_err}
+use Rattle.mg_sched.proofs.Touching.{only_then}
 use Rattle.mg_sched.proofs.net.Net.work_on.Goals as goal
 
 pub perform_all-requires-clause-running : goal.perform_all-requires-clause-running
@@ -63,3 +64,7 @@ returns-in_err-committed-clause-heard_some g c = on_err c.from_residual-in_err-c
 
 pub returns-clause-heard : goal.returns-clause-heard
 returns-clause-heard g c = heard_then g.H.Hears.has_heard c.args.hearer.now c.perform_all.new.hearer c.commit_all.new.hearer c.args.self.now c.perform_all.new.self c.commit_all.new.self (heard_then g.H.Hears.has_heard c.args.hearer.now c.work_at_once.new.hearer c.perform_all.new.hearer c.args.self.now c.work_at_once.new.self c.perform_all.new.self c.in_ok-worked.ensures.heard c.in_ok-performed.ensures.heard) c.in_ok-committed.ensures.heard
+
+pub returns-clause-only : goal.returns-clause-only
+returns-clause-only g c = only_then c.args.node c.args.self.now c.perform_all.new.self c.commit_all.new.self
+    (only_then c.args.node c.args.self.now c.work_at_once.new.self c.perform_all.new.self c.in_ok-worked.ensures.only c.in_ok-performed.ensures.only) c.in_ok-committed.ensures.only

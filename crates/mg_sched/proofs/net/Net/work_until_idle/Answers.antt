@@ -1,7 +1,9 @@
+use Rattle.std.proofs.Common.{refl}
 use Rattle.mg_calc.specs.declared.event.Event.TheVariants.{Advance}
 use Rattle.mg_sched.proofs.Becoming.{becomes_runs, becomes_some, becomes_trans}
 use Rattle.mg_sched.proofs.Sweeping.{goes_then, steps_go, still_there}
 use Rattle.mg_sched.proofs.HeardOn.{heard_then, heard_then_some, on_err}
+use Rattle.mg_sched.proofs.Touching.{only_then}
 use Rattle.mg_sched.proofs.net.Net.work_until_idle.Goals as goal
 
 pub step-requires-clause-event : goal.step-requires-clause-event
@@ -29,3 +31,6 @@ returns-in_err-raised-clause-heard_some g c = on_err c.from_residual-in_err-rais
 
 pub returns-clause-heard : goal.returns-clause-heard
 returns-clause-heard g c = heard_then g.H.Hears.has_heard c.args.hearer.now c.do_works.new.hearer c.step.new.hearer c.args.self.now c.do_works.new.self c.step.new.self c.in_ok-worked.ensures.heard c.in_ok-raised.ensures.heard
+
+pub returns-clause-only : goal.returns-clause-only
+returns-clause-only g c = only_then c.args.node c.args.self.now c.do_works.new.self c.step.new.self c.in_ok-worked.ensures.only (c.in_ok-raised.ensures.only c.args.node refl)

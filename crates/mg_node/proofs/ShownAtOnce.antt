@@ -1,0 +1,293 @@
+-- A set that is shown to a calculator where that lies: its work is claimed, performed and committed.
+use Rattle.std.proofs.Common.{◌≡◌, ℕ, ◌+◌, ◌-◌, ◌<◌, ◌≤◌, ◌^◌, Bool, false, List, [], ◌∷◌, ◌++◌, length, length-append, drop, set, map, Option, Some, None, option_map, count_by as number_of, Result, Ok, Err, inr, ap, ap₂, sym, refl, subst, ◌∙◌, arith}
+use Rattle.mg_time.specs.Time.{done}
+use Rattle.mg_value.specs.Payload.{Plain}
+use Rattle.mg_value.specs.Prefix.{StreamPrefix}
+use Rattle.mg_stream.specs.Queue.{Waiting}
+use Rattle.mg_stream.specs.Pool.{Backlog, backlog_of}
+use Rattle.mg_policy.specs.declared.readiness.Readiness.TheVariants.{Ready, NotReady as NoneYet}
+use Rattle.mg_calc.specs.declared.cause.Cause.{Cause}
+use Rattle.mg_calc.specs.declared.cause.CalcFault.TheVariants.{Fault, OutOfMemory}
+use Rattle.mg_calc.specs.declared.emission.Laid.{Laid}
+use Rattle.mg_calc.specs.declared.node_fault.NodeFault.{NodeFault}
+use Rattle.mg_calc.specs.declared.node_fault.Phase.TheVariants.{Process}
+use Rattle.mg_calc.specs.Outcome.{Failure}
+use Rattle.mg_node.specs.declared.role.Role.{Role}
+use Rattle.mg_node.specs.declared.claimed.Claimed.TheVariants.{Work, NotReady}
+use Rattle.mg_node.specs.Views.{IntakeView, BenchView, WorkView, PerformedView, OutcomeView, EntryView, EngineView}
+use Rattle.mg_node.specs.Ports.{IsNext}
+use Rattle.mg_node.specs.Job.{LoggedJob}
+use Rattle.mg_node.specs.Lawful.{StandForAll, LawfulEngine, of_node, is_close, AreCell}
+use Rattle.mg_node.specs.Shelves.{IsOut, shelved, outcome_of}
+use Rattle.mg_node.specs.Running.{MayRun, HasRun}
+use Rattle.mg_node.specs.Claims.{first_unrun, IsEarly, Takes, Hands, work_of, Claims}
+use Rattle.mg_node.specs.Commits.{raised_before, laid_by, Front, answer_laid, front_laid, front_of, HasFront, committed_entry, window_with}
+use Rattle.mg_node.specs.AtOnce.{IsDoneBetween, IsLeftPerformed, IsLeftCommitted}
+use Rattle.mg_node.specs.Code.QueueLaying.{IsLaid}
+use Rattle.mg_node.specs.Code.FrontLaying.{end_of, HasWhole}
+use Rattle.mg_node.specs.Code.Showing.{MayShow, work_at, HasShown, Shows, LaysAnswer, HandsShown}
+use Rattle.mg_node.proofs.Performing.{may_run, performed_well, performed_fault, unchanged}
+use Rattle.mg_node.proofs.Claimable.{cell_fits}
+use Rattle.mg_node.proofs.Cells.{claim_lawful}
+use Rattle.mg_node.proofs.WorksOut.{claim_out}
+use Rattle.mg_node.proofs.FrontSteps.{fault_is}
+use Rattle.mg_node.proofs.EngineFronts.{queues_stand, backlogs_stand, seen_gone, not_ended, whole_by}
+
+-- two lists with one element behind each
+snoc_same : {X : Type 0} (xs ys : List X) (x y : X) → xs ++ x ∷ [] ≡ ys ++ y ∷ [] → (xs ≡ ys) × (x ≡ y)
+snoc_same [] [] x y e = (refl, cc)
+snoc_same [] (z ∷ ys) x y e = absurd (let long = ap length e in let more = length-append ys (y ∷ []) in omega (arith, long, more))
+snoc_same (z ∷ xs) [] x y e = absurd (let long = ap length e in let more = length-append xs (x ∷ []) in omega (arith, long, more))
+snoc_same {X} (z ∷ xs) (w ∷ ys) x y e =
+    let first : z ≡ w = cc in
+    let it = snoc_same xs ys x y (ap (λ (l : List X). drop 1 l) e) in (ap₂ (λ (h : X) (t : List X). h ∷ t) first it.0, it.1)
+
+-- What an engine has before.
+
+room_by : (job : LoggedJob) (number : ℕ) (e : EngineView) → LawfulEngine job (of_node number) e → 0 < length e.idle → length e.window < e.in_flight
+unfolding LawfulEngine
+room_by job number e h some = (let benches = h.benches in omega (arith, benches, some))
+
+show_room : (e : EngineView) (i : IntakeView) → AreCell e i → MayShow e → length e.window < e.in_flight
+show_room e i cell may = room_by cell.job cell.number e cell.lawful_engine may.bench
+
+all_laid : (job : LoggedJob) (number : ℕ) (e : EngineView) → LawfulEngine job (of_node number) e → e.window ≡ [] → e.laid ≡ e.claimed
+unfolding LawfulEngine
+all_laid job number e h none =
+    let order = h.order in
+    let long : length e.window ≡ 0 = ap length none in
+    let closes : number_of (λ (x : EntryView). is_close x.phase) e.window ≡ 0 = ap (number_of (λ (x : EntryView). is_close x.phase)) none in
+    omega (arith, order, long, closes)
+
+-- Once the set is shown.
+
+-- an engine of which another bench stands behind the others
+abbrev pub with_bench : EngineView → List BenchView → BenchView → EngineView
+with_bench e rest bench = record e { idle = rest ++ bench ∷ [] }
+
+pub shown_whole : (e e1 : EngineView) (i : IntakeView) (rest : List BenchView) (bench : BenchView) → AreCell e i → e1 ≡ with_bench e rest bench → HasWhole e1
+shown_whole e e1 i rest bench cell is =
+    let has = (whole_by cell.job cell.number e e.window cell.lawful_engine).1 in
+    let here : HasWhole (with_bench e rest bench) = record { whole = has.whole; stand = has.stand; own = has.own } in
+    subst HasWhole (sym is) here
+
+pub shown_laid : (e e1 : EngineView) (i : IntakeView) (rest : List BenchView) (bench : BenchView) → AreCell e i → MayShow e → e1 ≡ with_bench e rest bench → e1.laid ≤ e1.claimed
+shown_laid e e1 i rest bench cell may is =
+    let all = all_laid cell.job cell.number e cell.lawful_engine may.none in
+    let laid : e1.laid ≡ e.laid = ap (λ (v : EngineView). v.laid) is in
+    let claimed : e1.claimed ≡ e.claimed = ap (λ (v : EngineView). v.claimed) is in
+    omega (arith, all, laid, claimed)
+
+pub shown_few : (e e1 : EngineView) (i : IntakeView) (at : ℕ) (rest : List BenchView) (bench : BenchView) → AreCell e i → MayShow e → IsNext i.waits (Ready at) → e1 ≡ with_bench e rest bench → e1.claimed + 1 < 2 ^ 64
+shown_few e e1 i at rest bench cell may next is =
+    let few : e.claimed + 1 ≤ done = cell_fits e i at cell may.role next in
+    let claimed : e1.claimed ≡ e.claimed = ap (λ (v : EngineView). v.claimed) is in
+    omega (arith, few, claimed)
+
+pub shown_bench : (e e1 : EngineView) (rest : List BenchView) (bench : BenchView) → e1 ≡ with_bench e rest bench → 0 < length e1.idle
+shown_bench e e1 rest bench is =
+    let long : length e1.idle ≡ length (rest ++ bench ∷ []) = ap (λ (v : EngineView). length v.idle) is in
+    let more = length-append rest (bench ∷ []) in
+    omega (arith, long, more)
+
+pub shown_room : (e e1 : EngineView) (i : IntakeView) (rest : List BenchView) (bench : BenchView) → AreCell e i → MayShow e → e1 ≡ with_bench e rest bench → length e1.window < e1.in_flight
+shown_room e e1 i rest bench cell may is = subst (λ (v : EngineView). length v.window < v.in_flight) (sym is) (show_room e i cell may)
+
+-- The claim.
+
+abbrev out_entry : ℕ → EntryView
+out_entry at = record { phase = Process at; outcome = None; committed = false }
+
+-- an engine once the set is claimed
+abbrev pub between_of : EngineView → ℕ → List BenchView → EngineView
+between_of e at rest = record e { claimed = e.claimed + 1; window = e.window ++ out_entry at ∷ []; idle = rest }
+
+module _ (C : Type 0) (e : EngineView) (i i1 : IntakeView) (at : ℕ) (rest : List BenchView) (bench filled : BenchView) (cell : AreCell e i) (may : MayShow e) (next : IsNext i.waits (Ready at)) (idle : e.idle ≡ rest ++ bench ∷ [])
+    (told : filled.told ≡ bench.told) (takes : Takes i i1 filled.set) where
+  abbrev claimed_work : WorkView
+  claimed_work = work_at e.node e.claimed at filled
+
+  hands_last : Hands e (between_of e at rest) (Process at) 1 bench
+  hands_last = record { idle = idle; now = refl }
+
+  pub shown_claims : Claims {C = C} (Work claimed_work) e (between_of e at rest) i i1
+  shown_claims =
+      inr (
+        record { goes = may.goes; none = ap (first_unrun 0) may.none; room = show_room e i cell may },
+        inr (inr (record {
+          role = may.role;
+          at = at;
+          next = next;
+          bench = bench;
+          hands = hands_last;
+          work_is = ap (λ t. work_at e.node e.claimed at (let b : BenchView = record { told = t; set = filled.set } in b)) told;
+          takes = takes;
+        })),
+      )
+
+  pub shown_may_run : MayRun (Process at) filled
+  shown_may_run =
+      let lawful = claim_lawful {C = C} cell.job cell.number (Work claimed_work) e (between_of e at rest) i i1 cell.lawful_engine cell.lawful_intake cell.agree shown_claims in
+      may_run claimed_work (record { job = cell.job; lawful = lawful.work })
+
+  shown_out : IsOut (between_of e at rest) claimed_work
+  shown_out = claim_out {C = C} (Work claimed_work) e (between_of e at rest) i i1 cell shown_claims
+
+-- The work of the set is handed out.
+
+handed : (e e1 e2 : EngineView) (at : ℕ) (rest : List BenchView) (bench : BenchView) (work : WorkView) → e1 ≡ with_bench e rest bench → HandsShown at work e1 e2 → (e2 ≡ between_of e at rest) × (work ≡ work_at e.node e.claimed at bench)
+handed e e1 e2 at rest bench work is h =
+    let idle : rest ++ bench ∷ [] ≡ e2.idle ++ work.bench ∷ [] = sym (ap (λ (v : EngineView). v.idle) is) ∙ h.hands.idle in
+    let ends = snoc_same rest e2.idle bench work.bench idle in (
+      h.hands.now
+          ∙ ap (λ (v : EngineView). (let w : EngineView = record v { claimed = v.claimed + 1; window = v.window ++ out_entry at ∷ []; idle = e2.idle } in w)) is
+          ∙ ap (between_of e at) (sym ends.0),
+      h.work_is ∙ ap (λ (v : EngineView). work_of v (Process at) work.bench) is ∙ ap (work_at e.node e.claimed at) (sym ends.1),
+    )
+
+pub handed_claims : (C : Type 0) (e e1 e2 : EngineView) (i i1 : IntakeView) (at : ℕ) (work : WorkView) → AreCell e i → MayShow e → IsNext i.waits (Ready at) → Shows None at e e1 i i1 → HandsShown at work e1 e2 → Claims {C = C} (Work work) e e2 i i1
+handed_claims C e e1 e2 i i1 at work cell may next s h =
+    let is = handed e e1 e2 at s.rest s.bench_now work s.now_is h in
+    let claims = shown_claims C e i i1 at s.rest s.bench s.filled cell may next s.idle s.told s.takes in
+    subst (λ (w : WorkView). Claims {C = C} (Work w) e e2 i i1) (sym (is.1 ∙ ap (work_at e.node e.claimed at) s.unchanged))
+    (subst (λ (v : EngineView). Claims {C = C} (Work (work_at e.node e.claimed at s.filled)) e v i i1) (sym is.0) claims)
+
+module _ (C : Type 0) (answer : Result (List Laid) Cause) (e e1 : EngineView) (i i1 : IntakeView) (at : ℕ) (cell : AreCell e i) (may : MayShow e) (next : IsNext i.waits (Ready at)) (s : Shows (Some answer) at e e1 i i1) where
+  abbrev done_work : WorkView
+  done_work = work_at e.node e.claimed at s.bench_now
+
+  abbrev done_of : PerformedView
+  done_of = record { work = done_work; answer = answer }
+
+  abbrev done_between : (number : ℕ) → number ≡ e.claimed → IsDoneBetween C number e (between_of e at s.rest) i i1
+  done_between number is = record {
+    work = work_at e.node e.claimed at s.filled;
+    claims = shown_claims C e i i1 at s.rest s.bench s.filled cell may next s.idle s.told s.takes;
+    performed = done_of;
+    done = s.shown e.node e.claimed;
+    number_is = is;
+  }
+
+  out_at : IsOut (between_of e at s.rest) done_work
+  out_at = (let o = shown_out C e i i1 at s.rest s.bench s.filled cell may next s.idle s.told s.takes in record { node_is = o.node_is; laid = o.laid; entry = o.entry; there = o.there; out = o.out; phase_is = o.phase_is })
+
+  -- it is out, and put back as performed
+  pub handed_out_at : (v e2 : EngineView) (work : WorkView) (outcome : OutcomeView) → v ≡ e1 → HandsShown at work v e2 → outcome.work ≡ work → IsOut e2 outcome.work
+  handed_out_at v e2 work outcome same h is =
+      let it = handed e v e2 at s.rest s.bench_now work (same ∙ s.now_is) h in
+      subst (λ (w : WorkView). IsOut e2 w) (sym (is ∙ it.1)) (subst (λ (x : EngineView). IsOut x done_work) (sym it.0) out_at)
+
+  pub left_performed : (v e2 e3 : EngineView) (work : WorkView) (outcome : OutcomeView) (number : ℕ) → number ≡ e.claimed → v ≡ e1 → HandsShown at work v e2 → outcome ≡ outcome_of (record { work = work; answer = answer }) → e3 ≡ shelved e2 outcome
+      → IsLeftPerformed C number e e3 i i1
+  left_performed v e2 e3 work outcome number number_is same h is e3_is =
+      let it = handed e v e2 at s.rest s.bench_now work (same ∙ s.now_is) h in
+      let outcome_is : outcome ≡ outcome_of done_of = is ∙ ap (λ (w : WorkView). outcome_of (record { work = w; answer = answer })) it.1 in
+      record {
+        between = between_of e at s.rest;
+        done = done_between number number_is;
+        left = e3_is ∙ ap (shelved e2) outcome_is ∙ ap (λ (x : EngineView). shelved x (outcome_of done_of)) it.0;
+      }
+
+  -- The commit.
+
+  abbrev ready : EntryView
+  ready = committed_entry (outcome_of done_of)
+
+  window_is : window_with (between_of e at s.rest) (outcome_of done_of) ≡ ready ∷ []
+  window_is =
+      let none : e.claimed - e.laid ≡ 0 = (let all = all_laid cell.job cell.number e cell.lawful_engine may.none in omega (arith, all)) in
+      ap₂ (λ (w : List EntryView) (n : ℕ). set (w ++ out_entry at ∷ []) n ready) may.none none
+
+  abbrev start : List (StreamPrefix Plain) → Bool → Option Failure → Front
+  start whole closed fault = record { outputs = whole; laid = e.laid; window = ready ∷ []; idle = s.rest; closed = closed; fault = fault }
+
+  failure_of : Option NodeFault → Option Failure
+  failure_of = option_map (λ f. (let g : Failure = record { phase = f.phase; cause = f.cause } in g))
+
+  goes_on : (e.closed ≡ false) × (e.fault ≡ None)
+  goes_on = not_ended e.closed e.fault may.goes
+
+  front_is : (whole : List (StreamPrefix Plain)) → front_laid e.offset (window_with (between_of e at s.rest) (outcome_of done_of)) (front_of (between_of e at s.rest) (window_with (between_of e at s.rest) (outcome_of done_of)) whole)
+      ≡ answer_laid e.offset (Process at) s.bench_now answer [] (start whole false None)
+  front_is whole =
+      ap (λ (w : List EntryView). front_laid e.offset w (front_of (between_of e at s.rest) w whole)) window_is
+      ∙ ap₂ (λ (c : Bool) (f : Option NodeFault). front_laid e.offset (ready ∷ []) (start whole c (option_map (λ g. (let h : Failure = record { phase = g.phase; cause = g.cause } in h)) f))) goes_on.0 goes_on.1
+
+  pub left_committed : (e3 : EngineView) (number : ℕ) → number ≡ e.claimed → LaysAnswer at answer e1 e3 → IsLeftCommitted C number e e3 i i1
+  left_committed e3 number number_is lays =
+      let l : LaysAnswer at answer (with_bench e s.rest s.bench_now) e3 = subst (λ (v : EngineView). LaysAnswer at answer v e3) s.now_is lays in
+      let mid = between_of e at s.rest in
+      let full : e3 ≡ record e { outputs = e3.outputs; laid = e.laid + 1; claimed = e.claimed + 1; idle = s.rest ++ s.bench_now ∷ []; fault = e3.fault } = l.now_is in
+      record {
+        between = mid;
+        done = done_between number number_is;
+        laid = 1;
+        commits = record {
+          counted = ap (λ (v : EngineView). v.laid) full;
+          given_up = l.given_up;
+          others = full ∙ (λ k. record e {
+            outputs = e3.outputs;
+            laid = sym (ap (λ (v : EngineView). v.laid) full) k;
+            claimed = e.claimed + 1;
+            window = sym (ap (λ (v : EngineView). v.window) full) k;
+            idle = sym (ap (λ (v : EngineView). v.idle) full) k;
+            closed = sym (ap (λ (v : EngineView). v.closed) full) k;
+            fault = e3.fault;
+          });
+          front = λ whole stand.
+              let it = l.laid whole stand in
+              subst (λ (f : Front). HasFront mid e3 f) (sym (front_is whole))
+              (record {
+                outputs = it.0;
+                given_up = l.given_up;
+                others = full ∙ (λ k. record e {
+                  outputs = e3.outputs;
+                  laid = e.laid + 1;
+                  claimed = e.claimed + 1;
+                  window = may.none k;
+                  idle = s.rest ++ s.bench_now ∷ [];
+                  closed = goes_on.0 k;
+                  fault = it.1 k;
+                });
+              });
+        };
+      }
+
+-- An answer is laid.
+
+abbrev pub with_answer_laid : EngineView → List (Backlog Plain) → Option NodeFault → EngineView
+with_answer_laid e outputs fault = record e { outputs = outputs; laid = e.laid + 1; claimed = e.claimed + 1; fault = fault }
+
+pub lays_answer : (e : EngineView) (before now : List (Waiting Plain)) (at : ℕ) (answer : Result (List Laid) Cause) (cause : Option Cause) (fault : Option NodeFault) → map backlog_of before ≡ e.outputs
+    → IsLaid e.offset (Process at) (raised_before e.offset (Process at)) answer before now cause → fault ≡ (end_of e.node (Process at) cause).fault → LaysAnswer at answer e (with_answer_laid e (map backlog_of now) fault)
+lays_answer e before now at answer cause fault is h fault_same = record {
+  now_is = refl;
+  given_up = seen_gone now ∙ h.gone ∙ sym (seen_gone before) ∙ ap (map (λ (b : Backlog Plain). b.gone)) is;
+  laid = λ whole stand.
+      let it = h.laid whole (queues_stand before whole (subst (λ (os : List (Backlog Plain)). StandForAll os whole) (sym is) stand)) in (
+        backlogs_stand now _ it.1,
+        fault_same ∙ fault_is e.node (Process at) (laid_by e.offset (Process at) (raised_before e.offset (Process at) whole) answer) cause it.0,
+      );
+}
+
+-- what was answered is laid or comes back
+pub answered_by : (work : WorkView) (a b : Result (List Laid) Cause) → a ≡ b → outcome_of (record { work = work; answer = a }) ≡ outcome_of (record { work = work; answer = b })
+answered_by work a b same = ap (λ (x : Result (List Laid) Cause). outcome_of (record { work = work; answer = x })) same
+
+-- No set can be told yet.
+pub none_shown : (C : Type 0) (e : EngineView) (i : IntakeView) → AreCell e i → MayShow e → IsNext i.waits NoneYet → Claims {C = C} NotReady e e i i
+none_shown C e i cell may next = (
+  record { goes = may.goes; none = ap (first_unrun 0) may.none; room = show_room e i cell may },
+  subst (λ (r : Role). IsEarly r i.waits) (sym may.role) next,
+  record { same_engine = refl; same_intake = refl },
+)
+
+-- A bench's calculator is shown the set that lies there.
+pub shown_well : (at : ℕ) (emission : List Laid) (before now : BenchView) → MayRun (Process at) before → HasRun (Ok emission) (Process at) before now → HasShown at (Ok emission) before now
+shown_well at emission before now may run = λ node number. performed_well (work_at node number at before) (work_at node number at now) emission may run refl
+
+pub shown_fault : (at : ℕ) (cause : Cause) (before now : BenchView) → MayRun (Process at) before → HasRun (Err (Fault cause)) (Process at) before now → HasShown at (Err cause) before now
+shown_fault at cause before now may run = λ node number. performed_fault (work_at node number at before) (work_at node number at now) cause may run refl
+
+pub shown_none : (at : ℕ) (before now : BenchView) → MayRun (Process at) before → HasRun (Err OutOfMemory) (Process at) before now → now ≡ before
+shown_none at before now may run = ap (λ (w : WorkView). w.bench) (unchanged (work_at 0 0 at before) (work_at 0 0 at now) may run refl)

@@ -1,0 +1,39 @@
+-- A node's next set whose work is claimed, performed and committed at once: what is left is as the three leave it, one after the other.
+use Rattle.std.specs.Prelude.{◌≡◌, ℕ}
+use Rattle.mg_node.specs.declared.at_once.AtOnce.{AtOnce}
+use Rattle.mg_node.specs.declared.at_once.AtOnce.TheVariants.{Other, NotReady, Claimed, Performed, Committed}
+use Rattle.mg_node.specs.declared.claimed.Claimed.TheVariants.{Work, NotReady as NoneReady}
+use Rattle.mg_node.specs.Views.{IntakeView, WorkView, PerformedView, EngineView}
+use Rattle.mg_node.specs.Shelves.{shelved, outcome_of}
+use Rattle.mg_node.specs.Running.{IsPerformed}
+use Rattle.mg_node.specs.Claims.{AreSame, Claims}
+use Rattle.mg_node.specs.Commits.{Commits}
+
+-- the work of a number is claimed, which leaves the engine like this, and is performed
+pub record IsDoneBetween (C : Type 0) (number : ℕ) (engine between : EngineView) (intake intake_now : IntakeView) : Type 0 where
+  pub work : WorkView
+  pub claims : Claims {C = C} (Work work) engine between intake intake_now
+  pub performed : PerformedView
+  pub done : IsPerformed work performed
+  pub number_is : number ≡ work.number
+
+-- it stands in its window then
+pub record IsLeftPerformed (C : Type 0) (number : ℕ) (engine engine_now : EngineView) (intake intake_now : IntakeView) : Type 0 where
+  pub between : EngineView
+  pub done : IsDoneBetween C number engine between intake intake_now
+  pub left : engine_now ≡ shelved between (outcome_of done.performed)
+
+-- or is committed
+pub record IsLeftCommitted (C : Type 0) (number : ℕ) (engine engine_now : EngineView) (intake intake_now : IntakeView) : Type 0 where
+  pub between : EngineView
+  pub done : IsDoneBetween C number engine between intake intake_now
+  pub laid : ℕ
+  pub commits : Commits (outcome_of done.performed) laid between engine_now
+
+-- what is done at once, and what that leaves
+abbrev pub DoesAtOnce : {C : Type 0} → AtOnce C → EngineView → EngineView → IntakeView → IntakeView → Type 0
+DoesAtOnce Other engine engine_now intake intake_now = AreSame engine intake engine_now intake_now
+DoesAtOnce {C} NotReady engine engine_now intake intake_now = Claims {C = C} NoneReady engine engine_now intake intake_now
+DoesAtOnce {C} (Claimed work) engine engine_now intake intake_now = Claims {C = C} (Work work) engine engine_now intake intake_now
+DoesAtOnce {C} (Performed number) engine engine_now intake intake_now = IsLeftPerformed C number engine engine_now intake intake_now
+DoesAtOnce {C} (Committed number) engine engine_now intake intake_now = IsLeftCommitted C number engine engine_now intake intake_now

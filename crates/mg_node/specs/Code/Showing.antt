@@ -1,0 +1,55 @@
+-- A set that is shown to a calculator where that lies, and what is laid of its answer.
+use Rattle.std.specs.Prelude.{◌≡◌, ℕ, ◌+◌, ◌<◌, false, List, [], ◌∷◌, ◌++◌, length, map, Option, option_map, IfSome, IfNone, Result}
+use Rattle.mg_value.specs.Payload.{Plain}
+use Rattle.mg_value.specs.Prefix.{StreamPrefix}
+use Rattle.mg_calc.specs.declared.cause.Cause.{Cause}
+use Rattle.mg_calc.specs.declared.emission.Laid.{Laid}
+use Rattle.mg_calc.specs.declared.node_fault.Phase.TheVariants.{Process}
+use Rattle.mg_node.specs.declared.role.Role.TheVariants.{Sets}
+use Rattle.mg_node.specs.Views.{IntakeView, BenchView, WorkView, EngineView}
+use Rattle.mg_node.specs.Windows.{has_ended}
+use Rattle.mg_node.specs.Lawful.{StandForAll}
+use Rattle.mg_node.specs.Claims.{Takes, Hands, work_of}
+use Rattle.mg_node.specs.Commits.{raised_before, laid_by, outputs_by, failure_by, fault_at}
+use Rattle.mg_node.specs.Running.{IsPerformed}
+
+-- the node goes on and is shown sets, no work is under way, and a bench is idle
+pub record MayShow (engine : EngineView) : Type 0 where
+  pub role : engine.role ≡ Sets
+  pub goes : has_ended engine ≡ false
+  pub none : engine.window ≡ []
+  pub bench : 0 < length engine.idle
+
+-- the work of a set, on a bench
+abbrev pub work_at : ℕ → ℕ → ℕ → BenchView → WorkView
+work_at node number at bench = record { node = node; number = number; phase = Process at; bench = bench }
+
+-- a bench's calculator was shown the set that lies there: a work on it is performed by that, whatever its node and its number are
+abbrev pub HasShown : ℕ → Result (List Laid) Cause → BenchView → BenchView → Type 0
+HasShown at answer before now = (node number : ℕ) → IsPerformed (work_at node number at before) (record { work = work_at node number at now; answer = answer })
+
+-- the last idle bench takes the next set, and its calculator is shown that; at want of memory no more than the set has changed there
+pub record Shows (answer : Option (Result (List Laid) Cause)) (at : ℕ) (engine engine_now : EngineView) (intake intake_now : IntakeView) : Type 0 where
+  pub rest : List BenchView
+  pub bench : BenchView
+  pub filled : BenchView
+  pub bench_now : BenchView
+  pub idle : engine.idle ≡ rest ++ bench ∷ []
+  pub now_is : engine_now ≡ record engine { idle = rest ++ bench_now ∷ [] }
+  pub told : filled.told ≡ bench.told
+  pub takes : Takes intake intake_now filled.set
+  pub shown : IfSome answer (λ a. HasShown at a filled bench_now)
+  pub unchanged : IfNone answer (bench_now ≡ filled)
+
+-- an answer to the set of a time is laid, whatever whole prefixes the outputs stood for
+pub record LaysAnswer (at : ℕ) (answer : Result (List Laid) Cause) (before now : EngineView) : Type 0 where
+  pub now_is : now ≡ record before { outputs = now.outputs; laid = before.laid + 1; claimed = before.claimed + 1; fault = now.fault }
+  pub given_up : map (λ b. b.gone) now.outputs ≡ map (λ b. b.gone) before.outputs
+  pub laid : (whole : List (StreamPrefix Plain)) → StandForAll before.outputs whole
+      → StandForAll now.outputs (outputs_by (raised_before before.offset (Process at) whole) (laid_by before.offset (Process at) (raised_before before.offset (Process at) whole) answer))
+      × (now.fault ≡ option_map (fault_at before.node) (failure_by (Process at) (laid_by before.offset (Process at) (raised_before before.offset (Process at) whole) answer)))
+
+-- the work of the set that the last idle bench has is handed out
+pub record HandsShown (at : ℕ) (work : WorkView) (engine engine_now : EngineView) : Type 0 where
+  pub hands : Hands engine engine_now (Process at) 1 work.bench
+  pub work_is : work ≡ work_of engine (Process at) work.bench

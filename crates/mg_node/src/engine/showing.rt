@@ -1,0 +1,141 @@
+//! How the next set is shown to a calculator where that lies, and what it answers is laid at once.
+ghost use Rattle.std.specs.Prelude.{◌≡◌, ◌<◌, ◌≤◌, ◌+◌, ◌^◌, ℕ, length, true, OnOk, OnErr, IfErr};
+ghost use Rattle.mg_policy.specs.declared.readiness.Readiness as Readiness;
+ghost use Rattle.mg_node.specs.Job.{LoggedJob};
+ghost use Rattle.mg_node.specs.Lawful.{of_node, LawfulEngine, LawfulIntake, Agree, AreCell};
+ghost use Rattle.mg_node.specs.Ports.{IsNext};
+ghost use Rattle.mg_node.specs.AtOnce.{DoesAtOnce};
+ghost use Rattle.mg_node.specs.Code.FrontLaying.{HasWhole};
+ghost use Rattle.mg_node.specs.Code.Showing.{MayShow, Shows, LaysAnswer, HandsShown};
+
+use super::Engine;
+use crate::fronts::{fault_of, reserve_for};
+use crate::laying::lay;
+use crate::window::is_empty;
+use crate::{AtOnce, Intake, Outcome, Performed, Role, Work};
+use mg_calc::{Calculator, Cause, Emission, Phase};
+use mg_edge::Gate;
+use mg_policy::Readiness;
+use mg_time::Timestamp;
+
+impl<C: Calculator> Engine<C> {
+    /// Claims the next set, shows it to the node's calculator and lays what that answers, where no work is under way: the calculator is
+    /// worked where it lies, with the gate round its call. Where a claim may answer with something else nothing changes. At want of
+    /// memory the work is handed out as it is claimed, or stands in its window as performed.
+    pub fn work_at_once<G: Gate>(&mut self, intake: &mut Intake, gate: &G) -> AtOnce<C>
+        requires cell { AreCell self.old intake.old }
+        ensures does { DoesAtOnce result self.old self.new intake.old intake.new }
+
+        // Lawful in, lawful out, for every job.
+        ensures lawful { (job : LoggedJob) (number : ℕ) → LawfulEngine job (of_node number) self.old → LawfulIntake job number intake.old
+            → Agree self.old intake.old → LawfulEngine job (of_node number) self.new × LawfulIntake job number intake.new }
+    {
+        self.do_next(intake, gate)
+    }
+
+    // Does the next set at once, and tells what that leaves.
+    fn do_next<G: Gate>(&mut self, intake: &mut Intake, gate: &G) -> AtOnce<C>
+        requires cell { AreCell self.old intake.old }
+        ensures { DoesAtOnce result self.old self.new intake.old intake.new }
+    {
+        if !self.may_show() {
+            return AtOnce::Other;
+        }
+        match intake.set_readiness() {
+            Readiness::NotReady => AtOnce::NotReady,
+            Readiness::Close => AtOnce::Other,
+            Readiness::Ready { at } => self.show_next(at, intake, gate),
+        }
+    }
+
+    // Whether the node goes on and is shown sets, and no work is under way.
+    fn may_show(&self) -> bool
+        ensures { result ≡ true → MayShow self.now }
+    {
+        let Role::Sets = self.role else {
+            return false;
+        };
+        if self.has_ended() {
+            return false;
+        }
+        is_empty(&self.window) && !self.idle.is_empty()
+    }
+
+    // Shows the next set, and lays what is answered, as far as there is memory.
+    fn show_next<G: Gate>(&mut self, at: Timestamp, intake: &mut Intake, gate: &G) -> AtOnce<C>
+        requires cell { AreCell self.old intake.old }
+        requires may { MayShow self.old }
+        requires next { IsNext intake.old.waits (Readiness.Ready at) }
+        ensures { DoesAtOnce result self.old self.new intake.old intake.new }
+    {
+        let number = self.claimed;
+        let Some(answer) = self.show(at, intake, gate) else {
+            return AtOnce::Claimed(self.take_shown(at));
+        };
+        match self.lay_answer(at, answer) {
+            Ok(()) => AtOnce::Committed(number),
+            Err(answer) => {
+                let work = self.take_shown(at);
+                self.shelve(Outcome::ran(Performed::new(work, answer)));
+                AtOnce::Performed(number)
+            }
+        }
+    }
+
+    // Shows the next set to the calculator of the last idle bench, which tells what that answers, where there was memory.
+    fn show<G: Gate>(
+        &mut self,
+        at: Timestamp,
+        intake: &mut Intake,
+        gate: &G,
+    ) -> Option<Result<Emission, Cause>>
+        requires cell { AreCell self.old intake.old }
+        requires may { MayShow self.old }
+        requires next { IsNext intake.old.waits (Readiness.Ready at) }
+        ensures { Shows result at self.old self.new intake.old intake.new }
+    {
+        let mut bench = self.idle.take_last();
+        bench.fill(intake);
+        gate.enter(self.node, self.claimed);
+        let answer = bench.show(self.alloc, at);
+        gate.leave(self.node, self.claimed);
+        self.idle.push_reserved(bench);
+        answer
+    }
+
+    // Lays what is answered to a set that is claimed with it. Want of memory changes nothing.
+    fn lay_answer(
+        &mut self,
+        at: Timestamp,
+        answer: Result<Emission, Cause>,
+    ) -> Result<(), Result<Emission, Cause>>
+        requires whole { HasWhole self.old }
+        requires laid { self.old.laid ≤ self.old.claimed }
+        requires few { self.old.claimed + 1 < 2 ^ 64 }
+        ensures laid { OnOk result (LaysAnswer at answer self.old self.new) }
+        ensures returned { IfErr result (λ a. a ≡ answer) }
+        ensures unchanged { OnErr result (self.new ≡ self.old) }
+    {
+        let Ok(()) = reserve_for(&mut self.outputs, &answer) else {
+            return Err(answer);
+        };
+        let phase = Phase::Process(at);
+        let cause = lay(self.offset, &phase, &mut self.outputs, answer);
+        self.laid += 1;
+        self.claimed += 1;
+        self.fault = fault_of(self.node, &phase, cause);
+        Ok(())
+    }
+
+    // Hands out the work of the set that the last idle bench has.
+    fn take_shown(&mut self, at: Timestamp) -> Work<C>
+        requires bench { 0 < length self.old.idle }
+        requires room { length self.old.window < self.old.in_flight }
+        requires few { self.old.claimed + 1 < 2 ^ 64 }
+        ensures { HandsShown at result self.old self.new }
+    {
+        let number = self.claimed;
+        let bench = self.take_bench(Phase::Process(at), 1);
+        Work::new(self.node, number, Phase::Process(at), bench)
+    }
+}

@@ -1,0 +1,149 @@
+-- What comes of a node's next set that is shown to its calculator where that lies.
+use Rattle.std.proofs.Common.{◌≡◌, ℕ, ◌<◌, true, false, List, length, set, Some, slice_get, inl, inr, ap, sym, refl, subst, ◌∙◌}
+use Rattle.std.proofs.lemmas.List.{set-set}
+use Rattle.mg_calc.specs.declared.event.Effect.TheVariants.{Idle}
+use Rattle.mg_node.specs.declared.at_once.AtOnce.{AtOnce}
+use Rattle.mg_node.specs.declared.at_once.AtOnce.TheVariants.{Other, NotReady as NoSet, Claimed as OnlyClaimed, Performed as OnlyPerformed, Committed as AllDone}
+use Rattle.mg_node.specs.declared.claimed.Claimed.TheVariants.{Work, NotReady}
+use Rattle.mg_node.specs.Views.{IntakeView, WorkView, EngineView}
+use Rattle.mg_node.specs.Job.{LoggedJob}
+use Rattle.mg_node.specs.Lawful.{LawfulEngine, LawfulIntake, of_node, Agree}
+use Rattle.mg_node.specs.Shelves.{shelved, outcome_of}
+use Rattle.mg_node.specs.Commits.{Commits}
+use Rattle.mg_node.specs.AtOnce.{IsDoneBetween, DoesAtOnce}
+use Rattle.mg_node.proofs.Lemmas.{get_set, same_put}
+use Rattle.mg_sched.specs.declared.reached.Reached.{Reached}
+use Rattle.mg_sched.specs.declared.reached.Reached.TheVariants.{Nothing, Claimed, Performed, Committed}
+use Rattle.mg_sched.specs.Views.{DeskView, NetView}
+use Rattle.mg_sched.specs.Places.{with_engine, with_intake, with_limits, first_edge, lengths_of}
+use Rattle.mg_sched.specs.StandsFor.{StandsForSome, IsRunning}
+use Rattle.mg_sched.specs.Acts.{IsHeldSource, with_noted, stopped_by}
+use Rattle.mg_sched.specs.Code.AtOnce.{HandsOut, ShowsTo, ShowsAt, did_nothing, with_work, IsHandedOut, ComesOn, Comes}
+use Rattle.mg_sched.proofs.Finding.{found, desk_there, parts_lawful}
+use Rattle.mg_sched.proofs.WorkingAtOnce.{hands_work, hands_none, on_kept, desk_room, handed_out, nothing_came, comes, took_nothing, below, marks, performs, finishes}
+
+-- Where no set was shown the net is as it was.
+pub shows_none : {C : Type 0} (done : AtOnce C) (node : ℕ) (net : NetView) (some : StandsForSome net) → IsRunning net → node < length net.plan.nodes → (engine engine_now : EngineView) (intake intake_now : IntakeView)
+    → slice_get net.engines node ≡ Some engine → slice_get net.intakes node ≡ Some intake → did_nothing done ≡ true → DoesAtOnce {C = C} done engine engine_now intake intake_now
+    → ShowsAt {C = C} node done net (with_intake (with_engine net node engine_now) node intake_now)
+shows_none {C} Other node net some running there engine engine_now intake intake_now at to none does =
+    let engines : set net.engines node engine_now ≡ net.engines = ap (set net.engines node) does.same_engine ∙ same_put net.engines node engine at in
+    let intakes : set net.intakes node intake_now ≡ net.intakes = ap (set net.intakes node) does.same_intake ∙ same_put net.intakes node intake to in
+    λ i. record net { engines = engines i; intakes = intakes i }
+shows_none {C} NoSet node net some running there engine engine_now intake intake_now at to none does = record {
+  engine = engine;
+  at = at;
+  intake = intake;
+  to = to;
+  engine_now = engine_now;
+  intake_now = intake_now;
+  claims = does;
+  now_is = took_nothing {C = C} NotReady node net some running there engine engine_now intake intake_now at to refl does;
+}
+shows_none {C} (OnlyClaimed work) node net some running there engine engine_now intake intake_now at to none does = absurd cc
+shows_none {C} (OnlyPerformed number) node net some running there engine engine_now intake intake_now at to none does = absurd cc
+shows_none {C} (AllDone number) node net some running there engine engine_now intake intake_now at to none does = absurd cc
+
+pub shows_some : {C : Type 0} (done : AtOnce C) (node : ℕ) (before now : NetView) → did_nothing done ≡ false → ShowsTo {C = C} node done before now → ShowsAt {C = C} node done before now
+shows_some {C} Other node before now some h = absurd cc
+shows_some {C} NoSet node before now some h = absurd cc
+shows_some {C} (OnlyClaimed work) node before now some h = h
+shows_some {C} (OnlyPerformed number) node before now some h = h
+shows_some {C} (AllDone number) node before now some h = h
+
+-- What a step by step turn is made of.
+
+module _ (C : Type 0) (node : ℕ) (before now : NetView) (some : StandsForSome before) (running : IsRunning before) (there : node < length before.plan.nodes) (free : ¬ IsHeldSource before node) where
+  abbrev desk_of : DeskView
+  desk_of = (found before.desks node (desk_there before node some there)).0
+
+  desk_on : slice_get before.desks node ≡ Some desk_of
+  desk_on = (found before.desks node (desk_there before node some there)).1
+
+  -- A work is claimed.
+  hands_of : (work : WorkView) → ShowsTo {C = C} node (OnlyClaimed work) before now → HandsOut {C = C} node (Work work) before now
+  hands_of work h = record { engine = h.engine; at = h.at; intake = h.intake; to = h.to; engine_now = h.engine_now; intake_now = h.intake_now; claims = h.does; now_is = h.now_is }
+
+  pub claimed_below : (work : WorkView) → ShowsTo {C = C} node (OnlyClaimed work) before now → node < length now.desks
+  claimed_below work h = below now.desks node desk_of (on_kept {C = C} node (Work work) before now desk_of (hands_of work h) desk_on)
+
+  pub claimed_room : (work : WorkView) → ShowsTo {C = C} node (OnlyClaimed work) before now → (desk : DeskView) → slice_get now.desks node ≡ Some desk → length desk.works < desk.room
+  claimed_room work h = λ desk on. desk_room {C = C} node work before now desk some running there (hands_of work h) on
+
+  pub comes_claimed : (work : WorkView) (last : NetView) → ShowsTo {C = C} node (OnlyClaimed work) before now → ((desk : DeskView) → slice_get now.desks node ≡ Some desk → last ≡ with_work now node desk work) → Comes node Claimed before last
+  comes_claimed work last h put =
+      let out = handed_out {C = C} node work before now desk_of some running there free (hands_of work h) desk_on in
+      comes node Claimed before (with_work now node desk_of work) last there (inr (free, hands_work {C = C} node work before now desk_of (hands_of work h) desk_on)) (put desk_of out.on)
+
+  pub none_ready : HandsOut {C = C} node NotReady before now → Comes node Nothing before now
+  none_ready h = nothing_came node before now some running there (inr (free, hands_none {C = C} node NotReady Idle before now desk_of h desk_on (inl h.claims, refl)))
+
+  -- the net once the set is claimed
+  abbrev claimed_net : EngineView → IntakeView → NetView
+  claimed_net between intake = with_noted (with_intake (with_engine before node between) node intake) (first_edge before.plan node) (lengths_of intake.waits)
+
+  module _ (number : ℕ) (engine between engine_now : EngineView) (intake intake_now : IntakeView) (at : slice_get before.engines node ≡ Some engine) (to : slice_get before.intakes node ≡ Some intake)
+      (d : IsDoneBetween C number engine between intake intake_now) where
+    abbrev net : NetView
+    net = claimed_net between intake_now
+
+    hands : HandsOut {C = C} node (Work d.work) before net
+    hands = record { engine = engine; at = at; intake = intake; to = to; engine_now = between; intake_now = intake_now; claims = d.claims; now_is = refl }
+
+    abbrev out_is : IsHandedOut net node d.work
+    out_is = handed_out {C = C} node d.work before net desk_of some running there free hands desk_on
+
+    between_at : slice_get net.engines node ≡ Some between
+    between_at = get_set before.engines node engine between at
+
+    -- the engine goes on from there
+    goes_on : with_engine net node engine_now ≡ claimed_net engine_now intake_now
+    goes_on = ap (λ (es : List EngineView). (let v : NetView = record (claimed_net between intake_now) { engines = es } in v)) (set-set before.engines node between engine_now)
+
+    claims_first : (reached : Reached) (last : NetView) → ComesOn node reached (with_work net node desk_of d.work) last → Comes node reached before last
+    claims_first reached last on = comes node reached before (with_work net node desk_of d.work) last there (inr (free, hands_work {C = C} node d.work before net desk_of hands desk_on)) on
+
+    performed_first : (last : NetView) → engine_now ≡ shelved between (outcome_of d.performed) → last ≡ claimed_net engine_now intake_now → Comes node (Performed number) before last
+    performed_first last left last_is =
+        claims_first (Performed number) last (
+          with_engine net node engine_now,
+          there,
+          performs net node number desk_of d.work out_is.on out_is.stands out_is.running there d.number_is between between_at d.performed (outcome_of d.performed) engine_now d.done refl left,
+          last_is ∙ sym goes_on,
+        )
+
+    committed_first : (laid : ℕ) (shown last : NetView) → Commits (outcome_of d.performed) laid between engine_now → shown ≡ claimed_net engine_now intake_now → last ≡ with_limits shown (stopped_by node engine_now shown.limits) → Comes node (Committed number) before last
+    committed_first laid shown last commits shown_is last_is =
+        claims_first (Committed number) last
+        (finishes net node number desk_of d.work out_is.on out_is.stands out_is.running there d.number_is between between_at d.performed (outcome_of d.performed) engine_now laid last d.done refl commits
+        (last_is ∙ ap (λ (v : NetView). with_limits v (stopped_by node engine_now v.limits)) (shown_is ∙ sym goes_on)))
+
+    marked_first : (shown : NetView) → shown ≡ claimed_net engine_now intake_now → node < length shown.limits.reached
+    marked_first shown is =
+        let here : node < length net.limits.reached = marks net node number desk_of d.work out_is.on out_is.stands out_is.running there d.number_is net refl in
+        subst (λ (v : NetView). node < length v.limits.reached) (sym (is ∙ sym goes_on)) here
+
+  -- It is performed, or committed.
+  pub comes_performed : (number : ℕ) → ShowsTo {C = C} node (OnlyPerformed number) before now → Comes node (Performed number) before now
+  comes_performed number h = performed_first number h.engine h.does.between h.engine_now h.intake h.intake_now h.at h.to h.does.done now h.does.left h.now_is
+
+  engine_shown : (number : ℕ) (h : ShowsTo {C = C} node (AllDone number) before now) → slice_get now.engines node ≡ Some h.engine_now
+  engine_shown number h = ap (λ (v : NetView). slice_get v.engines node) h.now_is ∙ get_set before.engines node h.engine h.engine_now h.at
+
+  pub shown_within : (number : ℕ) → ShowsTo {C = C} node (AllDone number) before now → node < length now.engines
+  shown_within number h = below now.engines node h.engine_now (engine_shown number h)
+
+  pub shown_marked : (number : ℕ) → ShowsTo {C = C} node (AllDone number) before now → node < length now.limits.reached
+  shown_marked number h = marked_first number h.engine h.does.between h.engine_now h.intake h.intake_now h.at h.to h.does.done now h.now_is
+
+  pub comes_committed : (number : ℕ) (last : NetView) → ShowsTo {C = C} node (AllDone number) before now → ((engine : EngineView) → slice_get now.engines node ≡ Some engine → last ≡ with_limits now (stopped_by node engine now.limits))
+      → Comes node (Committed number) before last
+  comes_committed number last h stops =
+      committed_first number h.engine h.does.between h.engine_now h.intake h.intake_now h.at h.to h.does.done h.does.laid now last h.does.commits h.now_is (stops h.engine_now (engine_shown number h))
+
+-- The intake of a node whose set was shown is lawful.
+pub intake_shown : (net : NetView) (node : ℕ) (engine engine_now : EngineView) (intake intake_now : IntakeView) (some : StandsForSome net) → IsRunning net → node < length net.plan.nodes → slice_get net.engines node ≡ Some engine
+    → slice_get net.intakes node ≡ Some intake
+    → ((job : LoggedJob) (number : ℕ) → LawfulEngine job (of_node number) engine → LawfulIntake job number intake → Agree engine intake → LawfulEngine job (of_node number) engine_now × LawfulIntake job number intake_now)
+    → LawfulIntake some.job node intake_now
+intake_shown net node engine engine_now intake intake_now some running there at to keeps = (let parts = parts_lawful net node engine intake some running there at to in (keeps some.job node parts.0 parts.1 parts.2).1)

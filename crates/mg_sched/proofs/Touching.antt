@@ -1,0 +1,270 @@
+-- Which parts of a net steps change, and what an agenda notes of them.
+use Rattle.std.proofs.Common.{◌≡◌, ◌≢◌, ℕ, ◌<◌, ◌≤◌, ◌⊎◌, ◌||◌, nat_lt, length, Bool, true, false, List, [], ◌∷◌, Option, Some, None, slice_get, slice_set, inl, inr, ap, sym, refl, subst, ◌∙◌, ◌+◌, arith}
+use Rattle.std.proofs.lemmas.Bool.{false≢true, cases_eq}
+use Rattle.std.proofs.lemmas.Bool.Decides.{nat_tests}
+use Rattle.std.proofs.lemmas.Option.{same_Some}
+use Rattle.mg_calc.specs.declared.edge.Edge.{Edge}
+use Rattle.mg_calc.specs.declared.plan.Plan.{Plan}
+use Rattle.mg_calc.specs.declared.event.Event.{Event}
+use Rattle.mg_calc.specs.declared.event.Event.TheVariants.{Deliver, Advance, Claim, Perform, Commit, Relax}
+use Rattle.mg_calc.specs.declared.event.Effect.{Effect}
+use Rattle.mg_calc.specs.declared.event.Effect.TheVariants.{Did, Idle, OutOfMemory}
+use Rattle.mg_node.specs.Views.{IntakeView, PerformedView, EngineView}
+use Rattle.mg_node.specs.Shelves.{shelf_at}
+use Rattle.mg_node.proofs.Lemmas.{get_other}
+use Rattle.mg_ready.specs.Ready.{ReadyNodes, IsIn, ChangesOnly}
+use Rattle.mg_sched.specs.declared.reached.Reached.{Reached}
+use Rattle.mg_sched.specs.declared.reached.Reached.TheVariants.{Nothing, NotClaimed, Answered as OnlyAnswered, Claimed as OnlyClaimed, Performed as OnlyPerformed, Committed as OnlyCommitted}
+use Rattle.mg_sched.specs.Views.{DeskView, NetView}
+use Rattle.mg_sched.specs.Acts.{Acts, Performs, CommittedAt}
+use Rattle.mg_sched.specs.Runs.{IsRun}
+use Rattle.mg_sched.specs.Sweeps.{Becomes}
+use Rattle.mg_sched.specs.Code.Agendas.{AgendaView, LeadsFrom, IsFirstFrom}
+use Rattle.mg_sched.specs.Code.AtOnce.{Comes}
+use Rattle.mg_sched.specs.Code.Left.{Goes, Steps}
+use Rattle.mg_sched.specs.Code.Quiet.{IsAt, OnlyAt, Notes, EdgesRestFrom}
+use Rattle.mg_sched.proofs.Becoming.{becomes_plan}
+use Rattle.mg_sched.proofs.Finding.{found}
+use Rattle.mg_sched.proofs.Sweeping.{goes_false, still_idle}
+
+-- One place.
+
+pub only_none : (place : ℕ) (before now : NetView) → now ≡ before → OnlyAt place before now
+only_none place before now same = record {
+  engines = λ other apart. ap (λ (v : NetView). slice_get v.engines other) same;
+  intakes = λ other apart. ap (λ (v : NetView). slice_get v.intakes other) same;
+  desks = λ other apart. ap (λ (v : NetView). slice_get v.desks other) same;
+}
+
+pub only_then : (place : ℕ) (a b c : NetView) → OnlyAt place a b → OnlyAt place b c → OnlyAt place a c
+only_then place a b c first second = record {
+  engines = λ other apart. second.engines other apart ∙ first.engines other apart;
+  intakes = λ other apart. second.intakes other apart ∙ first.intakes other apart;
+  desks = λ other apart. second.desks other apart ∙ first.desks other apart;
+}
+
+-- other engines, intakes and desks
+only_by : (place : ℕ) (before now : NetView) (engines : List EngineView) (intakes : List IntakeView) (desks : List DeskView) → now.engines ≡ engines → now.intakes ≡ intakes → now.desks ≡ desks
+    → ((other : ℕ) → other ≢ place → slice_get engines other ≡ slice_get before.engines other) → ((other : ℕ) → other ≢ place → slice_get intakes other ≡ slice_get before.intakes other)
+    → ((other : ℕ) → other ≢ place → slice_get desks other ≡ slice_get before.desks other) → OnlyAt place before now
+only_by place before now engines intakes desks engines_are intakes_are desks_are same_engines same_intakes same_desks = record {
+  engines = λ other apart. ap (λ (es : List EngineView). slice_get es other) engines_are ∙ same_engines other apart;
+  intakes = λ other apart. ap (λ (is : List IntakeView). slice_get is other) intakes_are ∙ same_intakes other apart;
+  desks = λ other apart. ap (λ (ds : List DeskView). slice_get ds other) desks_are ∙ same_desks other apart;
+}
+
+-- a net whose parts are set at the place
+only_set : (place : ℕ) (before now : NetView) (engine : EngineView) (intake : IntakeView) (desk : DeskView) → now.engines ≡ slice_set before.engines place engine → now.intakes ≡ slice_set before.intakes place intake
+    → now.desks ≡ slice_set before.desks place desk → OnlyAt place before now
+only_set place before now engine intake desk engines intakes desks =
+    only_by place before now (slice_set before.engines place engine) (slice_set before.intakes place intake) (slice_set before.desks place desk) engines intakes desks
+    (λ other apart. get_other before.engines place other engine apart) (λ other apart. get_other before.intakes place other intake apart) (λ other apart. get_other before.desks place other desk apart)
+
+only_engine : (place : ℕ) (before now : NetView) (engine : EngineView) → now.engines ≡ slice_set before.engines place engine → now.intakes ≡ before.intakes → now.desks ≡ before.desks → OnlyAt place before now
+only_engine place before now engine engines intakes desks =
+    only_by place before now (slice_set before.engines place engine) before.intakes before.desks engines intakes desks (λ other apart. get_other before.engines place other engine apart) (λ other apart. refl) (λ other apart. refl)
+
+only_intake : (place : ℕ) (before now : NetView) (intake : IntakeView) → now.engines ≡ before.engines → now.intakes ≡ slice_set before.intakes place intake → now.desks ≡ before.desks → OnlyAt place before now
+only_intake place before now intake engines intakes desks =
+    only_by place before now before.engines (slice_set before.intakes place intake) before.desks engines intakes desks (λ other apart. refl) (λ other apart. get_other before.intakes place other intake apart) (λ other apart. refl)
+
+only_cell : (place : ℕ) (before now : NetView) (engine : EngineView) (desk : DeskView) → now.engines ≡ slice_set before.engines place engine → now.intakes ≡ before.intakes → now.desks ≡ slice_set before.desks place desk → OnlyAt place before now
+only_cell place before now engine desk engines intakes desks =
+    only_by place before now (slice_set before.engines place engine) before.intakes (slice_set before.desks place desk) engines intakes desks (λ other apart. get_other before.engines place other engine apart) (λ other apart. refl)
+    (λ other apart. get_other before.desks place other desk apart)
+
+only_limits : (place : ℕ) (before now : NetView) → now.engines ≡ before.engines → now.intakes ≡ before.intakes → now.desks ≡ before.desks → OnlyAt place before now
+only_limits place before now engines intakes desks = only_by place before now before.engines before.intakes before.desks engines intakes desks (λ other apart. refl) (λ other apart. refl) (λ other apart. refl)
+
+-- Steps.
+
+performed_only : (node number : ℕ) (effect : Effect) (desk : DeskView) (before now : NetView) → Performs node number effect desk before now → OnlyAt node before now
+performed_only node number Did desk before now p =
+    let is = p.performed.2 in
+    only_cell node before now _ _ (ap (λ (v : NetView). v.engines) is) (ap (λ (v : NetView). v.intakes) is) (ap (λ (v : NetView). v.desks) is)
+performed_only node number Idle desk before now p = absurd p.performed
+performed_only node number OutOfMemory desk before now p = only_none node before now p.performed
+
+committed_only : (node number : ℕ) (shelf : Option PerformedView) (effect : Effect) (engine : EngineView) (before now : NetView) → CommittedAt node number shelf effect engine before now → OnlyAt node before now
+committed_only node number None effect engine before now c = only_none node before now c.same
+committed_only node number (Some p) Did engine before now c =
+    only_engine node before now c.engine_now (ap (λ (v : NetView). v.engines) c.now_is) (ap (λ (v : NetView). v.intakes) c.now_is) (ap (λ (v : NetView). v.desks) c.now_is)
+committed_only node number (Some p) Idle engine before now c = absurd c
+committed_only node number (Some p) OutOfMemory engine before now c = only_none node before now c
+
+at_node : (node : ℕ) (place : ℕ) (before now : NetView) → node ≡ place → OnlyAt node before now → OnlyAt place before now
+at_node node place before now is h = subst (λ (k : ℕ). OnlyAt k before now) is h
+
+pub acts_only : (event : Event) (effect : Effect) (before now : NetView) (place : ℕ) → IsAt before.plan event place → Acts event effect before now → OnlyAt place before now
+acts_only (Deliver edge) effect before now place is a = elim a.delivered [
+  | inl held ↦ only_none place before now held.1.same
+  | inr brings ↦ at_node a.edge.node place before now (is a.edge a.there)
+      (let b = brings.1 in only_intake a.edge.node before now b.intake_now (ap (λ (v : NetView). v.engines) b.now_is) (ap (λ (v : NetView). v.intakes) b.now_is) (ap (λ (v : NetView). v.desks) b.now_is))
+]
+acts_only (Advance node) effect before now place is a =
+    at_node node place before now is (only_engine node before now _ (ap (λ (v : NetView). v.engines) a.now_is) (ap (λ (v : NetView). v.intakes) a.now_is) (ap (λ (v : NetView). v.desks) a.now_is))
+acts_only (Claim node) effect before now place is a = elim a [
+  | inl held ↦ only_none place before now held.1.same
+  | inr claims ↦ at_node node place before now is
+      (let c = claims.1 in only_set node before now c.engine_now c.intake_now c.desk_now (ap (λ (v : NetView). v.engines) c.now_is) (ap (λ (v : NetView). v.intakes) c.now_is) (ap (λ (v : NetView). v.desks) c.now_is))
+]
+acts_only (Perform node number) effect before now place is a = elim a.performed [
+  | inl none ↦ only_none place before now none.1.same
+  | inr performs ↦ at_node node place before now is (performed_only node number effect a.desk before now performs)
+]
+acts_only (Commit node number) effect before now place is a = at_node node place before now is (committed_only node number (shelf_at a.engine number) effect a.engine before now a.committed)
+acts_only Relax effect before now place is a = elim a [
+  | inl none ↦ only_none place before now none.1.same
+  | inr full ↦ only_limits place before now (ap (λ (v : NetView). v.engines) full.2) (ap (λ (v : NetView). v.intakes) full.2) (ap (λ (v : NetView). v.desks) full.2)
+]
+
+pub acts_only_all : (event : Event) (effect : Effect) (before now : NetView) → Acts event effect before now → (place : ℕ) → IsAt before.plan event place → OnlyAt place before now
+acts_only_all event effect before now acts = λ place is. acts_only event effect before now place is acts
+
+-- What comes of a node's next work.
+
+run_more_only : (event : Event) (events : List Event) (node : ℕ) (before now : NetView) → ((plan : Plan) → IsAt plan event node) → ((mid : NetView) → IsRun events mid now → OnlyAt node mid now)
+    → IsRun (event ∷ events) before now → OnlyAt node before now
+run_more_only event events node before now is rest r = only_then node before r.0 now (acts_only event Did before r.0 node (is before.plan) r.2) (rest r.0 r.3)
+
+claim_only : (node : ℕ) (before now : NetView) → IsRun (Claim node ∷ []) before now → OnlyAt node before now
+claim_only node before now r = run_more_only (Claim node) [] node before now (λ plan. refl) (λ mid r. only_none node mid now r) r
+
+pub comes_only : (node : ℕ) (reached : Reached) (before now : NetView) → Comes node reached before now → OnlyAt node before now
+comes_only node Nothing before now c = only_none node before now c.0
+comes_only node NotClaimed before now c = acts_only (Claim node) OutOfMemory before now node refl c
+comes_only node OnlyAnswered before now c = claim_only node before now c
+comes_only node OnlyClaimed before now c = claim_only node before now c
+comes_only node (OnlyPerformed number) before now c =
+    run_more_only (Claim node) (Perform node number ∷ []) node before now (λ plan. refl)
+    (λ mid r. run_more_only (Perform node number) [] node mid now (λ plan. refl) (λ last r. only_none node last now r) r) c
+comes_only node (OnlyCommitted number) before now c =
+    run_more_only (Claim node) (Perform node number ∷ Commit node number ∷ []) node before now (λ plan. refl)
+    (λ mid r. run_more_only (Perform node number) (Commit node number ∷ []) node mid now (λ plan. refl)
+    (λ late r. run_more_only (Commit node number) [] node late now (λ plan. refl) (λ last r. only_none node last now r) r) r) c
+
+-- What an agenda notes.
+
+pub notes_then : (a : NetView) (k : AgendaView) (b : NetView) (l : AgendaView) (c : NetView) (m : AgendaView) → Notes a k b l → Notes b l c m → Notes a k c m
+notes_then a k b l c m first second = record {
+  grows = λ place is. second.grows place (first.grows place is);
+  engines = λ place out. second.engines place out ∙ first.engines place (λ is. out (second.grows place is));
+  intakes = λ place out. second.intakes place out ∙ first.intakes place (λ is. out (second.grows place is));
+  desks = λ place out. second.desks place out ∙ first.desks place (λ is. out (second.grows place is));
+}
+
+-- a set with one more
+pub stays_in : (before now : ReadyNodes) (one place : ℕ) → IsIn now one → ChangesOnly before now one → IsIn before place → IsIn now place
+stays_in before now one place there only is = elim (cases_eq place one) [
+  | inl same ↦ subst (λ (k : ℕ). IsIn now k) (sym same) there
+  | inr other ↦ (only.others place other).1 is
+]
+
+apart_from : (now : ReadyNodes) (one place : ℕ) → IsIn now one → ¬ IsIn now place → place ≢ one
+apart_from now one place there out same = out (subst (λ (k : ℕ). IsIn now k) (sym same) there)
+
+-- the place whose parts have changed is touched
+pub notes_one : (place : ℕ) (before : NetView) (agenda : AgendaView) (now : NetView) (agenda_now : AgendaView) → OnlyAt place before now → IsIn agenda_now.touched place → ChangesOnly agenda.touched agenda_now.touched place
+    → Notes before agenda now agenda_now
+notes_one place before agenda now agenda_now only there changes = record {
+  grows = λ other is. stays_in agenda.touched agenda_now.touched place other there changes is;
+  engines = λ other out. only.engines other (apart_from agenda_now.touched place other there out);
+  intakes = λ other out. only.intakes other (apart_from agenda_now.touched place other there out);
+  desks = λ other out. only.desks other (apart_from agenda_now.touched place other there out);
+}
+
+next_apart : (place : ℕ) → place ≢ place + 1
+next_apart place same = absurd (omega (arith, same))
+
+-- limits alone have changed
+pub notes_limits : (before now : NetView) (agenda agenda_now : AgendaView) → ((place : ℕ) → OnlyAt place before now) → agenda_now.touched ≡ agenda.touched → Notes before agenda now agenda_now
+notes_limits before now agenda agenda_now only same = record {
+  grows = λ place is. subst (λ (r : ReadyNodes). IsIn r place) (sym same) is;
+  engines = λ place out. (only (place + 1)).engines place (next_apart place);
+  intakes = λ place out. (only (place + 1)).intakes place (next_apart place);
+  desks = λ place out. (only (place + 1)).desks place (next_apart place);
+}
+
+-- An agenda after steps.
+
+pub notes_same : (before now : NetView) (agenda agenda_now : AgendaView) → now ≡ before → agenda_now.touched ≡ agenda.touched → Notes before agenda now agenda_now
+notes_same before now agenda agenda_now same touched = record {
+  grows = λ place is. subst (λ (r : ReadyNodes). IsIn r place) (sym touched) is;
+  engines = λ place out. ap (λ (v : NetView). slice_get v.engines place) same;
+  intakes = λ place out. ap (λ (v : NetView). slice_get v.intakes place) same;
+  desks = λ place out. ap (λ (v : NetView). slice_get v.desks place) same;
+}
+
+-- between the two the agenda may have changed, but not in what is touched
+pub notes_after : (a : NetView) (k : AgendaView) (b : NetView) (l mid : AgendaView) (c : NetView) (m : AgendaView) → Notes a k b l → mid.touched ≡ l.touched → Notes b mid c m → Notes a k c m
+notes_after a k b l mid c m first same second = notes_then a k b mid c m (notes_then a k b l b mid first (notes_same b b l mid refl same)) second
+
+-- nothing was done
+pub notes_idle : (did : Bool) (before now : NetView) (agenda agenda_now : AgendaView) → did ≡ false → Goes did before now → agenda_now.touched ≡ agenda.touched → Notes before agenda now agenda_now
+notes_idle did before now agenda agenda_now isnt goes touched = notes_same before now agenda agenda_now (goes_false did before now isnt goes) touched
+
+-- the consumer of an edge along which something came
+pub notes_brought : (edge : ℕ) (before now : NetView) (agenda agenda_now : AgendaView) → Becomes before now → edge < length before.plan.edges
+    → ((place : ℕ) → IsAt before.plan (Deliver edge) place → OnlyAt place before now)
+    → ((e : Edge) → slice_get now.plan.edges edge ≡ Some e → IsIn agenda_now.touched e.node × ChangesOnly agenda.touched agenda_now.touched e.node) → Notes before agenda now agenda_now
+notes_brought edge before now agenda agenda_now becomes there only touched =
+    let e = found before.plan.edges edge there in
+    let is = touched e.0 (ap (λ (p : Plan). slice_get p.edges edge) (becomes_plan before now becomes) ∙ e.1) in
+    notes_one e.0.node before agenda now agenda_now (only e.0.node (λ other at. ap (λ (x : Edge). x.node) (same_Some other e.0 (sym at ∙ e.1)))) is.0 is.1
+
+pub idle_rests : (did : Bool) (event : Event) (a b : NetView) → did ≡ false → Steps did event a b → Acts event Idle b b
+idle_rests true event a b isnt s = absurd (false≢true (sym isnt))
+idle_rests false event a b isnt s = still_idle event a b (sym s.0) s.1
+
+-- The edges from a place, one behind the other.
+
+-- those before one rest, from a number on
+abbrev pub RestUpto : Plan → Option ℕ → Option ℕ → NetView → Type 0
+RestUpto plan first cursor net = (place low : ℕ) → IsFirstFrom plan low place first
+    → (reached : ℕ) × IsFirstFrom plan reached place cursor × ((number : ℕ) → low ≤ number → number < reached → LeadsFrom plan place number → Acts (Deliver number) Idle net net)
+
+pub upto_first : (plan : Plan) (first : Option ℕ) (net : NetView) → RestUpto plan first first net
+upto_first plan first net = λ place low is. (low, is, λ number from less leads. absurd (omega (arith, from, less)))
+
+pub below_or : (n m : ℕ) → (n < m) ⊎ (m ≤ n)
+below_or n m = by (nat_lt n m) refl
+  where
+    by : (b : Bool) → nat_lt n m ≡ b → (n < m) ⊎ (m ≤ n)
+    by true is = inl (grind (arith, nat_tests, is))
+    by false is = inr (grind (arith, nat_tests, is))
+
+upto_next : (plan : Plan) (first next : Option ℕ) (edge : ℕ) (net now : NetView) → RestUpto plan first (Some edge) net → ((place : ℕ) → LeadsFrom plan place edge → IsFirstFrom plan (edge + 1) place next) → now ≡ net
+    → Acts (Deliver edge) Idle now now → RestUpto plan first next now
+upto_next plan first next edge net now upto follows same rests = λ place low is.
+    (let so_far = upto place low is in
+    let here = so_far.1 in (
+      edge + 1,
+      follows place here.1,
+      λ number from less leads. elim (cases_eq number edge) [
+        | inl last ↦ subst (λ (k : ℕ). Acts (Deliver k) Idle now now) (sym last) rests
+        | inr other ↦ elim (below_or number so_far.0) [
+          | inl before ↦ still_idle (Deliver number) net now (sym same) (so_far.2 number from before leads)
+          | inr past ↦ absurd (here.2 number past (omega (arith, less, other)) leads)
+        ]
+      ],
+    ))
+
+-- one more, along which nothing went
+pub upto_more : (did moved : Bool) (plan : Plan) (first next : Option ℕ) (edge : ℕ) (net now : NetView) → (did ≡ false → RestUpto plan first (Some edge) net) → ((place : ℕ) → LeadsFrom plan place edge → IsFirstFrom plan (edge + 1) place next)
+    → Goes moved net now → (moved ≡ false → Acts (Deliver edge) Idle now now) → (did || moved) ≡ false → RestUpto plan first next now
+upto_more true moved plan first next edge net now upto follows goes rests isnt = absurd (false≢true (sym isnt))
+upto_more false true plan first next edge net now upto follows goes rests isnt = absurd (false≢true (sym isnt))
+upto_more false false plan first next edge net now upto follows goes rests isnt = upto_next plan first next edge net now (upto refl) follows goes (rests refl)
+
+-- and there is none behind the last one
+pub upto_last : (plan : Plan) (first : Option ℕ) (net : NetView) → RestUpto plan first None net → EdgesRestFrom plan first net
+upto_last plan first net upto = λ place low number is from leads.
+    (let so_far = upto place low is in
+    elim (below_or number so_far.0) [
+      | inl before ↦ so_far.2 number from before leads
+      | inr past ↦ absurd (so_far.1 number past leads)
+    ])
+
+-- the agenda alone has changed, and not in what is touched
+pub notes_more : (a : NetView) (k : AgendaView) (b : NetView) (l m : AgendaView) → Notes a k b l → m.touched ≡ l.touched → Notes a k b m
+notes_more a k b l m first same = notes_then a k b l b m first (notes_same b b l m refl same)

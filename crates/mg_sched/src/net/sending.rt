@@ -1,0 +1,201 @@
+//! How packets go on from a place of a net while it is swept.
+ghost use Rattle.std.specs.Prelude.{◌≡◌, ◌<◌, ◌≤◌, length, slice_get, slice_set, Some, IfSome, IfOk, OnOk, OnErr, true, false};
+ghost use Rattle.mg_ready.specs.Ready.{IsIn, ChangesOnly};
+ghost use Rattle.mg_sched.specs.StandsFor.{StandsForSome, IsRunning};
+ghost use Rattle.mg_calc.specs.declared.edge.Edge.{Edge};
+ghost use Rattle.mg_calc.specs.declared.event.Event.TheVariants.{Deliver as ToDeliver};
+ghost use Rattle.mg_calc.specs.declared.event.Effect.TheVariants.{Idle};
+ghost use Rattle.mg_sched.specs.Acts.{IsHeld, Acts};
+ghost use Rattle.mg_sched.specs.Sweeps.{Becomes};
+ghost use Rattle.mg_sched.specs.Heard.{Heard, HeardSome};
+ghost use Rattle.mg_sched.specs.Places.{first_edge};
+ghost use Rattle.mg_sched.specs.Code.Agendas.{IsAgendaOf};
+ghost use Rattle.mg_sched.specs.Code.Left.{Goes};
+ghost use Rattle.mg_sched.specs.Code.Quiet.{Notes, EdgesRestFrom};
+
+use super::Net;
+use crate::Hears;
+use crate::agenda::Agenda;
+use mg_calc::{Calculator, Edge, Event};
+use mg_edge::Gate;
+use std::alloc::AllocError;
+
+// Keeps the place of a consumer in mind, and puts it in where it is one of the nodes. The collector is none.
+fn put_next(agenda: &mut Agenda, consumer: u32, nodes: u32)
+    requires place { consumer ≤ length agenda.old.heads }
+    requires nodes { nodes ≤ length agenda.old.heads }
+    ensures touched { IsIn agenda.new.touched consumer }
+    ensures only { ChangesOnly agenda.old.touched agenda.new.touched consumer }
+    ensures leads { (agenda.new.heads ≡ agenda.old.heads) × (agenda.new.links ≡ agenda.old.links) × (agenda.new.starts ≡ agenda.old.starts) }
+{
+    agenda.touch(consumer);
+    if consumer < nodes {
+        agenda.put(consumer);
+    }
+}
+
+// Keeps a graph input that is throttled, which goes on with an edge then.
+fn hold_at(agenda: &mut Agenda, place: u32, edge: u32)
+    requires place { place < length agenda.old.heads }
+    requires edge { edge < length agenda.old.links }
+    ensures held { IsIn agenda.new.held place }
+    ensures ready { agenda.new.ready ≡ agenda.old.ready }
+    ensures heads { agenda.new.heads ≡ slice_set agenda.old.heads place (Some edge) }
+    ensures links { agenda.new.links ≡ agenda.old.links }
+    ensures starts { agenda.new.starts ≡ agenda.old.starts }
+    ensures touched { agenda.new.touched ≡ agenda.old.touched }
+{
+    agenda.hold(place);
+    agenda.resume_at(place, edge);
+}
+
+impl<C: Calculator> Net<C> {
+    // Brings what came at a graph input along its edges until it is throttled. It is kept then, and goes on with that edge: along those
+    // before it all has gone, since no more comes at a graph input while a net is swept. Tells whether something was brought.
+    pub(super) fn send_until_held<G: Gate, H: Hears>(
+        &mut self,
+        place: u32,
+        agenda: &mut Agenda,
+        gate: &G,
+        hearer: &mut H,
+    ) -> Result<bool, AllocError>
+        requires running { IsRunning self.old }
+        requires stands { StandsForSome self.old }
+        requires agenda { IsAgendaOf self.old.plan agenda.old }
+        requires there { place < length agenda.old.heads }
+        ensures becomes { Becomes self.old self.new }
+        ensures heard { OnOk result (Heard H.has_heard hearer.old hearer.new self.old self.new) }
+        ensures heard_some { OnErr result (HeardSome H.has_heard hearer.old hearer.new self.old) }
+        ensures goes { IfOk result (λ did. Goes did self.old self.new) }
+        ensures agenda { IsAgendaOf self.old.plan agenda.new }
+        ensures notes { OnOk result (Notes self.old agenda.old self.new agenda.new) }
+        ensures unchanged { IfOk result (λ did. did ≡ false → agenda.new.ready ≡ agenda.old.ready) }
+    {
+        let mut did = false;
+        let mut cursor = agenda.first_edge(place);
+        'edges: while let Some(edge) = cursor {
+            if self.is_held_at(edge) {
+                hold_at(agenda, place, edge);
+                return Ok(did);
+            }
+            did |= self.send_along(edge, agenda, gate, hearer)?;
+            cursor = agenda.next_edge(edge);
+        }
+        agenda.finish(place);
+        Ok(did)
+    }
+
+    // Whether the edge of a number leads from a graph input that is throttled.
+    fn is_held_at(&self, edge: u32) -> bool
+        requires there { edge < length self.now.plan.edges }
+        requires stands { StandsForSome self.now }
+        ensures held { (e : Edge) → slice_get self.now.plan.edges edge ≡ Some e → result ≡ true → IsHeld self.now e }
+        ensures not_held { (e : Edge) → slice_get self.now.plan.edges edge ≡ Some e → result ≡ false → ¬ IsHeld self.now e }
+    {
+        self.is_held(self.plan.edges.as_slice()[edge as usize])
+    }
+
+    // Brings along the edges that lead from a place what their ports haven't got, and puts in the nodes to which something came. Tells
+    // whether something did.
+    pub(super) fn send<G: Gate, H: Hears>(
+        &mut self,
+        place: u32,
+        agenda: &mut Agenda,
+        gate: &G,
+        hearer: &mut H,
+    ) -> Result<bool, AllocError>
+        requires running { IsRunning self.old }
+        requires stands { StandsForSome self.old }
+        requires agenda { IsAgendaOf self.old.plan agenda.old }
+        requires there { place < length agenda.old.heads }
+        ensures becomes { Becomes self.old self.new }
+        ensures heard { OnOk result (Heard H.has_heard hearer.old hearer.new self.old self.new) }
+        ensures heard_some { OnErr result (HeardSome H.has_heard hearer.old hearer.new self.old) }
+        ensures goes { IfOk result (λ did. Goes did self.old self.new) }
+        ensures agenda { IsAgendaOf self.old.plan agenda.new }
+        ensures notes { OnOk result (Notes self.old agenda.old self.new agenda.new) }
+    {
+        let first = agenda.first_edge(place);
+        let did = self.send_from(first, agenda, gate, hearer)?;
+        Ok(did)
+    }
+
+    // The same along an edge and those behind it that lead from the same place.
+    pub(super) fn send_from<G: Gate, H: Hears>(
+        &mut self,
+        first: Option<u32>,
+        agenda: &mut Agenda,
+        gate: &G,
+        hearer: &mut H,
+    ) -> Result<bool, AllocError>
+        requires running { IsRunning self.old }
+        requires stands { StandsForSome self.old }
+        requires agenda { IsAgendaOf self.old.plan agenda.old }
+        requires there { IfSome first (λ edge. edge < length agenda.old.links) }
+        ensures becomes { Becomes self.old self.new }
+        ensures heard { OnOk result (Heard H.has_heard hearer.old hearer.new self.old self.new) }
+        ensures heard_some { OnErr result (HeardSome H.has_heard hearer.old hearer.new self.old) }
+        ensures goes { IfOk result (λ did. Goes did self.old self.new) }
+        ensures agenda { IsAgendaOf self.old.plan agenda.new }
+        ensures notes { OnOk result (Notes self.old agenda.old self.new agenda.new) }
+        ensures unchanged { IfOk result (λ did. did ≡ false → agenda.new ≡ agenda.old) }
+        ensures rest { IfOk result (λ did. did ≡ false → EdgesRestFrom self.old.plan first self.new) }
+    {
+        let mut did = false;
+        let mut cursor = first;
+        'edges: while let Some(edge) = cursor {
+            did |= self.send_along(edge, agenda, gate, hearer)?;
+            cursor = agenda.next_edge(edge);
+        }
+        Ok(did)
+    }
+
+    // Brings along an edge what its port hasn't got, and puts in the node to which something came. Tells whether something did.
+    pub(super) fn send_along<G: Gate, H: Hears>(
+        &mut self,
+        edge: u32,
+        agenda: &mut Agenda,
+        gate: &G,
+        hearer: &mut H,
+    ) -> Result<bool, AllocError>
+        requires running { IsRunning self.old }
+        requires stands { StandsForSome self.old }
+        requires agenda { IsAgendaOf self.old.plan agenda.old }
+        requires there { edge < length self.old.plan.edges }
+        ensures becomes { Becomes self.old self.new }
+        ensures heard { OnOk result (Heard H.has_heard hearer.old hearer.new self.old self.new) }
+        ensures heard_some { OnErr result (HeardSome H.has_heard hearer.old hearer.new self.old) }
+        ensures goes { IfOk result (λ did. Goes did self.old self.new) }
+        ensures agenda { IsAgendaOf self.old.plan agenda.new }
+        ensures notes { OnOk result (Notes self.old agenda.old self.new agenda.new) }
+        ensures unchanged { IfOk result (λ did. did ≡ false → agenda.new ≡ agenda.old) }
+        ensures rest { IfOk result (λ did. did ≡ false → Acts (ToDeliver edge) Idle self.new self.new) }
+    {
+        if !self.step(Event::Deliver { edge }, gate, hearer)? {
+            return Ok(false);
+        }
+        self.put_consumer(edge, agenda);
+        Ok(true)
+    }
+
+    // Puts in the node into which an edge leads, and keeps its place in mind.
+    fn put_consumer(&self, edge: u32, agenda: &mut Agenda)
+        requires there { edge < length self.now.plan.edges }
+        requires stands { StandsForSome self.now }
+        requires agenda { IsAgendaOf self.now.plan agenda.old }
+        ensures agenda { IsAgendaOf self.now.plan agenda.new }
+        ensures touched { (e : Edge) → slice_get self.now.plan.edges edge ≡ Some e → IsIn agenda.new.touched e.node × ChangesOnly agenda.old.touched agenda.new.touched e.node }
+    {
+        let edge = self.edge_at(edge);
+        let nodes = self.node_count();
+        put_next(agenda, edge.node, nodes);
+    }
+
+    // The edge of a number.
+    fn edge_at(&self, number: u32) -> Edge
+        requires { number < length self.now.plan.edges }
+        ensures { slice_get self.now.plan.edges number ≡ Some result }
+    {
+        self.plan.edges.as_slice()[number as usize]
+    }
+}
