@@ -12,9 +12,9 @@ use Rattle.mg_calc.specs.Meaning.{faults, stalled}
 use Rattle.mg_feed.specs.Graph.{GraphInputs, inputs_of}
 use Rattle.mg_feed.specs.Ran.{EndCame, MetEnd, FailedBy}
 use Rattle.mg_feed.specs.Sent.{Sent}
-use Rattle.mg_answer.specs.Notes.{memory_note, bounds_of, notes_by}
+use Rattle.mg_answer.specs.Notes.{bounds_of, notes_by}
 use Rattle.mg_answer.specs.Report.{report_by, report_of, asked_report, open_numbers, end_bounds}
-use Rattle.mg_answer.specs.Outcomes.{TellsOf}
+use Rattle.mg_answer.specs.Outcomes.{TellsOf, told_notes, told_answer, told_failed}
 use Rattle.mg_feed.specs.declared.feed_end.FeedEnd.{FeedEnd}
 use Rattle.mg_feed.specs.declared.feed_end.FeedEnd.TheVariants.{Ended, Failed, Refused, OutOfMemory as no_lines}
 use Rattle.mg_answer.specs.Text.{output_of}
@@ -26,10 +26,7 @@ use Rattle.mg_answer.specs.Ran.{CameAs, CameTo, ReadSome, RanAll, RanShort, Took
 use Rattle.mg_answer.specs.Put.{TextView, HasPut}
 use Rattle.mg_answer.specs.Frozen.{frozen_notes, frozen_answer, WroteFrozen}
 use Rattle.mg_answer.specs.Wrote.{Meets, MetShort, WroteBy, Wrote}
-use Rattle.mg_answer.specs.Live.{live_notes, live_answer, live_failed}
 use Rattle.mg_answer.specs.Code.Answered.{WroteSome}
-use Rattle.mg_answer.specs.Code.Said.{all_notes}
-use Rattle.mg_answer.specs.declared.live_outcomes.LiveOutcomes.{LiveOutcomes}
 use Rattle.mg_answer.specs.declared.outcomes.Outcomes.{Outcomes}
 use Rattle.mg_answer.specs.Gathered.{Gathered}
 use Rattle.mg_answer.specs.declared.status.Status.{Status}
@@ -202,10 +199,12 @@ wrote-frozen telling job streams status result written noted output notes soluti
 
 -- what is said of outcomes that a job's streams tell, where these streams stalled
 said-by : (status : Status) (plan : Plan) (end : FeedEnd) (outcomes : Outcomes) (ns : List ℕ) (report : Bool) (job : Job) (streams : List (StreamPrefix Plain)) → job.plan ≡ plan
-    → TellsOf job streams outcomes → all_notes status plan end outcomes ns report ≡ notes_by status job.plan end (faults job streams) (bounds_of streams) ns ++ asked_report report (report_of job streams)
+    → TellsOf job streams outcomes → told_notes status report plan end outcomes ns ≡ notes_by status job.plan end (faults job streams) (bounds_of streams) ns ++ asked_report report (report_of job streams)
 said-by status plan end outcomes ns report job streams plan_is tells =
     let bounds : end_bounds outcomes.ends.items ≡ bounds_of streams = ap end_bounds tells.ends ∙ bounds-told streams in
-    λ i. notes_by status (sym plan_is i) end (tells.faults i) (bounds i) ns ++ asked_report report (report_by (sym plan_is i) (tells.sets i) (tells.ends i))
+    let told : told_notes status report plan end outcomes ns ≡ notes_by status job.plan end (faults job streams) (bounds_of streams) ns ++ [] ++ asked_report report (report_of job streams) =
+    λ i. notes_by status (sym plan_is i) end (tells.faults i) (bounds i) ns ++ tells.arrivals i ++ asked_report report (report_by (sym plan_is i) (tells.sets i) (tells.ends i)) in
+    told ∙ ap (λ (l : List ℕ). l ++ asked_report report (report_of job streams)) (append-nil (notes_by status job.plan end (faults job streams) (bounds_of streams) ns))
 
 -- the text was put
 sent-of : (plan : Plan) (view view' : TextView) (written : Bool) (before now : SinkTold) → ((first : SinkTold) (text : List ℕ) → HasPut first before view text → HasPut first now view' text)
@@ -221,7 +220,7 @@ pub wrote-told : (plan : Plan) (end : FeedEnd) (outcomes : Outcomes) (ns : List 
     (before now notes_before notes_now : SinkTold) → ((first : SinkTold) (text : List ℕ) → HasPut first before view text → HasPut first now view' text)
     → (view'.failed ≡ false → view'.kept ≡ []) → written ≡ not view'.failed → ns ≡ open_numbers outcomes.ends.items
     → status ≡ (if written then status_of end outcomes.faults ns else WriteFault)
-    → said ≡ all_notes status plan end outcomes ns report → bytes ≡ said → Sent noted notes_before notes_now bytes → result ≡ (if noted then status else WriteFault)
+    → said ≡ told_notes status report plan end outcomes ns → bytes ≡ said → Sent noted notes_before notes_now bytes → result ≡ (if noted then status else WriteFault)
     → (form : Form) (job : Job) (streams : List (StreamPrefix Plain)) (first : SinkTold) → job.plan ≡ plan → IsSolution job streams → TellsOf job streams outcomes
     → HasPut first before view (output_in form plan streams) → Wrote (record { form = form; report = report }) job end result (device first now) (device notes_before notes_now)
 wrote-told plan end outcomes ns report view view' status result written noted bytes said before now notes_before notes_now flush none written_is ns_is is said_is bytes_is sent result_is
@@ -241,7 +240,7 @@ pub wrote-told-frozen : (plan : Plan) (outcomes : Outcomes) (report : Bool) (vie
     (before now notes_before notes_now : SinkTold) → ((first : SinkTold) (text : List ℕ) → HasPut first before view text → HasPut first now view' text)
     → (view'.failed ≡ false → view'.kept ≡ []) → written ≡ not view'.failed
     → status ≡ (if written then status_of Ended outcomes.faults [] else WriteFault)
-    → said ≡ all_notes status plan Ended outcomes [] report → bytes ≡ said → Sent noted notes_before notes_now bytes → result ≡ (if noted then status else WriteFault)
+    → said ≡ told_notes status report plan Ended outcomes [] → bytes ≡ said → Sent noted notes_before notes_now bytes → result ≡ (if noted then status else WriteFault)
     → (form : Form) (job : Job) (streams : List (StreamPrefix Plain)) (first : SinkTold) → job.plan ≡ plan → IsSolution job streams → TellsOf job streams outcomes
     → HasPut first before view (output_in form plan streams) → WroteFrozen (record { form = form; report = report }) job result (device first now) (device notes_before notes_now)
 wrote-told-frozen plan outcomes report view view' status result written noted bytes said before now notes_before notes_now flush none written_is is said_is bytes_is sent result_is
@@ -252,27 +251,23 @@ wrote-told-frozen plan outcomes report view view' status result written noted by
     (sent-of plan view view' written before now flush none written_is form job streams first plan_is put)
     (subst (λ (l : List ℕ). Sent noted notes_before notes_now l) (bytes_is ∙ said_is ∙ said-by status plan Ended outcomes [] report job streams plan_is tells) sent) result_is
 
--- and of a run of a graph with free nodes
-pub wrote-live : (plan : Plan) (end : FeedEnd) (live : LiveOutcomes) (ns : List ℕ) (report : Bool) (view view' : TextView) (status result : Status) (written noted : Bool) (bytes said : List ℕ)
+-- and of whatever text was put
+pub wrote-so : (plan : Plan) (end : FeedEnd) (outcomes : Outcomes) (ns : List ℕ) (report : Bool) (view view' : TextView) (status result : Status) (written noted : Bool) (bytes said : List ℕ)
     (before now notes_before notes_now : SinkTold) → ((first : SinkTold) (text : List ℕ) → HasPut first before view text → HasPut first now view' text)
-    → (view'.failed ≡ false → view'.kept ≡ []) → written ≡ not view'.failed → ns ≡ open_numbers live.outcomes.ends.items
-    → status ≡ (if written then status_of end live.outcomes.faults ns else WriteFault)
-    → said ≡ live_notes status report plan end live ns → bytes ≡ said → Sent noted notes_before notes_now bytes → result ≡ (if noted then status else WriteFault)
+    → (view'.failed ≡ false → view'.kept ≡ []) → written ≡ not view'.failed → ns ≡ open_numbers outcomes.ends.items
+    → status ≡ (if written then status_of end outcomes.faults ns else WriteFault)
+    → said ≡ told_notes status report plan end outcomes ns → bytes ≡ said → Sent noted notes_before notes_now bytes → result ≡ (if noted then status else WriteFault)
     → (first : SinkTold) (whole : List ℕ) → HasPut first before view whole
-    → WroteBy result (live_answer report plan end live whole) (live_failed report plan end live) (device first now) (device notes_before notes_now)
-wrote-live plan end live ns report view view' status result written noted bytes said before now notes_before notes_now flush none written_is ns_is is said_is bytes_is sent result_is first whole put =
-    let opens = open_numbers live.outcomes.ends.items in
+    → WroteBy result (told_answer report plan end outcomes whole) (told_failed report plan end outcomes) (device first now) (device notes_before notes_now)
+wrote-so plan end outcomes ns report view view' status result written noted bytes said before now notes_before notes_now flush none written_is ns_is is said_is bytes_is sent result_is first whole put =
+    let opens = open_numbers outcomes.ends.items in
     let put_now : Sent written first now whole =
     subst (λ (b : Bool). Sent b first now whole) (sym written_is) (put-sent view'.failed first now view'.kept whole none (flush first whole put)) in
-    let told_is : status ≡ (if written then status_of end live.outcomes.faults opens else WriteFault) = is ∙ ap (λ (l : List ℕ). if written then status_of end live.outcomes.faults l else WriteFault) ns_is in
-    let said_now : bytes ≡ live_notes status report plan end live opens = bytes_is ∙ said_is ∙ ap (λ (l : List ℕ). live_notes status report plan end live l) ns_is in
-    subst (λ (s : Status). WroteBy s (live_answer report plan end live whole) (live_failed report plan end live) (device first now) (device notes_before notes_now)) (sym result_is)
-    (wrote-by end live.outcomes.faults opens (live_answer report plan end live whole) (live_failed report plan end live) status written noted (λ (s : Status). live_notes s report plan end live opens)
+    let told_is : status ≡ (if written then status_of end outcomes.faults opens else WriteFault) = is ∙ ap (λ (l : List ℕ). if written then status_of end outcomes.faults l else WriteFault) ns_is in
+    let said_now : bytes ≡ told_notes status report plan end outcomes opens = bytes_is ∙ said_is ∙ ap (λ (l : List ℕ). told_notes status report plan end outcomes l) ns_is in
+    subst (λ (s : Status). WroteBy s (told_answer report plan end outcomes whole) (told_failed report plan end outcomes) (device first now) (device notes_before notes_now)) (sym result_is)
+    (wrote-by end outcomes.faults opens (told_answer report plan end outcomes whole) (told_failed report plan end outcomes) status written noted (λ (s : Status). told_notes s report plan end outcomes opens)
     (device first now) (device notes_before notes_now) told_is refl refl refl put_now (subst (λ (l : List ℕ). Sent noted notes_before notes_now l) said_now sent))
-
--- memory ran out after the output was written
-pub wrote-front : (job : Job) (streams : List (StreamPrefix Plain)) (output : Device SinkTold) → IsSolution job streams → TookFront output (output_of job.plan streams) → WroteSome job output
-wrote-front job streams output solution front = inr (record { streams = streams; solution = solution; front = front })
 
 -- What follows --
 

@@ -35,16 +35,6 @@ part-then first before now xs ys one two = record {
   rose = subst (λ (n : ℕ). Rose n now.faults) one.steady two.rose;
 }
 
--- more text behind one of which a write failed
-part-more : (first now : SinkTold) (xs ys : List ℕ) → SentPart first now xs → SentPart first now (xs ++ ys)
-part-more first now xs ys part = record {
-  front = part.front;
-  rest = part.rest ++ ys;
-  cut = ap (λ l. l ++ ys) part.cut ∙ append_assoc part.front part.rest ys;
-  taken = part.taken;
-  rose = part.rose;
-}
-
 -- whether a write failed or not, the sink took a front
 pub front-sent : (all : Bool) (first now : SinkTold) (text : List ℕ) → Sent all first now text → TookFront (device first now) text
 front-sent true first now text sent = (text, ([], sym (append-nil text)), sent.whole)
@@ -67,12 +57,6 @@ nothing-put first names = ([], record { whole = TookAll-start first.taken; stead
 pub put-front : (failed : Bool) (first now : SinkTold) (kept text : List ℕ) → PutBy failed first now kept text → TookFront (device first now) text
 put-front true first now kept text put = (put.front, (put.rest, put.cut), put.taken)
 put-front false first now kept text put = (put.0, (kept, put.2), put.1.whole)
-
--- more text, where a write has failed
-pub put-past : (failed : Bool) (first now : SinkTold) (kept text more : List ℕ) → failed ≡ true → PutBy failed first now kept text → PutBy failed first now kept (text ++ more)
-put-past failed first now kept text more is put =
-    subst (λ (b : Bool). PutBy b first now kept (text ++ more)) (sym is)
-    (part-more first now text more (subst (λ (b : Bool). PutBy b first now kept text) is put))
 
 -- more text is kept, and then handed on or not
 put-by : (all : Bool) (first before now : SinkTold) (kept more kept' left text : List ℕ) → PutBy false first before kept text → kept' ≡ kept ++ more

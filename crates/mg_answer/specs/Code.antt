@@ -1,4 +1,3 @@
 pub mod Written
 pub mod Answered
-pub mod Said
 pub mod Adding

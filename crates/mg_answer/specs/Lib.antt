@@ -11,7 +11,6 @@ pub mod Devices
 pub mod Held
 pub mod Put
 pub mod Wrote
-pub mod Live
 pub mod Frozen
 pub mod Ran
 pub mod Gathered

@@ -106,6 +106,12 @@ abbrev pub stall_note : Plan → List ℕ → ℕ → List ℕ
 stall_note plan bounds number =
     codes "stalled: " ++ shown (name_of plan number) ++ codes " " ++ time_text (slice_index_or bounds number pre_stream) ++ codes "\n"
 
+-- Arrivals --
+
+-- the line of an arrival at a free node: the node's number, the port, and the packet's timestamp
+abbrev pub arrival_note : ℕ → ℕ → ℕ → List ℕ
+arrival_note node port at = codes "free " ++ decimal node ++ codes " " ++ decimal port ++ codes " " ++ time_text at ++ codes "\n"
+
 -- The end --
 
 -- something couldn't be written

@@ -6,26 +6,25 @@ ghost use Rattle.mg_value.specs.Prefix.{StreamPrefix};
 ghost use Rattle.mg_calc.specs.Equations.{Job, IsSolution};
 ghost use Rattle.mg_answer.specs.Told.{status_of as the_status};
 ghost use Rattle.mg_answer.specs.Answer.{Form, output_in};
-ghost use Rattle.mg_answer.specs.Outcomes.{TellsOf};
+ghost use Rattle.mg_answer.specs.Outcomes.{TellsOf, told_notes, told_answer, told_failed};
 ghost use Rattle.mg_answer.specs.Devices.{device, TookFront};
 ghost use Rattle.mg_answer.specs.Put.{HasPut};
 ghost use Rattle.mg_answer.specs.Wrote.{Wrote, WroteBy};
-ghost use Rattle.mg_answer.specs.Live.{live_answer, live_failed, live_notes};
 ghost use Rattle.mg_answer.specs.Notes.{notes_by};
 ghost use Rattle.mg_answer.specs.Report.{end_bounds};
 ghost use Rattle.mg_answer.specs.Frozen.{WroteFrozen};
-ghost use Rattle.mg_answer.specs.Code.Said.{all_notes};
 
 use crate::notes::{put_end, put_faults, put_status};
 use crate::report::put_asked;
 use crate::told::{stalled_of, status_of};
-use crate::{LiveOutcomes, Outcomes, OutputText, Run, Status};
+use crate::{Outcomes, OutputText, Run, Status};
 use mg_edge::Sink;
 use mg_feed::{FeedEnd, put_all};
 use std::alloc::AllocError;
 
 /// Ends a run whose sets are all put: writes the rest of the output text and then the notes, with the report behind them where
-/// it is asked for, and answers the status. The notes are told of how the input ended and of what came of the nodes and streams.
+/// it is asked for, and answers the status. The notes are told of how the input ended and of what came of the nodes and streams; the lines
+/// of arrivals at free nodes stand between the others and the report.
 ///
 /// Where a write of the text has failed, or that of the rest does, the notes are written all the same, and say so. Where memory runs out
 /// none is written.
@@ -49,6 +48,10 @@ pub fn conclude<K: Sink, E: Sink>(
         → HasPut first (K.told output.old) text (output_in form run.now.plan.now streams)
         → Wrote (record { form = form; report = run.now.report }) job end status (device first (K.told output.new)) (device (E.told notes.old) (E.told notes.new))) }
 
+    // Of whatever text was put, it was written with what the outcomes tell.
+    ensures told { IfOk result (λ status. (first : SinkTold) (whole : List ℕ) → HasPut first (K.told output.old) text whole
+        → WroteBy status (told_answer run.now.report run.now.plan.now end outcomes.now whole) (told_failed run.now.report run.now.plan.now end outcomes.now) (device first (K.told output.new)) (device (E.told notes.old) (E.told notes.new))) }
+
     // Memory ran out: a front of the text was taken.
     ensures front { OnErr result ((first : SinkTold) (whole : List ℕ) → HasPut first (K.told output.old) text whole
         → TookFront (device first (K.told output.new)) whole) }
@@ -57,33 +60,6 @@ pub fn conclude<K: Sink, E: Sink>(
     text.flush(output);
     let stalled = stalled_of(run.alloc, outcomes.ends.as_slice())?;
     let told = tell(run, end, outcomes, &stalled, !text.has_failed())?;
-    let noted = put_all(notes, &told.notes);
-    Ok(unless_failed(noted, told.status))
-}
-
-/// Ends a run of a graph with free nodes in the same way, once its sets are all put. The lines of arrivals stand between the other notes
-/// and the report.
-pub fn conclude_live<K: Sink, E: Sink>(
-    run: &Run<'_>,
-    end: FeedEnd,
-    live: &LiveOutcomes,
-    mut text: OutputText,
-    output: &mut K,
-    notes: &mut E,
-) -> Result<Status, AllocError>
-    requires few { length live.now.outcomes.ends.items < 2 ^ 32 }
-    requires many { length live.now.outcomes.ends.items ≡ length run.now.plan.now.streams }
-    requires sets { length live.now.outcomes.sets ≡ length run.now.plan.now.nodes }
-    requires nodes { All (λ fault. fault.node < length run.now.plan.now.nodes) live.now.outcomes.faults }
-    ensures wrote { IfOk result (λ status. (first : SinkTold) (whole : List ℕ) → HasPut first (K.told output.old) text whole
-        → WroteBy status (live_answer run.now.report run.now.plan.now end live.now whole) (live_failed run.now.report run.now.plan.now end live.now) (device first (K.told output.new)) (device (E.told notes.old) (E.told notes.new))) }
-    ensures front { OnErr result ((first : SinkTold) (whole : List ℕ) → HasPut first (K.told output.old) text whole
-        → TookFront (device first (K.told output.new)) whole) }
-    ensures unnoted { OnErr result (E.told notes.new ≡ E.told notes.old) }
-{
-    text.flush(output);
-    let stalled = stalled_of(run.alloc, live.outcomes.ends.as_slice())?;
-    let told = tell_live(run, end, live, &stalled, !text.has_failed())?;
     let noted = put_all(notes, &told.notes);
     Ok(unless_failed(noted, told.status))
 }
@@ -143,9 +119,10 @@ fn tell(
     requires sets { length outcomes.now.sets ≡ length run.now.plan.now.nodes }
     requires nodes { All (λ fault. fault.node < length run.now.plan.now.nodes) outcomes.now.faults }
     ensures status { IfOk result (λ told. told.status ≡ (if written then the_status end outcomes.now.faults stalled.now else Status.WriteFault)) }
-    ensures notes { IfOk result (λ told. told.notes.items ≡ all_notes told.status run.now.plan.now end outcomes.now stalled.now run.now.report) }
+    ensures notes { IfOk result (λ told. told.notes.items ≡ told_notes told.status run.now.report run.now.plan.now end outcomes.now stalled.now) }
 {
     let mut told = begun(run, end, outcomes, stalled, written)?;
+    told.notes.extend_from_slice(&outcomes.arrivals)?;
     put_asked(
         &mut told.notes,
         run.report,
@@ -156,35 +133,7 @@ fn tell(
     Ok(told)
 }
 
-// The same of a run of a graph with free nodes.
-fn tell_live(
-    run: &Run<'_>,
-    end: FeedEnd,
-    live: &LiveOutcomes,
-    stalled: &[u32],
-    written: bool,
-) -> Result<Told, AllocError>
-    requires few { length live.now.outcomes.ends.items < 2 ^ 32 }
-    requires numbers { All (λ number. number < length live.now.outcomes.ends.items) stalled.now }
-    requires many { length live.now.outcomes.ends.items ≡ length run.now.plan.now.streams }
-    requires sets { length live.now.outcomes.sets ≡ length run.now.plan.now.nodes }
-    requires nodes { All (λ fault. fault.node < length run.now.plan.now.nodes) live.now.outcomes.faults }
-    ensures status { IfOk result (λ told. told.status ≡ (if written then the_status end live.now.outcomes.faults stalled.now else Status.WriteFault)) }
-    ensures notes { IfOk result (λ told. told.notes.items ≡ live_notes told.status run.now.report run.now.plan.now end live.now stalled.now) }
-{
-    let mut told = begun(run, end, &live.outcomes, stalled, written)?;
-    told.notes.extend_from_slice(&live.arrivals)?;
-    put_asked(
-        &mut told.notes,
-        run.report,
-        run.plan,
-        live.outcomes.sets.as_slice(),
-        live.outcomes.ends.as_slice(),
-    )?;
-    Ok(told)
-}
-
-// The status and the notes without the report.
+// The status, and the notes without the arrivals and the report.
 fn begun(
     run: &Run<'_>,
     end: FeedEnd,

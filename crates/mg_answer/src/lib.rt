@@ -2,7 +2,7 @@
 //! functions of the plan, of the input's bytes and of the solution; how it is written, set by set and then the end; and a run
 //! that computes its answer plainly.
 //! Answers to the definitions of `specs/Text.antt`, `specs/Summary.antt`, `specs/Told.antt`, `specs/Notes.antt`, `specs/Report.antt`,
-//! `specs/Answer.antt`, `specs/Frozen.antt`, `specs/Live.antt`, `specs/Put.antt`, `specs/Wrote.antt` and `specs/Ran.antt`.
+//! `specs/Answer.antt`, `specs/Frozen.antt`, `specs/Outcomes.antt`, `specs/Put.antt`, `specs/Wrote.antt` and `specs/Ran.antt`.
 #![tactic(auto)]
 
 mod block_text;
@@ -10,7 +10,6 @@ mod concluding;
 mod devices;
 mod failing;
 pub mod laws;
-mod live_outcomes;
 mod notes;
 mod outcomes;
 mod output_summary;
@@ -29,10 +28,9 @@ mod total_lines;
 mod words;
 
 pub use block_text::{BlockText, Puts};
-pub use concluding::{conclude, conclude_frozen, conclude_live};
+pub use concluding::{conclude, conclude_frozen};
 pub use devices::Devices;
 pub use failing::{note_out_of_memory, note_write_fault};
-pub use live_outcomes::LiveOutcomes;
 pub use notes::{put_arrival, put_end};
 pub use outcomes::{Outcomes, StreamEnd};
 pub use output_summary::OutputSummary;

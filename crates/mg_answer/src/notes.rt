@@ -3,7 +3,6 @@ ghost use Rattle.std.specs.Prelude.{◌≡◌, ◌<◌, ◌++◌, All, length, s
 ghost use Rattle.std.specs.List.{flat_map};
 ghost use Rattle.mg_time.specs.Time.{pre_stream};
 ghost use Rattle.mg_answer.specs.Notes as notes;
-ghost use Rattle.mg_answer.specs.Live.{arrival_note};
 ghost use Rattle.mg_answer.specs.Report.{end_bounds};
 
 use crate::failing::{MEMORY_NOTE, WRITE_NOTE};
@@ -109,7 +108,7 @@ pub fn put_arrival(
     port: u32,
     at: Timestamp,
 ) -> Result<(), AllocError>
-    ensures { OnOk result (text.new.items ≡ text.old.items ++ arrival_note node port at) }
+    ensures { OnOk result (text.new.items ≡ text.old.items ++ notes.arrival_note node port at) }
 {
     put(text, b"free ")?;
     put_number(text, u64::from(node))?;

@@ -11,7 +11,7 @@ pub struct StreamEnd {
     pub bound: Timestamp,
 }
 
-/// What a run tells of its solution in the notes and in the report.
+/// What a run tells in the notes and in the report, by the numbers of its plan.
 #[derive(Drop)]
 pub struct Outcomes {
     /// The faults, in node order.
@@ -21,4 +21,6 @@ pub struct Outcomes {
     pub sets: BlockList<u64>,
     /// How far each stream has come.
     pub ends: Vec<StreamEnd>,
+    /// The lines of the arrivals at free nodes.
+    pub arrivals: Vec<u8>,
 }

@@ -120,6 +120,7 @@ fn answer<K: Sink, E: Sink>(
         faults: solved.faults,
         sets: solved.sets,
         ends,
+        arrivals: Vec::new(run.alloc),
     };
     let status = conclude(run, end, &outcomes, text, output, notes)?;
     Ok(status)

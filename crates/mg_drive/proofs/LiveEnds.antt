@@ -8,11 +8,12 @@ use Rattle.mg_calc.specs.declared.plan.Plan.{Plan}
 use Rattle.mg_calc.specs.declared.plan_node.PlanNode.{PlanNode}
 use Rattle.mg_calc.specs.Equations.{Job, stream_of}
 use Rattle.mg_calc.specs.Plan.{numbers}
+use Rattle.mg_free.specs.declared.node.FreeNode.{FreeNode}
 use Rattle.mg_free.specs.Core.{is_free, stream_number}
 use Rattle.mg_free.specs.Rounds.{Taken}
 use Rattle.mg_answer.specs.Report.{end_of}
 use Rattle.mg_answer.specs.declared.outcomes.Outcomes.{Outcomes}
-use Rattle.mg_drive.specs.Live.{TellsPlan, first_of, sets_by}
+use Rattle.mg_drive.specs.Live.{LiveTells, first_of, sets_by}
 
 pub sets_long : (nodes : List PlanNode) (sets arrivals : List ℕ) → length (sets_by nodes sets arrivals) ≡ length nodes
 sets_long [] sets arrivals = refl
@@ -22,6 +23,6 @@ sets_long (node ∷ nodes) sets arrivals = one (is_free node) (sets_long nodes s
     one true free core = ap suc free
     one false free core = ap suc core
 
-pub plan_ends : (whole : Plan) (job : Job) (streams : List (StreamPrefix Plain)) (takens : List Taken) (outcomes : Outcomes) → TellsPlan whole job streams takens outcomes → length outcomes.ends.items ≡ length whole.streams
-plan_ends whole job streams takens outcomes t =
+pub plan_ends : (whole : Plan) (job : Job) (streams : List (StreamPrefix Plain)) (frees : List FreeNode) (takens : List Taken) (outcomes : Outcomes) → LiveTells whole job streams frees takens outcomes → length outcomes.ends.items ≡ length whole.streams
+plan_ends whole job streams frees takens outcomes t =
     ap length t.ends ∙ length-map (numbers (length whole.streams)) (λ s. end_of (stream_of streams (stream_number whole s))) ∙ length-range_with_len 0 (length whole.streams)

@@ -22,7 +22,7 @@ use Rattle.mg_free.specs.Turns.{AreLawful, last_batch}
 use Rattle.mg_live.proofs.Following.{all_rounds, all_come}
 use Rattle.mg_answer.specs.Answer.{Form, output_in}
 use Rattle.mg_answer.specs.Devices.{Device, device, RunDevices}
-use Rattle.mg_answer.specs.Live.{live_answer, live_failed}
+use Rattle.mg_answer.specs.Outcomes.{told_answer, told_failed}
 use Rattle.mg_answer.specs.Wrote.{WroteBy}
 use Rattle.mg_answer.specs.declared.status.Status.{Status}
 use Rattle.mg_sched.specs.Views.{NetView}
@@ -118,7 +118,7 @@ live_ran {B} gives came is_due form report began live core status devices boxes 
           tells = subst (λ (fs : List FreeNode). LiveTells live.whole (core_job split (last_batch first later) l.takens) w.streams fs l.takens w.live) l.of.frees_are
               (subst (λ (j : Job). LiveTells live.whole j w.streams live.frees l.takens w.live) same (w.tells l.takens l.taken));
         };
-        wrote = subst (λ (p : Plan). WroteBy status (live_answer report live.whole end w.live (output_in form p w.streams)) (live_failed report live.whole end w.live) devices.output devices.notes) l.of.core_is w.by;
+        wrote = subst (λ (p : Plan). WroteBy status (told_answer report live.whole end w.live (output_in form p w.streams)) (told_failed report live.whole end w.live) devices.output devices.notes) l.of.core_is w.by;
         had = subst (HadIn boxes w.streams) same (had_in (job_in core inputs) w.streams boxes w.solution back had);
       };
     }

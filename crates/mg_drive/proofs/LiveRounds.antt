@@ -20,6 +20,7 @@ use Rattle.mg_feed.specs.declared.feed_end.BatchEnd.TheVariants.{More, End}
 use Rattle.mg_node.specs.Job.{LoggedJob, Solves}
 use Rattle.mg_sched.specs.Views.{NetView}
 use Rattle.mg_sched.specs.StandsFor.{StandsFor}
+use Rattle.mg_sched.specs.Extends.{for_last}
 use Rattle.mg_sched.specs.Looks.{HasFrom}
 use Rattle.mg_sched.proofs.Finding.{found}
 use Rattle.mg_sched.proofs.Solved.{solved}
@@ -38,9 +39,9 @@ use Rattle.mg_live.proofs.Following.{is_job, round_goes_on, may_all_turn}
 use Rattle.mg_drive.specs.Nets.{HasRested, AreThere, AreRead}
 use Rattle.mg_drive.specs.Batches.{Giving, Coming, Due, InputsGoOn, GoesOn, logged}
 use Rattle.mg_drive.specs.Code.Live.{AreRested, LiveView, LiveGives, EndsLive, wanted_by, rounds_left}
-use Rattle.mg_drive.proofs.Jobs.{valid_plan}
+use Rattle.mg_drive.proofs.Jobs.{valid_plan, plan_stood}
 use Rattle.mg_drive.proofs.Looking.{at_most_laid}
-use Rattle.mg_drive.proofs.Piecewise.{Piecewise, both, nothing_comes, pieces_come}
+use Rattle.mg_drive.proofs.Piecewise.{Piecewise, as_many_pieces, both, nothing_comes, pieces_come}
 use Rattle.mg_drive.proofs.LiveBatches.{beside, core_goes_on}
 use Rattle.mg_drive.proofs.LiveWants.{later, there_at_ports, all_are_there, all_are_read}
 
@@ -264,12 +265,12 @@ newest_fits : (plan : Plan) (inputs : Inputs) (earlier : List Inputs) → HaveCo
 newest_fits plan inputs [] h = h
 newest_fits plan inputs (before ∷ earlier) h = h.0
 
-pub live_round : {B : Type 0} (gives : Giving B) (came : Coming B) (is_due : Due B) (began : B) (live : LiveView B) (core : Plan) (first source : SourceTold) (last : BatchEnd) (so_far more : Inputs) (net : NetView) (takers : List Taker)
-    (still : IsStill gives came is_due began live core first source last so_far net) → Did true still.given.takens (turns_of still.streams live.frees still.given.takens) → HaveTaken live.frees (turns_of still.streams live.frees still.given.takens) takers
+pub live_round : {B : Type 0} (gives : Giving B) (came : Coming B) (is_due : Due B) (began : B) (live : LiveView B) (core : Plan) (first source : SourceTold) (last : BatchEnd) (so_far : Inputs) (pieces : List (StreamPrefix Plain)) (net : NetView) (takers : List Taker) (boxes : List CalculatorTold) → StandsFor (logged core so_far boxes) net
+    → (still : IsStill gives came is_due began live core first source last so_far net) → Did true still.given.takens (turns_of still.streams live.frees still.given.takens) → HaveTaken live.frees (turns_of still.streams live.frees still.given.takens) takers
     → handed_of takers ≡ map (λ s. length s.packets) (outputs_so_far live.frees (turns_of still.streams live.frees still.given.takens))
-    → more.streams ≡ replicate (length live.whole.inputs) empty_prefix ++ pieces_behind (handed_of live.takers) (outputs_so_far live.frees (turns_of still.streams live.frees still.given.takens))
-    → GoesOn (LiveGives gives came is_due began (record live { rested = false; takers = takers }) core first source More) core so_far more
-live_round {B} gives came is_due began live core first source last so_far more net takers still did taken handed streams =
+    → pieces ≡ pieces_behind (handed_of live.takers) (outputs_so_far live.frees (turns_of still.streams live.frees still.given.takens))
+    → GoesOn (LiveGives gives came is_due began (record live { rested = false; takers = takers }) core first source More) core so_far (for_last (length net.plan.inputs) pieces)
+live_round {B} gives came is_due began live core first source last so_far pieces net takers boxes stands still did taken handed is =
     let l = still.given in
     let split = split_of live.whole in
     let frees_are = l.of.frees_are in
@@ -282,9 +283,19 @@ live_round {B} gives came is_due began live core first source last so_far more n
     let own : Piecewise l.base.streams (replicate (length live.whole.inputs) empty_prefix) l.base.streams =
     subst (λ (n : ℕ). Piecewise l.base.streams (replicate n empty_prefix) l.base.streams) fits.streams (nothing_comes l.base.streams (beside l.base.streams (recursion_from_All IsPrefix l.base.streams fits.prefixes))) in
     let free_pieces : Piecewise outs (pieces_behind (map (λ (s : StreamPrefix Plain). length s.packets) outs) outs_now) outs_now = pieces_come outs outs_now (extends_behind l.base.streams outs outs_now on.extended) in
+    let pieces_are : pieces ≡ pieces_behind (map (λ (s : StreamPrefix Plain). length s.packets) outs) outs_now =
+    is ∙ ap (λ (ns : List ℕ). pieces_behind ns (outputs_so_far live.frees after)) l.handed
+    ∙ ap (λ (fs : List FreeNode). pieces_behind (map (λ (s : StreamPrefix Plain). length s.packets) (outputs_so_far fs l.takens)) (outputs_so_far fs after)) frees_are in
+    let job = logged core so_far boxes in
+    let many : length so_far.streams ≡ length core.inputs = (valid_plan job net stands).inputs.streams in
+    let there : length net.plan.inputs ≡ length core.inputs = ap (λ (p : Plan). length p.inputs) (plan_stood job net stands) in
+    let sum : length so_far.streams ≡ length l.base.streams + length outs = ap (λ (i : Inputs). length i.streams) l.inputs_are ∙ length-append l.base.streams outs in
+    let count : length pieces ≡ length outs = ap length pieces_are ∙ as_many_pieces outs (pieces_behind (map (λ (s : StreamPrefix Plain). length s.packets) outs) outs_now) outs_now free_pieces in
+    let base : length l.base.streams ≡ length live.whole.inputs = fits.streams in
+    let left : length net.plan.inputs - length pieces ≡ length live.whole.inputs = omega (arith, many, there, sum, count, base) in
+    let more = for_last (length net.plan.inputs) pieces in
     let are : more.streams ≡ replicate (length live.whole.inputs) empty_prefix ++ pieces_behind (map (λ (s : StreamPrefix Plain). length s.packets) outs) outs_now =
-    streams ∙ ap (λ (ns : List ℕ). replicate (length live.whole.inputs) empty_prefix ++ pieces_behind ns (outputs_so_far live.frees after)) l.handed
-    ∙ ap (λ (fs : List FreeNode). replicate (length live.whole.inputs) empty_prefix ++ pieces_behind (map (λ (s : StreamPrefix Plain). length s.packets) (outputs_so_far fs l.takens)) (outputs_so_far fs after)) frees_are in
+    ap (λ (n : ℕ). replicate n empty_prefix ++ pieces) left ∙ ap (λ (ps : List (StreamPrefix Plain)). replicate (length live.whole.inputs) empty_prefix ++ ps) pieces_are in
     let all : InputsGoOn split.core (core_inputs split l.base l.takens) more (core_inputs split l.base after) =
     core_goes_on split.core (core_inputs split l.base l.takens) more (core_inputs split l.base after) on.is_job on.sides on.extended
     (subst (λ (ms : List (StreamPrefix Plain)). Piecewise (l.base.streams ++ outs) ms (l.base.streams ++ outs_now)) (sym are)
@@ -332,13 +343,11 @@ same_frees_read net frees now takers same read = subst (λ (fs : List FreeNode).
 pub same_frees_taken : (frees now : List FreeNode) (takens : List Taken) (takers : List Taker) → now ≡ frees → HaveTaken frees takens takers → HaveTaken now takens takers
 same_frees_taken frees now takens takers same h = subst (λ (fs : List FreeNode). HaveTaken fs takens takers) (sym same) h
 
--- what was handed on, by the numbers of the plan's own inputs and the nodes as they were
-pub pieces_as : (more : List (StreamPrefix Plain)) (own long : ℕ) (handed was : List ℕ) (frees now : List FreeNode) (takens : List Taken) → more ≡ replicate own empty_prefix ++ pieces_behind handed (outputs_so_far now takens) → own ≡ long → handed ≡ was → now ≡ frees
-    → more ≡ replicate long empty_prefix ++ pieces_behind was (outputs_so_far frees takens)
-pieces_as more own long handed was frees now takens is one two three =
-    is ∙ ap (λ (n : ℕ). replicate n empty_prefix ++ pieces_behind handed (outputs_so_far now takens)) one
-    ∙ ap (λ (ns : List ℕ). replicate long empty_prefix ++ pieces_behind ns (outputs_so_far now takens)) two
-    ∙ ap (λ (fs : List FreeNode). replicate long empty_prefix ++ pieces_behind was (outputs_so_far fs takens)) three
+-- what was handed on, by the nodes as they were
+pub pieces_as : (pieces : List (StreamPrefix Plain)) (handed was : List ℕ) (frees now : List FreeNode) (takens : List Taken) → pieces ≡ pieces_behind handed (outputs_so_far now takens) → handed ≡ was → now ≡ frees
+    → pieces ≡ pieces_behind was (outputs_so_far frees takens)
+pieces_as pieces handed was frees now takens is one two =
+    is ∙ ap (λ (ns : List ℕ). pieces_behind ns (outputs_so_far now takens)) one ∙ ap (λ (fs : List FreeNode). pieces_behind was (outputs_so_far fs takens)) two
 
 pub handed_as : (handed : List ℕ) (frees now : List FreeNode) (takens : List Taken) → handed ≡ map (λ (s : StreamPrefix Plain). length s.packets) (outputs_so_far now takens) → now ≡ frees → handed ≡ map (λ (s : StreamPrefix Plain). length s.packets) (outputs_so_far frees takens)
 handed_as handed frees now takens is same = is ∙ ap (λ (fs : List FreeNode). map (λ (s : StreamPrefix Plain). length s.packets) (outputs_so_far fs takens)) same

@@ -23,7 +23,7 @@ use Rattle.mg_live.specs.declared.arrived.Arrived.{Arrived}
 use Rattle.mg_live.specs.declared.taker.Taker.{Taker}
 use Rattle.mg_live.specs.Takes.{HaveTaken, told}
 use Rattle.mg_sched.proofs.GivenBack.{drop_here}
-use Rattle.mg_answer.specs.Live.{arrival_note}
+use Rattle.mg_answer.specs.Notes.{arrival_note}
 use Rattle.mg_drive.specs.Live.{first_of, fault_in, sets_by, lines_at, arrivals_text}
 
 -- The lines of arrivals --

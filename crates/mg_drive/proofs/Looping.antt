@@ -21,7 +21,7 @@ use Rattle.mg_sched.specs.GivesBack.{StoodFor}
 use Rattle.mg_sched.specs.Taking.{taken_out, settled_outputs, HasAllOutputs, LeavesNodes}
 use Rattle.mg_sched.proofs.Becoming.{becomes_plan, becomes_spare}
 use Rattle.mg_sched.proofs.OutputsTaken.{all_come_at_rest}
-use Rattle.mg_sched.specs.Extends.{GoesOnWith, MayGoOnWith, Extends}
+use Rattle.mg_sched.specs.Extends.{GoesOnWith, MayGoOnWith, Extends, for_last}
 use Rattle.mg_drive.specs.Nets.{Keeps, Wanted, AreRead}
 use Rattle.mg_drive.specs.Batches.{Due, IsMore, IsAsGiven, SomeGiven, GoesOnward}
 use Rattle.mg_drive.specs.declared.batches.Onward.{Onward}
@@ -124,18 +124,6 @@ still_under_way {B} {T} gives has_told start end source sink batches telling net
   is_told = told_same has_told (job_with start u.inputs) start.sink sink (taken_out net) (taken_out now) telling same u.is_told;
 }
 
--- and where more was told
-abbrev pub more_told : {B T : Type 0} (gives : Giving B) (has_told : Telling T) (start : Start B) (end : BatchEnd) (source : SourceTold) (sink later : SinkTold) (batches : B) (telling telling_now : T) (net now : NetView)
-    → ((job : LoggedJob) → StandsFor job net → StandsFor job now)
-    → ((job : LoggedJob) (first : SinkTold) → StandsFor job net → IsTold has_told job.job first sink (taken_out net) telling → IsTold has_told job.job first later (taken_out now) telling_now)
-    → IsUnderWay gives has_told start end source sink batches telling net → IsUnderWay gives has_told start end source later batches telling_now now
-more_told {B} {T} gives has_told start end source sink later batches telling telling_now net now keeps tells u = record {
-  inputs = u.inputs;
-  given = u.given;
-  stands = keeps (job_with start u.inputs) u.stands;
-  is_told = tells (job_with start u.inputs) start.sink u.stands u.is_told;
-}
-
 -- a run whose net has come to rest, with all that was given
 abbrev pub as_given : {B T : Type 0} (gives : Giving B) (has_told : Telling T) (start : Start B) (last : BatchEnd) (source : SourceTold) (sink : SinkTold) (batches : B) (telling : T) (net now : NetView)
     → ((job : LoggedJob) → StandsFor job net → StandsFor job now) → ((job : LoggedJob) → StandsFor job net → HasRested job now × IsAllTaken job now) → (u : IsUnderWay gives has_told start last source sink batches telling net)
@@ -166,37 +154,37 @@ Onwards {B} gives is_due wants last source batches batches_now now onward =
     (began : B) (plan : Plan) (first source_is : SourceTold) (so_far : Inputs) → IsAsGiven gives began plan first source_is last so_far now batches → GoesOnward gives is_due wants began plan first source_is last so_far now batches_now onward
 
 -- by further input that comes before the next batch
-pub round_may : {B T : Type 0} (gives : Giving B) (is_due : Due B) (wants : B → List Wanted) (has_told : Telling T) (start : Start B) (last : BatchEnd) (source : SourceTold) (sink : SinkTold) (batches batches_now : B) (telling : T) (net now : NetView) (onward : Onward) (more : Inputs) → onward ≡ Round more
+pub round_may : {B T : Type 0} (gives : Giving B) (is_due : Due B) (wants : B → List Wanted) (has_told : Telling T) (start : Start B) (last : BatchEnd) (source : SourceTold) (sink : SinkTold) (batches batches_now : B) (telling : T) (net now : NetView) (onward : Onward) (pieces : List (StreamPrefix Plain)) → onward ≡ Round pieces
     → ((job : LoggedJob) → StandsFor job net → StandsFor job now) → ((job : LoggedJob) → StandsFor job net → HasRested job now × IsAllTaken job now)
-    → Onwards gives is_due wants last source batches batches_now now onward → IsUnderWay gives has_told start last source sink batches telling net → MayGoOnWith more now
-round_may {B} {T} gives is_due wants has_told start last source sink batches batches_now telling net now onward more is keeps rests on u =
+    → Onwards gives is_due wants last source batches batches_now now onward → IsUnderWay gives has_told start last source sink batches telling net → MayGoOnWith (for_last (length now.plan.inputs) pieces) now
+round_may {B} {T} gives is_due wants has_told start last source sink batches batches_now telling net now onward pieces is keeps rests on u =
     let given = as_given gives has_told start last source sink batches telling net now keeps rests u in
     let g = subst (λ (o : Onward). GoesOnward gives is_due wants start.batches start.plan start.source source last u.inputs now batches_now o) is (on start.batches start.plan start.source source u.inputs given) in
     record {
       first = job_with start u.inputs;
       later = job_with start g.1.all;
       stands = given.stands;
-      goes_on = job_goes_on start.plan u.inputs more g.1.all start.boxes given.valid g.1.goes_on;
+      goes_on = job_goes_on start.plan u.inputs (for_last (length now.plan.inputs) pieces) g.1.all start.boxes given.valid g.1.goes_on;
     }
 
-pub round_is_more : {B T : Type 0} (gives : Giving B) (is_due : Due B) (wants : B → List Wanted) (has_told : Telling T) (start : Start B) (last : BatchEnd) (source : SourceTold) (sink : SinkTold) (batches batches_now : B) (telling : T) (net now : NetView) (onward : Onward) (more : Inputs) → onward ≡ Round more
+pub round_is_more : {B T : Type 0} (gives : Giving B) (is_due : Due B) (wants : B → List Wanted) (has_told : Telling T) (start : Start B) (last : BatchEnd) (source : SourceTold) (sink : SinkTold) (batches batches_now : B) (telling : T) (net now : NetView) (onward : Onward) (pieces : List (StreamPrefix Plain)) → onward ≡ Round pieces
     → ((job : LoggedJob) → StandsFor job net → StandsFor job now) → ((job : LoggedJob) → StandsFor job net → HasRested job now × IsAllTaken job now)
     → Onwards gives is_due wants last source batches batches_now now onward → IsUnderWay gives has_told start last source sink batches telling net → last ≡ More
-round_is_more {B} {T} gives is_due wants has_told start last source sink batches batches_now telling net now onward more is keeps rests on u =
+round_is_more {B} {T} gives is_due wants has_told start last source sink batches batches_now telling net now onward pieces is keeps rests on u =
     (subst (λ (o : Onward). GoesOnward gives is_due wants start.batches start.plan start.source source last u.inputs now batches_now o) is
     (on start.batches start.plan start.source source u.inputs (as_given gives has_told start last source sink batches telling net now keeps rests u))).0
 
-pub round_goes_on : {B T : Type 0} (gives : Giving B) (is_due : Due B) (wants : B → List Wanted) (has_told : Telling T) (start : Start B) (last : BatchEnd) (source : SourceTold) (sink later : SinkTold) (batches batches_now : B) (telling telling_now : T) (net now after : NetView) (onward : Onward) (more : Inputs) → onward ≡ Round more
+pub round_goes_on : {B T : Type 0} (gives : Giving B) (is_due : Due B) (wants : B → List Wanted) (has_told : Telling T) (start : Start B) (last : BatchEnd) (source : SourceTold) (sink later : SinkTold) (batches batches_now : B) (telling telling_now : T) (net now after : NetView) (onward : Onward) (pieces : List (StreamPrefix Plain)) → onward ≡ Round pieces
     → ((job : LoggedJob) → StandsFor job net → StandsFor job now)
     → ((job : LoggedJob) (first : SinkTold) → StandsFor job net → IsTold has_told job.job first sink (taken_out net) telling → IsTold has_told job.job first later (taken_out now) telling_now)
     → ((job : LoggedJob) → StandsFor job net → HasRested job now × IsAllTaken job now)
     → Onwards gives is_due wants last source batches batches_now now onward
-    → ((first later : LoggedJob) → GoesOnWith more first later → StandsFor first now → StandsFor later after) → taken_out after ≡ taken_out now
+    → ((first later : LoggedJob) → GoesOnWith (for_last (length now.plan.inputs) pieces) first later → StandsFor first now → StandsFor later after) → taken_out after ≡ taken_out now
     → IsUnderWay gives has_told start last source sink batches telling net → IsUnderWay gives has_told start last source later batches_now telling_now after
-round_goes_on {B} {T} gives is_due wants has_told start last source sink later batches batches_now telling telling_now net now after onward more is keeps tells rests on extends same u =
+round_goes_on {B} {T} gives is_due wants has_told start last source sink later batches batches_now telling telling_now net now after onward pieces is keeps tells rests on extends same u =
     let given = as_given gives has_told start last source sink batches telling net now keeps rests u in
     let g = subst (λ (o : Onward). GoesOnward gives is_due wants start.batches start.plan start.source source last u.inputs now batches_now o) is (on start.batches start.plan start.source source u.inputs given) in
-    let goes = job_goes_on start.plan u.inputs more g.1.all start.boxes given.valid g.1.goes_on in
+    let goes = job_goes_on start.plan u.inputs (for_last (length now.plan.inputs) pieces) g.1.all start.boxes given.valid g.1.goes_on in
     record {
       inputs = g.1.all;
       given = subst (λ (e : BatchEnd). gives start.batches batches_now start.plan start.source source e g.1.all) (sym g.0) g.1.given;

@@ -1,12 +1,10 @@
 -- A plan of no node is valid, and there is a job of it.
 use Rattle.std.proofs.Common.{◌≡◌, ◌≢◌, ◌<◌, ℕ, [], true, false, All, AllPairs, refl, arith}
 use Rattle.std.proofs.lemmas.List.Elements.{All-from_recursion}
-use Rattle.mg_value.specs.Prefix.{IsPrefix}
 use Rattle.mg_calc.specs.Shape.{ParametersFit, IsServed, IsShapeOf}
 use Rattle.mg_calc.specs.Plan.{IsValid, AreInRange, HasNumbers, FlightFits, MayHavePolicy, HasEachOnce, LeadsForward, EndsAtLoop}
-use Rattle.mg_calc.specs.Equations.{IsJob}
 use Rattle.mg_sched.specs.Made.{BoxesFit}
-use Rattle.mg_drive.specs.Code.Nothing.{no_plan, no_inputs}
+use Rattle.mg_drive.specs.Code.Nothing.{no_plan}
 
 all : {X : Type 0} (P : X → Type 0) → All P []
 all P = All-from_recursion P [] tt
@@ -47,12 +45,6 @@ valid = record {
   forward = all (λ e. e.back ≡ false → LeadsForward no_plan e);
   back = all (λ e. e.back ≡ true → EndsAtLoop no_plan e);
   laws = all (λ node. IsServed node.law);
-}
-
-pub no_job : IsJob (record { plan = no_plan; inputs = no_inputs })
-no_job = record {
-  plan = valid;
-  inputs = record { streams = refl; prefixes = all IsPrefix; sides = refl };
 }
 
 pub none_fit : BoxesFit no_plan []

@@ -1,5 +1,6 @@
 -- What a piece of packets that are made gives: it goes on from the pieces before.
 use Rattle.std.proofs.Common.{inl, inr, ◌≡◌, ◌≤◌, ◌<◌, ◌+◌, ◌==◌, ◌^◌, ℕ, List, [], ◌∷◌, length, map, min, Bool, true, false, slice_index_or, refl, sym, ap, ◌∙◌, subst, arith}
+use Rattle.std.proofs.lemmas.Bool.{eqb-false}
 use Rattle.std.proofs.lemmas.Bool.Decides.{eqb_tells}
 use Rattle.mg_value.specs.Payload.{Plain}
 use Rattle.mg_value.specs.Prefix.{StreamPrefix, empty_prefix}
@@ -58,13 +59,25 @@ first_made plan number old new end inputs valid fresh piece handed_on is =
       fits = fits_now plan number new (new.made == number) valid handed_on fresh.few;
     })
 
-pub first_made_came : (plan : Plan) (number : ℕ) (old new : Making) (end : BatchEnd) (inputs : Inputs) → IsValidWithFree plan → AreToCome plan number old
-    → IsPiece (inputs_of plan) old.made new.made (new.made == number) inputs → HasHandedOn (inputs_of plan) number new → end ≡ end_of inputs.ended
-    → IsFirst (λ end inputs. WereMade plan number new end inputs × HaveComeInPieces plan number new end (inputs ∷ [])) plan end inputs
-first_made_came plan number old new end inputs valid fresh piece handed_on is =
+pub first_made_came : (plan : Plan) (number most : ℕ) (old new : Making) (end : BatchEnd) (inputs : Inputs) → IsValidWithFree plan → AreToCome plan number old
+    → IsPiece (inputs_of plan) old.made new.made (new.made == number) inputs → HasHandedOn (inputs_of plan) number new → new.made ≡ min (old.made + most) old.number → end ≡ end_of inputs.ended
+    → IsFirst (λ end inputs. WereMade plan number new end inputs × HaveComeInPieces plan number most most new end (inputs ∷ [])) plan end inputs
+first_made_came plan number most old new end inputs valid fresh piece handed_on further is =
     let first = first_made plan number old new end inputs valid fresh piece handed_on is in
+    let none = fresh.none in
+    let all = fresh.handed_on.number_is in
     record {
-      given = (first.given, record { inputs = inputs; given = first.given; earlier = []; history_is = refl });
+      given = (
+        first.given,
+        record {
+          inputs = inputs;
+          given = first.given;
+          earlier = [];
+          history_is = refl;
+          most_is = refl;
+          at_once = λ le. (refl, omega (arith, further, none, all, le));
+        },
+      );
       fits = first.fits;
     }
 
@@ -106,10 +119,10 @@ more_made plan number old new end inputs so_far valid was piece handed_on le is 
 same_first : (a b : Inputs) (xs ys : List Inputs) → a ∷ xs ≡ b ∷ ys → a ≡ b
 same_first a b xs ys same = ap (λ (l : List Inputs). slice_index_or l 0 a) same
 
-pub more_made_came : (plan : Plan) (number : ℕ) (old new : Making) (end : BatchEnd) (inputs so_far : Inputs) (earlier : List Inputs) → IsValidWithFree plan → HaveComeInPieces plan number old More (so_far ∷ earlier)
+pub more_made_came : (plan : Plan) (number most now : ℕ) (old new : Making) (end : BatchEnd) (inputs so_far : Inputs) (earlier : List Inputs) → IsValidWithFree plan → HaveComeInPieces plan number most now old More (so_far ∷ earlier)
     → IsPiece (inputs_of plan) old.made new.made (new.made == number) inputs → HasHandedOn (inputs_of plan) number new → old.made ≤ new.made → end ≡ end_of inputs.ended
-    → GoesOn (λ all. WereMade plan number new end all × HaveComeInPieces plan number new end (all ∷ so_far ∷ earlier)) plan so_far inputs
-more_made_came plan number old new end inputs so_far earlier valid came piece handed_on le is =
+    → GoesOn (λ all. WereMade plan number new end all × HaveComeInPieces plan number most now new end (all ∷ so_far ∷ earlier)) plan so_far inputs
+more_made_came plan number most now old new end inputs so_far earlier valid came piece handed_on le is =
     let graph = inputs_of plan in
     let then : List Inputs = map (λ made. made_inputs graph made false) came.earlier in
     let same : so_far ≡ came.inputs = same_first so_far came.inputs earlier then came.history_is in
@@ -124,6 +137,8 @@ more_made_came plan number old new end inputs so_far earlier valid came piece ha
           given = on.given;
           earlier = old.made ∷ came.earlier;
           history_is = ap (λ (l : List Inputs). on.all ∷ l) (came.history_is ∙ ap (λ (i : Inputs). i ∷ then) (so_far_made plan number old came.inputs came.given));
+          most_is = came.most_is;
+          at_once = λ le. absurd (eqb-false old.made number (not_last (old.made == number) came.given.end_is) (came.at_once le).1);
         },
       );
       goes_on = on.goes_on;
@@ -153,3 +168,6 @@ are_to_come plan number m fresh = subst (λ n. AreToCome plan n m) (sym fresh.ha
 -- what was given since is of so many
 pub of_number : (plan : Plan) (number : ℕ) (began m : Making) (end : BatchEnd) (inputs : Inputs) → AreToCome plan number began → WereMade plan began.number m end inputs → WereMade plan number m end inputs
 of_number plan number began m end inputs fresh was = subst (λ n. WereMade plan n m end inputs) fresh.handed_on.number_is was
+
+pub of_number_came : (plan : Plan) (number most now : ℕ) (began m : Making) (end : BatchEnd) (history : List Inputs) → AreToCome plan number began → HaveComeInPieces plan began.number most now m end history → HaveComeInPieces plan number most now m end history
+of_number_came plan number most now began m end history fresh came = subst (λ n. HaveComeInPieces plan n most now m end history) fresh.handed_on.number_is came

@@ -1,5 +1,5 @@
 -- What a run over packets that are made piece by piece came to.
-use Rattle.std.proofs.Common.{◌≡◌, ◌⊎◌, ◌==◌, inr, ℕ, List, Bool, true, false, [], refl, sym, ap, ◌∙◌, subst, eqb-true}
+use Rattle.std.proofs.Common.{◌≡◌, ◌⊎◌, ◌==◌, inr, ℕ, List, Bool, true, false, [], refl, sym, ap, ◌∙◌, subst, eqb-true, eq-eqb}
 use Rattle.mg_edge.specs.Edge.{SinkTold}
 use Rattle.mg_value.specs.Payload.{Plain}
 use Rattle.mg_value.specs.Prefix.{StreamPrefix}
@@ -46,11 +46,16 @@ last_piece true end is = (refl, cc)
 last_piece false end is = absurd cc
 
 -- all that was given then is all that is made
-all_made : (plan : Plan) (number : ℕ) (m : Making) (end : FeedEnd) (inputs : Inputs) → WereMade plan number m (End end) inputs → (inputs ≡ generated_inputs (inputs_of plan) number) × (end ≡ Ended)
+pub all_made : (plan : Plan) (number : ℕ) (m : Making) (end : FeedEnd) (inputs : Inputs) → WereMade plan number m (End end) inputs → (inputs ≡ generated_inputs (inputs_of plan) number) × (end ≡ Ended)
 all_made plan number m end inputs was =
     let last = last_piece (m.made == number) end was.end_is in
     let all : m.made ≡ number = eqb-true m.made number last.0 in
     (was.inputs_are ∙ ap (made_inputs (inputs_of plan) m.made) last.0 ∙ ap (λ n. made_inputs (inputs_of plan) n true) all, last.1)
+
+-- and so it is once all are made
+pub whole_made : (plan : Plan) (number : ℕ) (m : Making) (end : BatchEnd) (inputs : Inputs) → WereMade plan number m end inputs → m.made ≡ number → inputs ≡ generated_inputs (inputs_of plan) number
+whole_made plan number m end inputs was all =
+    was.inputs_are ∙ ap (made_inputs (inputs_of plan) m.made) (eq-eqb m.made number all) ∙ ap (λ n. made_inputs (inputs_of plan) n true) all
 
 -- they were run
 pub pieces_ran : (report : Bool) (plan : Plan) (number : ℕ) (m : Making) (output notes : Device SinkTold) (boxes : Device (List CalculatorTold)) (status : Status) (end : FeedEnd) (inputs : Inputs) → WereMade plan number m (End end) inputs

@@ -43,6 +43,7 @@ tells_at job net streams outcomes h solves tells =
       sets = tells.sets ∙ ap (λ (r : Report). r.sets) same ∙ rests_with_sets job h.rested streams h.stands h.running h.rests solves;
       ends = tells.ends ∙ ap (λ (r : Report). map told_end r.streams) same
           ∙ ap (map told_end) (rests_with_ends job h.rested streams h.stands h.running h.rests solves) ∙ told_ends streams;
+      arrivals = tells.arrivals;
     }
 
 -- there is an end for each stream of the plan, and a count for each node; and the faults are of its nodes

@@ -16,6 +16,7 @@ use Rattle.mg_node.specs.Job.{LoggedJob}
 use Rattle.mg_node.specs.Extending.{joined}
 use Rattle.mg_sched.specs.Views.{NetView}
 use Rattle.mg_sched.specs.StandsFor.{StandsFor}
+use Rattle.mg_sched.specs.Extends.{for_last}
 use Rattle.mg_answer.specs.Answer.{Form, output_in}
 use Rattle.mg_answer.specs.Outcomes.{TellsOf}
 use Rattle.mg_answer.specs.Put.{TextView, HasPut}
@@ -95,15 +96,16 @@ pub record NextIsDue {B : Type 0} (gives : Giving B) (is_due : Due B) (wants : B
   pub due : is_due now plan so_far
   pub read : AreRead (wants now) net
 
--- How a run goes on: something comes before the next batch; or that is due; or the input ended so, and all of it was given.
+-- How a run goes on: something comes to the last graph inputs before the next batch; or that is due; or the input ended so, and all of it was given.
 abbrev pub GoesOnward : {B : Type 0} → Giving B → Due B → (B → List Wanted) → B → Plan → SourceTold → SourceTold → BatchEnd → Inputs → NetView → B → Onward → Type 0
-GoesOnward gives is_due wants began plan first source last so_far net now (Round more) = (last ≡ More) × GoesOn (gives began now plan first source More) plan so_far more
+GoesOnward gives is_due wants began plan first source last so_far net now (Round pieces) =
+    (last ≡ More) × GoesOn (gives began now plan first source More) plan so_far (for_last (length net.plan.inputs) pieces)
 GoesOnward gives is_due wants began plan first source last so_far net now Next = NextIsDue gives is_due wants began plan first source last so_far net now
 GoesOnward gives is_due wants began plan first source last so_far net now (Over end) = gives began now plan first source (End end) so_far
 
 -- the bound on the batches and rounds that may still come: it falls with each round, and else it stays
 abbrev pub RoundLeaves : Onward → ℕ → ℕ → Type 0
-RoundLeaves (Round more) before now = now < before
+RoundLeaves (Round pieces) before now = now < before
 RoundLeaves Next before now = now ≡ before
 RoundLeaves (Over end) before now = now ≡ before
 

@@ -2,7 +2,6 @@
 pub mod Running
 pub mod Lines
 pub mod Ending
-pub mod Packets
 pub mod InPieces
 pub mod Tracing
 pub mod Nothing

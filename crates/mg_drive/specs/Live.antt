@@ -12,9 +12,8 @@ use Rattle.mg_calc.specs.Meaning.{faults, counts}
 use Rattle.mg_free.specs.declared.node.FreeNode.{FreeNode}
 use Rattle.mg_free.specs.Core.{split_of, is_free, stream_number}
 use Rattle.mg_free.specs.Rounds.{Taken}
-use Rattle.mg_answer.specs.Live.{arrival_note}
+use Rattle.mg_answer.specs.Notes.{arrival_note}
 use Rattle.mg_answer.specs.Report.{end_of}
-use Rattle.mg_answer.specs.declared.live_outcomes.LiveOutcomes.{LiveOutcomes}
 use Rattle.mg_answer.specs.declared.outcomes.Outcomes.{Outcomes}
 
 -- a fault of a core's node, by the plan's number of the node
@@ -39,13 +38,10 @@ lines_at e = flat_map (λ a. arrival_note e.0.node a.port a.packet.at) e.1.log
 abbrev pub arrivals_text : List FreeNode → List Taken → List ℕ
 arrivals_text frees takens = flat_map lines_at (zip frees takens)
 
--- What is told of a plan's nodes and streams, by a solution of its core and by what the free nodes have taken.
-pub record TellsPlan (whole : Plan) (job : Job) (streams : List (StreamPrefix Plain)) (takens : List Taken) (outcomes : Outcomes) : Type 0 where
+-- What is told of a plan's nodes and streams, by a solution of its core and by what the free nodes have taken, with the lines of the
+-- arrivals.
+pub record LiveTells (whole : Plan) (job : Job) (streams : List (StreamPrefix Plain)) (frees : List FreeNode) (takens : List Taken) (outcomes : Outcomes) : Type 0 where
   pub faults : outcomes.faults ≡ map (fault_in (split_of whole).numbers) (faults job streams)
   pub sets : outcomes.sets ≡ sets_by whole.nodes (counts job streams) (map (λ t. length t.log) takens)
   pub ends : outcomes.ends.items ≡ map (λ s. end_of (stream_of streams (stream_number whole s))) (numbers (length whole.streams))
-
--- the same with the lines of the arrivals
-pub record LiveTells (whole : Plan) (job : Job) (streams : List (StreamPrefix Plain)) (frees : List FreeNode) (takens : List Taken) (live : LiveOutcomes) : Type 0 where
-  pub outcomes : TellsPlan whole job streams takens live.outcomes
-  pub arrivals : live.arrivals.items ≡ arrivals_text frees takens
+  pub arrivals : outcomes.arrivals.items ≡ arrivals_text frees takens

@@ -20,11 +20,11 @@ use Rattle.mg_feed.specs.declared.feed_end.FeedEnd.{FeedEnd}
 use Rattle.mg_feed.specs.declared.feed_end.FeedEnd.TheVariants.{Ended}
 use Rattle.mg_answer.specs.Answer.{Form, packet_lines, totals, output_in, Read, Answer, ended_input, generated_job}
 use Rattle.mg_answer.specs.Devices.{Device, RunDevices, TookFront, Noted}
-use Rattle.mg_answer.specs.Live.{live_answer, live_failed}
+use Rattle.mg_answer.specs.Outcomes.{told_answer, told_failed}
 use Rattle.mg_answer.specs.Notes.{memory_note}
 use Rattle.mg_answer.specs.Ran.{CameTo, ReadSome}
 use Rattle.mg_answer.specs.Wrote.{WroteBy}
-use Rattle.mg_answer.specs.declared.live_outcomes.LiveOutcomes.{LiveOutcomes}
+use Rattle.mg_answer.specs.declared.outcomes.Outcomes.{Outcomes}
 use Rattle.mg_answer.specs.declared.status.Status.{Status}
 use Rattle.mg_answer.specs.declared.status.Status.TheVariants.{OutOfMemory}
 use Rattle.mg_drive.specs.Leaves.{HadItsCalls, KeepsAFront}
@@ -43,19 +43,19 @@ pub record ComesTo (whole : Plan) (first : Inputs) (later : List Inputs) : Type 
   pub solution : IsSolution (core_job (split_of whole) (last_batch first later) takens) streams
   pub logs : AreLawful streams (split_of whole).free takens
   pub outputs : AllZip (λ free taken. output_so_far free taken ≡ output_of free.law (free_inputs streams free) taken.log) (split_of whole).free takens
-  pub live : LiveOutcomes
+  pub live : Outcomes
   pub tells : LiveTells whole (core_job (split_of whole) (last_batch first later) takens) streams (split_of whole).free takens live
 
 -- the answer of a run over batches, whose input ended so
 pub record IsLiveAnswer (form : Form) (report : Bool) (whole : Plan) (first : Inputs) (later : List Inputs) (end : FeedEnd) (answer : Answer) : Type 0 where
   pub comes : ComesTo whole first later
-  pub is : answer ≡ live_answer report whole end comes.live (output_in form (split_of whole).core comes.streams)
+  pub is : answer ≡ told_answer report whole end comes.live (output_in form (split_of whole).core comes.streams)
 
 -- A run over batches, whose input ended so. The output, the status and the notes are those of the core's solution, told by the plan's
 -- numbers, with a line for each arrival; and each calculator that is handed in had exactly the calls that its node has in that solution.
 pub record OneLive (form : Form) (report : Bool) (whole : Plan) (first : Inputs) (later : List Inputs) (end : FeedEnd) (status : Status) (output notes : Device SinkTold) (boxes : Device (List CalculatorTold)) : Type 0 where
   pub comes : ComesTo whole first later
-  pub wrote : WroteBy status (live_answer report whole end comes.live (output_in form (split_of whole).core comes.streams)) (live_failed report whole end comes.live) output notes
+  pub wrote : WroteBy status (told_answer report whole end comes.live (output_in form (split_of whole).core comes.streams)) (told_failed report whole end comes.live) output notes
   pub had : AllHad (split_of whole).core (HadItsCalls (core_job (split_of whole) (last_batch first later) comes.takens) comes.streams) boxes
 
 -- A run over batches in which memory ran out. By then some of the first batches had come: the last of them is `base`, and the others

@@ -18,6 +18,7 @@ use mg_answer::{Outcomes, OutputText, Run, Status};
 use mg_calc::Inputs;
 use mg_edge::{Sink, Source};
 use mg_feed::{BatchEnd, FeedEnd};
+use mg_value::PrefixList;
 use std::alloc::AllocError;
 
 /// A batch: how it ended, and what it hands to the graph.
@@ -30,8 +31,8 @@ pub struct Batch {
 /// How a run goes on once its net has come to rest.
 #[derive(Drop)]
 pub enum Onward {
-    /// This comes to the graph before the next batch does.
-    Round(Inputs),
+    /// These pieces come to the last graph inputs before the next batch does.
+    Round(PrefixList),
     /// The next batch is due.
     Next,
     /// No batch is left: the input ended so.

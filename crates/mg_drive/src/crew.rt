@@ -1,8 +1,9 @@
 use mg_calc::Plan;
 use mg_edge::Gate;
+use mg_value::PrefixList;
 
-// How many packets a net whose calculators are all the program's own has to hold before workers are called. These do a set in less than
-// a microsecond, so what fewer packets come to takes no longer than starting the threads.
+// How many packets have to come to a net whose calculators are all the program's own before workers are called. These do a set in less
+// than a microsecond, so what fewer packets come to takes no longer than starting the threads.
 const LEAST: u64 = 512;
 
 /// Where workers come from, and the gate round each Process call: a runtime that starts threads and may wait for them.
@@ -46,7 +47,7 @@ pub(crate) fn workers_for(plan: &Plan) -> u32 {
     if workers > 1 { workers } else { 0 }
 }
 
-/// How many packets a net of a plan has to hold before workers are called: one where a calculator was handed in.
+/// How many packets have to come to a net of a plan before workers are called: one where a calculator was handed in.
 pub(crate) fn least_for(plan: &Plan) -> u64 {
     if has_handed_in(plan) { 1 } else { LEAST }
 }
@@ -59,4 +60,13 @@ pub(crate) fn has_sources(plan: &Plan) -> bool {
         }
     }
     false
+}
+
+/// How many packets come with pieces.
+pub(crate) fn packets_in(pieces: &PrefixList) -> u64 {
+    let mut packets: u64 = 0;
+    for stream in pieces.as_slice() {
+        packets = packets.saturating_add(u64::from(stream.packets.len()));
+    }
+    packets
 }

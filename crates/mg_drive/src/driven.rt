@@ -8,7 +8,7 @@ ghost use Rattle.mg_node.specs.Looking.{kept_packet};
 ghost use Rattle.mg_node.specs.Intakes.{HasSet};
 ghost use Rattle.mg_sched.specs.Views.{NetView};
 ghost use Rattle.mg_sched.specs.StandsFor.{StandsFor, StandsForSome, IsRunning};
-ghost use Rattle.mg_sched.specs.Extends.{GoesOnWith, MayGoOnWith};
+ghost use Rattle.mg_sched.specs.Extends.{GoesOnWith, MayGoOnWith, for_last};
 ghost use Rattle.mg_sched.specs.Taking.{TakesOut, taken_out};
 ghost use Rattle.mg_sched.specs.Looks.{IsOutputOf, HasFrom};
 ghost use Rattle.mg_sched.specs.Reports.{report_of};
@@ -18,7 +18,7 @@ ghost use Rattle.mg_drive.specs.Nets.{Keeps, GaveNothingUp, HasAtMost};
 use mg_calc::Inputs;
 use mg_sched::Report;
 use mg_time::Timestamp;
-use mg_value::{InputSet, Packet};
+use mg_value::{InputSet, Packet, PrefixList};
 use std::alloc::{AllocError, Global};
 
 /// A net that can be driven, however its nodes are made to run.
@@ -44,6 +44,16 @@ pub trait Driven {
         ensures taken { taken_out (net self.new) ≡ taken_out (net self.old) }
         ensures unchanged { OnErr result (net self.new ≡ net self.old) }
         ensures stands { (first later : LoggedJob) → GoesOnWith more.now first later → StandsFor first (net self.old) → OnOk result (StandsFor later (net self.new)) };
+
+    /// Goes on with further input of the last graph inputs alone, a piece for each of them. Want of memory changes nothing.
+    fn extend_last(&mut self, pieces: &PrefixList) -> Result<(), AllocError>
+        requires may { MayGoOnWith (for_last (length (net self.old).plan.inputs) pieces.now) (net self.old) }
+        ensures running { IsRunning (net self.old) → IsRunning (net self.new) }
+        ensures keeps { Keeps (net self.old) (net self.new) }
+        ensures whole { GaveNothingUp (net self.old) (net self.new) }
+        ensures taken { taken_out (net self.new) ≡ taken_out (net self.old) }
+        ensures unchanged { OnErr result (net self.new ≡ net self.old) }
+        ensures stands { (first later : LoggedJob) → GoesOnWith (for_last (length (net self.old).plan.inputs) pieces.now) first later → StandsFor first (net self.old) → OnOk result (StandsFor later (net self.new)) };
 
     /// Gives up the packets that all readers of their stream have got.
     fn trim(&mut self)

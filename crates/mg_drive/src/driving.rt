@@ -133,8 +133,8 @@ pub fn drive<
         advance(net, &mut ends.set, &mut ends.telling, output)?;
         let onward = ends.batches.onward(last, net)?;
         match onward {
-            Onward::Round(more) => {
-                net.extend(&more)?;
+            Onward::Round(pieces) => {
+                net.extend_last(&pieces)?;
                 continue;
             }
             Onward::Next => ends.telling.pass_on(output),

@@ -101,6 +101,7 @@ fn outcomes_of<N: Driven>(alloc: Global, net: &N) -> Result<Outcomes, AllocError
         faults: report.faults,
         sets: report.sets,
         ends,
+        arrivals: Vec::new(alloc),
     })
 }
 

@@ -5,18 +5,18 @@ ghost use Rattle.mg_value.specs.Prefix.{StreamPrefix};
 ghost use Rattle.mg_calc.specs.Plan.{IsValidWithFree};
 ghost use Rattle.mg_calc.specs.Equations.{Job, stream_of};
 ghost use Rattle.mg_free.specs.declared.node.FreeNode.{FreeNode as FreeNodeView};
-ghost use Rattle.mg_free.specs.Core.{is_free, is_core, split_of};
+ghost use Rattle.mg_free.specs.Core.{is_free as the_free, is_core, split_of};
 ghost use Rattle.mg_free.specs.Rounds.{Taken};
 ghost use Rattle.mg_live.specs.Takes.{HaveTaken};
 ghost use Rattle.mg_answer.specs.Outcomes.{TellsOf};
 ghost use Rattle.mg_answer.specs.Report.{end_of};
 ghost use Rattle.mg_drive.specs.Batches.{Tells};
-ghost use Rattle.mg_drive.specs.Live.{TellsPlan, fault_in, sets_by, lines_at, arrivals_text};
+ghost use Rattle.mg_drive.specs.Live.{LiveTells, fault_in, sets_by, lines_at, arrivals_text};
 ghost use Rattle.mg_drive.specs.Code.Live.{AreNumbersOf};
 
 use mg_answer::{Outcomes, StreamEnd, put_arrival};
 use mg_calc::{NodeFault, NodeFaultList, Plan, PlanNode};
-use mg_free::free_law;
+use mg_free::is_free;
 use mg_live::LiveNodes;
 use mg_value::{BlockList, NumberList};
 use std::alloc::{AllocError, Global};
@@ -57,7 +57,7 @@ fn sets_of(
     sets: &[u64],
     live: &LiveNodes,
 ) -> Result<BlockList<u64>, AllocError>
-    requires free { length live.now.takers.items ≡ length (filter is_free nodes.now) }
+    requires free { length live.now.takers.items ≡ length (filter the_free nodes.now) }
     requires core { length sets.now ≡ length (filter is_core nodes.now) }
     ensures { (takens : List Taken) → HaveTaken live.now.free takens live.now.takers.items → IfOk result (λ now. now ≡ sets_by nodes.now sets.now (map (λ taken. length taken.log) takens)) }
 {
@@ -65,7 +65,7 @@ fn sets_of(
     let mut free = 0;
     let mut core = 0;
     for node in nodes {
-        if free_law(&node.law).is_some() {
+        if is_free(node) {
             now.push(live.log(free).len() as u64)?;
             free += 1;
         } else {
@@ -89,7 +89,7 @@ fn ends_of(alloc: Global, streams: &[u32], ends: &[StreamEnd]) -> Result<Vec<Str
 }
 
 impl<'p> InPlan<'p> {
-    /// What came of the nodes and streams of a core, by the plan's numbers.
+    /// What came of the nodes and streams of a core, by the plan's numbers, and the lines of all arrivals at free nodes.
     pub fn outcomes(
         &self,
         alloc: Global,
@@ -102,7 +102,7 @@ impl<'p> InPlan<'p> {
         requires long { length live.now.free ≡ length live.now.takers.items }
         requires tells { Tells (split_of self.now.plan.now).core core.now }
         ensures { (job : Job) (streams : List (StreamPrefix Plain)) (takens : List Taken) → job.plan ≡ (split_of self.now.plan.now).core → TellsOf job streams core.now
-            → HaveTaken live.now.free takens live.now.takers.items → IfOk result (TellsPlan self.now.plan.now job streams takens) }
+            → HaveTaken live.now.free takens live.now.takers.items → IfOk result (LiveTells self.now.plan.now job streams live.now.free takens) }
     {
         let faults = faults_in(alloc, self.nodes.as_slice(), core.faults.as_slice())?;
         let sets = sets_of(
@@ -112,12 +112,18 @@ impl<'p> InPlan<'p> {
             live,
         )?;
         let ends = ends_of(alloc, self.streams.as_slice(), core.ends.as_slice())?;
-        Ok(Outcomes { faults, sets, ends })
+        let arrivals = arrival_lines(alloc, live)?;
+        Ok(Outcomes {
+            faults,
+            sets,
+            ends,
+            arrivals,
+        })
     }
 }
 
-/// The lines of all arrivals at free nodes, node by node.
-pub fn arrival_lines(alloc: Global, live: &LiveNodes) -> Result<Vec<u8>, AllocError>
+// The lines of all arrivals at free nodes, node by node.
+fn arrival_lines(alloc: Global, live: &LiveNodes) -> Result<Vec<u8>, AllocError>
     requires { length live.now.free ≡ length live.now.takers.items }
     ensures { (takens : List Taken) → HaveTaken live.now.free takens live.now.takers.items → IfOk result (λ lines. lines.items ≡ arrivals_text live.now.free takens) }
 {

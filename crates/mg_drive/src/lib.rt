@@ -39,7 +39,7 @@ pub use finishing::{finish, finish_frozen};
 pub use lines::run_lines;
 pub use live::Live;
 pub use live_running::{run_live_lines, run_live_made};
-pub use made::{Made, run_made};
+pub use made::run_made;
 pub use many_threads::ManyThreads;
 pub use one_thread::OneThread;
 pub use recording::record_run;

@@ -1,16 +1,14 @@
 //! Batches of the core of a graph with free nodes: between two batches of the input the free nodes have their rounds.
-ghost use Rattle.std.specs.Prelude.{◌≡◌, ◌+◌, ◌++◌, List, true, None, map, length, replicate, IfOk, OnOk};
+ghost use Rattle.std.specs.Prelude.{◌≡◌, ◌+◌, ◌++◌, true, None, replicate, IfOk};
 ghost use Rattle.mg_value.specs.Prefix.{empty_prefix};
-ghost use Rattle.mg_free.specs.Rounds.{Taken};
-ghost use Rattle.mg_live.specs.Takes.{HaveTaken, handed_of, outputs_so_far, pieces_behind};
 ghost use Rattle.mg_drive.specs.Code.LiveRunning.{ReadsWhere, IsOpened};
 ghost use Rattle.mg_drive.specs.Code.Live.{IsFreshLive, LiveGives, LiveCame, LiveWrote, wanted_by, rounds_left, ended_of, batches_left};
 
-use crate::in_plan::{InPlan, arrival_lines};
+use crate::in_plan::InPlan;
 use crate::looked::Looked;
 use crate::{Batch, Batches, Closing, Driven, Onward};
-use mg_answer::{LiveOutcomes, Outcomes, Run, Status, conclude_live};
-use mg_calc::{GivenList, Inputs};
+use mg_answer::{Outcomes, Run, Status, conclude};
+use mg_calc::Inputs;
 use mg_edge::{Sink, Source};
 use mg_feed::{BatchEnd, FeedEnd};
 use mg_live::LiveNodes;
@@ -77,25 +75,6 @@ fn with_open(alloc: Global, inputs: Inputs, count: usize) -> Result<Inputs, Allo
     })
 }
 
-// What came to the outputs of free nodes since they were asked before, as further input of a core. So many inputs stand before them, to
-// which nothing comes.
-fn handed_on(alloc: Global, nodes: &mut LiveNodes, own: u32) -> Result<Inputs, AllocError>
-    ensures streams { (takens : List Taken) → HaveTaken nodes.old.free takens nodes.old.takers.items
-        → IfOk result (λ more. more.streams ≡ replicate own empty_prefix ++ pieces_behind (handed_of nodes.old.takers.items) (outputs_so_far nodes.old.free takens)) }
-    ensures taken { (takens : List Taken) → HaveTaken nodes.old.free takens nodes.old.takers.items → OnOk result (HaveTaken nodes.old.free takens nodes.new.takers.items) }
-    ensures handed { (takens : List Taken) → HaveTaken nodes.old.free takens nodes.old.takers.items
-        → OnOk result (handed_of nodes.new.takers.items ≡ map (λ s. length s.packets) (outputs_so_far nodes.old.free takens)) }
-    ensures free { nodes.new.free ≡ nodes.old.free }
-{
-    let streams = nodes.hand_on(alloc, own)?;
-    let sides = GivenList::from_vec(Vec::new(alloc))?;
-    Ok(Inputs {
-        streams,
-        sides,
-        ended: false,
-    })
-}
-
 impl<'p, B: Batches> Batches for Live<'p, B> {
     ghost is_fresh = { λ l core. IsFreshLive B.is_fresh B.is_due core (record { batches = l.batches; plan = l.whole.plan.now; whole = l.whole.plan.now; nodes = l.whole.nodes.now; streams = l.whole.streams.now; ended = l.end; rested = l.rested; frees = l.nodes.free; takers = l.nodes.takers.items }) };
 
@@ -135,9 +114,8 @@ impl<'p, B: Batches> Batches for Live<'p, B> {
         let did = self.nodes.round(&Looked { net })?;
         self.rested = !did;
         if did {
-            let own = self.whole.plan.inputs.len();
-            let more = handed_on(self.alloc, &mut self.nodes, own)?;
-            return Ok(Onward::Round(more));
+            let pieces = self.nodes.hand_on(self.alloc)?;
+            return Ok(Onward::Round(pieces));
         }
         match self.end {
             Some(end) => Ok(Onward::End(end)),
@@ -154,14 +132,12 @@ impl<'p, B: Batches> Batches for Live<'p, B> {
         notes: &mut E,
     ) -> Result<Status, AllocError> {
         let outcomes = self.whole.outcomes(run.alloc, &outcomes, &self.nodes)?;
-        let arrivals = arrival_lines(run.alloc, &self.nodes)?;
-        let live = LiveOutcomes { outcomes, arrivals };
         let whole = Run {
             alloc: run.alloc,
             plan: self.whole.plan,
             report: run.report,
         };
-        let status = conclude_live(&whole, closing.end, &live, closing.text, output, notes)?;
+        let status = conclude(&whole, closing.end, &outcomes, closing.text, output, notes)?;
         Ok(status)
     }
 }

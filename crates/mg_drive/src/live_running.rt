@@ -12,12 +12,13 @@ ghost use Rattle.mg_drive.specs.OneLive.{OneLiveMade, OneLiveReading, LiveShortI
 ghost use Rattle.mg_drive.specs.Code.LiveRunning.{HasRunLive, HasRunLiveShort, ReadsWhere};
 
 use crate::in_plan::InPlan;
-use crate::{Batches, Crew, Live, Made, Telling, run_batches};
+use crate::pieces::Pieces;
+use crate::{Batches, Crew, Live, Telling, run_batches};
 use mg_answer::{Devices, OutputSummary, OutputText, Run, Status, note_out_of_memory};
 use mg_calc::Calculator;
 use mg_edge::{Gate, Sink, Source};
 use mg_feed::Feed;
-use mg_free::{FreePlan, split, streams_in_core};
+use mg_free::{FreePlan, split};
 use mg_live::LiveNodes;
 use std::alloc::AllocError;
 use std::sync::Wait;
@@ -141,9 +142,9 @@ fn made_whole<
     ensures same { SameDevices devices.old devices.new }
 {
     let parts = split(run.alloc, run.plan)?;
-    let made = Made::new(run.alloc, run.plan, number)?;
+    let pieces = Pieces::at_once(run.alloc, run.plan, number)?;
     let summary = OutputSummary::new(run.alloc, &parts.core)?;
-    let status = run_live(run, crew, boxes, parts, (made, summary), devices)?;
+    let status = run_live(run, crew, boxes, parts, (pieces, summary), devices)?;
     Ok(status)
 }
 
@@ -180,10 +181,10 @@ fn run_live<
     let FreePlan {
         core,
         numbers,
+        streams,
         free,
     } = parts;
     let (batches, telling) = ends;
-    let streams = streams_in_core(run.alloc, run.plan)?;
     let nodes = LiveNodes::new(run.alloc, free)?;
     let live = Live {
         batches,

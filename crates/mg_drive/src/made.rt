@@ -1,95 +1,23 @@
 //! Runs over packets that are made.
-ghost use Rattle.std.specs.Prelude.{◌≡◌, [], false, map, Some, IfOk, OnErr};
-ghost use Rattle.mg_edge.specs.Edge.{SourceTold};
+ghost use Rattle.std.specs.Prelude.{◌≡◌, [], map, IfOk, OnErr};
 ghost use Rattle.mg_calc.specs.Plan.{IsValid};
 ghost use Rattle.mg_answer.specs.Text.{output_names};
 ghost use Rattle.mg_answer.specs.Summary.{HasSummed};
-ghost use Rattle.mg_answer.specs.Answer.{generated_job};
 ghost use Rattle.mg_answer.specs.Devices.{device};
-ghost use Rattle.mg_answer.specs.Wrote.{Wrote};
 ghost use Rattle.mg_answer.specs.Held.{told_by, SameDevices};
 ghost use Rattle.mg_sched.specs.Made.{BoxesFit};
 ghost use Rattle.mg_drive.specs.OneRun.{OneMade, ShortInMade, RanOverPackets};
 ghost use Rattle.mg_feed.specs.GeneratorSeen.{making};
-ghost use Rattle.mg_drive.specs.Code.Packets.{AreWaiting, WereGiven, HaveComeAtOnce};
 ghost use Rattle.mg_drive.specs.Code.InPieces.{AreToCome};
 
-use crate::onward::plain_onward;
 use crate::pieces::Pieces;
-use crate::{Batch, Batches, Closing, Crew, Driven, Onward, run_batches};
-use mg_answer::{Devices, Outcomes, OutputSummary, Run, Status, conclude, note_out_of_memory};
-use mg_calc::{Calculator, Inputs, Plan};
+use crate::{Crew, run_batches};
+use mg_answer::{Devices, OutputSummary, Run, Status, note_out_of_memory};
+use mg_calc::Calculator;
 use mg_edge::{Gate, Sink, Source};
-use mg_feed::{BatchEnd, FeedEnd, generate};
-use std::alloc::{AllocError, Global};
+use std::alloc::AllocError;
 use std::sync::Wait;
 use std::thread::Threads;
-
-/// Packets that are made before a run, all of which are its one batch: what arrives at free nodes depends on batches.
-#[derive(Drop)]
-pub struct Made {
-    packets: Option<Inputs>,
-}
-
-impl Made {
-    /// So many packets for a plan, of which none is handed on yet.
-    pub fn new(alloc: Global, plan: &Plan, number: u32) -> Result<Made, AllocError>
-        ensures { IfOk result (λ made. made.packets ≡ Some (generated_job plan.now number).inputs) }
-    {
-        let inputs = generate(alloc, plan, number)?;
-        Ok(Made {
-            packets: Some(inputs),
-        })
-    }
-}
-
-impl Batches for Made {
-    ghost is_fresh = { λ m plan. AreWaiting m.packets plan };
-
-    ghost gives = { λ began m plan first now end inputs. WereGiven began.packets end inputs };
-
-    ghost came = { λ began m plan first now end history. HaveComeAtOnce began.packets end history };
-
-    ghost is_due = { λ m plan so_far. Unit {0} };
-
-    ghost wants = { λ m. [] };
-
-    ghost reads_on = { λ m plan first at now. now ≡ at };
-
-    ghost left = { λ m. 0 };
-
-    ghost reads = { false };
-
-    ghost wrote = { λ m form report job end status output notes. Wrote (record { form = form; report = report }) job end status output notes };
-
-    fn next<S: Source>(&mut self, input: &mut S) -> Result<Batch, AllocError> {
-        let _ = input;
-        match self.packets.take() {
-            Some(inputs) => Ok(Batch {
-                end: BatchEnd::End(FeedEnd::Ended),
-                inputs,
-            }),
-            None => Err(AllocError),
-        }
-    }
-
-    fn onward<N: Driven>(&mut self, last: BatchEnd, net: &N) -> Result<Onward, AllocError> {
-        let _ = net;
-        Ok(plain_onward(last))
-    }
-
-    fn conclude<K: Sink, E: Sink>(
-        &self,
-        run: &Run<'_>,
-        closing: Closing,
-        outcomes: Outcomes,
-        output: &mut K,
-        notes: &mut E,
-    ) -> Result<Status, AllocError> {
-        let status = conclude(run, closing.end, &outcomes, closing.text, output, notes)?;
-        Ok(status)
-    }
-}
 
 /// Runs the graph of a plan over so many packets that are made, with the calculators that are handed in, and leaves these in their
 /// places. It makes them piece by piece, drives a net over each piece to rest, sums up the sets of its outputs, and writes the summary and

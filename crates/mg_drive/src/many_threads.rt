@@ -6,6 +6,7 @@ ghost use Rattle.mg_sched.specs.Taking.{taken_out};
 ghost use Rattle.mg_workers.specs.Became.{Became};
 ghost use Rattle.mg_drive.specs.Nets.{Keeps, GaveNothingUp};
 
+use crate::crew::packets_in;
 use crate::nothing::net_of_nothing;
 use crate::{Driven, OneThread};
 use mg_calc::{Calculator, Inputs};
@@ -13,7 +14,7 @@ use mg_crew::run_workers;
 use mg_edge::Gate;
 use mg_sched::Report;
 use mg_time::Timestamp;
-use mg_value::{InputSet, Packet};
+use mg_value::{InputSet, Packet, PrefixList};
 use std::alloc::{AllocError, Global};
 use std::mem;
 use std::sync::Wait;
@@ -25,8 +26,11 @@ pub struct ManyThreads<'a, C: Calculator, R, G: Gate> {
     pub rt: &'a R,
     pub alloc: Global,
     pub workers: u32,
-    /// How many packets the net has to hold before workers are called. What it does with fewer is left to the thread that drives it.
+    /// How many packets have to come before workers are called. What is done with fewer is left to the thread that drives the net.
     pub least: u64,
+    /// How many packets came since the net was brought to rest. With a batch this is how many the net holds, as whatever waits may go on
+    /// then.
+    pub came: u64,
     /// Whether the net has sources, and has never been brought to rest. They may have something to bring then.
     pub fresh: bool,
 }
@@ -39,7 +43,7 @@ impl<'a, C: Calculator + Send, R: Threads + Wait + Sync, G: Gate + Sync> ManyThr
         ensures running { IsRunning self.new.one.net }
         ensures became { Became self.old.one.net self.new.one.net }
     {
-        if self.workers == 0 || !self.fresh && self.one.net.held() < self.least {
+        if self.workers == 0 || !self.fresh && self.came < self.least {
             return;
         }
         self.fresh = false;
@@ -63,6 +67,7 @@ impl<'a, C: Calculator + Send, R: Threads + Wait + Sync, G: Gate + Sync> ManyThr
     {
         self.work();
         self.one.to_rest()?;
+        self.came = 0;
         Ok(())
     }
 }
@@ -77,6 +82,13 @@ impl<'a, C: Calculator, R, G: Gate> Driven for ManyThreads<'a, C, R, G> {
 
     fn extend(&mut self, more: &Inputs) -> Result<(), AllocError> {
         self.one.extend(more)?;
+        self.came = self.one.net.held();
+        Ok(())
+    }
+
+    fn extend_last(&mut self, pieces: &PrefixList) -> Result<(), AllocError> {
+        self.one.extend_last(pieces)?;
+        self.came = self.came.saturating_add(packets_in(pieces));
         Ok(())
     }
 

@@ -10,7 +10,7 @@ use mg_calc::{Calculator, Inputs};
 use mg_edge::Gate;
 use mg_sched::{Deaf, Net, Report};
 use mg_time::Timestamp;
-use mg_value::{InputSet, Packet};
+use mg_value::{InputSet, Packet, PrefixList};
 use std::alloc::{AllocError, Global};
 
 /// A net whose nodes run on the one thread that drives it, each Process call through a gate.
@@ -46,6 +46,11 @@ impl<'a, C: Calculator, G: Gate> Driven for OneThread<'a, C, G> {
 
     fn extend(&mut self, more: &Inputs) -> Result<(), AllocError> {
         self.net.extend(more)?;
+        Ok(())
+    }
+
+    fn extend_last(&mut self, pieces: &PrefixList) -> Result<(), AllocError> {
+        self.net.extend_last(pieces)?;
         Ok(())
     }
 

@@ -1,5 +1,5 @@
 //! Packets that are made while a run goes on.
-ghost use Rattle.std.specs.Prelude.{◌≡◌, ◌<◌, [], false, IfOk};
+ghost use Rattle.std.specs.Prelude.{◌≡◌, ◌<◌, ◌≤◌, [], false, IfOk};
 ghost use Rattle.mg_feed.specs.GeneratorSeen.{making};
 ghost use Rattle.mg_answer.specs.Wrote.{Wrote};
 ghost use Rattle.mg_drive.specs.Code.InPieces.{end_of, AreToCome, WereMade, HaveComeInPieces, packets_left};
@@ -35,6 +35,16 @@ impl Pieces {
         let most = piece_for(plan);
         Ok(Pieces { generator, most })
     }
+
+    /// So many packets for a plan, of which none is made yet, all in one piece: what arrives at free nodes depends on batches.
+    pub fn at_once(alloc: Global, plan: &Plan, number: u32) -> Result<Pieces, AllocError>
+        ensures packets { IfOk result (λ pieces. AreToCome plan.now number (making pieces.generator)) }
+        ensures most { IfOk result (λ pieces. number ≤ pieces.most) }
+    {
+        let generator = Generator::new(alloc, plan, number)?;
+        let most = u32::MAX;
+        Ok(Pieces { generator, most })
+    }
 }
 
 // How many packets a piece has for a plan: at least one for each input, as the packets go to the inputs in turn, and each piece has the net
@@ -65,7 +75,7 @@ impl Batches for Pieces {
 
     ghost gives = { λ began p plan first now end inputs. WereMade plan (making began.generator).number (making p.generator) end inputs };
 
-    ghost came = { λ began p plan first now end history. HaveComeInPieces plan (making began.generator).number (making p.generator) end history };
+    ghost came = { λ began p plan first now end history. HaveComeInPieces plan (making began.generator).number began.most p.most (making p.generator) end history };
 
     ghost is_due = { λ p plan so_far. Unit {0} };
 

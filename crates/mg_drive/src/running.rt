@@ -11,7 +11,7 @@ ghost use Rattle.mg_drive.specs.Nets.{Keeps, AreThere};
 ghost use Rattle.mg_drive.specs.Code.Running.{Start, IsUnderWay, IsSomeRun, IsShort};
 ghost use Rattle.mg_drive.specs.Code.Ending.{CameBack, since, HasEnded, HasRun, RanShort};
 
-use crate::crew::{has_sources, least_for, workers_for};
+use crate::crew::{has_sources, least_for, packets_in, workers_for};
 use crate::finishing::finish_batches;
 use crate::{Batch, Batches, Closing, Crew, Ends, ManyThreads, OneThread, Telling, drive};
 use mg_answer::{Devices, Run, Status};
@@ -115,6 +115,7 @@ fn run_made_net<
                 alloc: run.alloc,
                 workers: workers_for(run.plan),
                 least: least_for(run.plan),
+                came: packets_in(&first.inputs.streams),
                 fresh: has_sources(run.plan),
             };
             let ran = run_net(run, &mut driven, ends, first.end, devices);
@@ -124,6 +125,7 @@ fn run_made_net<
                 alloc: _,
                 workers: _,
                 least: _,
+                came: _,
                 fresh: _,
             } = driven;
             let OneThread { net, gate: _ } = one;

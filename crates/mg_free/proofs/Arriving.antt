@@ -8,7 +8,7 @@ use Rattle.mg_value.specs.Extension.{IsExtendedBy}
 use Rattle.mg_value.proofs.Lemmas.{appended_is_prefix, raised_is_prefix, appended_extends, raised_extends, extended_by_itself}
 use Rattle.mg_free.specs.declared.law.FreeLaw.{FreeLaw}
 use Rattle.mg_free.specs.declared.law.FreeLaw.TheVariants.{FirstCome, Limiter}
-use Rattle.mg_free.specs.Code.Room.{HasRoom, may_arrive, comes_in_time}
+use Rattle.mg_free.specs.Code.Room.{may_arrive, comes_in_time}
 use Rattle.mg_free.specs.Free.{Arrival, Flow, ports_of, IsInTime, can_follow, is_laid, with_laid, without_laid, arrived, MayArrive}
 
 -- what may follow an allowed time is a time
@@ -77,11 +77,6 @@ limiter_dropped most flow a first many = rw (first, many) refl
 pub limiter_finished : {X : Type 0} (most : ℕ) (flow : Flow X) (a : Arrival X) → (a.port == 0) ≡ false
     → arrived (Limiter most) flow a ≡ record { output = flow.output; in_flight = flow.in_flight - 1 }
 limiter_finished most flow a finished = rw finished refl
-
--- where an arrival is laid there is room for it
-pub laid_room : {X : Type 0} (law : FreeLaw) (flow : Flow X) (a : Arrival X) → is_laid law flow a ≡ true → HasRoom law flow.in_flight
-laid_room (FirstCome lanes) flow a is = tt
-laid_room (Limiter most) flow a is = grind (arith, nat_tests)
 
 -- the test of an arrival tells whether it may come
 in_time_tells : {X : Type 0} (law : FreeLaw) (flow : Flow X) (a : Arrival X) → comes_in_time law flow a ≡ true → IsInTime law flow a

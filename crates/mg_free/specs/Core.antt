@@ -53,6 +53,10 @@ stream_number plan s = place_in (core_streams plan) s
 abbrev pub node_number : Plan → ℕ → ℕ
 node_number plan n = place_in (core_numbers plan) n
 
+-- the numbers of all streams in the core
+abbrev pub stream_numbers : Plan → List ℕ
+stream_numbers plan = map (stream_number plan) (numbers (length plan.streams))
+
 -- a node in the core
 abbrev pub core_node : Plan → PlanNode → PlanNode
 core_node plan node = record node { inputs = map (stream_number plan) node.inputs; outputs = map (stream_number plan) node.outputs }
@@ -112,9 +116,9 @@ free_node plan e =
 abbrev pub free_nodes : Plan → List FreeNode
 free_nodes plan = filter_map (free_node plan) (enumerate_from 0 plan.nodes)
 
--- a plan split into its core, the plan's numbers of the core's nodes, and its free nodes
+-- a plan split into its core, the plan's numbers of the core's nodes, the core's numbers of the plan's streams, and its free nodes
 abbrev pub split_of : Plan → FreePlan
-split_of plan = record { core = core_of plan; numbers = core_numbers plan; free = free_nodes plan }
+split_of plan = record { core = core_of plan; numbers = core_numbers plan; streams = stream_numbers plan; free = free_nodes plan }
 
 -- the number of the first free node, if there is one
 abbrev pub first_free : Plan → Option ℕ

@@ -6,7 +6,7 @@ use crate::FreeLaw;
 use mg_calc::{Law, Plan, PlanNode};
 
 /// The free law of a law, where its nodes are free.
-pub fn free_law(law: &Law) -> Option<FreeLaw>
+pub(crate) fn free_law(law: &Law) -> Option<FreeLaw>
     ensures { result ≡ free_law_of law.now }
 {
     match law {
@@ -17,7 +17,7 @@ pub fn free_law(law: &Law) -> Option<FreeLaw>
 }
 
 /// Whether a node is free.
-pub(crate) fn is_free(node: &PlanNode) -> bool
+pub fn is_free(node: &PlanNode) -> bool
     ensures { result ≡ the_free node.now }
 {
     free_law(&node.law).is_some()

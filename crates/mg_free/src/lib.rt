@@ -16,9 +16,9 @@ mod plan;
 mod splitting;
 mod state;
 
-pub use kinds::{first_free, free_law};
+pub use kinds::{first_free, is_free};
 pub use law::FreeLaw;
 pub use node::{FreeNode, FreeNodeList};
 pub use plan::FreePlan;
-pub use splitting::{split, streams_in_core};
+pub use splitting::split;
 pub use state::FreeState;

@@ -60,8 +60,8 @@ pub fn entering(alloc: Global, plan: &Plan) -> Result<NumberList, AllocError>
     Ok(NumberList::from_vec(streams)?)
 }
 
-/// The places of all streams in the order of the core.
-pub fn stream_places(alloc: Global, plan: &Plan) -> Result<Places, AllocError>
+// The places of all streams in the order of the core.
+fn stream_places(alloc: Global, plan: &Plan) -> Result<Places, AllocError>
     requires { IsValidWithFree plan.now }
     ensures { IfOk result (λ places. ArePlaces places (core_streams plan.now)) }
 {

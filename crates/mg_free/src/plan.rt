@@ -9,5 +9,7 @@ pub struct FreePlan {
     pub core: Plan,
     /// The plan's numbers of the core's nodes.
     pub numbers: NumberList,
+    /// The core's number of each stream of the plan.
+    pub streams: NumberList,
     pub free: FreeNodeList,
 }

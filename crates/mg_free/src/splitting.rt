@@ -1,13 +1,14 @@
 //! A plan split into its core and its free nodes.
-ghost use Rattle.std.specs.Prelude.{◌≡◌, IfOk, length, map, slice_index_or};
+ghost use Rattle.std.specs.Prelude.{◌≡◌, IfOk, length, slice_index_or};
 ghost use Rattle.mg_calc.specs.Plan.{IsValid, IsValidWithFree, numbers as the_numbers};
-ghost use Rattle.mg_free.specs.Core.{core_of as the_core, free_node as the_free_node, free_nodes as the_free_nodes, entering as the_entering, stream_number, split_of};
+ghost use Rattle.mg_free.specs.Core.{core_of as the_core, free_node as the_free_node, free_nodes as the_free_nodes, entering as the_entering, stream_numbers as the_stream_numbers, split_of};
 ghost use Rattle.mg_free.specs.Code.Numbering.{IsNumberingOf};
 
 use crate::core_parts::{core_edges, core_nodes, core_order};
 use crate::core_streams::core_streams;
-use crate::numbering::{Numbering, entering, stream_places};
-use crate::{FreeNode, FreeNodeList, FreePlan, free_law};
+use crate::kinds::free_law;
+use crate::numbering::{Numbering, entering};
+use crate::{FreeNode, FreeNodeList, FreePlan};
 use mg_calc::{Plan, PlanNode, TryClone};
 use mg_value::NumberList;
 use std::alloc::{AllocError, Global};
@@ -107,6 +108,20 @@ fn free_nodes(alloc: Global, plan: &Plan, numbering: &Numbering) -> Result<FreeN
     Ok(FreeNodeList::from_vec(free)?)
 }
 
+// For each stream of a plan its number in the core.
+fn stream_numbers(
+    alloc: Global,
+    plan: &Plan,
+    numbering: &Numbering,
+) -> Result<NumberList, AllocError>
+    requires { IsNumberingOf plan.now numbering.now }
+    ensures { IfOk result (λ streams. streams ≡ the_stream_numbers plan.now) }
+{
+    let all = numbers(alloc, plan.streams.len())?;
+    let streams = numbering.streams.of_all(alloc, all.as_slice())?;
+    Ok(streams)
+}
+
 /// Splits a plan into its core and its free nodes. The core is a valid plan without free nodes, whose outputs are its last graph
 /// inputs. It has the plan's nodes and streams in their order, under its own numbers.
 pub fn split(alloc: Global, plan: &Plan) -> Result<FreePlan, AllocError>
@@ -116,22 +131,13 @@ pub fn split(alloc: Global, plan: &Plan) -> Result<FreePlan, AllocError>
 {
     let numbering = Numbering::of(alloc, plan)?;
     let core = core(alloc, plan, &numbering)?;
+    let streams = stream_numbers(alloc, plan, &numbering)?;
     let free = free_nodes(alloc, plan, &numbering)?;
     let Numbering { numbers, .. } = numbering;
     Ok(FreePlan {
         core,
         numbers,
+        streams,
         free,
     })
-}
-
-/// For each stream of a plan its number in the plan's core.
-pub fn streams_in_core(alloc: Global, plan: &Plan) -> Result<NumberList, AllocError>
-    requires { IsValidWithFree plan.now }
-    ensures { IfOk result (λ streams. streams ≡ map (stream_number plan.now) (the_numbers (length plan.now.streams))) }
-{
-    let places = stream_places(alloc, plan)?;
-    let all = numbers(alloc, plan.streams.len())?;
-    let streams = places.of_all(alloc, all.as_slice())?;
-    Ok(streams)
 }

@@ -121,9 +121,6 @@ taken_there frees takens takers place h within = get_there takens place (let lon
 pub none_had : (streams : List (StreamPrefix Plain)) (frees : List FreeNode) (takens : List Taken) (takers : List Taker) → HadTurns streams frees takens 0 takers
 none_had streams frees takens takers place free taken taker less at at_taken at_taker = absurd (omega (arith, less))
 
-pub none_did : (streams : List (StreamPrefix Plain)) (frees : List FreeNode) (takens : List Taken) → DidSome streams frees takens 0 false
-none_did streams frees takens place free taken less at at_taken = absurd (omega (arith, less))
-
 -- Nothing taken yet.
 nothing_long : (frees : List FreeNode) → length (nothing_taken frees) ≡ length frees
 nothing_long [] = refl

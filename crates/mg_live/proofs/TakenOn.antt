@@ -1,5 +1,5 @@
 -- What is kept of a free node, as it goes on.
-use Rattle.std.proofs.Common.{◌≡◌, ℕ, zero, suc, ◌+◌, ◌<◌, ◌≤◌, Bool, true, false, cond, ◌==◌, List, [], ◌∷◌, ◌++◌, map, filter, fold, length, length-append, slice_get, get_or, set, length-set, get_or-set_same, get_or-set_other, replicate, Option, None, Some, option_map, refl, sym, ap, ap₂, ◌∙◌, subst, inl, inr, arith}
+use Rattle.std.proofs.Common.{◌≡◌, ℕ, zero, suc, ◌+◌, ◌<◌, ◌≤◌, false, cond, ◌==◌, List, [], ◌∷◌, ◌++◌, map, filter, fold, length, length-append, slice_get, get_or, set, length-set, get_or-set_same, get_or-set_other, replicate, Some, option_map, refl, sym, ap, ap₂, ◌∙◌, subst, inl, inr, arith}
 use Rattle.std.proofs.lemmas.Bool.{cases_eq, cases_Bool, eq-eqb, ne_eqb}
 use Rattle.std.proofs.lemmas.List.{length-map, map-append, append-nil, length-replicate}
 use Rattle.std.proofs.lemmas.List.Sums.{fold-append}
@@ -10,13 +10,13 @@ use Rattle.mg_value.specs.Settled.{port_of}
 use Rattle.mg_free.specs.declared.law.FreeLaw.{FreeLaw}
 use Rattle.mg_free.specs.declared.node.FreeNode.{FreeNode}
 use Rattle.mg_free.specs.Free.{Arrival, Flow, begun, arrived, MayArrive, ports_of}
-use Rattle.mg_free.specs.Logs.{MayAllArrive, arrived_at, has_ended}
-use Rattle.mg_free.specs.Rounds.{Taken, free_inputs, next_arrivals, last_of, with_next, turn}
+use Rattle.mg_free.specs.Logs.{MayAllArrive, arrived_at}
+use Rattle.mg_free.specs.Rounds.{Taken, free_inputs, next_arrivals, last_of}
 use Rattle.mg_free.proofs.Logging.{lawful_may}
 use Rattle.mg_free.proofs.Turning.{IsNext, arrived-both, none_at, lawful_with}
 use Rattle.mg_live.specs.declared.arrived.Arrived.{Arrived}
 use Rattle.mg_live.specs.declared.taker.Taker.{Taker}
-use Rattle.mg_live.specs.Takes.{told, HasTaken, MayTurn, Did}
+use Rattle.mg_live.specs.Takes.{told, HasTaken, MayTurn}
 use Rattle.mg_live.proofs.LastWaits.{is_last}
 
 -- An arrival more.
@@ -108,43 +108,6 @@ may_come streams free taken taker port packet h may waits is =
     let all = lawful_may free.law (free_inputs streams free) (taken.log ++ a ∷ []) many (recursion_from_All IsPrefix (free_inputs streams free) may.prefixes) lawful in
     let own = last_may free.law begun taken.log a all in
     subst (λ (l : FreeLaw). MayArrive l taker.state.flow a) (sym h.law) (subst (λ (f : Flow Plain). MayArrive free.law f a) (sym h.flow) own)
-
--- More was taken, so it isn't as it was.
-longer_differs : (taken : Taken) (port : ℕ) (packet : Stamped Plain) → with_arrival taken port packet ≡ taken → ⊥
-longer_differs taken port packet same =
-    let long = length-append taken.log (record { port = port; packet = packet } ∷ []) in
-    let e = ap (λ (t : Taken). length t.log) same in
-    omega (arith, long, e)
-
-pub did_take : (streams : List (StreamPrefix Plain)) (free : FreeNode) (taken : Taken) (port : ℕ) (packet : Stamped Plain) → turn streams free taken ≡ with_arrival taken port packet → Did true taken (turn streams free taken)
-did_take streams free taken port packet is = λ same. longer_differs taken port packet (sym is ∙ same)
-
--- Closing.
-
-abbrev after : Taken → Bool → Taken
-after taken ended = elim ended [ true ↦ record { log = taken.log; closed = true } | false ↦ taken ]
-
-pub turn_ends : (streams : List (StreamPrefix Plain)) (free : FreeNode) (taken : Taken) (ended : Bool) → last_of (next_arrivals streams free taken) ≡ None → ended ≡ has_ended free.law (free_inputs streams free)
-    → turn streams free taken ≡ after taken ended
-turn_ends streams free taken ended none is =
-    ap (λ (o : Option (Arrival Plain)). with_next streams free taken o) none ∙ ap (λ (b : Bool). after taken b) (sym is)
-
-pub shut_stays : (free : FreeNode) (taken : Taken) (taker : Taker) (ended : Bool) → HasTaken free taken taker → taker.closed ≡ true → after taken ended ≡ taken
-shut_stays free taken taker true h shut = ap (λ (b : Bool). record { log = taken.log; closed = b }) (sym (sym h.closed ∙ shut))
-shut_stays free taken taker false h shut = refl
-
-pub closes_now : (free : FreeNode) (taken : Taken) (before now : Taker) → HasTaken free taken before → now ≡ record before { closed = true } → HasTaken free (record { log = taken.log; closed = true }) now
-closes_now free taken before now h is = subst (λ (t : Taker). HasTaken free (record { log = taken.log; closed = true }) t) (sym is) (record {
-  law = h.law;
-  flow = h.flow;
-  ports = h.ports;
-  counts = h.counts;
-  log = h.log;
-  closed = refl;
-})
-
-pub opened_differs : (free : FreeNode) (taken : Taken) (taker : Taker) → HasTaken free taken taker → taker.closed ≡ false → Did true taken (record { log = taken.log; closed = true })
-opened_differs free taken taker h still = λ same. (let e : true ≡ false = ap (λ (t : Taken). t.closed) same ∙ sym h.closed ∙ still in absurd cc)
 
 -- Nothing was taken yet.
 abbrev zeros : ℕ → List ℕ

@@ -1,6 +1,6 @@
-ghost use Rattle.std.specs.Prelude.{◌≡◌, ◌<◌, ◌++◌, List, Some, IfOk, OnOk, length, map, replicate, slice_get};
+ghost use Rattle.std.specs.Prelude.{◌≡◌, ◌<◌, List, Some, IfOk, OnOk, length, map, replicate, slice_get};
 ghost use Rattle.mg_value.specs.Payload.{Plain};
-ghost use Rattle.mg_value.specs.Prefix.{StreamPrefix, empty_prefix};
+ghost use Rattle.mg_value.specs.Prefix.{StreamPrefix};
 ghost use Rattle.mg_free.specs.declared.node.FreeNode.{FreeNode as FreeNodeView};
 ghost use Rattle.mg_free.specs.Rounds.{Taken};
 ghost use Rattle.mg_live.specs.declared.taker.Taker.{Taker as TakerView};
@@ -8,8 +8,7 @@ ghost use Rattle.mg_live.specs.Takes.{HaveTaken, MayRound, Did, turns_of, nothin
 
 use crate::{Arrived, Streams, Taker};
 use mg_free::{FreeNode, FreeNodeList};
-use mg_time::Timestamp;
-use mg_value::{PacketList, Prefix, PrefixList};
+use mg_value::{Prefix, PrefixList};
 use std::alloc::{AllocError, Global};
 
 /// The free nodes of a graph that runs, each with what is kept of it.
@@ -59,34 +58,15 @@ fn log_at(takers: &[Taker], place: usize) -> &[Arrived]
     takers[place].log()
 }
 
-// So many prefixes of which nothing is known.
-fn nothings(alloc: Global, count: u32) -> Result<Vec<Prefix>, AllocError>
-    ensures { IfOk result (λ nothings. nothings.items ≡ replicate count empty_prefix) }
-{
-    let mut nothings = Vec::new(alloc);
-    for place in 0..count {
-        let _ = place;
-        nothings.push(Prefix {
-            packets: PacketList::from_vec(Vec::new(alloc))?,
-            bound: Timestamp::PRE_STREAM,
-        })?;
-    }
-    Ok(nothings)
-}
-
-// Some pieces, and behind them what came to each output since it was asked before.
-fn hand_on(
-    alloc: Global,
-    before: Vec<Prefix>,
-    takers: &mut [Taker],
-) -> Result<Vec<Prefix>, AllocError>
+// What came to each output since it was asked before.
+fn hand_on(alloc: Global, takers: &mut [Taker]) -> Result<Vec<Prefix>, AllocError>
     ensures pieces { (frees : List FreeNodeView) (takens : List Taken) → HaveTaken frees takens takers.old
-        → IfOk result (λ pieces. pieces.items ≡ before.items ++ pieces_behind (handed_of takers.old) (outputs_so_far frees takens)) }
+        → IfOk result (λ pieces. pieces.items ≡ pieces_behind (handed_of takers.old) (outputs_so_far frees takens)) }
     ensures taken { (frees : List FreeNodeView) (takens : List Taken) → HaveTaken frees takens takers.old → OnOk result (HaveTaken frees takens takers.new) }
     ensures handed { (frees : List FreeNodeView) (takens : List Taken) → HaveTaken frees takens takers.old
         → OnOk result (handed_of takers.new ≡ map (λ s. length s.packets) (outputs_so_far frees takens)) }
 {
-    let mut pieces = before;
+    let mut pieces = Vec::new(alloc);
     for place in 0..takers.len() {
         pieces.push(takers[place].hand_on(alloc)?)?;
     }
@@ -119,18 +99,17 @@ impl LiveNodes {
         Ok(did)
     }
 
-    /// What came to the outputs of the free nodes since this was asked before, as further input of a core: nothing at the graph's own
-    /// inputs, of which there are so many, and behind them a piece for each free node, in order.
-    pub fn hand_on(&mut self, alloc: Global, own: u32) -> Result<PrefixList, AllocError>
+    /// What came to the outputs of the free nodes since this was asked before, as further input of the last graph inputs of a core: a piece
+    /// for each free node, in order.
+    pub fn hand_on(&mut self, alloc: Global) -> Result<PrefixList, AllocError>
         ensures free { self.new.free ≡ self.old.free }
         ensures pieces { (takens : List Taken) → HaveTaken self.old.free takens self.old.takers.items
-            → IfOk result (λ pieces. pieces ≡ replicate own empty_prefix ++ pieces_behind (handed_of self.old.takers.items) (outputs_so_far self.old.free takens)) }
+            → IfOk result (λ pieces. pieces ≡ pieces_behind (handed_of self.old.takers.items) (outputs_so_far self.old.free takens)) }
         ensures taken { (takens : List Taken) → HaveTaken self.old.free takens self.old.takers.items → OnOk result (HaveTaken self.old.free takens self.new.takers.items) }
         ensures handed { (takens : List Taken) → HaveTaken self.old.free takens self.old.takers.items
             → OnOk result (handed_of self.new.takers.items ≡ map (λ s. length s.packets) (outputs_so_far self.old.free takens)) }
     {
-        let before = nothings(alloc, own)?;
-        let pieces = hand_on(alloc, before, &mut self.takers)?;
+        let pieces = hand_on(alloc, &mut self.takers)?;
         Ok(PrefixList::from_vec(pieces)?)
     }
 

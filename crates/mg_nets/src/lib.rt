@@ -16,8 +16,8 @@ mod ways;
 
 pub use cases::{CASES, Case, added, case_of, summed, throttled, under};
 pub use chance::Chance;
-pub use driver::{Driver, act, driver_of, driver_over, held, let_go, sweep, trim};
-pub use graphs::{adding, counting, limited, merging, passing, stalling, summing};
+pub use driver::{Driver, act, driver_of, driver_over, held, sweep, trim};
+pub use graphs::{adding, counting, merging, passing, stalling, summing};
 pub use outcome::{all_taken, told};
 pub use plans::plan_of;
 pub use seeds::{Drawn, draw_graph, drawn_case};

@@ -141,7 +141,7 @@ fn stream_in(alloc: Global, text: &str) -> Result<Prefix, Fail> {
 }
 
 fn show_handed(text: &mut String, alloc: Global, live: &mut LiveNodes) -> Result<(), Fail> {
-    for piece in live.hand_on(alloc, 0)?.as_slice() {
+    for piece in live.hand_on(alloc)?.as_slice() {
         for packet in piece.packets.as_slice() {
             write!(text, "{} ", text_of(alloc, packet.at)?)?;
         }

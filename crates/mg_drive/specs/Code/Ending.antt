@@ -1,5 +1,5 @@
 -- How a run of a net ends, and what it leaves.
-use Rattle.std.specs.Prelude.{◌≡◌, ◌⊎◌, ℕ, Bool, List, map, Some, slice_get}
+use Rattle.std.specs.Prelude.{◌≡◌, ◌⊎◌, ℕ, Bool, List, [], map, Some, slice_get}
 use Rattle.mg_edge.specs.Edge.{SourceTold, SinkTold}
 use Rattle.mg_value.specs.Payload.{Plain}
 use Rattle.mg_value.specs.Prefix.{StreamPrefix}
@@ -42,6 +42,7 @@ pub record TellsNet (net : NetView) (outcomes : Outcomes) : Type 0 where
   pub faults : outcomes.faults ≡ (report_of net).faults
   pub sets : outcomes.sets ≡ (report_of net).sets
   pub ends : outcomes.ends.items ≡ map told_end (report_of net).streams
+  pub arrivals : outcomes.arrivals.items ≡ []
 
 -- Calculators.
 

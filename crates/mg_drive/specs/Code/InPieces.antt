@@ -1,5 +1,5 @@
 -- Packets that are made piece by piece.
-use Rattle.std.specs.Prelude.{◌≡◌, ◌<◌, ◌-◌, ◌==◌, ◌^◌, ℕ, Bool, true, false, List, ◌∷◌, length, map}
+use Rattle.std.specs.Prelude.{◌≡◌, ◌<◌, ◌≤◌, ◌-◌, ◌==◌, ◌^◌, ℕ, Bool, true, false, List, [], ◌∷◌, length, map}
 use Rattle.mg_calc.specs.declared.inputs.Inputs.{Inputs}
 use Rattle.mg_calc.specs.declared.plan.Plan.{Plan}
 use Rattle.mg_feed.specs.Graph.{GraphInputs, inputs_of}
@@ -32,12 +32,15 @@ pub record WereMade (plan : Plan) (number : ℕ) (m : Making) (end : BatchEnd) (
   pub end_is : end ≡ end_of (m.made == number)
   pub inputs_are : inputs ≡ made_inputs (inputs_of plan) m.made (m.made == number)
 
--- they came piece by piece: each earlier entry is what some number of packets comes to, and of these numbers nothing is said
-pub record HaveComeInPieces (plan : Plan) (number : ℕ) (m : Making) (end : BatchEnd) (history : List Inputs) : Type 0 where
+-- They came piece by piece, and a piece has as many packets now as it had at first (`most`): each earlier entry is what some number of
+-- packets comes to, and of these numbers nothing is said. Where there are no more packets than a piece has, all came at once.
+pub record HaveComeInPieces (plan : Plan) (number most now : ℕ) (m : Making) (end : BatchEnd) (history : List Inputs) : Type 0 where
   pub inputs : Inputs
   pub given : WereMade plan number m end inputs
   pub earlier : List ℕ
   pub history_is : history ≡ inputs ∷ map (λ made. made_inputs (inputs_of plan) made false) earlier
+  pub most_is : now ≡ most
+  pub at_once : number ≤ most → (earlier ≡ []) × (m.made ≡ number)
 
 -- how many are still to be made
 abbrev pub packets_left : Making → ℕ

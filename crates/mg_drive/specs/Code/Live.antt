@@ -6,10 +6,10 @@ use Rattle.mg_value.specs.Payload.{Plain}
 use Rattle.mg_value.specs.Prefix.{StreamPrefix}
 use Rattle.mg_calc.specs.declared.inputs.Inputs.{Inputs}
 use Rattle.mg_calc.specs.declared.plan.Plan.{Plan}
-use Rattle.mg_calc.specs.Plan.{IsValidWithFree, numbers}
+use Rattle.mg_calc.specs.Plan.{IsValidWithFree}
 use Rattle.mg_calc.specs.Equations.{Job, IsSolution}
 use Rattle.mg_free.specs.declared.node.FreeNode.{FreeNode}
-use Rattle.mg_free.specs.Core.{split_of, stream_number}
+use Rattle.mg_free.specs.Core.{split_of}
 use Rattle.mg_free.specs.Rounds.{Taken, none_taken, core_inputs, IsRound}
 use Rattle.mg_live.specs.declared.taker.Taker.{Taker}
 use Rattle.mg_live.specs.Takes.{HaveTaken, handed_of, outputs_so_far}
@@ -19,9 +19,9 @@ use Rattle.mg_feed.specs.declared.feed_end.BatchEnd.{BatchEnd}
 use Rattle.mg_feed.specs.declared.feed_end.BatchEnd.TheVariants.{More, End}
 use Rattle.mg_answer.specs.Answer.{Form, output_in}
 use Rattle.mg_answer.specs.Devices.{Device}
-use Rattle.mg_answer.specs.Live.{live_answer, live_failed}
+use Rattle.mg_answer.specs.Outcomes.{told_answer, told_failed}
 use Rattle.mg_answer.specs.Wrote.{WroteBy}
-use Rattle.mg_answer.specs.declared.live_outcomes.LiveOutcomes.{LiveOutcomes}
+use Rattle.mg_answer.specs.declared.outcomes.Outcomes.{Outcomes}
 use Rattle.mg_answer.specs.declared.status.Status.{Status}
 use Rattle.mg_node.specs.Job.{LoggedJob, Solves}
 use Rattle.mg_sched.specs.Views.{NetView}
@@ -60,7 +60,7 @@ end_by (Some end) = End end
 -- the numbers of a plan's core: in the plan those of the core's nodes, and in the core those of the plan's streams
 pub record AreNumbersOf (whole : Plan) (nodes streams : List ℕ) : Type 0 where
   pub nodes_are : nodes ≡ (split_of whole).numbers
-  pub streams_are : streams ≡ map (stream_number whole) (numbers (length whole.streams))
+  pub streams_are : streams ≡ (split_of whole).streams
 
 -- What is kept of a run of a graph with free nodes: the batches of its plan, the plan that it began with, the plan with the numbers of its
 -- core, how the input ended, once it has, whether a round did nothing since the last batch came, and what is kept of the free nodes.
@@ -140,6 +140,6 @@ batches_left (Some end) left = 0
 pub record LiveWrote (whole : Plan) (frees : List FreeNode) (takers : List Taker) (form : Form) (report : Bool) (job : Job) (end : FeedEnd) (status : Status) (output notes : Device SinkTold) : Type 0 where
   pub streams : List (StreamPrefix Plain)
   pub solution : IsSolution job streams
-  pub live : LiveOutcomes
+  pub live : Outcomes
   pub tells : (takens : List Taken) → HaveTaken frees takens takers → LiveTells whole job streams frees takens live
-  pub by : WroteBy status (live_answer report whole end live (output_in form job.plan streams)) (live_failed report whole end live) output notes
+  pub by : WroteBy status (told_answer report whole end live (output_in form job.plan streams)) (told_failed report whole end live) output notes

@@ -62,38 +62,38 @@ returns-in_err-onward-clause-short g c =
 pub returns-in_err-onward-clause-keeps : goal.returns-in_err-onward-clause-keeps
 returns-in_err-onward-clause-keeps g c = keeps_on c.args.net.now.one.net c.batches.net.one.net c.advance.new.net.one.net c.batches.invariant.keeps c.in_ok-advance.ensures.keeps
 
-pub extend-requires : goal.extend-requires
-extend-requires g c =
+pub extend_last-requires : goal.extend_last-requires
+extend_last-requires g c =
     let some = c.requires.under_way.1 in
-    record { may = round_may g.B.Batches.gives g.B.Batches.is_due g.B.Batches.wants g.T.Telling.has_told some.start c.batches.last (g.S.Source.told c.batches.input) (g.K.Sink.told c.batches.output) c.batches.ends.batches c.onward.new.self c.batches.ends.telling c.batches.net.one.net c.advance.new.net.one.net c.in_ok-onward.onward c.in-Round.more c.in-Round.is c.in_ok-advance.ensures.stands c.in_ok-advance.ensures.rested (λ began plan first source so_far given. c.in_ok-onward.ensures.onward began plan first source so_far given) (c.batches.invariant.under_way some.start some.under_way) }
+    record { may = round_may g.B.Batches.gives g.B.Batches.is_due g.B.Batches.wants g.T.Telling.has_told some.start c.batches.last (g.S.Source.told c.batches.input) (g.K.Sink.told c.batches.output) c.batches.ends.batches c.onward.new.self c.batches.ends.telling c.batches.net.one.net c.advance.new.net.one.net c.in_ok-onward.onward c.in-Round.pieces c.in-Round.is c.in_ok-advance.ensures.stands c.in_ok-advance.ensures.rested (λ began plan first source so_far given. c.in_ok-onward.ensures.onward began plan first source so_far given) (c.batches.invariant.under_way some.start some.under_way) }
 
-pub returns-in_err-extend-in-Round-clause-short : goal.returns-in_err-extend-in-Round-clause-short
-returns-in_err-extend-in-Round-clause-short g c =
-    let is = err_from_is_err_and c.from_residual-in_err-extend-in-Round.result c.from_residual-in_err-extend-in-Round.ensures.1 in
+pub returns-in_err-extend_last-in-Round-clause-short : goal.returns-in_err-extend_last-in-Round-clause-short
+returns-in_err-extend_last-in-Round-clause-short g c =
+    let is = err_from_is_err_and c.from_residual-in_err-extend_last-in-Round.result c.from_residual-in_err-extend_last-in-Round.ensures.1 in
     rw is.1 (λ start u.
-    subst (λ (v : NetView). IsShort g.B.Batches.gives g.B.Batches.reads_on g.T.Telling.has_told g.T.Telling.form start (g.S.Source.told c.batches.input) (g.K.Sink.told c.advance.new.output) v) (sym c.in_err-extend-in-Round.ensures.unchanged)
+    subst (λ (v : NetView). IsShort g.B.Batches.gives g.B.Batches.reads_on g.T.Telling.has_told g.T.Telling.form start (g.S.Source.told c.batches.input) (g.K.Sink.told c.advance.new.output) v) (sym c.in_err-extend_last-in-Round.ensures.unchanged)
     (short_told g.B.Batches.gives g.B.Batches.reads_on g.T.Telling.has_told g.T.Telling.form start c.batches.last (g.S.Source.told c.batches.input) (g.K.Sink.told c.batches.output) (g.K.Sink.told c.advance.new.output) c.batches.ends.batches c.batches.ends.telling c.batches.net.one.net c.advance.new.net.one.net c.in_ok-advance.ensures.stands (λ job first h t. told_some g.T.Telling.has_told job first (g.K.Sink.told c.advance.new.output) (taken_out c.advance.new.net.one.net) c.advance.new.telling (c.in_ok-advance.ensures.told job first h t)) (c.batches.invariant.under_way start u)))
 
-pub returns-in_err-extend-in-Round-clause-keeps : goal.returns-in_err-extend-in-Round-clause-keeps
-returns-in_err-extend-in-Round-clause-keeps g c = keeps_on c.args.net.now.one.net c.advance.new.net.one.net c.extend.new.self.one.net (keeps_on c.args.net.now.one.net c.batches.net.one.net c.advance.new.net.one.net c.batches.invariant.keeps c.in_ok-advance.ensures.keeps) c.in_err-extend-in-Round.ensures.keeps
+pub returns-in_err-extend_last-in-Round-clause-keeps : goal.returns-in_err-extend_last-in-Round-clause-keeps
+returns-in_err-extend_last-in-Round-clause-keeps g c = keeps_on c.args.net.now.one.net c.advance.new.net.one.net c.extend_last.new.self.one.net (keeps_on c.args.net.now.one.net c.batches.net.one.net c.advance.new.net.one.net c.batches.invariant.keeps c.in_ok-advance.ensures.keeps) c.in_err-extend_last-in-Round.ensures.keeps
 
 pub batches-smaller-in-Round : goal.batches-smaller-in-Round
 batches-smaller-in-Round g c =
     let some = c.requires.under_way.1 in
     fewer_rounds c.batches.last (g.B.Batches.left c.batches.ends.batches) (g.B.Batches.left c.onward.new.self)
-    (round_is_more g.B.Batches.gives g.B.Batches.is_due g.B.Batches.wants g.T.Telling.has_told some.start c.batches.last (g.S.Source.told c.batches.input) (g.K.Sink.told c.batches.output) c.batches.ends.batches c.onward.new.self c.batches.ends.telling c.batches.net.one.net c.advance.new.net.one.net c.in_ok-onward.onward c.in-Round.more c.in-Round.is c.in_ok-advance.ensures.stands c.in_ok-advance.ensures.rested c.in_ok-onward.ensures.onward (c.batches.invariant.under_way some.start some.under_way))
+    (round_is_more g.B.Batches.gives g.B.Batches.is_due g.B.Batches.wants g.T.Telling.has_told some.start c.batches.last (g.S.Source.told c.batches.input) (g.K.Sink.told c.batches.output) c.batches.ends.batches c.onward.new.self c.batches.ends.telling c.batches.net.one.net c.advance.new.net.one.net c.in_ok-onward.onward c.in-Round.pieces c.in-Round.is c.in_ok-advance.ensures.stands c.in_ok-advance.ensures.rested c.in_ok-onward.ensures.onward (c.batches.invariant.under_way some.start some.under_way))
     (subst (λ (o : Onward). RoundLeaves o (g.B.Batches.left c.batches.ends.batches) (g.B.Batches.left c.onward.new.self)) c.in-Round.is c.in_ok-onward.ensures.leaves)
 
 pub batches-preserved-in-Round : goal.batches-preserved-in-Round
 batches-preserved-in-Round g c = record {
-  places = c.in_ok-advance.ensures.places ∙ ap (λ (p : Plan). length p.outputs) (sym c.in_ok-extend-in-Round.ensures.keeps.plan);
-  running = c.in_ok-extend-in-Round.ensures.running c.in_ok-advance.ensures.running;
-  keeps = keeps_on c.args.net.now.one.net c.advance.new.net.one.net c.extend.new.self.one.net (keeps_on c.args.net.now.one.net c.batches.net.one.net c.advance.new.net.one.net c.batches.invariant.keeps c.in_ok-advance.ensures.keeps) c.in_ok-extend-in-Round.ensures.keeps;
-  there = still_there (g.B.Batches.wants c.onward.new.self) c.advance.new.net.one.net c.extend.new.self.one.net c.in_ok-extend-in-Round.ensures.whole c.in_ok-onward.ensures.there;
+  places = c.in_ok-advance.ensures.places ∙ ap (λ (p : Plan). length p.outputs) (sym c.in_ok-extend_last-in-Round.ensures.keeps.plan);
+  running = c.in_ok-extend_last-in-Round.ensures.running c.in_ok-advance.ensures.running;
+  keeps = keeps_on c.args.net.now.one.net c.advance.new.net.one.net c.extend_last.new.self.one.net (keeps_on c.args.net.now.one.net c.batches.net.one.net c.advance.new.net.one.net c.batches.invariant.keeps c.in_ok-advance.ensures.keeps) c.in_ok-extend_last-in-Round.ensures.keeps;
+  there = still_there (g.B.Batches.wants c.onward.new.self) c.advance.new.net.one.net c.extend_last.new.self.one.net c.in_ok-extend_last-in-Round.ensures.whole c.in_ok-onward.ensures.there;
   unread = c.batches.invariant.unread;
   under_way = λ start u.
-      round_goes_on g.B.Batches.gives g.B.Batches.is_due g.B.Batches.wants g.T.Telling.has_told start c.batches.last (g.S.Source.told c.batches.input) (g.K.Sink.told c.batches.output) (g.K.Sink.told c.advance.new.output) c.batches.ends.batches c.onward.new.self c.batches.ends.telling c.advance.new.telling c.batches.net.one.net c.advance.new.net.one.net c.extend.new.self.one.net c.in_ok-onward.onward c.in-Round.more c.in-Round.is c.in_ok-advance.ensures.stands c.in_ok-advance.ensures.told c.in_ok-advance.ensures.rested c.in_ok-onward.ensures.onward
-      c.in_ok-extend-in-Round.ensures.stands c.in_ok-extend-in-Round.ensures.taken (c.batches.invariant.under_way start u);
+      round_goes_on g.B.Batches.gives g.B.Batches.is_due g.B.Batches.wants g.T.Telling.has_told start c.batches.last (g.S.Source.told c.batches.input) (g.K.Sink.told c.batches.output) (g.K.Sink.told c.advance.new.output) c.batches.ends.batches c.onward.new.self c.batches.ends.telling c.advance.new.telling c.batches.net.one.net c.advance.new.net.one.net c.extend_last.new.self.one.net c.in_ok-onward.onward c.in-Round.pieces c.in-Round.is c.in_ok-advance.ensures.stands c.in_ok-advance.ensures.told c.in_ok-advance.ensures.rested c.in_ok-onward.ensures.onward
+      c.in_ok-extend_last-in-Round.ensures.stands c.in_ok-extend_last-in-Round.ensures.taken (c.batches.invariant.under_way start u);
 }
 
 pub returns-in-End-clause-over : goal.returns-in-End-clause-over

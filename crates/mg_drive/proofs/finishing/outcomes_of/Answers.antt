@@ -8,4 +8,5 @@ returns-clause-tells g c = record {
   faults = ap (λ (r : Report). r.faults) c.in_ok-report.ensures;
   sets = ap (λ (r : Report). r.sets) c.in_ok-report.ensures;
   ends = c.in_ok-ends.ensures ∙ ap (map told_end) c.as_slice.ensures ∙ ap (λ (r : Report). map told_end r.streams) c.in_ok-report.ensures;
+  arrivals = c.new.ensures.items;
 }

@@ -30,6 +30,9 @@ ends_of-requires c =
     subst (λ (ss : List ℕ). All (λ s. s < length c.as_slice-6.result.now) ss) (sym (c.as_slice-5.ensures ∙ c.requires.numbers.streams_are))
     (subst (λ (n : ℕ). All (λ s. s < n) (map (stream_number plan) (numbers (length plan.streams)))) (sym (ap length c.as_slice-6.ensures.value ∙ c.requires.tells.many)) (all_in_core plan c.requires.valid))
 
+pub arrival_lines-requires : goal.arrival_lines-requires
+arrival_lines-requires c = c.requires.long
+
 pub returns : goal.returns
 returns c = λ job streams takens core_is tells have.
     let plan = c.args.self.now.plan.now in
@@ -39,4 +42,5 @@ returns c = λ job streams takens core_is tells have.
           ∙ ap (λ (ss : List ℕ). sets_by plan.nodes ss (logs_long takens)) (c.as_slice-4.ensures ∙ tells.sets);
       ends = c.in_ok-ends.ensures streams (c.as_slice-6.ensures.value ∙ tells.ends) ∙ ap (map (λ stream. end_of (stream_of streams stream))) (c.as_slice-5.ensures ∙ c.requires.numbers.streams_are)
           ∙ map-map (λ stream. end_of (stream_of streams stream)) (stream_number plan) (numbers (length plan.streams));
+      arrivals = c.in_ok-arrivals.ensures takens have;
     }

@@ -5,7 +5,7 @@ use Rattle.mg_calc.specs.Meaning.{faults, counts}
 use Rattle.mg_free.specs.Core.{core_of}
 use Rattle.mg_answer.specs.Answer.{output_in}
 use Rattle.mg_answer.specs.Devices.{device}
-use Rattle.mg_answer.specs.Live.{live_answer, live_failed}
+use Rattle.mg_answer.specs.Outcomes.{told_answer, told_failed}
 use Rattle.mg_answer.specs.Wrote.{WroteBy}
 use Rattle.mg_drive.specs.Batches.{Tells}
 use Rattle.mg_drive.proofs.LiveEnds.{sets_long, plan_ends}
@@ -23,17 +23,14 @@ outcomes-requires g c =
       tells = subst (λ (p : Plan). Tells p c.args.outcomes) l.of.core_is c.requires.tells;
     }
 
-pub arrival_lines-requires : goal.arrival_lines-requires
-arrival_lines-requires g c = sym c.requires.of.given.taken.takers_long
-
-pub conclude_live-requires : goal.conclude_live-requires
-conclude_live-requires g c =
+pub conclude-requires : goal.conclude-requires
+conclude-requires g c =
     let l = c.requires.of.given in
     let whole = c.args.self.now.whole.plan.now in
     let job : Job = record { plan = c.args.run.now.plan.now; inputs = c.requires.of.inputs } in
     let told = c.in_ok-outcomes.ensures job c.requires.of.streams l.takens l.of.core_is c.requires.of.tells l.taken in
     let tells = subst (λ (p : Plan). Tells p c.args.outcomes) l.of.core_is c.requires.tells in
-    let many = plan_ends whole job c.requires.of.streams l.takens c.in_ok-outcomes.outcomes told in
+    let many = plan_ends whole job c.requires.of.streams c.args.self.now.nodes.free l.takens c.in_ok-outcomes.outcomes told in
     record {
       few = omega (arith, many, tells.many, tells.few, streams_as_many whole l.of.valid);
       many = many;
@@ -49,12 +46,9 @@ returns-clause-wrote g c = λ form job first ends.
     record {
       streams = ends.streams;
       solution = ends.solution;
-      live = record { outcomes = c.in_ok-outcomes.outcomes; arrivals = c.in_ok-arrivals.arrivals };
-      tells = λ takens have. record {
-        outcomes = c.in_ok-outcomes.ensures job ends.streams takens (ends.plan_is ∙ l.of.core_is) ends.tells have;
-        arrivals = c.in_ok-arrivals.ensures takens have;
-      };
-      by = subst (λ (p : Plan). WroteBy c.in_ok-status.status (live_answer c.args.run.now.report whole c.args.closing.end (record { outcomes = c.in_ok-outcomes.outcomes; arrivals = c.in_ok-arrivals.arrivals }) (output_in form p ends.streams))
-          (live_failed c.args.run.now.report whole c.args.closing.end (record { outcomes = c.in_ok-outcomes.outcomes; arrivals = c.in_ok-arrivals.arrivals })) (device first (g.K.Sink.told c.conclude_live.new.output)) (device (g.E.Sink.told c.args.notes.now) (g.E.Sink.told c.conclude_live.new.notes))) (sym ends.plan_is)
-          (c.in_ok-status.ensures.wrote first (output_in form c.args.run.now.plan.now ends.streams) ends.put);
+      live = c.in_ok-outcomes.outcomes;
+      tells = λ takens have. c.in_ok-outcomes.ensures job ends.streams takens (ends.plan_is ∙ l.of.core_is) ends.tells have;
+      by = subst (λ (p : Plan). WroteBy c.in_ok-status.status (told_answer c.args.run.now.report whole c.args.closing.end c.in_ok-outcomes.outcomes (output_in form p ends.streams))
+          (told_failed c.args.run.now.report whole c.args.closing.end c.in_ok-outcomes.outcomes) (device first (g.K.Sink.told c.conclude.new.output)) (device (g.E.Sink.told c.args.notes.now) (g.E.Sink.told c.conclude.new.notes))) (sym ends.plan_is)
+          (c.in_ok-status.ensures.told first (output_in form c.args.run.now.plan.now ends.streams) ends.put);
     }

@@ -2,6 +2,7 @@ use Rattle.std.proofs.Common.{length, ◌≡◌, Bool, true, false, not, None, S
 use Rattle.mg_feed.specs.declared.feed_end.BatchEnd.{BatchEnd}
 use Rattle.mg_feed.specs.declared.feed_end.BatchEnd.TheVariants.{More, End}
 use Rattle.mg_live.specs.Takes.{Did, turns_of}
+use Rattle.mg_sched.specs.Extends.{for_last}
 use Rattle.mg_drive.specs.Batches.{GoesOn}
 use Rattle.mg_drive.specs.Code.Live.{LiveGives}
 use Rattle.mg_drive.proofs.LiveRounds.{same_frees_went, same_frees_rest, same_frees_there, same_frees_read, same_frees_taken, pieces_as, handed_as, stands_still, may_round, live_round, live_rests, live_read, round_there, rounds_fall, rounds_stay}
@@ -26,12 +27,12 @@ returns-then-did-clause-onward g c = λ began core first source so_far given.
     let taken = c.in_ok-did.ensures.taken still.streams l.takens still.are l.taken in
     let taken_now = same_frees_taken c.args.self.now.nodes.free c.round.new.self.free after c.round.new.self.takers.items c.in_ok-did.ensures.free taken in (
       c.in-More.is,
-      subst (λ (b : Bool). GoesOn (λ inputs. LiveGives g.B.Batches.gives g.B.Batches.came g.B.Batches.is_due began.batches (record { batches = c.args.self.now.batches; plan = began.whole.plan.now; whole = c.args.self.now.whole.plan.now; nodes = c.args.self.now.whole.nodes.now; streams = c.args.self.now.whole.streams.now; ended = c.args.self.now.end; rested = not b; frees = c.handed_on.new.nodes.free; takers = c.handed_on.new.nodes.takers.items }) core first source More inputs) core so_far c.in_ok-more.more) (sym c.if-did.true)
-          (same_frees_went g.B.Batches.gives g.B.Batches.came g.B.Batches.is_due began.batches (record { batches = c.args.self.now.batches; plan = began.whole.plan.now; whole = c.args.self.now.whole.plan.now; nodes = c.args.self.now.whole.nodes.now; streams = c.args.self.now.whole.streams.now; ended = c.args.self.now.end; rested = c.args.self.now.rested; frees = c.args.self.now.nodes.free; takers = c.args.self.now.nodes.takers.items }) core first source so_far c.in_ok-more.more c.handed_on.new.nodes.takers.items c.handed_on.new.nodes.free (c.in_ok-more.ensures.free ∙ c.in_ok-did.ensures.free)
-          (live_round g.B.Batches.gives g.B.Batches.came g.B.Batches.is_due began.batches (record { batches = c.args.self.now.batches; plan = began.whole.plan.now; whole = c.args.self.now.whole.plan.now; nodes = c.args.self.now.whole.nodes.now; streams = c.args.self.now.whole.streams.now; ended = c.args.self.now.end; rested = c.args.self.now.rested; frees = c.args.self.now.nodes.free; takers = c.args.self.now.nodes.takers.items }) core first source c.args.last so_far c.in_ok-more.more (g.N.Driven.net c.args.net.now) c.handed_on.new.nodes.takers.items still did
-          (same_frees_taken c.round.new.self.free c.args.self.now.nodes.free after c.handed_on.new.nodes.takers.items (sym c.in_ok-did.ensures.free) (c.in_ok-more.ensures.taken after taken_now))
-          (handed_as _ c.args.self.now.nodes.free c.round.new.self.free after (c.in_ok-more.ensures.handed after taken_now) c.in_ok-did.ensures.free)
-          (pieces_as _ c.len-own.result (length c.args.self.now.whole.plan.now.inputs) _ _ c.args.self.now.nodes.free c.round.new.self.free after (c.in_ok-more.ensures.streams after taken_now) c.len-own.ensures c.in_ok-did.ensures.handed c.in_ok-did.ensures.free))),
+      subst (λ (b : Bool). GoesOn (λ inputs. LiveGives g.B.Batches.gives g.B.Batches.came g.B.Batches.is_due began.batches (record { batches = c.args.self.now.batches; plan = began.whole.plan.now; whole = c.args.self.now.whole.plan.now; nodes = c.args.self.now.whole.nodes.now; streams = c.args.self.now.whole.streams.now; ended = c.args.self.now.end; rested = not b; frees = c.hand_on.new.self.free; takers = c.hand_on.new.self.takers.items }) core first source More inputs) core so_far (for_last (length (g.N.Driven.net c.args.net.now).plan.inputs) c.in_ok-pieces.pieces)) (sym c.if-did.true)
+          (same_frees_went g.B.Batches.gives g.B.Batches.came g.B.Batches.is_due began.batches (record { batches = c.args.self.now.batches; plan = began.whole.plan.now; whole = c.args.self.now.whole.plan.now; nodes = c.args.self.now.whole.nodes.now; streams = c.args.self.now.whole.streams.now; ended = c.args.self.now.end; rested = c.args.self.now.rested; frees = c.args.self.now.nodes.free; takers = c.args.self.now.nodes.takers.items }) core first source so_far (for_last (length (g.N.Driven.net c.args.net.now).plan.inputs) c.in_ok-pieces.pieces) c.hand_on.new.self.takers.items c.hand_on.new.self.free (c.in_ok-pieces.ensures.free ∙ c.in_ok-did.ensures.free)
+          (live_round g.B.Batches.gives g.B.Batches.came g.B.Batches.is_due began.batches (record { batches = c.args.self.now.batches; plan = began.whole.plan.now; whole = c.args.self.now.whole.plan.now; nodes = c.args.self.now.whole.nodes.now; streams = c.args.self.now.whole.streams.now; ended = c.args.self.now.end; rested = c.args.self.now.rested; frees = c.args.self.now.nodes.free; takers = c.args.self.now.nodes.takers.items }) core first source c.args.last so_far c.in_ok-pieces.pieces (g.N.Driven.net c.args.net.now) c.hand_on.new.self.takers.items given.boxes given.stands still did
+          (same_frees_taken c.round.new.self.free c.args.self.now.nodes.free after c.hand_on.new.self.takers.items (sym c.in_ok-did.ensures.free) (c.in_ok-pieces.ensures.taken after taken_now))
+          (handed_as _ c.args.self.now.nodes.free c.round.new.self.free after (c.in_ok-pieces.ensures.handed after taken_now) c.in_ok-did.ensures.free)
+          (pieces_as _ _ _ c.args.self.now.nodes.free c.round.new.self.free after (c.in_ok-pieces.ensures.pieces after taken_now) c.in_ok-did.ensures.handed c.in_ok-did.ensures.free))),
     )
 
 pub returns-then-did-clause-there : goal.returns-then-did-clause-there
@@ -41,7 +42,7 @@ returns-then-did-clause-there g c =
     let l = still.given in
     let after = turns_of still.streams c.args.self.now.nodes.free l.takens in
     let taken = c.in_ok-did.ensures.taken still.streams l.takens still.are l.taken in
-    same_frees_there (g.N.Driven.net c.args.net.now) c.args.self.now.nodes.free c.handed_on.new.nodes.free c.handed_on.new.nodes.takers.items (c.in_ok-more.ensures.free ∙ c.in_ok-did.ensures.free) (round_there (g.N.Driven.net c.args.net.now) still.streams c.args.self.now.nodes.free l.takens c.args.self.now.nodes.takers.items c.handed_on.new.nodes.takers.items l.taken (same_frees_taken c.round.new.self.free c.args.self.now.nodes.free after c.handed_on.new.nodes.takers.items (sym c.in_ok-did.ensures.free) (c.in_ok-more.ensures.taken after (same_frees_taken c.args.self.now.nodes.free c.round.new.self.free after c.round.new.self.takers.items c.in_ok-did.ensures.free taken))) c.requires.there)
+    same_frees_there (g.N.Driven.net c.args.net.now) c.args.self.now.nodes.free c.hand_on.new.self.free c.hand_on.new.self.takers.items (c.in_ok-pieces.ensures.free ∙ c.in_ok-did.ensures.free) (round_there (g.N.Driven.net c.args.net.now) still.streams c.args.self.now.nodes.free l.takens c.args.self.now.nodes.takers.items c.hand_on.new.self.takers.items l.taken (same_frees_taken c.round.new.self.free c.args.self.now.nodes.free after c.hand_on.new.self.takers.items (sym c.in_ok-did.ensures.free) (c.in_ok-pieces.ensures.taken after (same_frees_taken c.args.self.now.nodes.free c.round.new.self.free after c.round.new.self.takers.items c.in_ok-did.ensures.free taken))) c.requires.there)
 
 pub returns-then-did-clause-leaves : goal.returns-then-did-clause-leaves
 returns-then-did-clause-leaves g c =
@@ -51,7 +52,7 @@ returns-then-did-clause-leaves g c =
     let after = turns_of still.streams c.args.self.now.nodes.free l.takens in
     let did = subst (λ (b : Bool). Did b l.takens after) c.if-did.true (c.in_ok-did.ensures.did still.streams l.takens still.are l.taken) in
     let taken = c.in_ok-did.ensures.taken still.streams l.takens still.are l.taken in
-    let fewer = rounds_fall still.streams c.args.self.now.nodes.free l.takens c.args.self.now.nodes.takers.items c.handed_on.new.nodes.takers.items l.taken (same_frees_taken c.round.new.self.free c.args.self.now.nodes.free after c.handed_on.new.nodes.takers.items (sym c.in_ok-did.ensures.free) (c.in_ok-more.ensures.taken after (same_frees_taken c.args.self.now.nodes.free c.round.new.self.free after c.round.new.self.takers.items c.in_ok-did.ensures.free taken))) did in
+    let fewer = rounds_fall still.streams c.args.self.now.nodes.free l.takens c.args.self.now.nodes.takers.items c.hand_on.new.self.takers.items l.taken (same_frees_taken c.round.new.self.free c.args.self.now.nodes.free after c.hand_on.new.self.takers.items (sym c.in_ok-did.ensures.free) (c.in_ok-pieces.ensures.taken after (same_frees_taken c.args.self.now.nodes.free c.round.new.self.free after c.round.new.self.takers.items c.in_ok-did.ensures.free taken))) did in
     omega (arith, fewer)
 
 pub returns-in-Some-clause-onward : goal.returns-in-Some-clause-onward

@@ -12,8 +12,8 @@ returns-clause-first g c = λ plan valid fresh.
 pub returns-clause-first_came : goal.returns-clause-first_came
 returns-clause-first_came g c = λ plan valid fresh.
     let number = c.args.self.now.generator.number in
-    first_made_came plan number (making c.args.self.now.generator) (making c.next_piece.new.self) c.end_by-end.result c.in_ok-inputs.inputs valid fresh
-    (c.in_ok-inputs.ensures.piece (inputs_of plan) number fresh.handed_on) (c.in_ok-inputs.ensures.handed_on (inputs_of plan) number fresh.handed_on) c.end_by-end.ensures
+    first_made_came plan number c.args.self.now.most (making c.args.self.now.generator) (making c.next_piece.new.self) c.end_by-end.result c.in_ok-inputs.inputs valid fresh
+    (c.in_ok-inputs.ensures.piece (inputs_of plan) number fresh.handed_on) (c.in_ok-inputs.ensures.handed_on (inputs_of plan) number fresh.handed_on) c.in_ok-inputs.ensures.further c.end_by-end.ensures
 
 pub returns-clause-goes_on : goal.returns-clause-goes_on
 returns-clause-goes_on g c = λ began plan first so_far valid gave due.
@@ -27,7 +27,7 @@ pub returns-clause-comes_on : goal.returns-clause-comes_on
 returns-clause-comes_on g c = λ began plan first so_far earlier valid came due.
     let number = began.generator.number in
     let has = came.given.handed_on in
-    more_made_came plan number (making c.args.self.now.generator) (making c.next_piece.new.self) c.end_by-end.result c.in_ok-inputs.inputs so_far earlier valid came
+    more_made_came plan number began.most c.args.self.now.most (making c.args.self.now.generator) (making c.next_piece.new.self) c.end_by-end.result c.in_ok-inputs.inputs so_far earlier valid came
     (c.in_ok-inputs.ensures.piece (inputs_of plan) number has) (c.in_ok-inputs.ensures.handed_on (inputs_of plan) number has)
     (made_no_fewer c.args.self.now.generator.made c.next_piece.new.self.made c.args.self.now.generator.number c.args.self.now.most c.args.self.now.generator.few c.in_ok-inputs.ensures.further) c.end_by-end.ensures
 
