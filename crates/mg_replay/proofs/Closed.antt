@@ -25,11 +25,10 @@ use Rattle.mg_sched.proofs.Solved.{solved}
 use Rattle.mg_drive.specs.Nets.{Keeps}
 use Rattle.mg_drive.specs.Batches.{logged}
 use Rattle.mg_drive.specs.Leaves.{first_calls, IsAt}
-use Rattle.mg_drive.specs.Code.Ending.{CameBack}
 use Rattle.mg_drive.proofs.Jobs.{valid_plan, plan_stood}
-use Rattle.mg_drive.proofs.BoxesBack.{box_at, log_was, all_had_now, came_back_then}
+use Rattle.mg_drive.proofs.BoxesBack.{box_at, log_was, all_had_now}
 use Rattle.mg_drive.proofs.FrontsBack.{none_had, fronts_now}
-use Rattle.mg_replay.specs.Leaves.{HadAClose, HadCloses, AllBack}
+use Rattle.mg_replay.specs.Leaves.{HadAClose, HadCloses}
 use Rattle.mg_replay.specs.Replayed.{job_over, HadEnd}
 use Rattle.mg_replay.specs.Reading.{HasOpened}
 use Rattle.mg_replay.specs.Code.Nets.{ClosedAllOf, HadBy, NetReplayed, NetShort, JobReplayed, JobShort}
@@ -120,17 +119,6 @@ job_short plan inputs boxes handed now devices net fit same back h =
       opened = k.opened;
       fronts = fronts_now boxes now (logged plan inputs boxes) net fit refl k.stood (valid_plan (job_of plan inputs boxes) k.stood.before k.stood.stands) back;
     }
-
--- All of them come back --
-
-pub all_back : (plan : Plan) (inputs : Inputs) (boxes handed now : List CalculatorTold) (made net : NetView) (stood : StoodFor (job_of plan inputs handed) net) → handed ≡ boxes → IsMade plan inputs handed made → Keeps made net → now ≡ given_back net
-    → AllBack plan (device boxes now)
-all_back plan inputs boxes handed now made net stood same is keeps back =
-    let c : CameBack plan boxes now = came_back_then plan inputs boxes handed now made net same is keeps (record { job = job_of plan inputs handed; stood = stood; boxes_are = same }) back in
-    record { count = c.count; unused = c.unused }
-
-pub same_back : (plan : Plan) (boxes now : List CalculatorTold) → now ≡ boxes → AllBack plan (device boxes now)
-same_back plan boxes now same = record { count = ap length same; unused = λ place none. ap (λ (l : List CalculatorTold). slice_get l place) same }
 
 -- no net was made
 pub job_unmade : (plan : Plan) (inputs : Inputs) (boxes now : List CalculatorTold) (devices : RunDevices) → IsJob (job_over plan inputs) → BoxesFit plan boxes → Untouched devices.output → HasOpened plan devices.input inputs → now ≡ boxes

@@ -25,9 +25,7 @@ use Rattle.mg_feed.proofs.Holding.{given-untaken}
 use Rattle.mg_feed.proofs.Moving.{unfailed-same}
 use Rattle.mg_feed.specs.Lines.{all_lines}
 use Rattle.mg_trace.specs.Job.{end_word}
-use Rattle.mg_answer.specs.Answer.{Read, is_ended, inputs_by, by_lines}
-use Rattle.mg_answer.specs.Wrote.{Wrote}
-use Rattle.mg_answer.specs.Frozen.{WroteFrozen}
+use Rattle.mg_answer.specs.Answer.{Read, is_ended, inputs_by}
 use Rattle.mg_answer.specs.Told.{ended_status}
 use Rattle.mg_answer.specs.Text.{output_of}
 use Rattle.mg_answer.specs.Devices.{Device, device, RunDevices, run_devices, Untouched, TookFront}
@@ -56,7 +54,8 @@ use Rattle.mg_replay.specs.Note.{WroteNote}
 use Rattle.mg_replay.specs.Replayed.{job_over, WroteJob, WroteEnd, Replayed, ReplayedSome, ReplayedBy}
 use Rattle.mg_replay.specs.Reading.{HasOpened, IsReading, IsOpening, HasJob, IsMaking}
 use Rattle.mg_replay.specs.Code.Reading.{HasInputs}
-use Rattle.mg_replay.specs.Code.Nets.{accepts, IsSomeMade, StandsForPlan, ClosedAllOf, NetReplayed, NetShort, JobReplayed, JobShort}
+use Rattle.mg_drive.specs.Code.Tracing.{IsSomeMade}
+use Rattle.mg_replay.specs.Code.Nets.{accepts, StandsForPlan, ClosedAllOf, NetReplayed, NetShort, JobReplayed, JobShort}
 use Rattle.mg_replay.proofs.JobLines.{lines_then}
 use Rattle.mg_replay.specs.declared.trace_end.TraceEnd.{TraceEnd}
 use Rattle.mg_replay.specs.declared.trace_end.TraceEnd.TheVariants.{Accepted, Refused, Failed}
@@ -176,14 +175,6 @@ keeps_later made begun later begins becomes = keeps_on made begun later (begins_
 -- it stood for its job
 pub stood_later : (job : LoggedJob) (begun later : NetView) → IsRunning begun → StandsFor job begun → Becomes begun later → StoodFor job later
 stood_later job begun later running stands becomes = stands_still job later (becomes_stands job begun later running stands becomes)
-
--- What is written of a run that is accepted --
-
-pub wrote_ended : (ended report : Bool) (job : Job) (status : Status) (output notes : Device SinkTold) → ended ≡ true → Wrote (by_lines report) job Ended status output notes → WroteJob ended report job status output notes
-wrote_ended ended report job status output notes is wrote = subst (λ (b : Bool). WroteJob b report job status output notes) (sym is) wrote
-
-pub wrote_frozen : (ended report : Bool) (job : Job) (status : Status) (output notes : Device SinkTold) → ended ≡ false → WroteFrozen (by_lines report) job status output notes → WroteJob ended report job status output notes
-wrote_frozen ended report job status output notes is wrote = subst (λ (b : Bool). WroteJob b report job status output notes) (sym is) wrote
 
 -- The end of a net --
 

@@ -1,8 +1,7 @@
 -- What a recorded run that isn't accepted leaves of the calculators that are handed in.
-use Rattle.std.specs.Prelude.{◌≡◌, ◌⊎◌, ℕ, ◌≤◌, true, false, List, All, Some, slice_get, length}
+use Rattle.std.specs.Prelude.{◌≡◌, ◌⊎◌, ℕ, ◌≤◌, true, false, List, Some, slice_get}
 use Rattle.mg_value.specs.Payload.{Plain}
 use Rattle.mg_value.specs.Prefix.{StreamPrefix}
-use Rattle.mg_calc.specs.declared.plan.Plan.{Plan}
 use Rattle.mg_calc.specs.declared.plan_node.PlanNode.{PlanNode}
 use Rattle.mg_calc.specs.Equations.{Job, IsSolution}
 use Rattle.mg_calc.specs.Told.{CalculatorTold}
@@ -23,8 +22,3 @@ pub record HadCloses (job : Job) (boxes : Device (List CalculatorTold)) : Type 0
   pub solution : IsSolution job streams
   pub each : (number place : ℕ) (node : PlanNode) → slice_get job.plan.nodes number ≡ Some node → node.box_number ≡ Some place
       → IsAt place (HadAClose job streams node) boxes
-
--- All come back in their order, and one that no node uses had no call.
-pub record AllBack (plan : Plan) (boxes : Device (List CalculatorTold)) : Type 0 where
-  pub count : length boxes.now ≡ length boxes.before
-  pub unused : (place : ℕ) → All (λ node. ¬ (node.box_number ≡ Some place)) plan.nodes → slice_get boxes.now place ≡ slice_get boxes.before place

@@ -19,13 +19,14 @@ ghost use Rattle.mg_sched.specs.AtRest.{IsAtRest};
 ghost use Rattle.mg_sched.specs.Taking.{taken_out};
 ghost use Rattle.mg_sched.specs.GivesBack.{StoodFor};
 ghost use Rattle.mg_drive.specs.Nets.{Keeps};
+ghost use Rattle.mg_drive.specs.OneRun.{CameBack};
+ghost use Rattle.mg_drive.specs.Code.Tracing.{IsSomeMade};
 ghost use Rattle.mg_drive.specs.Code.Running.{HasRested};
 ghost use Rattle.mg_drive.specs.Code.Ending.{IsWhole, HadAllOf};
 ghost use Rattle.mg_replay.specs.Replayed.{job_over, WroteJob, ReplayedBy, Replayed, ReplayedSome};
 ghost use Rattle.mg_replay.specs.Note.{WroteNote};
-ghost use Rattle.mg_replay.specs.Leaves.{AllBack};
 ghost use Rattle.mg_replay.specs.Code.Reading.{HasInputs};
-ghost use Rattle.mg_replay.specs.Code.Nets.{told_since, accepts, StandsForPlan, ClosedAllOf, NetReplayed, NetShort, JobReplayed, JobShort, IsSomeMade};
+ghost use Rattle.mg_replay.specs.Code.Nets.{told_since, accepts, StandsForPlan, ClosedAllOf, NetReplayed, NetShort, JobReplayed, JobShort};
 
 use crate::TraceEnd;
 use crate::events::replay_events;
@@ -61,7 +62,7 @@ pub fn replay_lines<G: Gate, C: Calculator, S: Source, K: Sink, E: Sink>(
 
     // What each status says of the run, the devices and the calculators.
     ensures replayed { ReplayedBy result run.now.report run.now.plan.now (told_by S.told K.told E.told devices.old devices.new) (device (map C.told boxes.old.items) (map C.told boxes.new.items)) }
-    ensures back { AllBack run.now.plan.now (device (map C.told boxes.old.items) (map C.told boxes.new.items)) }
+    ensures back { CameBack run.now.plan.now (map C.told boxes.old.items) (map C.told boxes.new.items) }
     ensures same { SameDevices devices.old devices.new }
 {
     match replay_whole(run, gate, boxes, devices) {
@@ -85,7 +86,7 @@ fn replay_whole<G: Gate, C: Calculator, S: Source, K: Sink, E: Sink>(
     ensures replayed { IfOk result (λ status. Replayed run.now.report run.now.plan.now status (told_by S.told K.told E.told devices.old devices.new) (device (map C.told boxes.old.items) (map C.told boxes.new.items))) }
     ensures some { OnErr result (ReplayedSome run.now.plan.now (told_by S.told K.told E.told devices.old devices.new) (device (map C.told boxes.old.items) (map C.told boxes.new.items))) }
     ensures unnoted { OnErr result (E.told devices.new.notes.now ≡ E.told devices.old.notes.now) }
-    ensures back { AllBack run.now.plan.now (device (map C.told boxes.old.items) (map C.told boxes.new.items)) }
+    ensures back { CameBack run.now.plan.now (map C.told boxes.old.items) (map C.told boxes.new.items) }
     ensures same { SameDevices devices.old devices.new }
 {
     let mut feed = Feed::new(run.alloc, run.plan)?;
@@ -126,7 +127,7 @@ fn replay_job<G: Gate, C: Calculator, S: Source, K: Sink, E: Sink>(
     ensures some { OnErr result ((first : SourceTold) → HasInputs run.now.plan.now opening.inputs first (S.told devices.old.input.now) (reading opening.lines) (number_of opening.lines)
         → JobShort run.now.plan.now opening.inputs (told_since first (told_by S.told K.told E.told devices.old devices.new)) (device (map C.told boxes.old.items) (map C.told boxes.new.items))) }
     ensures unnoted { OnErr result (E.told devices.new.notes.now ≡ E.told devices.old.notes.now) }
-    ensures back { AllBack run.now.plan.now (device (map C.told boxes.old.items) (map C.told boxes.new.items)) }
+    ensures back { CameBack run.now.plan.now (map C.told boxes.old.items) (map C.told boxes.new.items) }
     ensures same { SameDevices devices.old devices.new }
 {
     let Opening { inputs, lines } = opening;

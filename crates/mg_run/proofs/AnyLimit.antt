@@ -16,7 +16,7 @@ use Rattle.mg_check.specs.Check.{check_of}
 use Rattle.mg_check.specs.declared.fault.CheckFault.{CheckFault}
 use Rattle.mg_subgraph.specs.Expansion.{expansion_of}
 use Rattle.mg_subgraph.specs.declared.fault.ExpandFault.{ExpandFault}
-use Rattle.mg_run.specs.Files.{Files, graphs, no_graphs}
+use Rattle.mg_files.specs.Files.{Files, graphs, no_graphs}
 use Rattle.mg_run.specs.Task.{Task}
 use Rattle.mg_run.specs.Answer.{Answer, Job, with_limit, with_workers, limit_or, way_job, live_job, used_job, plan_job, verb_job, expanded_job, files_job, job_of, IsAnswerOf, Records, Replays}
 use Rattle.mg_words.specs.declared.limits.TheConstants.{MOST_WORKERS}

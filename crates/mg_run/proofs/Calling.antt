@@ -1,14 +1,14 @@
 -- What a call came to.
-use Rattle.std.proofs.Common.{◌≡◌, ◌≢◌, ℕ, List, [], Bool, Option, None, Some, IfSome, ◌⊎◌, inl, inr, refl, ap, ◌∙◌, subst, arith}
+use Rattle.std.proofs.Common.{◌≡◌, ◌≢◌, ℕ, List, [], Bool, Option, None, Some, IfSome, ◌⊎◌, inl, inr, refl, sym, ap, ◌∙◌, subst, arith}
 use Rattle.mg_edge.specs.Edge.{SourceTold, SinkTold, StoreTold, Rose, one_more}
 use Rattle.mg_calc.specs.Told.{CalculatorTold}
 use Rattle.mg_edge.proofs.Runs.{TookAll-start}
 use Rattle.mg_run.proofs.Readings.{no-status, lines-no-store, lines-no-usage, packets-no-store, packets-no-usage, lines-noted, packets-noted, lines-answered, packets-answered}
 use Rattle.mg_run.proofs.LiveReadings.{live-no-other, live-made-no-other, live-noted, live-made-noted, live-answered, live-made-answered}
-use Rattle.mg_run.proofs.Loading.{of-loads}
+use Rattle.mg_files.proofs.Loading.{of-loads}
 use Rattle.mg_run.specs.Task.{Task}
-use Rattle.mg_run.specs.Files.{Files, AreFiles}
-use Rattle.mg_run.specs.Loads.{LoadedAll}
+use Rattle.mg_files.specs.Files.{Files, AreFiles}
+use Rattle.mg_files.specs.Loads.{LoadedAll}
 use Rattle.mg_calc.specs.declared.plan.Plan.{Plan}
 use Rattle.mg_answer.specs.Answer as answers
 use Rattle.mg_calc.specs.Meaning.{faults, stalled}
@@ -38,6 +38,12 @@ if-any (Some x) P all = all x
 pub short-nothing : (task : Task) (store : Device StoreTold) (input : SourceTold) (output : SinkTold) (notes : Device SinkTold) (boxes : List CalculatorTold)
     → Noted notes memory_note → CallShort task (devices store (device input input) (device output output) notes (device boxes boxes))
 short-nothing task store input output notes boxes noted = record { noted = noted; by = inl (record { unread = refl; unwritten = refl; uncalled = refl }) }
+
+pub called-short : (task : Task) (status : Status) (store : Device StoreTold) (input : SourceTold) (output : SinkTold) (notes : Device SinkTold) (boxes : List CalculatorTold)
+    → status ≡ OutOfMemory → Noted notes memory_note → Called status task (devices store (device input input) (device output output) notes (device boxes boxes))
+called-short task status store input output notes boxes is noted =
+    subst (λ (s : Status). Called s task (devices store (device input input) (device output output) notes (device boxes boxes))) (sym is)
+    (short-nothing task store input output notes boxes noted)
 
 -- The statuses of what was done.
 not-shown : (text : List ℕ) (status : Status) (all : Devices) → status ≢ Good → status ≢ WriteFault → WasShown text status all → ⊥

@@ -12,7 +12,7 @@ use Rattle.mg_edge.specs.Edge.{SourceTold, SinkTold, StoreTold}
 use Rattle.mg_calc.specs.declared.shape.OuterShape.{OuterShape}
 use Rattle.mg_calc.specs.Told.{CalculatorTold}
 use Rattle.mg_run.specs.Task.{Task, task}
-use Rattle.mg_run.specs.Files.{Files, graphs, no_graphs}
+use Rattle.mg_files.specs.Files.{Files, graphs, no_graphs}
 use Rattle.mg_run.specs.Answer.{Job, refuse, show, run_plan, run_live, solve, generate, generate_live, trace, replay, check_job, way_job, live_job, verb_job, expanded_job, files_job}
 use Rattle.mg_words.specs.Words.{Asked, asks_usage, asks_text, asks_command, command_by}
 use Rattle.mg_run.specs.Devices.{Device, device, Devices, devices, run_of, Untouched, HasEnded, HasRisen, NoneFailed, Noted}
@@ -37,11 +37,17 @@ use Rattle.mg_run.proofs.Ending.{ended_statuses, called-ended}
 use Rattle.mg_run.proofs.Risen.{store-risen, read-risen, write-risen, risen-steady}
 
 -- There was no memory to judge the words.
-pub came-nothing : (outers : List OuterShape) (asked : Asked) (store : StoreTold) (input : SourceTold) (output : SinkTold) (notes : Device SinkTold) (boxes : List CalculatorTold) → Noted notes memory_note
+came-short : (outers : List OuterShape) (asked : Asked) (store : StoreTold) (input : SourceTold) (output : SinkTold) (notes : Device SinkTold) (boxes : List CalculatorTold) → Noted notes memory_note
     → Came outers asked OutOfMemory (devices (device store store) (device input input) (device output output) notes (device boxes boxes))
-came-nothing outers asks_usage store input output notes boxes noted = record { noted = inr (refl, noted); unloaded = refl; unread = refl; unwritten = refl; uncalled = refl }
-came-nothing outers (asks_text text) store input output notes boxes noted = record { written = inr (refl, refl, noted); unloaded = refl; unread = refl; uncalled = refl }
-came-nothing outers (asks_command command) store input output notes boxes noted = short-nothing (task command outers) (device store store) input output notes boxes noted
+came-short outers asks_usage store input output notes boxes noted = record { noted = inr (refl, noted); unloaded = refl; unread = refl; unwritten = refl; uncalled = refl }
+came-short outers (asks_text text) store input output notes boxes noted = record { written = inr (refl, refl, noted); unloaded = refl; unread = refl; uncalled = refl }
+came-short outers (asks_command command) store input output notes boxes noted = short-nothing (task command outers) (device store store) input output notes boxes noted
+
+pub came-nothing : (outers : List OuterShape) (asked : Asked) (status : Status) (store : StoreTold) (input : SourceTold) (output : SinkTold) (notes : Device SinkTold) (boxes : List CalculatorTold)
+    → status ≡ OutOfMemory → Noted notes memory_note → Came outers asked status (devices (device store store) (device input input) (device output output) notes (device boxes boxes))
+came-nothing outers asked status store input output notes boxes is noted =
+    subst (λ (s : Status). Came outers asked s (devices (device store store) (device input input) (device output output) notes (device boxes boxes))) (sym is)
+    (came-short outers asked store input output notes boxes noted)
 
 -- The words were no command, and the note says so.
 pub usage-came : (outers : List OuterShape) (asked : Asked) (all : Devices) (done : Bool) → asked ≡ asks_usage → Sent done all.notes.before all.notes.now usage_note

@@ -17,7 +17,7 @@ use Rattle.mg_drive.proofs.TracesRan.{traced_ended}
 use Rattle.mg_replay.proofs.Answered.{replayed_ended}
 use Rattle.mg_words.specs.Command.{reads_input}
 use Rattle.mg_run.specs.Task.{Task}
-use Rattle.mg_run.specs.Files.{Files, graphs, no_graphs}
+use Rattle.mg_files.specs.Files.{Files, graphs, no_graphs}
 use Rattle.mg_run.specs.Answer.{Job, refuse, show, run_plan, run_live, solve, generate, generate_live, trace, replay, check_job, way_job, live_job, verb_job, expanded_job, files_job}
 use Rattle.mg_run.specs.Devices.{Device, Devices, run_of, Untouched, HasEnded}
 use Rattle.mg_run.specs.Call.{Did, IsJob, CallDid, Called, IsOneOf}

@@ -25,10 +25,10 @@ use Rattle.mg_drive.specs.OneRun.{OneRun, RanOverLines, RanOverPackets}
 use Rattle.mg_drive.specs.OneLive.{OneLive, AreBatchesOf, RanLive, RanLiveMade}
 use Rattle.mg_run.specs.Task.{Task, task}
 use Rattle.mg_words.specs.Words.{Asked, asks_usage, asks_text, asks_command, command_by}
-use Rattle.mg_run.specs.Notes.{expand_note}
-use Rattle.mg_run.specs.CheckNotes.{check_note}
-use Rattle.mg_run.specs.Files.{Files, graphs, no_graphs, AreGraphs, AreFiles}
-use Rattle.mg_run.specs.Loads.{LoadedAll, loads_of}
+use Rattle.mg_files.specs.Notes.{expand_note}
+use Rattle.mg_files.specs.CheckNotes.{check_note}
+use Rattle.mg_files.specs.Files.{Files, graphs, no_graphs, AreGraphs, AreFiles}
+use Rattle.mg_files.specs.Loads.{LoadedAll, loads_of}
 use Rattle.mg_run.specs.Devices.{Device, Devices, run_of, Untouched, Unrisen}
 use Rattle.mg_run.specs.Answer.{Job, refuse, run_plan, run_live, generate, generate_live, with_limit, with_workers, as_asked, way_job, live_job, used_job, plan_job, verb_job, expanded_job, job_of}
 use Rattle.mg_run.specs.Call.{GeneratedGraph, GeneratedLive, Did, IsJob, CallDid, Called, Came, IsOneOf}
@@ -38,8 +38,8 @@ use Rattle.mg_words.specs.declared.words.Verb.{Verb}
 use Rattle.mg_words.specs.declared.words.Verb.TheVariants.{Use}
 use Rattle.mg_words.specs.declared.words.Way.{Way}
 use Rattle.mg_words.specs.declared.words.Way.TheVariants.{Run, Generate}
-use Rattle.mg_run.proofs.Loading.{of-loads}
-use Rattle.mg_run.proofs.Together.{one-reading}
+use Rattle.mg_files.proofs.Loading.{of-loads}
+use Rattle.mg_files.proofs.Together.{one-reading}
 use Rattle.mg_run.proofs.Unlimited.{limited_plan, unlimited_run}
 use Rattle.mg_run.proofs.LiveUnlimited.{batches_same, unlimited_live}
 

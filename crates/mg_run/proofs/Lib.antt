@@ -1,12 +1,9 @@
-pub mod OneFile
-pub mod Together
-pub mod Loading
-pub mod Texts
 pub mod Fewer
 pub mod Told
 pub mod Readings
 pub mod LiveReadings
 pub mod Calling
+pub mod Duty
 pub mod Planned
 pub mod Ending
 pub mod OneLiveAnswer
@@ -14,7 +11,6 @@ pub mod OneAnswer
 pub mod Risen
 pub mod Coming
 pub mod Handing
-pub mod LimitedPlans
 pub mod Unlimited
 pub mod LiveUnlimited
 pub mod AnyLimit

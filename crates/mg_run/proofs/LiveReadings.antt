@@ -11,11 +11,11 @@ use Rattle.mg_feed.specs.declared.feed_end.FeedEnd.{FeedEnd}
 use Rattle.mg_feed.specs.declared.feed_end.FeedEnd.TheVariants.{Ended}
 use Rattle.mg_answer.specs.Answer.{Form, packet_lines, totals, Read, Answer, output_in, ended_input, generated_job}
 use Rattle.mg_answer.specs.Devices as answers
-use Rattle.mg_answer.specs.Live.{live_answer, live_failed}
+use Rattle.mg_answer.specs.Outcomes.{told_answer, told_failed}
 use Rattle.mg_answer.specs.Notes.{memory_note}
 use Rattle.mg_answer.specs.Report.{open_numbers}
 use Rattle.mg_answer.specs.Wrote.{Meets, MetShort, WroteBy}
-use Rattle.mg_answer.specs.declared.live_outcomes.LiveOutcomes.{LiveOutcomes}
+use Rattle.mg_answer.specs.declared.outcomes.Outcomes.{Outcomes}
 use Rattle.mg_answer.specs.declared.status.Status.{Status}
 use Rattle.mg_answer.specs.declared.status.Status.TheVariants.{Good, StoreFault, Usage, GraphRefused, LineRefused, NodeFault, Stalled, ReadFault, WriteFault, OutOfMemory}
 use Rattle.mg_answer.proofs.Answering.{no-want, end-by, no-one, failed-by, steady-risen, rose-unrisen, whole-read}
@@ -42,14 +42,14 @@ either_wrote WriteFault answer failed output notes wrote = inr (refl, wrote)
 either_wrote OutOfMemory answer failed output notes wrote = inl wrote
 
 -- of a run of a graph with free nodes
-abbrev Ended_so : Bool → Plan → FeedEnd → LiveOutcomes → List ℕ → Status → Device SinkTold → Device SinkTold → Type 0
+abbrev Ended_so : Bool → Plan → FeedEnd → Outcomes → List ℕ → Status → Device SinkTold → Device SinkTold → Type 0
 Ended_so report whole end live text status output notes =
-    Meets (live_answer report whole end live text) status output notes ⊎ ((status ≡ WriteFault) × MetShort (live_answer report whole end live text) (live_failed report whole end live) output notes)
+    Meets (told_answer report whole end live text) status output notes ⊎ ((status ≡ WriteFault) × MetShort (told_answer report whole end live text) (told_failed report whole end live) output notes)
 
 ended_so : (form : Form) (report : Bool) (whole : Plan) (first : Inputs) (later : List Inputs) (end : FeedEnd) (status : Status) (output notes : Device SinkTold) (boxes : Device (List CalculatorTold))
     → (run : OneLive form report whole first later end status output notes boxes) → Ended_so report whole end run.comes.live (output_in form (split_of whole).core run.comes.streams) status output notes
 ended_so form report whole first later end status output notes boxes run =
-    either_wrote status (live_answer report whole end run.comes.live (output_in form (split_of whole).core run.comes.streams)) (live_failed report whole end run.comes.live) output notes run.wrote
+    either_wrote status (told_answer report whole end run.comes.live (output_in form (split_of whole).core run.comes.streams)) (told_failed report whole end run.comes.live) output notes run.wrote
 
 -- over an input, and over packets that are made
 read_so : (report : Bool) (whole : Plan) (status : Status) (all : RunDevices) (boxes : Device (List CalculatorTold)) → (one : OneLiveReading report whole status all boxes)
@@ -66,8 +66,8 @@ not_failed : (status : Status) → (status ≡ StoreFault) ⊎ (status ≡ Usage
 not_failed status (inl store) is = cc
 not_failed status (inr usage) is = cc
 
-no_other : (report : Bool) (whole : Plan) (end : FeedEnd) (live : LiveOutcomes) (text : List ℕ) (status : Status) (output notes : Device SinkTold) → (status ≡ StoreFault) ⊎ (status ≡ Usage) → Ended_so report whole end live text status output notes → ⊥
-no_other report whole end live text status output notes other (inl met) = no-status status end live.outcomes.faults (open_numbers live.outcomes.ends.items) other met.told
+no_other : (report : Bool) (whole : Plan) (end : FeedEnd) (live : Outcomes) (text : List ℕ) (status : Status) (output notes : Device SinkTold) → (status ≡ StoreFault) ⊎ (status ≡ Usage) → Ended_so report whole end live text status output notes → ⊥
+no_other report whole end live text status output notes other (inl met) = no-status status end live.faults (open_numbers live.ends.items) other met.told
 no_other report whole end live text status output notes other (inr short) = not_failed status other short.0
 
 not_short : (status : Status) → (status ≡ StoreFault) ⊎ (status ≡ Usage) → status ≡ OutOfMemory → ⊥
@@ -90,7 +90,7 @@ live-noted report whole all boxes (inr short) = short.noted
 live-noted report whole all boxes (inl one) = absurd (by (read_so report whole OutOfMemory all boxes one))
   where
     by : Ended_so report whole one.read.end one.run.comes.live (output_in packet_lines (split_of whole).core one.run.comes.streams) OutOfMemory all.output all.notes → ⊥
-    by (inl met) = no-want whole all.input one.read.end one.run.comes.live.outcomes.faults (open_numbers one.run.comes.live.outcomes.ends.items) one.came.came one.read one.came.by met.told
+    by (inl met) = no-want whole all.input one.read.end one.run.comes.live.faults (open_numbers one.run.comes.live.ends.items) one.came.came one.read one.came.by met.told
     by (inr short) = let e = short.0 in cc
 
 pub live-made-noted : (report : Bool) (whole : Plan) (number : ℕ) (output notes : Device SinkTold) (boxes : Device (List CalculatorTold)) → RanLiveMade report whole number OutOfMemory output notes boxes → Noted notes memory_note
@@ -98,7 +98,7 @@ live-made-noted report whole number output notes boxes (inr short) = short.noted
 live-made-noted report whole number output notes boxes (inl one) = absurd (by (made_so report whole number OutOfMemory output notes boxes one))
   where
     by : Ended_so report whole Ended one.comes.live (output_in totals (split_of whole).core one.comes.streams) OutOfMemory output notes → ⊥
-    by (inl met) = no_memory one.comes.live.outcomes.faults (open_numbers one.comes.live.outcomes.ends.items) met.told
+    by (inl met) = no_memory one.comes.live.faults (open_numbers one.comes.live.ends.items) met.told
     by (inr short) = let e = short.0 in cc
 
 -- The calculators --
@@ -128,10 +128,10 @@ live-made-boxes report whole number status output notes boxes (inr short) = made
 no_short : (answer : Answer) (failed : List ℕ) (output notes : Device SinkTold) → MetShort answer failed output notes → answers.Unrisen output.before.faults output.now.faults → answers.Unrisen notes.before.faults notes.now.faults → ⊥
 no_short answer failed output notes short one two = elim short.rose [ inl rose ↦ rose-unrisen _ _ rose one | inr rose ↦ rose-unrisen _ _ rose two ]
 
-met_then : (report : Bool) (whole : Plan) (end : FeedEnd) (live : LiveOutcomes) (text : List ℕ) (status : Status) (output notes : Device SinkTold) → answers.Unrisen output.before.faults output.now.faults → answers.Unrisen notes.before.faults notes.now.faults
-    → Ended_so report whole end live text status output notes → Meets (live_answer report whole end live text) status output notes
+met_then : (report : Bool) (whole : Plan) (end : FeedEnd) (live : Outcomes) (text : List ℕ) (status : Status) (output notes : Device SinkTold) → answers.Unrisen output.before.faults output.now.faults → answers.Unrisen notes.before.faults notes.now.faults
+    → Ended_so report whole end live text status output notes → Meets (told_answer report whole end live text) status output notes
 met_then report whole end live text status output notes one two (inl met) = met
-met_then report whole end live text status output notes one two (inr short) = absurd (no_short (live_answer report whole end live text) (live_failed report whole end live) output notes short.1 one two)
+met_then report whole end live text status output notes one two (inr short) = absurd (no_short (told_answer report whole end live text) (told_failed report whole end live) output notes short.1 one two)
 
 abbrev MetLive : Bool → Plan → Status → RunDevices → List ℕ → Type 0
 MetLive report whole status all bytes = (answer : Answer) × AnswersLive report whole bytes answer × Meets answer status all.output all.notes
@@ -146,7 +146,7 @@ live-answered report whole status all boxes (inl one) none some = by all.input.b
     by (Some bytes) is =
         let same = whole-read (inputs_of whole) all.input one.read bytes one.came is none.input in
         let text = output_in packet_lines (split_of whole).core one.run.comes.streams in
-        let answer = live_answer report whole one.read.end one.run.comes.live text in (
+        let answer = told_answer report whole one.read.end one.run.comes.live text in (
           answer,
           record {
             first = one.first;
@@ -162,7 +162,7 @@ pub live-made-answered : (report : Bool) (whole : Plan) (number : ℕ) (status :
 live-made-answered report whole number status all boxes (inr short) none some = absurd (some short.is)
 live-made-answered report whole number status all boxes (inl one) none some =
     let text = output_in totals (split_of whole).core one.comes.streams in (
-      live_answer report whole Ended one.comes.live text,
+      told_answer report whole Ended one.comes.live text,
       record { comes = one.comes; is = refl },
       met_then report whole Ended one.comes.live text status all.output all.notes none.output none.notes (made_so report whole number status all.output all.notes boxes one),
     )
@@ -173,7 +173,7 @@ live-ended report whole status all boxes (inr out) short one_of = absurd (short 
 live-ended report whole status all boxes (inl one) short one_of = by (read_so report whole status all boxes one)
   where
     by : Ended_so report whole one.read.end one.run.comes.live (output_in packet_lines (split_of whole).core one.run.comes.streams) status all.output all.notes → EndCame all.input.before all.input.now
-    by (inl met) = end-by one.read.end status one.run.comes.live.outcomes.faults (open_numbers one.run.comes.live.outcomes.ends.items) (inputs_of whole) all.input one.came.came one.read met.told one_of one.came.by
+    by (inl met) = end-by one.read.end status one.run.comes.live.faults (open_numbers one.run.comes.live.ends.items) (inputs_of whole) all.input one.came.came one.read met.told one_of one.came.by
     by (inr failed) = absurd (no-one status (inl failed.0) one_of)
 
 pub live-read-risen : (report : Bool) (whole : Plan) (status : Status) (all : RunDevices) (boxes : Device (List CalculatorTold)) → RanLive report whole status all boxes → HasRisen all.input.before.faults all.input.now.faults
@@ -182,13 +182,13 @@ live-read-risen report whole status all boxes (inr short) risen = inr (inr (inl 
 live-read-risen report whole status all boxes (inl one) risen = by (read_so report whole status all boxes one)
   where
     by : Ended_so report whole one.read.end one.run.comes.live (output_in packet_lines (split_of whole).core one.run.comes.streams) status all.output all.notes → IsOneOf status (ReadFault ∷ WriteFault ∷ OutOfMemory ∷ [])
-    by (inl met) = failed-by one.read.end status one.run.comes.live.outcomes.faults (open_numbers one.run.comes.live.outcomes.ends.items) all.input.before all.input.now (inputs_of whole) all.input one.came.came one.read met.told one.came.faults one.came.by risen
+    by (inl met) = failed-by one.read.end status one.run.comes.live.faults (open_numbers one.run.comes.live.ends.items) all.input.before all.input.now (inputs_of whole) all.input one.came.came one.read met.told one.came.faults one.came.by risen
     by (inr failed) = inr (inl failed.0)
 
 abbrev EitherRisen : RunDevices → Type 0
 EitherRisen all = HasRisen all.output.before.faults all.output.now.faults ⊎ HasRisen all.notes.before.faults all.notes.now.faults
 
-write_so : (report : Bool) (whole : Plan) (end : FeedEnd) (live : LiveOutcomes) (text : List ℕ) (status : Status) (all : RunDevices) → EitherRisen all → Ended_so report whole end live text status all.output all.notes → IsOneOf status (WriteFault ∷ OutOfMemory ∷ [])
+write_so : (report : Bool) (whole : Plan) (end : FeedEnd) (live : Outcomes) (text : List ℕ) (status : Status) (all : RunDevices) → EitherRisen all → Ended_so report whole end live text status all.output all.notes → IsOneOf status (WriteFault ∷ OutOfMemory ∷ [])
 write_so report whole end live text status all (inl risen) (inl met) = absurd (steady-risen _ _ met.text.steady risen)
 write_so report whole end live text status all (inr risen) (inl met) = absurd (steady-risen _ _ met.noted.steady risen)
 write_so report whole end live text status all risen (inr failed) = inl failed.0

@@ -16,19 +16,19 @@ use Rattle.mg_feed.specs.declared.feed_end.FeedEnd.TheVariants.{Ended}
 use Rattle.mg_feed.specs.Graph.{inputs_of}
 use Rattle.mg_answer.specs.Answer.{Form, packet_lines, totals, Answer, Read, output_in, ended_input, generated_job}
 use Rattle.mg_answer.specs.Devices.{Device}
-use Rattle.mg_answer.specs.Live.{live_answer, live_failed}
+use Rattle.mg_answer.specs.Outcomes.{told_answer, told_failed}
 use Rattle.mg_answer.specs.Notes.{end_note, fault_note}
 use Rattle.mg_answer.specs.Report.{open_numbers, end_bounds, report_by, asked_report}
 use Rattle.mg_answer.specs.Told.{status_of}
 use Rattle.mg_answer.specs.Wrote.{WroteBy}
-use Rattle.mg_answer.specs.declared.live_outcomes.LiveOutcomes.{LiveOutcomes}
+use Rattle.mg_answer.specs.declared.outcomes.Outcomes.{Outcomes}
 use Rattle.mg_answer.specs.declared.status.Status.{Status}
 use Rattle.mg_answer.specs.declared.status.Status.TheVariants.{WriteFault}
 use Rattle.mg_drive.specs.Live.{fault_in, sets_by, LiveTells}
 use Rattle.mg_drive.specs.OneLive.{ComesTo, IsLiveAnswer, OneLive, AreBatchesOf, AnswersLive, AnswersLiveMade}
 use Rattle.mg_run.specs.Answer.{with_limit, with_workers, limit_or}
 use Rattle.mg_words.specs.declared.limits.TheConstants.{MOST_WORKERS}
-use Rattle.mg_run.proofs.Unlimited.{limited_plan, limited, unlimited, faults_same, counts_same, output_same, notes_same, had_same}
+use Rattle.mg_run.proofs.Unlimited.{limited_plan, unlimited, faults_same, counts_same, output_same, notes_same, had_same}
 
 -- The rounds --
 
@@ -46,15 +46,13 @@ all_rounds_same plan limit workers (inputs ∷ later) before last (batch {after 
 
 -- What is told --
 
-tells_same : (plan : Plan) (limit : ℤ) (workers : ℕ) (base : Inputs) (streams : List (StreamPrefix Plain)) (takens : List Taken) (live : LiveOutcomes)
+tells_same : (plan : Plan) (limit : ℤ) (workers : ℕ) (base : Inputs) (streams : List (StreamPrefix Plain)) (takens : List Taken) (live : Outcomes)
     → LiveTells (limited_plan plan limit workers) (core_job (split_of (limited_plan plan limit workers)) base takens) streams (split_of (limited_plan plan limit workers)).free takens live
     → LiveTells plan (core_job (split_of plan) base takens) streams (split_of plan).free takens live
 tells_same plan limit workers base streams takens live t = record {
-  outcomes = record {
-    faults = t.outcomes.faults ∙ ap (λ (fs : List NodeFault). map (fault_in (split_of plan).numbers) fs) (faults_same (core_job (split_of plan) base takens) limit workers streams);
-    sets = t.outcomes.sets ∙ ap (λ (cs : List ℕ). sets_by plan.nodes cs (map (λ (taken : Taken). length taken.log) takens)) (counts_same (core_job (split_of plan) base takens) limit workers streams);
-    ends = t.outcomes.ends;
-  };
+  faults = t.faults ∙ ap (λ (fs : List NodeFault). map (fault_in (split_of plan).numbers) fs) (faults_same (core_job (split_of plan) base takens) limit workers streams);
+  sets = t.sets ∙ ap (λ (cs : List ℕ). sets_by plan.nodes cs (map (λ (taken : Taken). length taken.log) takens)) (counts_same (core_job (split_of plan) base takens) limit workers streams);
+  ends = t.ends;
   arrivals = t.arrivals;
 }
 
@@ -72,15 +70,15 @@ comes_same plan limit workers first later c = record {
 
 -- The answer --
 
-answer_same : (form : Form) (report : Bool) (plan : Plan) (limit : ℤ) (workers : ℕ) (end : FeedEnd) (live : LiveOutcomes) (streams : List (StreamPrefix Plain))
-    → live_answer report (limited_plan plan limit workers) end live (output_in form (split_of (limited_plan plan limit workers)).core streams) ≡ live_answer report plan end live (output_in form (split_of plan).core streams)
+answer_same : (form : Form) (report : Bool) (plan : Plan) (limit : ℤ) (workers : ℕ) (end : FeedEnd) (live : Outcomes) (streams : List (StreamPrefix Plain))
+    → told_answer report (limited_plan plan limit workers) end live (output_in form (split_of (limited_plan plan limit workers)).core streams) ≡ told_answer report plan end live (output_in form (split_of plan).core streams)
 answer_same form report plan limit workers end live streams =
-    let stopped = open_numbers live.outcomes.ends.items in
-    let status = status_of end live.outcomes.faults stopped in
+    let stopped = open_numbers live.ends.items in
+    let status = status_of end live.faults stopped in
     λ i. record {
       output = output_same form (split_of plan).core limit workers streams i;
-      notes = (end_note end ++ flat_map (fault_note plan) live.outcomes.faults ++ notes_same status plan limit workers (end_bounds live.outcomes.ends.items) stopped i)
-          ++ live.arrivals.items ++ asked_report report (report_by plan live.outcomes.sets live.outcomes.ends.items);
+      notes = (end_note end ++ flat_map (fault_note plan) live.faults ++ notes_same status plan limit workers (end_bounds live.ends.items) stopped i)
+          ++ live.arrivals.items ++ asked_report report (report_by plan live.sets live.ends.items);
       status = status;
     }
 
@@ -120,11 +118,11 @@ live_made_asked report number (Some limit) (Some workers) plan a is = made_same 
 
 -- A run --
 
-failed_same : (report : Bool) (plan : Plan) (limit : ℤ) (workers : ℕ) (end : FeedEnd) (live : LiveOutcomes) → live_failed report (limited_plan plan limit workers) end live ≡ live_failed report plan end live
+failed_same : (report : Bool) (plan : Plan) (limit : ℤ) (workers : ℕ) (end : FeedEnd) (live : Outcomes) → told_failed report (limited_plan plan limit workers) end live ≡ told_failed report plan end live
 failed_same report plan limit workers end live =
-    let stopped = open_numbers live.outcomes.ends.items in
-    λ i. (end_note end ++ flat_map (fault_note plan) live.outcomes.faults ++ notes_same WriteFault plan limit workers (end_bounds live.outcomes.ends.items) stopped i)
-    ++ live.arrivals.items ++ asked_report report (report_by plan live.outcomes.sets live.outcomes.ends.items)
+    let stopped = open_numbers live.ends.items in
+    λ i. (end_note end ++ flat_map (fault_note plan) live.faults ++ notes_same WriteFault plan limit workers (end_bounds live.ends.items) stopped i)
+    ++ live.arrivals.items ++ asked_report report (report_by plan live.sets live.ends.items)
 
 pub unlimited_live : (form : Form) (report : Bool) (plan : Plan) (limit : ℤ) (workers : ℕ) (first : Inputs) (later : List Inputs) (end : FeedEnd) (status : Status) (output notes : Device SinkTold) (boxes : Device (List CalculatorTold))
     → OneLive form report (limited_plan plan limit workers) first later end status output notes boxes → OneLive form report plan first later end status output notes boxes
@@ -133,8 +131,8 @@ unlimited_live form report plan limit workers first later end status output note
     let job = core_job (split_of plan) (last_batch first later) r.comes.takens in
     record {
       comes = comes_same plan limit workers first later r.comes;
-      wrote = subst (λ (a : Answer). WroteBy status a (live_failed report plan end r.comes.live) output notes) (answer_same form report plan limit workers end r.comes.live r.comes.streams)
-          (subst (λ (f : List ℕ). WroteBy status (live_answer report (limited_plan plan limit workers) end r.comes.live (output_in form (split_of (limited_plan plan limit workers)).core r.comes.streams)) f output notes)
+      wrote = subst (λ (a : Answer). WroteBy status a (told_failed report plan end r.comes.live) output notes) (answer_same form report plan limit workers end r.comes.live r.comes.streams)
+          (subst (λ (f : List ℕ). WroteBy status (told_answer report (limited_plan plan limit workers) end r.comes.live (output_in form (split_of (limited_plan plan limit workers)).core r.comes.streams)) f output notes)
           (failed_same report plan limit workers end r.comes.live) r.wrote);
       had = record {
         back = record { count = r.had.back.count; unused = r.had.back.unused };

@@ -46,8 +46,8 @@ answer_in form report whole base end takens streams =
 answer_told : (form : Form) (report : Bool) (whole : Plan) (first : Inputs) (later : List Inputs) (end : FeedEnd) (a : Answer) → (is : IsLiveAnswer form report whole first later end a)
     → a ≡ answer_in form report whole (last_batch first later) end is.comes.takens is.comes.streams
 answer_told form report whole first later end a is =
-    let told = is.comes.tells.outcomes in
-    is.is ∙ (λ i. answer_by report whole end (told.faults i) (told.sets i) (told.ends i) (is.comes.tells.arrivals i) (output_in form (split_of whole).core is.comes.streams))
+    let told = is.comes.tells in
+    is.is ∙ (λ i. answer_by report whole end (told.faults i) (told.sets i) (told.ends i) (told.arrivals i) (output_in form (split_of whole).core is.comes.streams))
 
 pub one-of-live : (form : Form) (report : Bool) (whole : Plan) (first : Inputs) (later : List Inputs) (end : FeedEnd) (a b : Answer) → IsLiveAnswer form report whole first later end a → IsLiveAnswer form report whole first later end b → a ≡ b
 one-of-live form report whole first later end a b one two =

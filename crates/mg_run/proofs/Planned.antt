@@ -4,7 +4,7 @@ use Rattle.mg_calc.specs.declared.plan.Plan.{Plan}
 use Rattle.mg_check.specs.declared.fault.CheckFault.{CheckFault}
 use Rattle.mg_free.specs.Core.{first_free}
 use Rattle.mg_run.specs.Answer.{Job, refuse, way_job, live_job, used_job, plan_job}
-use Rattle.mg_run.specs.CheckNotes.{check_note}
+use Rattle.mg_files.specs.CheckNotes.{check_note}
 use Rattle.mg_words.specs.declared.words.Order.{Order}
 use Rattle.mg_words.specs.declared.words.Way.{Way}
 

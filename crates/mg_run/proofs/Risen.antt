@@ -69,10 +69,6 @@ write_statuses = StoreFault ∷ GraphRefused ∷ WriteFault ∷ OutOfMemory ∷ 
 abbrev EitherRisen : Devices → Type 0
 EitherRisen all = HasRisen all.output.before.faults all.output.now.faults ⊎ HasRisen all.notes.before.faults all.notes.now.faults
 
-either-steady : (all : Devices) → EitherRisen all → all.output.now.faults ≡ all.output.before.faults → all.notes.now.faults ≡ all.notes.before.faults → ⊥
-either-steady all (inl risen) one two = risen-steady _ _ risen one
-either-steady all (inr risen) one two = risen-steady _ _ risen two
-
 write-shown : (text : List ℕ) (status : Status) (all : Devices) → WasShown text status all → EitherRisen all → IsOneOf status write_statuses
 write-shown text status all shown risen = by shown.written risen
   where

@@ -1,9 +1,7 @@
 -- What the program answers: the output text, the notes and the status, by the command, by what its files are, and by the
 -- input's bytes. There is one answer (`src/laws.rt`).
 use Rattle.std.specs.Prelude.{◌≡◌, ℕ, ℤ, pos, negsuc, Bool, ◌==◌, List, [], ◌∷◌, codes, Option, None, Some, min, Result, Ok, Err, if◌then◌else◌}
-use Rattle.mg_text.specs.Canonical.{canonical}
 use Rattle.mg_config.specs.Config.{GraphView}
-use Rattle.mg_config.specs.Written.{tree_of}
 use Rattle.mg_calc.specs.declared.plan.Plan.{Plan}
 use Rattle.mg_calc.specs.declared.shape.OuterShape.{OuterShape}
 use Rattle.mg_calc.specs.Told.{CalculatorTold}
@@ -12,8 +10,9 @@ use Rattle.mg_check.specs.declared.fault.CheckFault.{CheckFault}
 use Rattle.mg_run.specs.Task.{Task}
 use Rattle.mg_subgraph.specs.Expansion.{expansion_of}
 use Rattle.mg_subgraph.specs.declared.fault.ExpandFault.{ExpandFault}
-use Rattle.mg_run.specs.Files.{Files, graphs, no_graphs}
-use Rattle.mg_run.specs.CheckNotes.{check_note, check_text}
+use Rattle.mg_files.specs.File.{graph_text}
+use Rattle.mg_files.specs.Files.{Files, graphs, no_graphs}
+use Rattle.mg_files.specs.CheckNotes.{check_note, check_text}
 use Rattle.mg_answer.specs.Answer.{AnswersEnded, AnswersGenerated}
 pub use Rattle.mg_answer.specs.Answer.{Answer}
 use Rattle.mg_drive.specs.OneLive.{AnswersLive, AnswersLiveMade}
@@ -21,7 +20,7 @@ use Rattle.mg_drive.specs.Traced.{TracesEnded}
 use Rattle.mg_feed.specs.Lines.{all_lines}
 use Rattle.mg_replay.specs.Replayed.{AnswersTrace}
 use Rattle.mg_free.specs.Core.{first_free}
-use Rattle.mg_run.specs.Notes.{expand_note, free_note}
+use Rattle.mg_files.specs.Notes.{expand_note, free_note}
 use Rattle.mg_words.specs.declared.limits.TheConstants.{MOST_WORKERS}
 use Rattle.mg_words.specs.declared.words.Order.{Order}
 use Rattle.mg_words.specs.declared.words.Verb.{Verb}
@@ -29,12 +28,6 @@ use Rattle.mg_words.specs.declared.words.Verb.TheVariants.{Check, Expand, Use}
 use Rattle.mg_words.specs.declared.words.Way.{Way}
 use Rattle.mg_words.specs.declared.words.Way.TheVariants.{Run, Solve, Generate, Trace, Replay}
 use Rattle.mg_answer.specs.declared.status.Status.TheVariants.{Good, GraphRefused}
-
--- The graphs --
-
--- the text of a configuration
-abbrev pub graph_text : GraphView → List ℕ
-graph_text g = canonical (tree_of g)
 
 -- What is to be done --
 

@@ -4,17 +4,16 @@ use Rattle.mg_calc.specs.declared.plan.Plan.{Plan}
 use Rattle.mg_calc.specs.declared.shape.OuterShape.{OuterShape}
 use Rattle.mg_run.specs.Task.{Task, task}
 use Rattle.mg_words.specs.Words.{Asked, asks_usage, asks_text, asks_command}
-use Rattle.mg_run.specs.Files.{Files, AreFiles}
-use Rattle.mg_run.specs.Loads.{LoadedAll, FailedAt, loads_of}
-use Rattle.mg_run.specs.Notes.{store_note}
+use Rattle.mg_files.specs.Files.{Files, AreFiles}
+use Rattle.mg_files.specs.Loads.{LoadedAll, FailedAt, loads_of}
+use Rattle.mg_files.specs.Notes.{store_note}
 use Rattle.mg_words.specs.Help.{usage_note}
 use Rattle.mg_answer.specs.Notes.{write_note, memory_note}
 use Rattle.mg_answer.specs.Ran as runs
 use Rattle.mg_answer.specs.Wrote.{Meets}
 use Rattle.mg_drive.specs.Traced.{Traced}
-use Rattle.mg_replay.specs.Leaves.{AllBack}
 use Rattle.mg_replay.specs.Replayed.{ReplayedBy}
-use Rattle.mg_drive.specs.OneRun.{RanOverLines, RanOverPackets}
+use Rattle.mg_drive.specs.OneRun.{CameBack, RanOverLines, RanOverPackets}
 use Rattle.mg_drive.specs.OneLive.{RanLive, RanLiveMade}
 use Rattle.mg_run.specs.Boxes.{RunLeaves}
 use Rattle.mg_run.specs.Answer.{Answer, Job, refuse, show, run_plan, run_live, solve, generate, generate_live, trace, replay, job_of, IsAnswerOf}
@@ -96,7 +95,7 @@ pub record TracedGraph (report : Bool) (plan : Plan) (status : Status) (devices 
 -- A recorded run of the graph of this plan was made again.
 pub record ReplayedGraph (report : Bool) (plan : Plan) (status : Status) (devices : Devices) : Type 0 where
   pub replayed : ReplayedBy status report plan (run_of devices) devices.boxes
-  pub left : AllBack plan devices.boxes
+  pub left : CameBack plan devices.boxes.before devices.boxes.now
 
 -- A call --
 

@@ -1,3 +1,2 @@
 -- What the code's own functions say to one another.
 pub mod Job
-pub mod Reads

@@ -19,8 +19,8 @@ use Rattle.mg_answer.specs.declared.status.Status.TheVariants.{Good, LineRefused
 use Rattle.mg_drive.specs.OneRun.{OneRun}
 use Rattle.mg_drive.specs.OneLive.{AreBatchesOf, OneLive}
 use Rattle.mg_run.specs.Task.{Task}
-use Rattle.mg_run.specs.Files.{AreGraphs}
-use Rattle.mg_run.specs.Loads.{LoadedAll}
+use Rattle.mg_files.specs.Files.{AreGraphs}
+use Rattle.mg_files.specs.Loads.{LoadedAll}
 use Rattle.mg_run.specs.Devices.{Device, Devices, Untouched}
 use Rattle.mg_words.specs.declared.words.Order.{Order}
 use Rattle.mg_words.specs.declared.words.Verb.{Verb}

@@ -1,12 +1,7 @@
 -- What the program means: whoever wants to know what is proved reads these files.
 pub mod Task
-pub mod File
-pub mod Notes
-pub mod CheckNotes
-pub mod Files
 pub mod Answer
 pub mod Devices
-pub mod Loads
 pub mod Boxes
 pub mod Call
 pub mod Headline

@@ -1,5 +1,4 @@
-ghost use Rattle.std.specs.Prelude.{◌≡◌, ◌≢◌, ◌↔◌, true, false, All, ◌⊎◌, ℕ, List, ◌∷◌, [], IfSome, length, map};
-ghost use Rattle.mg_check.specs.Check.{IsOuterShape};
+ghost use Rattle.std.specs.Prelude.{◌≡◌, ◌≢◌, ◌↔◌, true, false, All, ◌⊎◌, ℕ, List, ◌∷◌, [], IfSome, IfOk, IfErr, length, map};
 ghost use Rattle.mg_words.specs.Command.{command, reads_input, calls_boxes};
 ghost use Rattle.mg_run.specs.Boxes.{outers_told, MayBeHandedIn};
 ghost use Rattle.mg_run.specs.Task.{task};
@@ -9,18 +8,18 @@ ghost use Rattle.mg_run.specs.Headline.{RunsGraph, ran_statuses, RanGraph};
 ghost use Rattle.mg_run.specs.Call.{WasUsage, WasTold, Came, Called, Did, IsAnswered, IsOneOf};
 ghost use Rattle.mg_answer.specs.Notes.{write_note, memory_note};
 ghost use Rattle.mg_words.specs.Asked.{asked_view};
-ghost use Rattle.mg_run.specs.Code.Job.{job_view, MayRead, CanBeDone};
+ghost use Rattle.mg_files.specs.Reads.{HasFailed};
+ghost use Rattle.mg_run.specs.Code.Job.{job_view, use_job, MayRead, CanBeDone, IsDue};
 ghost use Rattle.mg_edge.specs.Edge.{StoreTold};
 
-use crate::fault::Fault;
-use crate::job::{Job, job_of};
-use crate::load::load_all;
+use crate::job::{Job, Use, job_of};
 use crate::outers::outers_of;
 use mg_answer::{Devices, Run, Status, note_out_of_memory, note_write_fault, solve_input};
-use mg_calc::{Calculator, OuterShape};
+use mg_calc::Calculator;
 use mg_drive::{Crew, run_lines, run_live_lines, run_live_made, run_made, trace_lines};
 use mg_edge::{Gate, Sink, Source, Store};
 use mg_feed::put_all;
+use mg_files::{Fault, load_all};
 use mg_replay::replay_lines;
 use mg_value::MgText;
 use mg_words::{Asked, Order, asked_of, help_text, usage_text, version_text};
@@ -128,11 +127,17 @@ fn do_words<
 {
     match asked_of(alloc, words) {
         Ok(asked) => do_asked(alloc, asked, crew, boxes, store, devices),
-        Err(_) => {
-            note_out_of_memory(devices.notes);
-            Status::OutOfMemory
-        }
+        Err(_) => short(devices.notes),
     }
+}
+
+// Notes that memory ran out.
+fn short<E: Sink>(notes: &mut E) -> Status
+    ensures status { result ≡ Status.OutOfMemory }
+    ensures noted { Noted (device (E.told notes.old) (E.told notes.new)) memory_note }
+{
+    note_out_of_memory(notes);
+    Status::OutOfMemory
 }
 
 fn do_asked<
@@ -193,7 +198,7 @@ struct Ordered<'a> {
     files: &'a [MgText],
 }
 
-// Does what a command says, with these calculators at hand.
+// Loads all files, and does what the verb has to do with them, with these calculators at hand.
 fn do_command<
     R: Threads + Wait + Sync,
     G: Gate + Sync,
@@ -215,72 +220,32 @@ fn do_command<
     ensures unread { reads_input ordered.now.order.verb ≡ false → Untouched (told_by S.told K.told E.told devices.old devices.new).input }
     ensures same { SameDevices devices.old devices.new }
 {
-    match outers_of(alloc, boxes.as_slice()) {
-        Ok(outers) => {
-            let duty = Duty {
-                order: ordered.order,
-                files: ordered.files,
-                outers: &outers,
-            };
-            serve(alloc, &duty, crew, boxes, store, devices)
-        }
-        Err(_) => {
-            note_out_of_memory(devices.notes);
-            Status::OutOfMemory
-        }
-    }
-}
-
-// A command, and what is known of the calculators that are handed in.
-#[derive(Clone, Copy)]
-struct Duty<'a> {
-    order: Order,
-    files: &'a [MgText],
-    outers: &'a [OuterShape],
-}
-
-// Loads all files, and does what the verb has to do with them.
-fn serve<
-    R: Threads + Wait + Sync,
-    G: Gate + Sync,
-    C: Calculator + Send,
-    S: Source,
-    K: Sink,
-    E: Sink,
-    T: Store,
->(
-    alloc: Global,
-    duty: &Duty<'_>,
-    crew: &Crew<'_, R, G>,
-    boxes: &mut Vec<C>,
-    store: &mut T,
-    devices: &mut Devices<'_, '_, '_, S, K, E>,
-) -> Status
-    requires outers { All IsOuterShape duty.now.outers.now }
-    requires lawful { All MayBeHandedIn duty.now.outers.now }
-    requires told { duty.now.outers.now ≡ outers_told (map C.told boxes.old.items) }
-    ensures called { Called result (task (command duty.now.order duty.now.files.now) duty.now.outers.now)
-        (told_at T.told S.told K.told E.told C.told store.old store.new devices.old devices.new boxes.old boxes.new) }
-    ensures unread { reads_input duty.now.order.verb ≡ false → Untouched (told_by S.told K.told E.told devices.old devices.new).input }
-    ensures same { SameDevices devices.old devices.new }
-{
-    match load_all(alloc, store, duty.files) {
-        Ok(contents) => match job_of(alloc, duty.order, duty.outers, duty.files, contents) {
-            Ok(job) => do_job(alloc, job, crew, boxes, devices),
-            Err(_) => {
-                note_out_of_memory(devices.notes);
-                Status::OutOfMemory
-            }
-        },
+    match due_job(alloc, ordered, boxes.as_slice(), store) {
+        Ok(job) => do_job(alloc, job, crew, boxes, devices),
         Err(Fault::Noted(note)) => {
             let _ = put_all(devices.notes, &note);
             Status::StoreFault
         }
-        Err(Fault::OutOfMemory) => {
-            note_out_of_memory(devices.notes);
-            Status::OutOfMemory
-        }
+        Err(Fault::OutOfMemory) => short(devices.notes),
     }
+}
+
+// Loads the files of a command, and finds what there is to do with them, where these calculators are handed in.
+fn due_job<C: Calculator, T: Store>(
+    alloc: Global,
+    ordered: &Ordered<'_>,
+    boxes: &[C],
+    store: &mut T,
+) -> Result<Job, Fault>
+    ensures due { IfOk result (λ job. IsDue (task (command ordered.now.order ordered.now.files.now) (outers_told (map C.told boxes.now))) (device (T.told store.old) (T.told store.new)) (job_view job)) }
+    ensures can { IfOk result (λ job. CanBeDone (outers_told (map C.told boxes.now)) (job_view job)) }
+    ensures lawful { IfOk result (λ job. All MayBeHandedIn (outers_told (map C.told boxes.now))) }
+    ensures failed { IfErr result (λ fault. HasFailed fault ordered.now.files.now (device (T.told store.old) (T.told store.new))) }
+{
+    let outers = outers_of(alloc, boxes)?;
+    let contents = load_all(alloc, store, ordered.files)?;
+    let job = job_of(alloc, ordered.order, &outers, ordered.files, contents)?;
+    Ok(job)
 }
 
 fn do_job<
@@ -310,7 +275,8 @@ fn do_job<
             Status::GraphRefused
         }
         Job::Show(text) => told(devices.output, devices.notes, &text),
-        Job::Run(report, plan) => run_lines(
+        Job::Graph(used, report, plan) => use_plan(
+            used,
             &Run {
                 alloc,
                 plan: &plan,
@@ -320,65 +286,38 @@ fn do_job<
             boxes,
             devices,
         ),
-        Job::RunLive(report, plan) => run_live_lines(
-            &Run {
-                alloc,
-                plan: &plan,
-                report,
-            },
-            crew,
-            boxes,
-            devices,
-        ),
-        Job::Solve(report, plan) => solve_input(
-            &Run {
-                alloc,
-                plan: &plan,
-                report,
-            },
-            devices,
-        ),
-        Job::Generate(report, number, plan) => run_made(
-            &Run {
-                alloc,
-                plan: &plan,
-                report,
-            },
-            number,
-            crew,
-            boxes,
-            devices,
-        ),
-        Job::GenerateLive(report, number, plan) => run_live_made(
-            &Run {
-                alloc,
-                plan: &plan,
-                report,
-            },
-            number,
-            crew,
-            boxes,
-            devices,
-        ),
-        Job::Trace(report, plan) => trace_lines(
-            &Run {
-                alloc,
-                plan: &plan,
-                report,
-            },
-            crew.gate,
-            boxes,
-            devices,
-        ),
-        Job::Replay(report, plan) => replay_lines(
-            &Run {
-                alloc,
-                plan: &plan,
-                report,
-            },
-            crew.gate,
-            boxes,
-            devices,
-        ),
+    }
+}
+
+// Uses the graph of a plan.
+fn use_plan<
+    R: Threads + Wait + Sync,
+    G: Gate + Sync,
+    C: Calculator + Send,
+    S: Source,
+    K: Sink,
+    E: Sink,
+>(
+    used: Use,
+    run: &Run<'_>,
+    crew: &Crew<'_, R, G>,
+    boxes: &mut Vec<C>,
+    devices: &mut Devices<'_, '_, '_, S, K, E>,
+) -> Status
+    requires can { CanBeDone (outers_told (map C.told boxes.old.items)) (use_job used run.now.report run.now.plan.now) }
+    requires lawful { All MayBeHandedIn (outers_told (map C.told boxes.old.items)) }
+    ensures did { (store : Device StoreTold) → Did (use_job used run.now.report run.now.plan.now) result
+        (with_run store (told_by S.told K.told E.told devices.old devices.new) (device (map C.told boxes.old.items) (map C.told boxes.new.items))) }
+    ensures unread { MayRead (use_job used run.now.report run.now.plan.now) ⊎ Untouched (told_by S.told K.told E.told devices.old devices.new).input }
+    ensures same { SameDevices devices.old devices.new }
+{
+    match used {
+        Use::Run => run_lines(run, crew, boxes, devices),
+        Use::RunLive => run_live_lines(run, crew, boxes, devices),
+        Use::Solve => solve_input(run, devices),
+        Use::Generate(number) => run_made(run, number, crew, boxes, devices),
+        Use::GenerateLive(number) => run_live_made(run, number, crew, boxes, devices),
+        Use::Trace => trace_lines(run, crew.gate, boxes, devices),
+        Use::Replay => replay_lines(run, crew.gate, boxes, devices),
     }
 }

@@ -1,5 +1,5 @@
 //! What a command has to do with the contents of its files.
-ghost use Rattle.std.specs.Prelude.{◌≡◌, ◌≤◌, ℕ, List, IfOk, IfErr, Ok, Err, length, map, All};
+ghost use Rattle.std.specs.Prelude.{◌≡◌, ◌≤◌, ℕ, List, IfOk, length, map, All};
 ghost use Rattle.mg_config.specs.Config.{graph_view};
 ghost use Rattle.mg_config.specs.Sound.{IsSound, IsPrintable};
 ghost use Rattle.mg_calc.specs.declared.shape.OuterShape.{OuterShape};
@@ -9,23 +9,38 @@ ghost use Rattle.mg_words.specs.Command.{command};
 ghost use Rattle.mg_run.specs.Task.{Task, task};
 ghost use Rattle.mg_run.specs.Answer as answers;
 ghost use Rattle.mg_run.specs.Code.Job.{job_view, CanBeDone};
-ghost use Rattle.mg_run.specs.Code.Reads.{contents_of, AreNotedOf};
+ghost use Rattle.mg_files.specs.Reads.{contents_of, AreNotedOf};
 ghost use Rattle.mg_run.specs.Call.{IsJob};
 
-use crate::check_note::{check_note, check_text};
-use crate::fault::Fault;
-use crate::files::graphs_of;
-use crate::note::expand_note;
 use crate::way::{live_job, way_job};
 use mg_calc::{OuterShape, Plan};
-use mg_check::{CheckFault, check};
-use mg_config::{GraphConfig, write};
+use mg_check::check;
+use mg_config::GraphConfig;
+use mg_files::{Fault, check_note, check_text, expand_note, graph_text, graphs_of};
 use mg_free::first_free;
 use mg_subgraph::expand;
-use mg_text::print;
 use mg_value::MgText;
 use mg_words::{Order, Verb, Way};
 use std::alloc::{AllocError, Global};
+
+/// How the graph of a plan is used.
+#[derive(Clone, Copy, Debug, PartialEq, Eq)]
+pub enum Use {
+    /// It is run.
+    Run,
+    /// It has free nodes, and is run.
+    RunLive,
+    /// It is solved.
+    Solve,
+    /// It is run over so many packets that are made.
+    Generate(u32),
+    /// It has free nodes, and is run over so many packets that are made.
+    GenerateLive(u32),
+    /// It is run, and the run is recorded.
+    Trace,
+    /// A recorded run of it is made again.
+    Replay,
+}
 
 /// What there is to do.
 #[derive(Debug, Drop)]
@@ -34,20 +49,8 @@ pub enum Job {
     Refuse(Vec<u8>),
     /// This text is written.
     Show(Vec<u8>),
-    /// The graph of this plan is run, with a report or without.
-    Run(bool, Plan),
-    /// The graph of this plan, which has free nodes, is run, with a report or without.
-    RunLive(bool, Plan),
-    /// The graph of this plan is solved, with a report or without.
-    Solve(bool, Plan),
-    /// The graph of this plan is run over so many packets that are made, with a report or without.
-    Generate(bool, u32, Plan),
-    /// The graph of this plan, which has free nodes, is run over so many packets that are made, with a report or without.
-    GenerateLive(bool, u32, Plan),
-    /// The graph of this plan is run, and the run is recorded, with a report or without.
-    Trace(bool, Plan),
-    /// A recorded run of the graph of this plan is made again, with a report or without.
-    Replay(bool, Plan),
+    /// The graph of this plan is used so, with a report or without.
+    Graph(Use, bool, Plan),
 }
 
 /// Reads the contents of the files of these names, and finds what the verb has to do with them, where these calculators
@@ -177,15 +180,4 @@ fn plan_job(
         },
         Err(fault) => Ok(Job::Refuse(check_note(alloc, &fault)?)),
     }
-}
-
-/// The text of a configuration.
-fn graph_text(alloc: Global, graph: GraphConfig) -> Result<Vec<u8>, AllocError>
-    requires sound { IsSound (graph_view graph) }
-    requires printable { IsPrintable (graph_view graph) }
-    ensures { IfOk result (λ text. text.items ≡ answers.graph_text (graph_view graph)) }
-{
-    let tree = write(alloc, &graph)?;
-    drop(graph);
-    print(alloc, &tree)
 }

@@ -1,12 +1,8 @@
 //! Laws of the definitions: each function does nothing, and its contract is the law.
-ghost use Rattle.std.specs.Prelude.{◌≡◌, ◌≤◌, ℕ, ℤ, Bool, List, ◌∷◌, Option, None, Some, Ok, length};
+ghost use Rattle.std.specs.Prelude.{◌≡◌, ℕ, ℤ, Bool, List, Option, None, Some};
 ghost use Rattle.mg_calc.specs.declared.plan.Plan.{Plan};
 ghost use Rattle.mg_calc.specs.Told.{CalculatorTold};
-ghost use Rattle.mg_text.specs.Answer.{max_len};
-ghost use Rattle.mg_config.specs.Config.{GraphView};
-ghost use Rattle.mg_subgraph.specs.Expansion.{expansion_of};
-ghost use Rattle.mg_run.specs.File.{File, graph, IsFile};
-ghost use Rattle.mg_run.specs.Files.{Files, AreGraphs, AreFiles};
+ghost use Rattle.mg_files.specs.Files.{Files};
 ghost use Rattle.mg_edge.specs.Edge.{SourceTold, StoreTold};
 ghost use Rattle.mg_feed.specs.Graph.{inputs_of};
 ghost use Rattle.mg_answer.specs.Answer.{Read, ended_input};
@@ -14,20 +10,9 @@ ghost use Rattle.mg_answer.specs.Ran.{CameTo};
 ghost use Rattle.mg_answer.specs.declared.status.Status.{Status};
 ghost use Rattle.mg_run.specs.Task.{Task};
 ghost use Rattle.mg_run.specs.Devices.{Device, Devices, Unrisen};
-ghost use Rattle.mg_run.specs.Loads.{LoadedAll, loads_of};
+ghost use Rattle.mg_files.specs.Loads.{LoadedAll, loads_of};
 ghost use Rattle.mg_run.specs.Headline.{Headline};
-ghost use Rattle.mg_run.specs.Answer.{Answer, Job, run_plan, solve, trace, job_of, with_limit, IsAnswerOf, Records, Replays, graph_text};
-
-/// A content is one file at most: so what the program answers to it is one answer.
-pub fn one_file()
-    ensures { (content : List ℕ) (a b : File) → IsFile content a → IsFile content b → a ≡ b }
-{}
-
-/// The files of a command are one thing at most, all graphs or refused with one note: so what the program answers to
-/// them is one answer.
-pub fn one_reading()
-    ensures { (names contents : List (List ℕ)) (a b : Files) → AreFiles names contents a → AreFiles names contents b → a ≡ b }
-{}
+ghost use Rattle.mg_run.specs.Answer.{Answer, Job, run_plan, solve, trace, job_of, with_limit, IsAnswerOf, Records, Replays};
 
 /// To the bytes of an input the program has one answer at most, but for the events of a run that it records, which are those of any run
 /// of the job. Of a recorded run too there are one status and one text of notes, and they are those of the run. What a recorded run comes to
@@ -54,21 +39,6 @@ pub fn limits_and_workers_change_no_answer()
 pub fn run_and_solve_answer_the_same()
     ensures { (report : Bool) (limit : Option ℤ) (plan : Plan) (boxes : List CalculatorTold) (input : List ℕ) (a b : Answer)
         → IsAnswerOf (run_plan report (with_limit limit plan)) boxes input a → IsAnswerOf (solve report plan) boxes input b → a ≡ b }
-{}
-
-/// The text of a graph says the same graph again, where it isn't too long for a file.
-pub fn texts_say_their_graph()
-    ensures { (content : List ℕ) (g : GraphView) → IsFile content (graph g) → length (graph_text g) ≤ max_len → IsFile (graph_text g) (graph g) }
-{}
-
-/// The text of an expanded graph says the expanded graph, where it isn't too long for a file.
-pub fn texts_say_their_expansion()
-    ensures { (contents : List (List ℕ)) (main g : GraphView) (library : List GraphView) → AreGraphs contents (main ∷ library) → expansion_of main library ≡ Ok g → length (graph_text g) ≤ max_len → IsFile (graph_text g) (graph g) }
-{}
-
-/// A graph is known by its text: two files that say graphs of the same text say the same graph.
-pub fn graphs_are_known_by_their_text()
-    ensures { (a b : List ℕ) (g h : GraphView) → IsFile a (graph g) → IsFile b (graph h) → graph_text g ≡ graph_text h → g ≡ h }
 {}
 
 /// Devices that tell what they have pin what a run was of: the contents of the files are those that the store tells, and where no read

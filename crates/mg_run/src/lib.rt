@@ -3,15 +3,9 @@
 #![tactic(auto)]
 
 mod call;
-mod check_note;
-mod fault;
-mod files;
-mod free_note;
 mod job;
 pub mod laws;
 mod limited;
-mod load;
-mod note;
 mod outers;
 mod tally;
 mod way;

@@ -3,13 +3,13 @@ ghost use Rattle.std.specs.Prelude.{◌≡◌, List, IfOk};
 ghost use Rattle.mg_calc.specs.declared.shape.OuterShape.{OuterShape};
 ghost use Rattle.mg_calc.specs.Plan.{IsValid, IsValidWithFree, OutersFit};
 ghost use Rattle.mg_run.specs.Answer as answers;
-ghost use Rattle.mg_run.specs.Notes.{free_note as the_note};
+ghost use Rattle.mg_files.specs.Notes.{free_note as the_note};
 ghost use Rattle.mg_run.specs.Code.Job.{job_view, CanBeDone};
 
-use crate::free_note::free_note;
-use crate::job::Job;
+use crate::job::{Job, Use};
 use crate::limited::{as_asked, limited};
 use mg_calc::Plan;
+use mg_files::free_note;
 use mg_words::{Order, Way};
 use std::alloc::{AllocError, Global};
 
@@ -33,11 +33,14 @@ pub fn way_job(way: Way, order: Order, plan: Plan) -> Job
 {
     let report = order.report;
     match way {
-        Way::Run => Job::Run(report, as_asked(order, plan)),
-        Way::Solve => Job::Solve(report, plan),
-        Way::Generate => Job::Generate(report, order.number, as_asked(order, plan)),
-        Way::Trace => Job::Trace(report, limited(order.limit, plan)),
-        Way::Replay => Job::Replay(report, limited(order.limit, plan)),
+        Way::Run => Job::Graph(Use::Run, report, as_asked(order, plan)),
+        Way::Solve => Job::Graph(Use::Solve, report, plan),
+        Way::Generate => {
+            let made = Use::Generate(order.number);
+            Job::Graph(made, report, as_asked(order, plan))
+        }
+        Way::Trace => Job::Graph(Use::Trace, report, limited(order.limit, plan)),
+        Way::Replay => Job::Graph(Use::Replay, report, limited(order.limit, plan)),
     }
 }
 
@@ -53,9 +56,13 @@ pub fn live_job(
     ensures due { IfOk result (λ job. job_view job ≡ answers.live_job way order first plan) }
     ensures valid { (outers : List OuterShape) → IsValidWithFree plan → OutersFit plan outers → IfOk result (λ job. CanBeDone outers (job_view job)) }
 {
+    let report = order.report;
     match way {
-        Way::Run => Ok(Job::RunLive(order.report, as_asked(order, plan))),
-        Way::Generate => Ok(Job::GenerateLive(order.report, order.number, as_asked(order, plan))),
+        Way::Run => Ok(Job::Graph(Use::RunLive, report, as_asked(order, plan))),
+        Way::Generate => {
+            let made = Use::GenerateLive(order.number);
+            Ok(Job::Graph(made, report, as_asked(order, plan)))
+        }
         Way::Solve => refused(alloc, way, first),
         Way::Trace => refused(alloc, way, first),
         Way::Replay => refused(alloc, way, first),

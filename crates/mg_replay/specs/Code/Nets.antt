@@ -12,7 +12,7 @@ use Rattle.mg_calc.specs.Told.{CalculatorTold}
 use Rattle.mg_sched.specs.Views.{NetView}
 use Rattle.mg_node.specs.Job.{LoggedJob}
 use Rattle.mg_node.specs.Had.{HadClose}
-use Rattle.mg_sched.specs.Made.{job_of, IsMade}
+use Rattle.mg_sched.specs.Made.{job_of}
 use Rattle.mg_sched.specs.GivesBack.{given_back, StoodFor}
 use Rattle.mg_sched.specs.StandsFor.{StandsFor}
 use Rattle.mg_answer.specs.Text.{output_of}
@@ -35,12 +35,6 @@ abbrev pub accepts : TraceEnd → Bool
 accepts Accepted = true
 accepts (Refused line cause) = false
 accepts (Failed lines) = false
-
--- there are inputs and calculators for which a net was made
-pub record IsSomeMade (plan : Plan) (net : NetView) : Type 0 where
-  pub inputs : Inputs
-  pub boxes : List CalculatorTold
-  pub made : IsMade plan inputs boxes net
 
 -- a net stands for a job of a plan
 pub record StandsForPlan (plan : Plan) (net : NetView) : Type 0 where

@@ -1,21 +1,32 @@
 -- What a `Job` of the code stands for, whether it may read the input, and whether it can be done.
-use Rattle.std.specs.Prelude.{List}
+use Rattle.std.specs.Prelude.{ℕ, Bool, List}
+use Rattle.mg_calc.specs.declared.plan.Plan.{Plan}
 use Rattle.mg_calc.specs.declared.shape.OuterShape.{OuterShape}
 use Rattle.mg_calc.specs.Plan.{IsValid, IsValidWithFree, OutersFit}
 use Rattle.mg_run.specs.Answer.{Job, refuse, show, run_plan, run_live, solve, generate, generate_live, trace, replay}
+use Rattle.mg_edge.specs.Edge.{StoreTold}
+use Rattle.mg_files.specs.Loads.{LoadedAll}
+use Rattle.mg_run.specs.Task.{Task}
+use Rattle.mg_run.specs.Devices.{Device}
+use Rattle.mg_run.specs.Call.{IsJob}
 use Rattle.mg_run.specs.declared.job.Job as code
-use Rattle.mg_run.specs.declared.job.Job.TheVariants.{Refuse, Show, Run, RunLive, Solve, Generate, GenerateLive, Trace, Replay}
+use Rattle.mg_run.specs.declared.job.Job.TheVariants.{Refuse, Show, Graph}
+use Rattle.mg_run.specs.declared.job.Use.{Use}
+use Rattle.mg_run.specs.declared.job.Use.TheVariants.{Run, RunLive, Solve, Generate, GenerateLive, Trace, Replay}
+
+abbrev pub use_job : Use → Bool → Plan → Job
+use_job Run report plan = run_plan report plan
+use_job RunLive report plan = run_live report plan
+use_job Solve report plan = solve report plan
+use_job (Generate number) report plan = generate report number plan
+use_job (GenerateLive number) report plan = generate_live report number plan
+use_job Trace report plan = trace report plan
+use_job Replay report plan = replay report plan
 
 abbrev pub job_view : code.Job → Job
 job_view (Refuse note) = refuse note.items
 job_view (Show text) = show text.items
-job_view (Run report plan) = run_plan report plan
-job_view (RunLive report plan) = run_live report plan
-job_view (Solve report plan) = solve report plan
-job_view (Generate report number plan) = generate report number plan
-job_view (GenerateLive report number plan) = generate_live report number plan
-job_view (Trace report plan) = trace report plan
-job_view (Replay report plan) = replay report plan
+job_view (Graph used report plan) = use_job used report plan
 
 -- it may read the input
 abbrev pub MayRead : Job → Type 0
@@ -40,3 +51,9 @@ CanBeDone outers (generate report number plan) = IsValid plan × OutersFit plan 
 CanBeDone outers (generate_live report number plan) = IsValidWithFree plan × OutersFit plan outers
 CanBeDone outers (trace report plan) = IsValid plan × OutersFit plan outers
 CanBeDone outers (replay report plan) = IsValid plan × OutersFit plan outers
+
+-- All files of a task were loaded, and this is what there is to do with them.
+pub record IsDue (task : Task) (store : Device StoreTold) (job : Job) : Type 0 where
+  pub contents : List (List ℕ)
+  pub loaded : LoadedAll task.files contents store
+  pub due : IsJob task contents job

@@ -1,7 +1,8 @@
 use Rattle.std.proofs.Common.{map, refl, ap, ◌∙◌}
 use Rattle.std.proofs.lemmas.Result.{IfOk-weaker, on_err_weaker}
 use Rattle.mg_sched.specs.Made.{job_of}
-use Rattle.mg_replay.proofs.Closed.{job_replayed, job_short, job_unmade, all_back, same_back}
+use Rattle.mg_drive.proofs.BoxesBack.{came_back_then, same_back}
+use Rattle.mg_replay.proofs.Closed.{job_replayed, job_short, job_unmade}
 use Rattle.mg_replay.proofs.Ended.{opened_yet}
 use Rattle.mg_replay.proofs.replaying.replay_job.Goals as goal
 
@@ -22,9 +23,10 @@ returns-in-Ok-clause-some g c = on_err_weaker c.replay_net-replayed.result (λ f
 
 pub returns-in-Ok-clause-back : goal.returns-in-Ok-clause-back
 returns-in-Ok-clause-back g c =
-    all_back c.args.run.now.plan.now c.args.opening.inputs (map g.C.Calculator.told c.args.boxes.now.items) (map g.C.Calculator.told c.replace-handed.result.items) (map g.C.Calculator.told c.give_back.result.items) c.in-Ok.net c.replay_net-replayed.new.net.net
-    (c.replay_net-replayed.ensures.stood (job_of c.args.run.now.plan.now c.args.opening.inputs (map g.C.Calculator.told c.replace-handed.result.items)) c.in-Ok.ensures.made.stands)
-    (ap (λ v. map g.C.Calculator.told v.items) c.replace-handed.ensures.value) c.in-Ok.ensures.made c.replay_net-replayed.ensures.keeps c.give_back.ensures.told
+    let same = ap (λ v. map g.C.Calculator.told v.items) c.replace-handed.ensures.value in
+    let job = job_of c.args.run.now.plan.now c.args.opening.inputs (map g.C.Calculator.told c.replace-handed.result.items) in
+    came_back_then c.args.run.now.plan.now c.args.opening.inputs (map g.C.Calculator.told c.args.boxes.now.items) (map g.C.Calculator.told c.replace-handed.result.items) (map g.C.Calculator.told c.give_back.result.items) c.in-Ok.net c.replay_net-replayed.new.net.net same c.in-Ok.ensures.made c.replay_net-replayed.ensures.keeps
+    (record { job = job; stood = c.replay_net-replayed.ensures.stood job c.in-Ok.ensures.made.stands; boxes_are = same }) c.give_back.ensures.told
 
 pub returns-clause-some : goal.returns-clause-some
 returns-clause-some g c = λ first has.

@@ -1,48 +1,20 @@
-use Rattle.std.proofs.Common.{map, sym, subst}
+use Rattle.std.proofs.Common.{◌⊎◌, map, sym, subst}
 use Rattle.mg_run.specs.Boxes.{outers_told}
-use Rattle.mg_run.specs.Code.Job.{job_view, CanBeDone}
+use Rattle.mg_run.specs.Code.Job.{job_view, MayRead, CanBeDone}
 use Rattle.mg_run.specs.declared.job.Job.{Job}
 use Rattle.mg_run.specs.Call.{Did}
-use Rattle.mg_run.specs.Devices.{device, with_run, told_by}
-use Rattle.mg_run.proofs.Handing.{boxes_fit, boxes_fit_core}
+use Rattle.mg_run.specs.Devices.{device, with_run, told_by, Untouched}
 use Rattle.mg_run.proofs.call.do_job.Goals as goal
 
-pub run_lines-requires-clause-boxes : goal.run_lines-requires-clause-boxes
-run_lines-requires-clause-boxes g c κs within =
-    let can = subst (λ (job : Job). CanBeDone (outers_told (map g.C.Calculator.told c.args.boxes.now.items)) (job_view job)) c.in-Run.is c.requires.can in
-    boxes_fit c.in-Run.plan (map g.C.Calculator.told c.args.boxes.now.items) can.1 c.requires.lawful
+pub use_plan-requires-clause-can : goal.use_plan-requires-clause-can
+use_plan-requires-clause-can g c κs within = subst (λ (job : Job). CanBeDone (outers_told (map g.C.Calculator.told c.args.boxes.now.items)) (job_view job)) c.in-Graph.is c.requires.can
 
-pub run_live_lines-requires-clause-boxes : goal.run_live_lines-requires-clause-boxes
-run_live_lines-requires-clause-boxes g c κs within =
-    let can = subst (λ (job : Job). CanBeDone (outers_told (map g.C.Calculator.told c.args.boxes.now.items)) (job_view job)) c.in-RunLive.is c.requires.can in
-    boxes_fit_core c.in-RunLive.plan (map g.C.Calculator.told c.args.boxes.now.items) can.1 c.requires.lawful
+pub returns-in-Graph-clause-did : goal.returns-in-Graph-clause-did
+returns-in-Graph-clause-did g c = λ store.
+    subst (λ (job : Job). Did (job_view job) c.use_plan.result (with_run store (told_by g.S.Source.told g.K.Sink.told g.E.Sink.told c.args.devices.now c.use_plan.new.devices) (device (map g.C.Calculator.told c.args.boxes.now.items) (map g.C.Calculator.told c.use_plan.new.boxes.items)))) (sym c.in-Graph.is)
+    (c.use_plan.ensures.did store)
 
-pub run_live_made-requires-clause-boxes : goal.run_live_made-requires-clause-boxes
-run_live_made-requires-clause-boxes g c κs within =
-    let can = subst (λ (job : Job). CanBeDone (outers_told (map g.C.Calculator.told c.args.boxes.now.items)) (job_view job)) c.in-GenerateLive.is c.requires.can in
-    boxes_fit_core c.in-GenerateLive.plan (map g.C.Calculator.told c.args.boxes.now.items) can.1 c.requires.lawful
-
-pub trace_lines-requires-clause-boxes : goal.trace_lines-requires-clause-boxes
-trace_lines-requires-clause-boxes g c =
-    let can = subst (λ (job : Job). CanBeDone (outers_told (map g.C.Calculator.told c.args.boxes.now.items)) (job_view job)) c.in-Trace.is c.requires.can in
-    boxes_fit c.in-Trace.plan (map g.C.Calculator.told c.args.boxes.now.items) can.1 c.requires.lawful
-
-pub run_made-requires-clause-boxes : goal.run_made-requires-clause-boxes
-run_made-requires-clause-boxes g c κs within =
-    let can = subst (λ (job : Job). CanBeDone (outers_told (map g.C.Calculator.told c.args.boxes.now.items)) (job_view job)) c.in-Generate.is c.requires.can in
-    boxes_fit c.in-Generate.plan (map g.C.Calculator.told c.args.boxes.now.items) can.1 c.requires.lawful
-
-pub replay_lines-requires-clause-boxes : goal.replay_lines-requires-clause-boxes
-replay_lines-requires-clause-boxes g c =
-    let can = subst (λ (job : Job). CanBeDone (outers_told (map g.C.Calculator.told c.args.boxes.now.items)) (job_view job)) c.in-Replay.is c.requires.can in
-    boxes_fit c.in-Replay.plan (map g.C.Calculator.told c.args.boxes.now.items) can.1 c.requires.lawful
-
-pub returns-in-Run-clause-did : goal.returns-in-Run-clause-did
-returns-in-Run-clause-did g c = λ store.
-    subst (λ (job : Job). Did (job_view job) c.run_lines.result (with_run store (told_by g.S.Source.told g.K.Sink.told g.E.Sink.told c.args.devices.now c.run_lines.new.devices) (device (map g.C.Calculator.told c.args.boxes.now.items) (map g.C.Calculator.told c.run_lines.new.boxes.items)))) (sym c.in-Run.is)
-    c.run_lines.ensures.ran
-
-pub returns-in-RunLive-clause-did : goal.returns-in-RunLive-clause-did
-returns-in-RunLive-clause-did g c = λ store.
-    subst (λ (job : Job). Did (job_view job) c.run_live_lines.result (with_run store (told_by g.S.Source.told g.K.Sink.told g.E.Sink.told c.args.devices.now c.run_live_lines.new.devices) (device (map g.C.Calculator.told c.args.boxes.now.items) (map g.C.Calculator.told c.run_live_lines.new.boxes.items)))) (sym c.in-RunLive.is)
-    c.run_live_lines.ensures.ran
+pub returns-in-Graph-clause-unread : goal.returns-in-Graph-clause-unread
+returns-in-Graph-clause-unread g c =
+    subst (λ (job : Job). MayRead (job_view job) ⊎ Untouched (told_by g.S.Source.told g.K.Sink.told g.E.Sink.told c.args.devices.now c.use_plan.new.devices).input) (sym c.in-Graph.is)
+    c.use_plan.ensures.unread

@@ -5,13 +5,13 @@ use Rattle.std.proofs.lemmas.Result.{IfOk-weaker}
 use Rattle.mg_config.specs.Config.{graph_view}
 use Rattle.mg_config.specs.Sound.{IsSound, IsPrintable}
 use Rattle.mg_config.specs.declared.graph.GraphConfig.{GraphConfig}
-use Rattle.mg_run.specs.Files.{graphs, AreGraphs}
+use Rattle.mg_files.specs.Files.{graphs, AreGraphs}
 use Rattle.mg_words.specs.Command.{command}
 use Rattle.mg_run.specs.Task.{task}
 use Rattle.mg_run.specs.Answer as answers
-use Rattle.mg_run.specs.Code.Reads.{contents_of, AreNotedOf}
-use Rattle.mg_run.proofs.Together.{all-graphs}
-use Rattle.mg_run.proofs.Texts.{sound_graph, printable_graph}
+use Rattle.mg_files.specs.Reads.{contents_of, AreNotedOf}
+use Rattle.mg_files.proofs.Together.{all-graphs}
+use Rattle.mg_files.proofs.Texts.{sound_graph, printable_graph}
 use Rattle.mg_run.proofs.job.job_of.Goals as goal
 
 pub graphs_job-requires-clause-sound : goal.graphs_job-requires-clause-sound

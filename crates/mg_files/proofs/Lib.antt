@@ -1,0 +1,4 @@
+pub mod OneFile
+pub mod Together
+pub mod Loading
+pub mod Texts

@@ -1,0 +1,56 @@
+-- What the loads of some files did, in order, up to the first that failed.
+use Rattle.std.specs.Prelude.{◌≡◌, ℕ, List, [], ◌∷◌, ◌++◌, Option, None, Some, option_map, take}
+use Rattle.std.specs.Option.{option_and_then}
+use Rattle.mg_edge.specs.Edge.{StoreTold, most_loaded, one_more}
+use Rattle.mg_answer.specs.Devices.{Device}
+
+-- what a store tells of the names that it may have
+abbrev pub Told : Type 0
+Told = List ℕ → Option (Option (List ℕ))
+
+-- A load of a name gives these bytes, as far as the store tells what the name has: the first of them, and none of a name
+-- that isn't there.
+abbrev pub IsLoaded : Option (Option (List ℕ)) → List ℕ → Type 0
+IsLoaded None content = Unit {0}
+IsLoaded (Some None) content = ⊥
+IsLoaded (Some (Some bytes)) content = content ≡ take most_loaded bytes
+
+-- Loads of these names give these contents.
+abbrev pub AreLoaded : Told → List (List ℕ) → List (List ℕ) → Type 0
+AreLoaded told [] [] = Unit {0}
+AreLoaded told [] (content ∷ contents) = ⊥
+AreLoaded told (name ∷ names) [] = ⊥
+AreLoaded told (name ∷ names) (content ∷ contents) = IsLoaded (told name) content × AreLoaded told names contents
+
+-- A load leaves each content as it is.
+abbrev pub IsKept : Device StoreTold → Type 0
+IsKept store = (name : List ℕ) → store.now.content name ≡ store.before.content name
+
+-- All of these files were loaded, and no load failed.
+pub record LoadedAll (names contents : List (List ℕ)) (store : Device StoreTold) : Type 0 where
+  pub kept : IsKept store
+  pub given : AreLoaded store.before.content names contents
+  pub steady : store.now.faults ≡ store.before.faults
+  pub last : store.now.failed_name ≡ store.before.failed_name
+
+-- Of these files this one couldn't be loaded. Those before it were, and no other load failed.
+pub record FailedAt (names : List (List ℕ)) (file : List ℕ) (store : Device StoreTold) : Type 0 where
+  pub kept : IsKept store
+  pub before : List (List ℕ)
+  pub after : List (List ℕ)
+  pub order : names ≡ before ++ file ∷ after
+  pub contents : List (List ℕ)
+  pub given : AreLoaded store.before.content before contents
+  pub once : store.now.faults ≡ one_more store.before.faults
+  pub last : store.now.failed_name ≡ Some file
+
+-- the bytes of a name that is there
+abbrev pub there : Option (Option (List ℕ)) → Option (List ℕ)
+there None = None
+there (Some bytes) = bytes
+
+-- what loads of these names give, where the store tells what each of them has
+abbrev pub loads_of : Told → List (List ℕ) → Option (List (List ℕ))
+loads_of told [] = Some []
+loads_of told (name ∷ names) =
+    option_and_then (λ bytes. option_map (λ contents. take most_loaded bytes ∷ contents) (loads_of told names)) (there (told name))

@@ -1,0 +1,53 @@
+//! The pieces that the notes of refusals are made of.
+ghost use Rattle.std.specs.Prelude.{◌≡◌, ◌++◌, OnOk, IfOk, codes, decimal};
+ghost use Rattle.mg_answer.specs.Shown.{shown};
+
+use mg_answer::{put_number, put_shown};
+use mg_value::MgText;
+use std::alloc::{AllocError, Global};
+
+/// The note that a graph is refused, with what refuses it and why.
+pub fn stage_note(alloc: Global, stage: &[u8], refusal: &[u8]) -> Result<Vec<u8>, AllocError>
+    ensures { IfOk result (λ v. v.items ≡ codes "refused: " ++ stage.now ++ codes " " ++ refusal.now ++ codes "\n") }
+{
+    let mut note = Vec::from_slice(alloc, b"refused: ")?;
+    note.extend_from_slice(stage)?;
+    note.extend_from_slice(b" ")?;
+    note.extend_from_slice(refusal)?;
+    note.extend_from_slice(b"\n")?;
+    Ok(note)
+}
+
+/// The word of a refusal, and behind it the number of its place.
+pub fn at_place(alloc: Global, refusal: &[u8], place: u32) -> Result<Vec<u8>, AllocError>
+    ensures { IfOk result (λ v. v.items ≡ refusal.now ++ decimal place) }
+{
+    let mut text = Vec::from_slice(alloc, refusal)?;
+    put_number(&mut text, u64::from(place))?;
+    Ok(text)
+}
+
+/// The word of a refusal, and behind it the text that it is about.
+pub fn of_text(alloc: Global, refusal: &[u8], part: &MgText) -> Result<Vec<u8>, AllocError>
+    ensures { IfOk result (λ v. v.items ≡ refusal.now ++ shown part.now) }
+{
+    let mut text = Vec::from_slice(alloc, refusal)?;
+    put_shown(&mut text, part.as_bytes())?;
+    Ok(text)
+}
+
+/// Puts a number behind a space.
+pub fn put_next_number(text: &mut Vec<u8>, number: u32) -> Result<(), AllocError>
+    ensures { OnOk result (text.new.items ≡ text.old.items ++ codes " " ++ decimal number) }
+{
+    text.extend_from_slice(b" ")?;
+    put_number(text, u64::from(number))
+}
+
+/// Puts a text behind a space.
+pub fn put_next_text(text: &mut Vec<u8>, part: &MgText) -> Result<(), AllocError>
+    ensures { OnOk result (text.new.items ≡ text.old.items ++ codes " " ++ shown part.now) }
+{
+    text.extend_from_slice(b" ")?;
+    put_shown(text, part.as_bytes())
+}

@@ -1,6 +1,0 @@
-use Rattle.std.proofs.Common.{◌≡◌, ◌++◌, take, codes, decimal}
-use Rattle.std.specs.List.{flat_map}
-use Rattle.mg_run.proofs.check_note.put_numbers.Given as goal
-
-abbrev pub invariant-loop-number : goal.invariant-loop-number
-invariant-loop-number l = l.text.items ≡ l.fn.text.items ++ flat_map (λ n. codes " " ++ decimal n) (take l.number-index l.numbers)

@@ -1,9 +1,0 @@
-use Rattle.std.proofs.Common.{take, map}
-use Rattle.mg_config.specs.Config.{graph_view}
-use Rattle.mg_run.specs.Files.{AreGraphs}
-use Rattle.mg_run.specs.Code.Reads.{contents_of}
-use Rattle.mg_run.proofs.files.graphs_of.Given as goal
-
--- The files before the next are these graphs.
-abbrev pub invariant-loop-place : goal.invariant-loop-place
-invariant-loop-place l = AreGraphs (contents_of (take l.place l.contents)) (map graph_view l.graphs.items)

@@ -1,5 +1,0 @@
-use Rattle.mg_run.proofs.Texts.{known_by_text}
-use Rattle.mg_run.proofs.laws.graphs_are_known_by_their_text.Goals as goal
-
-pub returns : goal.returns
-returns c = known_by_text
