@@ -2,7 +2,7 @@
 
     textform         the text form of graph files, each field with its place
     graph, schema    graph files, their expansion, and the fields that they may have
-    kinds            the kinds of calculators: ports, options, offsets
+    calculators      the guide's page of the calculators, read; kinds: their ports, options and offsets
     packets          packet lines and timestamps
     notes            the notes of `mg`, read from their lines
     near             names near a misspelled one

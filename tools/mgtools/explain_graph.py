@@ -2,7 +2,7 @@
 from __future__ import annotations
 
 from .graph import LISTS, Field, File, Graph, Node, Port, first_text, key_label, ports_of, read_key
-from .kinds import KINDS, needs_back_edge, option_faults, port_faults, port_kind
+from .kinds import kinds, needs_back_edge, option_faults, port_faults, port_kind
 from .near import near, said as near_said
 from .notes import Note
 
@@ -138,7 +138,7 @@ def unknown_calculator(note: Note, graph: Graph) -> list[str]:
     said = f"{node.place}: {node.describe()}: mg has no calculator `{name}`"
     if COUNTERPARTS.get(name):
         return [f"{said}; the nearest here is {COUNTERPARTS[name]} (docs/guide/porting.md)"]
-    close = near(name, [*KINDS, *types])
+    close = near(name, [*kinds(), *types])
     if close:
         return [f"{said}; near it: {', '.join(f'`{one}`' for one in close)}"]
     return [f"{said}, and no file that was named has this `type`: if it is a subgraph, name its file too; if it is MediaPipe's, a file of this "

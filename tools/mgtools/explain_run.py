@@ -8,7 +8,7 @@ from itertools import islice
 from typing import Any
 
 from .graph import Graph, Node
-from .kinds import KINDS, offset_of, port_kind
+from .kinds import kinds, offset_of, port_kind
 from .near import said as near_said
 from .notes import Note
 from .packets import (DONE, KIND_WORDS, POST_STREAM, PRE_STREAM, Line, after, kind_of, read_bound, read_json, read_line, read_time,
@@ -331,7 +331,7 @@ def stalled(note: Note, graph: Graph | None, bounds: dict[str, str]) -> list[str
         return [f"{who}, which never closed: nothing is known of it from {bound} on; it failed before, or waits in a loop"]
     writer, waits = found
     said = [f"{writer.place}: {writer.describe()} writes `{name}`, of which nothing is known from {bound} on: it waits for `{waits}`, which stands at {bounds[waits]}"]
-    if offset_of(writer) is None and writer.calculator in KINDS and writer.calculator != "PreviousLoopbackCalculator":
+    if offset_of(writer) is None and writer.calculator in kinds() and writer.calculator != "PreviousLoopbackCalculator":
         hint = "with `raise_bound: true` it would" if writer.calculator == "IntFilterCalculator" else "it moves its bound by its packets alone"
         said.append(f"{writer.describe()} doesn't say that it drops a packet; {hint}")
     if writer.calculator == "PreviousLoopbackCalculator" and waits in [port.name for port in writer.inputs if port.tag == "LOOP"]:

@@ -1,13 +1,15 @@
 """The kinds of calculators as docs/guide/calculators.md has them: their ports, their options, and their offsets."""
 from __future__ import annotations
 
+import functools
+import re
 from dataclasses import dataclass, field
 
+from .calculators import PAGE, Told, told_by, words
 from .graph import Node, key_label
 from .textform import Field, Scalar
 
 LEAST, MOST = -2**63, 2**63 - 1
-FIRST_TIME, LAST_TIME = LEAST + 3, MOST - 3
 TRUTHS = ("true", "True", "t", "1", "false", "False", "f", "0")
 
 
@@ -26,7 +28,6 @@ class Ports:
 
 
 MANY = Ports(most=64)
-ONE = Ports()
 
 
 @dataclass(frozen=True)
@@ -86,37 +87,62 @@ class Kind:
     either: tuple[str, ...] = ()
 
 
-TRUTH = Option(words=TRUTHS)
-KINDS: dict[str, Kind] = {
-    "PassThroughCalculator": Kind(mirror=True),
-    "GateCalculator": Kind((MANY, Ports("ALLOW", 0, 1, "Flag"), Ports("DISALLOW", 0, 1, "Flag")), (MANY,),
-                           options={"empty_packets_as_allow": TRUTH}, alike=True, either=("ALLOW", "DISALLOW")),
-    "MuxCalculator": Kind((Ports("INPUT", 1, 64), Ports("SELECT", kind="Int")), (Ports("OUTPUT"),)),
-    "PacketClonerCalculator": Kind((MANY, Ports("TICK")), (MANY,), alike=True),
-    "MergeCalculator": Kind((MANY,), (ONE,)),
-    "PacketThinnerCalculator": Kind((ONE,), (ONE,), options={"thinner_type": Option(words=("ASYNC",)), "period": Option(least=1)},
-                                    offset="none"),
-    "IntSumCalculator": Kind((Ports(most=64, kind="Int"),), (Ports(kind="Int"),)),
-    "IntMapCalculator": Kind((Ports(kind="Int"),), (Ports(kind="Int"),), options={
-        "op": Option(words=("ADD", "SUBTRACT", "MULTIPLY"), required=True), "operand": Option(required=True)}),
-    "IntFilterCalculator": Kind((Ports(kind="Int"),), (Ports(kind="Int"),), options={
-        "keep": Option(words=("EVEN", "ODD", "NEGATIVE", "NON_NEGATIVE"), required=True), "raise_bound": TRUTH}, offset="none"),
-    "RunningSumCalculator": Kind((Ports(kind="Int"),), (Ports(kind="Int"),)),
-    "TimestampShiftCalculator": Kind((ONE,), (ONE,), options={"offset": Option(required=True)}, offset="offset"),
-    "CountingSourceCalculator": Kind((), (Ports(kind="Int"),), options={
-        "count": Option(least=0, most=1000000, required=True), "start": Option(least=FIRST_TIME, most=LAST_TIME),
-        "step": Option(least=1)}, offset="none"),
-    "SidePacketToStreamCalculator": Kind((), tuple(Ports(tag, 0, 1) for tag in ("AT_PRESTREAM", "AT_ZERO", "AT_POSTSTREAM")),
-                                         (ONE,), offset="none", either=("AT_PRESTREAM", "AT_ZERO", "AT_POSTSTREAM")),
-    "ConstantSidePacketCalculator": Kind((), (), (), (Ports("PACKET", 1, 64),), {"packet": Option(required=True, repeated=True)}, "none"),
-    "PreviousLoopbackCalculator": Kind((Ports("LOOP"), Ports("MAIN")), (Ports("PREV_LOOP"),), offset="none"),
-    "FlowLimiterCalculator": Kind((ONE, Ports("FINISHED")), (ONE,), options={"max_in_flight": Option(least=1, most=2**31 - 1)}, offset="none"),
-    "TallyCalculator": Kind((ONE,), (Ports(kind="Int"),)),
-    "BeginLoopCalculator": Kind((Ports("ITERABLE", kind="Items"),), (Ports("BATCH_END", kind="Int"), Ports("ITEM")), offset="none"),
-    "BeginLoopCloneCalculator": Kind((Ports("CLONE"), Ports("ITERABLE", kind="Items")),
-                                     (Ports("BATCH_END", kind="Int"), Ports("CLONE"), Ports("ITEM")), offset="none"),
-    "EndLoopCalculator": Kind((Ports("BATCH_END", kind="Int"), Ports("ITEM")), (Ports("ITERABLE", kind="Items"),), offset="none"),
-}
+PORTS = re.compile(r"(?:(k|one) untagged|(\w+(?: or \w+)*)( 0 to k-1)?)(?: \((\w+)\))?")
+
+
+def ports_in(cell: str) -> tuple[Ports, ...]:
+    """The ports that a cell of the page's table lists, as `k untagged, TICK`."""
+    found: list[Ports] = []
+    for entry in cell.split(", ") if cell not in ("", "none") else []:
+        read = PORTS.fullmatch(entry)
+        if not read:
+            raise ValueError(f"{PAGE}: `{entry}` is no port of a calculator")
+        untagged, tags, many, kind = read.groups()
+        names = [""] if untagged else tags.split(" or ")
+        most = 64 if untagged == "k" or many else 1
+        found += [Ports(name, 1 if len(names) == 1 else 0, most, kind or "Any") for name in names]
+    return tuple(found)
+
+
+def option_in(values: str, default: str, repeated: bool) -> Option:
+    """The option whose values and default a row of the page lists."""
+    required = default == "required"
+    if repeated:
+        return Option(required=required, repeated=True)
+    if values == "truth value":
+        return Option(words=TRUTHS, required=required)
+    if span := re.fullmatch(r"(-?\d+) to (-?\d+)", values):
+        return Option(least=int(span[1]), most=int(span[2]), required=required)
+    if re.fullmatch("`[^`]+`(?:, `[^`]+`)*", values):
+        return Option(words=words(values), required=required)
+    raise ValueError(f"{PAGE}: `{values}` are no values of an option")
+
+
+def streams_and_sides(cell: str) -> tuple[tuple[Ports, ...], tuple[Ports, ...]]:
+    """The streams and the side packets of a cell, as `none` or `side packets: PACKET 0 to k-1`."""
+    streams, _, sides = re.sub("side packets?: ", "|", cell).partition("|")
+    return ports_in(streams.rstrip("; ")), ports_in(sides)
+
+
+def kind_told(told: Told) -> Kind:
+    """The kind of a calculator, by what the page tells of it."""
+    options = {words(name)[0]: option_in(values, default, name.endswith("*")) for name, values, default in told.option_rows}
+    if told.inputs == "any ports":
+        return Kind(options=options, offset=told.offset, mirror=True)
+    (inputs, sides_in), (outputs, sides_out) = streams_and_sides(told.inputs), streams_and_sides(told.outputs)
+    either = tuple(ports.tag for ports in inputs + outputs if ports.least == 0)
+    return Kind(inputs, outputs, sides_in, sides_out, options, told.offset, MANY in inputs and MANY in outputs, either=either)
+
+
+@functools.cache
+def kinds() -> dict[str, Kind]:
+    """The kinds of calculators by their names, in the order of the page."""
+    try:
+        text = PAGE.read_text(encoding="utf-8")
+    except OSError as fault:
+        raise SystemExit(f"{PAGE}: {fault.strerror}: the tools read there which ports and options calculators have") from None
+    return {told.name: kind_told(told) for told in told_by(text)}
+
 
 PLACES = (("input_stream", "inputs", "input"), ("output_stream", "outputs", "output"),
           ("input_side_packet", "sides_in", "input side packet"), ("output_side_packet", "sides_out", "output side packet"))
@@ -124,7 +150,7 @@ PLACES = (("input_stream", "inputs", "input"), ("output_stream", "outputs", "out
 
 def port_faults(node: Node) -> list[tuple[int, str]]:
     """What of a node's ports doesn't fit its calculator: where it stands, and what would fit."""
-    kind = KINDS.get(node.calculator)
+    kind = kinds().get(node.calculator)
     if kind is None:
         return []
     if kind.mirror:
@@ -169,7 +195,7 @@ def mirror_faults(node: Node) -> list[tuple[int, str]]:
 
 def option_faults(node: Node) -> list[tuple[int, str]]:
     """What of a node's options doesn't fit its calculator."""
-    kind = KINDS.get(node.calculator)
+    kind = kinds().get(node.calculator)
     if kind is None:
         return []
     own = f"mediapipe.{node.calculator}Options"
@@ -201,7 +227,7 @@ def option_faults(node: Node) -> list[tuple[int, str]]:
 
 def port_kind(node: Node | None, name: str, key: tuple[str, int]) -> str:
     """The kind of packets that a port takes or gives."""
-    kind = KINDS.get(node.calculator) if node else None
+    kind = kinds().get(node.calculator) if node else None
     if kind is None:
         return "Any"
     rules = kind.inputs if name == "input_stream" else kind.outputs
@@ -210,7 +236,7 @@ def port_kind(node: Node | None, name: str, key: tuple[str, int]) -> str:
 
 def offset_of(node: Node) -> int | None:
     """The offset that a node promises; none where it promises none."""
-    kind = KINDS.get(node.calculator)
+    kind = kinds().get(node.calculator)
     if kind is None or kind.offset == "none":
         return None
     if kind.offset == "0":
