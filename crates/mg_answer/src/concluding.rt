@@ -48,7 +48,7 @@ pub fn conclude<K: Sink, E: Sink>(
         → HasPut first (K.told output.old) text (output_in form run.now.plan.now streams)
         → Wrote (record { form = form; report = run.now.report }) job end status (device first (K.told output.new)) (device (E.told notes.old) (E.told notes.new))) }
 
-    // Of whatever text was put, it was written with what the outcomes tell.
+    // Whatever text was put, it was written with the notes that the outcomes tell, or a write failed, and the status says so.
     ensures told { IfOk result (λ status. (first : SinkTold) (whole : List ℕ) → HasPut first (K.told output.old) text whole
         → WroteBy status (told_answer run.now.report run.now.plan.now end outcomes.now whole) (told_failed run.now.report run.now.plan.now end outcomes.now) (device first (K.told output.new)) (device (E.told notes.old) (E.told notes.new))) }
 

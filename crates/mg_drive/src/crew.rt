@@ -3,7 +3,7 @@ use mg_edge::Gate;
 use mg_value::PrefixList;
 
 // How many packets have to come to a net whose calculators are all the program's own before workers are called. These do a set in less
-// than a microsecond, so what fewer packets come to takes no longer than starting the threads.
+// than a microsecond, so the work that fewer packets bring takes no longer than starting the threads.
 const LEAST: u64 = 512;
 
 /// Where workers come from, and the gate round each Process call: a runtime that starts threads and may wait for them.

@@ -106,8 +106,8 @@ impl Batches for Feed {
 
 /// Runs the graph of a plan over packet lines, with the calculators that are handed in, and leaves these in their places. It reads
 /// batches of lines, drives a net over them, and writes the sets of its outputs as they come; at the input's end, its first fault or
-/// its first line that isn't good it writes the notes, with the report behind them where it is asked for. As many
-/// workers as the plan says run the net before each sweep. Each Process call goes through the crew's gate.
+/// its first line that isn't good it writes the notes, with the report behind them where it is asked for. As many workers as the plan
+/// says run the net before a sweep, where enough packets have come for that. Each Process call goes through the crew's gate.
 ///
 /// Once a write to the output has failed nothing more is written to it. The run goes on all the same, and the notes are written and say
 /// so. Where memory runs out they say that alone.

@@ -21,7 +21,8 @@ use std::thread::Threads;
 
 /// Runs the graph of a plan over so many packets that are made, with the calculators that are handed in, and leaves these in their
 /// places. It makes them piece by piece, drives a net over each piece to rest, sums up the sets of its outputs, and writes the summary and
-/// then the notes, with the report behind them where it is asked for. As many workers as the plan says run the net before each sweep. Each Process call goes through the crew's gate. The input is left as it was.
+/// then the notes, with the report behind them where it is asked for. As many workers as the plan says run the net before a sweep, where
+/// enough packets have come for that. Each Process call goes through the crew's gate. The input is left as it was.
 ///
 /// Where a write of the summary fails, the notes are written all the same, and say so. Where memory runs out they say that alone.
 pub fn run_made<

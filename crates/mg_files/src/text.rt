@@ -8,7 +8,7 @@ use mg_config::{GraphConfig, write};
 use mg_text::print;
 use std::alloc::{AllocError, Global};
 
-/// The text of a configuration, which is let go before that is printed.
+/// The text of a configuration, which is dropped once its fields are made and before they are printed.
 pub fn graph_text(alloc: Global, graph: GraphConfig) -> Result<Vec<u8>, AllocError>
     requires sound { IsSound (graph_view graph) }
     requires printable { IsPrintable (graph_view graph) }

@@ -53,7 +53,7 @@ stream_number plan s = place_in (core_streams plan) s
 abbrev pub node_number : Plan → ℕ → ℕ
 node_number plan n = place_in (core_numbers plan) n
 
--- the numbers of all streams in the core
+-- the core's number of each stream of the plan
 abbrev pub stream_numbers : Plan → List ℕ
 stream_numbers plan = map (stream_number plan) (numbers (length plan.streams))
 

@@ -4,14 +4,14 @@ use mg_calc::Calculator;
 /// How far a node's next set came, of which the work is claimed, performed and committed at once.
 #[derive(Drop)]
 pub enum AtOnce<C: Calculator> {
-    /// Works are under way, or something else than a set may be next. Nothing has changed.
+    /// No set is shown: works are under way, or a claim may answer with something else than a set. Nothing has changed.
     Other,
     /// Neither a set nor the end can be told yet. Nothing has changed.
     NotReady,
     /// The work is claimed, and there was no memory to perform it.
     Claimed(Work<C>),
-    /// That of a number is performed and stands in its window, and there was no memory to commit it.
+    /// The work of this number is performed and stands in the node's window, as there was no memory to commit it.
     Performed(u64),
-    /// That of a number is committed.
+    /// The work of this number is committed.
     Committed(u64),
 }

@@ -128,7 +128,8 @@ impl Queue {
         }
     }
 
-    /// Takes back what came last: of the packets that wait the first are left, so many, with the bound that stood then. The others go.
+    /// Takes back what came last: so many of the packets that wait are left, the first ones, with the bound that stood then. The others
+    /// are dropped.
     pub fn cut_back(&mut self, waiting: u64, bound: Timestamp)
         requires { IsQueue (cut_back waiting bound self.old) }
         ensures { IsLike self.new (cut_back waiting bound self.old) }

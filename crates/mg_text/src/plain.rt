@@ -9,7 +9,7 @@ use crate::parts::{Quote, Tail};
 use crate::state::{Inside, NamePart, Reading, Run, ScalarPart};
 use std::alloc::AllocError;
 
-// Which runs each byte lengthens, as a letter: 64 and the flags of those runs.
+// For each byte the kinds of runs (blanks, a comment, a word, a quoted text) that go on with it, as a letter: 64 and their flags.
 static RUNS: [u8; 256] = *b"\
     ZZZZZZZZZ[A[[[ZZZZZZZZZZZZZZZZZZ\
     [ZJZZZZRZZZZZZZZ^^^^^^^^^^ZZZZZZ\

@@ -32,8 +32,8 @@ pub record WereMade (plan : Plan) (number : ℕ) (m : Making) (end : BatchEnd) (
   pub end_is : end ≡ end_of (m.made == number)
   pub inputs_are : inputs ≡ made_inputs (inputs_of plan) m.made (m.made == number)
 
--- They came piece by piece, and a piece has as many packets now as it had at first (`most`): each earlier entry is what some number of
--- packets comes to, and of these numbers nothing is said. Where there are no more packets than a piece has, all came at once.
+-- They came piece by piece, and how many packets a piece has (`most`) hasn't changed since the first: each earlier entry is what some
+-- number of packets comes to, and of these numbers nothing is said. Where there are no more packets than a piece has, all came at once.
 pub record HaveComeInPieces (plan : Plan) (number most now : ℕ) (m : Making) (end : BatchEnd) (history : List Inputs) : Type 0 where
   pub inputs : Inputs
   pub given : WereMade plan number m end inputs

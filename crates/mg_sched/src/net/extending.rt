@@ -142,8 +142,8 @@ impl<C: Calculator> Net<C> {
         Ok(())
     }
 
-    /// Goes on with further input of the last graph inputs alone, a piece for each of them. Nothing further came of those before, and they
-    /// cost nothing.
+    /// Goes on with further input of the last graph inputs alone, a piece for each of them. Nothing comes to the graph inputs before
+    /// them, and they cost nothing.
     pub fn extend_last(&mut self, pieces: &PrefixList) -> Result<(), AllocError>
         requires may { MayGoOnWith (for_last (length self.old.plan.inputs) pieces.now) self.old }
         ensures extends { OnOk result (Extends (for_last (length self.old.plan.inputs) pieces.now) self.old self.new) }

@@ -91,9 +91,10 @@ impl<C: Calculator> Net<C> {
     /// Each event that does something is told, once it has done it: what hears them hears a run of the net. That run leads to where the
     /// net is now; at want of memory it may end before a step that wasn't made whole.
     ///
-    /// A packet costs what the steps on its way cost. The first sweep looks over the whole net at its end. One that follows a rest looks
-    /// over the places that it has touched alone, and goes on from those alone that were touched since: the graph inputs that were
-    /// extended, and the collector. The first one takes memory for what it keeps.
+    /// A packet costs what the steps on its way cost. At its end a sweep looks over the whole net, unless nothing but `extend`,
+    /// `extend_last` and `take_out` has changed it since the last sweep, which came to rest. Then it begins with the graph inputs that
+    /// were extended, and looks over these, the collector and the places of its own steps alone. The first sweep takes memory for what
+    /// is kept, and so does the first one behind workers.
     pub fn sweep<G: Gate, H: Hears>(&mut self, gate: &G, hearer: &mut H) -> Result<(), AllocError>
         requires running { IsRunning self.old }
         requires stands { StandsForSome self.old }

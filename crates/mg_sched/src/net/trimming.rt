@@ -90,7 +90,7 @@ fn give_up<C: Calculator>(engines: &mut [Engine<C>], plan: &Plan, got: &[u64])
 
 impl<C: Calculator> Net<C> {
     /// Gives up the packets that all edges of their streams have got, and those of streams without edges; but none of a stream that is
-    /// kept. It looks at each stream and each edge once.
+    /// kept. It looks at each stream and each edge once, and the next sweep looks over the whole net.
     pub fn trim(&mut self)
         requires stands { StandsForSome self.old }
         ensures trims { Trims self.old self.new }
