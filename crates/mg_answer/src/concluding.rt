@@ -10,8 +10,6 @@ ghost use Rattle.mg_answer.specs.Outcomes.{TellsOf, told_notes, told_answer, tol
 ghost use Rattle.mg_answer.specs.Devices.{device, TookFront};
 ghost use Rattle.mg_answer.specs.Put.{HasPut};
 ghost use Rattle.mg_answer.specs.Wrote.{Wrote, WroteBy};
-ghost use Rattle.mg_answer.specs.Notes.{notes_by};
-ghost use Rattle.mg_answer.specs.Report.{end_bounds};
 ghost use Rattle.mg_answer.specs.Frozen.{WroteFrozen};
 
 use crate::notes::{put_end, put_faults, put_status};
@@ -121,32 +119,6 @@ fn tell(
     ensures status { IfOk result (λ told. told.status ≡ (if written then the_status end outcomes.now.faults stalled.now else Status.WriteFault)) }
     ensures notes { IfOk result (λ told. told.notes.items ≡ told_notes told.status run.now.report run.now.plan.now end outcomes.now stalled.now) }
 {
-    let mut told = begun(run, end, outcomes, stalled, written)?;
-    told.notes.extend_from_slice(&outcomes.arrivals)?;
-    put_asked(
-        &mut told.notes,
-        run.report,
-        run.plan,
-        outcomes.sets.as_slice(),
-        outcomes.ends.as_slice(),
-    )?;
-    Ok(told)
-}
-
-// The status, and the notes without the arrivals and the report.
-fn begun(
-    run: &Run<'_>,
-    end: FeedEnd,
-    outcomes: &Outcomes,
-    stalled: &[u32],
-    written: bool,
-) -> Result<Told, AllocError>
-    requires numbers { All (λ number. number < length outcomes.now.ends.items) stalled.now }
-    requires many { length outcomes.now.ends.items ≡ length run.now.plan.now.streams }
-    requires nodes { All (λ fault. fault.node < length run.now.plan.now.nodes) outcomes.now.faults }
-    ensures status { IfOk result (λ told. told.status ≡ (if written then the_status end outcomes.now.faults stalled.now else Status.WriteFault)) }
-    ensures notes { IfOk result (λ told. told.notes.items ≡ notes_by told.status run.now.plan.now end outcomes.now.faults (end_bounds outcomes.now.ends.items) stalled.now) }
-{
     let faults = outcomes.faults.as_slice();
     let status = unless_failed(written, status_of(end, faults, stalled));
     let mut notes = Vec::new(run.alloc);
@@ -158,6 +130,14 @@ fn begun(
         run.plan,
         outcomes.ends.as_slice(),
         stalled,
+    )?;
+    notes.extend_from_slice(&outcomes.arrivals)?;
+    put_asked(
+        &mut notes,
+        run.report,
+        run.plan,
+        outcomes.sets.as_slice(),
+        outcomes.ends.as_slice(),
     )?;
     Ok(Told { status, notes })
 }

@@ -74,10 +74,7 @@ fn solve_whole<S: Source, K: Sink, E: Sink>(
 {
     match solve_read(run, devices) {
         Ok(status) => status,
-        Err(_) => {
-            note_out_of_memory(devices.notes);
-            Status::OutOfMemory
-        }
+        Err(_) => note_out_of_memory(devices.notes),
     }
 }
 

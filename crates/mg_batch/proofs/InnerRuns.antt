@@ -13,8 +13,8 @@ use Rattle.mg_calc.specs.declared.plan_node.PlanNode.{PlanNode}
 use Rattle.mg_calc.specs.Answer.{Answer, emission_of}
 use Rattle.mg_calc.specs.Values.{fits, number_of}
 use Rattle.mg_calc.specs.Kinds.{has_wrong_kind}
-use Rattle.mg_calc.specs.Own.{mapped, is_kept, filtered, emits_number}
-use Rattle.mg_calc.specs.Law.{rule, step}
+use Rattle.mg_calc.specs.IntMap.{mapped}
+use Rattle.mg_calc.specs.Law.{is_kept, filtered, emits_number, rule, step}
 use Rattle.mg_batch.specs.Loop.{IsInner, image, images}
 use Rattle.mg_batch.proofs.Runs.{Runs, emitted}
 use Rattle.mg_batch.proofs.SetsOf.{found_at}

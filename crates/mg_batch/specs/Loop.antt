@@ -9,7 +9,8 @@ use Rattle.mg_calc.specs.declared.law.Law.TheVariants.{Pass, Map, Filter, BeginL
 use Rattle.mg_calc.specs.declared.plan.Plan.{Plan}
 use Rattle.mg_calc.specs.declared.plan_node.PlanNode.{PlanNode}
 use Rattle.mg_calc.specs.Values.{number_of, items_in, iterable_port}
-use Rattle.mg_calc.specs.Own.{mapped, is_kept}
+use Rattle.mg_calc.specs.IntMap.{mapped}
+use Rattle.mg_calc.specs.Law.{is_kept}
 use Rattle.mg_calc.specs.Equations.{Job, stream_of, outcome_of}
 
 -- the laws that may stand inside a loop: Pass, Map and Filter

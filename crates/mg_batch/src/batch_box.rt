@@ -88,14 +88,9 @@ impl Calculator for BatchBox {
         set: &InputSet,
     ) -> Result<Emission, CalcFault> {
         self.log.note_set(alloc, at, set)?;
-        match batch_step_in(alloc, &self.law, &mut self.state, at, set) {
-            Ok(emission) => Ok(emission),
-            Err(CalcFault::Fault(cause)) => Err(CalcFault::Fault(cause)),
-            Err(CalcFault::OutOfMemory) => {
-                self.log.take_back(alloc);
-                Err(CalcFault::OutOfMemory)
-            }
-        }
+        let answer = batch_step_in(alloc, &self.law, &mut self.state, at, set);
+        self.log.keep_answered(alloc, &answer);
+        answer
     }
 
     fn finish(&mut self, alloc: Global) -> Result<Emission, CalcFault> {

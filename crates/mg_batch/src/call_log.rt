@@ -1,9 +1,9 @@
 ghost use Rattle.std.specs.Prelude.{◌≡◌, ◌∷◌, ◌++◌, [], length, ◌<◌, ◌^◌, Option, List, None, unwrap_or, slice_get, IfOk, IfErr, OnErr};
 ghost use Rattle.mg_calc.specs.declared.call.Call.{Call as TheCall};
-ghost use Rattle.mg_calc.specs.Told.{with_call as with_a_call, shown_calls};
+ghost use Rattle.mg_calc.specs.Told.{with_call as with_a_call, shown_calls, Logs};
 ghost use Rattle.mg_batch.specs.Logged.{told_log};
 
-use mg_calc::{Call, CallList};
+use mg_calc::{CalcFault, Call, CallList, Emission};
 use mg_time::Timestamp;
 use mg_value::{BlockList, InputSet, Packet};
 use std::alloc::{AllocError, AllocFailed, Global};
@@ -86,6 +86,17 @@ impl CallLog {
         }
         let set = copied(alloc, set)?;
         self.note(alloc, Call::Shown { at, set })
+    }
+
+    /// Takes the last call back where it found no memory; one that answered or failed stays.
+    pub fn keep_answered(&mut self, alloc: Global, answer: &Result<Emission, CalcFault>)
+        ensures { (before : Option (List TheCall)) (call : TheCall) → self.old ≡ with_a_call before call → Logs answer.now before self.new call }
+    {
+        match answer {
+            Err(CalcFault::OutOfMemory) => self.take_back(alloc),
+            Err(CalcFault::Fault(_)) => {}
+            Ok(_) => {}
+        }
     }
 
     /// Takes the last call back, as if it hadn't been put there.

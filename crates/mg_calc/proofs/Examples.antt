@@ -5,7 +5,7 @@ use Rattle.mg_value.specs.Plain.{Plain, flag, int, text, items, item, no_items}
 use Rattle.mg_value.specs.Prefix.{Stamped}
 use Rattle.mg_calc.specs.declared.law.Law.{Law}
 use Rattle.mg_calc.specs.declared.law.Law.TheVariants.{Gate, Mux, Cloner, Merge, Thin, Sum, Map, Filter, Running, Shift, Count, SideOnce, Tally, Scripted}
-use Rattle.mg_calc.specs.declared.law.MapOp.TheVariants.{Subtract, Multiply}
+use Rattle.mg_calc.specs.declared.int_map.MapOp.TheVariants.{Subtract, Multiply}
 use Rattle.mg_calc.specs.declared.law.Keep.TheVariants.{Even, Odd}
 use Rattle.mg_calc.specs.declared.cause.Cause.TheVariants.{Overflow, BadSelect, WrongKind, NoSide}
 use Rattle.mg_calc.specs.declared.emission.Laid.{Laid}

@@ -20,7 +20,7 @@ use Rattle.mg_calc.specs.Shape.{ParametersFit, IsShapeOf, HasOutputs, calls_of}
 use Rattle.mg_calc.specs.Outcome.{Outcome, source_outcome, node_outcome}
 use Rattle.mg_calc.specs.Equations.{Job, IsJob, inputs_of, outcome_by, outcome_of, next_round, IsSolution}
 use Rattle.mg_calc.proofs.Outcomes.{KeepsTimes}
-use Rattle.mg_calc.proofs.LawTimes.{law_keeps_times}
+use Rattle.mg_calc.proofs.LawCases.{law_keeps_times}
 use Rattle.mg_calc.proofs.Rounds.{IsKnown}
 use Rattle.mg_calc.proofs.Solutions.{solution_keeps, solution_least}
 

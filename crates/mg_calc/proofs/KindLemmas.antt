@@ -7,7 +7,8 @@ use Rattle.mg_value.specs.Plain.{Plain}
 use Rattle.mg_value.specs.Prefix.{Stamped}
 use Rattle.mg_calc.specs.declared.law.Law.{Law}
 use Rattle.mg_calc.specs.Values.{place_at}
-use Rattle.mg_calc.specs.Kinds.{input_kind, is_wrong}
+use Rattle.mg_calc.specs.Kinds.{is_wrong}
+use Rattle.mg_calc.specs.Shape.{input_kind}
 
 -- whether some place from a port on is wrong
 abbrev pub wrong_from : Law → ℕ → List (Option (Stamped Plain)) → Bool

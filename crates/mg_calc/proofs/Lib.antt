@@ -10,6 +10,7 @@ pub mod Holding
 pub mod Settling
 pub mod FirstRound
 pub mod LawTimes
+pub mod LawCases
 pub mod Jobs
 pub mod Independence
 pub mod WorkedGraphs

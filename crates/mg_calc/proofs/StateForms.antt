@@ -1,4 +1,4 @@
--- The states that calculators keep are of their laws' forms.
+-- The states that are kept are of a form.
 use Rattle.std.proofs.Common.{◌≡◌, ◌==◌, ℕ, ◌+◌, ◌-◌, ◌^◌, ◌<◌, ◌≤◌, min, ℤ, pos, negsuc, ◌+ℤ◌, Bool, true, false, List, [], ◌∷◌, ◌++◌, map, take, length, replicate, get_or, All, Option, Some, None, Result, Ok, Err, IfOk, subst, sym, option_map, unwrap_or, slice_get, inl, inr, ◌⊎◌, codes, lit≤, refl, ◌∙◌, ap, arith, if◌then◌else◌, nat_le}
 use Rattle.std.specs.List.{zip}
 use Rattle.std.proofs.lemmas.Int.{ints}
@@ -12,23 +12,19 @@ use Rattle.std.proofs.lemmas.Option.{slice_get_cases}
 use Rattle.mg_time.specs.Time.{raw_of, place_of, pre_stream, one_over_post_stream}
 use Rattle.mg_value.specs.Plain.{Plain, int, depth}
 use Rattle.mg_value.specs.Prefix.{Stamped}
-use Rattle.mg_value.specs.Settled.{selected}
-use Rattle.mg_calc.specs.declared.law.Law.{Law}
-use Rattle.mg_calc.specs.declared.law.Law.TheVariants.{Pass, Gate, Mux, Cloner, Merge, Thin, Sum, Map, Filter, Running, Shift, Count, SideOnce, Constants, Loopback, Tally, Scripted, BeginLoop, EndLoop, FirstCome, Limiter}
+use Rattle.mg_calc.specs.declared.law.Law.TheVariants.{Mux, Cloner, Thin, Tally, Scripted, BeginLoop, EndLoop}
 use Rattle.mg_calc.specs.declared.shape.Shape.{Shape}
 use Rattle.mg_calc.specs.declared.port_kind.PortKind.{PortKind}
 use Rattle.mg_calc.specs.declared.emission.Laid.{Laid}
 use Rattle.mg_calc.specs.declared.cause.Cause.{Cause}
 use Rattle.mg_calc.specs.declared.cause.Cause.TheVariants.{TooDeep}
-use Rattle.mg_calc.specs.Answer.{Answer, emission_of}
-use Rattle.mg_calc.specs.Values.{place_at, number_of, total, fits, time_of, is_in_range, stored, kept_in, items_in, iterable_port}
-use Rattle.mg_calc.specs.State.{IsStateOf, IsNumber, CountsTo, ArePlaces, state_of, number_in, count_in, time_kept, next_valid, places_in, kept_list, full_places, AreItems}
-use Rattle.mg_calc.specs.Kinds.{has_wrong_kind}
-use Rattle.mg_calc.specs.Routing.{is_open, renewed, renewed_places, valid_after, chosen, thinned}
+use Rattle.mg_calc.specs.Answer.{Answer}
+use Rattle.mg_calc.specs.Values.{fits, time_of, is_in_range, stored, kept_in}
+use Rattle.mg_calc.specs.State.{IsStateOf, IsNumber, CountsTo, ArePlaces, state_of, number_in, count_in, time_kept, next_valid, places_in, full_places, AreItems}
+use Rattle.mg_calc.specs.Routing.{renewed, renewed_places, valid_after, chosen, thinned}
 use Rattle.mg_calc.specs.Batch.{last_inner, begun_batch, with_item, gathered}
-use Rattle.mg_calc.specs.Own.{mapped, emits_number, emits_at}
+use Rattle.mg_calc.specs.Law.{emits_number, emits_at, step}
 use Rattle.mg_calc.proofs.StateLists.{kept-full_places}
-use Rattle.mg_calc.specs.Law.{rule, step}
 use Rattle.mg_value.specs.declared.kind.Kind.TheVariants.{Any}
 use Rattle.mg_calc.specs.Shape.{IsShapeOf, FitsInputs, untagged, tagged}
 
@@ -37,25 +33,25 @@ abbrev pub Keeps : (List Plain → Type 0) → Answer → Type 0
 Keeps P answer = IfOk answer (λ given. P given.0)
 
 -- an answer by a test, and one by a place
-by_test : (P : List Plain → Type 0) (b : Bool) (one other : Answer) → (b ≡ true → Keeps P one) → Keeps P other → Keeps P (if b then one else other)
+pub by_test : (P : List Plain → Type 0) (b : Bool) (one other : Answer) → (b ≡ true → Keeps P one) → Keeps P other → Keeps P (if b then one else other)
 by_test P true one other here there = here refl
 by_test P false one other here there = there
 
-by_place : (P : List Plain → Type 0) {X : Type 0} (place : Option X) (f : X → Answer) (other : Answer) → ((x : X) → Keeps P (f x)) → Keeps P other
+pub by_place : (P : List Plain → Type 0) {X : Type 0} (place : Option X) (f : X → Answer) (other : Answer) → ((x : X) → Keeps P (f x)) → Keeps P other
     → Keeps P (unwrap_or (option_map f place) other)
 by_place P None f other here there = there
 by_place P (Some x) f other here there = here x
 
 -- a number that is emitted leaves the state that goes with it
-emits : (P : List Plain → Type 0) (state : List Plain) (t : ℕ) (n : ℤ) → (fits n ≡ true → P state) → Keeps P (emits_number state t n)
+pub emits : (P : List Plain → Type 0) (state : List Plain) (t : ℕ) (n : ℤ) → (fits n ≡ true → P state) → Keeps P (emits_number state t n)
 emits P state t n good = by_test P (fits n) _ _ good tt
 
-moves : (P : List Plain → Type 0) (state : List Plain) (at : Option ℕ) (value : Plain) → P state → Keeps P (emits_at state at value)
+pub moves : (P : List Plain → Type 0) (state : List Plain) (at : Option ℕ) (value : Plain) → P state → Keeps P (emits_at state at value)
 moves P state None value good = tt
 moves P state (Some t) value good = good
 
 -- Mux
-picks : (P : List Plain → Type 0) (state : List Plain) (set : List (Option (Stamped Plain))) (o : Option ℕ) → P state → Keeps P (chosen state set o)
+pub picks : (P : List Plain → Type 0) (state : List Plain) (set : List (Option (Stamped Plain))) (o : Option ℕ) → P state → Keeps P (chosen state set o)
 picks P state set None good = tt
 picks P state set (Some i) good = good
 
@@ -87,7 +83,7 @@ length_lanes : (lanes : ℕ) (ps : List PortKind) → ps ≡ untagged lanes Any 
 length_lanes lanes ps same =
     rw (same, length-append (untagged lanes Any) (tagged (codes "TICK") Any)) (ap (λ n. n + 1) (length-map-range_with_len _ 0 lanes))
 
-cloned : (lanes : ℕ) (shape : Shape) (state : List Plain) (set : List (Option (Stamped Plain))) → IsShapeOf (Cloner lanes) shape → FitsInputs shape set
+pub cloned : (lanes : ℕ) (shape : Shape) (state : List Plain) (set : List (Option (Stamped Plain))) → IsShapeOf (Cloner lanes) shape → FitsInputs shape set
     → ArePlaces lanes (map stored (renewed_places lanes state set))
 cloned lanes shape state set of_law places =
     let all = length_lanes lanes shape.inputs of_law.inputs in
@@ -121,13 +117,13 @@ valid_next : (period : ℤ) (t : ℕ) (b : Bool)
 valid_next period t true = valid_time (place_of (raw_of t +ℤ period)) _ refl
 valid_next period t false = inr refl
 
-thins : (period : ℤ) (state : List Plain) (t : ℕ) (p : Stamped Plain) → IsStateOf (Thin period) state
+pub thins : (period : ℤ) (state : List Plain) (t : ℕ) (p : Stamped Plain) → IsStateOf (Thin period) state
     → Keeps (IsStateOf (Thin period)) (thinned period state t p)
 thins period state t p good =
     by_test (IsStateOf (Thin period)) (nat_le (next_valid state) t) _ _ (λ _. valid_number (valid_after period t) (valid_next period t (is_in_range t))) good
 
 -- Tally: a count that fits goes on counting
-counts : (state : List Plain) → IsNumber (CountsTo (2 ^ 63 - 1)) state → fits (number_in state +ℤ pos 1) ≡ true
+pub counts : (state : List Plain) → IsNumber (CountsTo (2 ^ 63 - 1)) state → fits (number_in state +ℤ pos 1) ≡ true
     → CountsTo (2 ^ 63 - 1) (number_in state +ℤ pos 1)
 counts [] good fit = lit≤ tt
 counts (int (pos n) ∷ []) good fit = grind (arith, nat_tests)
@@ -140,14 +136,14 @@ counts (p ∷ ps) good fit = absurd good
 within : {X : Type 0} (xs : List X) (i : ℕ) (x : X) → Some x ≡ slice_get xs i → i < length xs
 within xs i x e = elim (slice_get_cases xs i).1 [ inl found ↦ found.1 | inr past ↦ absurd (cc (e ∙ past.1)) ]
 
-steps_on : (offset : Option ℤ) (first : List Laid) (steps : List (List Laid)) (last : List Laid) (state : List Plain) (o : Option (List Laid))
+pub steps_on : (offset : Option ℤ) (first : List Laid) (steps : List (List Laid)) (last : List Laid) (state : List Plain) (o : Option (List Laid))
     → o ≡ slice_get steps (count_in state) → IsStateOf (Scripted offset first steps last) state
     → Keeps (IsStateOf (Scripted offset first steps last)) (unwrap_or (option_map (λ emission. Ok (state_of (pos (count_in state + 1)), emission)) o) (Ok (state, [])))
 steps_on offset first steps last state None e good = good
 steps_on offset first steps last state (Some emission) e good = omega (arith, within steps (count_in state) emission e)
 
 -- BeginLoop: the next inner time goes on up to Max
-begins : (clone : Bool) (c t : ℕ) (list : List Plain) (cloned : Option (Stamped Plain)) → Keeps (IsStateOf (BeginLoop clone)) (begun_batch clone c t list cloned)
+pub begins : (clone : Bool) (c t : ℕ) (list : List Plain) (cloned : Option (Stamped Plain)) → Keeps (IsStateOf (BeginLoop clone)) (begun_batch clone c t list cloned)
 begins clone c t list cloned =
     by_test (IsStateOf (BeginLoop clone)) (nat_le (last_inner c (length list) + 1) (2 ^ 63 - 4)) _ _ (λ e. grind (arith, nat_tests, e)) tt
 
@@ -155,12 +151,12 @@ begins clone c t list cloned =
 are_items : (list : List Plain) → All (λ v. depth v < 16) list → AreItems (full_places list)
 are_items list all = (ap full_places (sym (kept-full_places list)), subst (All (λ v. depth v < 16)) (sym (kept-full_places list)) all)
 
-keeps_list : (end : Option (Stamped Plain)) (list : Result (List Plain) Cause) → IfOk list (λ vs. All (λ v. depth v < 16) vs) → Keeps AreItems (gathered end list)
+pub keeps_list : (end : Option (Stamped Plain)) (list : Result (List Plain) Cause) → IfOk list (λ vs. All (λ v. depth v < 16) vs) → Keeps AreItems (gathered end list)
 keeps_list end (Err cause) all = tt
 keeps_list None (Ok list) all = are_items list all
 keeps_list (Some end) (Ok list) all = are_items [] (All-nil (λ v. depth v < 16))
 
-items_stay : (list : List Plain) (item : Option (Stamped Plain)) → All (λ v. depth v < 16) list → IfOk (with_item list item) (λ vs. All (λ v. depth v < 16) vs)
+pub items_stay : (list : List Plain) (item : Option (Stamped Plain)) → All (λ v. depth v < 16) list → IfOk (with_item list item) (λ vs. All (λ v. depth v < 16) vs)
 items_stay list None all = all
 items_stay list (Some p) all = by_depth (nat_le 16 (depth p.value)) refl
   where
@@ -168,45 +164,3 @@ items_stay list (Some p) all = by_depth (nat_le 16 (depth p.value)) refl
     by_depth true e = tt
     by_depth false e =
         All-append (λ v. depth v < 16) list (p.value ∷ []) all (All-cons (λ v. depth v < 16) p.value [] (grind (arith, nat_tests, e)) (All-nil (λ v. depth v < 16)))
-
--- each law's rule
-follows : (law : Law) (shape : Shape) (state : List Plain) (t : ℕ) (set : List (Option (Stamped Plain))) → IsShapeOf law shape → FitsInputs shape set
-    → IsStateOf law state → Keeps (IsStateOf law) (rule law state t set)
-follows Pass shape state t set of_law places good = good
-follows (Gate a b c) shape state t set of_law places good =
-    by_test (IsStateOf (Gate a b c)) (is_open b c (place_at set a)) (Ok (state, emission_of (take a set))) (Ok (state, [])) (λ _. good) good
-follows (Mux lanes) shape state t set of_law places good =
-    by_place (IsStateOf (Mux lanes)) (place_at set lanes) _ _ (λ p. picks (IsStateOf (Mux lanes)) state set (selected (lanes + 1) p.value) good) good
-follows (Cloner lanes) shape state t set of_law places good = cloned lanes shape state set of_law places
-follows (Merge lanes) shape state t set of_law places good = good
-follows (Thin period) shape state t set of_law places good =
-    by_place (IsStateOf (Thin period)) (place_at set 0) _ _ (λ p. thins period state t p good) good
-follows (Sum lanes) shape state t set of_law places good = emits (IsStateOf (Sum lanes)) state t (total set) (λ _. good)
-follows (Map op operand) shape state t set of_law places good =
-    by_place (IsStateOf (Map op operand)) (place_at set 0) _ _ (λ p. emits (IsStateOf (Map op operand)) state t (mapped op operand (number_of p.value)) (λ _. good)) good
-follows (Filter keep raises) shape state t set of_law places good =
-    by_place (IsStateOf (Filter keep raises)) (place_at set 0) _ _ (λ p. good) good
-follows Running shape state t set of_law places good =
-    by_place (IsStateOf Running) (place_at set 0) _ _
-    (λ p. let sum = number_in state +ℤ number_of p.value in emits (IsStateOf Running) (state_of sum) t sum (λ fit. fit)) good
-follows (Shift offset) shape state t set of_law places good =
-    by_place (IsStateOf (Shift offset)) (place_at set 0) _ _ (λ p. moves (IsStateOf (Shift offset)) state _ p.value good) good
-follows (Count a b c) shape state t set of_law places good = good
-follows (SideOnce at) shape state t set of_law places good = good
-follows Constants shape state t set of_law places good = good
-follows Loopback shape state t set of_law places good = good
-follows Tally shape state t set of_law places good =
-    let count = number_in state +ℤ pos 1 in emits (IsStateOf Tally) (state_of count) t count (counts state good)
-follows (BeginLoop clone) shape state t set of_law places good =
-    by_place (IsStateOf (BeginLoop clone)) (place_at set (iterable_port clone)) _ _
-    (λ p. begins clone (count_in state) t (items_in p.value) (place_at set 0)) good
-follows EndLoop shape state t set of_law places good =
-    keeps_list (place_at set 0) (with_item (kept_list state) (place_at set 1)) (items_stay (kept_list state) (place_at set 1) good.1)
-follows (FirstCome lanes) shape state t set of_law places good = good
-follows (Limiter most) shape state t set of_law places good = good
-follows (Scripted offset first steps last) shape state t set of_law places good = steps_on offset first steps last state _ refl good
-
-pub stepped : (law : Law) (shape : Shape) (state : List Plain) (t : ℕ) (set : List (Option (Stamped Plain))) → IsShapeOf law shape → FitsInputs shape set
-    → IsStateOf law state → IfOk (step law state t set) (λ given. IsStateOf law given.0)
-stepped law shape state t set of_law places good =
-    by_test (IsStateOf law) (has_wrong_kind law set) _ _ (λ _. tt) (follows law shape state t set of_law places good)

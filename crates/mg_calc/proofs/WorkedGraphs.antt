@@ -13,7 +13,7 @@ use Rattle.mg_calc.specs.declared.cause.Cause.TheVariants.{Overflow, BadSelect, 
 use Rattle.mg_calc.specs.declared.call.Call.TheVariants.{Begun, Shown, Finished}
 use Rattle.mg_calc.specs.declared.law.Law.{Law}
 use Rattle.mg_calc.specs.declared.law.Law.TheVariants.{Pass, Gate, Mux, Cloner, Merge, Thin, Running, Sum, Map, Filter, Shift, Count, SideOnce, Loopback, Tally}
-use Rattle.mg_calc.specs.declared.law.MapOp.TheVariants.{Add, Multiply}
+use Rattle.mg_calc.specs.declared.int_map.MapOp.TheVariants.{Add, Multiply}
 use Rattle.mg_calc.specs.declared.law.Keep.TheVariants.{Even, Negative}
 use Rattle.mg_calc.specs.declared.node_fault.Phase.TheVariants.{Open, Call, Process}
 use Rattle.mg_calc.specs.declared.plan.Plan.{Plan}

@@ -1,13 +1,12 @@
--- The kinds of packets that a law takes.
-use Rattle.std.specs.Prelude.{ℕ, Bool, true, false, not, List, Option, option_map, unwrap_or, ◌==◌, if◌then◌else◌}
+-- Whether packets are of the kinds that a law takes.
+use Rattle.std.specs.Prelude.{Bool, true, false, not, List, Option, option_map, unwrap_or}
 use Rattle.std.specs.List.{list_any, enumerate_from}
 use Rattle.mg_value.specs.declared.kind.Kind.{Kind}
 use Rattle.mg_value.specs.declared.kind.Kind.TheVariants.{Any, Flag, Int, Text, Items, Record}
 use Rattle.mg_value.specs.Plain.{Plain, flag, int, text, items, entries}
 use Rattle.mg_value.specs.Prefix.{Stamped}
-use Rattle.mg_calc.specs.Values.{iterable_port}
 use Rattle.mg_calc.specs.declared.law.Law.{Law}
-use Rattle.mg_calc.specs.declared.law.Law.TheVariants.{Gate, Mux, Sum, Map, Filter, Running, BeginLoop, EndLoop}
+use Rattle.mg_calc.specs.Shape.{input_kind}
 
 -- whether a payload is of a kind
 abbrev pub is_of_kind : Kind → Plain → Bool
@@ -18,19 +17,6 @@ is_of_kind Text (text bytes) = true
 is_of_kind Items (items list) = true
 is_of_kind Record (entries list) = true
 is_of_kind _ _ = false
-
--- the kind of an input by its place: the laws of numbers take whole numbers, the last input of Gate is a truth value, that of
--- Mux a whole number, that of BeginLoop a list, the first of EndLoop a whole number, and all others are of any kind
-abbrev pub input_kind : Law → ℕ → Kind
-input_kind (Gate lanes disallow empty_as_allow) i = if i == lanes then Flag else Any
-input_kind (Mux lanes) i = if i == lanes then Int else Any
-input_kind (Sum lanes) i = Int
-input_kind (Map op operand) i = Int
-input_kind (Filter keep raises) i = Int
-input_kind Running i = Int
-input_kind (BeginLoop clone) i = if i == iterable_port clone then Items else Any
-input_kind EndLoop i = if i == 0 then Int else Any
-input_kind _ i = Any
 
 -- whether a place of a set has a packet that isn't of a kind
 abbrev pub is_wrong : Kind → Option (Stamped Plain) → Bool

@@ -3,12 +3,12 @@ pub mod Batch
 pub mod Code
 pub mod Equations
 pub mod Given
+pub mod IntMap
 pub mod Kinds
 pub mod Law
 pub mod Laying
 pub mod Meaning
 pub mod Outcome
-pub mod Own
 pub mod Plan
 pub mod Reaching
 pub mod Routing

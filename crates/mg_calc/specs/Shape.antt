@@ -1,6 +1,6 @@
 -- What each law may be given, and what a calculator of it looks like from outside. Ports go by tag, in byte order and the empty tag
 -- first, and then by index.
-use Rattle.std.specs.Prelude.{◌≡◌, ℕ, ℤ, pos, ◌≤◌, ◌≤ℤ◌, ◌⊎◌, Bool, true, false, List, [], ◌++◌, map, length, All, codes, Option, Some, None, if◌then◌else◌, IsTrue, IfSome, ⊤}
+use Rattle.std.specs.Prelude.{◌≡◌, ℕ, ℤ, pos, ◌≤◌, ◌≤ℤ◌, ◌⊎◌, Bool, true, false, List, [], ◌++◌, map, length, All, codes, Option, Some, None, ◌==◌, if◌then◌else◌, IsTrue, IfSome, ⊤}
 use Rattle.std.specs.List.{range_with_len}
 use Rattle.std.specs.List.Sorted.{IsStrictlySortedBy}
 use Rattle.std.specs.Ordering.{ordering_then, nat_cmp}
@@ -14,7 +14,7 @@ use Rattle.mg_calc.specs.declared.law.Law.TheVariants.{Pass, Gate, Mux, Cloner, 
 use Rattle.mg_calc.specs.declared.emission.Laid.{Laid}
 use Rattle.mg_calc.specs.declared.port_kind.PortKind.{PortKind}
 use Rattle.mg_calc.specs.declared.shape.Shape.{Shape}
-use Rattle.mg_calc.specs.Values.{is_in_range}
+use Rattle.mg_calc.specs.Values.{is_in_range, iterable_port}
 
 -- The laws by who computes them.
 
@@ -169,6 +169,19 @@ HasInputs (BeginLoop clone) ps = ps ≡ clone_ports clone ++ tagged (codes "ITER
 HasInputs EndLoop ps = ps ≡ tagged (codes "BATCH_END") Int ++ tagged (codes "ITEM") Any
 HasInputs (FirstCome lanes) ps = ps ≡ untagged lanes Any
 HasInputs (Limiter most) ps = ps ≡ untagged 1 Any ++ tagged (codes "FINISHED") Any
+
+-- the kind of an input by its place: the laws of numbers take whole numbers, the last input of Gate is a truth value, that of
+-- Mux a whole number, that of BeginLoop a list, the first of EndLoop a whole number, and all others are of any kind
+abbrev pub input_kind : Law → ℕ → Kind
+input_kind (Gate lanes disallow empty_as_allow) i = if i == lanes then Flag else Any
+input_kind (Mux lanes) i = if i == lanes then Int else Any
+input_kind (Sum lanes) i = Int
+input_kind (Map op operand) i = Int
+input_kind (Filter keep raises) i = Int
+input_kind Running i = Int
+input_kind (BeginLoop clone) i = if i == iterable_port clone then Items else Any
+input_kind EndLoop i = if i == 0 then Int else Any
+input_kind _ i = Any
 
 -- written emissions have an entry for each output
 pub record AreEmissions (outputs : ℕ) (first : List Laid) (steps : List (List Laid)) (last : List Laid) : Type 0 where

@@ -1,13 +1,10 @@
-use crate::{Emission, EmissionList};
-use mg_time::Timestamp;
+ghost use Rattle.std.specs.Prelude.{◌≡◌};
+ghost use Rattle.mg_calc.specs.Shape as shape;
 
-/// What `Law::Map` does with a number and its operand.
-#[derive(Clone, Copy, Debug, PartialEq, Eq)]
-pub enum MapOp {
-    Add,
-    Subtract,
-    Multiply,
-}
+use crate::{Emission, EmissionList, MapOp, TryClone};
+use mg_time::Timestamp;
+use mg_value::Kind;
+use std::alloc::{AllocError, Global};
 
 /// Which numbers `Law::Filter` keeps.
 #[derive(Clone, Copy, Debug, PartialEq, Eq)]
@@ -106,4 +103,129 @@ pub enum Law {
     Limiter {
         most: u32,
     },
+}
+
+impl TryClone for Law {
+    fn try_clone(&self, alloc: Global) -> Result<Law, AllocError> {
+        match self {
+            Law::Pass => Ok(Law::Pass),
+            Law::Gate {
+                lanes,
+                disallow,
+                empty_as_allow,
+            } => Ok(Law::Gate {
+                lanes: *lanes,
+                disallow: *disallow,
+                empty_as_allow: *empty_as_allow,
+            }),
+            Law::Mux { lanes } => Ok(Law::Mux { lanes: *lanes }),
+            Law::Cloner { lanes } => Ok(Law::Cloner { lanes: *lanes }),
+            Law::Merge { lanes } => Ok(Law::Merge { lanes: *lanes }),
+            Law::Thin { period } => Ok(Law::Thin { period: *period }),
+            Law::Sum { lanes } => Ok(Law::Sum { lanes: *lanes }),
+            Law::Map { op, operand } => Ok(Law::Map {
+                op: *op,
+                operand: *operand,
+            }),
+            Law::Filter { keep, raise } => Ok(Law::Filter {
+                keep: *keep,
+                raise: *raise,
+            }),
+            Law::Running => Ok(Law::Running),
+            Law::Shift { offset } => Ok(Law::Shift { offset: *offset }),
+            Law::Count { count, start, step } => Ok(Law::Count {
+                count: *count,
+                start: *start,
+                step: *step,
+            }),
+            Law::SideOnce { at } => Ok(Law::SideOnce { at: *at }),
+            Law::Constants => Ok(Law::Constants),
+            Law::Loopback => Ok(Law::Loopback),
+            Law::Tally => Ok(Law::Tally),
+            Law::Scripted {
+                offset,
+                first,
+                steps,
+                last,
+            } => {
+                let first = first.try_clone(alloc)?;
+                let steps = steps.try_clone(alloc)?;
+                let last = last.try_clone(alloc)?;
+                Ok(Law::Scripted {
+                    offset: *offset,
+                    first,
+                    steps,
+                    last,
+                })
+            }
+            Law::BeginLoop { clone } => Ok(Law::BeginLoop { clone: *clone }),
+            Law::EndLoop => Ok(Law::EndLoop),
+            Law::FirstCome { lanes } => Ok(Law::FirstCome { lanes: *lanes }),
+            Law::Limiter { most } => Ok(Law::Limiter { most: *most }),
+        }
+    }
+}
+
+/// The kind of packets that a law takes at an input, by the input's place.
+pub fn input_kind(law: &Law, port: u32) -> Kind
+    ensures { result ≡ shape.input_kind law.now port }
+{
+    match law {
+        Law::Gate { lanes, .. } => {
+            if port == *lanes {
+                Kind::Flag
+            } else {
+                Kind::Any
+            }
+        }
+        Law::Mux { lanes } => { if port == *lanes { Kind::Int } else { Kind::Any } }
+        Law::BeginLoop { clone } => {
+            if port == u32::from(*clone) {
+                Kind::Items
+            } else {
+                Kind::Any
+            }
+        }
+        Law::EndLoop => { if port == 0 { Kind::Int } else { Kind::Any } }
+        Law::Sum { .. } | Law::Map { .. } | Law::Filter { .. } | Law::Running => Kind::Int,
+        _ => Kind::Any,
+    }
+}
+
+/// Whether several sets of a law may be worked on at once.
+pub fn is_stateless(law: &Law) -> bool
+    ensures { result ≡ shape.is_stateless law.now }
+{
+    match law {
+        Law::Pass
+        | Law::Gate { .. }
+        | Law::Mux { .. }
+        | Law::Merge { .. }
+        | Law::Sum { .. }
+        | Law::Map { .. }
+        | Law::Filter { .. }
+        | Law::Shift { .. } => true,
+        _ => false,
+    }
+}
+
+/// The offset that a law promises, if it promises one.
+pub fn offset_of(law: &Law) -> Option<i64>
+    ensures { result ≡ shape.offset_of law.now }
+{
+    match law {
+        Law::Shift { offset } => Some(*offset),
+        Law::Scripted { offset, .. } => *offset,
+        Law::Thin { .. }
+        | Law::Filter { .. }
+        | Law::Count { .. }
+        | Law::SideOnce { .. }
+        | Law::Constants
+        | Law::Loopback
+        | Law::BeginLoop { .. }
+        | Law::EndLoop
+        | Law::FirstCome { .. }
+        | Law::Limiter { .. } => None,
+        _ => Some(0),
+    }
 }

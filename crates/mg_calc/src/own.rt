@@ -1,10 +1,10 @@
 ghost use Rattle.std.specs.Prelude.{◌≡◌, [], IfOk};
 ghost use Rattle.mg_calc.specs.Answer.{Gives};
-ghost use Rattle.mg_calc.specs.Law.{step};
 ghost use Rattle.mg_calc.specs.Shape.{IsOwn};
 ghost use Rattle.mg_calc.specs.Values.{moved_time as the_moved_time};
-ghost use Rattle.mg_calc.specs.Own.{mapped as the_mapped, is_kept as is_its_kept, filtered as the_filtered, sum_law, map_law, filter_law, running as the_running, shifted as the_shifted, tally as the_tally, scripted as the_scripted};
+ghost use Rattle.mg_calc.specs.Law.{step, is_kept as is_its_kept, filtered as the_filtered, sum_law, map_law, filter_law, running as the_running, shifted as the_shifted, tally as the_tally, scripted as the_scripted};
 
+use crate::int_map::mapped;
 use crate::{
     CalcFault, Cause, Emission, EmissionList, Keep, Laid, Law, MapOp, State, TryClone,
     has_wrong_kind, narrowed, no_emission, number_of_packet, one_number, one_output, one_packet,
@@ -62,16 +62,6 @@ fn sum(
     let number = narrowed(total(set))?;
     let kept = state.try_clone(alloc)?;
     Ok((kept, one_number(alloc, at, number)?))
-}
-
-fn mapped(op: MapOp, operand: i64, number: i64) -> i128
-    ensures { result ≡ the_mapped op operand number }
-{
-    match op {
-        MapOp::Add => i128::from(number) + i128::from(operand),
-        MapOp::Subtract => i128::from(number) - i128::from(operand),
-        MapOp::Multiply => i128::from(number) * i128::from(operand),
-    }
 }
 
 fn map(

@@ -1,6 +1,6 @@
 ghost use Rattle.std.specs.Prelude.{◌≡◌, IfOk};
 
-use crate::{Laid, Law, PortKind, Shape};
+use crate::{Laid, PortKind, Shape};
 use mg_value::{BlockList, MgText, Packet};
 use std::alloc::{AllocError, Global};
 
@@ -69,66 +69,5 @@ impl TryClone for Shape {
             offset: self.offset,
             stateless: self.stateless,
         })
-    }
-}
-
-impl TryClone for Law {
-    fn try_clone(&self, alloc: Global) -> Result<Law, AllocError> {
-        match self {
-            Law::Pass => Ok(Law::Pass),
-            Law::Gate {
-                lanes,
-                disallow,
-                empty_as_allow,
-            } => Ok(Law::Gate {
-                lanes: *lanes,
-                disallow: *disallow,
-                empty_as_allow: *empty_as_allow,
-            }),
-            Law::Mux { lanes } => Ok(Law::Mux { lanes: *lanes }),
-            Law::Cloner { lanes } => Ok(Law::Cloner { lanes: *lanes }),
-            Law::Merge { lanes } => Ok(Law::Merge { lanes: *lanes }),
-            Law::Thin { period } => Ok(Law::Thin { period: *period }),
-            Law::Sum { lanes } => Ok(Law::Sum { lanes: *lanes }),
-            Law::Map { op, operand } => Ok(Law::Map {
-                op: *op,
-                operand: *operand,
-            }),
-            Law::Filter { keep, raise } => Ok(Law::Filter {
-                keep: *keep,
-                raise: *raise,
-            }),
-            Law::Running => Ok(Law::Running),
-            Law::Shift { offset } => Ok(Law::Shift { offset: *offset }),
-            Law::Count { count, start, step } => Ok(Law::Count {
-                count: *count,
-                start: *start,
-                step: *step,
-            }),
-            Law::SideOnce { at } => Ok(Law::SideOnce { at: *at }),
-            Law::Constants => Ok(Law::Constants),
-            Law::Loopback => Ok(Law::Loopback),
-            Law::Tally => Ok(Law::Tally),
-            Law::Scripted {
-                offset,
-                first,
-                steps,
-                last,
-            } => {
-                let first = first.try_clone(alloc)?;
-                let steps = steps.try_clone(alloc)?;
-                let last = last.try_clone(alloc)?;
-                Ok(Law::Scripted {
-                    offset: *offset,
-                    first,
-                    steps,
-                    last,
-                })
-            }
-            Law::BeginLoop { clone } => Ok(Law::BeginLoop { clone: *clone }),
-            Law::EndLoop => Ok(Law::EndLoop),
-            Law::FirstCome { lanes } => Ok(Law::FirstCome { lanes: *lanes }),
-            Law::Limiter { most } => Ok(Law::Limiter { most: *most }),
-        }
     }
 }

@@ -9,7 +9,7 @@ use Rattle.std.proofs.lemmas.Option.{none-some, same_Some}
 use Rattle.std.proofs.lemmas.Slice.Eq.{bytes_eq-Decides}
 use Rattle.mg_config.specs.Config.{NodeView}
 use Rattle.mg_calc.specs.declared.shape.OuterShape.{OuterShape}
-use Rattle.mg_kinds.specs.Names.{kind_named}
+use Rattle.mg_kinds.specs.Kinds.{kind_named}
 use Rattle.mg_kinds.specs.declared.kind.CalculatorKind.{CalculatorKind}
 use Rattle.mg_kinds.proofs.Made.{mapped}
 use Rattle.mg_check.specs.Choosing.{Chosen, outers_named, wanted, kind_by, kind_of, with_kind, chosen_after}

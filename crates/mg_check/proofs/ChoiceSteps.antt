@@ -3,7 +3,7 @@ use Rattle.std.proofs.Common.{ℕ, ◌+◌, ◌<◌, ◌≡◌, List, [], ◌∷
 use Rattle.mg_config.specs.Config.{NodeView, node_view}
 use Rattle.mg_config.specs.declared.node.NodeConfig.{NodeConfig}
 use Rattle.mg_calc.specs.declared.shape.OuterShape.{OuterShape}
-use Rattle.mg_kinds.specs.Names.{kind_named}
+use Rattle.mg_kinds.specs.Kinds.{kind_named}
 use Rattle.mg_kinds.proofs.Lists.{left}
 use Rattle.mg_subgraph.proofs.Steps.{taken}
 use Rattle.mg_check.specs.Choosing.{Chosen, kind_by, kind_of, with_kind, chosen_after, outers_named, wanted}

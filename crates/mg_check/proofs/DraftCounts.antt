@@ -10,8 +10,7 @@ use Rattle.mg_config.specs.Config.{NodeView}
 use Rattle.mg_calc.specs.declared.law.Law.{Law}
 use Rattle.mg_calc.specs.declared.shape.Shape.{Shape}
 use Rattle.mg_calc.specs.declared.shape.OuterShape.{OuterShape}
-use Rattle.mg_kinds.specs.Names.{kind_named}
-use Rattle.mg_kinds.specs.Laws.{shape_with}
+use Rattle.mg_kinds.specs.Kinds.{kind_named, shape_with}
 use Rattle.mg_kinds.specs.declared.kind.CalculatorKind.{CalculatorKind}
 use Rattle.mg_kinds.specs.declared.ports.Ports.{Ports}
 use Rattle.mg_kinds.proofs.Made.{made_by}

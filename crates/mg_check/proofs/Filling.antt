@@ -12,7 +12,7 @@ use Rattle.mg_value.specs.declared.kind.Kind.{Kind}
 use Rattle.mg_value.specs.declared.kind.Kind.TheVariants.{Any}
 use Rattle.mg_names.specs.declared.port.Port.{Port}
 use Rattle.mg_subgraph.specs.Refusals.{port_names}
-use Rattle.mg_kinds.specs.Laws.{names_of}
+use Rattle.mg_kinds.specs.Kinds.{names_of}
 use Rattle.mg_calc.specs.Plan.{numbers}
 
 -- one element less is left

@@ -4,7 +4,7 @@ use Rattle.std.specs.Borrow.{Bor}
 use Rattle.std.specs.declared.sync.Arc.{Arc}
 use Rattle.mg_value.specs.declared.payload.Payload.{Payload}
 use Rattle.mg_calc.specs.Side.{PlainSide}
-use Rattle.mg_kinds.specs.Laws.{names_of}
+use Rattle.mg_kinds.specs.Kinds.{names_of}
 use Rattle.mg_kinds.specs.Views.{plain_of}
 use Rattle.mg_check.specs.Code.Streams.{fixed_by}
 use Rattle.mg_check.proofs.Filling.{none_left, past_one}

@@ -3,7 +3,7 @@ use Rattle.std.proofs.Common.{ℕ, suc, zero, ◌+◌, ◌<◌, ◌≡◌, List,
 use Rattle.std.specs.Prelude.{slice_get}
 use Rattle.std.specs.Borrow.{Bor}
 use Rattle.std.proofs.lemmas.List.{length-map}
-use Rattle.mg_kinds.specs.Laws.{names_of}
+use Rattle.mg_kinds.specs.Kinds.{names_of}
 use Rattle.mg_subgraph.proofs.Reached.{take_next}
 use Rattle.mg_subgraph.proofs.Steps.{got_map}
 use Rattle.mg_check.specs.declared.fault.CheckFault.TheVariants.{TwoProducers}

@@ -8,7 +8,7 @@ use Rattle.mg_names.specs.declared.port.Port.{Port}
 use Rattle.mg_config.specs.Config.{NodeView}
 use Rattle.mg_calc.specs.declared.port_kind.PortKind.{PortKind}
 use Rattle.mg_calc.specs.declared.shape.Shape.{Shape}
-use Rattle.mg_kinds.specs.Laws.{SettingsView, names_of}
+use Rattle.mg_kinds.specs.Kinds.{SettingsView, names_of}
 use Rattle.mg_kinds.specs.declared.ports.Ports.{Ports}
 use Rattle.mg_subgraph.proofs.Indexed.{place_found, place_none}
 use Rattle.mg_check.specs.Drafts.{DraftView, name_at, label_of, flight_of, box_of, may_be_back, back_of, draft_with}

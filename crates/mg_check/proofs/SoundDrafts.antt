@@ -16,7 +16,7 @@ use Rattle.mg_calc.specs.declared.shape.OuterShape.{OuterShape}
 use Rattle.mg_calc.specs.Plan.{MayHavePolicy}
 use Rattle.mg_kinds.specs.PortOrder.{in_order}
 use Rattle.mg_kinds.specs.Tags.{tag_text}
-use Rattle.mg_kinds.specs.Laws.{SettingsView}
+use Rattle.mg_kinds.specs.Kinds.{SettingsView}
 use Rattle.mg_kinds.specs.declared.tag.Tag.TheVariants.{Loop}
 use Rattle.mg_kinds.specs.declared.ports.Ports.{Ports}
 use Rattle.mg_kinds.proofs.Made.{made_by, mapped}

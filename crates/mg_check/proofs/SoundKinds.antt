@@ -10,8 +10,7 @@ use Rattle.mg_calc.specs.declared.shape.OuterShape.{OuterShape}
 use Rattle.mg_calc.specs.Shape.{ParametersFit, IsShapeOf}
 use Rattle.mg_kinds.specs.Ports.{has_just}
 use Rattle.mg_kinds.specs.PortOrder.{in_order}
-use Rattle.mg_kinds.specs.Rows.{kind_ports, is_empty}
-use Rattle.mg_kinds.specs.Laws.{SettingsView, kind_settings, shape_with, has_no_options}
+use Rattle.mg_kinds.specs.Kinds.{kind_ports, is_empty, SettingsView, kind_settings, shape_with, has_no_options}
 use Rattle.mg_kinds.specs.declared.kind.CalculatorKind.{CalculatorKind}
 use Rattle.mg_kinds.specs.declared.ports.Ports.{Ports}
 use Rattle.mg_kinds.proofs.InOrder.{in_order-none}

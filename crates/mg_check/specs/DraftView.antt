@@ -1,6 +1,6 @@
 -- What a draft stands for: names that are lent are the texts themselves.
 use Rattle.std.specs.Prelude.{List, map}
-use Rattle.mg_kinds.specs.Laws.{names_of}
+use Rattle.mg_kinds.specs.Kinds.{names_of}
 use Rattle.mg_kinds.specs.Views.{plain_of}
 use Rattle.mg_check.specs.Drafts.{DraftView}
 use Rattle.mg_check.specs.declared.draft.Draft.{Draft}

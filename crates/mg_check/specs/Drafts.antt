@@ -17,7 +17,7 @@ use Rattle.mg_calc.specs.declared.shape.OuterShape.{OuterShape}
 use Rattle.mg_kinds.specs.Tags.{tag_text}
 use Rattle.mg_kinds.specs.declared.tag.Tag.{Tag}
 use Rattle.mg_kinds.specs.declared.tag.Tag.TheVariants.{Loop, Finished}
-use Rattle.mg_kinds.specs.Laws.{SettingsView}
+use Rattle.mg_kinds.specs.Kinds.{SettingsView}
 use Rattle.mg_kinds.specs.PortOrder.{in_order}
 use Rattle.mg_kinds.specs.declared.ports.Ports.{Ports}
 use Rattle.mg_check.specs.declared.node_kind.NodeKind.{NodeKind}

@@ -1,7 +1,7 @@
 //! Who does the work of each node.
 ghost use Rattle.std.specs.Prelude.{◌≡◌, ◌≢◌, ◌++◌, [], None, Some, IfOk, IfErr, OnOk, List, map};
 ghost use Rattle.mg_config.specs.Config.{node_view, NodeView};
-ghost use Rattle.mg_kinds.specs.Names.{kind_named as its_kind};
+ghost use Rattle.mg_kinds.specs.Kinds.{kind_named as its_kind};
 ghost use Rattle.mg_calc.specs.declared.shape.OuterShape.{OuterShape as Outers};
 ghost use Rattle.mg_check.specs.Choosing as rules;
 ghost use Rattle.mg_check.specs.Code.Choices.{IsStock, IsWanted, AreChosen, choices_view, too_few_of, short_in};

@@ -5,9 +5,8 @@ ghost use Rattle.mg_kinds.specs.SettingsView.{settings_view};
 ghost use Rattle.mg_check.specs.Fitting as rules;
 
 use crate::node_kind::NodeKind;
-use crate::word::is;
 use mg_calc::{Law, OuterShape, Shape, TryClone};
-use mg_config::NodeConfig;
+use mg_config::{NodeConfig, is};
 use mg_kinds::{Ports, Settings, has_just, has_no_options, kind_ports, kind_settings, shape_of};
 use mg_value::Policy;
 use std::alloc::{AllocError, Global};

@@ -3,7 +3,7 @@ ghost use Rattle.std.specs.Prelude.{◌≡◌, ◌++◌, IfOk, OnOk};
 ghost use Rattle.std.specs.List.{flat_map};
 ghost use Rattle.mg_config.specs.Config.{graph_view};
 ghost use Rattle.mg_subgraph.specs.Refusals.{port_names};
-ghost use Rattle.mg_kinds.specs.Laws.{names_of};
+ghost use Rattle.mg_kinds.specs.Kinds.{names_of};
 ghost use Rattle.mg_check.specs.DraftView.{draft_view, drafts_view};
 ghost use Rattle.mg_check.specs.Joining as joining;
 ghost use Rattle.mg_check.specs.Code.Parts.{part_names};
@@ -73,8 +73,7 @@ fn texts_behind<'a>(
 ) -> Result<Vec<&'a str>, AllocError>
     ensures { IfOk result (λ texts. names_of texts.items ≡ port_names ports.now ++ flat_map (part_names part) (drafts_view drafts.now)) }
 {
-    let mut texts = Vec::new(alloc);
-    add_ports(&mut texts, ports)?;
+    let mut texts = port_texts(alloc, ports)?;
     add_parts(&mut texts, drafts, part)?;
     Ok(texts)
 }

@@ -33,7 +33,6 @@ mod streams;
 mod taking;
 mod waiting;
 mod wiring;
-mod word;
 
 pub use checking::check;
 pub use fault::{CheckFault, Many};

@@ -1,6 +1,6 @@
 ghost use Rattle.std.specs.Prelude.{◌≡◌, ◌≢◌, None, Some, IfOk, IfErr, OnOk, option_map, length, map, slice_get};
 ghost use Rattle.mg_index.specs.Tables.{IsTable};
-ghost use Rattle.mg_kinds.specs.Laws.{names_of};
+ghost use Rattle.mg_kinds.specs.Kinds.{names_of};
 ghost use Rattle.mg_check.specs.Names.{is_name_among, first_again, first_missing, number_in};
 ghost use Rattle.mg_index.specs.Places.{is_text};
 ghost use Rattle.mg_check.specs.declared.fault.CheckFault.TheVariants.{TwoProducers};

@@ -1,7 +1,7 @@
 //! The names at the ports of a node, in the order of the ports that its calculator has.
 ghost use Rattle.std.specs.Prelude.{◌≡◌, IfOk};
 ghost use Rattle.mg_config.specs.Config.{node_view};
-ghost use Rattle.mg_kinds.specs.Laws.{names_of};
+ghost use Rattle.mg_kinds.specs.Kinds.{names_of};
 ghost use Rattle.mg_kinds.specs.declared.ports.Ports.{Ports as KindPorts};
 ghost use Rattle.mg_check.specs.Drafts.{name_at, names_at};
 ghost use Rattle.mg_check.specs.Code.Judged.{AreTexts};

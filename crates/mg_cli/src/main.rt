@@ -26,10 +26,7 @@ const END_LOOPS: usize = 6;
 fn main(rt: HostRuntime) -> ExitCode {
     let status = match status_of(&rt, &rt) {
         Ok(status) => status,
-        Err(_) => {
-            note_out_of_memory(&mut WriterSink::new(rt.stderr()));
-            Status::OutOfMemory
-        }
+        Err(_) => note_out_of_memory(&mut WriterSink::new(rt.stderr())),
     };
     ExitCode::from(status.number())
 }

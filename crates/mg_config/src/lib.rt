@@ -26,4 +26,5 @@ pub use graph::{GraphConfig, NodeList, read};
 pub use mark::Mark;
 pub use node::{MarkList, NodeConfig};
 pub use value::{long_number_in_value, truth_in_value};
+pub use word::is;
 pub use writing::write;

@@ -5,10 +5,12 @@ ghost use Rattle.mg_calc.specs.Equations.{Job};
 ghost use Rattle.mg_node.specs.Job.{LoggedJob};
 ghost use Rattle.mg_answer.specs.Answer.{Form};
 ghost use Rattle.mg_answer.specs.Frozen.{WroteFrozen};
+ghost use Rattle.mg_answer.specs.Put.{TextView};
 ghost use Rattle.mg_answer.specs.Wrote.{Wrote};
 ghost use Rattle.mg_answer.specs.Devices.{device};
 ghost use Rattle.mg_sched.specs.StandsFor.{StandsFor};
 ghost use Rattle.mg_sched.specs.WindsUp.{WindsUpNet};
+ghost use Rattle.mg_drive.specs.Batches.{Tells, Ends};
 ghost use Rattle.mg_drive.specs.Code.Running.{HasRested, SomeRested, SomeRestedOf, FrontIn};
 ghost use Rattle.mg_drive.specs.Code.Ending.{IsWhole, told_end, TellsNet};
 
@@ -37,8 +39,7 @@ pub fn finish<N: Driven, K: Sink, E: Sink>(
     ensures since { (N.net net.new ≡ N.net net.old) ⊎ WindsUpNet (N.net net.old) (N.net net.new) }
     ensures wound { OnOk result (WindsUpNet (N.net net.old) (N.net net.new) × ((N.net net.new).wound ≡ length (N.net net.old).plan.nodes)) }
 {
-    let outcomes = outcomes_of(run.alloc, net)?;
-    net.wind_up()?;
+    let outcomes = wound_up(run, net)?;
     let status = conclude(run, end, &outcomes, text, output, notes)?;
     Ok(status)
 }
@@ -61,8 +62,7 @@ pub(crate) fn finish_batches<N: Driven, B: Batches, K: Sink, E: Sink>(
     ensures since { (N.net net.new ≡ N.net net.old) ⊎ WindsUpNet (N.net net.old) (N.net net.new) }
     ensures wound { OnOk result (WindsUpNet (N.net net.old) (N.net net.new) × ((N.net net.new).wound ≡ length (N.net net.old).plan.nodes)) }
 {
-    let outcomes = outcomes_of(run.alloc, net)?;
-    net.wind_up()?;
+    let outcomes = wound_up(run, net)?;
     let status = batches.conclude(run, closing, outcomes, output, notes)?;
     Ok(status)
 }
@@ -84,10 +84,24 @@ pub fn finish_frozen<N: Driven, K: Sink, E: Sink>(
     ensures since { (N.net net.new ≡ N.net net.old) ⊎ WindsUpNet (N.net net.old) (N.net net.new) }
     ensures wound { OnOk result (WindsUpNet (N.net net.old) (N.net net.new) × ((N.net net.new).wound ≡ length (N.net net.old).plan.nodes)) }
 {
-    let outcomes = outcomes_of(run.alloc, net)?;
-    net.wind_up()?;
+    let outcomes = wound_up(run, net)?;
     let status = conclude_frozen(run, &outcomes, text, output, notes)?;
     Ok(status)
+}
+
+// What is told of a net that has come to rest, whose nodes are then wound up.
+fn wound_up<N: Driven>(run: &Run<'_>, net: &mut N) -> Result<Outcomes, AllocError>
+    requires rested { SomeRested run.now.plan.now (N.net net.old) }
+    ensures told { IfOk result (λ outcomes. TellsNet (N.net net.old) outcomes) }
+    ensures tells { IfOk result (λ outcomes. Tells run.now.plan.now outcomes) }
+    ensures ends { IfOk result (λ outcomes. (form : Form) (job : LoggedJob) (first sink : SinkTold) (text : TextView) → job.job.plan ≡ run.now.plan.now → StandsFor job (N.net net.old) → HasRested job (N.net net.old)
+        → IsWhole form first sink job.job text → Ends form job.job first sink run.now.plan.now text outcomes) }
+    ensures since { (N.net net.new ≡ N.net net.old) ⊎ WindsUpNet (N.net net.old) (N.net net.new) }
+    ensures wound { OnOk result (WindsUpNet (N.net net.old) (N.net net.new) × ((N.net net.new).wound ≡ length (N.net net.old).plan.nodes)) }
+{
+    let outcomes = outcomes_of(run.alloc, net)?;
+    net.wind_up()?;
+    Ok(outcomes)
 }
 
 // What is told of a net.

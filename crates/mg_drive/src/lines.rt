@@ -133,10 +133,7 @@ pub fn run_lines<
 {
     match run_whole(run, crew, boxes, devices) {
         Ok(status) => status,
-        Err(_) => {
-            note_out_of_memory(devices.notes);
-            Status::OutOfMemory
-        }
+        Err(_) => note_out_of_memory(devices.notes),
     }
 }
 

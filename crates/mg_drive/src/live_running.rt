@@ -50,10 +50,7 @@ pub fn run_live_lines<
 {
     match lines_whole(run, crew, boxes, devices) {
         Ok(status) => status,
-        Err(_) => {
-            note_out_of_memory(devices.notes);
-            Status::OutOfMemory
-        }
+        Err(_) => note_out_of_memory(devices.notes),
     }
 }
 
@@ -111,10 +108,7 @@ pub fn run_live_made<
 {
     match made_whole(run, number, crew, boxes, devices) {
         Ok(status) => status,
-        Err(_) => {
-            note_out_of_memory(devices.notes);
-            Status::OutOfMemory
-        }
+        Err(_) => note_out_of_memory(devices.notes),
     }
 }
 

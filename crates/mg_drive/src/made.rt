@@ -49,10 +49,7 @@ pub fn run_made<
 {
     match run_whole(run, number, crew, boxes, devices) {
         Ok(status) => status,
-        Err(_) => {
-            note_out_of_memory(devices.notes);
-            Status::OutOfMemory
-        }
+        Err(_) => note_out_of_memory(devices.notes),
     }
 }
 

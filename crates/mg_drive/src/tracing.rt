@@ -53,10 +53,7 @@ pub fn trace_lines<G: Gate, C: Calculator, S: Source, K: Sink, E: Sink>(
 {
     match trace_whole(run, gate, boxes, devices) {
         Ok(status) => status,
-        Err(_) => {
-            note_out_of_memory(devices.notes);
-            Status::OutOfMemory
-        }
+        Err(_) => note_out_of_memory(devices.notes),
     }
 }
 

@@ -2,22 +2,17 @@
 //! fault (MediaPipe, Calculators).
 ghost use Rattle.std.specs.Prelude.{◌≡◌, ◌<◌, ◌^◌, ◌+◌, replicate, map, length, None, OnOk, IfOk};
 ghost use Rattle.mg_value.specs.Prefix.{empty_prefix, closed};
-ghost use Rattle.mg_calc.specs.Answer.{Answer, Gives, GivesEmission};
-ghost use Rattle.mg_calc.specs.Shape.{IsServed, IsBatch, IsOuter, IsSource, calls_of};
-ghost use Rattle.mg_calc.specs.Law.{step};
+ghost use Rattle.mg_calc.specs.Shape.{IsServed, IsOuter, IsSource, calls_of};
 ghost use Rattle.mg_calc.specs.Laying.{laid_behind, all_raised};
-ghost use Rattle.mg_calc.specs.Outcome.{unopened, opened as the_opened, after_laying, after_call, shown, called, finished, ended, with_last_call};
+ghost use Rattle.mg_calc.specs.Outcome.{unopened, opened as the_opened, after_laying, shown, called, finished, ended, with_last_call};
 ghost use Rattle.mg_equations.specs.Seen.{seen, with_outputs, with_answers, Fails, TakesEmission};
 
 use crate::laying::{close_all, emission_fault, lay_all, raise_all};
 use crate::output::Output;
-use mg_batch::batch_step_in;
-use mg_calc::{
-    CalcFault, Cause, Emission, GivenList, Law, Phase, State, own_begin, own_step, source_step,
-};
-use mg_route::route_step;
+use mg_calc::{CalcFault, Cause, Emission, GivenList, Law, Phase, State, source_step};
+use mg_route::{begin_in, outer_step_in};
 use mg_time::Timestamp;
-use mg_value::{InputSet, PacketList, TimedSet};
+use mg_value::{PacketList, TimedSet};
 use std::alloc::{AllocError, Global};
 
 /// A fault: what a node was doing, and why it failed.
@@ -49,30 +44,6 @@ fn empty_outputs(alloc: Global, count: u32) -> Result<Vec<Output>, AllocError>
     Ok(outputs)
 }
 
-/// What a calculator that is shown sets gives at one.
-fn outer_step(
-    alloc: Global,
-    law: &Law,
-    state: &State,
-    at: Timestamp,
-    set: &InputSet,
-) -> Result<(State, Emission), CalcFault>
-    requires shown { IsOuter law.now }
-    requires served { IsServed law.now }
-    requires plain { IsBatch law.now → ⊥ }
-    ensures { Gives result (step law.now state.now at set.now) }
-{
-    match law {
-        Law::Pass
-        | Law::Gate { .. }
-        | Law::Mux { .. }
-        | Law::Cloner { .. }
-        | Law::Merge { .. }
-        | Law::Thin { .. } => route_step(alloc, law, state, at, set),
-        _ => own_step(alloc, law, state, at, set),
-    }
-}
-
 impl Outcome {
     /// A node of so many outputs before it is opened.
     pub fn before_open(alloc: Global, outputs: u32) -> Result<Outcome, AllocError>
@@ -98,7 +69,8 @@ impl Outcome {
         ensures { IfOk result (λ outcome. seen outcome ≡ the_opened law.now offset outputs sides.now) }
     {
         let mut outcome = Outcome::before_open(alloc, outputs)?;
-        outcome.take(offset, &Phase::Open, own_begin(alloc, law, sides))?;
+        let answer = begin_in(alloc, law, &mut outcome.state, sides);
+        outcome.take(offset, &Phase::Open, answer)?;
         Ok(outcome)
     }
 
@@ -121,16 +93,8 @@ impl Outcome {
         self.raise(offset, timed.at);
         self.taken += 1;
         let phase = Phase::Process(timed.at);
-        match law {
-            Law::BeginLoop { .. } | Law::EndLoop => {
-                let answer = batch_step_in(alloc, law, &mut self.state, timed.at, &timed.set);
-                self.take_emission(offset, &phase, answer)
-            }
-            _ => {
-                let answer = outer_step(alloc, law, &self.state, timed.at, &timed.set);
-                self.take(offset, &phase, answer)
-            }
-        }
+        let answer = outer_step_in(alloc, law, &mut self.state, timed.at, &timed.set);
+        self.take(offset, &phase, answer)
     }
 
     /// Shows it that no more sets come below a time: its outputs are raised, and where it is the end of all times, it is
@@ -165,10 +129,8 @@ impl Outcome {
             return Ok(());
         }
         self.taken += 1;
-        match source_step(alloc, law, &self.state, number) {
-            Ok(emission) => self.lay(None, &Phase::Call(number), &emission),
-            Err(fault) => self.fail(&Phase::Call(number), fault),
-        }
+        let answer = source_step(alloc, law, &self.state, number);
+        self.take(None, &Phase::Call(number), answer)
     }
 
     /// Closes its outputs, as after the last call of a source. Once it has failed it stays.
@@ -213,26 +175,8 @@ impl Outcome {
         }
     }
 
-    // Takes the answer to a call of the calculator.
+    // Takes the answer to a call of the calculator, whose new state is kept.
     fn take(
-        &mut self,
-        offset: Option<i64>,
-        phase: &Phase,
-        answer: Result<(State, Emission), CalcFault>,
-    ) -> Result<(), AllocError>
-        ensures { (wanted : Answer) → Gives answer wanted → OnOk result (seen self.new ≡ after_call offset phase.now (seen self.old) wanted) }
-    {
-        match answer {
-            Ok((state, emission)) => {
-                self.state = state;
-                self.lay(offset, phase, &emission)
-            }
-            Err(fault) => self.fail(phase, fault),
-        }
-    }
-
-    // Takes the answer to a call of a calculator that has kept its new state itself.
-    fn take_emission(
         &mut self,
         offset: Option<i64>,
         phase: &Phase,

@@ -18,10 +18,11 @@ use Rattle.mg_calc.specs.declared.port_kind.PortKind.{PortKind}
 use Rattle.mg_calc.specs.Shape.{ParametersFit, IsShapeOf, HasInputs, HasOutputs, HasSides, AreAnyInputs, control_tag, ports, untagged}
 use Rattle.mg_kinds.specs.Ports.{has_just, ports_in, fitting}
 use Rattle.mg_kinds.specs.PortOrder.{in_order}
-use Rattle.mg_kinds.specs.Options.{options_in, set_to}
-use Rattle.mg_kinds.specs.Values.{required, payload_in, payloads_in, call_count, operation_in, keep_in}
-use Rattle.mg_kinds.specs.Rows.{lanes_of, disallows, moment_of, inputs_of, outputs_of, sides_of, side_outputs_of, side_ports, rowed_ports, passed_ports, kind_ports, is_empty}
-use Rattle.mg_kinds.specs.Laws.{SettingsView, law_with, constants_with, settings_with, are_options, kind_settings, shape_with, time_of, gate_law, thinner_law, thins, map_law, filter_law, shift_law, counting_law, limiter_law, merge_law, flight_or_one, truth_or_false, positive_or_one, timestamp_or_zero, number}
+use Rattle.mg_kinds.specs.Options.{options_in, set_to, number}
+use Rattle.mg_kinds.specs.Maps.{map_with}
+use Rattle.mg_kinds.specs.declared.maps.MapKind.{MapKind}
+use Rattle.mg_kinds.specs.Values.{required, payload_in, payloads_in, call_count, keep_in}
+use Rattle.mg_kinds.specs.Kinds.{lanes_of, disallows, moment_of, inputs_of, outputs_of, sides_of, side_outputs_of, side_ports, rowed_ports, passed_ports, kind_ports, is_empty, SettingsView, law_with, constants_with, settings_with, are_options, kind_settings, shape_with, time_of, gate_law, thinner_law, thins, map_law, filter_law, shift_law, counting_law, limiter_law, merge_law, flight_or_one, truth_or_false, positive_or_one, timestamp_or_zero}
 use Rattle.mg_kinds.specs.Tags.{tag_text}
 use Rattle.mg_kinds.specs.declared.ports.Ports.{Ports}
 use Rattle.mg_kinds.specs.declared.tag.Tag.{Tag}
@@ -138,11 +139,10 @@ suits_thinner node options name ps rule h e = by (thins options) e
         subst (Suits name ps) made.2 (positive-least (codes "period") options made.0 made.1, shaped name ps (law.Thin made.0) h.inputs h.outputs h.sides)
     by false e = absurd (none-some rule e)
 
-suits_map : (node : NodeView) (options : List Entry) (name : List ℕ) (ps : Ports) (rule : Law) → IsRowed Map node ps → map_law options ≡ Some rule → Suits name ps rule
-suits_map node options name ps rule h e =
-    let op = made_by (λ op. option_map (law.Map op) (number (codes "operand") options)) (required operation_in (set_to (codes "op") options)) rule e in
-    let made = mapped (law.Map op.0) (number (codes "operand") options) rule op.2 in
-    subst (Suits name ps) made.2 (tt, shaped name ps (law.Map op.0 made.0) h.inputs h.outputs h.sides)
+suits_map : (m : MapKind) (node : NodeView) (options : List Entry) (name : List ℕ) (ps : Ports) (rule : Law) → IsRowed (Map m) node ps → map_law m options ≡ Some rule → Suits name ps rule
+suits_map m node options name ps rule h e =
+    let made = mapped (λ pair. law.Map pair.0 pair.1) (map_with m options) rule e in
+    subst (Suits name ps) made.2 (tt, shaped name ps (law.Map made.0.0 made.0.1) h.inputs h.outputs h.sides)
 
 suits_filter : (node : NodeView) (options : List Entry) (name : List ℕ) (ps : Ports) (rule : Law) → IsRowed Filter node ps → filter_law options ≡ Some rule → Suits name ps rule
 suits_filter node options name ps rule h e =
@@ -216,7 +216,7 @@ suits_rowed Sum node options name ps rule fit e other =
     let h = is_rowed Sum node ps fit in
     subst (Suits name ps) (same_Some (law.Sum (lanes_of Sum node)) rule e)
     ((h.some, h.most), shaped name ps (law.Sum (lanes_of Sum node)) (h.inputs ∙ append-nil (untagged (lanes_of Sum node) Int)) h.outputs h.sides)
-suits_rowed Map node options name ps rule fit e other = suits_map node options name ps rule (is_rowed Map node ps fit) e
+suits_rowed (Map m) node options name ps rule fit e other = suits_map m node options name ps rule (is_rowed (Map m) node ps fit) e
 suits_rowed Filter node options name ps rule fit e other = suits_filter node options name ps rule (is_rowed Filter node ps fit) e
 suits_rowed Running node options name ps rule fit e other =
     let h = is_rowed Running node ps fit in

@@ -11,7 +11,7 @@ use Rattle.mg_config.specs.Values.{long_number_in_value}
 use Rattle.mg_calc.specs.Values.{is_in_range}
 use Rattle.mg_kinds.specs.Options.{set_to}
 use Rattle.mg_kinds.specs.Values.{or_absent, between, number_between, highest, positive, timestamp_number, most_calls, natural, call_count, most_in_flight, flight_limit}
-use Rattle.mg_kinds.specs.Laws.{positive_or_one, timestamp_or_zero, flight_or_one}
+use Rattle.mg_kinds.specs.Kinds.{positive_or_one, timestamp_or_zero, flight_or_one}
 use Rattle.mg_text.proofs.Choices.{mapped}
 use Rattle.mg_kinds.proofs.Made.{made_by}
 

@@ -13,7 +13,7 @@ use Rattle.mg_text.specs.View.{Entry, field_view, value_view}
 use Rattle.mg_text.proofs.Views.{field-record}
 use Rattle.mg_config.specs.Number.{is_one_of}
 use Rattle.mg_config.specs.Values.{has_name}
-use Rattle.mg_kinds.specs.Laws.{names_of}
+use Rattle.mg_kinds.specs.Kinds.{names_of}
 use Rattle.mg_kinds.specs.Options.{are_known, are_once, set_to}
 use Rattle.mg_kinds.specs.Views.{fields_of}
 

@@ -1,11 +1,10 @@
-pub mod Names
 pub mod Tags
 pub mod Ports
 pub mod PortOrder
-pub mod Rows
 pub mod Options
 pub mod Values
 pub mod Views
-pub mod Laws
+pub mod Maps
+pub mod Kinds
 pub mod SettingsView
 pub mod Code

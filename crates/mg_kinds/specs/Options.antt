@@ -1,10 +1,10 @@
 -- The options of a node: what its calculator is told by the fields of its options message.
-use Rattle.std.specs.Prelude.{ℕ, List, [], ◌∷◌, ◌++◌, Bool, ◌||◌, nat_le, Option, None, Some, option_map, option_and_then, if◌then◌else◌, codes, count_by}
+use Rattle.std.specs.Prelude.{ℕ, ℤ, List, [], ◌∷◌, ◌++◌, Bool, ◌||◌, nat_le, Option, None, Some, option_map, option_and_then, if◌then◌else◌, codes, count_by}
 use Rattle.std.specs.List.{list_all}
 use Rattle.std.specs.Str.{bytes_eq}
 use Rattle.mg_text.specs.View.{Value, simple, inner, Entry}
 use Rattle.mg_config.specs.Number.{is_one_of}
-use Rattle.mg_config.specs.Values.{entries, has_name, values_of, first}
+use Rattle.mg_config.specs.Values.{entries, has_name, values_of, first, long_number_in_value}
 
 -- the names of a calculator's options message, as an extension and as the type of an Any
 -- (Protocol Buffers text format: extension and Any field names)
@@ -42,3 +42,7 @@ are_once names options = list_all (λ name. nat_le (count_by (has_name name) opt
 -- what an option is set to, if it is set
 abbrev pub set_to : List ℕ → List Entry → Option Value
 set_to name options = first (values_of name options)
+
+-- the number that a required option is set to
+abbrev pub number : List ℕ → List Entry → Option ℤ
+number name options = option_and_then long_number_in_value (set_to name options)

@@ -1,5 +1,5 @@
 -- What settings stand for.
-use Rattle.mg_kinds.specs.Laws.{SettingsView}
+use Rattle.mg_kinds.specs.Kinds.{SettingsView}
 use Rattle.mg_kinds.specs.Views.{plain_of}
 use Rattle.mg_kinds.specs.declared.settings.Settings.{Settings}
 

@@ -6,8 +6,8 @@ use Rattle.mg_text.specs.View.{Value, simple, inner, Entry}
 use Rattle.mg_time.specs.Time.{raw_of, least, greatest}
 use Rattle.mg_value.specs.Plain.{Plain, flag, int, text}
 use Rattle.mg_config.specs.Values.{entries, has_name, long_number_in_value, truth_in_value}
-use Rattle.mg_calc.specs.declared.law.MapOp.{MapOp}
-use Rattle.mg_calc.specs.declared.law.MapOp.TheVariants.{Add, Subtract, Multiply}
+use Rattle.mg_calc.specs.declared.int_map.MapOp.{MapOp}
+use Rattle.mg_calc.specs.declared.int_map.MapOp.TheVariants.{Add, Subtract, Multiply}
 use Rattle.mg_calc.specs.declared.law.Keep.{Keep}
 use Rattle.mg_calc.specs.declared.law.Keep.TheVariants.{Even, Odd, Negative, NonNegative}
 

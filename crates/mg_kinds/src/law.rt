@@ -1,19 +1,18 @@
 //! Laws by options.
 ghost use Rattle.std.specs.Prelude.{◌≡◌};
 ghost use Rattle.mg_config.specs.Config.{node_view};
-ghost use Rattle.mg_kinds.specs.Laws as laws;
+ghost use Rattle.mg_kinds.specs.Kinds as laws;
 ghost use Rattle.mg_kinds.specs.Views.{fields_of};
 
-use crate::kind::CalculatorKind;
-use crate::options::set_to;
-use crate::rows::{disallows, lanes_of, moment_of};
+use crate::kind::{CalculatorKind, disallows, lanes_of, moment_of};
+use crate::maps::{MapKind, map_with};
+use crate::options::{number, set_to};
 use crate::tag::Tag;
 use crate::value::{
-    call_count, flight_limit, is_asynchronous, keep_in, operation_in, positive, timestamp_number,
+    call_count, flight_limit, is_asynchronous, keep_in, positive, timestamp_number,
 };
-use crate::word::is;
 use mg_calc::Law;
-use mg_config::{NodeConfig, long_number_in_value, truth_in_value};
+use mg_config::{NodeConfig, is, truth_in_value};
 use mg_text::Field;
 use mg_time::Timestamp;
 
@@ -55,12 +54,6 @@ fn timestamp_or_zero(name: &str, options: &[&Field]) -> Option<i64>
     }
 }
 
-fn number(name: &str, options: &[&Field]) -> Option<i64>
-    ensures { result ≡ laws.number name.now (fields_of options.now) }
-{
-    long_number_in_value(set_to(name, options)?)
-}
-
 fn gate_law(node: &NodeConfig, options: &[&Field]) -> Option<Law>
     ensures { result ≡ laws.gate_law (node_view node.now) (fields_of options.now) }
 {
@@ -91,11 +84,10 @@ fn thinner_law(options: &[&Field]) -> Option<Law>
     Some(Law::Thin { period })
 }
 
-fn map_law(options: &[&Field]) -> Option<Law>
-    ensures { result ≡ laws.map_law (fields_of options.now) }
+fn map_law(kind: MapKind, options: &[&Field]) -> Option<Law>
+    ensures { result ≡ laws.map_law kind (fields_of options.now) }
 {
-    let op = operation_in(set_to("op", options)?)?;
-    let operand = number("operand", options)?;
+    let (op, operand) = map_with(kind, options)?;
     Some(Law::Map { op, operand })
 }
 
@@ -163,7 +155,7 @@ pub fn law_with(kind: CalculatorKind, node: &NodeConfig, options: &[&Field]) -> 
         CalculatorKind::Merge => Some(merge_law(node)),
         CalculatorKind::Thinner => thinner_law(options),
         CalculatorKind::Sum => Some(Law::Sum { lanes }),
-        CalculatorKind::Map => map_law(options),
+        CalculatorKind::Map(map) => map_law(map, options),
         CalculatorKind::Filter => filter_law(options),
         CalculatorKind::Running => Some(Law::Running),
         CalculatorKind::Shift => shift_law(options),

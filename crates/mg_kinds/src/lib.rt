@@ -1,22 +1,22 @@
 //! The calculators that are built in: from a node's name, ports and options to its calculator's law and shape. Answers
-//! to the table of `specs/Names.antt`, `specs/Rows.antt` and `specs/Laws.antt`, a row for each calculator.
+//! to the table of `specs/Kinds.antt`, with a row for each calculator; those that map numbers have theirs in `specs/Maps.antt`.
 #![tactic(auto)]
 
 mod kind;
 mod law;
+mod maps;
 mod options;
 mod payload;
 mod port_order;
 mod ports;
 mod row;
-mod rows;
 mod settings;
 mod shape;
 mod tag;
 mod value;
-mod word;
 
 pub use kind::{CalculatorKind, kind_named};
+pub use maps::MapKind;
 pub use port_order::in_order;
 pub use ports::{Ports, has_just, kind_ports};
 pub use settings::{Settings, has_no_options, kind_settings};

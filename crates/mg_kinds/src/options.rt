@@ -5,10 +5,10 @@ ghost use Rattle.mg_config.specs.Number.{is_one_of as among};
 ghost use Rattle.mg_config.specs.Values.{has_name as its_name};
 ghost use Rattle.mg_kinds.specs.Options as rules;
 ghost use Rattle.mg_kinds.specs.Code.Own.{AreOwn};
-ghost use Rattle.mg_kinds.specs.Laws.{names_of};
+ghost use Rattle.mg_kinds.specs.Kinds.{names_of};
 ghost use Rattle.mg_kinds.specs.Views.{fields_of};
 
-use crate::word::is;
+use mg_config::{is, long_number_in_value};
 use mg_text::{Field, TreeValue};
 use std::alloc::{AllocError, Global};
 
@@ -142,4 +142,11 @@ pub fn set_to<'a>(name: &str, options: &[&'a Field]) -> Option<&'a TreeValue>
         }
     }
     None
+}
+
+/// The number that a required option is set to.
+pub fn number(name: &str, options: &[&Field]) -> Option<i64>
+    ensures { result ≡ rules.number name.now (fields_of options.now) }
+{
+    long_number_in_value(set_to(name, options)?)
 }

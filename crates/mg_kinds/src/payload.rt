@@ -6,8 +6,7 @@ ghost use Rattle.mg_value.specs.Payload.{plain, text as text_of};
 ghost use Rattle.mg_kinds.specs.Values as values;
 ghost use Rattle.mg_kinds.specs.Views.{fields_of, plain_of};
 
-use crate::word::is;
-use mg_config::{long_number_in_value, truth_in_value};
+use mg_config::{is, long_number_in_value, truth_in_value};
 use mg_text::{Field, Scalar, TreeValue};
 use mg_value::{MgText, Payload};
 use std::alloc::{AllocError, Global};

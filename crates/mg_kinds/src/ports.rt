@@ -1,14 +1,13 @@
 ghost use Rattle.std.specs.Prelude.{◌≡◌, ◌==◌, length, IfOk};
 ghost use Rattle.mg_config.specs.Config.{node_view};
 ghost use Rattle.mg_kinds.specs.Ports as table;
-ghost use Rattle.mg_kinds.specs.Rows as rows;
+ghost use Rattle.mg_kinds.specs.Kinds as kinds;
 ghost use Rattle.std.specs.List.{list_all};
 ghost use Rattle.mg_names.specs.Ports.{has_port as has_it};
 
-use crate::kind::CalculatorKind;
+use crate::kind::{CalculatorKind, inputs_of, lanes_of, outputs_of, side_outputs_of, sides_of};
 use crate::port_order::in_order;
 use crate::row::{Row, ports_in};
-use crate::rows::{inputs_of, lanes_of, outputs_of, side_outputs_of, sides_of};
 use mg_calc::{PortKind, PortKindList, TryClone};
 use mg_config::NodeConfig;
 use mg_names::PortMap;
@@ -61,7 +60,7 @@ fn fitting(alloc: Global, ports: &PortMap, row: Row) -> Result<Option<PortKindLi
 }
 
 fn passed_ports(alloc: Global, node: &NodeConfig) -> Result<Option<Ports>, AllocError>
-    ensures { IfOk result (λ found. found ≡ rows.passed_ports (node_view node.now)) }
+    ensures { IfOk result (λ found. found ≡ kinds.passed_ports (node_view node.now)) }
 {
     let inputs = in_order(alloc, &node.inputs)?;
     let fits = !node.inputs.is_empty()
@@ -84,7 +83,7 @@ fn side_ports(
     kind: CalculatorKind,
     node: &NodeConfig,
 ) -> Result<Option<PortKindList>, AllocError>
-    ensures { IfOk result (λ found. found ≡ rows.side_ports kind (node_view node.now)) }
+    ensures { IfOk result (λ found. found ≡ kinds.side_ports kind (node_view node.now)) }
 {
     let row = side_outputs_of(kind, node);
     if fitting(alloc, &node.output_sides, row)?.is_none() {
@@ -98,7 +97,7 @@ fn rowed_ports(
     kind: CalculatorKind,
     node: &NodeConfig,
 ) -> Result<Option<Ports>, AllocError>
-    ensures { IfOk result (λ found. found ≡ rows.rowed_ports kind (node_view node.now)) }
+    ensures { IfOk result (λ found. found ≡ kinds.rowed_ports kind (node_view node.now)) }
 {
     if lanes_of(kind, node) == 0 {
         return Ok(None);
@@ -125,7 +124,7 @@ pub fn kind_ports(
     kind: CalculatorKind,
     node: &NodeConfig,
 ) -> Result<Option<Ports>, AllocError>
-    ensures { IfOk result (λ found. found ≡ rows.kind_ports kind (node_view node.now)) }
+    ensures { IfOk result (λ found. found ≡ kinds.kind_ports kind (node_view node.now)) }
 {
     match kind {
         CalculatorKind::PassThrough => passed_ports(alloc, node),

@@ -1,16 +1,15 @@
 ghost use Rattle.std.specs.Prelude.{◌≡◌, IfOk, option_map};
 ghost use Rattle.mg_config.specs.Config.{node_view};
 ghost use Rattle.mg_config.specs.Values.{entries};
-ghost use Rattle.mg_kinds.specs.Laws as laws;
+ghost use Rattle.mg_kinds.specs.Kinds as laws;
 ghost use Rattle.mg_kinds.specs.Options as rules;
 ghost use Rattle.mg_kinds.specs.SettingsView.{settings_view};
 ghost use Rattle.mg_kinds.specs.Views.{fields_of, plain_of};
 
-use crate::kind::CalculatorKind;
+use crate::kind::{CalculatorKind, all_options, lanes_of, single_options};
 use crate::law::law_with;
 use crate::options::{are_known, are_once, options_in};
 use crate::payload::payloads_in;
-use crate::rows::lanes_of;
 use mg_calc::Law;
 use mg_config::NodeConfig;
 use mg_text::Field;
@@ -23,31 +22,6 @@ use std::sync::Arc;
 pub struct Settings {
     pub law: Law,
     pub constants: Vec<Arc<Payload>>,
-}
-
-/// The options that stand at most once.
-fn single_options(kind: CalculatorKind) -> &'static [&'static str]
-    ensures { laws.names_of result.now ≡ laws.single_options kind }
-{
-    match kind {
-        CalculatorKind::Gate => &["empty_packets_as_allow"],
-        CalculatorKind::Thinner => &["thinner_type", "period"],
-        CalculatorKind::Map => &["op", "operand"],
-        CalculatorKind::Filter => &["keep", "raise_bound"],
-        CalculatorKind::Shift => &["offset"],
-        CalculatorKind::FlowLimiter => &["max_in_flight"],
-        CalculatorKind::Counting => &["count", "start", "step"],
-        _ => &[],
-    }
-}
-
-fn all_options(kind: CalculatorKind) -> &'static [&'static str]
-    ensures { laws.names_of result.now ≡ laws.all_options kind }
-{
-    match kind {
-        CalculatorKind::Constants => &["packet"],
-        _ => single_options(kind),
-    }
 }
 
 /// Whether these are options of a calculator.

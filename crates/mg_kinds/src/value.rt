@@ -3,9 +3,8 @@ ghost use Rattle.std.specs.Prelude.{◌≡◌, ℤ, int_le, pos};
 ghost use Rattle.mg_text.specs.View.{value_view};
 ghost use Rattle.mg_kinds.specs.Values as values;
 
-use crate::word::is;
 use mg_calc::{Keep, MapOp};
-use mg_config::long_number_in_value;
+use mg_config::{is, long_number_in_value};
 use mg_text::{Scalar, TreeValue};
 
 fn number_between(low: i64, high: i64, value: &TreeValue) -> Option<i64>

@@ -1,35 +1,20 @@
 //! The calculators that are handed in.
-ghost use Rattle.std.specs.Prelude.{◌≡◌, [], IfOk};
+ghost use Rattle.std.specs.Prelude.{◌≡◌, IfOk};
 ghost use Rattle.mg_nets.specs.Handed.{tally_shape, tally_outer, new_tally, two_outers, two_tallies};
 
-use mg_calc::{Law, OuterShape, PortKindList, Shape};
-use mg_plans::port;
+use mg_calc::{Law, OuterShape, Shape};
+use mg_plans::{port, shape_of};
 use mg_route::LawBox;
-use mg_value::{BlockList, Kind, MgText};
+use mg_value::Kind;
 use std::alloc::Global;
 use std::test::Fail;
-
-fn no_ports(alloc: Global) -> Result<PortKindList, Fail>
-    ensures { IfOk result (λ ports. ports ≡ []) }
-{
-    Ok(BlockList::from_vec(Vec::new(alloc))?)
-}
 
 fn shape(alloc: Global) -> Result<Shape, Fail>
     ensures { IfOk result (λ shape. shape ≡ tally_shape) }
 {
     let inputs = port(alloc, Kind::Any)?;
-    let outputs = port(alloc, Kind::Int)?;
-    let sides = no_ports(alloc)?;
-    let name = MgText::new(alloc, "TallyCalculator")?;
-    Ok(Shape {
-        name,
-        inputs,
-        outputs,
-        sides,
-        offset: Some(0),
-        stateless: false,
-    })
+    let shape = shape_of(alloc, "TallyCalculator", inputs, Kind::Int, Some(0), false)?;
+    Ok(shape)
 }
 
 fn outer(alloc: Global) -> Result<OuterShape, Fail>

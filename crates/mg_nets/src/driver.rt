@@ -100,7 +100,7 @@ pub fn driver_of(alloc: Global, graph: &str, lines: &str) -> Result<Driver, Fail
 }
 
 /// Lets a net go.
-pub fn let_go(driver: Driver) {
+pub(crate) fn let_go(driver: Driver) {
     drop(driver);
 }
 

@@ -3,7 +3,7 @@ use std::alloc::Global;
 use std::test::Fail;
 
 /// A graph with a limit of its queues, below 0 with none.
-pub fn limited(alloc: Global, limit: i32, graph: &str) -> Result<String, Fail> {
+pub(crate) fn limited(alloc: Global, limit: i32, graph: &str) -> Result<String, Fail> {
     Ok(format!(in alloc; "max_queue_size: {limit} {graph}")?)
 }
 

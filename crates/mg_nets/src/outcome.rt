@@ -29,7 +29,7 @@ pub fn told(alloc: Global, driver: &Driver) -> Result<String, Fail> {
 }
 
 /// What comes out of a net at rest; and then, once all that can be is given up, how many packets are in it, and how far it has come.
-pub fn come_out(alloc: Global, driver: &mut Driver) -> Result<String, Fail>
+pub(crate) fn come_out(alloc: Global, driver: &mut Driver) -> Result<String, Fail>
     requires { IsDriven driver.old.plan driver.old.inputs driver.old.net }
     ensures { IsDriven driver.new.plan driver.new.inputs driver.new.net }
 {

@@ -1,13 +1,17 @@
 -- How outputs are raised, one after the other.
-use Rattle.std.proofs.Common.{◌≡◌, ℕ, ◌+◌, ◌<◌, ◌≤◌, Bool, true, false, nat_lt, List, [], ◌∷◌, ◌++◌, length, take, drop, get_or, map, Option, Some, None, refl, ap, sym, ◌∙◌, arith, if◌then◌else◌}
+use Rattle.std.proofs.Common.{◌≡◌, ℕ, ℤ, ◌+◌, ◌<◌, ◌≤◌, Bool, true, false, nat_lt, List, [], ◌∷◌, ◌++◌, length, take, drop, get_or, map, Option, Some, None, refl, ap, sym, ◌∙◌, arith, if◌then◌else◌}
 use Rattle.std.proofs.Math.Seq.{take-append_seam}
 use Rattle.std.proofs.lemmas.List.{drop_more, drop_all}
 use Rattle.mg_value.specs.Payload.{Plain}
 use Rattle.mg_stream.specs.Queue.{Waiting, raised_to}
 use Rattle.mg_stream.specs.Pool.{Backlog, backlog_of}
+use Rattle.mg_node.specs.declared.role.Role.{Role}
+use Rattle.mg_node.specs.declared.role.Role.TheVariants.{Input, Source, Loop, Sets}
 use Rattle.mg_node.specs.declared.waits.Waits.{Waits}
 use Rattle.mg_node.specs.Views.{EntryView, EngineView}
-use Rattle.mg_node.specs.Advances.{any_moved, until_phase, until_claimed, advance_bound, raised_output, advanced}
+use Rattle.mg_node.specs.Advances.{any_moved, until_phase, until_claimed, raised_by, never_raised, advance_bound, raised_output, advanced}
+use Rattle.mg_node.specs.Ports.{horizon_of}
+use Rattle.mg_node.specs.Windows.{has_ended}
 use Rattle.mg_node.proofs.Giving.{with_outputs}
 
 pub moved_here : (qs : List (Waiting Plain)) (i bound : ℕ) (q : Waiting Plain) → i < length qs → q ≡ get_or qs i q → nat_lt q.bound bound ≡ true → any_moved bound (map backlog_of (drop i qs)) ≡ true
@@ -45,6 +49,20 @@ raised_some (q ∷ qs) b = ap (λ (l : List (Backlog Plain)). backlog_of (raised
 pub none_advanced : (e : EngineView) (w : Waits) → advance_bound e w ≡ None → e ≡ advanced e w
 none_advanced e w none =
     sym (ap (λ (o : Option ℕ). with_outputs e (map (raised_output o) e.outputs)) none ∙ ap (with_outputs e) (raised_none e.outputs))
+
+-- outputs that are never raised
+never_by : (role : Role) (offset : Option ℤ) (t : ℕ) → never_raised role offset ≡ true → raised_by role offset t ≡ None
+never_by Loop offset t never = absurd cc
+never_by Input None t never = refl
+never_by Input (Some offset) t never = absurd cc
+never_by (Source calls) None t never = refl
+never_by (Source calls) (Some offset) t never = absurd cc
+never_by Sets None t never = refl
+never_by Sets (Some offset) t never = absurd cc
+
+pub never_advanced : (e : EngineView) (w : Waits) → has_ended e ≡ false → never_raised e.role e.offset ≡ true → None ≡ advance_bound e w
+never_advanced e w goes never =
+    sym (ap (λ (b : Bool). if b then None else raised_by e.role e.offset (until_claimed e.window (horizon_of w))) goes ∙ never_by e.role e.offset (until_claimed e.window (horizon_of w)) never)
 
 -- what a function leaves of a vector's elements is all of them, where it keeps their number
 pub whole : {X : Type 0} (n : ℕ) (old new : List X) → n ≡ length old → length new ≡ length old → take n (new ++ drop (length new) old) ≡ new

@@ -1,5 +1,5 @@
 -- What a cell has to be for a claim: its role, its places, and its numbers.
-use Rattle.std.proofs.Common.{rules, ◌≡◌, ℕ, ◌+◌, ◌<◌, ◌≤◌, List, [], ◌∷◌, ◌++◌, length, length-drop, drop, Option, Some, None, IsSome, IsSomeAnd, option_map, unwrap_or, slice_get, ap, sym, refl, subst, ◌∙◌, arith}
+use Rattle.std.proofs.Common.{◌≡◌, ℕ, ◌+◌, ◌<◌, ◌≤◌, List, [], ◌∷◌, ◌++◌, length, length-drop, drop, Option, Some, None, IsSomeAnd, option_map, unwrap_or, slice_get, ap, sym, refl, subst, ◌∙◌, arith}
 use Rattle.std.specs.List.{AllByRecursion}
 use Rattle.std.proofs.lemmas.List.Elements.{recursion_from_All}
 use Rattle.mg_time.specs.Time.{done}
@@ -18,7 +18,7 @@ use Rattle.mg_node.specs.declared.waits.Waits.{Waits}
 use Rattle.mg_node.specs.declared.waits.Waits.TheVariants.{Sets, Loop}
 use Rattle.mg_node.specs.Views.{IntakeView, BenchView, EngineView}
 use Rattle.mg_node.specs.Ports.{ports_in, IsNext}
-use Rattle.mg_node.specs.Intakes.{HasSets, next_set_of, SomeJobHasIntake}
+use Rattle.mg_node.specs.Intakes.{HasSets, SomeJobHasIntake}
 use Rattle.mg_node.specs.Job.{LoggedJob, role_of}
 use Rattle.mg_node.specs.Lawful.{HoldsWaits, IsIntakeOf, LawfulIntake, IsIdle, IsEngineOf, LawfulEngine, of_node, AgreeBy, AreCell}
 use Rattle.mg_node.proofs.Arriving.{ports_long}
@@ -76,14 +76,6 @@ cell_places engine intake rest bench cell idle = cell_places_by cell.job cell.nu
 some_next : (o : Option (TimedSet Plain)) (at : ℕ) → IsSomeAnd o (λ e. e.at ≡ at) → (e : TimedSet Plain) × (o ≡ Some e)
 some_next None at h = absurd h
 some_next (Some e) at h = (e, refl)
-
-some_is : (o : Option (TimedSet Plain)) (at : ℕ) → IsSomeAnd o (λ e. e.at ≡ at) → IsSome o
-some_is None at h = absurd h
-some_is (Some e) at h = search rules
-
-pub next_is_some : (w : Waits) (at : ℕ) → HasSets w → IsNext w (Ready at) → IsSome (next_set_of w)
-next_is_some (Sets inbox) at has next = some_is (next_set inbox.policy (queues_of inbox.pool)) at next
-next_is_some (Loop held) at has next = absurd has
 
 nonempty : {X : Type 0} (xs : List X) (x : X) → slice_get xs 0 ≡ Some x → 0 < length xs
 nonempty [] x h = absurd cc

@@ -1,11 +1,14 @@
 -- A set that is shown to a calculator where that lies: its work is claimed, performed and committed.
 use Rattle.std.proofs.Common.{◌≡◌, ℕ, ◌+◌, ◌-◌, ◌<◌, ◌≤◌, ◌^◌, Bool, false, List, [], ◌∷◌, ◌++◌, length, length-append, drop, set, map, Option, Some, None, option_map, count_by as number_of, Result, Ok, Err, inr, ap, ap₂, sym, refl, subst, ◌∙◌, arith}
+use Rattle.std.specs.Prelude.{⊤}
 use Rattle.mg_time.specs.Time.{done}
 use Rattle.mg_value.specs.Payload.{Plain}
 use Rattle.mg_value.specs.Prefix.{StreamPrefix}
 use Rattle.mg_stream.specs.Queue.{Waiting}
-use Rattle.mg_stream.specs.Pool.{Backlog, backlog_of}
-use Rattle.mg_policy.specs.declared.readiness.Readiness.TheVariants.{Ready, NotReady as NoneYet}
+use Rattle.mg_stream.specs.Pool.{Backlog, backlog_of, queues_of}
+use Rattle.mg_policy.specs.declared.readiness.Readiness.{Readiness}
+use Rattle.mg_policy.specs.declared.readiness.Readiness.TheVariants.{Ready, Close, NotReady as NoneYet}
+use Rattle.mg_policy.proofs.Readinesses.{one_readiness}
 use Rattle.mg_calc.specs.declared.cause.Cause.{Cause}
 use Rattle.mg_calc.specs.declared.cause.CalcFault.TheVariants.{Fault, OutOfMemory}
 use Rattle.mg_calc.specs.declared.emission.Laid.{Laid}
@@ -14,6 +17,9 @@ use Rattle.mg_calc.specs.declared.node_fault.Phase.TheVariants.{Process}
 use Rattle.mg_calc.specs.Outcome.{Failure}
 use Rattle.mg_node.specs.declared.role.Role.{Role}
 use Rattle.mg_node.specs.declared.claimed.Claimed.TheVariants.{Work, NotReady}
+use Rattle.mg_node.specs.declared.waits.Waits.{Waits}
+use Rattle.mg_node.specs.declared.waits.Waits.TheVariants.{Sets, Loop}
+use Rattle.mg_node.specs.Intakes.{HasSets}
 use Rattle.mg_node.specs.Views.{IntakeView, BenchView, WorkView, PerformedView, OutcomeView, EntryView, EngineView}
 use Rattle.mg_node.specs.Ports.{IsNext}
 use Rattle.mg_node.specs.Job.{LoggedJob}
@@ -22,12 +28,12 @@ use Rattle.mg_node.specs.Shelves.{IsOut, shelved, outcome_of}
 use Rattle.mg_node.specs.Running.{MayRun, HasRun}
 use Rattle.mg_node.specs.Claims.{first_unrun, IsEarly, Takes, Hands, work_of, Claims}
 use Rattle.mg_node.specs.Commits.{raised_before, laid_by, Front, answer_laid, front_laid, front_of, HasFront, committed_entry, window_with}
-use Rattle.mg_node.specs.AtOnce.{IsDoneBetween, IsLeftPerformed, IsLeftCommitted}
+use Rattle.mg_node.specs.AtOnce.{MayShow, IsDoneBetween, IsLeftPerformed, IsLeftCommitted}
 use Rattle.mg_node.specs.Code.QueueLaying.{IsLaid}
 use Rattle.mg_node.specs.Code.FrontLaying.{end_of, HasWhole}
-use Rattle.mg_node.specs.Code.Showing.{MayShow, work_at, HasShown, Shows, LaysAnswer, HandsShown}
+use Rattle.mg_node.specs.Code.Showing.{work_at, HasShown, Shows, LaysAnswer, HandsShown}
 use Rattle.mg_node.proofs.Performing.{may_run, performed_well, performed_fault, unchanged}
-use Rattle.mg_node.proofs.Claimable.{cell_fits}
+use Rattle.mg_node.proofs.Claimable.{cell_sets, cell_fits}
 use Rattle.mg_node.proofs.Cells.{claim_lawful}
 use Rattle.mg_node.proofs.WorksOut.{claim_out}
 use Rattle.mg_node.proofs.FrontSteps.{fault_is}
@@ -281,6 +287,20 @@ none_shown C e i cell may next = (
   subst (λ (r : Role). IsEarly r i.waits) (sym may.role) next,
   record { same_engine = refl; same_intake = refl },
 )
+
+-- what may be claimed next is one thing
+one_next : (w : Waits) (a b : Readiness) → HasSets w → IsNext w a → IsNext w b → a ≡ b
+one_next (Sets inbox) a b has h k = one_readiness inbox.policy a b (queues_of inbox.pool) h k
+one_next (Loop held) a b has h k = absurd has
+
+abbrev IsOfNone : Readiness → Type 0
+IsOfNone (Ready at) = ⊥
+IsOfNone Close = ⊤
+IsOfNone NoneYet = ⊤
+
+-- where there is no set, none is next
+pub no_next : (e : EngineView) (i : IntakeView) (at : ℕ) (readiness : Readiness) → AreCell e i → MayShow e → IsNext i.waits readiness → IsNext i.waits (Ready at) → IsOfNone readiness → ⊥
+no_next e i at readiness cell may is next none = subst IsOfNone (one_next i.waits readiness (Ready at) (cell_sets e i cell may.role) is next) none
 
 -- A bench's calculator is shown the set that lies there.
 pub shown_well : (at : ℕ) (emission : List Laid) (before now : BenchView) → MayRun (Process at) before → HasRun (Ok emission) (Process at) before now → HasShown at (Ok emission) before now

@@ -19,7 +19,7 @@ use Rattle.mg_calc.specs.Shape.{IsOuter, ParametersFit, calls_of}
 use Rattle.mg_calc.specs.Equations.{Job, inputs_of, sides_of, outcome_by, outcome_of}
 use Rattle.mg_calc.proofs.Counting.{all_of_first}
 use Rattle.mg_calc.proofs.Jobs.{any_state, job_known}
-use Rattle.mg_calc.proofs.LawTimes.{law_keeps_times}
+use Rattle.mg_calc.proofs.LawCases.{law_keeps_times}
 use Rattle.mg_calc.proofs.Outcomes.{KeepsTimes, IsKept, Further, opened_keeps, sets_keep, sets_extend, end_extends, raised_extends_end, calls_keep, calls_extend, last_call_extends}
 use Rattle.mg_calc.proofs.Rounds.{streams_are_prefixes, stream_is_prefix}
 use Rattle.mg_calc.proofs.Solutions.{solution_keeps, empties_extend}

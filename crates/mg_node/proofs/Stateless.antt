@@ -24,7 +24,7 @@ use Rattle.mg_calc.specs.Shape.{IsShapeOf, FitsInputs, is_stateless}
 use Rattle.mg_calc.specs.State.{IsStateOf}
 use Rattle.mg_calc.specs.Equations.{Job, IsJob, inputs_of, sides_of, stream_of}
 use Rattle.mg_calc.proofs.Counting.{all_of_first}
-use Rattle.mg_calc.proofs.StateForms.{stepped}
+use Rattle.mg_calc.proofs.LawCases.{stepped}
 use Rattle.mg_node.specs.Job.{LoggedJob, Solves, sets_of, stage_by, stage, first_log}
 use Rattle.mg_node.proofs.Performing.{of_node}
 

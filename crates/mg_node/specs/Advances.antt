@@ -28,6 +28,12 @@ raised_by Loop offset t = Some t
 raised_by role None t = None
 raised_by role (Some offset) t = Some (shift t offset)
 
+-- whether those of a node aren't raised, whatever waits
+abbrev pub never_raised : Role → Option ℤ → Bool
+never_raised Loop offset = false
+never_raised role None = true
+never_raised role (Some offset) = false
+
 abbrev pub advance_bound : EngineView → Waits → Option ℕ
 advance_bound engine waits =
     if has_ended engine then None else raised_by engine.role engine.offset (until_claimed engine.window (horizon_of waits))

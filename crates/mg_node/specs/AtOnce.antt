@@ -1,13 +1,22 @@
 -- A node's next set whose work is claimed, performed and committed at once: what is left is as the three leave it, one after the other.
-use Rattle.std.specs.Prelude.{◌≡◌, ℕ}
+use Rattle.std.specs.Prelude.{◌≡◌, ℕ, ◌<◌, false, [], length, ⊤}
 use Rattle.mg_node.specs.declared.at_once.AtOnce.{AtOnce}
 use Rattle.mg_node.specs.declared.at_once.AtOnce.TheVariants.{Other, NotReady, Claimed, Performed, Committed}
 use Rattle.mg_node.specs.declared.claimed.Claimed.TheVariants.{Work, NotReady as NoneReady}
+use Rattle.mg_node.specs.declared.role.Role.TheVariants.{Sets}
 use Rattle.mg_node.specs.Views.{IntakeView, WorkView, PerformedView, EngineView}
+use Rattle.mg_node.specs.Windows.{has_ended}
 use Rattle.mg_node.specs.Shelves.{shelved, outcome_of}
 use Rattle.mg_node.specs.Running.{IsPerformed}
 use Rattle.mg_node.specs.Claims.{AreSame, Claims}
 use Rattle.mg_node.specs.Commits.{Commits}
+
+-- the node goes on and is shown sets, no work is under way, and a bench is idle
+pub record MayShow (engine : EngineView) : Type 0 where
+  pub role : engine.role ≡ Sets
+  pub goes : has_ended engine ≡ false
+  pub none : engine.window ≡ []
+  pub bench : 0 < length engine.idle
 
 -- the work of a number is claimed, which leaves the engine like this, and is performed
 pub record IsDoneBetween (C : Type 0) (number : ℕ) (engine between : EngineView) (intake intake_now : IntakeView) : Type 0 where
@@ -37,3 +46,11 @@ DoesAtOnce {C} NotReady engine engine_now intake intake_now = Claims {C = C} Non
 DoesAtOnce {C} (Claimed work) engine engine_now intake intake_now = Claims {C = C} (Work work) engine engine_now intake intake_now
 DoesAtOnce {C} (Performed number) engine engine_now intake intake_now = IsLeftPerformed C number engine engine_now intake intake_now
 DoesAtOnce {C} (Committed number) engine engine_now intake intake_now = IsLeftCommitted C number engine engine_now intake intake_now
+
+-- the next set was claimed
+abbrev pub IsShown : {C : Type 0} → AtOnce C → Type 0
+IsShown Other = ⊥
+IsShown NotReady = ⊥
+IsShown (Claimed work) = ⊤
+IsShown (Performed number) = ⊤
+IsShown (Committed number) = ⊤

@@ -1,10 +1,11 @@
-ghost use Rattle.std.specs.Prelude.{◌≡◌, true, length, is_some, IsSome, IfSome, IfNone, IfOk, IfErr, option_map, OnOk, OnErr};
+ghost use Rattle.std.specs.Prelude.{◌≡◌, true, length, is_some, IfSome, IfNone, IfOk, IfErr, option_map, OnOk, OnErr};
+ghost use Rattle.mg_policy.specs.declared.readiness.Readiness.TheVariants.{Ready};
 ghost use Rattle.mg_calc.specs.Answer.{GivesEmission};
 ghost use Rattle.mg_calc.specs.Law.{opening};
 ghost use Rattle.mg_calc.specs.Told.{Logs};
 ghost use Rattle.mg_route.specs.HolderView.{holder_view, told_by};
-ghost use Rattle.mg_node.specs.Ports.{ports_in};
-ghost use Rattle.mg_node.specs.Intakes.{next_set_of, SomeJobHasIntake};
+ghost use Rattle.mg_node.specs.Ports.{ports_in, IsNext};
+ghost use Rattle.mg_node.specs.Intakes.{HasSets, SomeJobHasIntake};
 ghost use Rattle.mg_node.specs.Claims.{Takes};
 ghost use Rattle.mg_node.specs.Running.{MayRun, HasRun};
 ghost use Rattle.mg_calc.specs.declared.node_fault.Phase.TheVariants.{Process};
@@ -131,17 +132,16 @@ impl<C: Calculator> Bench<C> {
         }
     }
 
-    /// Takes the next input set of an intake, where there is one.
-    pub(crate) fn fill(&mut self, intake: &mut Intake)
+    /// Takes the next input set of an intake, whose time is known.
+    pub(crate) fn fill(&mut self, at: Timestamp, intake: &mut Intake)
         requires places { length self.old.set ≡ ports_in intake.old.waits }
         requires lawful { SomeJobHasIntake intake.old }
-        requires next { IsSome (next_set_of intake.old.waits) }
+        requires sets { HasSets intake.old.waits }
+        requires next { IsNext intake.old.waits (Ready at) }
         ensures takes { Takes intake.old intake.new self.new.set }
         ensures told { self.new.told ≡ self.old.told }
     {
-        if !intake.claim(&mut self.set) {
-            unreachable!()
-        }
+        intake.claim_at(at, &mut self.set);
     }
 
     /// The calculator, if it was handed in.

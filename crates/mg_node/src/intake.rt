@@ -1,4 +1,4 @@
-ghost use Rattle.std.specs.Prelude.{◌≡◌, ◌<◌, ◌≤◌, ◌+◌, ◌-◌, ℕ, List, ◌^◌, min, true, false, length, replicate, slice_get, option_map, is_ok, is_some, IfOk, IfSome, IsTrue, IsSome, if◌then◌else◌, ◌↔◌};
+ghost use Rattle.std.specs.Prelude.{◌≡◌, ◌<◌, ◌≤◌, ◌+◌, ◌-◌, ℕ, List, ◌^◌, min, true, false, length, replicate, slice_get, option_map, is_ok, is_some, IfOk, IfSome, IsSomeAnd, IsTrue, IsSome, if◌then◌else◌, ◌↔◌};
 ghost use Rattle.std.specs.Bool.{OnTrue, OnFalse};
 ghost use Rattle.mg_value.specs.Payload.{Plain};
 ghost use Rattle.mg_value.specs.Prefix.{StreamPrefix};
@@ -6,6 +6,7 @@ ghost use Rattle.mg_stream.specs.Queue.{count_of, with_packet, raised_to, MayCom
 ghost use Rattle.mg_stream.specs.Pool.{empty_backlog};
 ghost use Rattle.mg_policy.specs.Inbox.{HasPorts};
 ghost use Rattle.mg_calc.specs.Plan.{IsValid};
+ghost use Rattle.mg_node.specs.Claims.{Takes};
 ghost use Rattle.mg_node.specs.Intakes.{IsLeft, NoneWaits, HoldsNone, IsFresh, next_set_of, SomeJobHasIntake, HasSet, HasSets, HasLoop, AnswersBy, Claims};
 ghost use Rattle.mg_policy.specs.declared.readiness.Readiness as Readiness;
 ghost use Rattle.mg_node.specs.Job.{LoggedJob, Solves};
@@ -86,6 +87,18 @@ impl Intake {
         }
         self.claimed += 1;
         true
+    }
+
+    /// Claims the next input set, whose time is known. It isn't asked of a loopback.
+    pub(crate) fn claim_at(&mut self, at: Timestamp, into: &mut InputSet)
+        requires places { length into.old ≡ ports_in self.old.waits }
+        requires lawful { SomeJobHasIntake self.old }
+        requires sets { HasSets self.old.waits }
+        requires next { IsNext self.old.waits (Readiness.Ready at) }
+        ensures { Takes self.old self.new into.new }
+    {
+        claim_known(&mut self.waits, at, into);
+        self.claimed += 1;
     }
 
     /// How many input sets were claimed, or packets of MAIN answered.
@@ -205,11 +218,7 @@ impl Intake {
         ensures { result ≡ horizon_of self.now.waits }
     {
         match &self.waits {
-            Waits::Sets(inbox) => match inbox.readiness() {
-                Readiness::Ready { at } => at,
-                Readiness::Close => inbox.low(),
-                Readiness::NotReady => inbox.low(),
-            },
+            Waits::Sets(inbox) => inbox.horizon(),
             Waits::Loop(loopback) => loopback.out_bound(),
         }
     }
@@ -225,7 +234,7 @@ impl Intake {
         } }
     {
         let refused = match &mut self.waits {
-            Waits::Sets(inbox) => inbox.append(port, packet).is_err(),
+            Waits::Sets(inbox) => inbox.bring(port, packet).is_err(),
             Waits::Loop(loopback) => loopback.append(port, packet).is_err(),
         };
         if refused { Err(AllocError) } else { Ok(()) }
@@ -285,5 +294,26 @@ fn claim_of(waits: &mut Waits, into: &mut InputSet) -> bool
     match waits {
         Waits::Sets(inbox) => inbox.claim(into),
         Waits::Loop(_) => false,
+    }
+}
+
+/// Claims the next input set of what waits, whose time is known.
+fn claim_known(waits: &mut Waits, at: Timestamp, into: &mut InputSet)
+    requires places { length into.old ≡ ports_in waits.old }
+    requires sets { HasSets waits.old }
+    requires next { IsNext waits.old (Readiness.Ready at) }
+    ensures shown { IsSomeAnd (next_set_of waits.old) (λ e. into.new ≡ e.set) }
+    ensures left { IsLeft waits.old waits.new }
+    ensures ports { ports_in waits.new ≡ ports_in waits.old }
+    ensures counts { (port : ℕ) → count_of (port_queue waits.new port) ≡ count_of (port_queue waits.old port) }
+    ensures bounds { (port : ℕ) → (port_queue waits.new port).bound ≡ (port_queue waits.old port).bound }
+    ensures holds { (job : LoggedJob) (streams : List (StreamPrefix Plain)) (consumer k : ℕ) → HoldsWaits job streams consumer k waits.old
+        → Claims job streams consumer k waits.new into.new }
+    ensures grow { (job : LoggedJob) (streams : List (StreamPrefix Plain)) (consumer k port : ℕ) → HoldsWaits job streams consumer k waits.old
+        → HasGrown (port_queue waits.old port) (port_queue waits.new port) }
+{
+    match waits {
+        Waits::Sets(inbox) => inbox.claim_at(at, into),
+        Waits::Loop(_) => unreachable!(),
     }
 }

@@ -88,7 +88,5 @@ pub(crate) fn append(output: &mut Queue, packet: Packet)
     requires room { 0 < output.old.spare }
     ensures { output.new ≡ appended output.old packet }
 {
-    let Ok(()) = output.append(packet) else {
-        unreachable!()
-    };
+    output.put(packet);
 }

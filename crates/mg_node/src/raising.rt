@@ -2,7 +2,7 @@
 ghost use Rattle.std.specs.Prelude.{◌≡◌, nat_lt, min, map};
 ghost use Rattle.mg_stream.specs.Pool.{backlog_of};
 ghost use Rattle.mg_stream.specs.Queue.{raised_to};
-ghost use Rattle.mg_node.specs.Advances.{any_moved, until_phase, until_claimed as until_claimed_in, raised_by as raised_by_role};
+ghost use Rattle.mg_node.specs.Advances.{any_moved, until_phase, until_claimed as until_claimed_in, raised_by as raised_by_role, never_raised};
 
 use crate::Role;
 use crate::entry::Entry;
@@ -67,6 +67,19 @@ pub(crate) fn until_claimed<C: Calculator>(
         return time;
     }
     until(window[0].phase(), time)
+}
+
+/// Whether the outputs of a node are never raised by what waits.
+pub(crate) fn never_raises(role: Role, offset: Option<i64>) -> bool
+    ensures { result ≡ never_raised role offset }
+{
+    match role {
+        Role::Loop => false,
+        _ => match offset {
+            Some(_) => false,
+            None => true,
+        },
+    }
 }
 
 /// The bound to which the outputs of a node are raised.

@@ -37,6 +37,7 @@ pub fn shape_of(
     offset: Option<i64>,
     stateless: bool,
 ) -> Result<Shape, Fail>
+    ensures name { IfOk result (λ shape. shape.name ≡ name.now) }
     ensures inputs { IfOk result (λ shape. shape.inputs ≡ inputs) }
     ensures outputs { IfOk result (λ shape. shape.outputs ≡ untagged 1 output) }
     ensures sides { IfOk result (λ shape. shape.sides ≡ []) }

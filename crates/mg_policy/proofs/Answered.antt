@@ -1,5 +1,5 @@
 -- What a look and a claim answer, in the words of contracts: of what waits, and of whole streams.
-use Rattle.std.proofs.Common.{◌≡◌, ℕ, zero, suc, ◌+◌, ◌<◌, List, [], ◌∷◌, map, drop, length, length-drop, All, Option, Some, None, option_map, slice_get, IsSomeAnd, IfNone, IsTrue, replicate, ap, subst, sym, refl, ◌∙◌, arith, eq-eqb}
+use Rattle.std.proofs.Common.{◌≡◌, ℕ, zero, suc, ◌+◌, ◌<◌, List, [], ◌∷◌, map, drop, length, length-drop, All, Option, Some, None, option_map, slice_get, IsSome, IsSomeAnd, IfSome, IfNone, IsTrue, true, ◌↔◌, replicate, ap, subst, sym, refl, ◌∙◌, arith, eq-eqb}
 use Rattle.std.specs.List.{AllByRecursion}
 use Rattle.std.proofs.lemmas.Bool.{false≢true}
 use Rattle.std.proofs.lemmas.List.Elements.{All-head, All-tail, All-from_recursion}
@@ -31,6 +31,13 @@ ready_by (Some e) t is = cc
 
 pub tells_ready : (policy : Policy) (qs : List (Waiting Plain)) (t : ℕ) → All IsPrefix (rests qs) → first_set_time policy (rests qs) ≡ Some t → Tells policy (Ready t) qs
 tells_ready policy qs t h is = ready_by (next_set policy qs) t (first-time policy (rests qs) h ∙ is)
+
+time_by : (o : Option (TimedSet Plain)) (t : ℕ) → IsSomeAnd o (λ e. e.at ≡ t) → option_map (λ e. e.at) o ≡ Some t
+time_by None t h = absurd h
+time_by (Some e) t h = ap Some h
+
+pub told_time : (policy : Policy) (qs : List (Waiting Plain)) (t : ℕ) → All IsPrefix (rests qs) → Tells policy (Ready t) qs → first_set_time policy (rests qs) ≡ Some t
+told_time policy qs t h told = sym (first-time policy (rests qs) h) ∙ time_by (next_set policy qs) t told
 
 no_next : (policy : Policy) (qs : List (Waiting Plain)) → All IsPrefix (rests qs) → first_set_time policy (rests qs) ≡ None → settled_sets policy (rests qs) ≡ []
 no_next policy qs h none = sets-over policy (rests qs) h none
@@ -133,6 +140,15 @@ claim_whole policy old new t set h k ss stand = (
   claim_counts policy k (queues_of old) (queues_of new) ss stand (each-taken old new t ss h.ports stand.each)
       (some_waits (settled_sets policy (rests (queues_of old))) _ h.next) (claim_left policy old new t set h),
 )
+
+-- a set is claimed
+pub claimed_some : (o : Option (TimedSet Plain)) (set : List (Option (Stamped Plain))) → IsSomeAnd o (λ e. set ≡ e.set) → IsTrue true ↔ IsSome o
+claimed_some None set h = absurd h
+claimed_some (Some e) set h = (λ yes. yes, λ yes. yes)
+
+pub shown_if : (o : Option (TimedSet Plain)) (set : List (Option (Stamped Plain))) → IsSomeAnd o (λ e. set ≡ e.set) → IfSome o (λ e. set ≡ e.set)
+shown_if None set h = absurd h
+shown_if (Some e) set h = h
 
 -- where no set is claimed
 pub no_claim : (policy : Policy) (qs : List (Waiting Plain)) → All IsPrefix (rests qs) → first_set_time policy (rests qs) ≡ None → settled_sets policy (rests qs) ≡ []

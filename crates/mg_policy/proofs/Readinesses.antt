@@ -9,7 +9,7 @@ use Rattle.mg_policy.specs.Inbox.{rests, next_set, IsOver, Tells}
 use Rattle.mg_policy.specs.declared.readiness.Readiness.{Readiness}
 use Rattle.mg_policy.specs.declared.readiness.Readiness.TheVariants.{Ready, Close, NotReady}
 
-over_none : (policy : Policy) (qs : List (Waiting Plain)) → IsOver policy qs → next_set policy qs ≡ None
+pub over_none : (policy : Policy) (qs : List (Waiting Plain)) → IsOver policy qs → next_set policy qs ≡ None
 over_none policy qs over = ap (λ (es : List (TimedSet Plain)). slice_get es 0) (no-sets policy (rests qs) over.empty)
 
 same_option : (o : Option (TimedSet Plain)) (a b : ℕ) → IsSomeAnd o (λ e. e.at ≡ a) → IsSomeAnd o (λ e. e.at ≡ b) → a ≡ b

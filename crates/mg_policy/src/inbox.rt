@@ -1,4 +1,4 @@
-ghost use Rattle.std.specs.Prelude.{◌≡◌, ◌<◌, ◌≤◌, ◌+◌, ◌↔◌, ℕ, List, [], length, map, drop, replicate, slice_get, option_map, Some, IfOk, IfErr, IfSome, OnOk, OnErr, IsErrAnd, IsOk, IsTrue, IsSome, MatchResult};
+ghost use Rattle.std.specs.Prelude.{◌≡◌, ◌<◌, ◌≤◌, ◌+◌, ◌↔◌, ℕ, List, [], length, map, drop, replicate, slice_get, option_map, unwrap_or, Some, IfOk, IfErr, IfSome, OnOk, OnErr, IsErrAnd, IsSomeAnd, IsOk, IsTrue, IsSome, MatchResult};
 ghost use Rattle.std.specs.Bool.{OnTrue, OnFalse};
 ghost use Rattle.mg_time.specs.Time.{post_stream, done, IsAllowed};
 ghost use Rattle.mg_value.specs.Payload.{Plain};
@@ -8,10 +8,11 @@ ghost use Rattle.mg_value.specs.Left.{after_sets};
 ghost use Rattle.mg_stream.specs.Queue.{StandsFor, MayCome, count_of, with_packet, raised_to};
 ghost use Rattle.mg_stream.specs.Pool.{empty_backlog, queue_at, queues_of, with_queue, pool_len};
 ghost use Rattle.mg_stream.specs.declared.fault.StreamFault as StreamFault;
+ghost use Rattle.mg_policy.specs.declared.readiness.Readiness.TheVariants.{Ready};
 ghost use Rattle.mg_policy.specs.Inbox.{HasPorts, rests, next_set, Tells, TellsOf, ShowsNext, StandAfter};
 
 use crate::Readiness;
-use crate::look::{look_at, reach_of};
+use crate::look::{least_time, look_at, reach_of};
 use crate::taking::take_set;
 use mg_stream::{Pool, Refused, StreamFault};
 use mg_time::Timestamp;
@@ -100,6 +101,19 @@ impl Inbox {
         self.pool.append(port, packet)
     }
 
+    /// Puts a packet that may come behind those that wait at a port, and moves the bound to what may follow it. Where there is no
+    /// memory the packet is dropped, and the inbox is as before.
+    pub fn bring(&mut self, port: u32, packet: Packet) -> Result<(), AllocError>
+        requires port { port < length self.old.pool.ports }
+        requires may_come { MayCome (queue_at self.old.pool port) packet.at }
+        ensures ok { OnOk result (self.new.pool
+            ≡ with_queue self.old.pool port (record (with_packet (queue_at self.old.pool port) packet) { spare = self.new.pool.spare })) }
+        ensures policy { self.new.policy ≡ self.old.policy }
+        ensures unchanged { OnErr result (self.new ≡ self.old) }
+    {
+        self.pool.bring(port, packet)
+    }
+
     /// Raises the bound of a port: no packet below it comes there any more. A bound that isn't higher changes nothing.
     pub fn raise(&mut self, port: u32, bound: Timestamp)
         requires { port < length self.old.pool.ports }
@@ -161,6 +175,28 @@ impl Inbox {
         reach_of(&self.pool, self.policy)
     }
 
+    /// The time below which no further input set stands: that of the next one, or how far the sets reach where there is none. By
+    /// default this looks once at each port.
+    pub fn horizon(&self) -> Timestamp
+        ensures { result ≡ unwrap_or (option_map (λ e. e.at) (next_set self.now.policy (queues_of self.now.pool))) (reach self.now.policy (rests (queues_of self.now.pool))) }
+    {
+        match self.policy {
+            Policy::Default => least_time(&self.pool),
+            Policy::Mux => self.told_horizon(),
+        }
+    }
+
+    // The same, as readiness tells it.
+    fn told_horizon(&self) -> Timestamp
+        ensures { result ≡ unwrap_or (option_map (λ e. e.at) (next_set self.now.policy (queues_of self.now.pool))) (reach self.now.policy (rests (queues_of self.now.pool))) }
+    {
+        match self.readiness() {
+            Readiness::Ready { at } => at,
+            Readiness::Close => self.low(),
+            Readiness::NotReady => self.low(),
+        }
+    }
+
     /// Whether there is a next input set, and at which timestamp, or why there is none. It looks at each port once.
     pub fn readiness(&self) -> Readiness
         ensures waits { Tells self.now.policy result (queues_of self.now.pool) }
@@ -174,6 +210,29 @@ impl Inbox {
             return Readiness::Close;
         }
         Readiness::NotReady
+    }
+
+    /// Takes the next input set, whose time is known: its packets leave the queues, and under Mux those of other ports before its
+    /// time or at it.
+    pub fn claim_at(&mut self, at: Timestamp, into: &mut InputSet)
+        requires places { length into.old ≡ length self.old.pool.ports }
+        requires next { Tells self.old.policy (Ready at) (queues_of self.old.pool) }
+        ensures shown { IsSomeAnd (next_set self.old.policy (queues_of self.old.pool)) (λ e. into.new ≡ e.set) }
+        ensures left { rests (queues_of self.new.pool) ≡ after_sets self.old.policy 1 (rests (queues_of self.old.pool)) }
+        ensures others { settled_sets self.old.policy (rests (queues_of self.new.pool)) ≡ drop 1 (settled_sets self.old.policy (rests (queues_of self.old.pool))) }
+
+        // What stays: all that came is counted, and what goes leaves room for as much.
+        ensures policy { self.new.policy ≡ self.old.policy }
+        ensures ports { length self.new.pool.ports ≡ length self.old.pool.ports }
+        ensures places { length into.new ≡ length into.old }
+        ensures counts { map count_of (queues_of self.new.pool) ≡ map count_of (queues_of self.old.pool) }
+        ensures room { self.new.pool.spare + pool_len self.new.pool ≡ self.old.pool.spare + pool_len self.old.pool }
+
+        // In whole streams: the first set that isn't claimed yet.
+        ensures whole { (k : ℕ) (ss : List (StreamPrefix Plain)) → StandAfter self.old.policy k (queues_of self.old.pool) ss
+            → ((at : ℕ) × ShowsNext self.old.policy k ss at into.new) × StandAfter self.old.policy (k + 1) (queues_of self.new.pool) ss }
+    {
+        take_set(&mut self.pool, self.policy, at, into);
     }
 
     /// Takes the next input set, where there is one: its packets leave the queues, and under Mux those of other ports
@@ -202,7 +261,7 @@ impl Inbox {
         let Some(at) = look_at(&self.pool, self.policy).next else {
             return false;
         };
-        take_set(&mut self.pool, self.policy, at, into);
+        self.claim_at(at, into);
         true
     }
 }

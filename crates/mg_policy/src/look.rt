@@ -1,5 +1,5 @@
 //! What one look at each port of a pool finds.
-ghost use Rattle.std.specs.Prelude.{◌≡◌, ◌<◌, ◌↔◌, ℕ, All, length, min, IfNone, IsTrue};
+ghost use Rattle.std.specs.Prelude.{◌≡◌, ◌<◌, ◌↔◌, ℕ, All, length, min, unwrap_or, IfNone, IsTrue};
 ghost use Rattle.mg_time.specs.Time.{done};
 ghost use Rattle.mg_value.specs.Prefix.{IsPrefix};
 ghost use Rattle.mg_value.specs.Settled.{low, is_settled, reach};
@@ -102,6 +102,15 @@ fn select_reach(pool: &Pool) -> Timestamp
         }
     }
     pool.bound(select)
+}
+
+/// The time of the next set under the default policy, or how far the sets reach where there is none. It looks once at each port.
+pub(crate) fn least_time(pool: &Pool) -> Timestamp
+    ensures time { result ≡ unwrap_or (first_set_time Default (rests (queues_of pool.now))) (low (rests (queues_of pool.now))) }
+    ensures prefixes { All IsPrefix (rests (queues_of pool.now)) }
+{
+    let times = times_of(pool);
+    lesser(times.earliest, times.low)
 }
 
 /// The times that the default policy asks for.

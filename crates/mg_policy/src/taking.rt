@@ -2,10 +2,10 @@
 ghost use Rattle.std.specs.Prelude.{◌≡◌, ◌<◌, ◌+◌, ℕ, All, Some, None, length, map, slice_get, sum_by, if◌then◌else◌};
 ghost use Rattle.mg_value.specs.Prefix.{IsPrefix};
 ghost use Rattle.mg_value.specs.Settled.{settled_sets, packet_at};
-ghost use Rattle.mg_value.specs.FirstSet.{first_set_time, behind};
 ghost use Rattle.mg_stream.specs.Queue.{rest_of};
 ghost use Rattle.mg_stream.specs.Pool.{queue_at, queues_of, with_queue, backlog_of, queue_of, pool_len};
-ghost use Rattle.mg_policy.specs.Inbox.{HasPorts, rests};
+ghost use Rattle.mg_policy.specs.declared.readiness.Readiness.TheVariants.{Ready};
+ghost use Rattle.mg_policy.specs.Inbox.{HasPorts, rests, Tells};
 ghost use Rattle.mg_policy.specs.Code.Taking.{dropped_before, dropped_through};
 
 use crate::selecting::{chosen_port, is_shown};
@@ -17,7 +17,8 @@ use mg_value::{InputSet, Packet, Policy};
 pub(crate) fn take_set(pool: &mut Pool, policy: Policy, at: Timestamp, into: &mut InputSet)
     requires ports { HasPorts policy pool.old }
     requires places { length into.old ≡ length pool.old.ports }
-    requires next { first_set_time policy (rests (queues_of pool.old)) ≡ Some at }
+    requires next { Tells policy (Ready at) (queues_of pool.old) }
+    ensures prefixes { All IsPrefix (rests (queues_of pool.old)) }
     ensures set { slice_get (settled_sets policy (rests (queues_of pool.old))) 0 ≡ Some (record { at = at; set = into.new }) }
     ensures ports { pool.new.ports ≡ map (λ b. backlog_of (dropped_through at (queue_of 0 b))) pool.old.ports }
     ensures places { length into.new ≡ length into.old }

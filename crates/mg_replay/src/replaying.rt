@@ -67,10 +67,7 @@ pub fn replay_lines<G: Gate, C: Calculator, S: Source, K: Sink, E: Sink>(
 {
     match replay_whole(run, gate, boxes, devices) {
         Ok(status) => status,
-        Err(_) => {
-            note_out_of_memory(devices.notes);
-            Status::OutOfMemory
-        }
+        Err(_) => note_out_of_memory(devices.notes),
     }
 }
 

@@ -1,4 +1,5 @@
 pub mod ClonerLemmas
 pub mod LayingLemmas
+mod Passing
 pub mod PlaceLemmas
 pub mod Sent

@@ -1,13 +1,11 @@
 ghost use Rattle.std.specs.Prelude.{◌≡◌, ◌<◌, [], None, IfOk, OnErr, Ok};
-ghost use Rattle.mg_calc.specs.Answer.{Gives, GivesEmission, Answer};
-ghost use Rattle.mg_calc.specs.Law.{opening, step as its_step, call as its_call, finish as closing};
+ghost use Rattle.mg_calc.specs.Answer.{GivesEmission};
+ghost use Rattle.mg_calc.specs.Law.{opening, step, call as its_call, finish as closing};
 ghost use Rattle.mg_calc.specs.Shape.{ParametersFit, IsShapeOf, IsServed, IsOuter, IsSource, calls_of};
 
-use crate::route::route_step;
-use mg_batch::batch_step;
+use crate::in_place::{begin_in, outer_step_in};
 use mg_calc::{
-    CalcFault, Emission, GivenList, Law, Shape, State, TryClone, no_emission, own_begin, own_step,
-    source_step,
+    CalcFault, Emission, GivenList, Law, Shape, State, TryClone, no_emission, source_step,
 };
 use mg_time::Timestamp;
 use mg_value::InputSet;
@@ -69,28 +67,34 @@ impl Builtin {
         &self.shape
     }
 
-    // What it gives when it is opened.
-    pub(crate) fn opened(
-        &self,
-        alloc: Global,
-        sides: &GivenList,
-    ) -> Result<(State, Emission), CalcFault>
-        ensures { Gives result (opening self.now.law sides.now) }
+    // What it emits when it is opened. A fault, and want of memory, change nothing.
+    pub(crate) fn begin(&mut self, alloc: Global, sides: &GivenList) -> Result<Emission, CalcFault>
+        ensures answer { GivesEmission result self.new.state (opening self.old.law sides.now) }
+        ensures kept { OnErr result (self.new.state ≡ self.old.state) }
+        ensures law { self.new.law ≡ self.old.law }
+        ensures shape { self.new.shape ≡ self.old.shape }
+        ensures untold { self.old.log ≡ None }
+        ensures log { self.new.log ≡ None }
     {
-        own_begin(alloc, &self.law, sides)
+        begin_in(alloc, &self.law, &mut self.state, sides)
     }
 
-    // What it gives at a set.
-    pub(crate) fn shown(
-        &self,
+    // What it emits at a set. A fault, and want of memory, change nothing.
+    pub(crate) fn process(
+        &mut self,
         alloc: Global,
         at: Timestamp,
         set: &InputSet,
-    ) -> Result<(State, Emission), CalcFault>
-        requires { IsOuter self.now.law }
-        ensures { Gives result (its_step self.now.law self.now.state at set.now) }
+    ) -> Result<Emission, CalcFault>
+        requires { IsOuter self.old.law }
+        ensures answer { GivesEmission result self.new.state (step self.old.law self.old.state at set.now) }
+        ensures kept { OnErr result (self.new.state ≡ self.old.state) }
+        ensures law { self.new.law ≡ self.old.law }
+        ensures shape { self.new.shape ≡ self.old.shape }
+        ensures untold { self.old.log ≡ None }
+        ensures log { self.new.log ≡ None }
     {
-        outer_step(alloc, &self.law, &self.state, at, set)
+        outer_step_in(alloc, &self.law, &mut self.state, at, set)
     }
 
     // What it emits at a call, if it is a source.
@@ -111,54 +115,5 @@ impl Builtin {
             Law::Scripted { last, .. } => last.try_clone(alloc),
             _ => no_emission(alloc),
         }
-    }
-
-    // Keeps a state.
-    pub(crate) fn keep(&mut self, state: State)
-        ensures { self.new ≡ record { law = self.old.law; shape = self.old.shape; state = state; log = None } }
-    {
-        self.state = state;
-    }
-
-    // Keeps the state of an answer. A fault, and want of memory, change nothing.
-    pub(crate) fn keep_of(
-        &mut self,
-        answer: Result<(State, Emission), CalcFault>,
-    ) -> Result<Emission, CalcFault>
-        ensures answer { (wanted : Answer) → Gives answer wanted → GivesEmission result self.new.state wanted }
-        ensures kept { OnErr result (self.new ≡ self.old) }
-        ensures law { self.new.law ≡ self.old.law }
-        ensures shape { self.new.shape ≡ self.old.shape }
-        ensures untold { self.old.log ≡ None }
-        ensures log { self.new.log ≡ None }
-    {
-        let _ = &self.law;
-        let (state, emission) = answer?;
-        self.keep(state);
-        Ok(emission)
-    }
-}
-
-// What a calculator that is shown sets gives at one.
-fn outer_step(
-    alloc: Global,
-    law: &Law,
-    state: &State,
-    at: Timestamp,
-    set: &InputSet,
-) -> Result<(State, Emission), CalcFault>
-    requires shown { IsOuter law.now }
-    requires served { IsServed law.now }
-    ensures { Gives result (its_step law.now state.now at set.now) }
-{
-    match law {
-        Law::Pass
-        | Law::Gate { .. }
-        | Law::Mux { .. }
-        | Law::Cloner { .. }
-        | Law::Merge { .. }
-        | Law::Thin { .. } => route_step(alloc, law, state, at, set),
-        Law::BeginLoop { .. } | Law::EndLoop => batch_step(alloc, law, state, at, set),
-        _ => own_step(alloc, law, state, at, set),
     }
 }

@@ -91,10 +91,7 @@ impl<C: Calculator> Holder<C> {
         ensures handed { self.new.handed ≡ self.old.handed }
     {
         match &mut self.held {
-            Held::Own(builtin) => {
-                let answer = builtin.opened(alloc, sides);
-                builtin.keep_of(answer)
-            }
+            Held::Own(builtin) => builtin.begin(alloc, sides),
             Held::Outer(calculator) => calculator.begin(alloc, sides),
         }
     }
@@ -116,10 +113,7 @@ impl<C: Calculator> Holder<C> {
         ensures handed { self.new.handed ≡ self.old.handed }
     {
         match &mut self.held {
-            Held::Own(builtin) => {
-                let answer = builtin.shown(alloc, at, set);
-                builtin.keep_of(answer)
-            }
+            Held::Own(builtin) => builtin.process(alloc, at, set),
             Held::Outer(calculator) => calculator.process(alloc, at, set),
         }
     }

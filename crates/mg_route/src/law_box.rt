@@ -62,18 +62,10 @@ impl Calculator for LawBox {
     }
 
     fn begin(&mut self, alloc: Global, sides: &GivenList) -> Result<Emission, CalcFault> {
-        match self.inner.opened(alloc, sides) {
-            Ok((state, emission)) => {
-                self.log.note(alloc, Call::Begun)?;
-                self.inner.keep(state);
-                Ok(emission)
-            }
-            Err(CalcFault::Fault(cause)) => {
-                self.log.note(alloc, Call::Begun)?;
-                Err(CalcFault::Fault(cause))
-            }
-            Err(CalcFault::OutOfMemory) => Err(CalcFault::OutOfMemory),
-        }
+        self.log.note(alloc, Call::Begun)?;
+        let answer = self.inner.begin(alloc, sides);
+        self.log.keep_answered(alloc, &answer);
+        answer
     }
 
     fn process(
@@ -82,18 +74,10 @@ impl Calculator for LawBox {
         at: Timestamp,
         set: &InputSet,
     ) -> Result<Emission, CalcFault> {
-        match self.inner.shown(alloc, at, set) {
-            Ok((state, emission)) => {
-                self.log.note_set(alloc, at, set)?;
-                self.inner.keep(state);
-                Ok(emission)
-            }
-            Err(CalcFault::Fault(cause)) => {
-                self.log.note_set(alloc, at, set)?;
-                Err(CalcFault::Fault(cause))
-            }
-            Err(CalcFault::OutOfMemory) => Err(CalcFault::OutOfMemory),
-        }
+        self.log.note_set(alloc, at, set)?;
+        let answer = self.inner.process(alloc, at, set);
+        self.log.keep_answered(alloc, &answer);
+        answer
     }
 
     fn finish(&mut self, alloc: Global) -> Result<Emission, CalcFault> {

@@ -6,6 +6,7 @@ mod builtin;
 mod cloner;
 mod emissions;
 mod holder;
+mod in_place;
 mod law_box;
 mod laying;
 mod route;
@@ -13,6 +14,7 @@ mod thin;
 
 pub use builtin::Builtin;
 pub use holder::Holder;
+pub use in_place::{begin_in, outer_step_in};
 pub use law_box::LawBox;
 pub use laying::packets_fault;
 pub use route::route_step;

@@ -127,17 +127,8 @@ fn do_words<
 {
     match asked_of(alloc, words) {
         Ok(asked) => do_asked(alloc, asked, crew, boxes, store, devices),
-        Err(_) => short(devices.notes),
+        Err(_) => note_out_of_memory(devices.notes),
     }
-}
-
-// Notes that memory ran out.
-fn short<E: Sink>(notes: &mut E) -> Status
-    ensures status { result ≡ Status.OutOfMemory }
-    ensures noted { Noted (device (E.told notes.old) (E.told notes.new)) memory_note }
-{
-    note_out_of_memory(notes);
-    Status::OutOfMemory
 }
 
 fn do_asked<
@@ -186,8 +177,7 @@ fn told<K: Sink, E: Sink>(output: &mut K, notes: &mut E, text: &[u8]) -> Status
     if put_all(output, text) {
         Status::Good
     } else {
-        note_write_fault(notes);
-        Status::WriteFault
+        note_write_fault(notes)
     }
 }
 
@@ -226,7 +216,7 @@ fn do_command<
             let _ = put_all(devices.notes, &note);
             Status::StoreFault
         }
-        Err(Fault::OutOfMemory) => short(devices.notes),
+        Err(Fault::OutOfMemory) => note_out_of_memory(devices.notes),
     }
 }
 

@@ -79,9 +79,6 @@ acts_stay Relax effect before now of a = elim a [
   | inr full ↦ stays_by before _ now full.2 (record { plan = refl; spare = refl; begun = refl; taken = refl })
 ]
 
-pub acts_plan : (event : Event) (effect : Effect) (before now : NetView) → IsEventOf before event → Acts event effect before now → now.plan ≡ before.plan
-acts_plan event effect before now of a = (acts_stay event effect before now of a).plan
-
 -- Steps one after the other.
 
 pub becomes_trans : (a b c : NetView) → Becomes a b → Becomes b c → Becomes a c

@@ -17,7 +17,7 @@ use Rattle.mg_node.proofs.Lemmas.{engine_known, get_other, grown_by_itself, shel
 use Rattle.mg_sched.specs.Views.{DeskView, NetView}
 use Rattle.mg_sched.specs.Places.{with_engine, with_desk}
 use Rattle.mg_sched.specs.StandsFor.{HasWorks, IsCell, IsNetOf, StandsFor, StandsForSome, IsRunning}
-use Rattle.mg_sched.specs.ComesApart.{parts_in, unrun_of, all_shelved, PutsBack, NoneOnDesks, HasComeApart, ArePartsOf}
+use Rattle.mg_sched.specs.ComesApart.{parts_in, unrun_of, all_shelved, PutsBack, NoneOnDesks, ArePartsOf}
 use Rattle.mg_sched.specs.Code.Telling.{PutsBackAt}
 use Rattle.mg_sched.proofs.Carrying.{intake_of}
 use Rattle.mg_sched.proofs.CellForms.{engine_and_desk, stays_so}
@@ -42,9 +42,6 @@ pub record BackSoFar (start engine : EngineView) (on desk : DeskView) : Type 0 w
 
 not_turned : (a b : WorkView) → a.number ≢ b.number → b.number ≢ a.number
 not_turned a b other = λ e. other (sym e)
-
-pub last_out : (engine : EngineView) (front works : List WorkView) (work : WorkView) → works ≡ front ++ work ∷ [] → All (IsOut engine) works → IsOut engine work
-last_out engine front works work is out = (all_middle (IsOut engine) front [] work (subst (All (IsOut engine)) is out)).1
 
 pub one_more_back : (start engine engine_now : EngineView) (on desk desk_now : DeskView) (work : WorkView) → BackSoFar start engine on desk → desk.works ≡ desk_now.works ++ work ∷ [] → desk_now.room ≡ desk.room
     → engine_now ≡ shelved engine (unrun_of work) → ComesBack engine engine_now work.number → BackSoFar start engine_now on desk_now
@@ -210,10 +207,6 @@ back_more before now next node b less running p =
 
 pub back_end : (before now : NetView) (count last : ℕ) → BackTo before now count → count ≡ last → BackTo before now last
 back_end before now count last b is = subst (λ (n : ℕ). BackTo before now n) is b
-
-pub has_come_apart : (before after shown : NetView) → shown ≡ after → PutsBack (length before.plan.nodes) before.engines after.engines before.desks after.desks → after ≡ record before { engines = after.engines; desks = after.desks }
-    → HasComeApart before (parts_in shown)
-has_come_apart before after shown is puts_back others = subst (λ (v : NetView). HasComeApart before (parts_in v)) (sym is) (record { puts_back = puts_back; others = ap parts_in others })
 
 -- The parts of a net on whose desks nothing lies are those of one net.
 

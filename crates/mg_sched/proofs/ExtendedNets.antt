@@ -1,5 +1,5 @@
 -- A net that goes on with further input stands for the job that has it.
-use Rattle.std.proofs.Common.{◌≡◌, ◌⊎◌, inl, inr, ℕ, zero, suc, ◌+◌, ◌-◌, ◌<◌, ◌≤◌, nat_lt, Bool, true, false, List, [], ◌∷◌, ◌++◌, length, length-append, replicate, drop_at, map, Result, Ok, Err, Option, Some, get_or, slice_get, ap, sym, refl, subst, ◌∙◌, arith}
+use Rattle.std.proofs.Common.{◌≡◌, ◌⊎◌, inl, inr, ℕ, zero, suc, ◌+◌, ◌-◌, ◌<◌, ◌≤◌, nat_lt, Bool, true, false, List, [], ◌∷◌, ◌++◌, length, length-append, replicate, drop_at, map, Result, Ok, Err, Option, Some, get_or, slice_get, slice_index_or, ap, sym, refl, subst, ◌∙◌, arith}
 use Rattle.std.proofs.lemmas.List.{length-replicate}
 use Rattle.std.proofs.lemmas.List.Elements.{All-weaker}
 use Rattle.std.proofs.lemmas.Option.{same_Some, slice_get_within, get_or_from_slice_get}
@@ -28,7 +28,7 @@ use Rattle.mg_node.specs.Extending.{joined, lengthened, extended, MayExtend}
 use Rattle.mg_node.proofs.Lemmas.{engine_stays, extended_lawful, extended_by_nothing, get_drop, get_first, grown_by_itself, grown_further, intake_stays, unbegun_stays, work_stays}
 use Rattle.mg_sched.specs.Views.{DeskView, NetView}
 use Rattle.mg_sched.specs.StandsFor.{IsEngine, IsCell, IsJoined, HasSpare, IsNetOf, StandsFor}
-use Rattle.mg_sched.specs.Extends.{GoesOnWith, MayGoOnWith, Extends}
+use Rattle.mg_sched.specs.Extends.{GoesOnWith, MayGoOnWith, Extends, for_last}
 use Rattle.mg_sched.specs.Code.Longer.{MayEach, AreLonger}
 use Rattle.mg_sched.proofs.Finding.{found}
 use Rattle.mg_sched.proofs.WoundNets.{order_of}
@@ -280,30 +280,63 @@ extends_so more pieces net now may last are = record {
 
 -- The net as it is kept.
 
-pub pieces_fit : (more : Inputs) (pieces : List (StreamPrefix Plain)) (shown net : NetView) (n : ℕ) (engines : List EngineView) → shown ≡ net → MayGoOnWith more net → more.streams ≡ replicate n empty_prefix ++ pieces → engines ≡ shown.engines
-    → length pieces ≤ length engines
-pieces_fit more pieces shown net n engines is may last engines_are =
-    let from = (are_last more pieces shown n (subst (MayGoOnWith more) (sym is) may) last).from in
+last_of : (pieces : List (StreamPrefix Plain)) (shown net : NetView) → shown ≡ net → MayGoOnWith (for_last (length net.plan.inputs) pieces) net → AreLast (for_last (length net.plan.inputs) pieces) pieces shown
+last_of pieces shown net is may = are_last (for_last (length net.plan.inputs) pieces) pieces shown (length net.plan.inputs - length pieces) (subst (MayGoOnWith (for_last (length net.plan.inputs) pieces)) (sym is) may) refl
+
+pub pieces_fit : (pieces : List (StreamPrefix Plain)) (shown net : NetView) (engines : List EngineView) → shown ≡ net → MayGoOnWith (for_last (length net.plan.inputs) pieces) net → engines ≡ shown.engines → length pieces ≤ length engines
+pieces_fit pieces shown net engines is may engines_are =
+    let from = (last_of pieces shown net is may).from in
     let same = ap length engines_are in
     omega (arith, from, same)
 
-pub may_each : (more : Inputs) (pieces : List (StreamPrefix Plain)) (shown net : NetView) (n : ℕ) (engines : List EngineView) → shown ≡ net → MayGoOnWith more net → more.streams ≡ replicate n empty_prefix ++ pieces → engines ≡ shown.engines
+pub may_each : (pieces : List (StreamPrefix Plain)) (shown net : NetView) (engines : List EngineView) → shown ≡ net → MayGoOnWith (for_last (length net.plan.inputs) pieces) net → engines ≡ shown.engines
     → MayEach (length engines - length pieces) pieces engines
-may_each more pieces shown net n engines is may last engines_are =
-    let there : MayGoOnWith more shown = subst (MayGoOnWith more) (sym is) may in
-    subst (λ (es : List EngineView). MayEach (length es - length pieces) pieces es) (sym engines_are) (may_last more pieces shown there (are_last more pieces shown n there last))
+may_each pieces shown net engines is may engines_are =
+    let more : Inputs = for_last (length net.plan.inputs) pieces in
+    subst (λ (es : List EngineView). MayEach (length es - length pieces) pieces es) (sym engines_are) (may_last more pieces shown (subst (MayGoOnWith more) (sym is) may) (last_of pieces shown net is may))
 
-pub extends_shown : (more : Inputs) (pieces : List (StreamPrefix Plain)) (shown net : NetView) (n : ℕ) (engines longer now : List EngineView) → shown ≡ net → MayGoOnWith more net → more.streams ≡ replicate n empty_prefix ++ pieces → engines ≡ shown.engines
-    → AreLonger (length engines - length pieces) pieces (length pieces) engines longer → now ≡ longer → Extends more net (record shown { engines = now })
-extends_shown more pieces shown net n engines longer now is may last engines_are are now_is =
-    let there : MayGoOnWith more shown = subst (MayGoOnWith more) (sym is) may in
+pub extends_shown : (pieces : List (StreamPrefix Plain)) (shown net : NetView) (engines longer now : List EngineView) → shown ≡ net → MayGoOnWith (for_last (length net.plan.inputs) pieces) net → engines ≡ shown.engines
+    → AreLonger (length engines - length pieces) pieces (length pieces) engines longer → now ≡ longer → Extends (for_last (length net.plan.inputs) pieces) net (record shown { engines = now })
+extends_shown pieces shown net engines longer now is may engines_are are now_is =
+    let more : Inputs = for_last (length net.plan.inputs) pieces in
     let all : AreLonger (length shown.engines - length pieces) pieces (length pieces) shown.engines longer =
     subst (λ (es : List EngineView). AreLonger (length es - length pieces) pieces (length pieces) es longer) engines_are are in
     subst (λ (v : NetView). Extends more v (record shown { engines = now })) is
     (subst (λ (es : List EngineView). Extends more shown (record shown { engines = es })) (sym now_is)
-    (extends_so more pieces shown longer there (are_last more pieces shown n there last) all))
+    (extends_so more pieces shown longer (subst (MayGoOnWith more) (sym is) may) (last_of pieces shown net is may) all))
 
 -- where nothing was laid, it is as it was
 pub same_shown : {A E : Type 0} (r : Result A E) (shown net : NetView) (engines left now : List EngineView) → shown ≡ net → engines ≡ shown.engines → left ≡ engines → now ≡ left → OnErr r (record shown { engines = now } ≡ net)
 same_shown (Ok a) shown net engines left now is engines_are unchanged now_is = tt
 same_shown (Err e) shown net engines left now is engines_are unchanged now_is = ap (λ (es : List EngineView). record shown { engines = es }) (now_is ∙ unchanged ∙ engines_are) ∙ is
+
+-- Further input of all graph inputs is that of the last ones, as many as there are.
+
+all_streams : (more : Inputs) (net : NetView) → MayGoOnWith more net → (for_last (length net.plan.inputs) more.streams).streams ≡ more.streams
+unfolding StandsFor
+all_streams more net may =
+    let h = may.stands in let pieces = may.goes_on.pieces in let count = h.is_job.inputs.streams in
+    let plan : length net.plan.inputs ≡ length may.first.job.plan.inputs = ap (λ (p : Plan). length p.inputs) h.plan in
+    let none : length net.plan.inputs - length more.streams ≡ 0 = omega (arith, pieces, count, plan) in
+    ap (λ (n : ℕ). replicate n (empty_prefix {X = Plain}) ++ more.streams) none
+
+pub all_go_on : (more : Inputs) (net : NetView) (first later : LoggedJob) → MayGoOnWith more net → GoesOnWith more first later → GoesOnWith (for_last (length net.plan.inputs) more.streams) first later
+all_go_on more net first later may g =
+    let same = sym (all_streams more net may) in
+    record {
+      grows = g.grows;
+      pieces = subst (λ (ss : List (StreamPrefix Plain)). length ss ≡ length first.job.inputs.streams) same g.pieces;
+      streams = subst (λ (ss : List (StreamPrefix Plain)). (input : ℕ) → input < length ss → slice_index_or later.job.inputs.streams input empty_prefix
+          ≡ joined (slice_index_or first.job.inputs.streams input empty_prefix) (slice_index_or ss input empty_prefix)) same g.streams;
+    }
+
+pub all_may_go_on : (more : Inputs) (net : NetView) → MayGoOnWith more net → MayGoOnWith (for_last (length net.plan.inputs) more.streams) net
+all_may_go_on more net may = record { first = may.first; later = may.later; stands = may.stands; goes_on = all_go_on more net may.first may.later may may.goes_on }
+
+pub all_extends : (more : Inputs) (before now : NetView) → MayGoOnWith more before → Extends (for_last (length before.plan.inputs) more.streams) before now → Extends more before now
+all_extends more before now may x = record {
+  parts = x.parts;
+  places = x.places;
+  nodes = x.nodes;
+  inputs = λ input engine piece at piece_at. x.inputs input engine piece at (ap (λ (ss : List (StreamPrefix Plain)). slice_get ss input) (all_streams more before may) ∙ piece_at);
+}

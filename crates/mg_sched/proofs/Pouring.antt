@@ -1,6 +1,5 @@
 -- All of one set are put into another, one after the other.
-use Rattle.std.proofs.Common.{ℕ, ◌+◌, ◌<◌, ◌↔◌, ◌⊎◌, inl, inr, sym, subst, arith}
-use borrow.Author.Count.{below_more}
+use Rattle.std.proofs.Common.{ℕ, ◌↔◌, ◌⊎◌, inl, inr, sym, subst}
 use Rattle.std.proofs.lemmas.Bool.{cases_eq}
 use Rattle.mg_ready.specs.Ready.{ReadyNodes, IsIn, IsEmpty, IsHighest, ChangesOnly}
 
@@ -52,7 +51,3 @@ poured from from_now into into_now h none n = (
     ]
   ],
 )
-
--- each of the first numbers is put in
-pub all_in_more : (before now : ReadyNodes) (k : ℕ) → ((n : ℕ) → n < k → IsIn before n) → IsIn now k → ChangesOnly before now k → (n : ℕ) → n < k + 1 → IsIn now n
-all_in_more before now k h there put = below_more (λ (n : ℕ). IsIn now n) k (λ n less. (put.others n (λ e. omega (arith, e, less))).1 (h n less)) there

@@ -125,9 +125,6 @@ told_parts start now noted stops h t = record {
       (with_other_limits h.job start now.limits noted stops h.parts_of (subst (λ (v : NetView). ToldTo noted stops start v) t.same t));
 }
 
-pub told_there : (start now : NetView) (noted stops node : ℕ) → ToldTo noted stops start now → node < length start.plan.nodes → node < length now.plan.nodes
-told_there start now noted stops node t less = (let same = ap (λ (v : NetView). length v.plan.nodes) t.same in omega (arith, less, same))
-
 pub told_back : (start now : NetView) (noted stops node : ℕ) → ToldTo noted stops start now → node < length now.plan.nodes → node < length start.plan.nodes
 told_back start now noted stops node t less = (let same = ap (λ (v : NetView). length v.plan.nodes) t.same in omega (arith, less, same))
 

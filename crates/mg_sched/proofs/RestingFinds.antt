@@ -13,7 +13,7 @@ use Rattle.mg_node.specs.Views.{WorkView, PerformedView, EngineView}
 use Rattle.mg_node.specs.Job.{calls_in}
 use Rattle.mg_node.specs.Lawful.{answer_in}
 use Rattle.mg_node.specs.Running.{IsPerformed}
-use Rattle.mg_node.specs.Shelves.{outcome_of, shelved, shelf_at}
+use Rattle.mg_node.specs.Shelves.{outcome_of, shelved}
 use Rattle.mg_sched.specs.Views.{DeskView, NetView}
 use Rattle.mg_sched.specs.Places.{with_engine, with_desk}
 use Rattle.mg_sched.specs.StandsFor.{StandsForSome, IsRunning}
@@ -24,7 +24,7 @@ use Rattle.mg_sched.specs.Code.Left.{HasWork, HasNoWork, HasShelf, HasNoShelf, R
 use Rattle.mg_sched.proofs.Finding.{found, places, desk_there}
 use Rattle.mg_sched.proofs.IdleStays.{idle_same}
 use Rattle.mg_sched.proofs.Becoming.{becomes_one, becomes_runs, becomes_some, becomes_trans}
-use Rattle.mg_sched.proofs.Sweeping.{rests, due_shelf, still_there}
+use Rattle.mg_sched.proofs.Sweeping.{rests, due_shelves, still_there}
 
 -- One event.
 
@@ -111,7 +111,7 @@ work_goes_on net node number some there has =
 
 pub commits_found : (b : Bool) (P : Type 0) (node number : ℕ) (before now : NetView) → HasShelf before node number → Finds b (Acts (Commit node number) Idle before before) before now → Finds b P before now
 commits_found true P node number before now shelf h = h
-commits_found false P node number before now shelf h = (let c = h.1 in absurd (due_shelf node number c.engine before (shelf_at c.engine number) (shelf c.engine c.at) c.committed))
+commits_found false P node number before now shelf h = absurd (due_shelves node number before shelf h.1)
 
 pub takes_found : (claimed raised : Bool) (node : ℕ) (before mid now : NetView) → HasNoWork before node → HasNoShelf before node → claimed ≡ false → Finds claimed (Acts (Claim node) Idle before before) before mid
     → Finds raised (Acts (Advance node) Idle mid mid) mid now → Finds raised (RestsAt before node) before now

@@ -12,7 +12,7 @@ use Rattle.mg_node.specs.Shelves.{shelf_at}
 use Rattle.mg_node.specs.Commits.{SomeJobHasEngine}
 use Rattle.mg_sched.specs.Views.{DeskView, NetView}
 use Rattle.mg_sched.specs.StandsFor.{StandsForSome, IsRunning}
-use Rattle.mg_sched.specs.Acts.{Acts, Rests, Performs, Performed, CommittedAt}
+use Rattle.mg_sched.specs.Acts.{Acts, Rests, Performs, CommittedAt}
 use Rattle.mg_sched.specs.AtRest.{IsAtRest}
 use Rattle.mg_sched.specs.Code.Left.{left_in, Goes, Steps, HasWork, HasNoWork, HasShelf, HasNoShelf, WorksRest, RestsAt, NodesRest, EdgesRest}
 use Rattle.mg_sched.specs.Sweeps.{Becomes}
@@ -67,44 +67,29 @@ other_works : (number : ℕ) (works : List WorkView) → IsSomeAnd (slice_get wo
 other_works number [] there none = absurd there
 other_works number (w ∷ works) there none = (recursion_from_All (λ (x : WorkView). x.number ≢ number) (w ∷ works) none).0 there
 
-due_works : (number : ℕ) (net : NetView) (node : ℕ) → HasWork net node number → Performed node number Idle net net → ⊥
+pub due_works : (number : ℕ) (net : NetView) (node : ℕ) → HasWork net node number → Acts (Perform node number) Idle net net → ⊥
 due_works number net node there p = go p.performed
   where
     go : (All (λ (w : WorkView). w.number ≢ number) p.desk.works × Rests Idle net net) ⊎ Performs node number Idle p.desk net net → ⊥
     go (inl none) = other_works number p.desk.works (there p.desk p.on) none.0
     go (inr performs) = performs.performed
 
-pub performs_less : (did : Bool) (node number : ℕ) (a b : NetView) → HasWork a node number → Steps did (Perform node number) a b → left_in b < left_in a
-performs_less true node number a b there s = s
-performs_less false node number a b there s = absurd (due_works number a node there s.1)
-
 -- and one that is performed is committed
-pub due_shelf : (node number : ℕ) (engine : EngineView) (net : NetView) (shelf : Option PerformedView) → IsSome shelf → CommittedAt node number shelf Idle engine net net → ⊥
+due_shelf : (node number : ℕ) (engine : EngineView) (net : NetView) (shelf : Option PerformedView) → IsSome shelf → CommittedAt node number shelf Idle engine net net → ⊥
 due_shelf node number engine net None some c = false≢true some
 due_shelf node number engine net (Some p) some c = c
 
-pub commits_less : (did : Bool) (node number : ℕ) (a b : NetView) → HasShelf a node number → Steps did (Commit node number) a b → left_in b < left_in a
-commits_less true node number a b there s = s
-commits_less false node number a b there s = (let c = s.1 in absurd (due_shelf node number c.engine a (shelf_at c.engine number) (there c.engine c.at) c.committed))
+pub due_shelves : (node number : ℕ) (net : NetView) → HasShelf net node number → Acts (Commit node number) Idle net net → ⊥
+due_shelves node number net there c = due_shelf node number c.engine net (shelf_at c.engine number) (there c.engine c.at) c.committed
 
-pub works_rest : (node : ℕ) (claimed performed committed : Bool) (a b c d : NetView)
-    → Steps claimed (Claim node) a b → Goes performed b c → (performed ≡ false → HasNoWork c node) → Goes committed c d → (committed ≡ false → HasNoShelf d node)
-    → ((claimed || performed) || committed) ≡ false → WorksRest d node
-works_rest node false false false a b c d claims performs works commits shelves isnt =
-    let second = commits ∙ performs in
-    let first = second ∙ claims.0 in
-    record {
-      claims = still_idle (Claim node) a d (sym first) claims.1;
-      works = subst (λ (v : NetView). HasNoWork v node) (sym commits) (works refl);
-      shelf = shelves refl;
-    }
-works_rest node true performed committed a b c d claims performs works commits shelves isnt = absurd (false≢true (sym isnt))
-works_rest node false true committed a b c d claims performs works commits shelves isnt = absurd (false≢true (sym isnt))
-works_rest node false false true a b c d claims performs works commits shelves isnt = absurd (false≢true (sym isnt))
+-- a step that isn't idle leaves less to do
+pub due_less : (did : Bool) (event : Event) (a b : NetView) → ¬ Acts event Idle a a → Steps did event a b → left_in b < left_in a
+due_less true event a b due s = s
+due_less false event a b due s = absurd (due s.1)
 
-pub works_go : (node : ℕ) (claimed performed committed : Bool) (a b c d : NetView) → Steps claimed (Claim node) a b → Goes performed b c → Goes committed c d → Goes ((claimed || performed) || committed) a d
-works_go node claimed performed committed a b c d claims performs commits =
-    goes_then (claimed || performed) committed a c d (goes_then claimed performed a b c (steps_go claimed (Claim node) a b claims) performs) commits
+pub works_rest : (node : ℕ) (did : Bool) (a b c : NetView) → Steps false (Claim node) a b → Goes did b c → HasNoWork c node → HasNoShelf c node → did ≡ false → WorksRest c node
+works_rest node false a b c claims goes works shelf isnt = record { claims = still_idle (Claim node) a c (sym (goes ∙ claims.0)) claims.1; works = works; shelf = shelf }
+works_rest node true a b c claims goes works shelf isnt = absurd (false≢true (sym isnt))
 
 -- and where it has none, its outputs are raised
 pub raises_go : (node : ℕ) (worked raised : Bool) (a b c : NetView) → Goes worked a b → worked ≡ false → Steps raised (Advance node) b c → Goes raised a c

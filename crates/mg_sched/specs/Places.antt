@@ -7,7 +7,6 @@ use Rattle.mg_calc.specs.declared.plan_stream.Producer.TheVariants.{Input, Node}
 use Rattle.mg_calc.specs.Plan.{numbers}
 use Rattle.mg_node.specs.declared.waits.Waits.{Waits}
 use Rattle.mg_node.specs.Views.{IntakeView, EngineView}
-use Rattle.mg_node.specs.Lawful.{Owner, of_node, of_input}
 use Rattle.mg_node.specs.Ports.{ports_in, port_queue}
 use Rattle.mg_throttle.specs.Throttle.{QueueLimits, producer_of}
 use Rattle.mg_sched.specs.Views.{DeskView, NetView}
@@ -16,11 +15,6 @@ use Rattle.mg_sched.specs.Views.{DeskView, NetView}
 abbrev pub place_of : Plan → Producer → ℕ
 place_of plan (Input number) = length plan.nodes + number
 place_of plan (Node node port) = node
-
--- whose engine it is
-abbrev pub owner_of : Producer → Owner
-owner_of (Input number) = of_input number
-owner_of (Node node port) = of_node node
 
 -- the place of the engine from which an edge leads
 abbrev pub source_of : Plan → Edge → Option ℕ

@@ -1,5 +1,5 @@
 -- Each step on a queue keeps what holds of every queue, and what it stands for.
-use Rattle.std.proofs.Common.{◌≡◌, ℕ, zero, suc, ◌+◌, ◌<◌, ◌≤◌, max, List, [], ◌∷◌, ◌++◌, length, length-append, length-drop, drop, ap, sym, refl, ◌∙◌, arith, drop-drop, is_some, true, inl, inr}
+use Rattle.std.proofs.Common.{◌≡◌, ℕ, zero, suc, ◌+◌, ◌-◌, ◌<◌, ◌≤◌, max, List, [], ◌∷◌, ◌++◌, length, length-append, length-drop, drop, ap, sym, refl, ◌∙◌, arith, drop-drop, is_some, true, inl, inr}
 use Rattle.std.proofs.lemmas.Bool.{cases_Bool}
 use Rattle.mg_time.specs.Time.{next, done}
 use Rattle.mg_value.specs.Prefix.{Stamped, StreamPrefix, MayFollow, appended, raised, closed}
@@ -88,6 +88,11 @@ stands_popped {X} t q s h = elim (cases_Bool (is_some (front_at t q.packets))) [
   | inl found ↦ rw found (stands_without_first q s (first_waits t q.packets found) h)
   | inr none ↦ rw none h
 ]
+
+-- a packet is put where there is room, told of the fields as the code leaves them
+pub put_fields : {X : Type 0} (q r : Waiting X) (p : Stamped X) → r.gone ≡ q.gone → r.packets ≡ q.packets ++ p ∷ [] → r.bound ≡ next p.at → r.spare ≡ q.spare - 1
+    → r ≡ (let w : Waiting X = record (with_packet q p) { spare = q.spare - 1 } in w)
+put_fields q r p gone packets bound spare = λ i. record { gone = gone i; packets = packets i; bound = bound i; spare = spare i }
 
 -- a packet behind some that are the same as others
 pub pushed_items : {X : Type 0} (new mid old : List (Stamped X)) (p : Stamped X) → new ≡ mid ++ p ∷ [] → mid ≡ old → new ≡ old ++ p ∷ []

@@ -123,6 +123,19 @@ impl Pool {
         Err(Refused { packet, cause })
     }
 
+    /// Puts a packet that may come behind those that wait at a port, and moves the bound to what may follow it. Where there is no
+    /// memory the packet is dropped, and the pool is as before.
+    pub fn bring(&mut self, port: u32, packet: Packet) -> Result<(), AllocError>
+        requires port { port < length self.old.ports }
+        requires may_come { MayCome (queue_at self.old port) packet.at }
+        ensures ok { OnOk result (self.new ≡ with_queue self.old port (record (with_packet (queue_at self.old port) packet) { spare = self.new.spare })) }
+        ensures unchanged { OnErr result (self.new ≡ self.old) }
+    {
+        self.reserve(1)?;
+        self.put(port, packet);
+        Ok(())
+    }
+
     /// Raises the bound of a port: no packet below it comes there any more. A bound that isn't higher changes nothing.
     pub fn raise(&mut self, port: u32, bound: Timestamp)
         requires { port < length self.old.ports }

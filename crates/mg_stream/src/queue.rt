@@ -1,4 +1,4 @@
-ghost use Rattle.std.specs.Prelude.{◌≡◌, ◌≢◌, Some, IfNone, ◌<◌, ◌≤◌, ◌+◌, ◌^◌, ◌↔◌, [], length, slice_get, option_map, option_copied, IfOk, OnOk, OnErr, IfErr, IsErrAnd, IsOk, MatchResult};
+ghost use Rattle.std.specs.Prelude.{◌≡◌, ◌≢◌, Some, IfNone, ◌<◌, ◌≤◌, ◌+◌, ◌-◌, ◌^◌, ◌↔◌, [], length, slice_get, option_map, option_copied, OnOk, OnErr, IfErr, IsErrAnd, IsOk, MatchResult};
 ghost use Rattle.std.specs.VecDeque.{deque_len, deque_capacity};
 ghost use Rattle.mg_time.specs.Time.{pre_stream, post_stream, done, IsAllowed};
 ghost use Rattle.mg_value.specs.Payload.{Plain};
@@ -54,18 +54,6 @@ impl Queue {
         }
     }
 
-    /// A second queue, whose packets share their payloads with this one's.
-    pub fn try_clone(&self, alloc: Global) -> Result<Queue, AllocError>
-        ensures { IfOk result (λ q. IsLike q self.now) }
-    {
-        let packets = shared(alloc, &self.packets)?;
-        Ok(Queue {
-            packets,
-            gone: self.gone,
-            bound: self.bound,
-        })
-    }
-
     /// Makes room for more packets: so many appends take no memory.
     pub fn reserve(&mut self, more: u32) -> Result<(), AllocError>
         ensures room { OnOk result (more ≤ self.new.spare) }
@@ -115,6 +103,17 @@ impl Queue {
             },
         };
         Err(Refused { packet, cause })
+    }
+
+    /// Puts a packet that may come behind those that wait, where there is room for it, and moves the bound to what may follow it.
+    pub fn put(&mut self, packet: Packet)
+        requires may_come { MayCome self.old packet.at }
+        requires room { 0 < self.old.spare }
+        ensures { self.new ≡ record (with_packet self.old packet) { spare = self.old.spare - 1 } }
+    {
+        let bound = packet.at.next_allowed();
+        self.packets.push_back_reserved(packet);
+        self.bound = bound;
     }
 
     /// Raises the bound: no packet below it comes any more. A bound that isn't higher changes nothing.
@@ -216,17 +215,6 @@ impl Queue {
             None
         }
     }
-}
-
-// Copies of some packets, which share their payloads.
-fn shared(alloc: Global, packets: &VecDeque<Packet>) -> Result<VecDeque<Packet>, AllocError>
-    ensures { IfOk result (λ ps. ps.items ≡ packets.now.items) }
-{
-    let mut shared = VecDeque::with_capacity(alloc, packets.len())?;
-    for place in 0..packets.len() {
-        shared.push_back(packets[place].try_clone()?)?;
-    }
-    Ok(shared)
 }
 
 // Makes room for one more packet at least: for as many again as there is room for, so that the packets are moved

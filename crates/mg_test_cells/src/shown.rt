@@ -1,5 +1,4 @@
 //! How what a cell answers is written in tables.
-use crate::works::Idle;
 use mg_calc::{NodeFault, Phase};
 use mg_node::Delivered;
 use mg_tables::text_of;
@@ -18,11 +17,6 @@ pub(crate) fn show_delivered(alloc: Global, delivered: Delivered) -> Result<Stri
 pub(crate) fn show_work(alloc: Global, number: u64, phase: Phase) -> Result<String, Fail> {
     let phase = show_phase(alloc, phase)?;
     Ok(format!(in alloc; "{number} {}", phase.as_str())?)
-}
-
-/// Why there is no work.
-pub(crate) fn show_idle(alloc: Global, idle: Idle) -> Result<String, Fail> {
-    Ok(format!(in alloc; "{idle:?}")?)
 }
 
 /// A phase, with the time of its set.

@@ -29,6 +29,12 @@ node { calculator: "IntMapCalculator" input_stream: "in" output_stream: "out" ma
   options { [mediapipe.IntMapCalculatorOptions.ext] { op: ADD operand: 10 } } }"#
 }
 
+// A packet for each of two sets.
+fn five_and_six() -> &'static str {
+    r#"{"stream":"in","ts":1,"value":5}
+{"stream":"in","ts":2,"value":6}"#
+}
+
 // The second set is committed before the first.
 fn crossed() -> &'static str {
     "deliver 0 10=2 true
@@ -51,9 +57,7 @@ take=nothing"
 
 #[test]
 fn sets_are_laid_in_order(rt: HostRuntime) -> Result<(), Fail> {
-    let lines = r#"{"stream":"in","ts":1,"value":5}
-{"stream":"in","ts":2,"value":6}"#;
-    expect_cell(rt.alloc(), map(), lines, true, crossed())
+    expect_cell(rt.alloc(), map(), five_and_six(), true, crossed())
 }
 
 // At the end, works that aren't laid hold up Close.
@@ -75,9 +79,7 @@ output 0=2 Done"
 
 #[test]
 fn close_waits_for_the_window(rt: HostRuntime) -> Result<(), Fail> {
-    let lines = r#"{"stream":"in","ts":1,"value":5}
-{"stream":"in","ts":2,"value":6}"#;
-    expect_cell(rt.alloc(), map(), lines, true, drained())
+    expect_cell(rt.alloc(), map(), five_and_six(), true, drained())
 }
 
 // Works that come back unrun are handed out first.
@@ -131,9 +133,7 @@ take=11@2"
 
 #[test]
 fn a_state_goes_from_set_to_set(rt: HostRuntime) -> Result<(), Fail> {
-    let lines = r#"{"stream":"in","ts":1,"value":5}
-{"stream":"in","ts":2,"value":6}"#;
-    expect_cell(rt.alloc(), running(), lines, false, one_by_one())
+    expect_cell(rt.alloc(), running(), five_and_six(), false, one_by_one())
 }
 
 // The orders in which four works are committed, and after `=` how many sets each commit lays.

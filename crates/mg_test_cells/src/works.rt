@@ -8,26 +8,15 @@ ghost use Rattle.mg_node.specs.Shelves.{IsOut};
 ghost use Rattle.mg_test_cells.specs.Cell.{IsCell, job_of};
 
 use crate::cell::Cell;
-use crate::shown::{show_idle, show_work};
+use crate::shown::show_work;
 use mg_edge::StillGate;
 use mg_node::{Claimed, Outcome, Work, perform};
 use mg_route::LawBox;
 use std::alloc::Global;
 use std::test::Fail;
 
-/// Why a claim gave no work.
-#[derive(Clone, Copy, Debug, PartialEq, Eq)]
-pub(crate) enum Idle {
-    Answered,
-    NotReady,
-    InFlightFull,
-    Draining,
-    Ended,
-    OutOfMemory,
-}
-
 // Claims the next work, or tells why there is none.
-fn claim_work(cell: &mut Cell) -> Result<Work<LawBox>, Idle>
+fn claim_work(cell: &mut Cell) -> Result<Work<LawBox>, &'static str>
     requires { IsCell cell.old.plan cell.old.inputs cell.old.engine cell.old.intake cell.old.sink }
     ensures cell { IsCell cell.new.plan cell.new.inputs cell.new.engine cell.new.intake cell.new.sink }
     ensures lawful { IfOk result (λ w. LawfulWork (job_of cell.new.plan cell.new.inputs) w) }
@@ -35,12 +24,12 @@ fn claim_work(cell: &mut Cell) -> Result<Work<LawBox>, Idle>
 {
     match cell.engine.claim(&mut cell.intake) {
         Claimed::Work(work) => Ok(work),
-        Claimed::Answered => Err(Idle::Answered),
-        Claimed::NotReady => Err(Idle::NotReady),
-        Claimed::InFlightFull => Err(Idle::InFlightFull),
-        Claimed::Draining => Err(Idle::Draining),
-        Claimed::Ended => Err(Idle::Ended),
-        Claimed::OutOfMemory => Err(Idle::OutOfMemory),
+        Claimed::Answered => Err("Answered"),
+        Claimed::NotReady => Err("NotReady"),
+        Claimed::InFlightFull => Err("InFlightFull"),
+        Claimed::Draining => Err("Draining"),
+        Claimed::Ended => Err("Ended"),
+        Claimed::OutOfMemory => Err("OutOfMemory"),
     }
 }
 
@@ -108,7 +97,7 @@ pub(crate) fn work(alloc: Global, cell: &mut Cell) -> Result<String, Fail>
 {
     let work = match claim_work(cell) {
         Ok(work) => work,
-        Err(idle) => return show_idle(alloc, idle),
+        Err(why) => return Ok(String::from_str(alloc, why)?),
     };
     let (shown, work) = told(alloc, work)?;
     match performed(alloc, work) {
@@ -127,7 +116,7 @@ pub(crate) fn shelve_unrun(alloc: Global, cell: &mut Cell) -> Result<String, Fai
 {
     let work = match claim_work(cell) {
         Ok(work) => work,
-        Err(idle) => return show_idle(alloc, idle),
+        Err(why) => return Ok(String::from_str(alloc, why)?),
     };
     let (shown, work) = told(alloc, work)?;
     put_back(cell, unrun(work));
@@ -141,7 +130,7 @@ pub(crate) fn commit_unrun(alloc: Global, cell: &mut Cell) -> Result<String, Fai
 {
     let work = match claim_work(cell) {
         Ok(work) => work,
-        Err(idle) => return show_idle(alloc, idle),
+        Err(why) => return Ok(String::from_str(alloc, why)?),
     };
     let (shown, work) = told(alloc, work)?;
     if commit_outcome(cell, unrun(work))? != 0 {

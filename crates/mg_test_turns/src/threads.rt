@@ -73,21 +73,12 @@ fn both(net: &SharedNet<LawBox>, one: Worked, other: Worked) -> Worked
     ensures shared { IsShared net.now result.seat }
     ensures portion { (view_of result.seat).portion ≡ (view_of one.seat).portion + (view_of other.seat).portion }
 {
-    let Worked {
-        mut seat,
-        done,
-        brought,
-    } = one;
-    let Worked {
-        seat: from,
-        done: more,
-        brought: further,
-    } = other;
-    seat.join(net, from);
+    let mut seat = one.seat;
+    seat.join(net, other.seat);
     Worked {
         seat,
-        done: done.saturating_add(more),
-        brought: brought.saturating_add(further),
+        done: one.done.saturating_add(other.done),
+        brought: one.brought.saturating_add(other.brought),
     }
 }
 
@@ -144,20 +135,12 @@ fn all_work<R: Threads + Sync>(
     requires portion { (threads ≤ (view_of seat).portion) × ((view_of seat).portion ≡ 2 ^ 32) }
     ensures { StaysShared net.now seat result.seat }
 {
-    let Worked {
-        seat,
-        done,
-        brought,
-    } = many(rt, alloc, net, seat, threads, 40);
-    let Worked {
-        seat,
-        done: more,
-        brought: further,
-    } = work(alloc, net, seat, 400);
+    let most = many(rt, alloc, net, seat, threads, 40);
+    let rest = work(alloc, net, most.seat, 400);
     Worked {
-        seat,
-        done: done.saturating_add(more),
-        brought: brought.saturating_add(further),
+        seat: rest.seat,
+        done: most.done.saturating_add(rest.done),
+        brought: most.brought.saturating_add(rest.brought),
     }
 }
 

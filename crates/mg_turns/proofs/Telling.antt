@@ -14,6 +14,7 @@ use Rattle.mg_stream.specs.Pool.{Backlog, empty_backlog, queues_of}
 use Rattle.mg_policy.specs.Inbox.{rests, next_set, IsOver as IsOverInbox, StandAfter, TellsOf}
 use Rattle.mg_policy.specs.declared.readiness.Readiness.TheVariants.{Close as AtEnd, NotReady as NotYet}
 use Rattle.mg_policy.proofs.Answered.{tells_close, none_next}
+use Rattle.mg_policy.proofs.Readinesses.{over_none}
 use Rattle.mg_policy.proofs.Standing.{gone_of, all_prefixes, rests-left, what_is_the_reach}
 use Rattle.mg_loopback.proofs.Standing.{all_told}
 use Rattle.mg_node.specs.Views.{IntakeView, OutcomeView, EngineView}
@@ -30,7 +31,6 @@ use Rattle.mg_node.specs.Windows.{has_ended}
 use Rattle.mg_node.specs.Outputs.{laid_at}
 use Rattle.mg_node.specs.Claims.{IsOver, IsEarly, Claims}
 use Rattle.mg_node.specs.Advances.{raised_output, advance_bound, advanced, any_moved, any_moved_by}
-use Rattle.mg_node.proofs.Horizons.{none_over}
 use Rattle.mg_turns.specs.Parts.{FrameView, nodes_in, an_engine, an_intake, FitsSome}
 use Rattle.mg_turns.specs.Sights.{sight}
 use Rattle.mg_turns.specs.Standings.{laid_bound_in, sets_in, known_laid_bound, known_sets}
@@ -64,7 +64,7 @@ sets_still policy k qs came stands none more =
 
 sets_end : (policy : Policy) (k : ℕ) (qs : List (Waiting Plain)) (came : List (StreamPrefix Plain)) → StandAfter policy k qs came → IsOverInbox policy qs → TellsOf policy k came AtEnd
 sets_end policy k qs came stands over =
-    (none_next policy k qs came stands (none_there (settled_sets policy (rests qs)) (none_over policy qs over)), sym (what_is_the_reach policy k qs came stands) ∙ over.closed)
+    (none_next policy k qs came stands (none_there (settled_sets policy (rests qs)) (over_none policy qs over)), sym (what_is_the_reach policy k qs came stands) ∙ over.closed)
 
 none_waits : (k : ℕ) (q : Waiting Plain) (s : StreamPrefix Plain) → StandsFor q s → q.gone ≡ k → length s.packets ≡ k → q.packets ≡ []
 none_waits k q s stands gone all = nil_from_length q.packets (let w = ap length stands.waiting in omega (arith, w, length-drop q.gone s.packets, gone, all))

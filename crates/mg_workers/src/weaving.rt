@@ -1,5 +1,5 @@
 //! How the engines and the intakes of a net become parts in the order of their words, each in a box of its own.
-ghost use Rattle.std.specs.Prelude.{◌≡◌, ◌+◌, ◌*◌, ◌<◌, ◌≤◌, ◌++◌, ◌∷◌, ℕ, true, false, List, [], length, reverse, vec_len, vec_capacity};
+ghost use Rattle.std.specs.Prelude.{◌≡◌, ◌+◌, ◌*◌, ◌<◌, ◌≤◌, ◌++◌, ◌∷◌, ℕ, true, false, List, [], IfSome, IfNone, length, reverse, vec_len, vec_capacity};
 ghost use Rattle.mg_node.specs.Views.{IntakeView, EngineView};
 ghost use Rattle.mg_turns.specs.Parts.{an_engine, an_intake};
 ghost use Rattle.mg_workers.specs.Woven.{woven};
@@ -10,56 +10,18 @@ use mg_node::{Engine, Intake};
 use mg_turns::Part;
 use std::alloc::Global;
 
-// The last intake of a list becomes the last part. Where there is no memory for that nothing changes.
-fn put_intake<C: Calculator>(
-    alloc: Global,
-    intakes: &mut Vec<Intake>,
-    parts: &mut Vec<Part<C>>,
-) -> bool
-    requires there { 0 < vec_len intakes.old }
-    requires room { vec_len parts.old + 1 ≤ vec_capacity parts.old }
-    ensures put { result ≡ true → (i : IntakeView) × (intakes.old.items ≡ intakes.new.items ++ i ∷ []) × (parts.new.items ≡ parts.old.items ++ an_intake i ∷ []) }
-    ensures unchanged { result ≡ false → (intakes.new.items ≡ intakes.old.items) × (parts.new.items ≡ parts.old.items) }
-    ensures room { (vec_capacity intakes.new ≡ vec_capacity intakes.old) × (vec_capacity parts.new ≡ vec_capacity parts.old) }
+// The last item of a list, in a box of its own. Where there is none, or no memory for the box, nothing changes.
+fn box_last<T>(alloc: Global, items: &mut Vec<T>) -> Option<Box<T>>
+    ensures boxed { IfSome result (λ last. items.old.items ≡ items.new.items ++ last.value ∷ []) }
+    ensures unchanged { IfNone result (items.new.items ≡ items.old.items) }
+    ensures room { vec_capacity items.new ≡ vec_capacity items.old }
 {
-    let Some(intake) = intakes.pop() else {
-        unreachable!()
-    };
-    match Box::new(alloc, intake) {
-        Ok(intake) => {
-            parts.push_reserved(Part::of_intake(intake));
-            true
-        }
+    let item = items.pop()?;
+    match Box::new(alloc, item) {
+        Ok(boxed) => Some(boxed),
         Err(failed) => {
-            intakes.push_reserved(failed.value);
-            false
-        }
-    }
-}
-
-// The last engine of a list becomes the last part. Where there is no memory for that nothing changes.
-fn put_engine<C: Calculator>(
-    alloc: Global,
-    engines: &mut Vec<Engine<C>>,
-    parts: &mut Vec<Part<C>>,
-) -> bool
-    requires there { 0 < vec_len engines.old }
-    requires room { vec_len parts.old + 1 ≤ vec_capacity parts.old }
-    ensures put { result ≡ true → (e : EngineView) × (engines.old.items ≡ engines.new.items ++ e ∷ []) × (parts.new.items ≡ parts.old.items ++ an_engine e ∷ []) }
-    ensures unchanged { result ≡ false → (engines.new.items ≡ engines.old.items) × (parts.new.items ≡ parts.old.items) }
-    ensures room { (vec_capacity engines.new ≡ vec_capacity engines.old) × (vec_capacity parts.new ≡ vec_capacity parts.old) }
-{
-    let Some(engine) = engines.pop() else {
-        unreachable!()
-    };
-    match Box::new(alloc, engine) {
-        Ok(engine) => {
-            parts.push_reserved(Part::of_engine(engine));
-            true
-        }
-        Err(failed) => {
-            engines.push_reserved(failed.value);
-            false
+            items.push_reserved(failed.value);
+            None
         }
     }
 }
@@ -79,12 +41,14 @@ fn weave_nodes<C: Calculator>(
     ensures room { (vec_capacity engines.new ≡ vec_capacity engines.old) × (vec_capacity intakes.new ≡ vec_capacity intakes.old) × (vec_capacity parts.new ≡ vec_capacity parts.old) }
 {
     for _ in 0..nodes {
-        if !put_intake(alloc, intakes, parts) {
+        let Some(intake) = box_last(alloc, intakes) else {
             return false;
-        }
-        if !put_engine(alloc, engines, parts) {
+        };
+        parts.push_reserved(Part::of_intake(intake));
+        let Some(engine) = box_last(alloc, engines) else {
             return false;
-        }
+        };
+        parts.push_reserved(Part::of_engine(engine));
     }
     true
 }
@@ -102,12 +66,10 @@ fn weave_inputs<C: Calculator>(
     ensures more { length parts.old.items ≤ length parts.new.items }
     ensures room { (vec_capacity engines.new ≡ vec_capacity engines.old) × (vec_capacity parts.new ≡ vec_capacity parts.old) }
 {
-    while !engines.is_empty() {
-        if !put_engine(alloc, engines, parts) {
-            return false;
-        }
+    while let Some(engine) = box_last(alloc, engines) {
+        parts.push_reserved(Part::of_engine(engine));
     }
-    true
+    engines.is_empty()
 }
 
 /// The engines and the intakes of a net become parts in the order of their words, and their lists are emptied. Where there is no memory
@@ -130,8 +92,9 @@ pub(crate) fn weave<C: Calculator>(
     if !weave_nodes(alloc, nodes, engines, intakes, parts) {
         return false;
     }
-    if !put_intake(alloc, intakes, parts) {
+    let Some(intake) = box_last(alloc, intakes) else {
         return false;
-    }
+    };
+    parts.push_reserved(Part::of_intake(intake));
     weave_inputs(alloc, engines, parts)
 }

@@ -3,7 +3,7 @@ use Rattle.std.specs.Prelude.{◌≡◌, List, [], ◌∷◌, Bool, true, false,
 use Rattle.std.specs.Option.{option_or}
 use Rattle.mg_config.specs.Config.{NodeView}
 use Rattle.mg_calc.specs.declared.shape.OuterShape.{OuterShape}
-use Rattle.mg_kinds.specs.Laws.{names_of}
+use Rattle.mg_kinds.specs.Kinds.{names_of}
 use Rattle.mg_kinds.specs.PortOrder.{in_order}
 use Rattle.mg_kinds.specs.declared.ports.Ports.{Ports as KindPorts}
 use Rattle.mg_check.specs.Choosing.{Chosen}

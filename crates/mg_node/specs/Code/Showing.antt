@@ -1,24 +1,15 @@
 -- A set that is shown to a calculator where that lies, and what is laid of its answer.
-use Rattle.std.specs.Prelude.{◌≡◌, ℕ, ◌+◌, ◌<◌, false, List, [], ◌∷◌, ◌++◌, length, map, Option, option_map, IfSome, IfNone, Result}
+use Rattle.std.specs.Prelude.{◌≡◌, ℕ, ◌+◌, List, [], ◌∷◌, ◌++◌, map, Option, option_map, IfSome, IfNone, Result}
 use Rattle.mg_value.specs.Payload.{Plain}
 use Rattle.mg_value.specs.Prefix.{StreamPrefix}
 use Rattle.mg_calc.specs.declared.cause.Cause.{Cause}
 use Rattle.mg_calc.specs.declared.emission.Laid.{Laid}
 use Rattle.mg_calc.specs.declared.node_fault.Phase.TheVariants.{Process}
-use Rattle.mg_node.specs.declared.role.Role.TheVariants.{Sets}
 use Rattle.mg_node.specs.Views.{IntakeView, BenchView, WorkView, EngineView}
-use Rattle.mg_node.specs.Windows.{has_ended}
 use Rattle.mg_node.specs.Lawful.{StandForAll}
 use Rattle.mg_node.specs.Claims.{Takes, Hands, work_of}
 use Rattle.mg_node.specs.Commits.{raised_before, laid_by, outputs_by, failure_by, fault_at}
 use Rattle.mg_node.specs.Running.{IsPerformed}
-
--- the node goes on and is shown sets, no work is under way, and a bench is idle
-pub record MayShow (engine : EngineView) : Type 0 where
-  pub role : engine.role ≡ Sets
-  pub goes : has_ended engine ≡ false
-  pub none : engine.window ≡ []
-  pub bench : 0 < length engine.idle
 
 -- the work of a set, on a bench
 abbrev pub work_at : ℕ → ℕ → ℕ → BenchView → WorkView

@@ -8,7 +8,7 @@ ghost use Rattle.mg_node.specs.Out.{KeepsOut, KeepsSetUp};
 
 use super::Engine;
 use crate::Intake;
-use crate::raising::{moves_one, raise_all, raised_by, until_claimed};
+use crate::raising::{moves_one, never_raises, raise_all, raised_by, until_claimed};
 use mg_calc::Calculator;
 use mg_time::Timestamp;
 
@@ -57,6 +57,9 @@ impl<C: Calculator> Engine<C> {
         ensures { result ≡ advance_bound self.now intake.now.waits }
     {
         if self.has_ended() {
+            return None;
+        }
+        if never_raises(self.role, self.offset) {
             return None;
         }
         let until = until_claimed(&self.window, intake.horizon());

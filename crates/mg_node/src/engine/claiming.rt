@@ -95,7 +95,7 @@ impl<C: Calculator> Engine<C> {
             Readiness::Ready { at } => {
                 let number = self.claimed;
                 let mut bench = self.take_bench(Phase::Process(at), 1);
-                bench.fill(intake);
+                bench.fill(at, intake);
                 Claimed::Work(Work::new(self.node, number, Phase::Process(at), bench))
             }
         }

@@ -4,9 +4,9 @@ ghost use Rattle.mg_policy.specs.declared.readiness.Readiness as Readiness;
 ghost use Rattle.mg_node.specs.Job.{LoggedJob};
 ghost use Rattle.mg_node.specs.Lawful.{of_node, LawfulEngine, LawfulIntake, Agree, AreCell};
 ghost use Rattle.mg_node.specs.Ports.{IsNext};
-ghost use Rattle.mg_node.specs.AtOnce.{DoesAtOnce};
+ghost use Rattle.mg_node.specs.AtOnce.{MayShow, DoesAtOnce, IsShown};
 ghost use Rattle.mg_node.specs.Code.FrontLaying.{HasWhole};
-ghost use Rattle.mg_node.specs.Code.Showing.{MayShow, Shows, LaysAnswer, HandsShown};
+ghost use Rattle.mg_node.specs.Code.Showing.{Shows, LaysAnswer, HandsShown};
 
 use super::Engine;
 use crate::fronts::{fault_of, reserve_for};
@@ -25,6 +25,7 @@ impl<C: Calculator> Engine<C> {
     pub fn work_at_once<G: Gate>(&mut self, intake: &mut Intake, gate: &G) -> AtOnce<C>
         requires cell { AreCell self.old intake.old }
         ensures does { DoesAtOnce result self.old self.new intake.old intake.new }
+        ensures shown { (at : ℕ) → MayShow self.old → IsNext intake.old.waits (Readiness.Ready at) → IsShown result }
 
         // Lawful in, lawful out, for every job.
         ensures lawful { (job : LoggedJob) (number : ℕ) → LawfulEngine job (of_node number) self.old → LawfulIntake job number intake.old
@@ -36,7 +37,8 @@ impl<C: Calculator> Engine<C> {
     // Does the next set at once, and tells what that leaves.
     fn do_next<G: Gate>(&mut self, intake: &mut Intake, gate: &G) -> AtOnce<C>
         requires cell { AreCell self.old intake.old }
-        ensures { DoesAtOnce result self.old self.new intake.old intake.new }
+        ensures does { DoesAtOnce result self.old self.new intake.old intake.new }
+        ensures shown { (at : ℕ) → MayShow self.old → IsNext intake.old.waits (Readiness.Ready at) → IsShown result }
     {
         if !self.may_show() {
             return AtOnce::Other;
@@ -50,7 +52,8 @@ impl<C: Calculator> Engine<C> {
 
     // Whether the node goes on and is shown sets, and no work is under way.
     fn may_show(&self) -> bool
-        ensures { result ≡ true → MayShow self.now }
+        ensures may { result ≡ true → MayShow self.now }
+        ensures only { MayShow self.now → result ≡ true }
     {
         let Role::Sets = self.role else {
             return false;
@@ -66,7 +69,8 @@ impl<C: Calculator> Engine<C> {
         requires cell { AreCell self.old intake.old }
         requires may { MayShow self.old }
         requires next { IsNext intake.old.waits (Readiness.Ready at) }
-        ensures { DoesAtOnce result self.old self.new intake.old intake.new }
+        ensures does { DoesAtOnce result self.old self.new intake.old intake.new }
+        ensures shown { IsShown result }
     {
         let number = self.claimed;
         let Some(answer) = self.show(at, intake, gate) else {
@@ -95,7 +99,7 @@ impl<C: Calculator> Engine<C> {
         ensures { Shows result at self.old self.new intake.old intake.new }
     {
         let mut bench = self.idle.take_last();
-        bench.fill(intake);
+        bench.fill(at, intake);
         gate.enter(self.node, self.claimed);
         let answer = bench.show(self.alloc, at);
         gate.leave(self.node, self.claimed);

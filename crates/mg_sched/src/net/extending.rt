@@ -134,11 +134,7 @@ impl<C: Calculator> Net<C> {
         // A net that stands for a job then stands for every job that goes on from it with this input.
         ensures stands { (first later : LoggedJob) → GoesOnWith more.now first later → StandsFor first self.old → OnOk result (StandsFor later self.new) }
     {
-        let known = self.known;
-        self.known = false;
-        extend_last(self.alloc, &mut self.engines, &more.streams)?;
-        wake_last(&mut self.agenda, more.streams.len());
-        self.known = known;
+        self.extend_last(&more.streams)?;
         Ok(())
     }
 

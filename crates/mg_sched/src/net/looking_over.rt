@@ -251,7 +251,7 @@ impl<C: Calculator> Net<C> {
     {
         let worked = self.work(node, gate, hearer)?;
         if worked {
-            go_on_with(agenda, node, true);
+            go_on_with(agenda, node, true, true);
             return Ok(true);
         }
         Ok(false)

@@ -53,15 +53,25 @@ fn is_at_limit(limits: &Limits, first: u32, intake: &Intake) -> bool
     false
 }
 
-// Puts in a node that has worked, and the feeders that were kept where one of its queues was full.
-pub(super) fn go_on_with(agenda: &mut Agenda, node: u32, was_full: bool)
+// Puts a node in, where it may have more to do.
+fn put_again(agenda: &mut Agenda, node: u32, again: bool)
     requires { node < length agenda.old.heads }
-    ensures put { IsIn agenda.new.ready node }
+    ensures { agenda.new ≡ record agenda.old { ready = agenda.new.ready } }
+{
+    if again {
+        agenda.put(node);
+    }
+}
+
+// Keeps in mind that a node has worked, and puts it in where it may have more to do. Where one of its queues was full, the feeders that
+// were kept are put in too.
+pub(super) fn go_on_with(agenda: &mut Agenda, node: u32, again: bool, was_full: bool)
+    requires { node < length agenda.old.heads }
     ensures touched { IsIn agenda.new.touched node }
     ensures only { ChangesOnly agenda.old.touched agenda.new.touched node }
     ensures leads { (agenda.new.heads ≡ agenda.old.heads) × (agenda.new.links ≡ agenda.old.links) × (agenda.new.starts ≡ agenda.old.starts) }
 {
-    agenda.put(node);
+    put_again(agenda, node, again);
     agenda.touch(node);
     if was_full {
         agenda.release();
@@ -274,8 +284,8 @@ impl<C: Calculator> Net<C> {
         }
     }
 
-    // Lets a node work, unless it is a source that is throttled, and sends on what it laid. Where it took packets from a full queue, the
-    // feeders that were held may feed again.
+    // Lets a node work, unless it is a source that is throttled, and sends on what it laid. A source may have more to do then, and any
+    // other node only once something comes to it. Where it took packets from a full queue, the feeders that were held may feed again.
     fn visit_node<G: Gate, H: Hears>(
         &mut self,
         node: u32,
@@ -300,10 +310,11 @@ impl<C: Calculator> Net<C> {
             return Ok(false);
         }
         let was_full = self.is_full(node);
+        let again = self.has_no_input(node);
         if !self.work_long(node, gate, hearer)? {
             return Ok(false);
         }
-        go_on_with(agenda, node, was_full);
+        go_on_with(agenda, node, again, was_full);
         self.send(node, agenda, gate, hearer)?;
         Ok(true)
     }

@@ -1,5 +1,5 @@
 //! How packets that all edges of their streams have got are given up. Nothing here takes memory.
-ghost use Rattle.std.specs.Prelude.{◌≡◌, ◌<◌, ◌^◌, ℕ, Bool, false, length, min, Some, slice_index_or, if◌then◌else◌};
+ghost use Rattle.std.specs.Prelude.{◌≡◌, ◌<◌, ◌^◌, ℕ, false, length, min, Some, slice_index_or, if◌then◌else◌};
 ghost use Rattle.std.specs.List.{fold};
 ghost use Rattle.mg_node.specs.Job.{LoggedJob};
 ghost use Rattle.mg_sched.specs.StandsFor.{StandsFor, StandsForSome};

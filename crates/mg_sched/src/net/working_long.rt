@@ -1,11 +1,13 @@
 //! How a node works, and how long before what it laid goes on.
 ghost use Rattle.std.specs.Prelude.{◌≡◌, ◌<◌, ◌==◌, length, slice_get, Some, IfSome, IfNone, IfOk, OnOk, OnErr, false};
 ghost use Rattle.mg_calc.specs.declared.plan_node.PlanNode.{PlanNode};
+ghost use Rattle.mg_calc.specs.declared.event.Effect.TheVariants.{Idle};
 ghost use Rattle.mg_sched.specs.StandsFor.{StandsForSome, IsRunning};
+ghost use Rattle.mg_sched.specs.Acts.{Acts, IsEventOf};
 ghost use Rattle.mg_sched.specs.Sweeps.{Becomes};
 ghost use Rattle.mg_sched.specs.Heard.{Heard, HeardSome};
 ghost use Rattle.mg_sched.specs.Code.Left.{Goes, HasWork, HasNoWork, HasShelf, HasNoShelf, WorksRest, RestsAt};
-ghost use Rattle.mg_sched.specs.Code.Quiet.{OnlyAt};
+ghost use Rattle.mg_sched.specs.Code.Quiet.{IsAt, OnlyAt};
 
 use super::Net;
 use crate::Hears;
@@ -39,7 +41,8 @@ impl<C: Calculator> Net<C> {
         Ok(did)
     }
 
-    fn has_no_input(&self, node: u32) -> bool
+    // Whether a node has no input: it is a source then.
+    pub(super) fn has_no_input(&self, node: u32) -> bool
         requires { node < length self.now.plan.nodes }
         ensures { (planned : PlanNode) → slice_get self.now.plan.nodes node ≡ Some planned → result ≡ (length planned.inputs == 0) }
     {
@@ -139,13 +142,12 @@ impl<C: Calculator> Net<C> {
         if worked {
             return Ok(true);
         }
-        let performed = self.perform_all(node, gate, hearer)?;
-        let committed = self.commit_all(node, gate, hearer)?;
-        Ok(performed | committed)
+        let finished = self.finish_works(node, gate, hearer)?;
+        Ok(finished)
     }
 
-    // Performs a node's works that are claimed. Tells whether there was one.
-    fn perform_all<G: Gate, H: Hears>(
+    // Performs a node's works that are claimed, and then commits those that are performed. Tells whether there was one.
+    fn finish_works<G: Gate, H: Hears>(
         &mut self,
         node: u32,
         gate: &G,
@@ -159,14 +161,34 @@ impl<C: Calculator> Net<C> {
         ensures heard_some { OnErr result (HeardSome H.has_heard hearer.old hearer.new self.old) }
         ensures goes { IfOk result (λ did. Goes did self.old self.new) }
         ensures only { OnOk result (OnlyAt node self.old self.new) }
-        ensures none { IfOk result (λ did. did ≡ false → HasNoWork self.new node) }
+        ensures performed { OnOk result (HasNoWork self.new node) }
+        ensures committed { OnOk result (HasNoShelf self.new node) }
     {
         let mut did = false;
-        'works: while let Some(number) = self.first_claimed(node) {
-            let _ = self.step(Event::Perform { node, number }, gate, hearer)?;
+        'works: while let Some(event) = self.next_due(node) {
+            let _ = self.step(event, gate, hearer)?;
             did = true;
         }
         Ok(did)
+    }
+
+    // The event that performs the first work of a node that is claimed, or else the one that commits the first that is performed.
+    #[tactic(auto, using(crate::proofs::Sweeping::due_shelves))]
+    fn next_due(&self, node: u32) -> Option<Event>
+        requires there { node < length self.now.plan.nodes }
+        requires running { IsRunning self.now }
+        requires stands { StandsForSome self.now }
+        ensures event { IfSome result (λ event. IsEventOf self.now event) }
+        ensures at { IfSome result (λ event. IsAt self.now.plan event node) }
+        ensures due { IfSome result (λ event. ¬ Acts event Idle self.now self.now) }
+        ensures works { IfNone result (HasNoWork self.now node) }
+        ensures shelf { IfNone result (HasNoShelf self.now node) }
+    {
+        if let Some(number) = self.first_claimed(node) {
+            return Some(Event::Perform { node, number });
+        }
+        let number = self.first_performed(node)?;
+        Some(Event::Commit { node, number })
     }
 
     // The number of the first work of a node that is claimed and not performed.
@@ -177,31 +199,6 @@ impl<C: Calculator> Net<C> {
         ensures none { IfNone result (HasNoWork self.now node) }
     {
         self.desks[node as usize].first()
-    }
-
-    // Commits a node's works that are performed. Tells whether there was one.
-    fn commit_all<G: Gate, H: Hears>(
-        &mut self,
-        node: u32,
-        gate: &G,
-        hearer: &mut H,
-    ) -> Result<bool, AllocError>
-        requires running { IsRunning self.old }
-        requires stands { StandsForSome self.old }
-        requires there { node < length self.old.plan.nodes }
-        ensures becomes { Becomes self.old self.new }
-        ensures heard { OnOk result (Heard H.has_heard hearer.old hearer.new self.old self.new) }
-        ensures heard_some { OnErr result (HeardSome H.has_heard hearer.old hearer.new self.old) }
-        ensures goes { IfOk result (λ did. Goes did self.old self.new) }
-        ensures only { OnOk result (OnlyAt node self.old self.new) }
-        ensures none { IfOk result (λ did. did ≡ false → HasNoShelf self.new node) }
-    {
-        let mut did = false;
-        'works: while let Some(number) = self.first_performed(node) {
-            let _ = self.step(Event::Commit { node, number }, gate, hearer)?;
-            did = true;
-        }
-        Ok(did)
     }
 
     // The number of the first work of a node that is performed and not committed.

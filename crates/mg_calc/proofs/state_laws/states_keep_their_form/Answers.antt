@@ -1,4 +1,4 @@
-use Rattle.mg_calc.proofs.StateForms.{stepped}
+use Rattle.mg_calc.proofs.LawCases.{stepped}
 use Rattle.mg_calc.proofs.state_laws.states_keep_their_form.Goals as goal
 
 pub returns-clause-stepped : goal.returns-clause-stepped

@@ -1,6 +1,6 @@
 use Rattle.std.proofs.Common.{◌++◌, map, arith}
 use Rattle.std.specs.List.{enumerate_from}
-use Rattle.mg_kinds.specs.Laws.{names_of}
+use Rattle.mg_kinds.specs.Kinds.{names_of}
 use Rattle.mg_check.specs.Code.Edges.{edge_at}
 use Rattle.mg_check.proofs.Filling.{named_get}
 use Rattle.mg_check.proofs.edges.add_edges.Goals as goal

@@ -1,7 +1,7 @@
 -- With those that are left it comes to the same.
 use Rattle.std.proofs.Common.{◌≡◌, ◌++◌, drop, map}
 use Rattle.std.specs.List.{enumerate_from}
-use Rattle.mg_kinds.specs.Laws.{names_of}
+use Rattle.mg_kinds.specs.Kinds.{names_of}
 use Rattle.mg_check.specs.Code.Edges.{edge_at}
 use Rattle.mg_check.proofs.edges.add_edges.Given as goal
 

@@ -1,7 +1,7 @@
 -- With those that are left it comes to the same.
 use Rattle.std.proofs.Common.{◌≡◌, ◌++◌, drop}
 use Rattle.std.specs.List.{flat_map}
-use Rattle.mg_kinds.specs.Laws.{names_of}
+use Rattle.mg_kinds.specs.Kinds.{names_of}
 use Rattle.mg_check.specs.DraftView.{drafts_view}
 use Rattle.mg_check.specs.Code.Parts.{part_names}
 use Rattle.mg_check.proofs.gathering.add_parts.Given as goal

@@ -1,6 +1,6 @@
 use Rattle.std.proofs.Common.{◌++◌}
 use Rattle.mg_subgraph.specs.Refusals.{port_names}
-use Rattle.mg_kinds.specs.Laws.{names_of}
+use Rattle.mg_kinds.specs.Kinds.{names_of}
 use Rattle.mg_check.proofs.Filling.{port_moved}
 use Rattle.mg_check.proofs.gathering.add_ports.Goals as goal
 

@@ -1,6 +1,6 @@
 -- With those that are left it comes to the same.
 use Rattle.std.proofs.Common.{◌≡◌, ◌++◌, drop}
-use Rattle.mg_kinds.specs.Laws.{names_of}
+use Rattle.mg_kinds.specs.Kinds.{names_of}
 use Rattle.mg_check.proofs.gathering.add_texts.Given as goal
 
 abbrev pub invariant-loop-text : goal.invariant-loop-text

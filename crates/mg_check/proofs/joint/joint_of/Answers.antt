@@ -2,7 +2,7 @@ use Rattle.std.proofs.Common.{◌∙◌, ap}
 use Rattle.std.specs.Prelude.{option_map}
 use Rattle.std.proofs.lemmas.Result.{err_from_is_err_and}
 use Rattle.mg_config.specs.Config.{graph_view}
-use Rattle.mg_kinds.specs.Laws.{names_of}
+use Rattle.mg_kinds.specs.Kinds.{names_of}
 use Rattle.mg_check.specs.DraftView.{drafts_view}
 use Rattle.mg_check.specs.declared.fault.CheckFault.TheVariants.{TwoProducers}
 use Rattle.mg_check.proofs.Refused.{stream_again, side_again}

@@ -1,6 +1,6 @@
 -- With those that are left it comes to the same.
 use Rattle.std.proofs.Common.{◌≡◌, drop}
-use Rattle.mg_kinds.specs.Laws.{names_of}
+use Rattle.mg_kinds.specs.Kinds.{names_of}
 use Rattle.mg_check.specs.Names.{first_missing}
 use Rattle.mg_check.proofs.names.missing_in.Given as goal
 

@@ -1,5 +1,5 @@
 use Rattle.std.proofs.Common.{map}
-use Rattle.mg_kinds.specs.Laws.{names_of}
+use Rattle.mg_kinds.specs.Kinds.{names_of}
 use Rattle.mg_check.specs.Names.{number_in}
 use Rattle.mg_check.proofs.Filling.{mapped_get}
 use Rattle.mg_check.proofs.names.numbers_of.Goals as goal

@@ -1,7 +1,7 @@
 use Rattle.std.proofs.Common.{◌≡◌, refl, take, subst, arith}
 use Rattle.std.proofs.lemmas.List.{take_all, length-map}
 use Rattle.mg_index.specs.Tables.{IsTable}
-use Rattle.mg_kinds.specs.Laws.{names_of}
+use Rattle.mg_kinds.specs.Kinds.{names_of}
 use Rattle.mg_index.specs.Places.{is_text}
 use Rattle.mg_check.proofs.Placed.{table_more}
 use Rattle.mg_check.proofs.names.table_of.Goals as goal

@@ -1,7 +1,7 @@
 -- The table of those that were added.
 use Rattle.std.proofs.Common.{take}
 use Rattle.mg_index.specs.Tables.{IsTable}
-use Rattle.mg_kinds.specs.Laws.{names_of}
+use Rattle.mg_kinds.specs.Kinds.{names_of}
 use Rattle.mg_index.specs.Places.{is_text}
 use Rattle.mg_check.proofs.names.table_of.Given as goal
 

@@ -1,5 +1,5 @@
 use Rattle.std.proofs.Common.{◌≡◌, take}
-use Rattle.mg_kinds.specs.Laws.{names_of}
+use Rattle.mg_kinds.specs.Kinds.{names_of}
 use Rattle.mg_check.specs.Drafts.{names_at}
 use Rattle.mg_check.proofs.port_texts.texts_at.Given as goal
 

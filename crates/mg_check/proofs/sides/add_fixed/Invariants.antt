@@ -1,6 +1,6 @@
 -- With those that are left it comes to the same.
 use Rattle.std.proofs.Common.{◌≡◌, ◌++◌, drop}
-use Rattle.mg_kinds.specs.Laws.{names_of}
+use Rattle.mg_kinds.specs.Kinds.{names_of}
 use Rattle.mg_kinds.specs.Views.{plain_of}
 use Rattle.mg_check.specs.Code.Streams.{fixed_by}
 use Rattle.mg_check.proofs.sides.add_fixed.Given as goal

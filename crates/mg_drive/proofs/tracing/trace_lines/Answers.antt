@@ -18,9 +18,9 @@ returns-in-Ok-clause-left g c =
     }
 
 pub returns-in-Err-clause-traced : goal.returns-in-Err-clause-traced
-returns-in-Err-clause-traced g c = (
+returns-in-Err-clause-traced g c = rw c.note_out_of_memory.ensures.status (
   c.in-Err.ensures.short,
   noted-then (g.E.Sink.told c.args.devices.now.notes.now) (g.E.Sink.told c.trace_whole.new.devices.notes.now) (g.E.Sink.told c.note_out_of_memory.new.notes) memory_note c.in-Err.ensures.unnoted
-      c.note_out_of_memory.ensures,
+      c.note_out_of_memory.ensures.noted,
   c.in-Err.ensures.read,
 )

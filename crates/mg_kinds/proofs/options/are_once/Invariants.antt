@@ -1,5 +1,5 @@
 use Rattle.std.proofs.Common.{◌≡◌, drop}
-use Rattle.mg_kinds.specs.Laws.{names_of}
+use Rattle.mg_kinds.specs.Kinds.{names_of}
 use Rattle.mg_kinds.specs.Options.{are_once}
 use Rattle.mg_kinds.specs.Views.{fields_of}
 use Rattle.mg_kinds.proofs.options.are_once.Given as goal

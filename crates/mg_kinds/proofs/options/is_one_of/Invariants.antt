@@ -1,6 +1,6 @@
 use Rattle.std.proofs.Common.{◌≡◌, drop}
 use Rattle.mg_config.specs.Number.{is_one_of}
-use Rattle.mg_kinds.specs.Laws.{names_of}
+use Rattle.mg_kinds.specs.Kinds.{names_of}
 use Rattle.mg_kinds.proofs.options.is_one_of.Given as goal
 
 abbrev pub invariant-loop-word : goal.invariant-loop-word

@@ -7,6 +7,7 @@ use Rattle.mg_value.specs.FirstSet.{is_shown}
 use Rattle.mg_value.proofs.SetSteps.{shown-set, shown-is, place-more, mapped-more, mapped-later}
 use Rattle.mg_stream.specs.Pool.{Backlog, Pooled, empty_backlog, queues_of}
 use Rattle.mg_policy.specs.Inbox.{rests}
+use Rattle.mg_policy.proofs.Answered.{told_time}
 use Rattle.mg_policy.proofs.PoolRests.{rests-long, rest-at, rests-prefixes}
 use Rattle.mg_policy.proofs.Claims.{taken, room_taken, mapped_long}
 use Rattle.mg_policy.proofs.taking.take_set.Goals as goal
@@ -20,6 +21,7 @@ loop-port-preserved c =
     let policy = c.args.policy in
     let i = c.loop-port.port in
     let was = c.loop-port.invariant in
+    let next = told_time policy (queues_of old) at (rests-prefixes old c.ports-ports.ensures.rests) c.requires.next in
     let in_old : i < length old.ports = (let end = c.loop-port-test.true in let long = c.ports-ports.ensures.ports in omega (arith, end, long)) in
     let b : Backlog Plain = get_or pool.ports i empty_backlog in
     let same : b ≡ get_or old.ports i empty_backlog = ap (λ (bs : List (Backlog Plain)). get_or bs i empty_backlog) was.ports ∙ mapped-later (taken at) old.ports i empty_backlog in_old in
@@ -30,7 +32,7 @@ loop-port-preserved c =
     let shown : c.is_shown-shown.result ≡ shows policy ss at i =
     c.is_shown-shown.ensures
     ∙ ap₂ (λ (n : ℕ) (chosen : Option ℕ). is_shown policy n chosen i) ports c.chosen_port-chosen.ensures
-    ∙ shown-is policy ss at i c.requires.next in
+    ∙ shown-is policy ss at i next in
     let packet : c.where_shown.result ≡ want i =
     c.where_shown.ensures
     ∙ ap₂ (λ (s : Bool) (o : Option (Stamped Plain)). cond s o None) shown
@@ -50,5 +52,9 @@ returns-clause-set c =
     let old = c.args.pool.now in
     let ss = rests (queues_of old) in
     let long = rests-long old in
-    shown-set c.args.policy ss c.args.at c.loop-port.into (rests-prefixes old c.ports-ports.ensures.rests) c.requires.next (c.loop-port.invariant.places ∙ sym long)
+    let prefixes = rests-prefixes old c.ports-ports.ensures.rests in
+    shown-set c.args.policy ss c.args.at c.loop-port.into prefixes (told_time c.args.policy (queues_of old) c.args.at prefixes c.requires.next) (c.loop-port.invariant.places ∙ sym long)
     (λ k there. c.loop-port.invariant.set k (let end = c.loop-port-test.false in let ports = c.ports-ports.ensures.ports in omega (arith, there, long, end, ports)))
+
+pub returns-clause-prefixes : goal.returns-clause-prefixes
+returns-clause-prefixes c = rests-prefixes c.args.pool.now c.ports-ports.ensures.rests

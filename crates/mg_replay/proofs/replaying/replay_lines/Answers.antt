@@ -12,8 +12,8 @@ returns-in-Ok-clause-replayed g c =
     (device (map g.C.Calculator.told c.args.boxes.now.items) (map g.C.Calculator.told c.replay_whole.new.boxes.items)) c.in-Ok.ensures.replayed
 
 pub returns-in-Err-clause-replayed : goal.returns-in-Err-clause-replayed
-returns-in-Err-clause-replayed g c = (
+returns-in-Err-clause-replayed g c = rw c.note_out_of_memory.ensures.status (
   record { took = c.in-Err.ensures.some.took; had = c.in-Err.ensures.some.had },
   noted-then (g.E.Sink.told c.args.devices.now.notes.now) (g.E.Sink.told c.replay_whole.new.devices.notes.now) (g.E.Sink.told c.note_out_of_memory.new.notes) memory_note c.in-Err.ensures.unnoted
-      c.note_out_of_memory.ensures,
+      c.note_out_of_memory.ensures.noted,
 )

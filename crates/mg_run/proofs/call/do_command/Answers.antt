@@ -34,6 +34,6 @@ returns-in-Ok-clause-unread g c =
 
 pub returns-in-Err-OutOfMemory-clause-called : goal.returns-in-Err-OutOfMemory-clause-called
 returns-in-Err-OutOfMemory-clause-called g c =
-    called-short (task (command c.args.ordered.now.order c.args.ordered.now.files.now) (outers_told (map g.C.Calculator.told c.args.boxes.now.items))) c.short.result
+    called-short (task (command c.args.ordered.now.order c.args.ordered.now.files.now) (outers_told (map g.C.Calculator.told c.args.boxes.now.items))) c.note_out_of_memory.result
     (device (g.T.Store.told c.args.store.now) (g.T.Store.told c.due_job.new.store)) (g.S.Source.told c.args.devices.now.input.now) (g.K.Sink.told c.args.devices.now.output.now)
-    (device (g.E.Sink.told c.args.devices.now.notes.now) (g.E.Sink.told c.short.new.notes)) (map g.C.Calculator.told c.args.boxes.now.items) c.short.ensures.status c.short.ensures.noted
+    (device (g.E.Sink.told c.args.devices.now.notes.now) (g.E.Sink.told c.note_out_of_memory.new.notes)) (map g.C.Calculator.told c.args.boxes.now.items) c.note_out_of_memory.ensures.status c.note_out_of_memory.ensures.noted

@@ -11,7 +11,7 @@ returns-in-Ok-clause-came g c = subst (λ (asked : Asked). Came (outers_told (ma
     (told_at g.T.Store.told g.S.Source.told g.K.Sink.told g.E.Sink.told g.C.Calculator.told c.args.store.now c.do_asked.new.store c.args.devices.now c.do_asked.new.devices c.args.boxes.now c.do_asked.new.boxes)) c.in-Ok.ensures c.do_asked.ensures.came
 
 pub returns-in-Err-clause-came : goal.returns-in-Err-clause-came
-returns-in-Err-clause-came g c = came-nothing (outers_told (map g.C.Calculator.told c.args.boxes.now.items)) (asked_of c.args.words.now) _ _ _ _ _ _ c.short.ensures.status c.short.ensures.noted
+returns-in-Err-clause-came g c = came-nothing (outers_told (map g.C.Calculator.told c.args.boxes.now.items)) (asked_of c.args.words.now) _ _ _ _ _ _ c.note_out_of_memory.ensures.status c.note_out_of_memory.ensures.noted
 
 pub returns-in-Err-clause-unread : goal.returns-in-Err-clause-unread
 returns-in-Err-clause-unread g c = unread-nothing (asked_of c.args.words.now) _

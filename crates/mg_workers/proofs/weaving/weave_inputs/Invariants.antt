@@ -4,8 +4,8 @@ use Rattle.mg_node.specs.Views.{IntakeView, EngineView}
 use Rattle.mg_workers.specs.Code.Weaving.{IsOf}
 use Rattle.mg_workers.proofs.weaving.weave_inputs.Given as goal
 
-abbrev pub invariant-loop-alloc : goal.invariant-loop-alloc
-invariant-loop-alloc g l =
+abbrev pub invariant-loop-engine : goal.invariant-loop-engine
+invariant-loop-engine g l =
     ((nodes : ℕ) (es : List EngineView) (is intakes : List IntakeView) → 2 * nodes < length l.initial.parts.items → IsOf nodes es is l.initial.parts.items l.initial.engines.items intakes
     → IsOf nodes es is l.parts.items l.engines.items intakes)
     × (vec_len l.parts + vec_len l.engines ≤ vec_capacity l.parts)
@@ -13,5 +13,5 @@ invariant-loop-alloc g l =
     × (vec_capacity l.engines ≡ vec_capacity l.initial.engines)
     × (vec_capacity l.parts ≡ vec_capacity l.initial.parts)
 
-abbrev pub decreases-loop-alloc : goal.decreases-loop-alloc
-decreases-loop-alloc g l = vec_len l.engines
+abbrev pub decreases-loop-engine : goal.decreases-loop-engine
+decreases-loop-engine g l = vec_len l.engines

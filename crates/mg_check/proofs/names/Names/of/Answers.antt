@@ -1,6 +1,6 @@
 use Rattle.std.proofs.Common.{◌<◌, sym, length, arith, rules}
 use Rattle.std.proofs.lemmas.List.{length-map}
-use Rattle.mg_kinds.specs.Laws.{names_of}
+use Rattle.mg_kinds.specs.Kinds.{names_of}
 use Rattle.mg_check.proofs.Placed.{again_within, again_refused, again_none, names_kept, own_table}
 use Rattle.mg_check.proofs.names.Names.of.Goals as goal
 

@@ -1,6 +1,6 @@
 use Rattle.std.proofs.Common.{ℕ, List, ap, sym, ◌∙◌}
 use Rattle.mg_node.specs.Views.{BenchView, EngineView}
-use Rattle.mg_node.proofs.Claimable.{cell_sets, cell_places, next_is_some, cell_has_intake}
+use Rattle.mg_node.proofs.Claimable.{cell_sets, cell_places, cell_has_intake}
 use Rattle.mg_node.proofs.ShownAtOnce.{shown_may_run}
 use Rattle.mg_node.proofs.engine.Engine.show.Goals as goal
 
@@ -10,8 +10,11 @@ fill-requires-clause-places g c = cell_places _ _ _ _ c.requires.cell (sym (ap (
 pub fill-requires-clause-lawful : goal.fill-requires-clause-lawful
 fill-requires-clause-lawful g c = cell_has_intake _ _ c.requires.cell
 
+pub fill-requires-clause-sets : goal.fill-requires-clause-sets
+fill-requires-clause-sets g c = cell_sets _ _ c.requires.cell c.requires.may.role
+
 pub fill-requires-clause-next : goal.fill-requires-clause-next
-fill-requires-clause-next g c = next_is_some _ c.args.at (cell_sets _ _ c.requires.cell c.requires.may.role) c.requires.next
+fill-requires-clause-next g c = c.requires.next
 
 pub show-answer-requires : goal.show-answer-requires
 show-answer-requires g c =

@@ -14,8 +14,8 @@ pub take_shown-requires-clause-few : goal.take_shown-requires-clause-few
 take_shown-requires-clause-few g c =
     (let s = c.in_default.ensures in shown_few c.args.self.now c.show.new.self c.args.intake.now c.args.at s.rest s.bench_now c.requires.cell c.requires.may c.requires.next s.now_is)
 
-pub returns-in_default : goal.returns-in_default
-returns-in_default g c =
+pub returns-in_default-clause-does : goal.returns-in_default-clause-does
+returns-in_default-clause-does g c =
     handed_claims ℕ c.args.self.now c.show.new.self c.take_shown.new.self c.args.intake.now c.show.new.intake c.args.at c.take_shown.result c.requires.cell c.requires.may c.requires.next c.in_default.ensures c.take_shown.ensures
 
 pub lay_answer-requires-clause-whole : goal.lay_answer-requires-clause-whole
@@ -27,8 +27,8 @@ lay_answer-requires-clause-laid g c = (let s = c.in-Some.ensures in shown_laid c
 pub lay_answer-requires-clause-few : goal.lay_answer-requires-clause-few
 lay_answer-requires-clause-few g c = (let s = c.in-Some.ensures in shown_few c.args.self.now c.show.new.self c.args.intake.now c.args.at s.rest s.bench_now c.requires.cell c.requires.may c.requires.next s.now_is)
 
-pub returns-in-Ok : goal.returns-in-Ok
-returns-in-Ok g c =
+pub returns-in-Ok-clause-does : goal.returns-in-Ok-clause-does
+returns-in-Ok-clause-does g c =
     left_committed _ c.in-Some.answer c.args.self.now c.show.new.self c.args.intake.now c.show.new.intake c.args.at c.requires.cell c.requires.may c.requires.next c.in-Some.ensures c.lay_answer.new.self c.self.inside.claimed (ap (λ (v : EngineView). v.claimed) c.self.view_is)
     c.in-Ok.ensures.laid
 
@@ -49,8 +49,8 @@ shelve-requires g c = record {
       c.in-Err.ensures.unchanged c.take_shown-work.ensures (ap (λ (o : OutcomeView). o.work) (c.ran.ensures.outcome ∙ ap outcome_of c.new.ensures));
 }
 
-pub returns-in-Err : goal.returns-in-Err
-returns-in-Err g c =
+pub returns-in-Err-clause-does : goal.returns-in-Err-clause-does
+returns-in-Err-clause-does g c =
     left_performed _ c.in-Some.answer c.args.self.now c.show.new.self c.args.intake.now c.show.new.intake c.args.at c.requires.cell c.requires.may c.requires.next c.in-Some.ensures c.lay_answer.new.self c.take_shown-work.new.self c.shelve.new.self c.take_shown-work.result
     c.ran.result c.self.inside.claimed (ap (λ (v : EngineView). v.claimed) c.self.view_is) c.in-Err.ensures.unchanged c.take_shown-work.ensures
     (c.ran.ensures.outcome ∙ ap outcome_of c.new.ensures ∙ answered_by c.take_shown-work.result c.in-Err.answer c.in-Some.answer c.in-Err.ensures.returned) c.shelve.ensures.shelved

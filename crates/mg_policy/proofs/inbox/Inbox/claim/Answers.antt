@@ -1,13 +1,11 @@
-use Rattle.std.proofs.Common.{◌≡◌, ◌+◌, ◌↔◌, ◌∙◌, ℕ, List, Option, None, drop, map, length, IsTrue, IsSome, IfSome, false, sym, subst, refl}
+use Rattle.std.proofs.Common.{◌≡◌, ◌↔◌, ◌∙◌, ℕ, List, Option, None, drop, length, IsTrue, IsSome, IfSome, false, sym, subst, refl}
 use Rattle.mg_value.specs.Payload.{Plain}
 use Rattle.mg_value.specs.Prefix.{StreamPrefix}
 use Rattle.mg_value.specs.Settled.{TimedSet, settled_sets}
-use Rattle.mg_value.specs.Left.{after_sets}
-use Rattle.mg_stream.specs.Queue.{count_of}
 use Rattle.mg_stream.specs.Pool.{queues_of}
-use Rattle.mg_policy.specs.Inbox.{Gathered, rests, next_set, ShowsNext, StandAfter}
-use Rattle.mg_policy.proofs.Answered.{IsClaim, claim_left, claim_others, claim_whole, no_claim, no_claim-set, none_next}
-use Rattle.mg_policy.proofs.Claims.{counts-taken}
+use Rattle.mg_policy.specs.Inbox.{Gathered, rests, next_set, Tells, StandAfter}
+use Rattle.mg_policy.specs.declared.readiness.Readiness.TheVariants.{Ready}
+use Rattle.mg_policy.proofs.Answered.{tells_ready, claimed_some, shown_if, no_claim, no_claim-set, none_next}
 use Rattle.mg_policy.proofs.inbox.Inbox.claim.Goals as goal
 
 pub returns-in_default-clause-claimed : goal.returns-in_default-clause-claimed
@@ -40,33 +38,27 @@ returns-in_default-clause-none c =
     subst (λ (i : Gathered). (k : ℕ) (ss : List (StreamPrefix Plain)) → StandAfter i.policy k (queues_of i.pool) ss → length (settled_sets i.policy ss) ≡ k) c.self.view_is
     (λ k ss stand. none_next p.policy k (queues_of p.pool) ss stand (no_claim p.policy (queues_of p.pool) look.prefixes (sym look.next ∙ c.in_default.is)))
 
-pub returns-clause-left : goal.returns-clause-left
-returns-clause-left c =
+pub claim_at-requires-clause-next : goal.claim_at-requires-clause-next
+claim_at-requires-clause-next c =
     let p = c.self.inside in
     let look = c.look_at.ensures in
-    let is : IsClaim p.policy p.pool c.take_set.new.pool c.in-Some.at c.take_set.new.into = record { prefixes = look.prefixes; first = sym look.next ∙ c.in-Some.is; next = c.take_set.ensures.set; ports = c.take_set.ensures.ports } in
-    subst (λ (i : Gathered). rests (queues_of c.take_set.new.pool) ≡ after_sets i.policy 1 (rests (queues_of i.pool))) c.self.view_is
-    (claim_left p.policy p.pool c.take_set.new.pool c.in-Some.at c.take_set.new.into is)
+    subst (λ (i : Gathered). Tells i.policy (Ready c.in-Some.at) (queues_of i.pool)) c.self.view_is
+    (tells_ready p.policy (queues_of p.pool) c.in-Some.at look.prefixes (sym look.next ∙ c.in-Some.is))
+
+pub returns-clause-claimed : goal.returns-clause-claimed
+returns-clause-claimed c = claimed_some (next_set c.args.self.now.policy (queues_of c.args.self.now.pool)) c.claim_at.new.into c.claim_at.ensures.shown
+
+pub returns-clause-shown : goal.returns-clause-shown
+returns-clause-shown c = shown_if (next_set c.args.self.now.policy (queues_of c.args.self.now.pool)) c.claim_at.new.into c.claim_at.ensures.shown
+
+pub returns-clause-left : goal.returns-clause-left
+returns-clause-left c = c.claim_at.ensures.left
 
 pub returns-clause-others : goal.returns-clause-others
-returns-clause-others c =
-    let p = c.self.inside in
-    let look = c.look_at.ensures in
-    let is : IsClaim p.policy p.pool c.take_set.new.pool c.in-Some.at c.take_set.new.into = record { prefixes = look.prefixes; first = sym look.next ∙ c.in-Some.is; next = c.take_set.ensures.set; ports = c.take_set.ensures.ports } in
-    subst (λ (i : Gathered). settled_sets i.policy (rests (queues_of c.take_set.new.pool)) ≡ drop 1 (settled_sets i.policy (rests (queues_of i.pool)))) c.self.view_is
-    (claim_others p.policy p.pool c.take_set.new.pool c.in-Some.at c.take_set.new.into is)
+returns-clause-others c = c.claim_at.ensures.others
 
 pub returns-clause-counts : goal.returns-clause-counts
-returns-clause-counts c =
-    let p = c.self.inside in
-    subst (λ (i : Gathered). map count_of (queues_of c.take_set.new.pool) ≡ map count_of (queues_of i.pool)) c.self.view_is
-    (counts-taken p.pool c.take_set.new.pool c.in-Some.at c.take_set.ensures.ports)
+returns-clause-counts c = c.claim_at.ensures.counts
 
 pub returns-clause-whole : goal.returns-clause-whole
-returns-clause-whole c =
-    let p = c.self.inside in
-    let look = c.look_at.ensures in
-    let is : IsClaim p.policy p.pool c.take_set.new.pool c.in-Some.at c.take_set.new.into = record { prefixes = look.prefixes; first = sym look.next ∙ c.in-Some.is; next = c.take_set.ensures.set; ports = c.take_set.ensures.ports } in
-    subst (λ (i : Gathered). (k : ℕ) (ss : List (StreamPrefix Plain)) → StandAfter i.policy k (queues_of i.pool) ss
-    → ((at : ℕ) × ShowsNext i.policy k ss at c.take_set.new.into) × StandAfter i.policy (k + 1) (queues_of c.take_set.new.pool) ss) c.self.view_is
-    (claim_whole p.policy p.pool c.take_set.new.pool c.in-Some.at c.take_set.new.into is)
+returns-clause-whole c = c.claim_at.ensures.whole

@@ -1,9 +1,9 @@
--- Some works are performed, or the net is as it was.
+-- Some works are performed or committed, or the net is as it was.
 use Rattle.mg_sched.specs.Sweeps.{Becomes}
 use Rattle.mg_sched.specs.Code.Left.{left_in, Goes}
 use Rattle.mg_sched.specs.Code.Quiet.{OnlyAt}
 use Rattle.mg_sched.specs.Heard.{Heard}
-use Rattle.mg_sched.proofs.net.Net.perform_all.Given as goal
+use Rattle.mg_sched.proofs.net.Net.finish_works.Given as goal
 
 abbrev pub invariant-works : goal.invariant-works
 invariant-works g l = record { becomes : Becomes l.fn.self l.self; goes : Goes l.did l.fn.self l.self; only : OnlyAt l.fn.node l.fn.self l.self; heard : Heard g.H.Hears.has_heard l.fn.hearer l.hearer l.fn.self l.self }

@@ -1,0 +1,323 @@
+-- The calculators that are built in: the name of each (MediaPipe, Calculators; CountingSourceCalculator is this project's own), the
+-- names of its options, its ports, and its law by these. Those that map numbers have all but the ports in Maps.antt.
+use Rattle.std.specs.Prelude.{ℕ, ◌-◌, List, [], ◌∷◌, Bool, not, ◌&&◌, ◌==◌, Option, None, Some, option_map, option_and_then, if◌then◌else◌, codes, length, false, ℤ, pos, map}
+use Rattle.std.specs.Option.{option_or}
+use Rattle.std.specs.Str.{bytes_eq}
+use Rattle.std.specs.Borrow.{Bor}
+use Rattle.mg_time.specs.Time.{pre_stream, post_stream, place_of}
+use Rattle.mg_value.specs.declared.kind.Kind.{Kind}
+use Rattle.mg_value.specs.declared.kind.Kind.TheVariants.{Any, Flag, Int}
+use Rattle.mg_value.specs.Plain.{Plain}
+use Rattle.mg_names.specs.Ports.{has_port}
+use Rattle.mg_names.specs.declared.port.Port.{Port}
+use Rattle.mg_text.specs.View.{Entry}
+use Rattle.mg_config.specs.Config.{NodeView}
+use Rattle.mg_config.specs.Values.{entries, truth_in_value}
+use Rattle.mg_calc.specs.declared.port_kind.PortKind.{PortKind}
+use Rattle.mg_calc.specs.declared.law.Law.{Law}
+use Rattle.mg_calc.specs.declared.law.Law.TheVariants as law
+use Rattle.mg_calc.specs.declared.shape.Shape.{Shape}
+use Rattle.mg_calc.specs.Shape.{offset_of, is_stateless}
+use Rattle.mg_kinds.specs.Ports.{has_just, fitting}
+use Rattle.mg_kinds.specs.PortOrder.{in_order}
+use Rattle.mg_kinds.specs.Tags.{tag_text}
+use Rattle.mg_kinds.specs.Maps.{map_named, map_options, map_with}
+use Rattle.mg_kinds.specs.declared.kind.CalculatorKind.{CalculatorKind}
+use Rattle.mg_kinds.specs.declared.kind.CalculatorKind.TheVariants.{PassThrough, Gate, Mux, Cloner, Merge, Thinner, Sum, Map, Filter, Running, Shift, Counting, SideToStream, Constants, Loopback, FlowLimiter}
+use Rattle.mg_kinds.specs.declared.tag.Tag.{Tag}
+use Rattle.mg_kinds.specs.declared.tag.Tag.TheVariants.{Untagged, Allow, Disallow, Input, Select, Output, Tick, Loop, Main, Finished, PrevLoop, Packet, AtPreStream, AtZero, AtPostStream}
+use Rattle.mg_kinds.specs.declared.row.Row.{Row}
+use Rattle.mg_kinds.specs.declared.ports.Ports.{Ports}
+use Rattle.mg_kinds.specs.Options.{options_in, are_known, are_once, set_to, number}
+use Rattle.mg_kinds.specs.Values.{or_absent, required, positive, timestamp_number, call_count, flight_limit, keep_in, is_absent_or, is_asynchronous, payloads_in}
+use Rattle.mg_kinds.specs.declared.maps.MapKind.{MapKind}
+
+-- Names.
+
+pub record NameRow : Type 0 where
+  pub name : List ℕ
+  pub kind : CalculatorKind
+
+abbrev pub row : List ℕ → CalculatorKind → NameRow
+row name kind = record { name = name; kind = kind }
+
+-- those that pass packets on
+abbrev pub passing : List NameRow
+passing = row (codes "PassThroughCalculator") PassThrough ∷ row (codes "GateCalculator") Gate ∷ row (codes "MuxCalculator") Mux
+    ∷ row (codes "PacketClonerCalculator") Cloner ∷ row (codes "MergeCalculator") Merge ∷ row (codes "PacketThinnerCalculator") Thinner
+    ∷ row (codes "TimestampShiftCalculator") Shift ∷ row (codes "PreviousLoopbackCalculator") Loopback
+    ∷ row (codes "FlowLimiterCalculator") FlowLimiter ∷ []
+
+-- those that work with numbers
+abbrev pub reckoning : List NameRow
+reckoning = row (codes "IntSumCalculator") Sum ∷ row (codes "IntFilterCalculator") Filter
+    ∷ row (codes "RunningSumCalculator") Running ∷ []
+
+-- those without input streams
+abbrev pub beginning : List NameRow
+beginning = row (codes "CountingSourceCalculator") Counting ∷ row (codes "SidePacketToStreamCalculator") SideToStream
+    ∷ row (codes "ConstantSidePacketCalculator") Constants ∷ []
+
+abbrev pub named_in : List NameRow → List ℕ → Option CalculatorKind
+named_in [] name = None
+named_in (r ∷ rows) name = if bytes_eq name r.name then Some r.kind else named_in rows name
+
+-- the kind of a calculator, by its name; the names of those that map numbers stand in Maps.antt
+abbrev pub kind_named : List ℕ → Option CalculatorKind
+kind_named name =
+    option_or (option_map Map (map_named name)) (option_or (option_or (named_in passing name) (named_in reckoning name)) (named_in beginning name))
+
+-- Options.
+
+-- the options that a calculator has. Each stands once at most, but for `packet`.
+abbrev pub single_options : CalculatorKind → List (List ℕ)
+single_options Gate = codes "empty_packets_as_allow" ∷ []
+single_options Thinner = codes "thinner_type" ∷ codes "period" ∷ []
+single_options (Map m) = map_options m
+single_options Filter = codes "keep" ∷ codes "raise_bound" ∷ []
+single_options Shift = codes "offset" ∷ []
+single_options FlowLimiter = codes "max_in_flight" ∷ []
+single_options Counting = codes "count" ∷ codes "start" ∷ codes "step" ∷ []
+single_options kind = []
+
+abbrev pub all_options : CalculatorKind → List (List ℕ)
+all_options Constants = codes "packet" ∷ []
+all_options kind = single_options kind
+
+-- Ports.
+
+abbrev pub many : Tag → Kind → ℕ → Row
+many tag kind count = record { tag = tag; kind = kind; count = count; last = None }
+
+abbrev pub no_ports : Row
+no_ports = many Untagged Any 0
+
+abbrev pub one : Tag → Kind → Row
+one tag kind = many tag kind 1
+
+abbrev pub many_and : Tag → Kind → ℕ → Tag → Kind → Row
+many_and tag kind count last_tag last_kind = record { tag = tag; kind = kind; count = count; last = Some (record { tag = last_tag; kind = last_kind }) }
+
+-- the number of lanes: of inputs that are treated alike, beside the last one where the calculator has a control; and
+-- of the side packets that a ConstantSidePacketCalculator writes
+abbrev pub lanes_of : CalculatorKind → NodeView → ℕ
+lanes_of Gate node = length node.inputs - 1
+lanes_of Mux node = length node.inputs - 1
+lanes_of Cloner node = length node.inputs - 1
+lanes_of Merge node = length node.inputs
+lanes_of Sum node = length node.inputs
+lanes_of Constants node = length node.output_sides
+lanes_of kind node = 1
+
+-- a gate's control is DISALLOW where the node has that, and otherwise ALLOW
+abbrev pub disallows : NodeView → Bool
+disallows node = has_port (tag_text Disallow) 0 node.inputs
+
+abbrev pub control_of : NodeView → Tag
+control_of node = if disallows node then Disallow else Allow
+
+-- when the one packet of a SidePacketToStreamCalculator stands
+abbrev pub moment_of : NodeView → Tag
+moment_of node =
+    if has_port (tag_text AtPreStream) 0 node.outputs then AtPreStream
+    else (if has_port (tag_text AtZero) 0 node.outputs then AtZero else AtPostStream)
+
+-- the input streams, the output streams, the side packets that come in and those that go out; PassThroughCalculator
+-- has its ports from the node
+abbrev pub inputs_of : CalculatorKind → NodeView → Row
+inputs_of PassThrough node = no_ports
+inputs_of Gate node = many_and Untagged Any (lanes_of Gate node) (control_of node) Flag
+inputs_of Mux node = many_and Input Any (lanes_of Mux node) Select Int
+inputs_of Cloner node = many_and Untagged Any (lanes_of Cloner node) Tick Any
+inputs_of Merge node = many Untagged Any (lanes_of Merge node)
+inputs_of Thinner node = one Untagged Any
+inputs_of Sum node = many Untagged Int (lanes_of Sum node)
+inputs_of (Map m) node = one Untagged Int
+inputs_of Filter node = one Untagged Int
+inputs_of Running node = one Untagged Int
+inputs_of Shift node = one Untagged Any
+inputs_of Counting node = no_ports
+inputs_of SideToStream node = no_ports
+inputs_of Constants node = no_ports
+inputs_of Loopback node = many_and Loop Any 1 Main Any
+inputs_of FlowLimiter node = many_and Untagged Any 1 Finished Any
+
+abbrev pub outputs_of : CalculatorKind → NodeView → Row
+outputs_of PassThrough node = no_ports
+outputs_of Gate node = many Untagged Any (lanes_of Gate node)
+outputs_of Mux node = one Output Any
+outputs_of Cloner node = many Untagged Any (lanes_of Cloner node)
+outputs_of Merge node = one Untagged Any
+outputs_of Thinner node = one Untagged Any
+outputs_of Sum node = one Untagged Int
+outputs_of (Map m) node = one Untagged Int
+outputs_of Filter node = one Untagged Int
+outputs_of Running node = one Untagged Int
+outputs_of Shift node = one Untagged Any
+outputs_of Counting node = one Untagged Int
+outputs_of SideToStream node = one (moment_of node) Any
+outputs_of Constants node = no_ports
+outputs_of Loopback node = one PrevLoop Any
+outputs_of FlowLimiter node = one Untagged Any
+
+abbrev pub sides_of : CalculatorKind → Row
+sides_of SideToStream = one Untagged Any
+sides_of kind = no_ports
+
+abbrev pub side_outputs_of : CalculatorKind → NodeView → Row
+side_outputs_of Constants node = many Packet Any (lanes_of Constants node)
+side_outputs_of kind node = no_ports
+
+abbrev pub is_empty : List Port → Bool
+is_empty ports = length ports == 0
+
+-- the ports of a PassThroughCalculator: any inputs, at least one, and the same outputs
+abbrev pub passed_ports : NodeView → Option Ports
+passed_ports node =
+    if not (is_empty node.inputs) && has_just node.outputs (in_order node.inputs) && is_empty node.input_sides && is_empty node.output_sides
+    then Some (record { inputs = in_order node.inputs; outputs = in_order node.inputs; sides = [] })
+    else None
+
+-- the side packets that a calculator takes, if the node has just these, and writes just those that the calculator does
+abbrev pub side_ports : CalculatorKind → NodeView → Option (List PortKind)
+side_ports kind node =
+    option_and_then (λ side_outputs. fitting node.input_sides (sides_of kind)) (fitting node.output_sides (side_outputs_of kind node))
+
+-- the ports of another calculator, if the node has just these and at least one lane
+abbrev pub rowed_ports : CalculatorKind → NodeView → Option Ports
+rowed_ports kind node =
+    if lanes_of kind node == 0 then None
+    else option_and_then (λ inputs. option_and_then (λ outputs. option_map (λ sides.
+    record { inputs = inputs; outputs = outputs; sides = sides })
+    (side_ports kind node)) (fitting node.outputs (outputs_of kind node))) (fitting node.inputs (inputs_of kind node))
+
+-- the ports that a calculator has at a node, if the node's streams and side packets fit it
+abbrev pub kind_ports : CalculatorKind → NodeView → Option Ports
+kind_ports PassThrough node = passed_ports node
+kind_ports kind node = rowed_ports kind node
+
+-- Laws.
+
+-- names that are lent
+abbrev pub names_of : List (Bor (List ℕ)) → List (List ℕ)
+names_of names = map (λ name. name.now) names
+
+-- whether options are a calculator's
+abbrev pub are_options : CalculatorKind → List Entry → Bool
+are_options kind options = are_known (all_options kind) options && are_once (single_options kind) options
+
+-- the time of a side packet's one packet
+abbrev pub time_of : Tag → ℕ
+time_of AtPreStream = pre_stream
+time_of AtZero = place_of (pos 0)
+time_of tag = post_stream
+
+-- options with the values that they have where they are absent
+abbrev pub truth_or_false : List ℕ → List Entry → Option Bool
+truth_or_false name options = or_absent false truth_in_value (set_to name options)
+
+abbrev pub positive_or_one : List ℕ → List Entry → Option ℤ
+positive_or_one name options = or_absent (pos 1) positive (set_to name options)
+
+abbrev pub timestamp_or_zero : List ℕ → List Entry → Option ℤ
+timestamp_or_zero name options = or_absent (pos 0) timestamp_number (set_to name options)
+
+abbrev pub gate_law : NodeView → List Entry → Option Law
+gate_law node options =
+    option_map (λ empty_as_allow. law.Gate (lanes_of Gate node) (disallows node) empty_as_allow)
+    (truth_or_false (codes "empty_packets_as_allow") options)
+
+abbrev pub thins : List Entry → Bool
+thins options = is_absent_or is_asynchronous (set_to (codes "thinner_type") options)
+
+abbrev pub thinner_law : List Entry → Option Law
+thinner_law options =
+    if thins options then option_map law.Thin (positive_or_one (codes "period") options) else None
+
+abbrev pub map_law : MapKind → List Entry → Option Law
+map_law kind options = option_map (λ pair. law.Map pair.0 pair.1) (map_with kind options)
+
+abbrev pub filter_law : List Entry → Option Law
+filter_law options =
+    option_and_then (λ keep. option_map (law.Filter keep) (truth_or_false (codes "raise_bound") options))
+    (required keep_in (set_to (codes "keep") options))
+
+abbrev pub shift_law : List Entry → Option Law
+shift_law options = option_map law.Shift (number (codes "offset") options)
+
+abbrev pub counting_law : List Entry → Option Law
+counting_law options =
+    option_and_then (λ count. option_and_then (λ start. option_map (law.Count count start)
+    (positive_or_one (codes "step") options))
+    (timestamp_or_zero (codes "start") options))
+    (required call_count (set_to (codes "count") options))
+
+abbrev pub flight_or_one : List ℕ → List Entry → Option ℕ
+flight_or_one name options = or_absent 1 flight_limit (set_to name options)
+
+abbrev pub limiter_law : List Entry → Option Law
+limiter_law options = option_map law.Limiter (flight_or_one (codes "max_in_flight") options)
+
+-- a MergeCalculator whose handler takes packets as they come (MediaPipe, ImmediateInputStreamHandler) is a free node
+abbrev pub merge_law : NodeView → Law
+merge_law node =
+    if bytes_eq node.handler (codes "ImmediateInputStreamHandler") then law.FirstCome (lanes_of Merge node) else law.Merge (lanes_of Merge node)
+
+-- a calculator's law, if its options set it
+abbrev pub law_with : CalculatorKind → NodeView → List Entry → Option Law
+law_with PassThrough node options = Some law.Pass
+law_with Gate node options = gate_law node options
+law_with Mux node options = Some (law.Mux (lanes_of Mux node))
+law_with Cloner node options = Some (law.Cloner (lanes_of Cloner node))
+law_with Merge node options = Some (merge_law node)
+law_with Thinner node options = thinner_law options
+law_with Sum node options = Some (law.Sum (lanes_of Sum node))
+law_with (Map m) node options = map_law m options
+law_with Filter node options = filter_law options
+law_with Running node options = Some law.Running
+law_with Shift node options = shift_law options
+law_with Counting node options = counting_law options
+law_with SideToStream node options = Some (law.SideOnce (time_of (moment_of node)))
+law_with Constants node options = Some law.Constants
+law_with Loopback node options = Some law.Loopback
+law_with FlowLimiter node options = limiter_law options
+
+-- the side packets that a ConstantSidePacketCalculator writes: as many as its ports, each set by an option
+abbrev pub constants_with : CalculatorKind → NodeView → List Entry → Option (List Plain)
+constants_with Constants node options =
+    if length options == lanes_of Constants node then payloads_in (map (λ option. option.value) options) else None
+constants_with kind node options = Some []
+
+-- what a node's options set
+pub record SettingsView : Type 0 where
+  pub law : Law
+  pub constants : List Plain
+
+abbrev pub settings_with : CalculatorKind → NodeView → List Entry → Option SettingsView
+settings_with kind node options =
+    if are_options kind options
+    then option_and_then (λ rule. option_map (λ constants. record { law = rule; constants = constants }) (constants_with kind node options)) (law_with kind node options)
+    else None
+
+-- what the options of a node of a kind set, if they are options of that kind
+abbrev pub kind_settings : CalculatorKind → NodeView → Option SettingsView
+kind_settings kind node = option_and_then (settings_with kind node) (options_in node.calculator (entries node.options))
+
+-- what a calculator looks like at a node with these ports
+abbrev pub shape_with : List ℕ → Ports → Law → Shape
+shape_with name ports rule = record {
+  name = name;
+  inputs = ports.inputs;
+  outputs = ports.outputs;
+  sides = ports.sides;
+  offset = offset_of rule;
+  stateless = is_stateless rule;
+}
+
+-- a node's options are none, but perhaps an empty message of its calculator
+abbrev pub are_none : Option (List Entry) → Bool
+are_none None = false
+are_none (Some options) = length options == 0
+
+abbrev pub has_no_options : NodeView → Bool
+has_no_options node = are_none (options_in node.calculator (entries node.options))
