@@ -33,12 +33,12 @@ abbrev pub end_by : Option RefusedLine → FeedEnd
 end_by None = Ended
 end_by (Some refused) = Refused refused.number refused.fault
 
--- An input that ended after these bytes: the lines before the first that isn't good count.
+-- What an input comes to that ended after these bytes: the lines before the first that isn't good count.
 abbrev pub ended_input : GraphInputs → List ℕ → Read
 ended_input graph bytes = record { lines = accepted graph (all_lines bytes); end = end_by (first_refused_after graph [] (all_lines bytes)) }
 
--- An input of which a read failed after these bytes: only the lines that were whole before it count. All of these are good, since no read
--- comes behind a line that isn't.
+-- What an input comes to of which a read failed after these bytes: the lines that were whole before it count. All of these are good, since
+-- no read follows a line that isn't good.
 abbrev pub cut_input : GraphInputs → List ℕ → Read
 cut_input graph bytes = record { lines = accepted graph (whole_lines bytes); end = Failed (length (whole_lines bytes)) }
 
@@ -59,10 +59,11 @@ inputs_by graph read = record {
   ended = is_ended read.end;
 }
 
+-- the job of a plan over what an input came to
 abbrev pub job_of : Plan → Read → Job
 job_of plan read = record { plan = plan; inputs = inputs_by (inputs_of plan) read }
 
--- What is made for a graph where it is run without an input: so many packets, behind which every stream closes.
+-- What is made for a graph that is run without an input: `number` packets, behind which every stream closes.
 abbrev pub generated_inputs : GraphInputs → ℕ → Inputs
 generated_inputs graph number = record {
   streams = generated graph.kinds number;
@@ -70,13 +71,14 @@ generated_inputs graph number = record {
   ended = true;
 }
 
+-- the job of a plan over `number` packets that are made
 abbrev pub generated_job : Plan → ℕ → Job
 generated_job plan number = record { plan = plan; inputs = generated_inputs (inputs_of plan) number }
 
 -- The answer --
 
--- How a solution is told: by the lines of its outputs, by a summary of these, or by another text in their place, as that of the events
--- that led to it; and with a report behind the notes or without.
+-- How a solution is told: by the lines of its outputs, by a summary of these, or by another text in their place, such as a trace of the
+-- events that led to it; and with a report behind the notes or without.
 pub data Form : Type 0 where
   packet_lines : Form
   totals : Form
@@ -95,25 +97,27 @@ by_summary report = record { form = totals; report = report }
 abbrev pub by_text : List ℕ → Bool → Telling
 by_text text report = record { form = in_place text; report = report }
 
+-- the output text by which the streams of a plan are told in a form
 abbrev pub output_in : Form → Plan → List (StreamPrefix Plain) → List ℕ
 output_in packet_lines plan streams = output_of plan streams
 output_in totals plan streams = summary_of plan streams
 output_in (in_place text) plan streams = text
 
+-- what a run writes, and the status with which it ends
 pub record Answer : Type 0 where
   pub output : List ℕ
   pub notes : List ℕ
   pub status : Status
 
--- the notes of a run that ends with a status, over the streams of a job whose input ended so: the report stands last
+-- the notes of a run that ends with a status, by the streams of its job and by how its input ended; the report stands last
 abbrev pub notes_at : Status → Telling → Job → FeedEnd → List (StreamPrefix Plain) → List ℕ
 notes_at status telling job end streams = notes_of status job.plan end (faults job streams) streams ++ asked_report telling.report (report_of job streams)
 
--- the notes where a write of the output failed
+-- the notes of a run in which a write of the output failed
 abbrev pub failed_notes : Telling → Job → FeedEnd → List (StreamPrefix Plain) → List ℕ
 failed_notes telling job end streams = notes_at WriteFault telling job end streams
 
--- the answer that the streams of a job make, whose input ended so
+-- the answer that the streams of a job make, by how its input ended
 abbrev pub answer_of : Telling → Job → FeedEnd → List (StreamPrefix Plain) → Answer
 answer_of telling job end streams = record {
   output = output_in telling.form job.plan streams;
@@ -121,7 +125,7 @@ answer_of telling job end streams = record {
   status = status_of end (faults job streams) (stalled streams);
 }
 
--- An answer is that of a job and of how its input ended: the one that the job's solution makes.
+-- The answer of a job, by how its input ended: the one that the job's solution makes.
 pub record IsAnswerOf (telling : Telling) (job : Job) (end : FeedEnd) (answer : Answer) : Type 0 where
   pub streams : List (StreamPrefix Plain)
   pub solution : IsSolution job streams
@@ -131,13 +135,14 @@ pub record IsAnswerOf (telling : Telling) (job : Job) (end : FeedEnd) (answer : 
 abbrev pub IsAnswer : Bool → Plan → Read → Answer → Type 0
 IsAnswer report plan read answer = IsAnswerOf (by_lines report) (job_of plan read) read.end answer
 
--- the answer of a graph over an input that ended after these bytes, and over one of which a read failed after them
+-- the answer of a graph over an input that ended after these bytes
 abbrev pub AnswersEnded : Bool → Plan → List ℕ → Answer → Type 0
 AnswersEnded report plan bytes answer = IsAnswer report plan (ended_input (inputs_of plan) bytes) answer
 
+-- the answer of a graph over an input of which a read failed after these bytes
 abbrev pub AnswersCut : Bool → Plan → List ℕ → Answer → Type 0
 AnswersCut report plan bytes answer = IsAnswer report plan (cut_input (inputs_of plan) bytes) answer
 
--- the answer of a graph over so many packets that are made: a summary
+-- the answer of a graph over a number of packets that are made: its output is a summary
 abbrev pub AnswersGenerated : Bool → Plan → ℕ → Answer → Type 0
 AnswersGenerated report plan number answer = IsAnswerOf (by_summary report) (generated_job plan number) Ended answer

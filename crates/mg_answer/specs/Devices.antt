@@ -1,10 +1,11 @@
--- The devices of a run, and what the run did to each: what each told of itself before it, and tells now. What a source
--- and a sink did is said by mg_feed's words for it (`specs/Ran.antt` and `specs/Sent.antt` there).
+-- The devices of a run, and what the run did to each: what each told of itself before it, and tells now. The words for what a source and a
+-- sink did are those of mg_feed (`specs/Ran.antt` and `specs/Sent.antt` there).
 use Rattle.std.specs.Prelude.{◌≡◌, ◌⊎◌, ℕ, ◌^◌, ◌-◌, ◌<◌, List, ◌++◌}
 use Rattle.mg_edge.specs.Edge.{SourceTold, SinkTold}
 use Rattle.mg_edge.specs.Runs.{TookAll}
 use Rattle.mg_feed.specs.Sent.{SentAll, SentPart}
 
+-- what a device told of itself before a run or a call, and tells now
 pub record Device (T : Type 0) : Type 0 where
   pub before : T
   pub now : T
@@ -16,6 +17,7 @@ device before now = record { before = before; now = now }
 abbrev pub Untouched : {T : Type 0} → Device T → Type 0
 Untouched device = device.now ≡ device.before
 
+-- what the devices of a run told before it, and tell now
 pub record RunDevices : Type 0 where
   pub input : Device SourceTold
   pub output : Device SinkTold
@@ -42,7 +44,7 @@ pub record NoneFailed (devices : RunDevices) : Type 0 where
 
 -- Sinks --
 
--- one text begins with the other
+-- the second text begins with the first
 abbrev pub IsFront : List ℕ → List ℕ → Type 0
 IsFront front text = (rest : List ℕ) × (text ≡ front ++ rest)
 

@@ -1,5 +1,5 @@
--- What a run answers of a job whose input was frozen, as a recorded run may say of its job: the input didn't end well, and nothing is told
--- of why. So each stream stays as its lines left it, and none is told to have stalled.
+-- What a run answers of a job whose input was frozen, as a recorded run may say of its job: the input didn't end well, and why isn't told.
+-- So each stream stays as its lines left it, and none is told to have stalled.
 use Rattle.std.specs.Prelude.{◌≡◌, ℕ, List, [], ◌++◌}
 use Rattle.mg_edge.specs.Edge.{SinkTold}
 use Rattle.mg_value.specs.Payload.{Plain}
@@ -16,14 +16,15 @@ use Rattle.mg_answer.specs.Devices.{Device}
 use Rattle.mg_answer.specs.Wrote.{WroteBy}
 use Rattle.mg_answer.specs.declared.status.Status.{Status}
 
--- the status: a node failed, or all went well
+-- the status over a frozen job: that a node failed, or that all went well
 abbrev pub frozen_status : List NodeFault → Status
 frozen_status faults = ended_status faults []
 
--- the notes: each node's fault, and the report where it is asked for
+-- the notes over a frozen job: each node's fault, the notes of the status, and the report where it is asked for
 abbrev pub frozen_notes : Status → Telling → Job → List (StreamPrefix Plain) → List ℕ
 frozen_notes status telling job streams = notes_by status job.plan Ended (faults job streams) (bounds_of streams) [] ++ asked_report telling.report (report_of job streams)
 
+-- the answer that the streams of a frozen job make
 abbrev pub frozen_answer : Telling → Job → List (StreamPrefix Plain) → Answer
 frozen_answer telling job streams = record {
   output = output_in telling.form job.plan streams;
@@ -31,13 +32,13 @@ frozen_answer telling job streams = record {
   status = frozen_status (faults job streams);
 }
 
--- An answer is that of a frozen job: the one that the job's solution makes.
+-- The answer of a frozen job: the one that the job's solution makes.
 pub record IsFrozenAnswer (telling : Telling) (job : Job) (answer : Answer) : Type 0 where
   pub streams : List (StreamPrefix Plain)
   pub solution : IsSolution job streams
   pub is : answer ≡ frozen_answer telling job streams
 
--- the answer of a frozen job was written, in this form, and with a report or without
+-- the answer of a frozen job was written, told in this form, and with a report or without
 pub record WroteFrozen (telling : Telling) (job : Job) (status : Status) (output notes : Device SinkTold) : Type 0 where
   pub streams : List (StreamPrefix Plain)
   pub solution : IsSolution job streams

@@ -9,7 +9,7 @@ use Rattle.mg_answer.specs.Answer.{Read, inputs_by}
 use Rattle.mg_answer.specs.Devices.{Device}
 use Rattle.mg_answer.specs.Ran.{CameTo}
 
--- an input came to lines, all of them good, and to this end; and this is what the lines give
+-- an input came to lines, all of them good, and to this end; and the inputs are what these lines give the graph
 pub record Gathered (graph : GraphInputs) (input : Device SourceTold) (end : FeedEnd) (inputs : Inputs) : Type 0 where
   pub read : Read
   pub came : CameTo graph input read

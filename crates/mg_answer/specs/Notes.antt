@@ -25,7 +25,7 @@ use Rattle.mg_answer.specs.declared.status.Status.TheVariants as runs
 
 -- The input --
 
--- why a value is no payload. Want of memory isn't noted
+-- the word for why a value is no payload; want of memory has none
 abbrev pub value_name : ValueFault → List ℕ
 value_name values.Fraction = codes "Fraction"
 value_name values.Null = codes "Null"
@@ -33,7 +33,7 @@ value_name values.TooDeep = codes "TooDeep"
 value_name values.TooWide = codes "TooWide"
 value_name values.OutOfMemory = []
 
--- why a line isn't good
+-- the words for why a line isn't good; want of memory has none
 abbrev pub line_refusal : LineFault → List ℕ
 line_refusal lines.NotJson = codes "NotJson"
 line_refusal lines.BadShape = codes "BadShape"
@@ -50,13 +50,15 @@ line_refusal lines.SideTwice = codes "SideTwice"
 line_refusal lines.NotAlone = codes "NotAlone"
 line_refusal lines.OutOfMemory = []
 
+-- the note that the line of a number was refused, and why
 abbrev pub line_note : ℕ → LineFault → List ℕ
 line_note line cause = codes "line " ++ decimal line ++ codes ": " ++ line_refusal cause ++ codes "\n"
 
+-- the note that a read failed after so many whole lines
 abbrev pub read_note : ℕ → List ℕ
 read_note lines = codes "read fault after line " ++ decimal lines ++ codes "\n"
 
--- how an input ended, where it didn't end well
+-- the note of how an input ended: of a failed read or a refused line, and else none
 abbrev pub end_note : FeedEnd → List ℕ
 end_note Ended = []
 end_note (Failed lines) = read_note lines
@@ -65,6 +67,7 @@ end_note OutOfMemory = []
 
 -- The nodes --
 
+-- the word for why a node failed
 abbrev pub cause_name : Cause → List ℕ
 cause_name causes.Overflow = codes "Overflow"
 cause_name causes.BadSelect = codes "BadSelect"
@@ -77,7 +80,7 @@ cause_name causes.BelowOffset = codes "BelowOffset"
 cause_name causes.EmitsInClose = codes "EmitsInClose"
 cause_name causes.TooDeep = codes "TooDeep"
 
--- when a node failed
+-- the text of the call in which a node failed
 abbrev pub phase_text : Phase → List ℕ
 phase_text Open = codes "open"
 phase_text (Call number) = codes "call " ++ decimal number
@@ -88,10 +91,11 @@ phase_text Close = codes "close"
 abbrev pub label_of : Plan → ℕ → List ℕ
 label_of plan number = unwrap_or (option_map (λ node. node.label) (slice_get plan.nodes number)) []
 
--- a node's number and its label
+-- the text of a node: its number and its label
 abbrev pub node_text : Plan → ℕ → List ℕ
 node_text plan number = codes "node " ++ decimal number ++ codes " " ++ shown (label_of plan number) ++ codes ": "
 
+-- the note of a node's fault: the node, the call in which it failed, and why
 abbrev pub fault_note : Plan → NodeFault → List ℕ
 fault_note plan fault = node_text plan fault.node ++ phase_text fault.phase ++ codes ": " ++ cause_name fault.cause ++ codes "\n"
 
@@ -101,7 +105,7 @@ fault_note plan fault = node_text plan fault.node ++ phase_text fault.phase ++ c
 abbrev pub bounds_of : List (StreamPrefix Plain) → List ℕ
 bounds_of streams = map (λ s. s.bound) streams
 
--- a stream that hasn't ended, and its bound
+-- the note of a stream that hasn't ended: its name and its bound
 abbrev pub stall_note : Plan → List ℕ → ℕ → List ℕ
 stall_note plan bounds number =
     codes "stalled: " ++ shown (name_of plan number) ++ codes " " ++ time_text (slice_index_or bounds number pre_stream) ++ codes "\n"
@@ -114,16 +118,16 @@ arrival_note node port at = codes "free " ++ decimal node ++ codes " " ++ decima
 
 -- The end --
 
--- something couldn't be written
+-- the note that something couldn't be written
 abbrev pub write_note : List ℕ
 write_note = codes "write fault\n"
 
--- memory ran out; it is the only note then
+-- the note that memory ran out, which is the only one then
 abbrev pub memory_note : List ℕ
 memory_note = codes "out of memory\n"
 
--- What three of the statuses are noted by, each at that status alone: the streams of these numbers haven't ended; a write failed;
--- memory ran out.
+-- The notes of a status: that the streams of these numbers haven't ended, that a write failed, or that memory ran out. Any other status has
+-- none.
 abbrev pub status_notes : Status → Plan → List ℕ → List ℕ → List ℕ
 status_notes runs.Good plan bounds stalled = []
 status_notes runs.StoreFault plan bounds stalled = []
@@ -136,12 +140,12 @@ status_notes runs.ReadFault plan bounds stalled = []
 status_notes runs.WriteFault plan bounds stalled = write_note
 status_notes runs.OutOfMemory plan bounds stalled = memory_note
 
--- All notes of a run that ends with a status: how the input ended, then each node's fault in node order, then what the status is
--- noted by, the streams in stream order. Of the streams it takes the bounds and the numbers of those that stalled.
+-- All notes of a run that ends with a status: how the input ended, then each node's fault in node order, then the notes of the status, with
+-- streams in stream order. `bounds` has the bound of each stream, and `stalled` the numbers of those that stalled.
 abbrev pub notes_by : Status → Plan → FeedEnd → List NodeFault → List ℕ → List ℕ → List ℕ
 notes_by status plan end faults bounds stalled =
     end_note end ++ flat_map (fault_note plan) faults ++ status_notes status plan bounds stalled
 
--- the notes that the streams of a plan make
+-- all notes of a run, where the streams of its plan are known
 abbrev pub notes_of : Status → Plan → FeedEnd → List NodeFault → List (StreamPrefix Plain) → List ℕ
 notes_of status plan end faults streams = notes_by status plan end faults (bounds_of streams) (stalled streams)

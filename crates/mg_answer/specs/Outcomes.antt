@@ -1,4 +1,4 @@
--- What a run tells in its notes and in its report, and what it answers by that.
+-- What a run tells in its notes and in its report, and the answer that this makes.
 use Rattle.std.specs.Prelude.{◌≡◌, ℕ, Bool, List, [], ◌++◌, map}
 use Rattle.mg_value.specs.Payload.{Plain}
 use Rattle.mg_value.specs.Prefix.{StreamPrefix}
@@ -14,22 +14,23 @@ use Rattle.mg_answer.specs.declared.outcomes.Outcomes.{Outcomes}
 use Rattle.mg_answer.specs.declared.status.Status.{Status}
 use Rattle.mg_answer.specs.declared.status.Status.TheVariants.{WriteFault}
 
--- the streams of a job tell this: its nodes' faults, how many sets each node was shown, and how far each stream has come; no node is free
+-- the outcomes tell these streams of a job: its nodes' faults, how many sets each node was shown, and how far each stream has come; no node
+-- is free
 pub record TellsOf (job : Job) (streams : List (StreamPrefix Plain)) (outcomes : Outcomes) : Type 0 where
   pub faults : outcomes.faults ≡ the_faults job streams
   pub sets : outcomes.sets ≡ counts job streams
   pub ends : outcomes.ends.items ≡ map end_of streams
   pub arrivals : outcomes.arrivals.items ≡ []
 
--- The notes at a status, where these streams stalled: the lines of the arrivals at free nodes stand behind the others, and then comes the
--- report where it is asked for.
+-- The notes of a run that ends with a status and in which these streams stalled: the lines of the arrivals at free nodes stand behind the
+-- others, and then comes the report where it is asked for.
 abbrev pub told_notes : Status → Bool → Plan → FeedEnd → Outcomes → List ℕ → List ℕ
 told_notes status report plan end outcomes stalled =
     notes_by status plan end outcomes.faults (end_bounds outcomes.ends.items) stalled
     ++ outcomes.arrivals.items
     ++ asked_report report (report_by plan outcomes.sets outcomes.ends.items)
 
--- the answer, whose output is a text
+-- the answer of a run by its outcomes, whose output is this text
 abbrev pub told_answer : Bool → Plan → FeedEnd → Outcomes → List ℕ → Answer
 told_answer report plan end outcomes text = record {
   output = text;
@@ -37,6 +38,6 @@ told_answer report plan end outcomes text = record {
   status = status_of end outcomes.faults (open_numbers outcomes.ends.items);
 }
 
--- the notes where a write of the output failed
+-- the notes of a run, by its outcomes, in which a write of the output failed
 abbrev pub told_failed : Bool → Plan → FeedEnd → Outcomes → List ℕ
 told_failed report plan end outcomes = told_notes WriteFault report plan end outcomes (open_numbers outcomes.ends.items)

@@ -3,18 +3,18 @@ use Rattle.std.specs.Prelude.{◌≡◌, ℕ, List, [], ◌++◌, Bool, true, fa
 use Rattle.mg_edge.specs.Edge.{SinkTold}
 use Rattle.mg_feed.specs.Sent.{SentAll, SentPart}
 
--- what puts a text: the names of the outputs whose lines it writes, the bytes that aren't written yet, and whether a write
--- has failed
+-- An output text as contracts see it: the names of the outputs whose lines it has, the bytes that aren't written yet, and whether a write
+-- has failed.
 pub record TextView : Type 0 where
   pub names : List (List ℕ)
   pub kept : List ℕ
   pub failed : Bool
 
--- nothing is put yet
+-- the output text of these outputs of which nothing is put yet
 abbrev pub nothing_put : List (List ℕ) → TextView
 nothing_put names = record { names = names; kept = []; failed = false }
 
--- what writes a text in blocks: the bytes that aren't written yet, and whether a write has failed
+-- a text that is written in blocks, as contracts see it: the bytes that aren't written yet, and whether a write has failed
 pub record BlockView : Type 0 where
   pub kept : List ℕ
   pub failed : Bool
@@ -32,5 +32,6 @@ PutBy false first now kept text = (sent : List ℕ) × SentAll first now sent ×
 abbrev pub HasPutIn : SinkTold → SinkTold → BlockView → List ℕ → Type 0
 HasPutIn first now view text = PutBy view.failed first now view.kept text
 
+-- All of an output text was put, into a sink that told `first` before and tells `now`.
 abbrev pub HasPut : SinkTold → SinkTold → TextView → List ℕ → Type 0
 HasPut first now view text = PutBy view.failed first now view.kept text

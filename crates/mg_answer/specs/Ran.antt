@@ -24,9 +24,9 @@ use Rattle.mg_answer.specs.declared.status.Status.TheVariants.{WriteFault, OutOf
 
 -- The input --
 
--- What the bytes that came in a call say of the input. It ended after them: the source answered `End`, and nothing of it is
--- left where it tells that. Or one of their lines isn't good, whatever bytes may follow, of which there are none where the
--- source has ended. Or a read failed after them, and their whole lines are all good.
+-- How the bytes that came in a call show what an input came to. It ended after them: the source answered `End`, and where it tells its
+-- bytes none is left. Or one of their lines isn't good, whatever bytes may follow, of which there are none where the source has ended. Or a
+-- read failed after them, and their whole lines are all good.
 abbrev pub CameAs : FeedEnd → GraphInputs → Device SourceTold → List ℕ → Read → Type 0
 CameAs Ended graph input came read = EndCame input.before input.now × (read ≡ ended_input graph came)
 CameAs (Failed lines) graph input came read = (read ≡ cut_input graph came) × (read.lines ≡ whole_lines came)
@@ -34,9 +34,9 @@ CameAs (Refused line cause) graph input came read =
     (ended : Bool) × MetEnd false ended input.before input.now × ((more : List ℕ) → (ended ≡ true → more ≡ []) → read ≡ ended_input graph (came ++ more))
 CameAs no_lines graph input came read = ⊥
 
--- An input was read to its end, to its first line that isn't good, or until a read failed, and came to this. A read failed
--- exactly in the last of these cases, and nothing was read after it. It was read once, and no further than to the block in which its
--- first line that isn't good ends.
+-- An input was read to its end, to its first line that isn't good, or until a read failed, and came to these lines and this end. A read
+-- failed exactly in the last of these cases, and nothing was read after it. The input was read once, and no further than to the block in
+-- which its first line that isn't good ends.
 pub record CameTo (graph : GraphInputs) (input : Device SourceTold) (read : Read) : Type 0 where
   pub came : List ℕ
   pub gave : Gave input.before.left input.now.left came
@@ -45,7 +45,7 @@ pub record CameTo (graph : GraphInputs) (input : Device SourceTold) (read : Read
   pub once : ReadsOnce graph input.before input.now came
   pub few : length read.lines ≤ most_lines
 
--- Some of an input was read, once and no further, or none of it: no read failed, or the last one did.
+-- Some of an input was read, or none of it, once and no further than needed: no read failed, or the last one did.
 pub record ReadSome (graph : GraphInputs) (input : Device SourceTold) : Type 0 where
   pub came : List ℕ
   pub gave : Gave input.before.left input.now.left came
@@ -54,7 +54,7 @@ pub record ReadSome (graph : GraphInputs) (input : Device SourceTold) : Type 0 w
 
 -- The run --
 
--- The run met the answer over what its input came to.
+-- The run wrote the answer over what its input came to, and ended with its status.
 pub record RanAll (report : Bool) (plan : Plan) (status : Status) (devices : RunDevices) : Type 0 where
   pub read : Read
   pub input : CameTo (inputs_of plan) devices.input read
@@ -62,7 +62,7 @@ pub record RanAll (report : Bool) (plan : Plan) (status : Status) (devices : Run
   pub is : IsAnswer report plan read answer
   pub met : Meets answer status devices.output devices.notes
 
--- A write failed, after the input was read.
+-- A write failed, after the input was read; what was written is of the answer over what the input came to.
 pub record RanShort (report : Bool) (plan : Plan) (devices : RunDevices) : Type 0 where
   pub read : Read
   pub input : CameTo (inputs_of plan) devices.input read
@@ -82,14 +82,14 @@ pub record TookSome (plan : Plan) (input : Device SourceTold) (output : Device S
 abbrev pub RanOut : Plan → RunDevices → Type 0
 RanOut plan devices = Untouched devices.output ⊎ TookSome plan devices.input devices.output
 
--- A run ended with this status. Where memory ran out the notes say that alone, and so far as the input was read, it was read once.
+-- A run ended with this status. Where memory ran out the notes say that alone, and what was read of the input was read once.
 abbrev pub Ran : Bool → Plan → Status → RunDevices → Type 0
 Ran report plan WriteFault devices = RanShort report plan devices
 Ran report plan OutOfMemory devices = RanOut plan devices × Noted devices.notes memory_note × ReadSome (inputs_of plan) devices.input
 Ran report plan status devices = RanAll report plan status devices
 
--- Memory ran out: after the input was read, and the output took a front of the answer's text over what it came to; or while it
--- came, and where the input tells its bytes the output took a front of the answer's text over an input that ends after them.
+-- Memory ran out. Either the input was read, and the output took a front of the answer's text over what it came to; or it was still being
+-- read, and where the input tells its bytes the output took a front of the answer's text over an input that ends after them.
 abbrev pub RanShortOf : Plan → RunDevices → Type 0
 RanShortOf plan devices =
     TookSome plan devices.input devices.output ⊎ IfSome devices.input.before.left (λ bytes. (streams : List (StreamPrefix Plain))
@@ -101,32 +101,32 @@ RanOn report plan WriteFault devices = RanShort report plan devices
 RanOn report plan OutOfMemory devices = RanShortOf plan devices × Noted devices.notes memory_note
 RanOn report plan status devices = RanAll report plan status devices
 
--- Where the input tells its bytes, the run met the answer over an input that ends after them.
+-- Where the input tells its bytes, the run wrote the answer over an input that ends after them.
 abbrev pub IsAnswered : Bool → Plan → Status → RunDevices → Type 0
 IsAnswered report plan status devices =
     IfSome devices.input.before.left (λ bytes. (answer : Answer) × AnswersEnded report plan bytes answer × Meets answer status devices.output devices.notes)
 
 -- A run over packets that are made --
 
--- It met the answer over these.
+-- The run wrote the answer over the packets that are made.
 pub record GeneratedAll (report : Bool) (plan : Plan) (number : ℕ) (status : Status) (devices : RunDevices) : Type 0 where
   pub answer : Answer
   pub is : AnswersGenerated report plan number answer
   pub met : Meets answer status devices.output devices.notes
 
--- A write failed.
+-- A write failed in a run over packets that are made; what was written is of the answer over these.
 pub record GeneratedShort (report : Bool) (plan : Plan) (number : ℕ) (devices : RunDevices) : Type 0 where
   pub answer : Answer
   pub is : AnswersGenerated report plan number answer
   pub short : MetShort answer (failed_notes (by_summary report) (generated_job plan number) Ended is.streams) devices.output devices.notes
 
--- Memory ran out: the output took a front of the summary.
+-- Memory ran out in a run over packets that are made: the output took a front of the summary.
 pub record GeneratedSome (plan : Plan) (number : ℕ) (output : Device SinkTold) : Type 0 where
   pub streams : List (StreamPrefix Plain)
   pub solution : IsSolution (generated_job plan number) streams
   pub front : TookFront output (summary_of plan streams)
 
--- A run over so many packets that are made ended with this status.
+-- A run over a number of packets that are made ended with this status.
 abbrev pub RanGenerated : Bool → Plan → ℕ → Status → RunDevices → Type 0
 RanGenerated report plan number WriteFault devices = GeneratedShort report plan number devices
 RanGenerated report plan number OutOfMemory devices = GeneratedSome plan number devices.output × Noted devices.notes memory_note

@@ -17,24 +17,25 @@ use Rattle.mg_answer.specs.declared.outcomes.StreamEnd.{StreamEnd}
 abbrev pub end_of : StreamPrefix Plain → StreamEnd
 end_of s = record { packets = length s.packets; bound = s.bound }
 
--- the numbers of the streams that haven't ended, by the ends of all; and the bounds
+-- the numbers of the streams that haven't ended, where the list tells how far each stream has come
 abbrev pub open_numbers : List StreamEnd → List ℕ
 open_numbers ends = map (λ entry. entry.0) (filter (λ entry. not (entry.1.bound == done)) (numbered ends))
 
+-- the bounds of streams, by how far each has come
 abbrev pub end_bounds : List StreamEnd → List ℕ
 end_bounds ends = map (λ e. e.bound) ends
 
--- a node, and how many sets it was shown; of a source how often it was called, of a loopback how many packets it answered, and of a free
--- node how many packets arrived
+-- the line of a node: its number, its label, and how many sets it was shown; of a source how often it was called, of a loopback how many
+-- packets it answered, and of a free node how many packets arrived
 abbrev pub node_line : Plan → ℕ × ℕ → List ℕ
 node_line plan entry = codes "node " ++ decimal entry.0 ++ codes " " ++ shown (label_of plan entry.0) ++ codes " sets=" ++ decimal entry.1 ++ codes "\n"
 
--- a stream, its packets and its bound
+-- the line of a stream: its name, how many packets it has, and its bound
 abbrev pub stream_line : Plan → ℕ × StreamEnd → List ℕ
 stream_line plan entry =
     codes "stream " ++ shown (name_of plan entry.0) ++ codes " packets=" ++ decimal entry.1.packets ++ codes " bound=" ++ time_text entry.1.bound ++ codes "\n"
 
--- a line for each node, in node order, and then one for each stream, in stream order
+-- the report: a line for each node, in node order, and then one for each stream, in stream order
 abbrev pub report_by : Plan → List ℕ → List StreamEnd → List ℕ
 report_by plan sets ends = flat_map (node_line plan) (numbered sets) ++ flat_map (stream_line plan) (numbered ends)
 
@@ -42,6 +43,6 @@ report_by plan sets ends = flat_map (node_line plan) (numbered sets) ++ flat_map
 abbrev pub report_of : Job → List (StreamPrefix Plain) → List ℕ
 report_of job streams = report_by job.plan (counts job streams) (map end_of streams)
 
--- it stands behind the other notes where it is asked for
+-- the report where it is asked for, and else nothing
 abbrev pub asked_report : Bool → List ℕ → List ℕ
 asked_report asked report = if asked then report else []

@@ -1,4 +1,4 @@
--- Texts that a note repeats.
+-- Texts that a note repeats: control bytes are written as escapes, so that the note stays one line.
 use Rattle.std.specs.Prelude.{ℕ, Bool, List, ◌∷◌, [], ◌||◌, ◌==◌, nat_lt, if◌then◌else◌}
 use Rattle.std.specs.List.{flat_map}
 use Rattle.mg_text.specs.Canonical.{escape}
@@ -11,5 +11,6 @@ is_control b = nat_lt b 32 || b == 127
 abbrev pub shown_byte : ℕ → List ℕ
 shown_byte b = if is_control b then escape b else b ∷ []
 
+-- a text as a note repeats it, byte by byte
 abbrev pub shown : List ℕ → List ℕ
 shown text = flat_map shown_byte text

@@ -14,9 +14,9 @@ use Rattle.mg_answer.specs.Shown.{shown}
 use Rattle.mg_answer.specs.Text.{output_names}
 use Rattle.mg_answer.specs.declared.total.Total.{Total}
 
--- What is told of an output --
+-- The totals of an output --
 
--- a whole number counts as itself, and every other payload as 0
+-- the number that a payload adds to a sum: a whole number counts as itself, and every other payload as 0
 abbrev pub number_in : Plain → ℤ
 number_in (flag b) = pos 0
 number_in (int n) = n
@@ -29,14 +29,16 @@ abbrev pub sum_of : List (Stamped Plain) → ℤ
 sum_of [] = pos 0
 sum_of (p ∷ ps) = number_in p.value +ℤ sum_of ps
 
--- the time of the first of some packets, where there is one, and that of the last
+-- the time of the first of some packets, where there is one
 abbrev pub first_time_of : List (Stamped Plain) → Option ℕ
 first_time_of [] = None
 first_time_of (p ∷ ps) = Some p.at
 
+-- the time of the last of some packets, where there is one
 abbrev pub last_time_of : List (Stamped Plain) → Option ℕ
 last_time_of ps = first_time_of (reverse ps)
 
+-- the totals of some packets
 abbrev pub total_of : List (Stamped Plain) → Total
 total_of ps = record { packets = length ps; first = first_time_of ps; last = last_time_of ps; sum = sum_of ps }
 
@@ -51,32 +53,33 @@ abbrev pub time_or_dash : Option ℕ → List ℕ
 time_or_dash None = codes "-"
 time_or_dash (Some t) = time_text t
 
+-- the line of an output in a summary: its name and its totals
 abbrev pub total_line : List ℕ → Total → List ℕ
 total_line name total =
     shown name ++ codes " packets=" ++ decimal total.packets ++ codes " first=" ++ time_or_dash total.first
     ++ codes " last=" ++ time_or_dash total.last ++ codes " sum=" ++ signed_decimal total.sum ++ codes "\n"
 
--- a line for each output of these names, in order, told of the sets that the output text is made of
+-- the summary of sets: a line for each output of these names, in order, with the totals of its packets in these sets
 abbrev pub summary_text : List (List ℕ) → List (TimedSet Plain) → List ℕ
 summary_text names sets = flat_map (λ entry. total_line entry.1 (total_of (packets_at entry.0 sets))) (numbered names)
 
--- The summary that the streams of a plan make, of the same sets as the output text.
+-- The summary that the streams of a plan make, over the same sets as the output text.
 abbrev pub summary_of : Plan → List (StreamPrefix Plain) → List ℕ
 summary_of plan streams = summary_text (output_names plan) (settled_sets Default (inputs_of streams plan.outputs))
 
--- What is put --
+-- What is counted --
 
--- what counts sets: the names of the outputs, what is told of each, and how many sets were put
+-- a summary as contracts see it: the names of the outputs, the totals of each, and how many sets were put
 pub record SummaryView : Type 0 where
   pub names : List (List ℕ)
   pub totals : List Total
   pub sets : ℕ
 
--- what some sets tell of the outputs of these names, in order
+-- the totals of the outputs of these names in some sets, in order
 abbrev pub totals_of : List (List ℕ) → List (TimedSet Plain) → List Total
 totals_of names sets = map (λ entry. total_of (packets_at entry.0 sets)) (numbered names)
 
--- Some sets were put, and no others.
+-- A summary has counted these sets, and no others.
 pub record HasSummed (view : SummaryView) (sets : List (TimedSet Plain)) : Type 0 where
   pub told : view.totals ≡ totals_of view.names sets
   pub counted : view.sets ≡ length sets

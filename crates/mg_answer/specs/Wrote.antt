@@ -16,19 +16,20 @@ pub record Meets (answer : Answer) (status : Status) (output notes : Device Sink
   pub noted : TookText notes answer.notes
   pub told : status ≡ answer.status
 
--- A write failed, after all was told. Where none to the output did, it took all of the answer's text, and the notes took a front of the
--- answer's. Where one did, the notes took those that say so (`failed`), or a front of them where a write of them failed too.
+-- A write failed. The output took a front of the answer's text, and all of it where no write to the output failed. Where one did, the notes
+-- took the text that says so (`failed`), or a front of that; where none did, they took a front of the answer's notes.
 pub record MetShort (answer : Answer) (failed : List ℕ) (output notes : Device SinkTold) : Type 0 where
   pub rose : Rose output.before.faults output.now.faults ⊎ Rose notes.before.faults notes.now.faults
   pub front : TookFront output answer.output
   pub whole : Rose output.before.faults output.now.faults ⊎ TookText output answer.output
   pub noted : (Rose output.before.faults output.now.faults × Noted notes failed) ⊎ (TookText output answer.output × TookPart notes answer.notes)
 
+-- what was written of an answer, by the status with which it was written
 abbrev pub WroteBy : Status → Answer → List ℕ → Device SinkTold → Device SinkTold → Type 0
 WroteBy WriteFault answer failed output notes = MetShort answer failed output notes
 WroteBy status answer failed output notes = Meets answer status output notes
 
--- the answer that the solution of a job makes was written, in this form, and with a report or without
+-- the answer that the solution of a job makes was written, told in this form, and with a report or without
 pub record Wrote (telling : Telling) (job : Job) (end : FeedEnd) (status : Status) (output notes : Device SinkTold) : Type 0 where
   pub streams : List (StreamPrefix Plain)
   pub solution : IsSolution job streams

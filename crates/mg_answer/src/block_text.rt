@@ -9,15 +9,15 @@ use mg_feed::put_all;
 use std::alloc::{AllocError, Global};
 use std::marker::Model;
 
-// How many bytes a text has before they are handed on.
+// How many bytes of a text are kept before they are written.
 const BLOCK: usize = 1 << 16;
 
 /// What can be put at a text's end.
 pub trait Puts {
-    /// The bytes that it puts.
+    /// The bytes that a value puts.
     ghost says: { Self → List ℕ };
 
-    /// Puts it at a text's end. After an `Err` the text is as it was.
+    /// Puts the value's bytes at a text's end. After an `Err` the text is as it was.
     fn put_at(&self, text: &mut Vec<u8>) -> Result<(), AllocError>
         ensures put { OnOk result (text.new.items ≡ text.old.items ++ says self.now) }
         ensures unchanged { OnErr result (text.new.items ≡ text.old.items) };
@@ -65,8 +65,8 @@ impl BlockText {
         }
     }
 
-    /// Puts a part, and writes what isn't written once it has a block of bytes. After a failed write it puts nothing more. After an
-    /// `Err` nothing of the part was put: the text and the output are as they were.
+    /// Puts a part, and writes the bytes that aren't written yet once there are 64 KiB of them. After a failed write it puts nothing more.
+    /// After an `Err` nothing of the part was put: the text and the output are as they were.
     pub fn put<P: Puts, K: Sink>(&mut self, part: &P, output: &mut K) -> Result<(), AllocError>
         ensures put { OnOk result ((first : SinkTold) (text : List ℕ) → HasPutIn first (K.told output.old) self.old text
             → HasPutIn first (K.told output.new) self.new (text ++ P.says part.now)) }
@@ -81,7 +81,7 @@ impl BlockText {
         Ok(())
     }
 
-    /// Writes all that isn't written yet, unless a write has failed.
+    /// Writes the bytes that aren't written yet, unless a write has failed.
     pub fn flush<K: Sink>(&mut self, output: &mut K)
         ensures put { (first : SinkTold) (text : List ℕ) → HasPutIn first (K.told output.old) self.old text → HasPutIn first (K.told output.new) self.new text }
         ensures kept { self.new.failed ≡ false → self.new.kept ≡ [] }
@@ -101,7 +101,7 @@ impl BlockText {
     }
 }
 
-// Hands a text on once it has a block of bytes. False where a write failed.
+// Writes a text and empties it, once it has a block of bytes. Returns false where a write failed.
 fn hand_on<K: Sink>(output: &mut K, text: &mut Vec<u8>) -> bool
     ensures { HandedOn result (K.told output.old) (K.told output.new) text.old.items text.new.items }
 {

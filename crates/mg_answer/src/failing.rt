@@ -13,7 +13,7 @@ pub const WRITE_NOTE: &[u8] = b"write fault\n";
 /// The note that memory ran out.
 pub const MEMORY_NOTE: &[u8] = b"out of memory\n";
 
-/// Notes that a text couldn't be written, and answers the status that says so. It takes no memory.
+/// Notes that a text couldn't be written, and returns the status that says so. This allocates nothing.
 pub fn note_write_fault<E: Sink>(notes: &mut E) -> Status
     ensures status { result ≡ Status.WriteFault }
     ensures noted { Noted (device (E.told notes.old) (E.told notes.new)) write_note }
@@ -22,7 +22,7 @@ pub fn note_write_fault<E: Sink>(notes: &mut E) -> Status
     Status::WriteFault
 }
 
-/// Notes that memory ran out, and answers the status that says so. It takes no memory.
+/// Notes that memory ran out, and returns the status that says so. This allocates nothing.
 pub fn note_out_of_memory<E: Sink>(notes: &mut E) -> Status
     ensures status { result ≡ Status.OutOfMemory }
     ensures noted { Noted (device (E.told notes.old) (E.told notes.new)) memory_note }

@@ -32,13 +32,14 @@ ghost use Rattle.mg_answer.specs.Ran.{CameTo, RanOn, RanGenerated, IsAnswered};
 ghost use Rattle.mg_answer.specs.declared.status.Status.{Status};
 ghost use Rattle.mg_answer.specs.declared.status.Status.TheVariants.{Good, NodeFault, Stalled, ReadFault, WriteFault, OutOfMemory};
 
-/// What good lines give the graph of a valid plan, which may have free nodes, fits the plan: a prefix for each input, by the rule of streams, and a
-/// place for each side packet.
+/// What good lines give the graph of a valid plan, which may have free nodes, fits the plan: a prefix for each input, by the rule of
+/// streams, and a place for each side packet.
 pub fn what_lines_give_fits()
     ensures { (plan : Plan) (read : Read) → IsValidWithFree plan → AllGood (inputs_of plan) [] read.lines → InputsFit plan (inputs_by (inputs_of plan) read) }
 {}
 
-/// The packets that are made for such a plan's graph fit the plan: each input has a prefix, which has ended.
+/// The packets that are made for the graph of a valid plan, which may have free nodes, fit the plan: each input has a prefix, which has
+/// ended.
 pub fn generated_packets_fit()
     ensures { (plan : Plan) (number : ℕ) → IsValidWithFree plan → number < 2 ^ 32 → InputsFit plan (generated_inputs (inputs_of plan) number) }
 {}
@@ -64,7 +65,7 @@ pub fn what_has_no_fault_is_good()
         → AnswersGenerated report plan number answer → answer ≡ record { output = summary_of plan streams; notes = asked_report report (report_of job streams); status = Good } }
 {}
 
-/// A text to which nothing was put holds all of the empty text. And of what was put so far the sink took a front, and nothing else.
+/// Of a new text the empty text was put. Of whatever text was put so far the sink took a front, and nothing else.
 pub fn what_is_put_is_taken_in_front()
     ensures nothing { (first : SinkTold) (names : List (List ℕ)) → HasPut first first (nothing_put names) [] }
     ensures front { (first now : SinkTold) (view : TextView) (text : List ℕ) → HasPut first now view text → TookFront (device first now) text }
@@ -76,7 +77,7 @@ pub fn the_front_of_the_text()
 {}
 
 /// What follows where a run that writes as it goes ended with a status: unless memory ran out, its input was read to its
-/// end, its first line that isn't good, or its first fault, and where no device failed the run met the answer; where it went
+/// end, its first line that isn't good, or its first fault, and where no device failed the run wrote the answer; where it went
 /// well, or a node failed or a stream never closed, the input's end was met. No fault of a device hides behind another status.
 pub fn runs_that_write_as_they_go()
     ensures read { (report : Bool) (plan : Plan) (status : Status) (devices : RunDevices) → RanOn report plan status devices → status ≢ OutOfMemory
@@ -92,7 +93,7 @@ pub fn runs_that_write_as_they_go()
         → IsOneOf status (WriteFault ∷ OutOfMemory ∷ []) }
 {}
 
-/// What follows where a run over packets that are made ended with a status: unless memory ran out, it met the answer where neither
+/// What follows where a run over packets that are made ended with a status: unless memory ran out, it wrote the answer where neither
 /// the output nor the notes failed, and no fault of them hides behind another status.
 pub fn runs_over_generated_packets()
     ensures answered { (report : Bool) (plan : Plan) (number : ℕ) (status : Status) (devices : RunDevices) → RanGenerated report plan number status devices
@@ -103,8 +104,8 @@ pub fn runs_over_generated_packets()
         → IsOneOf status (WriteFault ∷ OutOfMemory ∷ []) }
 {}
 
-/// Where an input came to something and the answer over it was written, a run that writes as it goes has ended with the answer's status;
-/// and the same is so of packets that are made and the answer over them.
+/// Where an input came to some lines and an end, and the answer over these was written with a status, a run that writes as it goes has
+/// ended with that status; and so has a run over packets that are made, where the answer over them was written.
 pub fn what_is_written_ran()
     ensures read { (report : Bool) (plan : Plan) (read : Read) (devices : RunDevices) (status : Status) → CameTo (inputs_of plan) devices.input read
         → Wrote (by_lines report) (job_of plan read) read.end status devices.output devices.notes → RanOn report plan status devices }
@@ -118,8 +119,8 @@ pub fn sets_are_few()
         → length (settled_sets Default (ports_of streams job.plan.outputs)) < 2 ^ 64 }
 {}
 
-/// From batches to the input: where a source gave these bytes, these lines were accepted of them, the end is the one that the lines and
-/// the source's calls have, and all was read once, the input came to these lines and this end.
+/// Where a source gave some bytes, these lines were accepted of them, the end is the one that the lines and the source's calls have, and
+/// the bytes were read once, the input came to these lines and this end.
 pub fn what_batches_came_to()
     ensures { (graph : GraphInputs) (input : Device SourceTold) (came : List ℕ) (lines : List (List ℕ)) (end : FeedEnd) (ended : Bool)
         → Gave input.before.left input.now.left came → EndsAs end graph [] came lines ended → MetEnd false ended input.before input.now

@@ -1,4 +1,4 @@
-//! The notes of a run.
+//! The notes of a run, which are put line by line at a text's end.
 ghost use Rattle.std.specs.Prelude.{◌≡◌, ◌<◌, ◌++◌, All, length, slice_index_or, OnOk};
 ghost use Rattle.std.specs.List.{flat_map};
 ghost use Rattle.mg_time.specs.Time.{pre_stream};
@@ -16,7 +16,7 @@ use mg_feed::{FeedEnd, LineFault};
 use mg_time::Timestamp;
 use std::alloc::AllocError;
 
-/// Puts the note of how an input ended, where it didn't end well, at a text's end.
+/// Puts the note of how an input ended at a text's end, where a read failed or a line was refused. Otherwise it puts nothing.
 pub fn put_end(text: &mut Vec<u8>, end: FeedEnd) -> Result<(), AllocError>
     ensures { OnOk result (text.new.items ≡ text.old.items ++ notes.end_note end) }
 {
@@ -37,7 +37,7 @@ fn put_read_fault(text: &mut Vec<u8>, lines: u64) -> Result<(), AllocError>
     put(text, b"\n")
 }
 
-// Puts the note of the first line that isn't good.
+// Puts the note that the line of a number was refused, and why.
 fn put_refused(text: &mut Vec<u8>, line: u64, cause: LineFault) -> Result<(), AllocError>
     ensures { OnOk result (text.new.items ≡ text.old.items ++ notes.line_note line cause) }
 {
@@ -71,7 +71,7 @@ fn put_fault(text: &mut Vec<u8>, plan: &Plan, fault: NodeFault) -> Result<(), Al
     put(text, b"\n")
 }
 
-// Puts the node that a note is of.
+// Puts the number and the label of the node that a note is about.
 fn put_node(text: &mut Vec<u8>, plan: &Plan, node: u32) -> Result<(), AllocError>
     requires { node < length plan.now.nodes }
     ensures { OnOk result (text.new.items ≡ text.old.items ++ notes.node_text plan.now node) }
@@ -83,7 +83,7 @@ fn put_node(text: &mut Vec<u8>, plan: &Plan, node: u32) -> Result<(), AllocError
     put(text, b": ")
 }
 
-// Puts when a node failed.
+// Puts the call in which a node failed: Open, a call of a source, Process or Close.
 fn put_phase(text: &mut Vec<u8>, phase: Phase) -> Result<(), AllocError>
     ensures { OnOk result (text.new.items ≡ text.old.items ++ notes.phase_text phase) }
 {
@@ -119,7 +119,8 @@ pub fn put_arrival(
     put(text, b"\n")
 }
 
-/// Puts what a status is noted by at a text's end: the streams that stalled, that a write failed, or that memory ran out.
+/// Puts the notes of a status at a text's end: which streams stalled, that a write failed, or that memory ran out. Any other status has
+/// none.
 pub fn put_status(
     text: &mut Vec<u8>,
     status: Status,
@@ -174,7 +175,7 @@ fn put_stall(
     put(text, b"\n")
 }
 
-// The bound of a stream, of the ends of all.
+// Returns the bound of the stream of a number, where `ends` tells how far each stream has come.
 fn bound_at(ends: &[StreamEnd], number: u32) -> Timestamp
     requires { number < length ends.now }
     ensures { result ≡ slice_index_or (end_bounds ends.now) number pre_stream }

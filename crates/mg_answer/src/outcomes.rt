@@ -11,16 +11,16 @@ pub struct StreamEnd {
     pub bound: Timestamp,
 }
 
-/// What a run tells in the notes and in the report, by the numbers of its plan.
+/// What a run tells of its nodes and streams in the notes and in the report, by the numbers of its plan.
 #[derive(Drop)]
 pub struct Outcomes {
-    /// The faults, in node order.
+    /// The faults of the nodes that failed, in node order.
     pub faults: NodeFaultList,
     /// For each node how many sets it was shown, how often it was called if it is a source, how many packets of MAIN it answered if it is
     /// a loopback, and how many packets arrived at it if it is free; the set or call that failed included.
     pub sets: BlockList<u64>,
-    /// How far each stream has come.
+    /// How far each stream has come, in stream order.
     pub ends: Vec<StreamEnd>,
-    /// The lines of the arrivals at free nodes.
+    /// The text of the lines of all arrivals at free nodes.
     pub arrivals: Vec<u8>,
 }

@@ -17,8 +17,8 @@ use mg_value::{InputSet, MgText};
 use std::alloc::{AllocError, Global};
 use std::marker::Model;
 
-/// What a graph's outputs come to: for each how many packets it has in the sets that were put, when the first and the last of
-/// them stand, and the exact sum of its whole numbers.
+/// A summary of a graph's outputs: for each how many packets it has in the sets that were put, when the first and the last of them stand,
+/// and the exact sum of its whole numbers.
 ///
 /// Which sets were put is `HasSummed` of `specs/Summary.antt`.
 #[derive(Drop)]
@@ -56,7 +56,7 @@ impl OutputSummary {
         })
     }
 
-    /// Puts a set: it is counted, and its packets are added to what is told of the outputs.
+    /// Counts a set, and adds its packets to the totals of the outputs.
     pub fn put_set(&mut self, set: &InputSet)
         requires { self.old.sets < 2 ^ 64 - 1 }
         ensures names { self.new.names ≡ self.old.names }
@@ -91,7 +91,7 @@ fn names_of(alloc: Global, plan: &Plan) -> Result<Vec<MgText>, AllocError>
     Ok(names)
 }
 
-// What is told of so many outputs that have no packet.
+// Returns the totals of `count` outputs that have no packet yet.
 fn no_totals(alloc: Global, count: usize) -> Result<Vec<Total>, AllocError>
     ensures { IfOk result (λ totals. totals.items ≡ replicate count (total_of [])) }
 {
@@ -107,7 +107,7 @@ fn no_totals(alloc: Global, count: usize) -> Result<Vec<Total>, AllocError>
     Ok(totals)
 }
 
-// Adds to what is told of each output what it has in one set more. So many sets were added before.
+// Adds a set to the totals of the outputs. `sets` is how many sets were added before.
 fn add_set(totals: &mut Vec<Total>, set: &InputSet, sets: u64)
     requires few { sets < 2 ^ 64 - 1 }
     requires ports { length totals.old.items < 2 ^ 32 }

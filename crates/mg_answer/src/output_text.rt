@@ -57,7 +57,7 @@ impl OutputText {
         }
     }
 
-    /// A text that stands in these blocks, of which a part may have been written. No sets are put behind it.
+    /// A text that was put into blocks, of which a part may have been written. No sets are put behind it.
     pub fn of_blocks(alloc: Global, blocks: BlockText) -> OutputText
         ensures { result ≡ record { names = []; kept = blocks.kept; failed = blocks.failed } }
     {
@@ -67,7 +67,7 @@ impl OutputText {
         }
     }
 
-    /// Puts the lines of a set, and writes what isn't written once it has a block of bytes. After a failed write it puts
+    /// Puts the lines of a set, and writes the bytes that aren't written yet once there are 64 KiB of them. After a failed write it puts
     /// nothing more. After an `Err` nothing of the set was put: the text and the output are as they were.
     pub fn put_set<K: Sink>(&mut self, set: &InputSet, output: &mut K) -> Result<(), AllocError>
         ensures names { self.new.names ≡ self.old.names }
@@ -84,7 +84,7 @@ impl OutputText {
         Ok(())
     }
 
-    /// Writes all that isn't written yet, unless a write has failed.
+    /// Writes the bytes that aren't written yet, unless a write has failed.
     pub fn flush<K: Sink>(&mut self, output: &mut K)
         ensures names { self.new.names ≡ self.old.names }
         ensures put { (first : SinkTold) (text : List ℕ) → HasPut first (K.told output.old) self.old text → HasPut first (K.told output.new) self.new text }

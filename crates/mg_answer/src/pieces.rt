@@ -17,7 +17,7 @@ pub fn label_at(plan: &Plan, node: usize) -> &MgText
     &plan.nodes.as_slice()[node].label
 }
 
-/// Puts a timestamp.
+/// Puts the text of a timestamp at a text's end.
 pub fn put_time(text: &mut Vec<u8>, time: Timestamp) -> Result<(), AllocError>
     ensures { OnOk result (text.new.items ≡ text.old.items ++ time_text time) }
 {
@@ -25,7 +25,7 @@ pub fn put_time(text: &mut Vec<u8>, time: Timestamp) -> Result<(), AllocError>
     put(text, &time.print_text(alloc)?)
 }
 
-/// Puts a number's digits.
+/// Puts the decimal digits of a number at a text's end.
 pub fn put_number(text: &mut Vec<u8>, number: u64) -> Result<(), AllocError>
     ensures { OnOk result (text.new.items ≡ text.old.items ++ decimal number) }
 {
@@ -33,7 +33,7 @@ pub fn put_number(text: &mut Vec<u8>, number: u64) -> Result<(), AllocError>
     put(text, digits.format(number).as_bytes())
 }
 
-/// Puts bytes.
+/// Puts bytes at a text's end.
 pub fn put(text: &mut Vec<u8>, bytes: &[u8]) -> Result<(), AllocError>
     ensures { OnOk result (text.new.items ≡ text.old.items ++ bytes.now) }
 {

@@ -21,7 +21,8 @@ pub struct WholeInput {
     pub inputs: Inputs,
 }
 
-/// Reads packet lines for a plan to the input's end, its first fault or its first line that isn't good.
+/// Reads packet lines for a plan to the input's end, its first fault or its first line that isn't good. After an `Err`, where memory ran
+/// out, some of the input may have been read.
 pub fn read_whole<S: Source>(
     alloc: Global,
     plan: &Plan,
@@ -40,7 +41,7 @@ pub fn read_whole<S: Source>(
     Ok(whole)
 }
 
-// Reads the input into a feed that is new.
+// Reads the input into a feed that has read nothing yet.
 fn read_feed<S: Source>(mut feed: Feed, input: &mut S) -> WholeInput
     requires stands { Stands [] (nothing_taken (seen feed).graph) (seen feed) }
     requires unread { (fed feed).read ≡ record { kept = []; ended = false } }

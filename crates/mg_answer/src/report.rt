@@ -1,4 +1,4 @@
-//! The report: how far each node and each stream has come.
+//! The report of a run: a line for how far each node and each stream has come.
 ghost use Rattle.std.specs.Prelude.{◌≡◌, ◌<◌, ◌^◌, ◌++◌, length, OnOk};
 ghost use Rattle.std.specs.List.{flat_map};
 ghost use Rattle.mg_calc.specs.Meaning.{numbered};
@@ -57,7 +57,7 @@ fn put_nodes(text: &mut Vec<u8>, plan: &Plan, sets: &[u64]) -> Result<(), AllocE
     Ok(())
 }
 
-// Puts the line of a node, which was shown so many sets.
+// Puts the line of a node: its number, its label, and how many sets it was shown.
 fn put_node_line(text: &mut Vec<u8>, plan: &Plan, node: usize, count: u64) -> Result<(), AllocError>
     requires { node < length plan.now.nodes }
     ensures { OnOk result (text.new.items ≡ text.old.items ++ node_line plan.now (node, count)) }
@@ -83,7 +83,7 @@ fn put_streams(text: &mut Vec<u8>, plan: &Plan, ends: &[StreamEnd]) -> Result<()
     Ok(())
 }
 
-// Puts the line of a stream, which has come so far.
+// Puts the line of a stream: its name, how many packets it has, and its bound.
 fn put_stream_line(
     text: &mut Vec<u8>,
     plan: &Plan,

@@ -1,10 +1,13 @@
 use mg_calc::Plan;
 use std::alloc::Global;
 
-/// A run that is asked for: that of the graph of a plan, with a report behind its notes or without.
+/// A run of a graph that is asked for.
 #[derive(Clone, Copy)]
 pub struct Run<'a> {
+    /// Where the run takes its memory from.
     pub alloc: Global,
+    /// The graph that is run.
     pub plan: &'a Plan,
+    /// Whether a report stands behind the notes.
     pub report: bool,
 }

@@ -1,4 +1,4 @@
-//! The lines of sets, at a text's end.
+//! Puts the lines of sets of a graph's outputs at a text's end.
 ghost use Rattle.std.specs.Prelude.{◌≡◌, ◌<◌, ◌^◌, ◌++◌, ℕ, List, All, length, IfOk, OnOk, OnErr};
 ghost use Rattle.std.specs.Option.{option_copied};
 ghost use Rattle.mg_answer.specs.Text.{name_of, output_names, packet_text, set_text};
@@ -9,7 +9,7 @@ use mg_feed::{LineWriter, whole_or_none};
 use mg_value::{InputSet, MgText, Packet};
 use std::alloc::{AllocError, Global};
 
-/// What writes the lines of each output.
+/// Returns for each output of a graph, in order, what writes its lines.
 pub fn writers_of(alloc: Global, plan: &Plan) -> Result<Vec<LineWriter>, AllocError>
     requires { All (λ s. s < length plan.now.streams) plan.now.outputs }
     ensures names { IfOk result (λ writers. writers.items ≡ output_names plan.now) }
@@ -29,7 +29,7 @@ fn writer_of(alloc: Global, plan: &Plan, number: u32) -> Result<LineWriter, Allo
     LineWriter::new(alloc, stream_name(plan, number))
 }
 
-/// The name of a stream.
+/// Returns the name of the stream of a number.
 pub fn stream_name(plan: &Plan, number: u32) -> &MgText
     requires { number < length plan.now.streams }
     ensures { result.now ≡ name_of plan.now number }
@@ -37,7 +37,7 @@ pub fn stream_name(plan: &Plan, number: u32) -> &MgText
     &plan.streams.as_slice()[number as usize].name
 }
 
-/// The lines of a set: one for each output that has a packet in it.
+/// The lines of a set of a graph's outputs: one for each output that has a packet in it.
 #[derive(Drop)]
 pub struct SetLines<'w, 's> {
     pub writers: &'w [LineWriter],

@@ -26,9 +26,9 @@ use mg_feed::FeedEnd;
 use mg_value::{Policy, Prefix, PrefixList, TimedSet, settled_sets};
 use std::alloc::{AllocError, Global};
 
-/// Reads packet lines to the input's end, its first fault or its first line that isn't good, solves the graph's equations for
-/// what they give, and writes the output text and then the notes, with the report behind them where it is asked for. It calls
-/// no calculator that is handed in.
+/// Reads packet lines to the input's end, its first fault or its first line that isn't good, solves the graph's equations for what they
+/// give, and writes the output text and then the notes, with the report behind them where it is asked for. No calculator that is handed in
+/// is called.
 ///
 /// Once a write to the output has failed nothing more is written to it; the notes are written all the same, and say so.
 pub fn solve_input<S: Source, K: Sink, E: Sink>(
@@ -36,7 +36,7 @@ pub fn solve_input<S: Source, K: Sink, E: Sink>(
     devices: &mut Devices<'_, '_, '_, S, K, E>,
 ) -> Status
     requires { IsValid run.now.plan.now }
-    // What each status means: the answer's, unless a write failed or memory ran out.
+    // What each status means: the answer was written, or a write failed, or memory ran out.
     ensures ran { Ran run.now.report run.now.plan.now result (told_by S.told K.told E.told devices.old devices.new) }
 
     // Unless memory ran out, the input was read to its end, its first line that isn't good, or its first fault; and it was read
@@ -63,7 +63,7 @@ pub fn solve_input<S: Source, K: Sink, E: Sink>(
     solve_whole(run, devices)
 }
 
-// Reads the input, and answers. Where memory runs out the notes say that alone.
+// Reads the whole input, solves the graph and writes the answer. Where memory runs out it notes that alone.
 fn solve_whole<S: Source, K: Sink, E: Sink>(
     run: &Run<'_>,
     devices: &mut Devices<'_, '_, '_, S, K, E>,
@@ -78,7 +78,7 @@ fn solve_whole<S: Source, K: Sink, E: Sink>(
     }
 }
 
-// Reads the whole input, and answers.
+// Reads the whole input, solves the graph and writes the answer. Where memory runs out (`Err`) no note is written.
 fn solve_read<S: Source, K: Sink, E: Sink>(
     run: &Run<'_>,
     devices: &mut Devices<'_, '_, '_, S, K, E>,
@@ -95,7 +95,7 @@ fn solve_read<S: Source, K: Sink, E: Sink>(
     Ok(status)
 }
 
-// Solves a job whose input ended so, and writes its answer.
+// Solves the job of a plan over inputs, and writes its answer. `end` tells how the input ended.
 fn answer<K: Sink, E: Sink>(
     run: &Run<'_>,
     inputs: &Inputs,
@@ -123,7 +123,7 @@ fn answer<K: Sink, E: Sink>(
     Ok(status)
 }
 
-// Puts the output text that the streams of a plan make, and writes its blocks. Less than a block may be left to be written.
+// Puts the output text that the streams of a plan make, and writes its whole blocks. Fewer bytes than a block may be left to write.
 fn write_output<K: Sink>(
     alloc: Global,
     plan: &Plan,
@@ -142,7 +142,7 @@ fn write_output<K: Sink>(
     Ok(text)
 }
 
-// Puts the lines of sets into a text of which nothing is put yet.
+// Puts the lines of sets into a new text.
 fn put_sets<K: Sink>(
     text: &mut OutputText,
     sets: &[TimedSet],
@@ -158,7 +158,7 @@ fn put_sets<K: Sink>(
     Ok(())
 }
 
-// How far each stream has come.
+// Returns how far each stream has come.
 fn ends_of(alloc: Global, streams: &[Prefix]) -> Result<Vec<StreamEnd>, AllocError>
     ensures { IfOk result (λ ends. ends.items ≡ map end_of streams.now) }
 {
@@ -169,7 +169,7 @@ fn ends_of(alloc: Global, streams: &[Prefix]) -> Result<Vec<StreamEnd>, AllocErr
     Ok(ends)
 }
 
-// How far a stream has come.
+// Returns how far a stream has come.
 fn stream_end(stream: &Prefix) -> StreamEnd
     ensures { result ≡ end_of stream.now }
 {

@@ -1,14 +1,14 @@
 ghost use Rattle.std.specs.Prelude.{◌≡◌};
 ghost use Rattle.mg_answer.specs.Status.{number_of};
 
-/// How a call of the program ended. A run ends with any but the three that come before one.
+/// How a call of the program ended. `StoreFault`, `Usage` and `GraphRefused` are of calls that run no graph; a run ends with any other.
 #[derive(Clone, Copy, Debug, PartialEq, Eq)]
 pub enum Status {
     /// All went well.
     Good,
     /// A file couldn't be loaded.
     StoreFault,
-    /// The words are no command.
+    /// The words of the command line are no command.
     Usage,
     /// A graph file was refused.
     GraphRefused,

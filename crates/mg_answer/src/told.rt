@@ -1,4 +1,4 @@
-//! What is told of a solution: its stalled streams, and the status.
+//! The stalled streams and the status of a run.
 ghost use Rattle.std.specs.Prelude.{◌≡◌, ◌≢◌, ◌↔◌, ◌<◌, ◌^◌, false, length, IfOk};
 ghost use Rattle.mg_answer.specs.Answer.{is_ended};
 ghost use Rattle.mg_answer.specs.Told.{status_of};
@@ -10,7 +10,7 @@ use mg_feed::FeedEnd;
 use mg_time::Timestamp;
 use std::alloc::{AllocError, Global};
 
-/// The numbers of the streams that haven't ended, by their ends.
+/// Returns the numbers of the streams that haven't ended, where `ends` tells how far each stream has come.
 pub fn stalled_of(alloc: Global, ends: &[StreamEnd]) -> Result<Vec<u32>, AllocError>
     requires { length ends.now < 2 ^ 32 }
     ensures { IfOk result (λ numbers. numbers.items ≡ open_numbers ends.now) }
@@ -24,7 +24,7 @@ pub fn stalled_of(alloc: Global, ends: &[StreamEnd]) -> Result<Vec<u32>, AllocEr
     Ok(numbers)
 }
 
-/// The status of a run whose input ended so, by the faults and the stalled streams.
+/// Returns the status of a run, by how its input ended, the faults of its nodes and its stalled streams.
 pub fn status_of(end: FeedEnd, faults: &[NodeFault], stalled: &[u32]) -> Status
     ensures { result ≡ status_of end faults.now stalled.now }
 {

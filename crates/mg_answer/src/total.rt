@@ -1,4 +1,4 @@
-//! What is told of the packets of one output.
+//! The totals of the packets of one output.
 ghost use Rattle.std.specs.Prelude.{◌≡◌, ◌<◌, ◌^◌, ◌-◌, ◌+◌, Some, unwrap_or};
 ghost use Rattle.std.specs.Option.{option_copied};
 ghost use Rattle.mg_answer.specs.Summary.{number_in};
@@ -17,7 +17,7 @@ pub struct Total {
 }
 
 impl Total {
-    /// Adds what the output has in one set more: a packet, or none. So many sets were added before.
+    /// Adds what the output has in one more set: a packet, or none. `sets` is how many sets were added before.
     pub fn add(&mut self, packet: Option<&Packet>, sets: u64)
         requires few { sets < 2 ^ 64 - 1 }
         requires within { IsWithin sets self.old }
@@ -29,7 +29,7 @@ impl Total {
         }
     }
 
-    // Adds a packet. So many sets were added before.
+    // Adds a packet. `sets` is how many sets were added before.
     fn add_packet(&mut self, packet: &Packet, sets: u64)
         requires few { sets < 2 ^ 64 - 1 }
         requires within { IsWithin sets self.old }
@@ -43,7 +43,7 @@ impl Total {
     }
 }
 
-// The first time: the one there was, or else this one.
+// Returns `first` where there is one, or else `at`.
 fn first_of(first: Option<Timestamp>, at: Timestamp) -> Option<Timestamp>
     ensures { result ≡ Some (unwrap_or first at) }
 {
@@ -53,7 +53,7 @@ fn first_of(first: Option<Timestamp>, at: Timestamp) -> Option<Timestamp>
     }
 }
 
-// The whole number of a packet; 0 where its payload is none.
+// Returns the whole number that a packet holds, or 0 where its payload is of another kind.
 fn number_in(packet: &Packet) -> i64
     ensures { result ≡ number_in packet.now.value }
 {

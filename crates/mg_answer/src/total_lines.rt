@@ -1,4 +1,4 @@
-//! The lines of a summary, at a text's end.
+//! Puts the lines of a summary at a text's end.
 ghost use Rattle.std.specs.Prelude.{◌≡◌, ◌++◌, length, OnOk};
 ghost use Rattle.std.specs.Fmt.{signed_decimal};
 ghost use Rattle.mg_answer.specs.Summary.{time_or_dash, total_line};
@@ -12,7 +12,7 @@ use mg_time::Timestamp;
 use mg_value::MgText;
 use std::alloc::AllocError;
 
-/// Puts a line for each output at a text's end, in order.
+/// Puts the line of each output at a text's end, in order.
 pub fn put_totals(text: &mut Vec<u8>, names: &[MgText], totals: &[Total]) -> Result<(), AllocError>
     requires { length totals.now ≡ length names.now }
     ensures { OnOk result (text.new.items ≡ text.old.items ++ total_lines names.now totals.now) }
@@ -23,7 +23,7 @@ pub fn put_totals(text: &mut Vec<u8>, names: &[MgText], totals: &[Total]) -> Res
     Ok(())
 }
 
-// Puts the line of an output.
+// Puts the line of an output: its name and its totals.
 fn put_total(text: &mut Vec<u8>, name: &MgText, total: &Total) -> Result<(), AllocError>
     ensures { OnOk result (text.new.items ≡ text.old.items ++ total_line name.now total.now) }
 {

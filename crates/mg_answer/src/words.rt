@@ -1,4 +1,4 @@
-//! The words that notes have for faults.
+//! The words by which notes tell why a line was refused or a node failed.
 ghost use Rattle.std.specs.Prelude.{◌≡◌};
 ghost use Rattle.mg_answer.specs.Notes as notes;
 
@@ -6,7 +6,7 @@ use mg_calc::Cause;
 use mg_feed::LineFault;
 use mg_value::ValueFault;
 
-/// Why a line isn't good.
+/// Returns the words for why a line was refused: none where memory ran out.
 pub fn line_refusal(fault: LineFault) -> &'static str
     ensures { result.now ≡ notes.line_refusal fault }
 {
@@ -28,7 +28,7 @@ pub fn line_refusal(fault: LineFault) -> &'static str
     }
 }
 
-// Why a value is no payload.
+// Returns the words for why a value in a line is no payload.
 fn value_refusal(fault: ValueFault) -> &'static str
     ensures { result.now ≡ notes.line_refusal (LineFault.BadValue fault) }
 {
@@ -41,7 +41,7 @@ fn value_refusal(fault: ValueFault) -> &'static str
     }
 }
 
-/// Why a node failed.
+/// Returns the word for why a node failed.
 pub fn cause_name(cause: Cause) -> &'static str
     ensures { result.now ≡ notes.cause_name cause }
 {

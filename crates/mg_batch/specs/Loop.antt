@@ -20,14 +20,14 @@ IsInner (Map op operand) = ⊤
 IsInner (Filter keep raises) = ⊤
 IsInner _ = ⊥
 
--- what such a law makes of a payload, if it keeps it
+-- what a law that may stand inside a loop makes of a payload, or none where it drops it
 abbrev pub image : Law → Plain → Option Plain
 image Pass v = Some v
 image (Map op operand) v = Some (int (mapped op operand (number_of v)))
 image (Filter keep raises) v = if is_kept keep (number_of v) then Some v else None
 image _ v = None
 
--- what nodes make of it, one after the other
+-- what nodes inside a loop make of a payload, one after the other, or none where one of them drops it
 abbrev pub images : List PlanNode → Plain → Option Plain
 images [] v = Some v
 images (node ∷ nodes) v = option_and_then (images nodes) (image node.law v)
@@ -41,7 +41,7 @@ abbrev pub Leads : List PlanNode → ℕ → ℕ → Type 0
 Leads [] from to = from ≡ to
 Leads (node ∷ nodes) from to = IsInner node.law × (node.inputs ≡ from ∷ []) × (out : ℕ) × (node.outputs ≡ out ∷ []) × Leads nodes out to
 
--- a node is of a plan
+-- a plan has a node
 abbrev pub IsOf : Plan → PlanNode → Type 0
 IsOf plan node = (number : ℕ) × (slice_get plan.nodes number ≡ Some node)
 
@@ -61,7 +61,7 @@ pub record IsLoop (plan : Plan) (clone : Bool) (lists : ℕ) (begin : PlanNode) 
   pub comes : end.outputs ≡ out ∷ []
   pub nodes : All (IsOf plan) (begin ∷ end ∷ inner)
 
--- none of some nodes fails, and none of their streams is stalled: the premise of what is said of a loop
+-- none of these nodes fails, and none of their streams is stalled: the premise of the law of loops
 pub record RunThrough (job : Job) (streams : List (StreamPrefix Plain)) (nodes : List PlanNode) : Type 0 where
   pub faultless : All (λ node. (outcome_of job streams node).fault ≡ None) nodes
   pub ended : All (λ node. All (λ s. (stream_of streams s).bound ≡ done) (node.inputs ++ node.outputs)) nodes

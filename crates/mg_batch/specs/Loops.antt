@@ -7,7 +7,7 @@ use Rattle.mg_calc.specs.Shape.{tagged, clone_ports}
 use Rattle.mg_calc.specs.Told.{CalculatorTold}
 use Rattle.mg_batch.specs.Logged.{told_log}
 
--- a BeginLoopCalculator, and with CLONE a BeginLoopCloneCalculator
+-- the shape of a BeginLoopCalculator, or, with CLONE, of a BeginLoopCloneCalculator
 abbrev pub begin_shape : Bool → Shape
 begin_shape clone = record {
   name = if clone then codes "BeginLoopCloneCalculator" else codes "BeginLoopCalculator";
@@ -18,7 +18,7 @@ begin_shape clone = record {
   stateless = false;
 }
 
--- an EndLoopCalculator
+-- the shape of an EndLoopCalculator
 abbrev pub end_shape : Shape
 end_shape = record {
   name = codes "EndLoopCalculator";
@@ -29,9 +29,10 @@ end_shape = record {
   stateless = false;
 }
 
--- what a new one tells: it hasn't been opened, and where it is telling its log is empty
+-- what a new BeginLoop calculator tells of itself: it hasn't been opened, and its log is empty, if it is kept
 abbrev pub new_begin : Bool → Bool → CalculatorTold
 new_begin clone telling = record { law = BeginLoop clone; shape = begin_shape clone; state = []; log = told_log telling [] }
 
+-- what a new EndLoopCalculator tells of itself
 abbrev pub new_end : Bool → CalculatorTold
 new_end telling = record { law = EndLoop; shape = end_shape; state = []; log = told_log telling [] }

@@ -14,8 +14,8 @@ use mg_value::InputSet;
 use std::alloc::{AllocError, Global};
 use std::marker::Model;
 
-/// A calculator of a law of loops over lists that can be handed in. Where it is telling, it keeps a log of its calls, whose sets
-/// share the payloads of those that it was shown.
+/// A BeginLoop or EndLoop calculator that can be handed in. If it is telling, it keeps a log of its calls, whose sets share the
+/// payloads of the sets that it was shown.
 #[derive(Drop)]
 pub struct BatchBox {
     law: Law,
@@ -39,7 +39,7 @@ impl Model for BatchBox {
 }
 
 impl BatchBox {
-    /// One of a law and a shape, before it is opened.
+    /// Returns a calculator of a law and a shape, which hasn't been opened. If `telling` is set, it keeps a log of its calls.
     pub fn new(alloc: Global, outer: OuterShape, telling: bool) -> Result<BatchBox, AllocError>
         requires batch { IsBatch outer.law }
         requires of_law { IsShapeOf outer.law outer.shape }

@@ -17,14 +17,14 @@ use std::sync::Arc;
 /// The greatest number of an inner time: that of `Timestamp::MAX`.
 const LAST: u64 = 9223372036854775804;
 
-// The inner times of a list: the number of the first, and that behind the last.
+// The inner times of a list: the number of the first, and the number behind the last.
 #[derive(Drop)]
 struct Span {
     first: u64,
     next: u64,
 }
 
-/// The rule of BeginLoop at a set: what it emits, and its new state. A fault, and want of memory, change nothing.
+/// Returns what BeginLoop emits at a set, and puts its new state in the place of the old one. On an error the state stays.
 pub fn begin_loop(
     alloc: Global,
     clone: bool,
@@ -66,7 +66,8 @@ fn items_in(payload: &Payload) -> &[Payload]
     }
 }
 
-// The number of the inner time behind a list of so many items that begins at one, if there is one.
+// Returns the number behind the inner times of a list of `count` items, which begin at `first`, or none where that is past the last
+// timestamp. An empty list takes one inner time.
 fn next_inner(first: u64, count: usize) -> Option<u64>
     ensures some { IfSome result (λ next. (next ≡ last_inner first count + 1) × (next ≤ 2 ^ 63 - 4)) }
     ensures none { IsNone result → nat_le (last_inner first count + 1) (2 ^ 63 - 4) ≡ false }
@@ -76,7 +77,7 @@ fn next_inner(first: u64, count: usize) -> Option<u64>
     if next <= LAST { Some(next) } else { None }
 }
 
-// The inner time of a number.
+// Returns the inner time of a number.
 fn inner_time(number: u64) -> Timestamp
     requires { number ≤ 2 ^ 63 - 4 }
     ensures { result ≡ the_inner_time number }
@@ -103,7 +104,7 @@ fn stamped(alloc: Global, first: u64, items: &[Payload]) -> Result<Vec<Packet>, 
     Ok(packets)
 }
 
-// Packets that share a payload, so many, at the inner times from a number on.
+// Returns `count` packets that share a payload, at the inner times from a number on.
 fn copies(
     alloc: Global,
     first: u64,
@@ -134,7 +135,7 @@ fn laid_up_to(packets: Vec<Packet>, next: u64) -> Result<Laid, AllocError>
     })
 }
 
-// What is laid at CLONE, where it is there.
+// Returns what is laid at the output CLONE, or none where the calculator hasn't that output.
 fn copies_laid(
     alloc: Global,
     clone: bool,
@@ -153,7 +154,7 @@ fn copies_laid(
     Ok(None)
 }
 
-// Packets that share the payload of CLONE, if it has one.
+// Returns `count` packets that share the payload of the packet of CLONE, or no packets where CLONE has none.
 fn cloned(
     alloc: Global,
     first: u64,
@@ -169,7 +170,7 @@ fn cloned(
     }
 }
 
-// The end of a batch that began with a list at a time, at the last inner time of the list.
+// Returns what is laid at BATCH_END for a list at a time: that time, at the last inner time of the list, and a raise to `next`.
 fn end_laid(alloc: Global, at: Timestamp, next: u64) -> Result<Laid, AllocError>
     requires some { 1 ≤ next }
     requires last { next ≤ 2 ^ 63 - 4 }
@@ -183,7 +184,7 @@ fn end_laid(alloc: Global, at: Timestamp, next: u64) -> Result<Laid, AllocError>
     Laid::new(alloc, Some(end), Some(inner_time(next)))
 }
 
-// The emission for a list at a time, with what is laid at CLONE.
+// Returns the emission for a list at a time, with what is laid at CLONE.
 fn batch(
     alloc: Global,
     span: &Span,

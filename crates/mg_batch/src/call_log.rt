@@ -10,7 +10,7 @@ use std::alloc::{AllocError, AllocFailed, Global};
 use std::marker::Model;
 use std::mem;
 
-/// The calls that a calculator had, where it tells them. Contracts see the list of them, or none where it doesn't tell.
+/// A log of a calculator's calls, which is kept only if it is telling. Contracts see the list of calls, or none where it isn't.
 #[derive(Drop)]
 pub struct CallLog {
     telling: bool,
@@ -34,7 +34,7 @@ impl Model for CallLog {
 }
 
 impl CallLog {
-    /// An empty one. It takes no memory.
+    /// Returns an empty log, which is kept if `telling` is set. It allocates nothing.
     pub fn new(alloc: Global, telling: bool) -> CallLog
         ensures { result ≡ told_log telling [] }
     {
@@ -44,14 +44,14 @@ impl CallLog {
         }
     }
 
-    /// The calls, none where they aren't told.
+    /// Returns the calls in order, or an empty list where the log isn't kept.
     pub fn calls(&self) -> &CallList
         ensures { result.now ≡ shown_calls self.now }
     {
         &self.calls
     }
 
-    /// Puts a call behind the others, where calls are told.
+    /// Appends a call, if the log is kept. On an error the log stays.
     pub fn note(&mut self, alloc: Global, call: Call) -> Result<(), AllocError>
         ensures noted { IfOk result (λ _. self.new ≡ with_a_call self.old call) }
         ensures missed { OnErr result (self.new ≡ self.old) }
@@ -71,7 +71,7 @@ impl CallLog {
         }
     }
 
-    /// Puts a set that was shown behind the others, where calls are told. Its payloads are shared.
+    /// Appends the call that shows a set at a time, if the log is kept. The set's payloads are shared. On an error the log stays.
     pub fn note_set(
         &mut self,
         alloc: Global,
@@ -88,7 +88,7 @@ impl CallLog {
         self.note(alloc, Call::Shown { at, set })
     }
 
-    /// Takes the last call back where it found no memory; one that answered or failed stays.
+    /// Removes the last call if its answer is want of memory; a call that gave an emission or failed stays.
     pub fn keep_answered(&mut self, alloc: Global, answer: &Result<Emission, CalcFault>)
         ensures { (before : Option (List TheCall)) (call : TheCall) → self.old ≡ with_a_call before call → Logs answer.now before self.new call }
     {
@@ -99,7 +99,7 @@ impl CallLog {
         }
     }
 
-    /// Takes the last call back, as if it hadn't been put there.
+    /// Removes the last call, if there is one.
     pub fn take_back(&mut self, alloc: Global)
         ensures { (before : Option (List TheCall)) (call : TheCall) → self.old ≡ with_a_call before call → self.new ≡ before }
     {
@@ -109,7 +109,7 @@ impl CallLog {
     }
 }
 
-// The list of a vector that is short enough for one.
+// Returns the list of a vector's calls, fewer than 2^32.
 fn list_of(calls: Vec<Call>) -> CallList
     requires { length calls.items < 2 ^ 32 }
     ensures { result ≡ calls.items }
@@ -120,14 +120,14 @@ fn list_of(calls: Vec<Call>) -> CallList
     }
 }
 
-// No calls. They take no memory.
+// Returns the empty list. It allocates nothing.
 fn no_calls(alloc: Global) -> CallList
     ensures { result ≡ [] }
 {
     list_of(Vec::new(alloc))
 }
 
-// Calls with a further one. Where there is no memory for it, they come back as they were.
+// Returns a list with a further call. Where there is no memory for it, the error gives the list back as it was.
 fn with_call(log: CallList, call: Call) -> Result<CallList, AllocFailed<CallList>>
     ensures more { IfOk result (λ now. now ≡ log ++ call ∷ []) }
     ensures same { IfErr result (λ e. e.value ≡ log) }
@@ -144,7 +144,7 @@ fn with_call(log: CallList, call: Call) -> Result<CallList, AllocFailed<CallList
     }
 }
 
-// A second set, that shares the payloads.
+// Returns a copy of a set, which shares the payloads.
 fn copied(alloc: Global, set: &InputSet) -> Result<InputSet, AllocError>
     ensures { IfOk result (λ copy. copy ≡ set.now) }
 {
@@ -155,7 +155,7 @@ fn copied(alloc: Global, set: &InputSet) -> Result<InputSet, AllocError>
     Ok(copy)
 }
 
-// The packet at a port, which shares its payload, if there is one.
+// Returns a copy of the packet at a port, if there is one. It shares the payload.
 fn shared(set: &InputSet, port: u32) -> Result<Option<Packet>, AllocError>
     ensures { IfOk result (λ packet. packet ≡ unwrap_or (slice_get set.now port) None) }
 {

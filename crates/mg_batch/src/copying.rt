@@ -1,4 +1,4 @@
-//! Copies of payloads, for lists hold their items themselves, and packets share them.
+//! Copies of payloads: packets share their payloads, but a list holds its items itself, so an item that goes in or out is copied.
 ghost use Rattle.std.specs.Prelude.{◌≡◌, map, IfOk};
 ghost use Rattle.std.specs.Arc.{arc_value};
 ghost use Rattle.mg_value.specs.Payload.{plain};
@@ -7,7 +7,7 @@ use mg_value::{Entry, Payload, PayloadList, RecordList};
 use std::alloc::{AllocError, Global};
 use std::sync::Arc;
 
-/// A second payload that says the same.
+/// Returns a copy of a payload, with all that is inside it.
 #[cycle(copying)]
 pub fn copied(alloc: Global, payload: &Payload) -> Result<Payload, AllocError>
     ensures { IfOk result (λ copy. plain copy ≡ plain payload.now) }
@@ -45,7 +45,7 @@ fn copied_entries(alloc: Global, entries: &RecordList) -> Result<RecordList, All
     Ok(RecordList::from_vec(copies)?)
 }
 
-/// Copies of shared payloads, in order.
+/// Returns copies of shared payloads, in order.
 pub fn all_copied(alloc: Global, list: &[Arc<Payload>]) -> Result<Vec<Payload>, AllocError>
     ensures { IfOk result (λ copies. map plain copies.items ≡ map (λ p. plain (arc_value p)) list.now) }
 {

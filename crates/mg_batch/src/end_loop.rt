@@ -20,7 +20,7 @@ use std::sync::Arc;
 /// How deep lists and records may nest in an item.
 const DEEPEST: u32 = 15;
 
-/// The rule of EndLoop at a set: what it emits, and its new state. A fault, and want of memory, change nothing.
+/// Returns what EndLoop emits at a set, and puts its new state in the place of the old one. On an error the state stays.
 pub fn end_loop(alloc: Global, state: &mut State, set: &InputSet) -> Result<Emission, CalcFault>
     ensures answer { GivesEmission result state.new (the_end_loop state.old set.now) }
     ensures kept { OnErr result (state.new ≡ state.old) }
@@ -39,7 +39,7 @@ pub fn end_loop(alloc: Global, state: &mut State, set: &InputSet) -> Result<Emis
     Ok(emission)
 }
 
-// Whether a list with the item of a packet would be deeper than a payload may be.
+// Whether a list with the payload of a packet as an item would nest deeper than a payload may.
 fn is_too_deep(item: Option<&Packet>) -> bool
     ensures { result ≡ unwrap_or (option_map (λ p. nat_le 16 (depth p.value)) (option_copied item.entry)) false }
 {
@@ -49,7 +49,7 @@ fn is_too_deep(item: Option<&Packet>) -> bool
     }
 }
 
-// Keeps the list so far, with a further item, if there is one.
+// Appends the payload of a packet, if there is one, to the list that a state keeps. On an error the state stays.
 fn keep(alloc: Global, state: &mut State, item: Option<&Packet>) -> Result<(), AllocError>
     ensures more { IfOk result (λ _. state.new ≡ full_places (with_more (kept_list state.old) (option_copied item.entry))) }
     ensures same { OnErr result (state.new ≡ state.old) }
@@ -63,7 +63,7 @@ fn keep(alloc: Global, state: &mut State, item: Option<&Packet>) -> Result<(), A
     }
 }
 
-// The list so far, with a further item, if there is one, as a packet at a time.
+// Returns the emission, at a time, of the list that a state keeps, with the payload of a packet behind it, if there is one.
 fn gathered(
     alloc: Global,
     state: &State,
@@ -86,7 +86,7 @@ fn list_of(alloc: Global, state: &State, item: Option<&Packet>) -> Result<Payloa
     Ok(Payload::Items(PayloadList::from_vec(payloads)?))
 }
 
-// Puts the item of a packet behind payloads, if there is one.
+// Appends a copy of the payload of a packet, if there is one.
 fn put(alloc: Global, payloads: &mut Vec<Payload>, item: Option<&Packet>) -> Result<(), AllocError>
     ensures { IfOk result (λ _. map plain payloads.new.items ≡ with_more (map plain payloads.old.items) (option_copied item.entry)) }
 {
@@ -96,7 +96,7 @@ fn put(alloc: Global, payloads: &mut Vec<Payload>, item: Option<&Packet>) -> Res
     Ok(())
 }
 
-// The timestamp with a number, of the range or not.
+// Returns the timestamp of a number, in the range or special.
 fn time_of(number: i64) -> Timestamp
     ensures { result ≡ place_of number }
 {
@@ -106,7 +106,7 @@ fn time_of(number: i64) -> Timestamp
     }
 }
 
-// The timestamp with a number that isn't of the range.
+// Returns the special timestamp of a number that isn't in the range.
 fn special_time(number: i64) -> Timestamp
     requires { ¬ ((raw_of least ≤ℤ number) × (number ≤ℤ raw_of greatest)) }
     ensures { result ≡ place_of number }

@@ -8,7 +8,7 @@ use mg_calc::{Law, OuterShape, PortKind, PortKindList, Shape};
 use mg_value::{Kind, MgText};
 use std::alloc::{AllocError, Global};
 
-/// A BeginLoopCalculator, or a BeginLoopCloneCalculator where it has CLONE. Where it is telling it keeps a log of its calls.
+/// Returns a BeginLoopCalculator, or a BeginLoopCloneCalculator if `clone` is set. If it is telling, it keeps a log of its calls.
 pub fn begin_loop_box(alloc: Global, clone: bool, telling: bool) -> Result<BatchBox, AllocError>
     ensures { IfOk result (λ b. b ≡ new_begin clone telling) }
 {
@@ -17,7 +17,7 @@ pub fn begin_loop_box(alloc: Global, clone: bool, telling: bool) -> Result<Batch
     BatchBox::new(alloc, OuterShape { shape, law }, telling)
 }
 
-/// An EndLoopCalculator. Where it is telling it keeps a log of its calls.
+/// Returns an EndLoopCalculator. If it is telling, it keeps a log of its calls.
 pub fn end_loop_box(alloc: Global, telling: bool) -> Result<BatchBox, AllocError>
     ensures { IfOk result (λ b. b ≡ new_end telling) }
 {
@@ -61,7 +61,7 @@ fn ending_shape(alloc: Global) -> Result<Shape, AllocError>
     shape_with(alloc, "EndLoopCalculator", inputs, outputs)
 }
 
-// A shape without side packets and without an offset, which keeps a state.
+// Returns the shape of a calculator that has no side packets and no offset, and keeps a state.
 fn shape_with(
     alloc: Global,
     name: &str,
@@ -84,7 +84,7 @@ fn shape_with(
     })
 }
 
-// The one port of a tag.
+// Returns the only port of a tag.
 fn port(alloc: Global, tag: &str, kind: Kind) -> Result<PortKind, AllocError>
     ensures { IfOk result (λ port. port ≡ record { tag = tag.now; index = 0; kind = kind }) }
 {

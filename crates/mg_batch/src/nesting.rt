@@ -5,7 +5,7 @@ ghost use Rattle.mg_value.specs.Payload.{plain, plain_entry};
 
 use mg_value::{Entry, Payload};
 
-/// Whether lists and records nest at least so deep in a payload.
+/// Whether lists and records nest at least `levels` deep in a payload.
 #[cycle(nesting)]
 pub fn nests(payload: &Payload, levels: u32) -> bool
     ensures { result ≡ nat_le levels (depth (plain payload.now)) }

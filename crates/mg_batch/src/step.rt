@@ -1,4 +1,4 @@
-//! The laws of loops over lists, by law.
+//! What the calculators of loops over lists give at a set, by their law.
 ghost use Rattle.std.specs.Prelude.{◌≡◌, OnErr};
 ghost use Rattle.mg_calc.specs.Answer.{Gives, GivesEmission};
 ghost use Rattle.mg_calc.specs.Law.{step};
@@ -11,9 +11,9 @@ use mg_time::Timestamp;
 use mg_value::InputSet;
 use std::alloc::Global;
 
-/// What a calculator of a law of loops over lists gives at a set: its new state and its emission, or its cause.
+/// Returns what a BeginLoop or EndLoop calculator gives at a set: its new state and its emission, or its cause.
 ///
-/// The new state shares the payloads that the old one keeps, one by one. Who holds the state alone takes `batch_step_in`.
+/// The new state shares the payloads that the old one keeps, one by one; `batch_step_in` changes a state in place.
 pub fn batch_step(
     alloc: Global,
     law: &Law,
@@ -29,8 +29,8 @@ pub fn batch_step(
     Ok((kept, emission))
 }
 
-/// The same, in place: what it costs grows with the set and with what is emitted, and not with what is kept. A fault, and want of
-/// memory, change nothing.
+/// Returns what a BeginLoop or EndLoop calculator emits at a set, or its cause, and changes its state in place. On an error the state
+/// stays. The cost grows with the set and with what is emitted, and not with what is kept.
 pub fn batch_step_in(
     alloc: Global,
     law: &Law,

@@ -1,5 +1,5 @@
-//! A source sends so many packets through a chain of so many nodes. They are swept, or so many workers run them first, and each Process
-//! call is held up for so many turns of a loop.
+//! A source sends packets through a chain of nodes. The net is swept, or workers run it first, and each Process call is held up for a
+//! number of turns of a loop.
 
 ghost use Rattle.mg_nets.specs.Driven.{IsDriven};
 ghost use Rattle.std.specs.Prelude.{IfOk};
@@ -15,7 +15,7 @@ use std::sync::atomic::{AtomicU64, Ordering};
 use std::test::Fail;
 use std::thread::Threads;
 
-/// A gate that holds each call up for so many turns of a loop.
+/// A gate that holds each call up for `turns` turns of a loop.
 #[derive(Drop)]
 struct Held {
     turns: u32,
@@ -32,7 +32,7 @@ impl Gate for Held {
     fn leave(&self, _node: u32, _number: u64) {}
 }
 
-// A gate of so many turns.
+// Returns a gate that holds each call up for a number of turns.
 fn gate_of(turns: u32) -> Held {
     Held {
         turns,
@@ -40,8 +40,8 @@ fn gate_of(turns: u32) -> Held {
     }
 }
 
-/// With two numbers, of nodes and of packets, the net is swept, whose queues hold one packet each. Tells how many sets the last node has
-/// taken.
+/// Sweeps the net of a chain whose queues hold one packet each. The words give how many nodes and packets there are. Returns how many sets
+/// the last node has taken.
 pub fn run(rt: &HostRuntime) -> Result<u64, Fail> {
     let nodes = number(rt, 2)?;
     let packets = number(rt, 3)?;
@@ -49,7 +49,8 @@ pub fn run(rt: &HostRuntime) -> Result<u64, Fail> {
     swept(rt.alloc(), driver, &gate_of(0))
 }
 
-/// With two numbers more, of turns and of workers, these run the net before it is swept. Tells how many sets the last node has taken.
+/// Lets workers run the net of a chain before it is swept. The words give how many nodes, packets, turns and workers there are. Returns how
+/// many sets the last node has taken.
 pub fn run_by_workers<R: Threads + Wait + Sync>(
     threads: &R,
     rt: &HostRuntime,
@@ -63,7 +64,7 @@ pub fn run_by_workers<R: Threads + Wait + Sync>(
     swept(rt.alloc(), driver, &gate)
 }
 
-/// The net of a chain, with a limit of its queues.
+/// Returns the net of a chain whose queues have a limit.
 pub(crate) fn chain(alloc: Global, nodes: u32, packets: u32, limit: u32) -> Result<Driver, Fail>
     ensures { IfOk result (λ d. IsDriven d.plan d.inputs d.net) }
 {
@@ -72,7 +73,7 @@ pub(crate) fn chain(alloc: Global, nodes: u32, packets: u32, limit: u32) -> Resu
     driver_of(alloc, &text, "")
 }
 
-// The graph of a chain.
+// Appends the text of the graph of a chain.
 fn push_chain(text: &mut String, nodes: u32, packets: u32, limit: u32) -> Result<(), AllocError> {
     push(text, "max_queue_size: ", limit)?;
     push(
@@ -93,12 +94,12 @@ fn push_chain(text: &mut String, nodes: u32, packets: u32, limit: u32) -> Result
     Ok(())
 }
 
-// Puts words and a number behind a text.
+// Appends words and a number.
 fn push(text: &mut String, words: &str, number: u32) -> Result<(), AllocError> {
     write!(text, "{words}{number}")
 }
 
-// Lets so many workers run a net.
+// Lets workers run a net, and returns it.
 fn worked<R: Threads + Wait + Sync>(
     rt: &R,
     alloc: Global,
@@ -114,7 +115,7 @@ fn worked<R: Threads + Wait + Sync>(
     Driver { plan, inputs, net }
 }
 
-// How many sets the last node of a net has taken at rest.
+// Brings a net to rest, and returns how many sets its last node has taken.
 fn swept(alloc: Global, driver: Driver, gate: &Held) -> Result<u64, Fail>
     requires { IsDriven driver.plan driver.inputs driver.net }
 {
@@ -124,7 +125,7 @@ fn swept(alloc: Global, driver: Driver, gate: &Held) -> Result<u64, Fail>
     sets
 }
 
-// Brings a net to rest. How many sets its last node has taken.
+// Brings a net to rest, and returns how many sets its last node has taken.
 fn last_sets(alloc: Global, driver: &mut Driver, gate: &Held) -> Result<u64, Fail>
     requires { IsDriven driver.old.plan driver.old.inputs driver.old.net }
 {

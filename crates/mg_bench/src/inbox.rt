@@ -1,5 +1,4 @@
-//! So many input sets go through an inbox of so many ports, each with a packet at each port, while other packets wait at
-//! the first port.
+//! Input sets go through the inbox of a node, each with a packet at each port, while other packets wait at the first port.
 
 ghost use Rattle.std.specs.Prelude.{◌≡◌, ◌<◌, length, OnOk};
 
@@ -11,7 +10,7 @@ use std::alloc::{AllocError, Global};
 use std::sync::Arc;
 use std::test::Fail;
 
-/// What is to be measured.
+/// What is measured: an inbox of how many ports, how many sets, and how many packets that wait.
 #[derive(Clone, Copy)]
 struct Load {
     ports: u32,
@@ -19,7 +18,7 @@ struct Load {
     waiting: u32,
 }
 
-/// Reads how much is wanted, and tells how many sets were claimed.
+/// Reads the words for how much is measured, and returns how many sets were claimed.
 pub fn run(rt: &HostRuntime) -> Result<u64, Fail> {
     let ports = number(rt, 1)?;
     let sets = number(rt, 2)?;
@@ -35,14 +34,14 @@ pub fn run(rt: &HostRuntime) -> Result<u64, Fail> {
     Ok(u64::from(count))
 }
 
-// How many sets were claimed.
+// Makes an inbox, and returns how many sets were claimed of it.
 fn claimed(alloc: Global, load: Load) -> Result<u32, AllocError> {
     let payload = Arc::new(alloc, Payload::Int(7))?;
     let mut inbox = Inbox::new(alloc, load.ports, Policy::Default)?;
     claimed_of(alloc, &mut inbox, load, &payload)
 }
 
-// How many sets were claimed of an inbox.
+// Puts the packets of each set into an inbox and claims the set. Returns how many sets were claimed.
 fn claimed_of(
     alloc: Global,
     inbox: &mut Inbox,
@@ -63,8 +62,7 @@ fn claimed_of(
     Ok(count)
 }
 
-// Lets packets wait at the first port, later than all sets, if there are to be any. The first port that takes part in the
-// sets comes back.
+// Lets packets wait at the first port, later than all sets, if there are to be any. Returns the first port that takes part in the sets.
 fn fill(inbox: &mut Inbox, load: Load, payload: &Arc<Payload>) -> Result<u32, AllocError>
     requires { length inbox.old.pool.ports ≡ load.ports }
     ensures { length inbox.new.pool.ports ≡ length inbox.old.pool.ports }

@@ -1,4 +1,4 @@
-//! Packet lines are read batch by batch, and each packet is written again as a line of the stream `out`.
+//! Reads packet lines batch by batch, and writes each packet again as a line of the stream `out`.
 
 use mg_calc::{Inputs, Plan};
 use mg_edge::{ReaderSource, Sink, Source, WriterSink};
@@ -11,17 +11,17 @@ use std::test::Fail;
 /// How many lines are read at once.
 const BATCH: u32 = 4096;
 
-/// How many bytes are written at once, or a line more.
+/// How many bytes are kept before they are written.
 const BLOCK: usize = 1 << 16;
 
-/// Where the lines go: each is put at the end of a text, which is written whenever it has a block.
+/// Where the lines go: each is put at the end of a text, which is written whenever it has a block of bytes.
 #[derive(Drop)]
 struct Output {
     writer: LineWriter,
     text: Vec<u8>,
 }
 
-/// Reads standard input to its end.
+/// Copies the packets of standard input to standard output, up to the input's end.
 pub fn run(rt: &HostRuntime) -> Result<(), Fail> {
     let mut feed = feed_of(rt.alloc())?;
     let copied = copied(rt, &mut feed);
@@ -47,7 +47,7 @@ fn output_of(alloc: Global) -> Result<Output, AllocError> {
     Ok(Output { writer, text })
 }
 
-// The feed of a graph with one input.
+// Returns the feed of a graph with one input.
 fn feed_of(alloc: Global) -> Result<Feed, Fail> {
     let plan = plan_of(alloc, graph())?;
     let feed = feed_over(alloc, &plan);
@@ -59,7 +59,7 @@ fn graph() -> &'static str {
     r#"input_stream: "in" output_stream: "out" node { calculator: "PassThroughCalculator" input_stream: "in" output_stream: "out" }"#
 }
 
-// The feed of a plan.
+// Returns the feed of a plan.
 fn feed_over(alloc: Global, plan: &Plan) -> Result<Feed, Fail> {
     Ok(Feed::new(alloc, plan)?)
 }
@@ -83,7 +83,7 @@ fn copy<S: Source, K: Sink>(
     None
 }
 
-// Puts out what a feed has accepted.
+// Writes the packets that a feed has accepted.
 fn put_batch<K: Sink>(feed: &mut Feed, output: &mut Output, sink: &mut K) -> Option<()> {
     match feed.take_inputs(false) {
         Ok(inputs) => put_inputs(&inputs, output, sink),
@@ -91,7 +91,7 @@ fn put_batch<K: Sink>(feed: &mut Feed, output: &mut Output, sink: &mut K) -> Opt
     }
 }
 
-// Puts out the packets of the first input.
+// Writes the packets of the first input.
 fn put_inputs<K: Sink>(inputs: &Inputs, output: &mut Output, sink: &mut K) -> Option<()> {
     let prefix = inputs.streams.get(0)?;
     for packet in prefix.packets.as_slice() {
@@ -100,7 +100,7 @@ fn put_inputs<K: Sink>(inputs: &Inputs, output: &mut Output, sink: &mut K) -> Op
     Some(())
 }
 
-// Puts out a packet.
+// Writes a packet as a line.
 fn put<K: Sink>(packet: &Packet, output: &mut Output, sink: &mut K) -> Option<()> {
     output.writer.push_line(&mut output.text, packet).ok()?;
     if output.text.len() < BLOCK {
@@ -109,7 +109,7 @@ fn put<K: Sink>(packet: &Packet, output: &mut Output, sink: &mut K) -> Option<()
     flush(output, sink)
 }
 
-// Writes what wasn't written yet.
+// Writes the bytes that aren't written yet.
 fn flush<K: Sink>(output: &mut Output, sink: &mut K) -> Option<()> {
     if !put_all(sink, output.text.as_slice()) {
         return None;

@@ -26,7 +26,7 @@ fn main(rt: HostRuntime) -> Result<(), Fail> {
     Ok(())
 }
 
-// What a loop tells that counts.
+// Runs the loop that the words name, and returns what it counts.
 fn count<R: Threads + Wait + Sync>(threads: &R, rt: &HostRuntime) -> Result<u64, Fail> {
     if is(rt, 1, "chain") {
         chain::run(rt)

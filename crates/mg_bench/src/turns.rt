@@ -1,7 +1,7 @@
-//! A node behind a source is served round by round: by the calls on a shared net, which one seat makes, or by the events of the net alone.
-//! What a round is made of is a word, with a letter for each call: `s`, so many sets of the source; `d`, a delivery to the node; `c`, a
-//! claim of the node that finds nothing; `w`, a set of the node, claimed, performed and committed by itself; `h`, a set that is claimed
-//! and put back; `r`, so many sets of the node under one pair of turns; and `u`, the node's outputs are raised.
+//! A node behind a source is served round by round: by the calls of one seat on a shared net, or by the events of the net alone. A word
+//! says what a round is made of, with a letter for each call: `s`, a number of sets of the source; `d`, a delivery to the node; `c`, a
+//! claim of the node that finds nothing; `w`, a set of the node, claimed, performed and committed by itself; `h`, a set that is claimed and
+//! put back; `r`, a number of sets of the node under one pair of turns; and `u`, the node's outputs are raised.
 ghost use Rattle.std.specs.Prelude.{◌≡◌, OnSome};
 ghost use Rattle.mg_turns.specs.Parts.{nodes_in};
 ghost use Rattle.mg_turns.specs.Calls.{key_of};
@@ -19,7 +19,7 @@ use mg_turns::{NetSeat, SharedNet};
 use std::alloc::Global;
 use std::test::Fail;
 
-/// What is to be measured.
+/// What is measured.
 #[derive(Drop)]
 struct Load {
     rounds: u32,
@@ -34,13 +34,14 @@ struct Claims {
     node: u64,
 }
 
-/// Reads what is wanted, and tells how much was done: works that were committed, and deliveries and raises that changed something.
+/// Reads the words for what is measured, and returns how much was done: works that were committed, and deliveries and raises that changed
+/// something.
 pub fn run(rt: &HostRuntime) -> Result<u64, Fail> {
     let load = load_of(rt)?;
     served(rt, &load)
 }
 
-// The words after the word `turns`: rounds, sets, `seat` or `net`, and the calls of a round.
+// Reads the words behind the word `turns`: rounds, sets, `seat` or `net`, and the calls of a round.
 fn load_of(rt: &HostRuntime) -> Result<Load, Fail> {
     let rounds = number(rt, 2)?;
     let sets = number(rt, 3)?;
@@ -54,7 +55,7 @@ fn load_of(rt: &HostRuntime) -> Result<Load, Fail> {
     }
 }
 
-// So many rounds, by one seat or by the net alone.
+// Makes all rounds, by one seat or by the net alone. Returns how much was done.
 fn served(rt: &HostRuntime, load: &Load) -> Result<u64, Fail> {
     let packets = load.rounds.saturating_mul(load.sets).saturating_add(1);
     let driver = chain(rt.alloc(), 1, packets, 1_000_000)?;
@@ -65,7 +66,7 @@ fn served(rt: &HostRuntime, load: &Load) -> Result<u64, Fail> {
     }
 }
 
-// By one seat.
+// Shares the net, and makes all rounds by one seat. Returns how much was done.
 fn by_seat(alloc: Global, driver: Driver, load: &Load) -> Result<u64, Fail>
     requires { IsDriven driver.plan driver.inputs driver.net }
 {
@@ -81,7 +82,7 @@ fn by_seat(alloc: Global, driver: Driver, load: &Load) -> Result<u64, Fail>
     }
 }
 
-// All rounds.
+// Makes all rounds by a seat.
 fn rounds_by_seat(
     alloc: Global,
     net: &SharedNet<LawBox>,
@@ -101,7 +102,7 @@ fn rounds_by_seat(
     Some(done)
 }
 
-// One round.
+// Makes one round by a seat.
 fn round_by_seat(
     alloc: Global,
     net: &SharedNet<LawBox>,
@@ -120,7 +121,7 @@ fn round_by_seat(
     Some(done)
 }
 
-// One call.
+// Makes one call of a round by a seat.
 fn call_by_seat(
     alloc: Global,
     net: &SharedNet<LawBox>,
@@ -144,7 +145,7 @@ fn call_by_seat(
     }
 }
 
-// A delivery to the node.
+// Delivers to the node.
 fn bring(net: &SharedNet<LawBox>, seat: &mut NetSeat<LawBox>) -> Option<u64>
     requires shared { IsShared net.now seat.old }
     ensures shared { IsShared net.now seat.new }
@@ -155,7 +156,7 @@ fn bring(net: &SharedNet<LawBox>, seat: &mut NetSeat<LawBox>) -> Option<u64>
     }
 }
 
-// The node's outputs are raised.
+// Raises the node's outputs.
 fn lift(net: &SharedNet<LawBox>, seat: &mut NetSeat<LawBox>) -> Option<u64>
     requires shared { IsShared net.now seat.old }
     requires two { nodes_in (key_of net.now) ≡ 2 }
@@ -167,7 +168,7 @@ fn lift(net: &SharedNet<LawBox>, seat: &mut NetSeat<LawBox>) -> Option<u64>
     }
 }
 
-// A claim of the node that finds nothing.
+// Claims a work of the node, which finds none.
 fn find_nothing(net: &SharedNet<LawBox>, seat: &mut NetSeat<LawBox>) -> Option<u64>
     requires shared { IsShared net.now seat.old }
     requires two { nodes_in (key_of net.now) ≡ 2 }
@@ -182,7 +183,7 @@ fn find_nothing(net: &SharedNet<LawBox>, seat: &mut NetSeat<LawBox>) -> Option<u
     }
 }
 
-// A set of the node that is claimed, performed and committed.
+// Claims a set of the node, performs and commits it.
 fn work(alloc: Global, net: &SharedNet<LawBox>, seat: &mut NetSeat<LawBox>) -> Option<u64>
     requires shared { IsShared net.now seat.old }
     requires two { nodes_in (key_of net.now) ≡ 2 }
@@ -198,7 +199,7 @@ fn work(alloc: Global, net: &SharedNet<LawBox>, seat: &mut NetSeat<LawBox>) -> O
     Some(u64::from(laid))
 }
 
-// A set of the node that is claimed, and put back as it is.
+// Claims a set of the node, and puts it back as it is.
 fn put_back(net: &SharedNet<LawBox>, seat: &mut NetSeat<LawBox>) -> Option<u64>
     requires shared { IsShared net.now seat.old }
     requires two { nodes_in (key_of net.now) ≡ 2 }
@@ -214,7 +215,7 @@ fn put_back(net: &SharedNet<LawBox>, seat: &mut NetSeat<LawBox>) -> Option<u64>
     }
 }
 
-// By the net alone.
+// Makes all rounds by the net alone. Returns how much was done.
 fn by_net(driver: Driver, load: &Load) -> Result<u64, Fail>
     requires { IsDriven driver.plan driver.inputs driver.net }
 {
@@ -224,7 +225,7 @@ fn by_net(driver: Driver, load: &Load) -> Result<u64, Fail>
     done
 }
 
-// All rounds.
+// Makes all rounds by the events of the net.
 fn rounds_by_net(driver: &mut Driver, load: &Load) -> Result<u64, Fail>
     requires { IsDriven driver.old.plan driver.old.inputs driver.old.net }
 {
@@ -237,7 +238,7 @@ fn rounds_by_net(driver: &mut Driver, load: &Load) -> Result<u64, Fail>
     Ok(done)
 }
 
-// One round.
+// Makes one round by the events of the net.
 fn round_by_net(driver: &mut Driver, claims: &mut Claims, load: &Load) -> Result<u64, Fail>
     requires { IsDriven driver.old.plan driver.old.inputs driver.old.net }
     ensures { IsDriven driver.new.plan driver.new.inputs driver.new.net }
@@ -250,7 +251,7 @@ fn round_by_net(driver: &mut Driver, claims: &mut Claims, load: &Load) -> Result
     Ok(done)
 }
 
-// The events of one call. A set can't be put back.
+// Makes the events of one call of a round. A set can't be put back by an event.
 fn call_by_net(driver: &mut Driver, claims: &mut Claims, call: u8, sets: u32) -> Result<u64, Fail>
     requires { IsDriven driver.old.plan driver.old.inputs driver.old.net }
     ensures { IsDriven driver.new.plan driver.new.inputs driver.new.net }
@@ -266,7 +267,7 @@ fn call_by_net(driver: &mut Driver, claims: &mut Claims, call: u8, sets: u32) ->
     }
 }
 
-// So many sets of a node, each claimed, performed and committed.
+// Claims, performs and commits a number of sets of a node.
 fn works(driver: &mut Driver, node: u32, number: &mut u64, sets: u32) -> Result<u64, Fail>
     requires { IsDriven driver.old.plan driver.old.inputs driver.old.net }
     ensures { IsDriven driver.new.plan driver.new.inputs driver.new.net }
@@ -280,7 +281,7 @@ fn works(driver: &mut Driver, node: u32, number: &mut u64, sets: u32) -> Result<
     Ok(done)
 }
 
-// A set of a node, by its number.
+// Claims, performs and commits the set of a node with a number.
 fn work_by_net(driver: &mut Driver, node: u32, number: u64) -> Result<u64, Fail>
     requires { IsDriven driver.old.plan driver.old.inputs driver.old.net }
     ensures { IsDriven driver.new.plan driver.new.inputs driver.new.net }
@@ -290,7 +291,7 @@ fn work_by_net(driver: &mut Driver, node: u32, number: u64) -> Result<u64, Fail>
     make(driver, Event::Commit { node, number })
 }
 
-// Makes an event, and tells whether it did anything.
+// Makes an event, and returns 1 where it did anything, or else 0.
 fn make(driver: &mut Driver, event: Event) -> Result<u64, Fail>
     requires { IsDriven driver.old.plan driver.old.inputs driver.old.net }
     ensures { IsDriven driver.new.plan driver.new.inputs driver.new.net }

@@ -3,12 +3,12 @@
 use std::env;
 use std::test::Fail;
 
-/// The word at a place behind the program's name, which stands at 0.
+/// Returns the word at a place behind the program's name, which stands at place 0.
 pub fn word(rt: &HostRuntime, place: usize) -> Option<String> {
     env::args(rt).ok()?.nth(place)
 }
 
-/// Whether the word at a place is this one.
+/// Whether the word at a place is the wanted one.
 pub fn is(rt: &HostRuntime, place: usize, wanted: &str) -> bool {
     match word(rt, place) {
         Some(word) => word.as_str() == wanted,
@@ -16,7 +16,7 @@ pub fn is(rt: &HostRuntime, place: usize, wanted: &str) -> bool {
     }
 }
 
-/// The number at a place.
+/// Returns the number at a place.
 pub fn number(rt: &HostRuntime, place: usize) -> Result<u32, Fail> {
     match word(rt, place) {
         Some(word) => number_of(&word),
@@ -24,7 +24,7 @@ pub fn number(rt: &HostRuntime, place: usize) -> Result<u32, Fail> {
     }
 }
 
-// The number that a word is.
+// Returns the number that a word stands for.
 fn number_of(word: &str) -> Result<u32, Fail> {
     match word.parse() {
         Ok(number) => Ok(number),

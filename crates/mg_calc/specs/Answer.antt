@@ -9,11 +9,11 @@ use Rattle.mg_calc.specs.declared.cause.Cause.{Cause}
 use Rattle.mg_calc.specs.declared.cause.CalcFault.{CalcFault}
 use Rattle.mg_calc.specs.declared.cause.CalcFault.TheVariants.{Fault, OutOfMemory}
 
--- the new state with an emission, or a cause
+-- what a law gives: the new state with an emission, or a cause
 abbrev pub Answer : Type 0
 Answer = Result (List Plain × List Laid) Cause
 
--- a packet at an output, or nothing there
+-- what is emitted at an output: a packet or nothing
 abbrev pub laid : Option (Stamped Plain) → Laid
 laid place = record { packets = option_to_list place; bound = None }
 
@@ -21,13 +21,13 @@ laid place = record { packets = option_to_list place; bound = None }
 abbrev pub emission_of : List (Option (Stamped Plain)) → List Laid
 emission_of places = if list_any is_some places then map laid places else []
 
--- a result is the answer; want of memory may come in place of any answer
+-- the result of a call is the answer; want of memory may come in place of any answer
 abbrev pub Gives : Result (List Plain × List Laid) CalcFault → Answer → Type 0
 Gives (Ok given) answer = answer ≡ Ok given
 Gives (Err (Fault cause)) answer = answer ≡ Err cause
 Gives (Err OutOfMemory) answer = ⊤
 
--- a result is the answer without its state
+-- the result of a call is the answer without its new state, which is the given one; want of memory may come in place of any answer
 abbrev pub GivesEmission : Result (List Laid) CalcFault → List Plain → Answer → Type 0
 GivesEmission (Ok emission) state answer = answer ≡ Ok (state, emission)
 GivesEmission (Err (Fault cause)) state answer = answer ≡ Err cause

@@ -21,7 +21,7 @@ abbrev pub at_inner_times : ℕ → List Plain → List (Stamped Plain)
 at_inner_times c [] = []
 at_inner_times c (v ∷ vs) = record { at = inner_time c; value = v } ∷ at_inner_times (c + 1) vs
 
--- the last inner time of a list of so many items that begins at a number: an empty list takes one inner time too
+-- the number of a list's last inner time, from that of its first and its count of items: an empty list takes one inner time too
 abbrev pub last_inner : ℕ → ℕ → ℕ
 last_inner c count = c + (count - 1)
 
@@ -41,7 +41,7 @@ batch clone c last t list cloned =
     laid_up_to last (record { at = inner_time last; value = int (raw_of t) } ∷ [])
     ∷ ((if clone then laid_up_to last (copies c (length list) cloned) ∷ [] else []) ++ laid_up_to last (at_inner_times c list) ∷ [])
 
--- the rule for a list at t: the next inner time moves on behind it; Overflow where that is past Max
+-- the answer to a list at t: its emission, and as the state the next inner time behind it; Overflow where that is past Max
 abbrev pub begun_batch : Bool → ℕ → ℕ → List Plain → Option (Stamped Plain) → Answer
 begun_batch clone c t list cloned =
     let last = last_inner c (length list) in
@@ -54,13 +54,12 @@ begin_loop clone state t set =
     unwrap_or (option_map (λ p. begun_batch clone (count_in state) t (items_in p.value) (place_at set 0)) (place_at set (iterable_port clone)))
     (Ok (state, []))
 
--- a list with the payload of ITEM behind it, if there is one; TooDeep where lists and records nest in that so deep that the list
--- would be deeper than a payload may be
+-- a list with the payload of ITEM behind it, if ITEM has a packet; TooDeep where the list would then nest deeper than a payload may
 abbrev pub with_item : List Plain → Option (Stamped Plain) → Result (List Plain) Cause
 with_item list None = Ok list
 with_item list (Some p) = if nat_le 16 (depth p.value) then Err TooDeep else Ok (list ++ p.value ∷ [])
 
--- what is done with the list: it is kept, or, where BATCH_END tells a time, it goes on at that time, and an empty one is kept
+-- the answer of EndLoop for its list: the list is kept, or, where BATCH_END tells a time, emitted at that time and kept no more
 abbrev pub gathered : Option (Stamped Plain) → Result (List Plain) Cause → Answer
 gathered end (Err cause) = Err cause
 gathered None (Ok list) = Ok (full_places list, [])

@@ -49,6 +49,7 @@ outcome_by Loopback job streams node =
 outcome_by law job streams node =
     node_outcome node.law node.shape.offset node.policy (length node.outputs) (sides_of job node) (inputs_of streams node)
 
+-- what becomes of a node of a job, from the streams
 abbrev pub outcome_of : Job → List (StreamPrefix Plain) → PlanNode → Outcome
 outcome_of job streams node = outcome_by node.law job streams node
 
@@ -56,12 +57,12 @@ outcome_of job streams node = outcome_by node.law job streams node
 abbrev pub next_round : Job → List (StreamPrefix Plain) → List (StreamPrefix Plain)
 next_round job streams = job.inputs.streams ++ flat_map (λ node. (outcome_of job streams node).outputs) job.plan.nodes
 
--- the rounds, from nothing on
+-- the streams after a number of rounds: at first nothing is known of any
 abbrev pub round : Job → ℕ → List (StreamPrefix Plain)
 round job zero = replicate (length job.plan.streams) empty_prefix
 round job (suc n) = next_round job (round job n)
 
--- prefixes that meet the equations
+-- streams meet the equations: a further round leaves them as they are
 abbrev pub MeetsEquations : Job → List (StreamPrefix Plain) → Type 0
 MeetsEquations job streams = next_round job streams ≡ streams
 

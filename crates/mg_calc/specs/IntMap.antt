@@ -1,4 +1,4 @@
--- What maps make of a number and their operand: the exact result.
+-- The exact result of a Map's operation on a number and an operand.
 use Rattle.std.specs.Prelude.{ℤ, ◌+ℤ◌, ◌-ℤ◌, ◌*ℤ◌}
 use Rattle.mg_calc.specs.declared.int_map.MapOp.{MapOp}
 use Rattle.mg_calc.specs.declared.int_map.MapOp.TheVariants.{Add, Subtract, Multiply}

@@ -22,16 +22,16 @@ use Rattle.mg_calc.specs.Batch.{begin_loop, end_loop}
 
 -- The rules of the calculators that compute: what each gives for its state and the set at a time t.
 
--- a number is emitted at t, and a state is kept; Overflow where the number hasn't 64 signed bits
+-- the answer that emits a number at t and keeps a state; Overflow where the number doesn't fit in 64 signed bits
 abbrev pub emits_number : List Plain → ℕ → ℤ → Answer
 emits_number state t n = if fits n then Ok (state, emission_of (Some (record { at = t; value = int n }) ∷ [])) else Err Overflow
 
--- a payload is emitted at a time, if there is one; Overflow where there is none
+-- the answer that emits a payload at a time and keeps a state; Overflow where there is no time
 abbrev pub emits_at : List Plain → Option ℕ → Plain → Answer
 emits_at state None value = Err Overflow
 emits_at state (Some t) value = Ok (state, emission_of (Some (record { at = t; value = value }) ∷ []))
 
--- a law of one input: what it gives for its packet; without one nothing happens
+-- the answer of a law of one input: what f gives for the packet of the set; without a packet the state stays and nothing is emitted
 abbrev pub with_packet : (Stamped Plain → Answer) → List Plain → List (Option (Stamped Plain)) → Answer
 with_packet f state set = unwrap_or (option_map f (place_at set 0)) (Ok (state, []))
 
@@ -60,7 +60,7 @@ is_kept Odd n = not (is_even n)
 is_kept Negative n = is_below_zero n
 is_kept NonNegative n = not (is_below_zero n)
 
--- what a filter emits of a packet at t: the packet where it keeps its number, and then, where it raises, a raise to what may follow t
+-- what a filter emits for a packet at t: the packet, if it keeps its number, and then, if it raises, a bound at the next time after t
 abbrev pub filtered : Bool → Bool → ℕ → Stamped Plain → List Laid
 filtered keeps raises t p =
     if keeps || raises
@@ -71,7 +71,7 @@ filtered keeps raises t p =
 abbrev pub filter_law : Keep → Bool → List Plain → ℕ → List (Option (Stamped Plain)) → Answer
 filter_law keep raises state t set = with_packet (λ p. Ok (state, filtered (is_kept keep (number_of p.value)) raises t p)) state set
 
--- Running: the state and the number, or Overflow
+-- Running: the sum of the state and the number, which is emitted and kept, or Overflow
 abbrev pub running : List Plain → ℕ → List (Option (Stamped Plain)) → Answer
 running state t set =
     with_packet (λ p. let sum = number_in state +ℤ number_of p.value in emits_number (state_of sum) t sum) state set
@@ -84,7 +84,7 @@ shifted offset state t set = with_packet (λ p. emits_at state (moved_time t off
 abbrev pub tally : List Plain → ℕ → Answer
 tally state t = let count = number_in state +ℤ pos 1 in emits_number (state_of count) t count
 
--- Scripted: of the written steps the next, which is counted; after the last nothing
+-- Scripted: the next of the written steps is emitted, and the state counts it; after the last nothing happens
 abbrev pub scripted : List (List Laid) → List Plain → Answer
 scripted steps state =
     unwrap_or (option_map (λ emission. Ok (state_of (pos (count_in state + 1)), emission)) (slice_get steps (count_in state))) (Ok (state, []))
@@ -102,7 +102,7 @@ opening (SideOnce at) sides = keeps_side (unwrap_or (slice_get sides 0) None)
 opening (Scripted offset first steps last) sides = Ok ([], first)
 opening _ sides = Ok ([], [])
 
--- the rule of each law at a set at t; those that are shown no sets do nothing
+-- what each law gives for its state and the set at t; laws that are shown no sets do nothing
 abbrev pub rule : Law → List Plain → ℕ → List (Option (Stamped Plain)) → Answer
 rule Pass state t set = pass state set
 rule (Gate lanes disallow empty_as_allow) state t set = gate lanes disallow empty_as_allow state set
@@ -130,8 +130,8 @@ rule (Limiter most) state t set = Ok (state, [])
 abbrev pub step : Law → List Plain → ℕ → List (Option (Stamped Plain)) → Answer
 step law state t set = if has_wrong_kind law set then Err WrongKind else rule law state t set
 
--- the call of a source by its number, from 0 on: Count gives the number, at its start and so many steps later, or Overflow where
--- that leaves the range; SideOnce gives what it keeps; those that are no sources do nothing
+-- the call of a source by its number, from 0 on: Count emits the number, at its start and so many steps later, or gives Overflow
+-- where that leaves the range; SideOnce emits the payload that it keeps; laws that aren't sources do nothing
 abbrev pub call : Law → List Plain → ℕ → Answer
 call (Count count start apart) state i = emits_at state (time_of (start +ℤ (pos i *ℤ apart))) (int (pos i))
 call (SideOnce at) state i = Ok (state, emission_of (copy_at at (kept_at state 0) ∷ []))

@@ -14,17 +14,17 @@ use Rattle.mg_calc.specs.declared.node_fault.Phase.TheVariants.{Process, Close}
 abbrev pub is_allowed : ℕ → Bool
 is_allowed at = nat_le pre_stream at && nat_le at post_stream
 
--- A node with an offset promises that what it emits at a set stands at the set's time plus the offset or above,
+-- whether a packet at a set stands below what a node's offset promises: that packets stand at the set's time plus the offset or above
 abbrev pub is_below_offset : Option ℤ → Phase → ℕ → Bool
 is_below_offset (Some offset) (Process set_at) at = nat_lt at (shift set_at offset)
 is_below_offset offset phase at = false
 
--- and that it emits nothing in Close.
+-- whether a node may emit nothing, as one with an offset promises for Close
 abbrev pub is_bound_to_silence : Option ℤ → Phase → Bool
 is_bound_to_silence (Some offset) Close = true
 is_bound_to_silence offset phase = false
 
--- whether a packet at a timestamp isn't the only one of its output, and would have to be
+-- whether a packet would stand at PostStream behind others of its output, where it has to be the only one
 abbrev pub is_not_alone : List (Stamped Plain) → ℕ → Bool
 is_not_alone packets at = (at == post_stream) && nat_lt 0 (length packets)
 
@@ -38,17 +38,17 @@ laying_fault offset phase output packet =
     else (if is_not_alone output.packets packet.at then Some NotAlone
     else None))))
 
--- an answer where there is no reason against it, or the reason
+-- the given result where there is no cause against it, or the cause
 abbrev pub unless : {A : Type 0} → Option Cause → Result A Cause → Result A Cause
 unless (Some cause) answer = Err cause
 unless None answer = answer
 
--- what is made of a good answer, or the reason against it
+-- what a function makes of the value of a result, or the result's cause
 abbrev pub after : {A B : Type 0} → Result A Cause → (A → Result B Cause) → Result B Cause
 after (Err cause) make = Err cause
 after (Ok value) make = make value
 
--- packets put behind an output, one after the other, or the first reason against one of them
+-- an output with packets put behind it, one after the other, or the cause against the first that can't be put there
 abbrev pub with_packets : Option ℤ → Phase → StreamPrefix Plain → List (Stamped Plain) → Result (StreamPrefix Plain) Cause
 with_packets offset phase output [] = Ok output
 with_packets offset phase output (packet ∷ packets) =
@@ -59,13 +59,13 @@ abbrev pub raised_to : Option ℕ → StreamPrefix Plain → StreamPrefix Plain
 raised_to None output = output
 raised_to (Some bound) output = raised output bound
 
--- what is emitted at an output put behind it: the packets, and after them the bound
+-- an output with what is emitted there put behind it, first the packets and then the bound, or the cause against a packet
 abbrev pub with_laid : Option ℤ → Phase → StreamPrefix Plain → Laid → Result (StreamPrefix Plain) Cause
 with_laid offset phase output laid =
     after (with_packets offset phase output laid.packets) (λ longer. Ok (raised_to laid.bound longer))
 
--- an emission put behind the outputs, each its own part, or the first reason against it in the order of the outputs. An
--- emission without parts lays nothing.
+-- the outputs with an emission put behind them, an entry for each, or the first cause against it in the order of the outputs. An
+-- emission without entries lays nothing.
 abbrev pub laid_behind : Option ℤ → Phase → List (StreamPrefix Plain) → List Laid → Result (List (StreamPrefix Plain)) Cause
 laid_behind offset phase outputs [] = Ok outputs
 laid_behind offset phase [] (laid ∷ emission) = Ok []
@@ -73,7 +73,7 @@ laid_behind offset phase (output ∷ outputs) (laid ∷ emission) =
     after (with_laid offset phase output laid)
     (λ longer. after (laid_behind offset phase outputs emission) (λ others. Ok (longer ∷ others)))
 
--- the outputs of a node with an offset raised to a bound moved by it; those of every other node stay
+-- the outputs of a node, raised to a bound moved by the node's offset; without an offset they stay
 abbrev pub all_raised : Option ℤ → ℕ → List (StreamPrefix Plain) → List (StreamPrefix Plain)
 all_raised None bound outputs = outputs
 all_raised (Some offset) bound outputs = map (λ output. raised output (shift bound offset)) outputs

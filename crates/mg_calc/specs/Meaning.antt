@@ -14,11 +14,11 @@ use Rattle.mg_calc.specs.declared.plan_node.PlanNode.{PlanNode}
 use Rattle.mg_calc.specs.Outcome.{Failure}
 use Rattle.mg_calc.specs.Equations.{Job, outcome_of, inputs_of}
 
--- some things with their numbers, from 0 on
+-- the entries of a list with their numbers, from 0 on
 abbrev pub numbered : {X : Type 0} → List X → List (ℕ × X)
 numbered xs = enumerate_from 0 xs
 
--- the fault of a node, with its number
+-- the fault of a node, if it has one, with the node's number
 abbrev pub fault_of : Job → List (StreamPrefix Plain) → ℕ × PlanNode → Option NodeFault
 fault_of job streams entry =
     option_map (λ failure. record { node = entry.0; phase = failure.phase; cause = failure.cause }) (outcome_of job streams entry.1).fault
@@ -31,11 +31,12 @@ faults job streams = filter_map (fault_of job streams) (numbered job.plan.nodes)
 abbrev pub stalled : List (StreamPrefix Plain) → List ℕ
 stalled streams = map (λ entry. entry.0) (filter (λ entry. not (entry.1.bound == done)) (numbered streams))
 
--- how many sets a node is shown, how often a source is called, and how many packets of MAIN a loopback answers; the set or
--- call that fails included
+-- the count of a node: how many sets it is shown, how often a source is called, or how many packets of MAIN a loopback answers;
+-- the set or call that fails included
 abbrev pub count_of : Job → List (StreamPrefix Plain) → PlanNode → ℕ
 count_of job streams node = (outcome_of job streams node).taken
 
+-- the counts of all nodes, in node order
 abbrev pub counts : Job → List (StreamPrefix Plain) → List ℕ
 counts job streams = map (count_of job streams) job.plan.nodes
 
@@ -43,12 +44,13 @@ counts job streams = map (count_of job streams) job.plan.nodes
 abbrev pub shown_sets : Job → List (StreamPrefix Plain) → PlanNode → List (TimedSet Plain)
 shown_sets job streams node = take (count_of job streams node) (settled_sets node.policy (inputs_of streams node))
 
--- the calls that a calculator has had once its graph has run: Open, a Process for each shown set, and Close, which comes
--- where Open succeeded
+-- the call of Close, by the fault of the node: there is none where Open failed
 abbrev pub last_call : Option Failure → List Call
 last_call None = Finished ∷ []
 last_call (Some failure) = elim failure.phase [ Open ↦ [] | _ ↦ Finished ∷ [] ]
 
+-- the calls that a calculator has had once its graph has run: Open, a Process for each shown set, and Close, which comes
+-- where Open succeeded
 abbrev pub log_of : Job → List (StreamPrefix Plain) → PlanNode → List Call
 log_of job streams node =
     (Begun ∷ map (λ e. Shown e.at e.set) (shown_sets job streams node)) ++ last_call (outcome_of job streams node).fault

@@ -30,7 +30,7 @@ pub record Outcome : Type 0 where
   pub taken : ℕ
   pub fault : Option Failure
 
--- A fault drops the whole emission: the outputs stay as they were before it was laid.
+-- a node that fails: its outputs stay as they were before the emission was laid, so a fault drops the whole emission
 abbrev pub failed : Phase → Cause → Outcome → Outcome
 failed phase cause outcome = record outcome { fault = Some (record { phase = phase; cause = cause }) }
 
@@ -39,14 +39,14 @@ abbrev pub after_laying : Phase → Outcome → Result (List (StreamPrefix Plain
 after_laying phase outcome (Ok outputs) = record outcome { outputs = outputs }
 after_laying phase outcome (Err cause) = failed phase cause outcome
 
--- and once a call of its calculator has answered: where the call fails, the calculator keeps what it kept; where its
--- emission can't be laid, it keeps what the call gave
+-- what becomes of a node once a call of its calculator has answered: where the call fails, the calculator keeps what it kept;
+-- where the emission can't be laid, it keeps what the call gave
 abbrev pub after_call : Option ℤ → Phase → Outcome → Answer → Outcome
 after_call offset phase outcome (Err cause) = failed phase cause outcome
 after_call offset phase outcome (Ok given) =
     after_laying phase (record outcome { state = given.0 }) (laid_behind offset phase outcome.outputs given.1)
 
--- a node of so many outputs before it is opened
+-- a node before it is opened, by the number of its outputs
 abbrev pub unopened : ℕ → Outcome
 unopened outputs = record { state = []; outputs = replicate outputs empty_prefix; taken = 0; fault = None }
 
@@ -54,19 +54,19 @@ unopened outputs = record { state = []; outputs = replicate outputs empty_prefix
 abbrev pub opened : Law → Option ℤ → ℕ → List (Option Plain) → Outcome
 opened law offset outputs sides = after_call offset Open (unopened outputs) (opening law sides)
 
--- A node that has failed stays as it is.
+-- the next outcome of a node, or, where it has failed, the outcome as it is
 abbrev pub unless_failed : Option Failure → Outcome → Outcome → Outcome
 unless_failed (Some failure) outcome next = outcome
 unless_failed None outcome next = next
 
--- a node that is shown a set: before that its outputs are raised to the set's time plus its offset
+-- a node after a set was shown to it: before that its outputs are raised to the set's time plus its offset
 abbrev pub shown : Law → Option ℤ → Outcome → TimedSet Plain → Outcome
 shown law offset outcome set =
     unless_failed outcome.fault outcome (after_call offset (Process set.at)
     (record outcome { outputs = all_raised offset set.at outcome.outputs; taken = outcome.taken + 1 })
     (step law outcome.state set.at set.set))
 
--- a node that was opened and is shown sets, up to the one at which it fails
+-- a node after it was opened and shown sets, up to the one at which it fails
 abbrev pub shown_all : Law → Option ℤ → ℕ → List (Option Plain) → List (TimedSet Plain) → Outcome
 shown_all law offset outputs sides sets = fold (shown law offset) (opened law offset outputs sides) sets
 
@@ -75,12 +75,12 @@ abbrev pub after_close : Outcome → Result (List (StreamPrefix Plain)) Cause �
 after_close outcome (Ok outputs) = record outcome { outputs = map closed outputs }
 after_close outcome (Err cause) = failed Close cause outcome
 
--- a node that has no more sets to come: it is closed
+-- a node to which no more sets come: it is closed
 abbrev pub finished : Law → Option ℤ → Outcome → Outcome
 finished law offset outcome =
     after_close outcome (after (finish law outcome.state) (λ given. laid_behind offset Close outcome.outputs given.1))
 
--- a node that was shown its settled sets, which reach so far: its outputs are raised to the reach plus its offset, and
+-- a node that was shown its settled sets, by how far these reach: its outputs are raised to the reach plus its offset, and
 -- where the reach is the end of all times, it is closed
 abbrev pub with_reach : Law → Option ℤ → ℕ → Outcome → Outcome
 with_reach law offset reached outcome =
@@ -88,6 +88,7 @@ with_reach law offset reached outcome =
     then finished law offset (record outcome { outputs = all_raised offset reached outcome.outputs })
     else record outcome { outputs = all_raised offset reached outcome.outputs }
 
+-- a node that was shown its settled sets, by how far these reach; where it has failed, it stays as it is
 abbrev pub ended : Law → Option ℤ → ℕ → Outcome → Outcome
 ended law offset reached outcome = unless_failed outcome.fault outcome (with_reach law offset reached outcome)
 
@@ -96,13 +97,13 @@ abbrev pub node_outcome : Law → Option ℤ → Policy → ℕ → List (Option
 node_outcome law offset policy outputs sides inputs =
     ended law offset (reach policy inputs) (shown_all law offset outputs sides (settled_sets policy inputs))
 
--- a source that is called by number
+-- a source after the call of a number
 abbrev pub called : Law → Outcome → ℕ → Outcome
 called law outcome number =
     unless_failed outcome.fault outcome
     (after_call None (Call number) (record outcome { taken = outcome.taken + 1 }) (call law outcome.state number))
 
--- A source's outputs close after its last call.
+-- a source after its last call: its outputs are closed, unless it has failed
 abbrev pub with_last_call : Outcome → Outcome
 with_last_call outcome = unless_failed outcome.fault outcome (record outcome { outputs = map closed outcome.outputs })
 

@@ -21,13 +21,13 @@ use Rattle.mg_calc.specs.declared.inputs.Inputs.{Inputs}
 use Rattle.mg_calc.specs.Side.{PlainSideValue, given_at, fixed}
 use Rattle.mg_calc.specs.Shape.{ParametersFit, IsShapeOf, IsServed, IsLimiter}
 
--- the numbers from 0 on, so many
+-- the numbers from 0 to a count, without the count
 abbrev pub numbers : ℕ → List ℕ
 numbers count = range_with_len 0 count
 
 -- Side packets.
 
--- the place of a side packet that is handed in
+-- the place of a side packet, if it is handed in
 abbrev pub place_of : PlainSideValue → Option ℕ
 place_of (given_at place) = Some place
 place_of (fixed payload) = None
@@ -64,7 +64,7 @@ pub record AreInRange (plan : Plan) : Type 0 where
 abbrev pub written_streams : Plan → List ℕ
 written_streams plan = plan.inputs ++ flat_map (λ node. node.outputs) plan.nodes
 
--- who writes them
+-- the producers of all streams, in the order of the streams' numbers
 abbrev pub producers : Plan → List Producer
 producers plan =
     map Input (numbers (length plan.inputs))
@@ -76,6 +76,7 @@ pub record Ends : Type 0 where
   pub node : ℕ
   pub port : ℕ
 
+-- the stream and the port that an edge joins
 abbrev pub ends_of : Edge → Ends
 ends_of e = record { stream = e.stream; node = e.node; port = e.port }
 
@@ -141,7 +142,7 @@ EndsAtLoop plan e = (e.port ≡ 0) × IsSomeAnd (slice_get plan.nodes e.node) (�
 abbrev pub EndsAtFinished : Plan → Edge → Type 0
 EndsAtFinished plan e = (e.port ≡ 1) × IsSomeAnd (slice_get plan.nodes e.node) (λ node. IsLimiter node.law)
 
--- a plan holds together, where its nodes have laws of some, and back edges end at some places
+-- a plan holds together: its numbers agree, its nodes have laws that are allowed, and its back edges end where they may
 pub record HoldsTogether (Allows : Law → Type 0) (MayBeBack : Plan → Edge → Type 0) (plan : Plan) : Type 0 where
   -- its numbers are in their ranges
   pub ranges : AreInRange plan
@@ -157,11 +158,11 @@ pub record HoldsTogether (Allows : Law → Type 0) (MayBeBack : Plan → Edge �
   -- each law's parameters are in their ranges, and each shape is its law's
   pub parameters : All (λ node. ParametersFit node.law) plan.nodes
   pub shapes : All (λ node. IsShapeOf node.law node.shape) plan.nodes
-  -- as many sets of each node are in flight as may be
+  -- each node's limit of sets in flight is one that it may have
   pub flights : All FlightFits plan.nodes
   -- only a node of the law Mux has the policy Mux
   pub policies : All (λ node. MayHavePolicy node.law node.policy) plan.nodes
-  -- no calculator that is handed in has two nodes
+  -- no calculator that is handed in works at two nodes
   pub boxes : AllPairs ◌≢◌ (filter_map (λ node. node.box_number) plan.nodes)
   -- the order has each node once, and each edge that isn't back leads forward in it
   pub order : HasEachOnce (length plan.nodes) plan.order
@@ -185,7 +186,7 @@ IsValidWithFree plan = HoldsTogether (λ law. ⊤) (λ p e. EndsAtLoop p e ⊎ E
 
 -- What is handed in beside a plan.
 
--- a node is of the plan
+-- a plan has a node of a number
 abbrev pub HasNode : Plan → ℕ → Type 0
 HasNode plan node = node < length plan.nodes
 
@@ -200,7 +201,7 @@ pub record FitsNode (node : PlanNode) (law : Law) (shape : Shape) : Type 0 where
   pub same_law : law ≡ node.law
   pub same_shape : shape ≡ node.shape
 
--- the calculators that are handed in fit: where a node has a number, that one is there and has the node's law and shape
+-- the calculators that are handed in fit: where a node has the number of one, this one is there and has the node's law and shape
 abbrev pub OutersFit : Plan → List OuterShape → Type 0
 OutersFit plan outers =
     All (λ node. IfSome node.box_number (λ number. IsSomeAnd (slice_get outers number) (λ outer. FitsNode node outer.law outer.shape))) plan.nodes

@@ -19,7 +19,7 @@ abbrev pub truth_of : Plain → Bool
 truth_of (flag b) = b
 truth_of _ = false
 
--- whether a gate is open: what the control says, turned round where it disallows; without a control as told
+-- whether a gate is open: where the control packet is true, or, for a gate with DISALLOW, false; without one as empty_as_allow says
 abbrev pub is_open : Bool → Bool → Option (Stamped Plain) → Bool
 is_open disallow empty_as_allow None = empty_as_allow
 is_open disallow empty_as_allow (Some p) = if disallow then not (truth_of p.value) else truth_of p.value
@@ -29,11 +29,12 @@ abbrev pub gate : ℕ → Bool → Bool → List Plain → List (Option (Stamped
 gate lanes disallow empty_as_allow state set =
     if is_open disallow empty_as_allow (place_at set lanes) then Ok (state, emission_of (take lanes set)) else Ok (state, [])
 
--- Mux: the packet of the input goes on whose number SELECT has, the last input; without SELECT nothing does
+-- the answer of Mux by the input that SELECT chose: its packet goes on; BadSelect where SELECT chose none
 abbrev pub chosen : List Plain → List (Option (Stamped Plain)) → Option ℕ → Answer
 chosen state set None = Err BadSelect
 chosen state set (Some i) = Ok (state, emission_of (place_at set i ∷ []))
 
+-- Mux: the packet at the input whose number SELECT has goes on; SELECT is the last input, and without a packet there nothing goes on
 abbrev pub mux : ℕ → List Plain → List (Option (Stamped Plain)) → Answer
 mux lanes state set = unwrap_or (option_map (λ p. chosen state set (selected (lanes + 1) p.value)) (place_at set lanes)) (Ok (state, []))
 
@@ -46,7 +47,7 @@ renewed (None, kept) = kept
 abbrev pub renewed_places : ℕ → List Plain → List (Option (Stamped Plain)) → List (Option Plain)
 renewed_places lanes state set = map renewed (zip (take lanes set) (places_in lanes state))
 
--- a payload that is kept as a packet at a time
+-- the packet at a time of a payload that is kept, if one is
 abbrev pub copy_at : ℕ → Option Plain → Option (Stamped Plain)
 copy_at t kept = option_map (λ v. record { at = t; value = v }) kept
 

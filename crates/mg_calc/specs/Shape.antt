@@ -18,7 +18,7 @@ use Rattle.mg_calc.specs.Values.{is_in_range, iterable_port}
 
 -- The laws by who computes them.
 
--- the laws of numbers, the one that shifts times, and those that are written down or count
+-- the laws that mg_calc computes: those of numbers, Shift, Tally and Scripted
 abbrev pub IsOwn : Law → Type 0
 IsOwn (Sum lanes) = ⊤
 IsOwn (Map op operand) = ⊤
@@ -29,7 +29,7 @@ IsOwn Tally = ⊤
 IsOwn (Scripted offset first steps last) = ⊤
 IsOwn _ = ⊥
 
--- the laws that hand packets on
+-- the laws that hand packets on, which mg_route computes
 abbrev pub IsRouting : Law → Type 0
 IsRouting Pass = ⊤
 IsRouting (Gate lanes disallow empty_as_allow) = ⊤
@@ -39,15 +39,15 @@ IsRouting (Merge lanes) = ⊤
 IsRouting (Thin period) = ⊤
 IsRouting _ = ⊥
 
--- the laws of loops over lists
+-- the laws of loops over lists, which mg_batch computes
 abbrev pub IsBatch : Law → Type 0
 IsBatch (BeginLoop clone) = ⊤
 IsBatch EndLoop = ⊤
 IsBatch _ = ⊥
 
--- The laws of free nodes take packets as they arrive, and no set is shown to them. Whatever asks for a law that is served leaves
--- them out: the calls of calculators, the calculators that are handed in, and plans that have a meaning by equations. The table of
--- laws is total, and has for them that nothing is emitted.
+-- the laws that are served: all but those of free nodes, which take packets as they arrive and are shown no set. Only served laws
+-- have calls, calculators that are handed in, and plans with a meaning by equations. The table of laws is total, and has for the
+-- others that nothing is emitted.
 abbrev pub IsServed : Law → Type 0
 IsServed (FirstCome lanes) = ⊥
 IsServed (Limiter most) = ⊥
@@ -58,14 +58,14 @@ abbrev pub IsLimiter : Law → Type 0
 IsLimiter (Limiter most) = ⊤
 IsLimiter _ = ⊥
 
--- the sources that are called
+-- the laws of sources that are called
 abbrev pub IsSource : Law → Type 0
 IsSource (Count count start apart) = ⊤
 IsSource (SideOnce at) = ⊤
 IsSource _ = ⊥
 
--- the laws that are shown sets: all but those of sources, Constants and Loopback. A calculator that is handed in may have any of
--- these that is served.
+-- all laws but those of sources, Constants and Loopback. Those of them that are served are shown sets, and a calculator that is
+-- handed in may have any of these.
 abbrev pub IsOuter : Law → Type 0
 IsOuter (Count count start apart) = ⊥
 IsOuter (SideOnce at) = ⊥
@@ -106,18 +106,19 @@ ParametersFit _ = ⊤
 
 -- Shapes.
 
--- so many ports of a tag and a kind, by index from 0 on
+-- count ports of a tag and a kind, with indexes from 0 on
 abbrev pub ports : List ℕ → ℕ → Kind → List PortKind
 ports tag count kind = map (λ i. record { tag = tag; index = i; kind = kind }) (range_with_len 0 count)
 
--- untagged ports of a kind, and one port of a tag
+-- count untagged ports of a kind
 abbrev pub untagged : ℕ → Kind → List PortKind
 untagged count kind = ports [] count kind
 
+-- the one port of a tag and a kind
 abbrev pub tagged : List ℕ → Kind → List PortKind
 tagged tag kind = ports tag 1 kind
 
--- the order of ports
+-- the order of ports: by tag, and then by index
 abbrev pub port_cmp : PortKind → PortKind → Ordering
 port_cmp a b = ordering_then (slice_cmp nat_cmp a.tag b.tag) (nat_cmp a.index b.index)
 
@@ -131,11 +132,11 @@ pub record AreAnyInputs (ps : List PortKind) : Type 0 where
   pub ordered : ArePorts ps
   pub any : All (λ p. p.kind ≡ Any) ps
 
--- the input that controls a gate
+-- the tag of the input that controls a gate
 abbrev pub control_tag : Bool → List ℕ
 control_tag disallow = if disallow then codes "DISALLOW" else codes "ALLOW"
 
--- the port of a loop whose packets are copied to each item, where it has one
+-- the port CLONE of a BeginLoop, whose packet is copied for each item, or no port where it hasn't one
 abbrev pub clone_ports : Bool → List PortKind
 clone_ports clone = if clone then tagged (codes "CLONE") Any else []
 
@@ -189,7 +190,7 @@ pub record AreEmissions (outputs : ℕ) (first : List Laid) (steps : List (List 
   pub at_sets : All (λ emission. length emission ≡ outputs) steps
   pub at_close : length last ≡ outputs
 
--- the outputs of a law; those of Pass are its inputs
+-- the outputs of a law; Pass has the same ports as outputs and inputs
 abbrev pub HasOutputs : Law → List PortKind → List PortKind → Type 0
 HasOutputs Pass inputs ps = ps ≡ inputs
 HasOutputs (Gate lanes disallow empty_as_allow) inputs ps = ps ≡ untagged lanes Any
@@ -247,7 +248,7 @@ is_stateless (Filter keep raises) = true
 is_stateless (Shift offset) = true
 is_stateless _ = false
 
--- a shape is its law's, whatever its name
+-- a shape is one that calculators of a law have, whatever its name
 pub record IsShapeOf (law : Law) (shape : Shape) : Type 0 where
   pub inputs : HasInputs law shape.inputs
   pub outputs : HasOutputs law shape.inputs shape.outputs

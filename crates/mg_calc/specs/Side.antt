@@ -7,6 +7,7 @@ pub data PlainSideValue : Type 0 where
   given_at : ℕ → PlainSideValue
   fixed : Plain → PlainSideValue
 
+-- a side packet of a plan: its name, and where it comes from
 pub record PlainSide : Type 0 where
   pub name : List ℕ
   pub value : PlainSideValue

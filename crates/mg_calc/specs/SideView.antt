@@ -1,4 +1,4 @@
--- What contracts see of a side packet's fields.
+-- What contracts see of a side packet of a plan: its name, and where it comes from, with the payload as a plain tree.
 use Rattle.std.specs.Arc.{arc_value}
 use Rattle.mg_value.specs.Payload.{plain}
 use Rattle.mg_calc.specs.Side.{PlainSide, PlainSideValue, given_at, fixed}

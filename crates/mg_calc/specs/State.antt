@@ -1,4 +1,4 @@
--- What a calculator keeps between its calls, as a list of payloads. The empty list is the state of one that has seen nothing.
+-- What a calculator keeps between its calls, as a list of payloads. The empty list is the state of a calculator that has seen nothing.
 use Rattle.std.specs.Prelude.{◌≡◌, ℕ, ℤ, pos, negsuc, ◌-◌, ◌<◌, ◌≤◌, ◌^◌, List, [], ◌∷◌, ◌++◌, map, take, length, replicate, All, Option, Some, None, slice_get, unwrap_or, IsTrue, ⊤, ◌==◌, if◌then◌else◌}
 use Rattle.std.specs.List.{filter_map}
 use Rattle.std.specs.Option.{option_and_then}
@@ -12,21 +12,21 @@ use Rattle.mg_calc.specs.declared.law.Law.TheVariants.{Cloner, Thin, Running, Si
 abbrev pub state_of : ℤ → List Plain
 state_of n = int n ∷ []
 
--- the number of a state; the empty state's is 0
+-- the number that a state keeps, and 0 for the empty state
 abbrev pub number_in : List Plain → ℤ
 number_in (int n ∷ _) = n
 number_in _ = pos 0
 
--- how many sets a state has counted; the empty state none
+-- how many sets a state has counted, and 0 for the empty state
 abbrev pub count_in : List Plain → ℕ
 count_in (int (pos n) ∷ _) = n
 count_in _ = 0
 
--- the time whose number a thinner keeps: PreStream or a time of the range; every other number stands for OneOverPostStream
+-- the time that a thinner's number stands for: PreStream or a time in the range by its own number, OneOverPostStream by any other
 abbrev pub time_kept : ℤ → ℕ
 time_kept n = if place_of n == pre_stream then pre_stream else unwrap_or (time_of n) one_over_post_stream
 
--- the next valid timestamp of a state; the empty state's is PreStream
+-- the time from which on a thinner with a state lets a packet pass, its next valid timestamp; PreStream for the empty state
 abbrev pub next_valid : List Plain → ℕ
 next_valid (int n ∷ _) = time_kept n
 next_valid _ = pre_stream
@@ -35,7 +35,7 @@ next_valid _ = pre_stream
 abbrev pub kept_at : List Plain → ℕ → Option Plain
 kept_at state i = option_and_then kept_in (slice_get state i)
 
--- what a state keeps at its first places, a number of them
+-- what a state keeps at its first places, as many as there are lanes; none at those that it doesn't have
 abbrev pub places_in : ℕ → List Plain → List (Option Plain)
 places_in lanes state = take lanes (map kept_in state ++ replicate lanes None)
 
@@ -55,12 +55,12 @@ IsNumber P [] = ⊤
 IsNumber P (int n ∷ []) = P n
 IsNumber P _ = ⊥
 
--- a number counts up to a most
+-- a number is a count from 0 to a greatest one
 abbrev pub CountsTo : ℕ → ℤ → Type 0
 CountsTo most (pos n) = n ≤ most
 CountsTo most (negsuc n) = ⊥
 
--- a state of so many places, or the empty one
+-- a state of as many places as there are lanes, or the empty one
 abbrev pub ArePlaces : ℕ → List Plain → Type 0
 ArePlaces lanes [] = ⊤
 ArePlaces lanes state = (length state ≡ lanes) × All (λ p. stored (kept_in p) ≡ p) state
@@ -74,7 +74,7 @@ IsFullPlace _ = ⊥
 abbrev pub AreItems : List Plain → Type 0
 AreItems state = (state ≡ full_places (kept_list state)) × All (λ v. depth v < 16) (kept_list state)
 
--- a state is of the form that its law gives it, or empty; a source's is empty but for that of SideOnce, which keeps its payload
+-- a state has the form that its law asks for; under a law that isn't named here it is empty
 abbrev pub IsStateOf : Law → List Plain → Type 0
 IsStateOf (Cloner lanes) state = ArePlaces lanes state
 IsStateOf (Thin period) state = IsNumber (λ n. raw_of (time_kept n) ≡ n) state

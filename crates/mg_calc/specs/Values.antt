@@ -1,4 +1,4 @@
--- Numbers, times and places that the laws speak of.
+-- Numbers, times and places, as the laws need them.
 use Rattle.std.specs.Prelude.{map, [], ◌∷◌, ℕ, ℤ, pos, negsuc, ◌+ℤ◌, ◌^◌, Bool, ◌&&◌, nat_lt, nat_le, List, Option, Some, None, option_map, slice_get, unwrap_or, if◌then◌else◌}
 use Rattle.std.specs.List.{fold}
 use Rattle.mg_time.specs.Time.{raw_of, place_of, least, greatest}
@@ -9,12 +9,12 @@ use Rattle.mg_value.specs.Prefix.{Stamped}
 abbrev pub place_at : List (Option (Stamped Plain)) → ℕ → Option (Stamped Plain)
 place_at set port = unwrap_or (slice_get set port) None
 
--- whether a number has 64 signed bits
+-- whether a number fits in 64 signed bits
 abbrev pub fits : ℤ → Bool
 fits (pos n) = nat_lt n (2 ^ 63)
 fits (negsuc n) = nat_lt n (2 ^ 63)
 
--- the number that a payload is; 0 where it is none
+-- the number that a payload is, or 0 where it is another kind
 abbrev pub number_of : Plain → ℤ
 number_of (int n) = n
 number_of _ = pos 0
@@ -44,20 +44,21 @@ abbrev pub stored : Option Plain → Plain
 stored None = items no_items
 stored (Some p) = items (item p no_items)
 
--- what such a place keeps
+-- what a place that is stored as a payload keeps
 abbrev pub kept_in : Plain → Option Plain
 kept_in (items (item p no_items)) = Some p
 kept_in _ = None
 
--- the payloads of a list; none where a payload is no list
+-- the items of a payload's list, in order
 abbrev pub listed : Items → List Plain
 listed no_items = []
 listed (item p ps) = p ∷ listed ps
 
+-- the items of a payload, or none where it isn't a list
 abbrev pub items_in : Plain → List Plain
 items_in (items is) = listed is
 items_in _ = []
 
--- the input of BeginLoop that takes the lists: its last, behind the one whose packets are copied, where it has that
+-- the number of the input ITERABLE of BeginLoop, which takes the lists: it stands behind CLONE, where BeginLoop has that
 abbrev pub iterable_port : Bool → ℕ
 iterable_port clone = if clone then 1 else 0

@@ -11,25 +11,25 @@ use std::alloc::Global;
 
 /// A calculator that is handed in (MediaPipe, Calculators: Open, Process and Close are `begin`, `process` and `finish`).
 ///
-/// Each call answers what the table of laws has for its law and for the state that it keeps, and keeps the new state. A call that
-/// finds no memory changes nothing, and may be made again.
+/// Each call returns what the table of laws gives for the calculator's law and state, and the calculator then keeps the new state. A
+/// call that fails leaves the state; one that returns `OutOfMemory` leaves the log too, and may be made again.
 pub trait Calculator: Drop {
-    /// What it tells of itself.
+    /// What the calculator tells of itself: its law, its shape, its state, and its log, if it keeps one.
     ghost told: { Self → CalculatorTold };
 
-    /// Its ports, which never change.
+    /// Returns the calculator's shape, which never changes.
     fn shape(&self) -> &Shape
         ensures shape { result.now ≡ (told self.now).shape }
         ensures of_law { IsShapeOf (told self.now).law result.now };
 
-    /// Its law, which never changes.
+    /// Returns the calculator's law, which never changes: one that is shown sets.
     fn law(&self) -> &Law
         ensures law { result.now ≡ (told self.now).law }
         ensures outer { IsOuter result.now }
         ensures served { IsServed result.now }
         ensures ranges { ParametersFit result.now };
 
-    /// Opens it, before all sets, with its side packets.
+    /// Opens the calculator with its side packets, one place for each side port. It comes before all sets.
     fn begin(&mut self, alloc: Global, sides: &GivenList) -> Result<Emission, CalcFault>
         ensures answer { GivesEmission result (told self.new).state (opening (told self.old).law sides.now) }
         ensures kept { OnErr result ((told self.new).state ≡ (told self.old).state) }
@@ -37,7 +37,7 @@ pub trait Calculator: Drop {
         ensures law { (told self.new).law ≡ (told self.old).law }
         ensures shape { (told self.new).shape ≡ (told self.old).shape };
 
-    /// Shows it the set at a time.
+    /// Shows the calculator the set at a time, which has a place for each of its inputs.
     fn process(
         &mut self,
         alloc: Global,
@@ -51,7 +51,7 @@ pub trait Calculator: Drop {
         ensures law { (told self.new).law ≡ (told self.old).law }
         ensures shape { (told self.new).shape ≡ (told self.old).shape };
 
-    /// Closes it, after all sets.
+    /// Closes the calculator, after all sets.
     fn finish(&mut self, alloc: Global) -> Result<Emission, CalcFault>
         ensures answer { GivesEmission result (told self.new).state (closing (told self.old).law (told self.old).state) }
         ensures kept { OnErr result ((told self.new).state ≡ (told self.old).state) }
@@ -59,7 +59,7 @@ pub trait Calculator: Drop {
         ensures law { (told self.new).law ≡ (told self.old).law }
         ensures shape { (told self.new).shape ≡ (told self.old).shape };
 
-    /// The calls that it had, where it tells them, and otherwise none.
+    /// Returns the calls that the calculator has had, in order, or an empty list where it keeps no log.
     fn log(&self) -> &CallList
         ensures { result.now ≡ shown_calls (told self.now).log };
 }

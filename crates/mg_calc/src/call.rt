@@ -1,16 +1,16 @@
 use mg_time::Timestamp;
 use mg_value::{BlockList, InputSet};
 
-/// A call that a calculator had.
+/// A call that a calculator has had.
 #[derive(Debug, Drop)]
 pub enum Call {
-    /// It was opened.
+    /// The calculator was opened.
     Begun,
-    /// It was shown a set.
+    /// The calculator was shown the set at a time.
     Shown { at: Timestamp, set: InputSet },
-    /// It was closed.
+    /// The calculator was closed.
     Finished,
 }
 
-/// The calls that a calculator had, in order.
+/// The calls that a calculator has had, in order.
 pub type CallList = BlockList<Call>;

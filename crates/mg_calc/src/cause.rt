@@ -3,16 +3,16 @@ ghost use Rattle.mg_calc.specs.declared.cause.CalcFault.TheVariants.{OutOfMemory
 
 use std::alloc::{AllocError, AllocFailed};
 
-/// Why a calculator fails, or what it emits can't be laid.
+/// Why a calculator fails, or why what it emits can't be laid.
 #[derive(Clone, Copy, Debug, PartialEq, Eq)]
 pub enum Cause {
-    /// A number has no 64 signed bits, or a timestamp leaves the range.
+    /// A number doesn't fit in 64 signed bits, or a timestamp leaves the range.
     Overflow = 1,
-    /// SELECT has the number of no input.
+    /// The number at SELECT isn't that of an input.
     BadSelect = 2,
     /// A payload isn't of its port's kind.
     WrongKind = 3,
-    /// The side packet is missing.
+    /// A side packet that the calculator needs is missing.
     NoSide = 4,
     /// No packet may stand at the timestamp.
     NotAllowed = 5,
@@ -24,7 +24,7 @@ pub enum Cause {
     BelowOffset = 8,
     /// A node with an offset emits in Close.
     EmitsInClose = 9,
-    /// A list that is gathered would be too deep.
+    /// A list that is gathered would nest deeper than a payload may.
     TooDeep = 10,
 }
 
@@ -33,7 +33,7 @@ pub enum Cause {
 pub enum CalcFault {
     /// The calculator fails.
     Fault(Cause),
-    /// Want of memory. Nothing has changed, and the call may be made again.
+    /// There is no memory. Nothing has changed, and the call may be made again.
     OutOfMemory,
 }
 

@@ -1,4 +1,4 @@
-//! A copy of a plan. The payloads of its side packets are shared.
+//! Copies of plans and of their parts. A copy shares the payloads of the side packets.
 ghost use Rattle.std.specs.Prelude.{◌≡◌, IfOk};
 ghost use Rattle.mg_calc.specs.SideView.{side_value};
 

@@ -1,17 +1,17 @@
 use mg_value::BlockList;
 
-/// A stream into a port of a node, or into a port of the collector of the graph's outputs.
+/// A way from a stream to a port of its consumer: a node, or the collector, whose ports are the graph's outputs.
 #[derive(Clone, Copy, Debug, PartialEq, Eq)]
 pub struct Edge {
     /// The stream's number.
     pub stream: u32,
-    /// The consumer's number. The collector's is the number of nodes.
+    /// The consumer's number: a node's, or for the collector the count of nodes.
     pub node: u32,
-    /// The place among the consumer's inputs.
+    /// The consumer's port, from 0 on.
     pub port: u32,
-    /// Whether it leads back, so that the graph without it has no ring.
+    /// Whether this is a back edge, which closes a loop and is left out of the order of nodes.
     pub back: bool,
 }
 
-/// Edges by their consumers, and then by port.
+/// Edges in the order of their consumers' numbers, and then of their ports.
 pub type EdgeList = BlockList<Edge>;

@@ -9,24 +9,26 @@ use mg_value::{BlockList, Packet, Payload};
 use std::alloc::{AllocError, Global};
 use std::sync::Arc;
 
-/// What a call emits at one output: packets in order, and after them a bound to which the output is raised.
+/// What a call emits at one output: packets in order, and perhaps a bound to which the output is raised after them.
 #[derive(Debug, Drop)]
 pub struct Laid {
+    /// The packets, in order.
     pub packets: LaidPackets,
+    /// The bound to which the output is raised after the packets, if there is one.
     pub bound: Option<Timestamp>,
 }
 
 /// Packets that a call emits at one output, in order.
 pub type LaidPackets = ShortList<Packet>;
 
-/// What a call emits: an entry for each output. The emission that emits nothing is the empty list.
+/// What a call emits: an entry for each output, or the empty list where nothing is emitted at any.
 pub type Emission = ShortList<Laid>;
 
 /// Emissions in order.
 pub type EmissionList = BlockList<Emission>;
 
 impl Laid {
-    /// At most one packet, and then a bound, if there is one. It takes no block.
+    /// Returns an entry of at most one packet, and then a bound, if there is one. It allocates nothing.
     pub fn new(
         alloc: Global,
         packet: Option<Packet>,
@@ -43,21 +45,21 @@ impl Laid {
     }
 }
 
-/// The emission that emits nothing. It takes no memory.
+/// Returns the emission that emits nothing. It allocates nothing.
 pub fn no_emission(alloc: Global) -> Result<Emission, AllocError>
     ensures { IfOk result (λ emission. emission ≡ []) }
 {
     Ok(ShortList::from_vec(Vec::new(alloc))?)
 }
 
-/// The emission of a calculator with one output.
+/// Returns the emission of a calculator with one output, at which `laid` is emitted.
 pub fn one_output(laid: Laid) -> Emission
     ensures { result ≡ laid ∷ [] }
 {
     ShortList::one(laid)
 }
 
-/// One packet at the one output.
+/// Returns the emission of one packet by a calculator with one output.
 pub fn one_packet(packet: Packet) -> Emission
     ensures { result ≡ emission_of (Some packet ∷ []) }
 {
@@ -67,7 +69,7 @@ pub fn one_packet(packet: Packet) -> Emission
     })
 }
 
-/// One number at the one output.
+/// Returns the emission of a number at a time by a calculator with one output.
 pub fn one_number(alloc: Global, at: Timestamp, number: i64) -> Result<Emission, AllocError>
     ensures { IfOk result (λ emission. emission ≡ emission_of (Some (record { at = at; value = int number }) ∷ [])) }
 {

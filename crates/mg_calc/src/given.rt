@@ -6,7 +6,7 @@ use std::alloc::{AllocError, AllocFailed, Global};
 use std::marker::Model;
 use std::sync::Arc;
 
-/// Side packets, each of which may be missing. Contracts see the list of their plain trees.
+/// Side packets by their places, each of which may be missing. Contracts see the list of their payloads as plain trees.
 #[derive(Debug, Drop)]
 pub struct GivenList {
     places: Vec<Option<Arc<Payload>>>,
@@ -29,7 +29,7 @@ impl Model for GivenList {
 }
 
 impl GivenList {
-    /// The list of a vector's places. There is no memory for 2^32 or more: the vector then comes back.
+    /// Returns the list of a vector's places. For 2^32 places or more it is an error, which gives the vector back.
     pub fn from_vec(
         places: Vec<Option<Arc<Payload>>>,
     ) -> Result<GivenList, AllocFailed<Vec<Option<Arc<Payload>>>>>
@@ -44,7 +44,7 @@ impl GivenList {
         }
     }
 
-    /// A second list, which shares the payloads.
+    /// Returns a copy, which shares the payloads.
     pub fn try_clone(&self, alloc: Global) -> Result<GivenList, AllocError>
         ensures { IfOk result (λ copy. copy ≡ self.now) }
     {
@@ -66,14 +66,14 @@ impl GivenList {
         self.places.len() as u32
     }
 
-    /// Whether there is none.
+    /// Whether there are no places.
     pub fn is_empty(&self) -> bool
         ensures { result ≡ (length self.now == 0) }
     {
         self.places.is_empty()
     }
 
-    /// What is at a place, from 0 on: a side packet, or none.
+    /// Returns what is at a place, from 0 on: a side packet, or none where it is missing. `None` where there is no such place.
     pub fn get(&self, i: u32) -> Option<&Option<Arc<Payload>>>
         ensures { option_map (λ p. given p.now) result ≡ slice_get self.now i }
     {

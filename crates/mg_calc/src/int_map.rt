@@ -1,7 +1,7 @@
 ghost use Rattle.std.specs.Prelude.{◌≡◌};
 ghost use Rattle.mg_calc.specs.IntMap.{mapped as the_mapped};
 
-/// What `Law::Map` does with a number and its operand. One that takes more than an operand holds the rest.
+/// What `Law::Map` does with a number and its operand.
 #[derive(Clone, Copy, Debug, PartialEq, Eq)]
 pub enum MapOp {
     Add,
@@ -9,7 +9,7 @@ pub enum MapOp {
     Multiply,
 }
 
-/// What a map makes of a number, exactly.
+/// Returns the exact result of an operation on a number and an operand.
 pub(crate) fn mapped(op: MapOp, operand: i64, number: i64) -> i128
     ensures { result ≡ the_mapped op operand number }
 {

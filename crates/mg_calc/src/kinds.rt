@@ -6,7 +6,7 @@ ghost use Rattle.mg_calc.specs.Values.{place_at};
 use crate::{Law, input_kind};
 use mg_value::{InputSet, has_kind};
 
-// Whether a set has a packet at a port that isn't of the port's kind.
+// Whether the packet of a set at a port, if there is one, isn't of the port's kind.
 fn is_wrong_at(law: &Law, set: &InputSet, port: u32) -> bool
     ensures { result ≡ is_wrong (its_kind law.now port) (place_at set.now port) }
 {

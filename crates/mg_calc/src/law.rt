@@ -9,13 +9,13 @@ use std::alloc::{AllocError, Global};
 /// Which numbers `Law::Filter` keeps.
 #[derive(Clone, Copy, Debug, PartialEq, Eq)]
 pub enum Keep {
-    /// Those that 2 divides.
+    /// Even numbers.
     Even,
-    /// Those that 2 doesn't divide.
+    /// Odd numbers.
     Odd,
-    /// Those below 0.
+    /// Numbers below 0.
     Negative,
-    /// Those from 0 on.
+    /// Numbers from 0 on.
     NonNegative,
 }
 
@@ -24,83 +24,97 @@ pub enum Keep {
 pub enum Law {
     /// Each packet goes on at its own port.
     Pass,
-    /// Packets go on while the last port allows it.
+    /// The packets of a set go on if the flag at the last port allows it.
     Gate {
+        /// How many data ports there are, from 1 to 64; the control port is behind them.
         lanes: u32,
+        /// Whether the control port closes the gate where it has true, and not where it has false.
         disallow: bool,
+        /// Whether the gate is open where the control port has no packet.
         empty_as_allow: bool,
     },
-    /// The packet of the port goes on that the last port selects.
+    /// Of the data ports, the one whose number stands at the last port has its packet go on.
     Mux {
+        /// How many data ports there are, from 1 to 64; the port that selects is behind them.
         lanes: u32,
     },
-    /// At each packet of the last port the newest packets of the others are repeated.
+    /// At each packet of the last port the newest payloads of the others are emitted again.
     Cloner {
+        /// How many data ports there are, from 1 to 64; the port that asks for copies is behind them.
         lanes: u32,
     },
-    /// The present packet of lowest index goes on.
+    /// The packet at the lowest port that has one goes on.
     Merge {
+        /// How many inputs there are, from 1 to 64.
         lanes: u32,
     },
-    /// A packet goes on if the period since the last one that did is over.
+    /// A packet goes on if it comes at least a period after the last one that did.
     Thin {
+        /// The least time from a packet that goes on to the next, in units of timestamps, 1 or more.
         period: i64,
     },
-    /// The sum of all numbers.
+    /// Emits the sum of the numbers of a set.
     Sum {
+        /// How many inputs there are, from 1 to 64.
         lanes: u32,
     },
-    /// A number and an operand.
+    /// Emits the result of an operation on each number and an operand.
     Map {
         op: MapOp,
         operand: i64,
     },
-    /// The numbers that are kept. Where `raise` is set, the output's bound moves on at those that aren't as well.
+    /// The numbers that `keep` names go on. Where `raise` is set, the output is raised past each number, whether it goes on or not.
     Filter {
         keep: Keep,
         raise: bool,
     },
-    /// The sum of all numbers so far.
+    /// Emits at each number the sum of all numbers so far.
     Running,
     /// Packets go on at a timestamp moved by the offset.
     Shift {
         offset: i64,
     },
-    /// A source of `count` numbers, the first at `start`, and `step` apart.
+    /// A source of the numbers from 0 on, `count` of them: the first at `start`, and each further one `step` after the one before.
     Count {
+        /// How many numbers are emitted, at most 1000000.
         count: u32,
+        /// The number of the first packet's timestamp, which is in the range.
         start: i64,
+        /// The time from a number to the next, in units of timestamps, 1 or more.
         step: i64,
     },
-    /// A source of one packet, whose payload is a side packet.
+    /// A source of one packet at `at`, which is PreStream, 0 or PostStream. Its payload is a side packet.
     SideOnce {
         at: Timestamp,
     },
-    /// Side packets that stand in the graph.
+    /// Gives side packets that stand in the graph. It has no streams.
     Constants,
-    /// Each packet of MAIN goes with the packet that LOOP had at the time of the one before it.
+    /// Each packet of MAIN is answered with what LOOP had at the packet of MAIN before it.
     Loopback,
-    /// How many sets there were so far.
+    /// Emits at each set how many sets there were so far, with this one.
     Tally,
-    /// What is emitted is written down: in Open, at each of the first sets, and in Close.
+    /// Emits what is written down: `first` in Open, one of `steps` at each of the first sets, and `last` in Close.
     Scripted {
+        /// The offset that the law promises, in units of timestamps, if it promises one.
         offset: Option<i64>,
         first: Emission,
         steps: EmissionList,
         last: Emission,
     },
-    /// The items of a list go on one by one, at inner times of their own. Where `clone` is set, so do copies of the packet of CLONE.
+    /// The items of a list go on one by one, at inner times of their own, and where `clone` is set a copy of the packet of CLONE with each.
     BeginLoop {
         clone: bool,
     },
-    /// Items are gathered into a list, until the end of a batch tells the time at which it goes on.
+    /// Items are gathered into a list, which goes on when a packet of BATCH_END tells the time at which it has to.
     EndLoop,
-    /// Packets go on as they arrive, where their order allows it. A free node: no set is shown to it.
+    /// Packets go on as they arrive, and are dropped where the output's order doesn't allow it. A free node's law: no set is shown to it.
     FirstCome {
+        /// How many inputs there are, from 1 to 64.
         lanes: u32,
     },
-    /// At most so many packets are on their way at once, and others are dropped. A free node: no set is shown to it.
+    /// At most `most` packets are on their way at once, and others are dropped. A free node's law: no set is shown to it.
     Limiter {
+        /// How many packets may be on their way, from 1 to 2147483647.
         most: u32,
     },
 }
@@ -166,7 +180,7 @@ impl TryClone for Law {
     }
 }
 
-/// The kind of packets that a law takes at an input, by the input's place.
+/// Returns the kind of packets that a law takes at the input of a number, from 0 on.
 pub fn input_kind(law: &Law, port: u32) -> Kind
     ensures { result ≡ shape.input_kind law.now port }
 {
@@ -192,7 +206,7 @@ pub fn input_kind(law: &Law, port: u32) -> Kind
     }
 }
 
-/// Whether several sets of a law may be worked on at once.
+/// Whether a law keeps no state, so that several of its sets may be worked on at once.
 pub fn is_stateless(law: &Law) -> bool
     ensures { result ≡ shape.is_stateless law.now }
 {
@@ -209,7 +223,7 @@ pub fn is_stateless(law: &Law) -> bool
     }
 }
 
-/// The offset that a law promises, if it promises one.
+/// Returns the offset that a law promises, in units of timestamps, if it promises one.
 pub fn offset_of(law: &Law) -> Option<i64>
     ensures { result ≡ shape.offset_of law.now }
 {

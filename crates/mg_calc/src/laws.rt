@@ -15,7 +15,8 @@ ghost use Rattle.mg_calc.specs.Equations.{Job, IsJob, stream_of, inputs_of, outc
 ghost use Rattle.mg_calc.specs.Meaning.{faults, stalled, count_of, counts, shown_sets, last_call, log_of, weight};
 ghost use Rattle.mg_calc.specs.Reaching.{MayDepend};
 
-/// Where prefixes are extended, so is what the equations make of them.
+/// The equations are monotone: if streams are extended by others, then what the equations give for them is extended by what they
+/// give for the others.
 pub fn equations_are_monotone()
     ensures { (job : Job) (streams more : List (StreamPrefix Plain)) → IsJob job → All IsPrefix streams → All IsPrefix more → AreExtendedBy streams more
         → AreExtendedBy (next_round job streams) (next_round job more) }
@@ -34,7 +35,7 @@ pub fn the_solution_is_least()
     ensures one { (job : Job) (solution other : List (StreamPrefix Plain)) → IsSolution job solution → IsSolution job other → solution ≡ other }
 {}
 
-/// Where what is handed in is extended, and the side packets are the same, so is the solution.
+/// If the streams that are handed in are extended, and the side packets are the same, then the solution is extended.
 pub fn the_solution_grows()
     ensures { (plan : Plan) (inputs more : Inputs) (solution later : List (StreamPrefix Plain))
         → IsJob (record { plan = plan; inputs = inputs }) → IsJob (record { plan = plan; inputs = more })
@@ -43,8 +44,8 @@ pub fn the_solution_grows()
         → AreExtendedBy solution later }
 {}
 
-/// Each round consists of a prefix for each stream, by the rule of streams, and the next round extends it; so does the
-/// solution.
+/// Each round, and the solution, consists of prefixes by the rule of streams; the next round extends each round; and the solution
+/// has a prefix for each stream.
 pub fn streams_are_prefixes()
     ensures round { (job : Job) (n : ℕ) → IsJob job → All IsPrefix (round job n) }
     ensures rises { (job : Job) (n : ℕ) → IsJob job → AreExtendedBy (round job n) (next_round job (round job n)) }
@@ -52,7 +53,7 @@ pub fn streams_are_prefixes()
     ensures each { (job : Job) (solution : List (StreamPrefix Plain)) → IsJob job → IsSolution job solution → length solution ≡ length job.plan.streams }
 {}
 
-/// A stream depends on those graph inputs alone from which it can be reached: whatever the others are, it is the same.
+/// A stream of the solution depends only on the graph inputs from which it can be reached: whatever the others are, it is the same.
 pub fn streams_depend_on_what_reaches_them()
     ensures { (plan : Plan) (inputs others : Inputs) (solution changed : List (StreamPrefix Plain)) (stream : ℕ)
         → IsJob (record { plan = plan; inputs = inputs }) → IsJob (record { plan = plan; inputs = others }) → inputs.sides ≡ others.sides
@@ -62,9 +63,9 @@ pub fn streams_depend_on_what_reaches_them()
         → stream_of solution stream ≡ stream_of changed stream }
 {}
 
-/// Each node that is shown sets is shown settled ones, ascending, each once: the time of each is below the bounds that the
-/// node's policy asks for. They are as many as are counted; and of the calls that are told there is one for each, one for
-/// Open, and where Open succeeded one for Close.
+/// The sets that a node is shown ascend in time, and are settled: the time of each is below the bounds that the node's policy asks
+/// for. A node's count is the number of these sets, and its log has one call for each of them, one for Open, and, unless Open
+/// failed, one for Close.
 pub fn shown_sets_are_settled()
     ensures ascend { (job : Job) (streams : List (StreamPrefix Plain)) (node : PlanNode) → All IsPrefix streams
         → IsStrictlyIncreasing (map (λ e. e.at) (shown_sets job streams node)) }
@@ -76,8 +77,8 @@ pub fn shown_sets_are_settled()
         → length (log_of job streams node) ≡ length (shown_sets job streams node) + 1 + length (last_call (outcome_of job streams node).fault) }
 {}
 
-/// No fault is told exactly where no node failed, and no stream is stalled exactly where each has ended. Each node's count
-/// is less than the weight of the job.
+/// The list of faults is empty exactly if no node failed, and that of stalled streams exactly if each stream has ended. There is a
+/// count for each node, and each count is less than the weight of the job.
 pub fn faults_and_stalls_are_told()
     ensures faults { (job : Job) (streams : List (StreamPrefix Plain))
         → (faults job streams ≡ []) ↔ All (λ node. (outcome_of job streams node).fault ≡ None) job.plan.nodes }
@@ -86,7 +87,7 @@ pub fn faults_and_stalls_are_told()
     ensures weight { (job : Job) (streams : List (StreamPrefix Plain)) → All (λ node. count_of job streams node < weight job streams) job.plan.nodes }
 {}
 
-/// A plan is valid exactly where it is valid as one that may have free nodes, and has none.
+/// A plan is valid exactly if it is valid as a plan that may have free nodes, and has none.
 pub fn free_nodes_alone_keep_a_plan_from_being_valid()
     ensures without { (plan : Plan) → IsValidWithFree plan → HasNoFree plan → IsValid plan }
     ensures with_none { (plan : Plan) → IsValid plan → IsValidWithFree plan × HasNoFree plan }

@@ -7,7 +7,7 @@ use mg_value::BlockList;
 pub enum Phase {
     /// In Open.
     Open,
-    /// At the call of this number, of a source.
+    /// At a source's call of this number, from 0 on.
     Call(u64),
     /// At the set of this time.
     Process(Timestamp),
@@ -15,7 +15,7 @@ pub enum Phase {
     Close,
 }
 
-/// The fault of a node.
+/// The fault of a node: when it failed, and why.
 #[derive(Clone, Copy, Debug, PartialEq, Eq)]
 pub struct NodeFault {
     pub node: u32,

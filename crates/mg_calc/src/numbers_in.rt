@@ -6,7 +6,7 @@ ghost use Rattle.mg_calc.specs.declared.cause.Cause.TheVariants.{Overflow};
 use crate::{CalcFault, Cause};
 use mg_value::{InputSet, Packet, Payload};
 
-/// The number of a packet; 0 where its payload is none.
+/// Returns the number of a packet, or 0 where its payload isn't a number.
 pub fn number_of_packet(packet: &Packet) -> i64
     ensures { result ≡ number_of packet.now.value }
 {
@@ -16,7 +16,7 @@ pub fn number_of_packet(packet: &Packet) -> i64
     }
 }
 
-/// The number at a port of a set; 0 where it has none.
+/// Returns the number at a port of a set, or 0 where the port has none.
 fn number_at_port(set: &InputSet, port: u32) -> i64
     ensures { result ≡ number_at (place_at set.now port) }
 {
@@ -26,7 +26,7 @@ fn number_at_port(set: &InputSet, port: u32) -> i64
     }
 }
 
-/// The exact sum of the numbers of a set.
+/// Returns the exact sum of the numbers of a set.
 pub fn total(set: &InputSet) -> i128
     ensures { result ≡ the_total set.now }
 {
@@ -37,7 +37,7 @@ pub fn total(set: &InputSet) -> i128
     sum
 }
 
-/// A number as one of 64 signed bits, or `Overflow`.
+/// Returns a number as one of 64 signed bits, or `Overflow` where it doesn't fit.
 pub fn narrowed(number: i128) -> Result<i64, CalcFault>
     ensures ok { IfOk result (λ n. n ≡ number) }
     ensures fits { IfOk result (λ n. fits number ≡ true) }

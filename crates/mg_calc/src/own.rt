@@ -15,7 +15,8 @@ use mg_value::{InputSet, Packet};
 use std::alloc::{AllocError, Global};
 use std::sync::Arc;
 
-/// What a calculator of its own law gives at a set: its new state and its emission, or its cause.
+/// Returns what a law that this crate computes gives at a set: the new state and the emission, or the cause. These laws are `Sum`, `Map`,
+/// `Filter`, `Running`, `Shift`, `Tally` and `Scripted`.
 ///
 /// Payloads that go on are shared.
 pub fn own_step(
@@ -43,7 +44,7 @@ pub fn own_step(
     }
 }
 
-/// The state stays, and nothing is emitted.
+/// Returns the state as it is, and the emission that emits nothing.
 pub fn stays(alloc: Global, state: &State) -> Result<(State, Emission), CalcFault>
     ensures { Gives result (Ok (state.now, [])) }
 {

@@ -5,7 +5,7 @@ use mg_value::{BlockList, Kind, MgText};
 pub enum Producer {
     /// The graph input of this number.
     Input(u32),
-    /// A node, at a place among its outputs.
+    /// A node, at its output of this number.
     Node { node: u32, port: u32 },
 }
 

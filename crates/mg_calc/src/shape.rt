@@ -8,15 +8,15 @@ pub struct Shape {
     pub name: MgText,
     pub inputs: PortKindList,
     pub outputs: PortKindList,
-    /// The side packets that it takes.
+    /// The side packets that the calculator takes.
     pub sides: PortKindList,
-    /// By how much its outputs' timestamps differ from those of its inputs, where it says so.
+    /// By how much, in units of timestamps, the calculator's packets stand behind its sets at least, where it promises that.
     pub offset: Option<i64>,
-    /// Whether several sets may be worked on at once.
+    /// Whether the calculator keeps no state, so that several sets may be worked on at once.
     pub stateless: bool,
 }
 
-/// What is known of a calculator that is handed in.
+/// What is known of a calculator that is handed in: its shape and its law.
 #[derive(Debug, Drop)]
 pub struct OuterShape {
     pub shape: Shape,

@@ -8,13 +8,13 @@ use std::alloc::{AllocError, AllocFailed, Global};
 use std::marker::Model;
 use std::slice;
 
-/// A list that is made once and then read. One of a single entry keeps it in itself, and takes no block.
+/// A list that is made once and then read. A list that `one` makes keeps its only entry in itself, and allocates nothing.
 #[derive(Debug)]
 pub struct ShortList<T> {
     kept: Kept<T>,
 }
 
-/// Where the entries are: the single one in the list, or any number of them in a block.
+/// Where the entries are: the only one in the list itself, or any number of them in a vector.
 #[derive(Debug, Drop)]
 enum Kept<T> {
     One(T),
@@ -33,7 +33,7 @@ impl<T> Model for ShortList<T> {
     ghost invariant = { λ l. AreFew l.kept };
 }
 
-// Written out, so that the proof of whoever lets a list go needn't ask where its entries are.
+// Written out, so that proofs about code that drops a list needn't ask where its entries are.
 impl<T: Drop> Drop for ShortList<T> {
     fn drop(self) {
         let ShortList { kept } = self;
@@ -51,8 +51,7 @@ impl<T> ShortList<T> {
         }
     }
 
-    /// The list of a vector's entries. There is no memory for a block of 2^32 entries or more: the vector then
-    /// comes back.
+    /// Returns the list of a vector's entries. For 2^32 entries or more it is an error, which gives the vector back.
     pub fn from_vec(entries: Vec<T>) -> Result<ShortList<T>, AllocFailed<Vec<T>>>
         ensures ok { IsOk result ↔ (length entries.items < 2 ^ 32) }
         ensures entries { IfOk result (λ l. l ≡ entries.items) }
@@ -67,7 +66,7 @@ impl<T> ShortList<T> {
         }
     }
 
-    /// The entry of a list that keeps it in itself, or else the vector of all entries.
+    /// Returns the only entry where the list keeps it in itself, and otherwise the vector of all entries as the error.
     pub fn into_one(self) -> Result<T, Vec<T>>
         ensures one { IfOk result (λ entry. self ≡ entry ∷ []) }
         ensures many { IfErr result (λ entries. self ≡ entries.items) }
@@ -118,7 +117,7 @@ impl ShortList<Laid> {
         self.entries()
     }
 
-    /// What is laid at the output of a number, from 0 on.
+    /// Returns what is laid at the output of a number, from 0 on, if there is an entry for it.
     pub fn get(&self, output: u32) -> Option<&Laid>
         ensures { option_copied result ≡ slice_get self.now output }
     {

@@ -5,9 +5,9 @@ use std::sync::Arc;
 /// Where a side packet comes from.
 #[derive(Debug, Drop)]
 pub enum SideValue {
-    /// It is handed in with the inputs; this is its place there.
+    /// From what is handed in: the place there.
     Given(u32),
-    /// It stands in the graph.
+    /// From the graph itself, with this payload.
     Fixed(Arc<Payload>),
 }
 

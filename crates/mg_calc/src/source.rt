@@ -13,7 +13,7 @@ use mg_value::Packet;
 use std::alloc::Global;
 use std::sync::Arc;
 
-/// What a calculator gives when it is opened: its first state and its emission, or its cause.
+/// Returns what Open of a law gives for its side packets: the first state and the emission, or the cause.
 pub fn own_begin(
     alloc: Global,
     law: &Law,
@@ -35,7 +35,7 @@ pub fn own_begin(
     }
 }
 
-/// What a source gives at the call of a number, from 0 on: its emission, or its cause. Its state stays.
+/// Returns what a source emits at the call of a number, from 0 on, or its cause. A call doesn't change a source's state.
 pub fn source_step(
     alloc: Global,
     law: &Law,
@@ -66,7 +66,7 @@ pub fn source_step(
     }
 }
 
-// So many steps.
+// Returns `number` times `step`.
 fn steps(step: i64, number: u32) -> i128
     ensures value { result ≡ pos number *ℤ step }
     ensures low { neg_ℤ (pos (2 ^ 95)) ≤ℤ result }
@@ -75,7 +75,7 @@ fn steps(step: i64, number: u32) -> i128
     i128::from(number) * i128::from(step)
 }
 
-// The time so many steps after a start, where the range has it.
+// Returns the timestamp `number` steps after `start`, if it is in the range.
 fn time_after(start: i64, step: i64, number: u32) -> Option<Timestamp>
     ensures { result ≡ time_of (start +ℤ (pos number *ℤ step)) }
 {

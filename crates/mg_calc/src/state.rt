@@ -12,9 +12,9 @@ use std::alloc::{AllocError, Global};
 use std::marker::Model;
 use std::sync::Arc;
 
-/// What a calculator keeps between its calls. Contracts see a list of plain payloads: none, one number, or places each of
-/// which is a list of one payload or an empty one. Payloads are shared, and a number takes no memory. A list that is
-/// gathered is kept as places that are all full, and grows in place.
+/// What a calculator keeps between its calls: nothing, a number, or places that have a payload or none. Contracts see a list of plain
+/// payloads: a number as itself, and each place as a list of its payload or an empty list. Payloads are shared, and a number
+/// allocates nothing. A list that is gathered is kept as places that are all full, and grows in place.
 #[derive(Debug)]
 pub struct State {
     kept: Kept,
@@ -43,7 +43,7 @@ impl Model for State {
     ghost view = { λ s. payloads_of s.kept };
 }
 
-// Written out, so that the proof of whoever lets a state go needn't ask what it keeps.
+// Written out, so that proofs about code that drops a state needn't ask what it keeps.
 impl Drop for State {
     fn drop(self) {
         let State { kept } = self;
@@ -79,7 +79,7 @@ impl State {
         }
     }
 
-    /// Its number; that of the empty state is 0.
+    /// Returns the number that the state keeps, or 0 where it keeps none.
     pub fn number(&self) -> i64
         ensures { result ≡ number_in self.now }
     {
@@ -91,7 +91,7 @@ impl State {
         }
     }
 
-    /// How many sets it has counted.
+    /// Returns the number that the state keeps as a count, or 0 where it keeps none or a negative one.
     pub fn count(&self) -> u64
         ensures { result ≡ count_in self.now }
     {
@@ -104,7 +104,7 @@ impl State {
         }
     }
 
-    /// The next valid timestamp of a thinner; that of the empty state is PreStream.
+    /// Returns the timestamp from which on a thinner with this state lets a packet pass: PreStream where it keeps no number.
     pub fn next_valid(&self) -> Timestamp
         ensures { result ≡ its_next_valid self.now }
     {
@@ -116,7 +116,7 @@ impl State {
         }
     }
 
-    /// What it keeps at a place, from 0 on; none also where there is no such place.
+    /// Returns the payload at a place, from 0 on, or none where the place is empty or there is no such place.
     pub fn place(&self, i: u32) -> Option<&Arc<Payload>>
         ensures { option_map (λ p. plain (arc_value p.now)) result ≡ kept_at self.now i }
     {
@@ -128,7 +128,7 @@ impl State {
         }
     }
 
-    /// A second one, that shares the payloads.
+    /// Returns a copy, which shares the payloads.
     pub fn try_clone(&self, alloc: Global) -> Result<State, AllocError>
         ensures { IfOk result (λ copy. copy ≡ self.now) }
     {
@@ -142,7 +142,7 @@ impl State {
         }
     }
 
-    /// The payloads that it keeps at its places, in order.
+    /// Returns the payloads of the full places, in order. They are shared.
     pub fn list(&self, alloc: Global) -> Result<Vec<Arc<Payload>>, AllocError>
         ensures { IfOk result (λ list. map (λ p. plain (arc_value p)) list.items ≡ kept_list self.now) }
     {
@@ -154,7 +154,7 @@ impl State {
         }
     }
 
-    /// Keeps the payloads of its full places alone.
+    /// Keeps only the full places: empty places and a number go. On an error the state stays.
     pub fn fill(&mut self, alloc: Global) -> Result<(), AllocError>
         ensures full { IfOk result (λ _. self.new ≡ full_places (kept_list self.old)) }
         ensures same { OnErr result (self.new ≡ self.old) }
@@ -167,7 +167,7 @@ impl State {
         Ok(())
     }
 
-    /// Keeps a further payload behind those of its full places.
+    /// Keeps only the full places, as `fill` does, and a further one with a payload behind them. On an error the state stays.
     pub fn push(&mut self, alloc: Global, payload: Arc<Payload>) -> Result<(), AllocError>
         ensures more { IfOk result (λ _. self.new ≡ full_places (kept_list self.old ++ plain (arc_value payload) ∷ [])) }
         ensures same { OnErr result (self.new ≡ self.old) }
@@ -181,7 +181,7 @@ impl State {
         Ok(())
     }
 
-    // Whether all of its places are known to be full.
+    // Whether the state is kept in the form in which all places are full.
     fn is_full(&self) -> bool
         ensures { result ≡ true → self.now ≡ full_places (kept_list self.now) }
     {
@@ -189,7 +189,7 @@ impl State {
     }
 }
 
-// The payload at a place of a list.
+// Returns the payload at a place of a list, if there is one.
 fn nth(list: &[Arc<Payload>], i: usize) -> Option<&Arc<Payload>>
     ensures { option_copied result ≡ slice_get list.now i }
 {
@@ -228,7 +228,7 @@ fn all_shared(alloc: Global, list: &[Arc<Payload>]) -> Result<Vec<Arc<Payload>>,
     Ok(copies)
 }
 
-// The payloads of the places that are full.
+// Returns the payloads of the places that are full, in order.
 fn full_ones(
     alloc: Global,
     places: &[Option<Arc<Payload>>],
@@ -242,7 +242,7 @@ fn full_ones(
     Ok(list)
 }
 
-// Puts a payload behind a list, which stays as it is where there is no memory.
+// Appends a payload to a list, which stays as it is where there is no memory.
 fn put(list: &mut Vec<Arc<Payload>>, payload: Arc<Payload>) -> Result<(), AllocError>
     ensures more { IfOk result (λ _. map (λ p. plain (arc_value p)) list.new.items ≡ map (λ p. plain (arc_value p)) list.old.items ++ plain (arc_value payload) ∷ []) }
     ensures same { OnErr result (list.new.items ≡ list.old.items) }
@@ -251,7 +251,7 @@ fn put(list: &mut Vec<Arc<Payload>>, payload: Arc<Payload>) -> Result<(), AllocE
     Ok(())
 }
 
-// Puts the payload of a place behind a list, if it is full.
+// Appends the payload of a place to a list, if the place is full.
 fn put_full(list: &mut Vec<Arc<Payload>>, place: &Option<Arc<Payload>>) -> Result<(), AllocError>
     ensures { IfOk result (λ _. map (λ p. plain (arc_value p)) list.new.items ≡ map (λ p. plain (arc_value p)) list.old.items ++ option_to_list (given place.now)) }
 {
@@ -261,8 +261,8 @@ fn put_full(list: &mut Vec<Arc<Payload>>, place: &Option<Arc<Payload>>) -> Resul
     Ok(())
 }
 
-/// The time whose number a thinner keeps: PreStream or a time of the range; every other number stands for
-/// OneOverPostStream.
+/// Returns the timestamp that a number kept by a thinner stands for: PreStream or one of the range by its own number, and
+/// OneOverPostStream by every other number.
 fn time_kept(number: i64) -> Timestamp
     ensures { result ≡ its_time number }
 {

@@ -4,9 +4,9 @@ use crate::{Laid, PortKind, Shape};
 use mg_value::{BlockList, MgText, Packet};
 use std::alloc::{AllocError, Global};
 
-/// What can be copied where there is memory. The payloads of packets are shared.
+/// Values that can be copied where there is memory. The payloads of packets are shared.
 pub trait TryClone: Drop {
-    /// A second one.
+    /// Returns a copy.
     fn try_clone(&self, alloc: Global) -> Result<Self, AllocError>
         ensures { IfOk result (λ copy. copy ≡ self.now) };
 }
@@ -17,7 +17,7 @@ impl TryClone for Packet {
     }
 }
 
-/// Copies of entries, in order.
+/// Returns copies of the entries, in order.
 pub(crate) fn copies<T: TryClone>(alloc: Global, entries: &[T]) -> Result<Vec<T>, AllocError>
     ensures { IfOk result (λ copies. copies.items ≡ entries.now) }
 {

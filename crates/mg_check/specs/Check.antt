@@ -23,6 +23,6 @@ check_by (Some fault) plan = Err fault
 abbrev pub check_of : List OuterShape → GraphView → Result Plan CheckFault
 check_of outers graph = check_by (refusal outers graph) (plan_of graph (drafts outers graph.nodes))
 
--- a calculator that is handed in and may have its law has parameters in their ranges, and its law's shape
+-- A calculator that is handed in, where it may have its law, has that law's shape, and the law has parameters in their ranges.
 abbrev pub IsOuterShape : OuterShape → Type 0
 IsOuterShape outer = IsTrue (may_be_outer outer.law) → ParametersFit outer.law × IsShapeOf outer.law outer.shape

@@ -1,5 +1,5 @@
--- Who does the work of a node. Names of built-in calculators go before those of calculators that are handed in; of the latter each node
--- takes the next of its name, in the order of both lists.
+-- The choice of a calculator for each node. Names of built-in calculators go before those of calculators that are
+-- handed in; of the latter each node takes the next of its name, in the order of both lists.
 use Rattle.std.specs.Prelude.{ℕ, List, [], ◌∷◌, ◌++◌, Bool, ◌&&◌, ◌==◌, nat_lt, Option, None, Some, option_map, is_none, map, filter, length, count_by, position, find, slice_get}
 use Rattle.std.specs.List.{enumerate_from}
 use Rattle.std.specs.Str.{bytes_eq}
@@ -20,42 +20,44 @@ outers_named outers name = map (λ e. e.0) (filter (λ e. bytes_eq name e.1.shap
 abbrev pub wanted : List NodeView → List ℕ → ℕ
 wanted nodes name = count_by (λ node. bytes_eq name node.calculator) nodes
 
--- who does the work of a node: a built-in calculator, or the next of those that are handed in, after so many were taken
+-- the calculator of a node: a built-in one, or the next of those that are handed in, after so many were taken
 abbrev pub kind_by : Option CalculatorKind → List ℕ → ℕ → Option NodeKind
 kind_by (Some kind) numbers taken = Some (BuiltIn kind)
 kind_by None numbers taken = option_map Outer (slice_get numbers taken)
 
--- that of a node that stands after others
+-- the calculator of a node that stands after others, if there is one
 abbrev pub kind_of : List OuterShape → List NodeView → NodeView → Option NodeKind
 kind_of outers before node = kind_by (kind_named node.calculator) (outers_named outers node.calculator) (wanted before node.calculator)
 
--- a node, and who does its work
+-- a node, and the calculator that works at it
 pub record Chosen : Type 0 where
   pub node : NodeView
   pub kind : NodeKind
 
+-- further nodes, with a node before them if there is a calculator for it
 abbrev pub with_kind : Option NodeKind → NodeView → List Chosen → List Chosen
 with_kind None node more = more
 with_kind (Some kind) node more = record { node = node; kind = kind } ∷ more
 
--- the nodes that stand after others, each with who does its work; where there is one for each, all of them
+-- the nodes that stand after others and for which there is a calculator, each with it
 abbrev pub chosen_after : List OuterShape → List NodeView → List NodeView → List Chosen
 chosen_after outers before [] = []
 chosen_after outers before (node ∷ nodes) = with_kind (kind_of outers before node) node (chosen_after outers (before ++ node ∷ []) nodes)
 
+-- the nodes for which there is a calculator, each with it; all nodes where none is refused for want of one
 abbrev pub chosen : List OuterShape → List NodeView → List Chosen
 chosen outers nodes = chosen_after outers [] nodes
 
 -- Refusals.
 
--- a calculator is neither built in nor one of those that are handed in
+-- whether the calculator of a node is neither built in nor one of those that are handed in
 abbrev pub is_unknown : List OuterShape → NodeView → Bool
 is_unknown outers node = is_none (kind_named node.calculator) && (length (outers_named outers node.calculator) == 0)
 
 abbrev pub unknown_calculator : List OuterShape → List NodeView → Option CheckFault
 unknown_calculator outers nodes = option_map UnknownCalculator (position (is_unknown outers) nodes)
 
--- more nodes want a calculator than are handed in under its name
+-- whether more nodes want the calculator of a node than are handed in under its name
 abbrev pub is_short : List OuterShape → List NodeView → NodeView → Bool
 is_short outers nodes node =
     is_none (kind_named node.calculator) && nat_lt (length (outers_named outers node.calculator)) (wanted nodes node.calculator)

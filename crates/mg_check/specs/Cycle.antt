@@ -13,11 +13,11 @@ pub record IsFedBy (links : List Link) (ns : List ℕ) (n : ℕ) : Type 0 where
   pub to : link.to ≡ n
   pub from : Contains ns link.from
 
--- each node of a set reads what a node of the set writes
+-- Each node of a set reads what a node of the set writes.
 abbrev pub FeedsItself : List Link → List ℕ → Type 0
 FeedsItself links ns = All (IsFedBy links ns) ns
 
--- the largest such set, in the order of numbers
+-- The set is the largest that feeds itself, and its nodes are in the order of their numbers.
 pub record IsLargestCycle (links : List Link) (ns : List ℕ) : Type 0 where
   pub ascending : IsStrictlyIncreasing ns
   pub feeds : FeedsItself links ns
@@ -27,12 +27,12 @@ pub record IsLargestCycle (links : List Link) (ns : List ℕ) : Type 0 where
 abbrev pub is_fed_by : List Link → List ℕ → ℕ → Bool
 is_fed_by links ns n = list_any (λ link. link.to == n && is_among ns link.from) links
 
--- what is left of a set where its nodes go that read what none of the set writes, so many times
+-- what is left of a set after so many rounds, in each of which those nodes go that read nothing from a node that is left
 abbrev pub left_after : ℕ → List Link → List ℕ → List ℕ
 left_after zero links ns = ns
 left_after (suc more) links ns = left_after more links (filter (is_fed_by links ns) ns)
 
--- the largest set of so many nodes that feeds itself: what is left of all of them when none goes any more, which is so at the latest
--- after as many times as there are nodes
+-- The largest set of so many nodes that feeds itself. It is what is left of all of them when none goes any more, which
+-- is so at the latest after as many rounds as there are nodes.
 abbrev pub largest_cycle : ℕ → List Link → List ℕ
 largest_cycle count links = left_after count links (numbers count)

@@ -1,4 +1,4 @@
--- What a draft stands for: names that are lent are the texts themselves.
+-- What a draft stands for: the same with texts of its own instead of texts that are lent, and plain payloads.
 use Rattle.std.specs.Prelude.{List, map}
 use Rattle.mg_kinds.specs.Kinds.{names_of}
 use Rattle.mg_kinds.specs.Views.{plain_of}

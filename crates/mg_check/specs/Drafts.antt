@@ -36,20 +36,21 @@ pub record DraftView : Type 0 where
   pub inputs : List (List ℕ)
   pub outputs : List (List ℕ)
   pub sides : List (List ℕ)
-  -- the side packets that it writes, and what they are
+  -- the names of the side packets that it writes, and their payloads
   pub side_outputs : List (List ℕ)
   pub constants : List Plain
   pub in_flight : ℕ
   pub box_number : Option ℕ
   pub policy : Policy
-  -- the port that is marked as a back edge where that may be, and whether another input is marked, or one that isn't there
+  -- the input that is marked as a back edge, if a mark stands where one may be; and whether a mark stands elsewhere
   pub back : Option ℕ
   pub misplaced : Bool
 
--- the name at a port, and the names at ports
+-- the name that a node has at a port of its calculator
 abbrev pub name_at : List Port → PortKind → List ℕ
 name_at given p = unwrap_or (option_map (λ port. port.name) (find (is_at p.tag p.index) given)) []
 
+-- the names that a node has at ports of its calculator
 abbrev pub names_at : List Port → List PortKind → List (List ℕ)
 names_at given ps = map (name_at given) ps
 
@@ -57,37 +58,40 @@ names_at given ps = map (name_at given) ps
 abbrev pub label_of : NodeView → List ℕ
 label_of node = if bytes_eq node.name [] then node.calculator else node.name
 
--- how many sets may be in flight: what the node says, from 1 to 64, but 1 where a calculator is handed in or keeps a state
+-- a number of sets that a node asks for, brought into 1 to 64
 abbrev pub up_to_64 : ℤ → ℕ
 up_to_64 (pos n) = if n == 0 then 1 else (if nat_lt 64 n then 64 else n)
 up_to_64 (negsuc n) = 1
 
+-- how many sets may be in flight: what the node asks for, but 1 where a calculator is handed in or keeps a state
 abbrev pub flight_of : Option ℕ → Bool → ℤ → ℕ
 flight_of box_number stateless most = if is_none box_number && stateless then up_to_64 most else 1
 
+-- the number of a node's calculator among those that are handed in, if it is one of these
 abbrev pub box_of : NodeKind → Option ℕ
 box_of (BuiltIn kind) = None
 box_of (Outer number) = Some number
 
--- a mark is that of a tag's only input
+-- whether a mark names the first input of a tag
 abbrev pub is_at_tag : Tag → Mark → Bool
 is_at_tag tag mark = bytes_eq mark.tag (tag_text tag) && (mark.index == 0)
 
--- a mark may stand at LOOP of a loopback, its first port, and at FINISHED of a limiter, its second
+-- whether a mark stands where a back edge may be: at LOOP of a loopback, its first port, or at FINISHED of a limiter, its second
 abbrev pub may_be_back : Law → Mark → Bool
 may_be_back Loopback mark = is_at_tag Loop mark
 may_be_back (Limiter most) mark = is_at_tag Finished mark
 may_be_back rule mark = false
 
+-- the number of the input that may be a back edge
 abbrev pub back_port : Law → ℕ
 back_port (Limiter most) = 1
 back_port rule = 0
 
--- the port that is marked as a back edge, where that may be
+-- the number of the input that is marked as a back edge, if a mark stands where one may be
 abbrev pub back_of : Law → List Mark → Option ℕ
 back_of rule marks = if list_any (may_be_back rule) marks then Some (back_port rule) else None
 
--- the draft of a node of these ports, settings and policy, that looks so
+-- the draft of a node with these ports, settings and policy, and of this shape
 abbrev pub draft_with : NodeView → NodeKind → Ports → SettingsView → Policy → Shape → DraftView
 draft_with node kind ports settings policy shape = record {
   label = label_of node;
@@ -105,7 +109,7 @@ draft_with node kind ports settings policy shape = record {
   misplaced = list_any (λ mark. not (may_be_back settings.law mark)) node.back_marks;
 }
 
--- that of a node, if nothing is wrong with it
+-- the draft of a node, if nothing is wrong with it
 abbrev pub draft_of : List OuterShape → Chosen → Option DraftView
 draft_of outers c =
     option_and_then (λ ports. option_and_then (λ settings. option_and_then (λ policy. option_map (draft_with c.node c.kind ports settings policy)
@@ -114,25 +118,25 @@ draft_of outers c =
     (node_settings outers c.node c.kind))
     (node_ports outers c.node c.kind)
 
--- those of all nodes, if nothing is wrong with any
+-- the drafts of the nodes with which nothing is wrong, which are all where no node is refused
 abbrev pub drafts : List OuterShape → List NodeView → List DraftView
 drafts outers nodes = filter_map (draft_of outers) (chosen outers nodes)
 
--- Refusals. The streams and side packets of a node don't fit its calculator.
+-- Refusals. Whether the streams and side packets of a node don't fit its calculator.
 abbrev pub has_bad_ports : List OuterShape → Chosen → Bool
 has_bad_ports outers c = is_none (node_ports outers c.node c.kind)
 
 abbrev pub bad_ports : List OuterShape → List Chosen → Option CheckFault
 bad_ports outers cs = option_map BadPorts (position (has_bad_ports outers) cs)
 
--- The options of a node aren't those of its calculator.
+-- whether the options of a node aren't those of its calculator
 abbrev pub has_bad_options : List OuterShape → Chosen → Bool
 has_bad_options outers c = is_none (node_settings outers c.node c.kind)
 
 abbrev pub bad_options : List OuterShape → List Chosen → Option CheckFault
 bad_options outers cs = option_map BadOptions (position (has_bad_options outers) cs)
 
--- A node asks for an input policy that it can't have.
+-- whether a node asks for an input policy that it can't have, or has options that aren't those of its calculator
 abbrev pub is_unsupported : List OuterShape → Chosen → Bool
 is_unsupported outers c = is_none (option_and_then (λ settings. policy_of settings.law c.node.handler) (node_settings outers c.node c.kind))
 

@@ -35,37 +35,39 @@ read_names graph ds = flat_map (λ d. d.inputs) ds ++ port_names graph.outputs
 abbrev pub side_names : GraphView → List DraftView → List (List ℕ)
 side_names graph ds = port_names graph.input_sides ++ flat_map (λ d. d.side_outputs) ds
 
--- those that are taken: by each node, and then as graph outputs
+-- the side packets that are taken: by each node, and then as outputs of the graph
 abbrev pub taken_names : GraphView → List DraftView → List (List ℕ)
 taken_names graph ds = flat_map (λ d. d.sides) ds ++ port_names graph.output_sides
 
--- A stream has two producers, or else a side packet has.
+-- the refusal of a stream, or else a side packet, that has two producers
 abbrev pub two_producers : GraphView → List DraftView → Option CheckFault
 two_producers graph ds = option_map TwoProducers (option_or (first_again (stream_names graph ds)) (first_again (side_names graph ds)))
 
--- A stream that is read has none; a side packet that is taken has none.
+-- the refusal of a stream that is read and has no producer
 abbrev pub no_producer : GraphView → List DraftView → Option CheckFault
 no_producer graph ds = option_map NoProducer (first_missing (stream_names graph ds) (read_names graph ds))
 
+-- the refusal of a side packet that is taken and has no producer
 abbrev pub side_missing : GraphView → List DraftView → Option CheckFault
 side_missing graph ds = option_map SideMissing (first_missing (side_names graph ds) (taken_names graph ds))
 
 -- Edges.
 
--- whether the edge into a port is back, where perhaps that into some port is
+-- whether the edge into a port is a back edge, given the port that is marked as one, if any is
 abbrev pub is_back_at : Option ℕ → ℕ → Bool
 is_back_at None port = false
 is_back_at (Some back) port = back == port
 
--- the edges into a consumer, at whose ports these names stand; that into one port may be back
+-- the edges into a consumer, at whose ports these names stand; that into one port may be a back edge
 abbrev pub edges_into : List (List ℕ) → ℕ → Option ℕ → List (List ℕ) → List Edge
 edges_into names node back inputs =
     map (λ e. record { stream = number_in names e.1; node = node; port = e.0; back = is_back_at back e.0 }) (enumerate_from 0 inputs)
 
--- those into nodes, and those into the collector, which comes after them
+-- the edges into all nodes
 abbrev pub node_edges : GraphView → List DraftView → List Edge
 node_edges graph ds = flat_map (λ e. edges_into (stream_names graph ds) e.0 e.1.back e.1.inputs) (enumerate_from 0 ds)
 
+-- all edges: those into nodes, and then those into the collector
 abbrev pub edges : GraphView → List DraftView → List Edge
 edges graph ds = node_edges graph ds ++ edges_into (stream_names graph ds) (length ds) None (port_names graph.outputs)
 
@@ -74,13 +76,15 @@ edges graph ds = node_edges graph ds ++ edges_into (stream_names graph ds) (leng
 abbrev pub kinds : List PortKind → List Kind
 kinds ps = map (λ p. p.kind) ps
 
--- the kinds of the ports that write streams; graph inputs and outputs are of any
+-- the kinds of the ports that write streams; those of graph inputs are Any
 abbrev pub written_kinds : GraphView → List DraftView → List Kind
 written_kinds graph ds = map (λ p. Any) graph.inputs ++ flat_map (λ d. kinds d.shape.outputs) ds
 
+-- the kinds of the ports that read streams, in the order of the edges; those of graph outputs are Any
 abbrev pub read_kinds : GraphView → List DraftView → List Kind
 read_kinds graph ds = flat_map (λ d. kinds d.shape.inputs) ds ++ map (λ p. Any) graph.outputs
 
+-- for each edge its stream, and the kind of the port that reads it
 abbrev pub readings : GraphView → List DraftView → List Reading
 readings graph ds = map (λ e. record { stream = e.0.stream; kind = e.1 }) (zip (edges graph ds) (read_kinds graph ds))
 
@@ -88,13 +92,14 @@ readings graph ds = map (λ e. record { stream = e.0.stream; kind = e.1 }) (zip 
 abbrev pub stream_meetings : GraphView → List DraftView → List (List Kind)
 stream_meetings graph ds = meetings (written_kinds graph ds) (readings graph ds)
 
--- Two kinds other than Any meet at a stream.
+-- the refusal of a stream at which two different kinds other than Any meet
 abbrev pub kind_clash : GraphView → List DraftView → Option CheckFault
 kind_clash graph ds =
     option_map KindClash (option_and_then (λ n. slice_get (stream_names graph ds) n) (position clashes (stream_meetings graph ds)))
 
 -- Back edges.
 
+-- the refusal of the first node with a misplaced back edge
 abbrev pub back_edge_misplaced : List DraftView → Option CheckFault
 back_edge_misplaced ds = option_map BackEdgeMisplaced (position (λ d. d.misplaced) ds)
 
@@ -106,7 +111,7 @@ writers graph ds =
     map Input (numbers (length graph.inputs))
     ++ flat_map (λ e. map (λ port. Node e.0 port) (numbers (length e.1.outputs))) (enumerate_from 0 ds)
 
--- an edge that isn't back and whose stream a node writes
+-- the link that an edge makes: from the node that writes its stream to the one that reads, if the edge isn't back and a node writes
 abbrev pub link_of : List Producer → Edge → Option Link
 link_of producers e =
     if e.back then None
@@ -122,15 +127,16 @@ sources ds = map (λ e. e.0) (filter (λ e. length e.1.inputs == 0) (enumerate_f
 abbrev pub order : GraphView → List DraftView → List ℕ
 order graph ds = order_of (length ds) (sources ds) (links graph ds)
 
--- Nodes each read what another one of them writes; the largest set of such nodes is told.
+-- the refusal of nodes that make a cycle, if there are any
 abbrev pub cycle_of : List ℕ → Option CheckFault
 cycle_of [] = None
 cycle_of (n ∷ ns) = Some (Cycle (n ∷ ns))
 
+-- the refusal of the largest set of nodes each of which reads, by an edge that isn't back, what one of them writes
 abbrev pub cycle : GraphView → List DraftView → Option CheckFault
 cycle graph ds = cycle_of (largest_cycle (length ds) (links graph ds))
 
--- There are too many edges or graph outputs.
+-- the refusal of too many edges, or else of too many graph outputs
 abbrev pub too_many : GraphView → List DraftView → Option CheckFault
 too_many graph ds =
     if nat_lt 16384 (length (edges graph ds)) then Some (TooMany Edges)

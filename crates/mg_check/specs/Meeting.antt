@@ -22,19 +22,19 @@ abbrev pub met_kind : List Kind → Kind
 met_kind [] = Any
 met_kind (kind ∷ kinds) = if is_any kind then met_kind kinds else kind
 
--- two kinds other than Any meet
+-- whether two different kinds other than Any meet
 abbrev pub clashes : List Kind → Bool
 clashes kinds = list_any (λ kind. not (is_any kind) && not (is_kind kind (met_kind kinds))) kinds
 
--- a port that reads a stream, which has this number, takes this kind
+-- a port that reads: the number of its stream, and its kind
 pub record Reading : Type 0 where
   pub stream : ℕ
   pub kind : Kind
 
--- the kinds that meet at the stream of a number, whose producer's port has a kind
+-- the kinds that meet at the stream of a number, which a port of this kind writes
 abbrev pub kinds_at : List Reading → ℕ → Kind → List Kind
 kinds_at readings number written = written ∷ map (λ r. r.kind) (filter (λ r. r.stream == number) readings)
 
--- those of all streams, by the kinds of their producers' ports
+-- the kinds that meet at each stream, by the kinds of the ports that write and the ports that read
 abbrev pub meetings : List Kind → List Reading → List (List Kind)
 meetings written readings = map (λ e. kinds_at readings e.0 e.1) (enumerate_from 0 written)

@@ -3,7 +3,7 @@ use Rattle.std.specs.Prelude.{ℕ, List, [], ◌∷◌, Bool, not, Option, None,
 use Rattle.std.specs.List.{list_any}
 use Rattle.std.specs.Str.{bytes_eq}
 
--- a name is among names
+-- whether a name is among names
 abbrev pub is_name_among : List (List ℕ) → List ℕ → Bool
 is_name_among names name = list_any (bytes_eq name) names
 
@@ -16,6 +16,6 @@ first_again (name ∷ names) = if is_name_among names name then Some name else f
 abbrev pub first_missing : List (List ℕ) → List (List ℕ) → Option (List ℕ)
 first_missing there names = find (λ name. not (is_name_among there name)) names
 
--- the number of a name that is among them
+-- the number of a name among names: its place, or 0 where it isn't there
 abbrev pub number_in : List (List ℕ) → List ℕ → ℕ
 number_in names name = unwrap_or (position (bytes_eq name) names) 0

@@ -5,20 +5,20 @@ use Rattle.std.specs.List.{list_any, list_all}
 use Rattle.mg_calc.specs.Plan.{numbers}
 use Rattle.mg_check.specs.declared.ordering.Link.{Link}
 
--- a number is among numbers
+-- whether a number is among numbers
 abbrev pub is_among : List ℕ → ℕ → Bool
 is_among ns n = list_any (λ m. n == m) ns
 
--- a node isn't taken, and all whose streams it reads are
+-- whether a node isn't taken, and all nodes whose streams it reads by links are
 abbrev pub is_next : List Link → List ℕ → ℕ → Bool
 is_next links taken n = not (is_among taken n) && list_all (λ link. not (link.to == n) || is_among taken link.from) links
 
--- those that are taken so far, and where one more comes, what goes on with it
+-- the nodes that are taken, or what goes on with one more if there is a next
 abbrev pub with_next : List ℕ → (ℕ → List ℕ) → Option ℕ → List ℕ
 with_next taken go_on None = taken
 with_next taken go_on (Some n) = go_on n
 
--- the nodes that are taken, and so many more at most, one after the other
+-- the nodes that are taken, with so many more at most behind them, one after the other
 abbrev pub taken_on : ℕ → ℕ → List Link → List ℕ → List ℕ
 taken_on zero count links taken = taken
 taken_on (suc more) count links taken = with_next taken (λ n. taken_on more count links (taken ++ n ∷ [])) (find (is_next links taken) (numbers count))
@@ -31,7 +31,7 @@ order_of count sources links = taken_on count count links sources
 abbrev pub left_out : ℕ → List ℕ → List ℕ
 left_out count order = filter (λ n. not (is_among order n)) (numbers count)
 
--- Links are between so many nodes.
+-- The link is between two of so many nodes.
 pub record IsBetween (count : ℕ) (link : Link) : Type 0 where
   pub from : link.from < count
   pub to : link.to < count

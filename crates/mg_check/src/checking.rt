@@ -10,11 +10,12 @@ use mg_calc::{OuterShape, Plan};
 use mg_config::GraphConfig;
 use std::alloc::Global;
 
-/// The plan of an expanded graph with the calculators that are handed in, or its first refusal (MediaPipe, Graphs). The
-/// causes go in the order of `CheckFault`; within one the first node is told, or the first stream or side packet: by its
-/// number where it has too many producers or kinds, and by its first reader where it has no producer.
+/// Returns the plan of an expanded graph with the calculators that are handed in, or its first refusal (MediaPipe,
+/// Graphs). The causes are looked for in the order of `CheckFault`, and of one cause the first node, stream or side
+/// packet is told: in the order of their numbers, but of their readers where they have no producer.
 pub fn check(alloc: Global, config: &GraphConfig, outers: &[OuterShape]) -> Result<Plan, CheckFault>
-    // The graph was expanded, and each calculator that may be handed in has its law's shape.
+    // An expanded graph has at most 4,096 nodes. Each calculator that is handed in and may have its law has that law's
+    // shape, and parameters in their ranges.
     requires few { length config.now.nodes ≤ 4096 }
     requires outers { All IsOuterShape outers.now }
 

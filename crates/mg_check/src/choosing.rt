@@ -1,4 +1,4 @@
-//! Who does the work of each node.
+//! The choice of a calculator for each node: one that is built in, or one that is handed in.
 ghost use Rattle.std.specs.Prelude.{◌≡◌, ◌≢◌, ◌++◌, [], None, Some, IfOk, IfErr, OnOk, List, map};
 ghost use Rattle.mg_config.specs.Config.{node_view, NodeView};
 ghost use Rattle.mg_kinds.specs.Kinds.{kind_named as its_kind};
@@ -14,21 +14,21 @@ use mg_config::NodeConfig;
 use mg_kinds::kind_named;
 use std::alloc::{AllocError, Global};
 
-/// A node, and who does its work.
+/// A node, and the calculator that works at it.
 #[derive(Clone, Copy)]
 pub struct Choice<'a> {
     pub node: &'a NodeConfig,
     pub kind: NodeKind,
 }
 
-/// The nodes with who does their work, and the places of the nodes that name each calculator.
+/// The nodes for which there is a calculator, each with it, and the places of the nodes that name each calculator.
 #[derive(Drop)]
 pub struct Choices<'a> {
     pub list: Vec<Choice<'a>>,
     pub wanted: Groups,
 }
 
-/// A place as a number of 32 bits. There is no memory for a list that is longer.
+/// Returns a place as a number of 32 bits, or want of memory where the place is too large, since there is no memory for such a list.
 pub fn number_of(place: usize) -> Result<u32, AllocError>
     ensures { IfOk result (λ number. number ≡ place) }
 {
@@ -39,7 +39,7 @@ pub fn number_of(place: usize) -> Result<u32, AllocError>
     }
 }
 
-/// The numbers of the calculators that are handed in, by their names.
+/// Returns the numbers of the calculators that are handed in, by their names.
 pub fn stock_of(alloc: Global, outers: &[OuterShape]) -> Result<Groups, AllocError>
     ensures { IfOk result (λ stock. IsStock stock outers.now) }
 {
@@ -75,7 +75,7 @@ fn push_choice<'a>(
     Ok(())
 }
 
-/// Gives each node the next calculator of its name.
+/// Chooses for each node the built-in calculator of the name that it asks for, or else the next of those that are handed in under it.
 pub fn choices_of<'a>(
     alloc: Global,
     nodes: &'a [NodeConfig],
@@ -101,7 +101,7 @@ fn is_unknown(node: &NodeConfig, stock: &Groups) -> bool
     kind_named(name).is_none() && stock.get(name).is_empty()
 }
 
-/// Refuses a calculator that nobody knows.
+/// Refuses the first node whose calculator is neither built in nor handed in.
 pub fn check_known(nodes: &[NodeConfig], stock: &Groups) -> Result<(), CheckFault>
     ensures ok { OnOk result ((outers : List Outers) → IsStock stock.now outers → rules.unknown_calculator outers (map node_view nodes.now) ≡ None) }
     ensures err { IfErr result (λ fault. fault ≢ CheckFault.OutOfMemory → (outers : List Outers) → IsStock stock.now outers → rules.unknown_calculator outers (map node_view nodes.now) ≡ Some fault) }
@@ -141,7 +141,7 @@ fn too_few(
     })
 }
 
-/// Refuses nodes for which there are too few calculators.
+/// Refuses the first node whose calculator more nodes want than are handed in.
 pub fn check_boxes(
     alloc: Global,
     nodes: &[NodeConfig],

@@ -4,7 +4,7 @@ ghost use Rattle.std.specs.List.{range_with_len};
 use mg_value::{BlockList, NumberList};
 use std::alloc::{AllocError, Global};
 
-/// How many names there are. There is no memory for 2^32.
+/// Returns how many names there are, or want of memory where they are 2^32 or more, for which there is no memory.
 pub(crate) fn count_of(names: &[&str]) -> Result<u32, AllocError>
     ensures { IfOk result (λ count. count ≡ length names.now) }
 {
@@ -15,7 +15,7 @@ pub(crate) fn count_of(names: &[&str]) -> Result<u32, AllocError>
     }
 }
 
-/// So many numbers from one on. There is no memory for 2^32.
+/// Returns `count` numbers from `first` on, or want of memory where they reach 2^32, for which there is no memory.
 pub(crate) fn range_of(alloc: Global, first: u32, count: u32) -> Result<NumberList, AllocError>
     ensures { IfOk result (λ numbers. numbers ≡ range_with_len first count) }
 {

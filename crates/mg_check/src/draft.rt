@@ -12,14 +12,17 @@ pub struct Draft<'a> {
     pub inputs: Vec<&'a str>,
     pub outputs: Vec<&'a str>,
     pub sides: Vec<&'a str>,
-    /// The side packets that the node writes, and what they are.
+    /// The names of the side packets that the node writes.
     pub side_outputs: Vec<&'a str>,
+    /// The payloads of the side packets that the node writes, in the same order.
     pub constants: Vec<Arc<Payload>>,
+    /// How many input sets the node may work on at once, 1 to 64.
     pub in_flight: u32,
+    /// The number of the node's calculator among those that are handed in, if it is one of these.
     pub box_number: Option<u32>,
     pub policy: Policy,
-    /// The port that is marked as a back edge, where that may be.
+    /// The number of the input that is marked as a back edge, if a mark stands where a back edge may be.
     pub back: Option<u32>,
-    /// Whether another input is marked, or one that the node hasn't.
+    /// Whether a mark stands at an input that can't be a back edge, or at one that the node hasn't.
     pub misplaced: bool,
 }

@@ -15,7 +15,7 @@ use mg_config::NodeConfig;
 use mg_value::MgText;
 use std::alloc::{AllocError, Global};
 
-/// The drafts of the nodes with which nothing is wrong, and what is wrong with each node.
+/// The drafts of the nodes with which nothing is wrong, and for each node what is wrong with it, if anything is.
 #[derive(Drop)]
 pub struct Judgement<'a> {
     pub drafts: Vec<Draft<'a>>,
@@ -93,7 +93,7 @@ fn check_wrongs(alloc: Global, wrongs: &[Option<Wrong>]) -> Result<(), CheckFaul
     Ok(())
 }
 
-/// The drafts of nodes, or the first refusal: a fault of any node goes before those that stand below it in `CheckFault`.
+/// Returns the drafts of nodes, or the first refusal in the order of `CheckFault`; of one cause the first node is refused.
 pub(crate) fn drafts_of<'a>(
     alloc: Global,
     nodes: &'a [NodeConfig],

@@ -15,7 +15,7 @@ use mg_calc::Edge;
 use mg_names::PortMap;
 use std::alloc::{AllocError, Global};
 
-// Whether the edge into a port is back.
+// Whether the edge into a port is a back edge, where `back` is the port that is marked as one, if any is.
 fn is_back_at(back: Option<u32>, port: u32) -> bool
     ensures { result ≡ joining.is_back_at back port }
 {
@@ -52,7 +52,7 @@ fn add_edges(
     Ok(())
 }
 
-/// The edges into nodes.
+/// Returns the edges into nodes, in the order of the nodes and of their ports.
 pub(crate) fn node_edges(
     alloc: Global,
     streams: &Names,
@@ -74,7 +74,7 @@ pub(crate) fn node_edges(
     Ok(edges)
 }
 
-/// Puts the edges into the collector behind the others.
+/// Appends the edges into the collector, whose ports are the graph outputs and whose number as a consumer is `node`.
 pub(crate) fn add_collector(
     alloc: Global,
     edges: &mut Vec<Edge>,

@@ -21,7 +21,7 @@ pub enum CheckFault {
     /// The calculator is neither built in nor one of those that are handed in.
     #[error("node {node} has an unknown calculator")]
     UnknownCalculator { node: u32 },
-    /// More nodes want a calculator than are handed in under its name.
+    /// `needs` nodes want a calculator of this name, and only `has` are handed in under it.
     #[error("{needs} nodes want one of {has} calculators {}", .name.as_str())]
     NoMoreBoxes { name: MgText, has: u32, needs: u32 },
     /// The streams or side packets of a node don't fit its calculator.
@@ -33,22 +33,23 @@ pub enum CheckFault {
     /// A node asks for an input policy that it can't have.
     #[error("node {node} can't have its {}", .field.as_str())]
     Unsupported { node: u32, field: MgText },
-    /// Two write the same stream, or the same side packet.
+    /// Two of the graph's inputs and the nodes' outputs write the same stream, or two likewise the same side packet.
     #[error("{} has two producers", .name.as_str())]
     TwoProducers { name: MgText },
-    /// Nobody writes a stream that is read.
+    /// A stream is read that is no graph input and no output of a node.
     #[error("the stream {} has no producer", .name.as_str())]
     NoProducer { name: MgText },
-    /// Nobody gives a side packet that is taken.
+    /// A side packet is taken that isn't handed in and that no node writes.
     #[error("the side packet {} has no producer", .name.as_str())]
     SideMissing { name: MgText },
-    /// Two ports of different kinds meet at a stream.
+    /// Two ports of different kinds other than `Any` meet at a stream.
     #[error("two kinds meet at the stream {}", .name.as_str())]
     KindClash { name: MgText },
     /// A back edge stands elsewhere than at LOOP of a loopback or FINISHED of a limiter.
     #[error("node {node} has a back edge that isn't a loopback's")]
     BackEdgeMisplaced { node: u32 },
-    /// Nodes wait for each other.
+    /// These nodes wait for each other, or for one that does: each reads, by an edge that isn't back, what one of them
+    /// writes. No larger set of nodes does; the numbers ascend.
     #[error("nodes wait for each other")]
     Cycle { nodes: NumberList },
     /// There are too many edges or graph outputs.

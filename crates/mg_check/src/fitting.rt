@@ -1,4 +1,4 @@
-//! What a node is by its calculator: its ports, its settings, its input policy, and what it looks like.
+//! What a node gets from its calculator: its ports, its settings, its input policy, and its shape.
 ghost use Rattle.std.specs.Prelude.{◌≡◌, IfOk, option_map};
 ghost use Rattle.mg_config.specs.Config.{node_view};
 ghost use Rattle.mg_kinds.specs.SettingsView.{settings_view};
@@ -55,7 +55,7 @@ fn outer_ports(
     }))
 }
 
-/// The ports that a node's calculator has there, or none where the node's streams and side packets don't fit it.
+/// Returns the ports that a calculator has at a node, or none where the node's streams and side packets don't fit the calculator.
 pub fn node_ports(
     alloc: Global,
     outers: &[OuterShape],
@@ -90,7 +90,7 @@ fn outer_settings(
     }))
 }
 
-/// What the options of a node set, or nothing where they aren't those of its calculator.
+/// Returns the law and the side packets that the options of a node set, or none where they aren't options of its calculator.
 pub fn node_settings(
     alloc: Global,
     outers: &[OuterShape],
@@ -145,7 +145,8 @@ fn immediate_policy(law: &Law) -> Option<Policy>
     }
 }
 
-/// The input policy of a node of a law, or none where it may not have the one that it asks for.
+/// Returns the input policy that a node with this law has by the name of its handler, or none where it can't have that
+/// one. Without a name it has the policy of its law.
 pub fn policy_of(law: &Law, handler: &[u8]) -> Option<Policy>
     ensures { result ≡ rules.policy_of law.now handler.now }
 {
@@ -162,7 +163,7 @@ pub fn policy_of(law: &Law, handler: &[u8]) -> Option<Policy>
     }
 }
 
-/// What a node's calculator looks like.
+/// Returns the shape of a node's calculator, or none where no such calculator is handed in.
 pub fn node_shape(
     alloc: Global,
     outers: &[OuterShape],

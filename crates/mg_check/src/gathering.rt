@@ -1,4 +1,4 @@
-//! The names of streams and side packets of a whole graph, in their order.
+//! The names of the streams and side packets of a whole graph: of all that are written, and of all that are read.
 ghost use Rattle.std.specs.Prelude.{◌≡◌, ◌++◌, IfOk, OnOk};
 ghost use Rattle.std.specs.List.{flat_map};
 ghost use Rattle.mg_config.specs.Config.{graph_view};
@@ -55,7 +55,7 @@ fn add_parts<'a>(out: &mut Vec<&'a str>, drafts: &[Draft<'a>], part: Part) -> Re
     Ok(())
 }
 
-/// The names at ports.
+/// Returns the names at ports, in order.
 pub(crate) fn port_texts<'a>(alloc: Global, ports: &'a PortMap) -> Result<Vec<&'a str>, AllocError>
     ensures { IfOk result (λ texts. names_of texts.items ≡ port_names ports.now) }
 {
@@ -64,7 +64,7 @@ pub(crate) fn port_texts<'a>(alloc: Global, ports: &'a PortMap) -> Result<Vec<&'
     Ok(texts)
 }
 
-/// The names at ports of the graph, and then those of a part of the nodes.
+/// Returns the names at ports of the graph, and then those that the drafts have as this part.
 fn texts_behind<'a>(
     alloc: Global,
     ports: &'a PortMap,
@@ -78,7 +78,7 @@ fn texts_behind<'a>(
     Ok(texts)
 }
 
-/// The names of a part of the nodes, and then those at ports of the graph.
+/// Returns the names that the drafts have as this part, and then those at ports of the graph.
 fn texts_before<'a>(
     alloc: Global,
     ports: &'a PortMap,
@@ -93,7 +93,7 @@ fn texts_before<'a>(
     Ok(texts)
 }
 
-/// The streams.
+/// Returns the names of all streams: of the graph inputs, and then of the outputs of each node.
 pub(crate) fn stream_texts<'a>(
     alloc: Global,
     graph: &'a GraphConfig,
@@ -104,7 +104,7 @@ pub(crate) fn stream_texts<'a>(
     texts_behind(alloc, &graph.inputs, drafts, Part::Outputs)
 }
 
-/// The streams that are read.
+/// Returns the names of the streams that are read: at the inputs of each node, and then as graph outputs.
 pub(crate) fn read_texts<'a>(
     alloc: Global,
     graph: &'a GraphConfig,
@@ -115,7 +115,7 @@ pub(crate) fn read_texts<'a>(
     texts_before(alloc, &graph.outputs, drafts, Part::Inputs)
 }
 
-/// The side packets.
+/// Returns the names of all side packets: of those that are handed in, and then of those that each node writes.
 pub(crate) fn side_texts<'a>(
     alloc: Global,
     graph: &'a GraphConfig,
@@ -126,7 +126,7 @@ pub(crate) fn side_texts<'a>(
     texts_behind(alloc, &graph.input_sides, drafts, Part::SideOutputs)
 }
 
-/// The side packets that are taken.
+/// Returns the names of the side packets that are taken: by each node, and then as outputs of the graph.
 pub(crate) fn taken_texts<'a>(
     alloc: Global,
     graph: &'a GraphConfig,

@@ -5,8 +5,8 @@ ghost use Rattle.mg_check.specs.Code.Groups.{kept};
 use std::alloc::{AllocError, Global};
 use std::collections::BTreeMap;
 
-/// The places at which each name stands, in the order in which they were added. A look-up takes as long as one in a
-/// tree of the names.
+/// A table of names, with the places that were added for each name, in the order in which they were added. A look-up
+/// takes as long as one in a tree of the names.
 #[derive(Debug, Drop)]
 pub struct Groups {
     places: BTreeMap<Vec<u8>, Vec<u32>>,
@@ -20,7 +20,7 @@ fn push_place(places: &mut Vec<u32>, place: u32) -> Result<(), AllocError>
 }
 
 impl Groups {
-    /// No names.
+    /// Returns a table without names.
     pub fn new(alloc: Global) -> Groups
         ensures { (name : List ℕ) → kept result name ≡ [] }
     {
@@ -29,7 +29,7 @@ impl Groups {
         }
     }
 
-    /// The places of a name.
+    /// Returns the places of a name, of which there are none where none was added.
     pub fn get(&self, name: &[u8]) -> &[u32]
         ensures { result.now ≡ kept self.now name.now }
     {
@@ -39,7 +39,7 @@ impl Groups {
         }
     }
 
-    /// Adds a place of a name.
+    /// Adds a place of a name, behind those that it has.
     pub fn add(&mut self, alloc: Global, name: &[u8], place: u32) -> Result<(), AllocError>
         ensures { OnOk result ((other : List ℕ) → kept self.new other ≡ (if bytes_eq other name.now then kept self.old other ++ place ∷ [] else kept self.old other)) }
     {

@@ -19,7 +19,7 @@ pub(crate) struct Joint<'a> {
     pub(crate) sides: Names<'a>,
 }
 
-/// The names of a graph, unless two give the same.
+/// Returns the names of a graph's streams and side packets, or refuses a stream, or else a side packet, that has two producers.
 pub(crate) fn joint_of<'a>(
     alloc: Global,
     graph: &'a GraphConfig,
@@ -73,7 +73,7 @@ fn check_sides(
     }
 }
 
-/// Looks for a name that nobody gives, where no two give the same.
+/// Refuses a graph where a stream that is read, or else a side packet that is taken, has no producer.
 pub(crate) fn check_names(
     alloc: Global,
     graph: &GraphConfig,

@@ -1,4 +1,4 @@
-//! What a graph is refused for once it is wired.
+//! The checks of a graph that is wired: kinds, back edges, cycles and counts.
 ghost use Rattle.std.specs.Prelude.{◌≡◌, ◌≢◌, ◌≤◌, None, Some, IfErr, IfSome, OnOk, All, ◌<◌, length, position};
 ghost use Rattle.mg_config.specs.Config.{graph_view};
 ghost use Rattle.mg_check.specs.DraftView.{drafts_view};
@@ -83,7 +83,7 @@ fn check_counts(edges: usize, outputs: u32) -> Result<(), CheckFault>
     Ok(())
 }
 
-/// Looks for what the wiring of a graph is refused for.
+/// Refuses a graph, by its wiring, for kinds that clash, a misplaced back edge, a cycle, or too many edges or outputs, in this order.
 pub(crate) fn check_wiring(
     alloc: Global,
     graph: &GraphConfig,

@@ -8,9 +8,9 @@ ghost use Rattle.mg_check.specs.Joining.{links, order, cycle, cycle_of};
 ghost use Rattle.mg_check.specs.Order.{left_out};
 ghost use Rattle.mg_check.specs.declared.fault.CheckFault.TheVariants.{Cycle};
 
-/// A graph has a cycle exactly where some nodes each read, by an edge that isn't back, what one of them writes, and a
-/// refused cycle names the largest set of such nodes, in the order of their numbers (MediaPipe, Graphs: a graph is
-/// acyclic but for its back edges).
+/// A graph has a cycle exactly where there are some nodes each of which reads, by an edge that isn't back, what one of
+/// them writes. A refused cycle names the largest set of such nodes, in the order of their numbers (MediaPipe, Graphs:
+/// a graph is acyclic but for its back edges).
 pub fn a_cycle_is_the_largest_set()
     ensures named { (graph : GraphView) (ds : List DraftView) (ns : List ℕ) → cycle graph ds ≡ Some (Cycle ns) → IsLargestCycle (links graph ds) ns }
     ensures none { (graph : GraphView) (ds : List DraftView) → cycle graph ds ≡ None → (ns : List ℕ) → FeedsItself (links graph ds) ns → ns ≡ [] }

@@ -1,5 +1,5 @@
-//! Validation of a configuration: its plan, by which it can be run, or its first refusal. `check` answers to `check_of`
-//! of `specs/Check.antt`; the plan is valid by `IsValidWithFree` of mg_calc.
+//! Validation of an expanded configuration. `check` returns its plan, by which it can be run, or its first refusal:
+//! `check_of` of `specs/Check.antt`. The plan is valid by `IsValidWithFree` of mg_calc.
 #![tactic(auto)]
 
 mod checking;

@@ -1,4 +1,4 @@
-//! Who writes streams, and which nodes read what others write.
+//! The producers of streams, and the links between nodes that write streams and nodes that read them.
 ghost use Rattle.std.specs.Prelude.{◌≡◌, ◌<◌, ◌^◌, ◌++◌, IfOk, OnOk, length, map, filter_map};
 ghost use Rattle.mg_config.specs.Config.{graph_view};
 ghost use Rattle.mg_calc.specs.Plan.{numbers};
@@ -31,7 +31,7 @@ fn add_outputs(out: &mut Vec<Producer>, node: u32, count: u32) -> Result<(), All
     Ok(())
 }
 
-/// Who writes each stream.
+/// Returns the producer of each stream: a graph input, or an output of a node.
 pub(crate) fn writers_of(
     alloc: Global,
     graph: &GraphConfig,
@@ -65,7 +65,7 @@ fn link_of(writers: &[Producer], edge: &Edge) -> Option<Link>
     }
 }
 
-/// Which nodes read what others write.
+/// Returns the links of nodes: one for each edge that isn't back and whose stream a node writes.
 pub(crate) fn links_of(
     alloc: Global,
     writers: &[Producer],
@@ -82,7 +82,7 @@ pub(crate) fn links_of(
     Ok(links)
 }
 
-/// The nodes without inputs.
+/// Returns the numbers of the nodes without inputs, ascending.
 pub(crate) fn sources_of(alloc: Global, drafts: &[Draft]) -> Result<Vec<u32>, AllocError>
     requires { length drafts.now < 2 ^ 32 }
     ensures { IfOk result (λ sources. sources.items ≡ sources_from 0 (drafts_view drafts.now)) }

@@ -1,18 +1,18 @@
-//! Marks of numbers.
+//! Lists of marks, which tell for each number below a count whether it is among some numbers.
 
 ghost use Rattle.std.specs.Prelude.{◌≡◌, ◌<◌, false, All, IfOk, replicate};
 ghost use Rattle.mg_check.specs.Code.Taking.{HasMarks};
 
 use std::alloc::{AllocError, Global};
 
-// So many places without a mark.
+// Returns `count` places without a mark.
 fn no_marks(alloc: Global, count: usize) -> Result<Vec<bool>, AllocError>
     ensures { IfOk result (λ v. v.items ≡ replicate count false) }
 {
     vec![in alloc; false; count]
 }
 
-/// So many places, of which those are marked that are among the numbers.
+/// Returns `count` places, of which exactly those at the numbers are marked.
 pub(crate) fn marks_of(alloc: Global, count: u32, numbers: &[u32]) -> Result<Vec<bool>, AllocError>
     requires { All (λ n. n < count) numbers.now }
     ensures { IfOk result (λ v. HasMarks count numbers.now v.items) }

@@ -33,7 +33,7 @@ fn add_kinds(out: &mut Vec<Kind>, ports: &[PortKind]) -> Result<(), AllocError>
     Ok(())
 }
 
-/// The kinds of the ports that write streams.
+/// Returns the kind of the port that writes each stream, which is `Any` for a graph input.
 fn written_kinds(
     alloc: Global,
     graph: &GraphConfig,
@@ -49,7 +49,7 @@ fn written_kinds(
     Ok(kinds)
 }
 
-/// The kinds of the ports that read streams.
+/// Returns the kind of the port that each edge leads to, which is `Any` for a graph output.
 fn read_kinds(alloc: Global, graph: &GraphConfig, drafts: &[Draft]) -> Result<Vec<Kind>, AllocError>
     ensures { IfOk result (λ kinds. kinds.items ≡ joining.read_kinds (graph_view graph.now) (drafts_view drafts.now)) }
 {
@@ -131,7 +131,7 @@ fn meet_all(mets: &mut Vec<Met>, edges: &[Edge], kinds: &[Kind])
     }
 }
 
-/// What meets at each stream, by the edges of the graph.
+/// Returns for each stream its kind, and whether two kinds clash there, by the edges of the graph.
 pub(crate) fn meetings_of(
     alloc: Global,
     graph: &GraphConfig,
@@ -148,7 +148,7 @@ pub(crate) fn meetings_of(
     Ok(mets)
 }
 
-/// The first stream at which two kinds clash.
+/// Returns the number of the first stream at which two kinds clash, or none where there is no such stream.
 pub(crate) fn clash_in(mets: &[Met]) -> Option<usize>
     ensures { result ≡ position (λ met. met.clash) mets.now }
 {

@@ -1,6 +1,6 @@
 use mg_value::Kind;
 
-/// The kind of a stream, by the ports that were gone through, and whether two kinds other than `Any` met there.
+/// What is known of a stream by some of its ports: its kind so far, and whether two different kinds other than `Any` met there.
 #[derive(Clone, Copy, Debug, PartialEq, Eq)]
 pub(crate) struct Met {
     pub(crate) kind: Kind,

@@ -12,7 +12,7 @@ use std::alloc::{AllocError, Global};
 use std::borrow::CowStr;
 use std::marker::Model;
 
-/// A list of names has fewer than 2^32: there is no memory for more.
+/// The most names that a list may have: fewer than 2^32, for which there is no memory.
 const MOST_NAMES: usize = (1 << 32) - 1;
 
 /// Names in order, of which no two are the same. Contracts see them as the list of the texts.
@@ -33,7 +33,7 @@ impl<'a> Model for Names<'a> {
     ghost invariant = { λ n. (length (kept_names n.table) < 2 ^ 32) × IsTable is_text n.table (kept_names n.table) };
 }
 
-// The table of texts, each of which is a name.
+// Returns the table of texts, each of which counts as a name, also the empty one.
 fn table_of<'a>(alloc: Global, texts: &[&'a str]) -> Result<NameTable<'a>, AllocError>
     ensures { IfOk result (λ table. IsTable is_text table (names_of texts.now)) }
 {
@@ -45,7 +45,7 @@ fn table_of<'a>(alloc: Global, texts: &[&'a str]) -> Result<NameTable<'a>, Alloc
 }
 
 impl<'a> Names<'a> {
-    /// The names that texts are, unless one stands again later: two give what it names.
+    /// Returns texts as names, or refuses the first that stands again later: it has two producers.
     pub(crate) fn of(alloc: Global, texts: &[&'a str]) -> Result<Names<'a>, CheckFault>
         ensures ok { IfOk result (λ names. names ≡ names_of texts.now) }
         ensures once { OnOk result (first_again (names_of texts.now) ≡ None) }
@@ -65,21 +65,21 @@ impl<'a> Names<'a> {
         }
     }
 
-    /// How many there are.
+    /// Returns how many names there are.
     pub(crate) fn len(&self) -> u32
         ensures { result ≡ length self.now }
     {
         self.table.len() as u32
     }
 
-    /// The name at a place.
+    /// Returns the name at a place, or none past the last.
     pub(crate) fn get(&self, place: u32) -> Option<&str>
         ensures { option_map (λ name. name.now) result ≡ slice_get self.now place }
     {
         self.table.name(place as usize)
     }
 
-    /// Whether a name is among them.
+    /// Whether a name is in the list.
     #[tactic(auto, using(crate::proofs::Placed::has_among))]
     pub(crate) fn has(&self, name: &str) -> bool
         ensures { result ≡ is_name_among self.now name.now }
@@ -87,7 +87,7 @@ impl<'a> Names<'a> {
         self.table.get(name).is_some()
     }
 
-    /// The number of a name that is among them.
+    /// Returns the number of a name, which is its place in the list, or 0 where it isn't there.
     #[tactic(auto, using(crate::proofs::Placed::place_within, crate::proofs::Placed::number_found, crate::proofs::Placed::number_missing))]
     pub(crate) fn number(&self, name: &str) -> u32
         ensures { result ≡ number_in self.now name.now }
@@ -99,7 +99,7 @@ impl<'a> Names<'a> {
     }
 }
 
-/// The first of texts that is no name of a list.
+/// Returns the first text that isn't among the names, or none where all are.
 pub(crate) fn missing_in<'a>(names: &Names, texts: &[&'a str]) -> Option<&'a str>
     ensures { option_map (λ name. name.now) result ≡ first_missing names.now (names_of texts.now) }
 {
@@ -111,7 +111,7 @@ pub(crate) fn missing_in<'a>(names: &Names, texts: &[&'a str]) -> Option<&'a str
     None
 }
 
-/// The numbers of names.
+/// Returns the number of each text among the names.
 pub(crate) fn numbers_of(
     alloc: Global,
     names: &Names,

@@ -23,11 +23,11 @@ use std::alloc::{AllocError, Global};
 /// What is wrong with a node by itself.
 #[derive(Clone, Copy, Debug, PartialEq, Eq)]
 pub enum Wrong {
-    /// Its streams or side packets don't fit its calculator.
+    /// The node's streams or side packets don't fit its calculator.
     Ports,
-    /// Its options aren't those of its calculator.
+    /// The node's options aren't those of its calculator.
     Options,
-    /// It asks for an input policy that it can't have.
+    /// The node asks for an input policy that it can't have.
     Policy,
 }
 
@@ -156,7 +156,7 @@ fn drafted<'a>(
     }))
 }
 
-/// The draft of a node, or what is wrong with it.
+/// Returns the draft of a node, or what is wrong with it; the outer error is want of memory.
 pub fn judged<'a>(
     alloc: Global,
     outers: &[OuterShape],

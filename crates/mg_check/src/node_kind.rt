@@ -1,6 +1,6 @@
 use mg_kinds::CalculatorKind;
 
-/// Who does the work of a node.
+/// The calculator that works at a node.
 #[derive(Clone, Copy, Debug, PartialEq, Eq)]
 pub enum NodeKind {
     /// A calculator that is built in.

@@ -10,7 +10,7 @@ use mg_calc::{PlanNode, PlanNodeList};
 use mg_value::{BlockList, NumberList};
 use std::alloc::{AllocError, Global};
 
-/// The numbers at the ports of a node.
+/// The numbers of the streams and side packets at the ports of a node.
 #[derive(Drop)]
 struct Numbers {
     inputs: NumberList,
@@ -67,7 +67,7 @@ fn node_of(
     Ok(node_with(draft, numbers))
 }
 
-/// The nodes of a plan, whose outputs are the streams from a number on.
+/// Returns the nodes of a plan. Their outputs, in order, are the streams from the number `first` on.
 pub(crate) fn nodes_of(
     alloc: Global,
     streams: &Names,

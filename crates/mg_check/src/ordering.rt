@@ -1,4 +1,4 @@
-//! The topological order: `order_of` and `left_out` answer to `specs/Order.antt`.
+//! The topological order of nodes, after `order_of` and `left_out` of `specs/Order.antt`.
 
 ghost use Rattle.std.specs.Prelude.{◌≡◌, ◌<◌, All, IfOk};
 ghost use Rattle.mg_check.specs.Order as orders;
@@ -9,7 +9,7 @@ use crate::taking::taken_first;
 use crate::waiting::release;
 use std::alloc::{AllocError, Global};
 
-/// A node reads what another writes.
+/// Two nodes, of which one reads, by an edge that isn't back, what the other writes.
 #[derive(Clone, Copy, Debug, PartialEq, Eq)]
 pub struct Link {
     /// The number of the node that writes.
@@ -18,8 +18,8 @@ pub struct Link {
     pub to: u32,
 }
 
-/// The order of so many nodes, of which the sources have no inputs. The nodes that wait for none come from a tree, the
-/// least first, and each link is looked at once.
+/// Returns the order of `count` nodes, of which the sources have no inputs. Each next node is the least of a tree of
+/// those that wait for none, and each link is looked at once.
 pub(crate) fn order_of(
     alloc: Global,
     count: u32,
@@ -44,7 +44,7 @@ pub(crate) fn order_of(
     Ok(taking.order)
 }
 
-/// The nodes that an order leaves out.
+/// Returns the nodes, of `count`, that an order leaves out, in the order of their numbers.
 pub(crate) fn left_out(alloc: Global, count: u32, order: &[u32]) -> Result<Vec<u32>, AllocError>
     requires { All (λ n. n < count) order.now }
     ensures { IfOk result (λ out. out.items ≡ orders.left_out count order.now) }

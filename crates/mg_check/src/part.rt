@@ -1,12 +1,12 @@
-/// Names of a draft.
+/// A list of names in a draft: those of one kind of ports of the node.
 #[derive(Clone, Copy, Debug, PartialEq, Eq)]
 pub(crate) enum Part {
-    /// The streams that it reads.
+    /// The streams that the node reads.
     Inputs,
-    /// The streams that it writes.
+    /// The streams that the node writes.
     Outputs,
-    /// The side packets that it takes.
+    /// The side packets that the node takes.
     Sides,
-    /// The side packets that it writes.
+    /// The side packets that the node writes.
     SideOutputs,
 }

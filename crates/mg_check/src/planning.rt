@@ -42,7 +42,7 @@ fn workers_of(threads: i32) -> u32
     }
 }
 
-/// What of a plan is made before its nodes.
+/// The parts of a plan that are made before its nodes: streams, side packets, and the numbers of the graph's inputs and outputs.
 #[derive(Drop)]
 struct Shown {
     streams: PlanStreamList,
@@ -86,7 +86,7 @@ fn shown_of(
     })
 }
 
-/// How nodes are joined.
+/// How the nodes of a graph are joined: the names of its streams and side packets, and how the streams are wired.
 #[derive(Drop)]
 struct Joined<'a> {
     joint: Joint<'a>,
@@ -145,7 +145,7 @@ fn plan_of(
     })
 }
 
-/// The plan of a graph whose nodes have these drafts, or what joining them is refused for.
+/// Returns the plan of a graph whose nodes have these drafts, or the first refusal of how they are joined.
 pub(crate) fn plan_with<'a>(
     alloc: Global,
     graph: &'a GraphConfig,

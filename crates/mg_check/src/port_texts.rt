@@ -48,7 +48,7 @@ fn texts_at<'a>(
     Ok(texts)
 }
 
-/// The names at the ports of a node whose calculator has these ports.
+/// Returns the names at the ports of a node whose calculator has these ports.
 pub fn port_texts<'a>(
     alloc: Global,
     node: &'a NodeConfig,

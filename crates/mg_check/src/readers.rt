@@ -23,7 +23,7 @@ impl Model for Readers {
 }
 
 impl Readers {
-    // No readers.
+    // Returns no readers.
     fn new(alloc: Global) -> Readers
         ensures { result ≡ [] }
     {
@@ -32,7 +32,7 @@ impl Readers {
         }
     }
 
-    // One more.
+    // Adds a reader.
     fn add(&mut self, node: u32) -> Result<(), AllocError>
         ensures { OnOk result (self.new ≡ self.old ++ node ∷ []) }
     {
@@ -40,7 +40,7 @@ impl Readers {
         Ok(())
     }
 
-    /// All of them.
+    /// Returns the numbers of the readers.
     pub(crate) fn as_slice(&self) -> &[u32]
         ensures { result.now ≡ self.now }
     {
@@ -48,7 +48,7 @@ impl Readers {
     }
 }
 
-// So many nodes without readers.
+// Returns `count` nodes without readers.
 fn no_readers(alloc: Global, count: u32) -> Result<Vec<Readers>, AllocError>
     ensures { IfOk result (λ v. v.items ≡ replicate count []) }
 {
@@ -59,7 +59,7 @@ fn no_readers(alloc: Global, count: u32) -> Result<Vec<Readers>, AllocError>
     Ok(rows)
 }
 
-/// For each of so many nodes its readers.
+/// Returns for each of `count` nodes its readers.
 pub(crate) fn readers_of(
     alloc: Global,
     count: u32,

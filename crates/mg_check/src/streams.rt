@@ -39,7 +39,7 @@ fn stream_at(
     }))
 }
 
-/// The streams of a plan.
+/// Returns the streams of a plan, made of their names, their kinds and their producers.
 #[tactic(auto, using(crate::proofs::Shown::one_stream_more, crate::proofs::Shown::streams_ended, crate::proofs::Shown::streams_all))]
 pub(crate) fn streams_of(
     alloc: Global,

@@ -1,4 +1,4 @@
-//! The nodes that are taken one after the other.
+//! The making of the topological order, into which nodes are taken one after the other.
 
 ghost use Rattle.std.specs.Prelude.{◌≡◌, ◌<◌, All, IfOk};
 ghost use Rattle.mg_check.specs.Order.{IsBetween};
@@ -10,12 +10,12 @@ use crate::waiting::{ready_of, waiting_of};
 use std::alloc::{AllocError, Global};
 use std::collections::BTreeSet;
 
-/// The nodes that are taken so far, and what that leaves.
+/// The topological order so far, and what the nodes that aren't taken into it wait for.
 #[derive(Drop)]
 pub(crate) struct Taking {
     /// The nodes that are taken, in order.
     pub(crate) order: Vec<u32>,
-    /// Which nodes these are.
+    /// For each node whether it is taken.
     pub(crate) taken: Vec<bool>,
     /// For each node, how many links it waits for.
     pub(crate) waiting: Vec<usize>,
@@ -23,7 +23,7 @@ pub(crate) struct Taking {
     pub(crate) ready: BTreeSet<u32>,
 }
 
-/// What is left where the sources alone are taken.
+/// Returns the order that has the sources alone, and what the other nodes wait for.
 pub(crate) fn taken_first(
     alloc: Global,
     count: u32,

@@ -1,4 +1,4 @@
-//! How many links nodes wait for.
+//! How many links each node waits for while the topological order is made: those from nodes that aren't taken.
 
 ghost use Rattle.std.specs.Prelude.{◌≡◌, ◌≤◌, ◌+◌, ◌-◌, ◌==◌, ◌<◌, ◌&&◌, ◌||◌, ℕ, All, IfOk, OnOk, count_by, length, replicate, slice_index, slice_set, if◌then◌else◌};
 ghost use Rattle.std.specs.BTreeSet.{contains};
@@ -10,21 +10,21 @@ use crate::ordering::Link;
 use std::alloc::{AllocError, Global};
 use std::collections::BTreeSet;
 
-// So many zeros.
+// Returns `count` zeros.
 fn zeros(alloc: Global, count: usize) -> Result<Vec<usize>, AllocError>
     ensures { IfOk result (λ v. v.items ≡ replicate count 0) }
 {
     vec![in alloc; 0; count]
 }
 
-// How many links are waited for where one comes from a node that is taken, or isn't.
+// Returns 0 for a link that comes from a node that is taken, and otherwise 1.
 fn waited_for(taken: bool) -> usize
     ensures { result ≡ (if taken then 0 else 1) }
 {
     usize::from(!taken)
 }
 
-/// For each of so many nodes, how many links it waits for.
+/// Returns for each of `count` nodes how many links it waits for.
 pub(crate) fn waiting_of(
     alloc: Global,
     count: u32,
@@ -59,7 +59,7 @@ fn add_free(
     Ok(())
 }
 
-/// Those of so many nodes that aren't taken and wait for none.
+/// Returns the nodes, of `count`, that aren't taken and wait for none.
 pub(crate) fn ready_of(
     alloc: Global,
     count: u32,
@@ -77,7 +77,7 @@ pub(crate) fn ready_of(
     Ok(ready)
 }
 
-// A node waits for one link less.
+// Counts one link less that a node waits for, and puts the node into the set if it waits for no other.
 fn release_one(
     node: u32,
     taken: &[bool],
@@ -95,7 +95,7 @@ fn release_one(
     add_free(node, taken, waiting, ready)
 }
 
-/// The readers of a node that is taken wait for one link less each.
+/// Counts one link less for each reader of a node that was taken, and puts those into the set that wait for no other.
 pub(crate) fn release(
     readers: &[u32],
     taken: &[bool],

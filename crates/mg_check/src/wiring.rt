@@ -26,7 +26,7 @@ pub(crate) struct Wiring {
     pub(crate) order: Vec<u32>,
 }
 
-// The order of the nodes, by the edges into them.
+// Returns the order of the nodes, by the edges into them.
 fn ordered(
     alloc: Global,
     graph: &GraphConfig,
@@ -49,7 +49,7 @@ fn ordered(
     )
 }
 
-/// Wires the nodes of a graph by the names of its streams.
+/// Returns how the nodes of a graph are wired, by the names of its streams.
 pub(crate) fn wire(
     alloc: Global,
     graph: &GraphConfig,

@@ -1,5 +1,5 @@
 //! The program `mg`: hands the words, the files and the standard streams to the top call, and exits with its status.
-//! All that it does is `mg_run::run_words`, whose contract says what that is.
+//! What the program does is what the contract of `mg_run::run_words` says.
 #![tactic(auto)]
 
 use mg_batch::{BatchBox, begin_loop_box, end_loop_box};
@@ -14,13 +14,16 @@ use std::process::ExitCode;
 use std::sync::Wait;
 use std::thread::Threads;
 
-/// How many boxes of each kind are handed in.
+/// How many TallyCalculator boxes are handed in.
 const TALLIES: usize = 4;
 
+/// How many BeginLoopCalculator boxes are handed in.
 const BEGIN_LOOPS: usize = 4;
 
+/// How many BeginLoopCloneCalculator boxes are handed in.
 const BEGIN_CLONE_LOOPS: usize = 2;
 
+/// How many EndLoopCalculator boxes are handed in.
 const END_LOOPS: usize = 6;
 
 fn main(rt: HostRuntime) -> ExitCode {
@@ -31,7 +34,7 @@ fn main(rt: HostRuntime) -> ExitCode {
     ExitCode::from(status.number())
 }
 
-// The status of the call. Its threads are had of the runtime that `main` alone has whole.
+// Makes the call, and returns its status. Its threads come from the runtime that `main` alone has whole.
 fn status_of<R: Threads + Wait + Sync>(
     threads: &R,
     rt: &HostRuntime,
@@ -40,7 +43,7 @@ fn status_of<R: Threads + Wait + Sync>(
     call(threads, rt, words.as_slice())
 }
 
-// The words after the program's name. Where one isn't UTF-8 there are none, which is no command either.
+// Returns the words after the program's name: none where one of them isn't UTF-8, so that they are no command.
 fn words(rt: &HostRuntime) -> Result<Vec<MgText>, AllocError> {
     let alloc = rt.alloc();
     let mut words = Vec::new(alloc);
@@ -56,7 +59,7 @@ fn words(rt: &HostRuntime) -> Result<Vec<MgText>, AllocError> {
     }
 }
 
-// The box of this number among those of loops over lists.
+// Returns the box of a number among those of loops over lists: those for the begin come before those for the end.
 fn loop_box(alloc: Global, number: usize) -> Result<BatchBox, AllocError> {
     if number < BEGIN_LOOPS + BEGIN_CLONE_LOOPS {
         begin_loop_box(alloc, number >= BEGIN_LOOPS, false)
@@ -65,7 +68,7 @@ fn loop_box(alloc: Global, number: usize) -> Result<BatchBox, AllocError> {
     }
 }
 
-// The top call over the files below the current folder and the standard streams, with boxes of its own.
+// Makes the top call over the files below the current folder, the standard streams and boxes of its own.
 fn call<R: Threads + Wait + Sync>(
     threads: &R,
     rt: &HostRuntime,

@@ -21,7 +21,7 @@ use Rattle.mg_config.specs.declared.graph.GraphConfig.{GraphConfig}
 use Rattle.mg_config.specs.declared.fault.ConfigFault.{ConfigFault}
 use Rattle.mg_config.specs.declared.fault.ConfigFault.TheVariants.{BadPort, OutOfMemory}
 
--- a node, whose options are fields
+-- a node of a configuration, with its options as fields
 pub record NodeView : Type 0 where
   pub name : List ℕ
   pub calculator : List ℕ
@@ -35,6 +35,7 @@ pub record NodeView : Type 0 where
   pub max_in_flight : ℤ
   pub buffer_size_hint : ℤ
 
+-- a configuration, with its nodes as `NodeView`s
 pub record GraphView : Type 0 where
   pub type_name : List ℕ
   pub nodes : List NodeView
@@ -45,7 +46,7 @@ pub record GraphView : Type 0 where
   pub max_queue_size : ℤ
   pub num_threads : ℤ
 
--- what a configuration stands for
+-- what a node of a configuration stands for
 abbrev pub node_view : NodeConfig → NodeView
 node_view node = record {
   name = node.name;
@@ -61,6 +62,7 @@ node_view node = record {
   buffer_size_hint = node.buffer_size_hint;
 }
 
+-- what a configuration stands for
 abbrev pub graph_view : GraphConfig → GraphView
 graph_view graph = record {
   type_name = graph.type_name;
@@ -73,8 +75,8 @@ graph_view graph = record {
   num_threads = graph.num_threads;
 }
 
--- A refusal of one of the texts of a starred field has the path of that text; a tag and index that stand twice, and a
--- gap, have the path of the list.
+-- The fault of ports that the fields of a name spell. The refusal of one text has the path of that field; a tag and
+-- index that stand twice, and a gap, have the path of the list.
 abbrev pub port_fault : List ℕ → PlacedFault → ConfigFault
 port_fault name (At place cause) = BadPort (numbered name place) cause
 port_fault name (Whole cause) = BadPort name cause
@@ -84,11 +86,11 @@ abbrev pub ports_by : List ℕ → Result (List Port) PlacedFault → Result (Li
 ports_by name (Ok ports) = Ok ports
 ports_by name (Err fault) = Err (port_fault name fault)
 
--- the ports of the starred field of a name
+-- the ports that the fields of a name spell
 abbrev pub ports_in : List ℕ → List Entry → Result (List Port) ConfigFault
 ports_in name fields = ports_by name (placed_ports_of (texts_in name fields))
 
--- the ports that come in and then those that go out
+-- the ports that the fields of two names spell: those that come in, and then those that go out
 abbrev pub pair_in : List ℕ → List ℕ → List Entry → Result PortPair ConfigFault
 pair_in input output fields =
     then_do (ports_in input fields) (λ inputs. then_do (ports_in output fields) (λ outputs. Ok (record { inputs = inputs; outputs = outputs })))
@@ -103,34 +105,35 @@ abbrev pub mark_by : Result (List ℕ × ℕ) NameFault → Result Mark ConfigFa
 mark_by (Ok read) = Ok (record { tag = read.0; index = read.1 })
 mark_by (Err cause) = Err (BadPort (codes "tag_index") cause)
 
--- the input that a message tells of
+-- the input that an `input_stream_info` names
 abbrev pub mark_in : List Entry → Result Mark ConfigFault
 mark_in fields = mark_by (tag_index_of (text_in (codes "tag_index") fields))
 
--- an input is kept where it is a back edge
+-- back edges with an input before them, where that is a back edge too
 abbrev pub kept : Bool → Mark → List Mark → List Mark
 kept true mark marks = mark ∷ marks
 kept false mark marks = marks
 
--- the back edges that messages tell of, counted from k on; each message is judged
+-- the back edges that `input_stream_info` messages tell of, or the first fault; they are counted from k on, and each is judged
 abbrev pub marks_from : ℕ → List Fields → Result (List Mark) ConfigFault
 marks_from k [] = Ok []
 marks_from k (fields ∷ more) =
     then_do (result_within (numbered (codes "input_stream_info") k) (mark_in (entries fields)))
     (λ mark. then_do (marks_from (suc k) more) (λ marks. Ok (kept (truth_in (codes "back_edge") (entries fields)) mark marks)))
 
--- `options` and `node_options` are one list of fields, in the order of the text
+-- whether a field has options: it is `options` or `node_options`
 abbrev pub is_option : Entry → Bool
 is_option field = bytes_eq field.name (codes "options") || bytes_eq field.name (codes "node_options")
 
+-- the fields of all options of a node, in the order of the text
 abbrev pub options_in : List Entry → Fields
 options_in fields = joined (map (λ field. fields_of_value field.value) (filter is_option fields))
 
--- the handler's name
+-- the name of the input stream handler, which is empty where none is given
 abbrev pub handler_in : List Entry → List ℕ
 handler_in fields = text_in (codes "input_stream_handler") (entries (message_in (codes "input_stream_handler") fields))
 
--- a node of the ports and back edges that its fields tell of
+-- the node of fields that tell of these ports and back edges
 abbrev pub node_with : List Entry → PortPair → PortPair → List Mark → NodeView
 node_with fields streams sides back_marks = record {
   name = text_in (codes "name") fields;
@@ -146,20 +149,20 @@ node_with fields streams sides back_marks = record {
   buffer_size_hint = number_in (codes "buffer_size_hint") fields;
 }
 
--- a node whose fields have no fault: its ports and back edges, in the order in which they are written
+-- the node of fields in which no fault was found, or the first fault of its ports and back edges, in the order in which they are written
 abbrev pub node_of : List Entry → Result NodeView ConfigFault
 node_of fields =
     then_do (streams_in fields) (λ streams. then_do (sides_in fields) (λ sides.
     then_do (marks_from 0 (messages_in (codes "input_stream_info") fields)) (λ back_marks. Ok (node_with fields streams sides back_marks))))
 
--- the nodes, counted from k on
+-- the nodes of messages, or the first fault; they are counted from k on
 abbrev pub nodes_from : ℕ → List Fields → Result (List NodeView) ConfigFault
 nodes_from k [] = Ok []
 nodes_from k (fields ∷ more) =
     then_do (result_within (numbered (codes "node") k) (node_of (entries fields)))
     (λ node. then_do (nodes_from (suc k) more) (λ nodes. Ok (node ∷ nodes)))
 
--- a graph of the ports and nodes that its fields tell of
+-- the graph of fields that tell of these ports and nodes
 abbrev pub graph_with : List Entry → PortPair → PortPair → List NodeView → GraphView
 graph_with fields streams sides nodes = record {
   type_name = text_in (codes "type") fields;
@@ -172,17 +175,19 @@ graph_with fields streams sides nodes = record {
   num_threads = number_in (codes "num_threads") fields;
 }
 
--- a graph whose fields have no fault: its own ports first, then its nodes
+-- the graph of fields in which no fault was found, or the first fault: of its own ports, and then of its nodes
 abbrev pub graph_of : List Entry → Result GraphView ConfigFault
 graph_of fields =
     then_do (streams_in fields) (λ streams. then_do (sides_in fields) (λ sides.
     then_do (nodes_from 0 (messages_in (codes "node") fields)) (λ nodes. Ok (graph_with fields streams sides nodes))))
 
+-- the fault, if there is one, or else the result
 abbrev pub unless : {A : Type 0} → Option ConfigFault → Result A ConfigFault → Result A ConfigFault
 unless (Some fault) result = Err fault
 unless None result = result
 
--- The faults of fields come first, then absent or empty calculators, then what spells no port.
+-- The configuration of a file's fields, or the first fault: those of fields come first, then absent or empty
+-- calculators, then what spells no port.
 abbrev pub config_of : Fields → Result GraphView ConfigFault
 config_of fields =
     unless (field_fault Graph fields)

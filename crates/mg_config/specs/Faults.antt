@@ -22,7 +22,7 @@ abbrev pub is_message : Value → Bool
 is_message (inner fields) = true
 is_message value = false
 
--- whether a value is of a shape
+-- whether a value has a shape
 abbrev pub has_shape : Shape → Value → Bool
 has_shape Text value = is_text value
 has_shape Number value = is_some (number_in_value value)
@@ -30,7 +30,7 @@ has_shape Truth value = is_some (truth_in_value value)
 has_shape Options value = is_message value
 has_shape (Inside inside) value = is_message value
 
--- the field, or a second one of its name that is not starred
+-- the fault of a field, if it stands a second time and may stand once
 abbrev pub repeated_by : Bool → List ℕ → Option ConfigFault
 repeated_by true name = Some (Repeated name)
 repeated_by false name = None
@@ -39,13 +39,13 @@ abbrev pub shaped_by : Bool → FieldRule → List Entry → List ℕ → Option
 shaped_by true rule before name = repeated_by (not rule.many && list_any (has_name name) before) name
 shaped_by false rule before name = Some (WrongShape (step rule.many name before))
 
--- The fault of a field itself, by the rule of its name and the fields before it: it is unknown, its value is of another
--- shape, or it is a second one that is not starred.
+-- The fault of a field itself, by the rule of its name and the fields before it: it is unknown, its value has another
+-- shape, or it stands a second time and may stand once.
 abbrev pub own_fault : Option FieldRule → List Entry → List ℕ → Value → Option ConfigFault
 own_fault None before name value = Some (UnknownField name)
 own_fault (Some rule) before name value = shaped_by (has_shape rule.shape value) rule before name
 
--- the one fault, or else the other
+-- the first fault, if there is one, or else the other
 abbrev pub or_else : Option ConfigFault → Option ConfigFault → Option ConfigFault
 or_else (Some fault) other = Some fault
 or_else None other = other
@@ -81,7 +81,7 @@ field_fault kind fields = fault_after fields kind []
 abbrev pub calculator_path : ℕ → List ℕ
 calculator_path k = below (numbered (codes "node") k) (codes "calculator")
 
--- the first of the nodes, counted from k on, whose calculator is absent or empty
+-- the fault of the first node whose calculator is absent or empty; the nodes are counted from k on
 abbrev pub calculator_fault : ℕ → List Fields → Option ConfigFault
 calculator_fault k [] = None
 calculator_fault k (fields ∷ more) =

@@ -1,4 +1,5 @@
--- Where a fault is: the names of the fields from the top, joined by `.`, with `[k]` after a starred field's name.
+-- Where a fault is: the names of the fields from the top, joined by `.`, with `[k]` behind the name of a field that may
+-- stand more than once.
 use Rattle.std.specs.Prelude.{ℕ, List, [], ◌∷◌, ◌++◌, Bool, if◌then◌else◌, count_by, Result, Ok, Err}
 use Rattle.std.specs.Fmt.{decimal}
 use Rattle.mg_text.specs.View.{Entry}
@@ -14,15 +15,15 @@ numbered name k = name ++ 91 ∷ decimal k ++ 93 ∷ []
 abbrev pub count_of : List ℕ → List Entry → ℕ
 count_of name fields = count_by (has_name name) fields
 
--- the field of a name that stands after other fields
+-- the part of a path that names a field which stands after others, and may stand more than once or not
 abbrev pub step : Bool → List ℕ → List Entry → List ℕ
 step many name before = if many then numbered name (count_of name before) else name
 
--- a path from further up
+-- a path with a place in front
 abbrev pub below : List ℕ → List ℕ → List ℕ
 below place path = place ++ 46 ∷ path
 
--- a fault of what is inside a field
+-- a fault with a place in front of its path
 abbrev pub within : List ℕ → ConfigFault → ConfigFault
 within place (UnknownField path) = UnknownField (below place path)
 within place (WrongShape path) = WrongShape (below place path)
@@ -34,7 +35,7 @@ abbrev pub result_within : {A : Type 0} → List ℕ → Result A ConfigFault �
 result_within place (Ok value) = Ok value
 result_within place (Err fault) = Err (within place fault)
 
--- what follows a result, unless that is a fault
+-- goes on with the value of a result, or keeps its fault
 abbrev pub then_do : {A B : Type 0} → Result A ConfigFault → (A → Result B ConfigFault) → Result B ConfigFault
 then_do (Ok value) next = next value
 then_do (Err fault) next = Err fault

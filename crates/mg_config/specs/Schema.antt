@@ -7,10 +7,11 @@ use Rattle.mg_config.specs.declared.schema.Shape.{Shape}
 use Rattle.mg_config.specs.declared.schema.Shape.TheVariants.{Text, Number, Truth, Options, Inside}
 use Rattle.mg_config.specs.declared.schema.FieldRule.{FieldRule}
 
--- a field that may stand once, and one that may stand any number of times
+-- the rule of a field that may stand once
 abbrev pub once : Shape → FieldRule
 once shape = record { many = false; shape = shape }
 
+-- the rule of a field that may stand any number of times
 abbrev pub many : Shape → FieldRule
 many shape = record { many = true; shape = shape }
 
@@ -38,11 +39,11 @@ abbrev pub node_rows : List Row
 node_rows = row (codes "name") (once Text) ∷ row (codes "calculator") (once Text) ∷ row (codes "max_in_flight") (once Number)
     ∷ row (codes "buffer_size_hint") (once Number) ∷ node_message_rows
 
--- an input stream's tag and index, and whether it is a back edge
+-- the fields of `input_stream_info`: an input stream's tag and index, and whether it is a back edge
 abbrev pub info_rows : List Row
 info_rows = row (codes "tag_index") (once Text) ∷ row (codes "back_edge") (once Truth) ∷ []
 
--- the name of an input policy
+-- the field of `input_stream_handler`: the name of an input policy
 abbrev pub handler_rows : List Row
 handler_rows = row (codes "input_stream_handler") (once Text) ∷ []
 
@@ -52,7 +53,7 @@ rows_of Node = node_rows
 rows_of Info = info_rows
 rows_of Handler = handler_rows
 
--- the rule of a name, if a row has it
+-- the rule that the first row of a name has, if a row has the name
 abbrev pub rule_in : List Row → List ℕ → Option FieldRule
 rule_in [] name = None
 rule_in (r ∷ rows) name = if bytes_eq name r.name then Some r.rule else rule_in rows name
@@ -60,7 +61,7 @@ rule_in (r ∷ rows) name = if bytes_eq name r.name then Some r.rule else rule_i
 abbrev pub rule_of : Message → List ℕ → Option FieldRule
 rule_of message name = rule_in (rows_of message) name
 
--- where the fields inside a field are judged: whether it is starred, and what they are
+-- where the fields inside a field are judged: whether the field may stand more than once, and what message it is
 abbrev pub judged_as : Bool → Shape → Option (Bool × Message)
 judged_as starred (Inside message) = Some (starred, message)
 judged_as starred shape = None

@@ -1,5 +1,5 @@
--- What every configuration has that was read, and what the text form asks of one: both are kept by whoever makes a
--- configuration of others, and they are what `write` needs for its fields to be read back, and to be printed.
+-- Two properties of configurations. A sound one can be written and read back, as every one that was read can, and the
+-- fields of a printable one can be printed. Whoever makes a configuration of others keeps both.
 use Rattle.std.specs.Prelude.{◌+◌, ◌^◌, ◌<◌, ◌≤◌, ◌≡◌, ◌≢◌, ℤ, pos, negsuc, List, [], map, Ok, All}
 use Rattle.mg_text.specs.Tree.{depth}
 use Rattle.mg_text.specs.Answer.{max_depth}
@@ -10,16 +10,16 @@ use Rattle.mg_names.specs.declared.port.Port.{Port}
 use Rattle.mg_config.specs.Config.{NodeView, GraphView}
 use Rattle.mg_config.specs.declared.mark.Mark.{Mark}
 
--- a number of 32 signed bits
+-- The number fits in 32 signed bits.
 abbrev pub FitsI32 : ℤ → Type 0
 FitsI32 (pos n) = n < 2 ^ 31
 FitsI32 (negsuc n) = n < 2 ^ 31
 
--- ports that their texts spell
+-- The ports are read back from their texts.
 abbrev pub AreReadBack : List Port → Type 0
 AreReadBack ports = ports_of (map text_of ports) ≡ Ok ports
 
--- a back edge whose tag and index can be spelled
+-- The tag and index of a back edge can be spelled.
 abbrev pub IsMark : Mark → Type 0
 IsMark mark = IsTagIndex mark.tag mark.index
 
@@ -33,7 +33,8 @@ pub record IsSoundNode (node : NodeView) : Type 0 where
   pub max_in_flight : FitsI32 node.max_in_flight
   pub buffer_size_hint : FitsI32 node.buffer_size_hint
 
--- Each node has a calculator, its ports and back edges can be spelled, and its numbers fit. So do the graph's own.
+-- Each node has a calculator, its ports and back edges can be spelled, and its numbers fit; the graph's own ports can
+-- be spelled, and its numbers fit.
 pub record IsSound (graph : GraphView) : Type 0 where
   pub nodes : All IsSoundNode graph.nodes
   pub inputs : AreReadBack graph.inputs
@@ -43,7 +44,7 @@ pub record IsSound (graph : GraphView) : Type 0 where
   pub max_queue_size : FitsI32 graph.max_queue_size
   pub num_threads : FitsI32 graph.num_threads
 
--- a node's texts are characters, and its options can be spelled and stand two messages deep
+-- A node's texts are characters, and its options can be spelled and, inside two further messages, nest no deeper than a text may.
 pub record IsPrintableNode (node : NodeView) : Type 0 where
   pub name : AreCharacters node.name
   pub calculator : AreCharacters node.calculator
@@ -51,6 +52,7 @@ pub record IsPrintableNode (node : NodeView) : Type 0 where
   pub options : AreSpelled node.options
   pub shallow : depth node.options + 2 ≤ max_depth
 
+-- The graph's type is characters, and its nodes are printable.
 pub record IsPrintable (graph : GraphView) : Type 0 where
   pub type_name : AreCharacters graph.type_name
   pub nodes : All IsPrintableNode graph.nodes

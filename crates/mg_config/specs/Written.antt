@@ -1,4 +1,4 @@
--- The fields that a configuration is written as, in the order of writing. What has its absent value isn't written.
+-- The fields that a configuration is written as, in the order of writing. Empty texts and options, and numbers that are 0, aren't written.
 use Rattle.std.specs.Prelude.{ℕ, ℤ, pos, negsuc, List, [], ◌∷◌, ◌++◌, ◌==◌, if◌then◌else◌, map, codes}
 use Rattle.std.specs.Str.{bytes_eq}
 use Rattle.std.specs.Fmt.{signed_decimal}
@@ -24,7 +24,7 @@ number_field name (negsuc n) = entry name (simple number (signed_decimal (negsuc
 abbrev pub port_fields : List ℕ → List Port → List Entry
 port_fields name ports = map (λ port. text_entry name (text_of port)) ports
 
--- a back edge: its tag and index, and that it is one
+-- the `input_stream_info` of a back edge: its tag and index, and that it is a back edge
 abbrev pub mark_entry : Mark → Entry
 mark_entry mark = entry (codes "input_stream_info")
     (inner (fields_of (text_entry (codes "tag_index") (text_of_tag_index mark.tag mark.index) ∷ entry (codes "back_edge") (simple word (codes "true")) ∷ [])))
@@ -41,7 +41,7 @@ options_field none = []
 options_field (scalar name kind bytes rest) = entry (codes "options") (inner (scalar name kind bytes rest)) ∷ []
 options_field (message name fields rest) = entry (codes "options") (inner (message name fields rest)) ∷ []
 
--- the four lists of ports that graphs and nodes have
+-- the fields of the four lists of ports that graphs and nodes have
 abbrev pub list_fields : List Port → List Port → List Port → List Port → List Entry
 list_fields inputs outputs input_sides output_sides =
     port_fields (codes "input_stream") inputs ++ (port_fields (codes "output_stream") outputs

@@ -1,4 +1,4 @@
-//! Nodes whose calculator is absent or empty.
+//! The check that each node has a calculator.
 ghost use Rattle.std.specs.Prelude.{◌≡◌, ◌≢◌, [], None, Some, OnOk, IfErr, IfOk, map, codes};
 ghost use Rattle.std.specs.Str.{bytes_eq};
 ghost use Rattle.mg_text.specs.View.{field_view};
@@ -27,7 +27,7 @@ fn calculator_path(alloc: Global, k: usize) -> Result<MgText, AllocError>
     below(alloc, node.as_str(), calculator)
 }
 
-/// Looks for the first node whose calculator is absent or empty.
+/// Refuses the first node whose calculator is absent or empty.
 pub fn check_calculators(alloc: Global, fields: &[Field]) -> Result<(), ConfigFault>
     ensures ok { OnOk result (faults.calculator_fault 0 (messages_in (codes "node") (map field_view fields.now)) ≡ None) }
     ensures err { IfErr result (λ fault. fault ≢ ConfigFault.OutOfMemory → faults.calculator_fault 0 (messages_in (codes "node") (map field_view fields.now)) ≡ Some fault) }

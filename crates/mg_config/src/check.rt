@@ -21,14 +21,14 @@ fn stands_in(fields: &[Field], name: &[u8]) -> bool
     fields.iter().any(|field| has_name(field, name))
 }
 
-/// Whether a field is a second one of its name that may stand once.
+/// Whether a field, by its rule, may stand once and stands among the fields before it already.
 fn is_again(rule: FieldRule, before: &[Field], name: &[u8]) -> bool
     ensures { result ≡ (not rule.many && list_any (λ field. values.has_name name.now (field_view field)) before.now) }
 {
     !rule.many && stands_in(before, name)
 }
 
-/// Looks at a field itself, by the rule of its name and the fields before it.
+/// Checks a field itself, without the fields inside it, by the rule of its name and the fields before it.
 fn check_own(
     alloc: Global,
     rule: Option<FieldRule>,
@@ -56,7 +56,7 @@ fn check_own(
     Ok(())
 }
 
-/// The fault of what is inside a field.
+/// Returns a fault of the fields inside a field with the field in front of its path, or want of memory.
 fn inside(
     alloc: Global,
     many: bool,
@@ -72,7 +72,7 @@ fn inside(
     }
 }
 
-/// What the fields inside a field are, if they are judged, and whether there may be more fields of the name.
+/// Returns, where a rule has the fields inside a field judged, whether the field may stand more than once, and what it is.
 fn judged(rule: Option<FieldRule>) -> Option<(bool, Message)>
     ensures { result ≡ judged_by rule }
 {
@@ -87,7 +87,7 @@ fn judged(rule: Option<FieldRule>) -> Option<(bool, Message)>
     }
 }
 
-/// Looks at the fields of a message in the order of the text, each before the fields inside it.
+/// Checks the fields of a message in the order of the text, each before the fields inside it.
 #[tactic(auto, using(crate::proofs::Checked::all_judged))]
 pub fn check(alloc: Global, kind: Message, fields: &[Field]) -> Result<(), ConfigFault>
     ensures ok { OnOk result (faults.field_fault kind (fields_view fields.now) ≡ None) }

@@ -19,7 +19,7 @@ pub enum ConfigFault {
     /// A field that may stand once stands a second time.
     #[error("{} stands twice", .path.as_str())]
     Repeated { path: MgText },
-    /// A text spells no port, or a list of them no ports.
+    /// A text spells no port, or no tag and index; or a list of texts, each of which spells a port, spells no ports together.
     #[error("{} is refused: {cause}", .path.as_str())]
     BadPort { path: MgText, cause: NameFault },
     /// There was no memory.

@@ -38,7 +38,7 @@ pub struct GraphConfig {
     pub input_sides: PortMap,
     /// The side packets that go out.
     pub output_sides: PortMap,
-    /// How many packets a queue holds before its feeder is throttled; below 0 there is no limit.
+    /// How many packets a queue holds before its feeder is throttled; below 0 there is no limit, and for 0 a plan takes 100.
     pub max_queue_size: i32,
     /// How many workers run the graph.
     pub num_threads: i32,
@@ -66,7 +66,8 @@ fn graph_with(
     })
 }
 
-/// The graph of fields that have no fault of their own.
+/// Returns the graph of fields in which `check` and `check_calculators` found no fault, or the fault of the first text
+/// or list that spells no port.
 fn graph_of(alloc: Global, fields: &[Field]) -> Result<GraphConfig, ConfigFault>
     ensures ok { IfOk result (λ graph. config.graph_of (map field_view fields.now) ≡ Ok (config.graph_view graph)) }
     ensures err { IfErr result (λ fault. fault ≢ ConfigFault.OutOfMemory → config.graph_of (map field_view fields.now) ≡ Err fault) }
@@ -86,9 +87,10 @@ fn read_fields(alloc: Global, fields: &[Field]) -> Result<GraphConfig, ConfigFau
     graph_of(alloc, fields)
 }
 
-/// The configuration of a file's fields (MediaPipe, calculator.proto: CalculatorGraphConfig). Faults of fields come
-/// first, in the order of the text; then nodes whose calculator is absent or empty; then what spells no port, first
-/// among the graph's lists and then among each node's, in the order in which `write` writes them.
+/// Returns the configuration of a file's fields, or its first fault (MediaPipe, calculator.proto:
+/// CalculatorGraphConfig). Faults of fields come first, in the order of the text; then nodes whose calculator is absent
+/// or empty; then what spells no port, first among the graph's lists and then among each node's, in the order in which
+/// `write` writes them.
 pub fn read(alloc: Global, tree: &Tree) -> Result<GraphConfig, ConfigFault>
     ensures ok { IfOk result (λ graph. config.config_of (view tree.now) ≡ Ok (config.graph_view graph)) }
     ensures err { IfErr result (λ fault. fault ≢ ConfigFault.OutOfMemory → config.config_of (view tree.now) ≡ Err fault) }
@@ -96,7 +98,7 @@ pub fn read(alloc: Global, tree: &Tree) -> Result<GraphConfig, ConfigFault>
     // Want of memory is a fault of its own, and never what ports are refused for.
     ensures cause { (path : List ℕ) → result ≢ Err (ConfigFault.BadPort path NameFault.OutOfMemory) }
 
-    // What is read can be written and read back, and if the fields can be printed, printed.
+    // A configuration that was read can be written and read back, and printed where the fields can be printed.
     ensures sound { IfOk result (λ graph. IsSound (config.graph_view graph)) }
     ensures printable { IfOk result (λ graph. AreSpelled (view tree.now) → depth (view tree.now) ≤ max_depth → IsPrintable (config.graph_view graph)) }
 {

@@ -1,5 +1,5 @@
-//! Configurations: what the fields of a graph file say, and the fields that say it. `read` answers to `config_of` of
-//! specs/, the configuration of a list of fields or its first fault, and `write` to `tree_of`.
+//! Configurations: what the fields of a graph file say. `read` returns the configuration of a file's fields or its
+//! first fault (`config_of` of specs/), and `write` the fields of a configuration (`tree_of`).
 #![tactic(auto)]
 
 mod calculators;

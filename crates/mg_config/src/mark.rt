@@ -17,7 +17,7 @@ pub struct Mark {
     pub index: u8,
 }
 
-/// The input that a message tells of (MediaPipe, calculator.proto: InputStreamInfo).
+/// Returns the input that an `input_stream_info` names, be it a back edge or not (MediaPipe, calculator.proto: InputStreamInfo).
 pub(crate) fn mark_named(alloc: Global, info: &[Field]) -> Result<Mark, ConfigFault>
     ensures ok { IfOk result (λ mark. config.mark_in (map field_view info.now) ≡ Ok mark) }
     ensures err { IfErr result (λ fault. fault ≢ ConfigFault.OutOfMemory → config.mark_in (map field_view info.now) ≡ Err fault) }

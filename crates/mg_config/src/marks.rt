@@ -14,7 +14,7 @@ use mg_text::Field;
 use mg_value::BlockList;
 use std::alloc::{AllocError, Global};
 
-/// The input that a message tells of, where k others of the name stand before it.
+/// Returns the input that the `input_stream_info` with the number `k`, from 0 on, names; a fault has that message in its path.
 fn mark_at(alloc: Global, k: usize, info: &[Field]) -> Result<Mark, ConfigFault>
     ensures ok { IfOk result (λ mark. paths.result_within (paths.numbered (codes "input_stream_info") k) (config.mark_in (map field_view info.now)) ≡ Ok mark) }
     ensures err { IfErr result (λ fault. fault ≢ ConfigFault.OutOfMemory → paths.result_within (paths.numbered (codes "input_stream_info") k) (config.mark_in (map field_view info.now)) ≡ Err fault) }
@@ -34,7 +34,7 @@ fn keep(marks: &mut Vec<Mark>, back: bool, mark: Mark) -> Result<(), AllocError>
     Ok(())
 }
 
-/// The back edges that the fields of a node tell of. Each message is judged, and kept where it is a back edge.
+/// Returns the back edges that the fields of a node tell of. Each `input_stream_info` is judged, and kept where it is a back edge.
 pub fn marks_named(alloc: Global, fields: &[Field]) -> Result<MarkList, ConfigFault>
     ensures ok { IfOk result (λ marks. config.marks_from 0 (messages_in (codes "input_stream_info") (map field_view fields.now)) ≡ Ok marks) }
     ensures err { IfErr result (λ fault. fault ≢ ConfigFault.OutOfMemory → config.marks_from 0 (messages_in (codes "input_stream_info") (map field_view fields.now)) ≡ Err fault) }

@@ -14,7 +14,7 @@ use mg_text::Field;
 use mg_value::BlockList;
 use std::alloc::Global;
 
-/// The node of a message, where k others of the name stand before it.
+/// Returns the node of the message with the number `k`, from 0 on; a fault has that message in its path.
 fn node_at(alloc: Global, k: usize, fields: &[Field]) -> Result<NodeConfig, ConfigFault>
     ensures ok { IfOk result (λ node. paths.result_within (paths.numbered (codes "node") k) (config.node_of (map field_view fields.now)) ≡ Ok (config.node_view node)) }
     ensures err { IfErr result (λ fault. fault ≢ ConfigFault.OutOfMemory → paths.result_within (paths.numbered (codes "node") k) (config.node_of (map field_view fields.now)) ≡ Err fault) }
@@ -25,7 +25,7 @@ fn node_at(alloc: Global, k: usize, fields: &[Field]) -> Result<NodeConfig, Conf
     }
 }
 
-/// The nodes of a graph.
+/// Returns the nodes that the fields of a graph tell of, in order.
 pub fn nodes_named(alloc: Global, fields: &[Field]) -> Result<NodeList, ConfigFault>
     ensures ok { IfOk result (λ nodes. config.nodes_from 0 (messages_in (codes "node") (map field_view fields.now)) ≡ Ok (map config.node_view nodes)) }
     ensures err { IfErr result (λ fault. fault ≢ ConfigFault.OutOfMemory → config.nodes_from 0 (messages_in (codes "node") (map field_view fields.now)) ≡ Err fault) }

@@ -5,7 +5,7 @@ ghost use Rattle.mg_config.specs.Number as number;
 
 use crate::word::is;
 
-/// The value of a digit, of hexadecimal ones too.
+/// Returns the value of a digit in a base of at most 16, or none where the byte is no such digit.
 fn digit_of(byte: u8, base: u32) -> Option<u32>
     requires { base ≤ 16 }
     ensures value { result ≡ number.digit_of base byte }
@@ -21,7 +21,7 @@ fn digit_of(byte: u8, base: u32) -> Option<u32>
     if value < base { Some(value) } else { None }
 }
 
-/// A number with one digit more.
+/// Returns the number that `value` is with one more digit behind it.
 fn appended(base: u32, value: u64, digit: u32) -> u128
     requires base { base ≤ 16 }
     requires digit { digit < 16 }
@@ -30,7 +30,7 @@ fn appended(base: u32, value: u64, digit: u32) -> u128
     u128::from(value) * u128::from(base) + u128::from(digit)
 }
 
-/// The number that digits of a base spell, if it is at most a bound.
+/// Returns the number that digits spell in a base, or none where there are none, one isn't of the base, or the number is above `most`.
 fn value_in(base: u32, most: u64, digits: &[u8]) -> Option<u64>
     requires base { base ≤ 16 }
     requires some { 1 ≤ base }
@@ -52,8 +52,8 @@ fn value_in(base: u32, most: u64, digits: &[u8]) -> Option<u64>
     Some(value)
 }
 
-/// The number that a text without a sign spells, in decimal, after `0x` in hexadecimal or after `0` in octal, if it
-/// is at most a bound.
+/// Returns the number that a text without a sign spells, or none where it is above `most`: in decimal, in hexadecimal
+/// after `0x` or `0X`, or in octal after `0`.
 fn magnitude(most: u64, text: &[u8]) -> Option<u64>
     ensures value { result ≡ number.magnitude most text.now }
     ensures bound { IfSome result (λ value. value ≤ most) }
@@ -66,7 +66,7 @@ fn magnitude(most: u64, text: &[u8]) -> Option<u64>
     }
 }
 
-/// The number that a text spells, in the range of 32 signed bits.
+/// Returns the number that a text spells, or none where it spells none in the range of 32 signed bits.
 pub fn number_of(text: &[u8]) -> Option<i32>
     ensures { result ≡ number.number_of text.now }
 {
@@ -82,7 +82,7 @@ pub fn number_of(text: &[u8]) -> Option<i32>
     }
 }
 
-/// The number that a text spells, in the range of 64 signed bits.
+/// Returns the number that a text spells, or none where it spells none in the range of 64 signed bits.
 pub fn long_number_of(text: &[u8]) -> Option<i64>
     ensures { result ≡ number.long_number_of text.now }
 {
@@ -98,7 +98,7 @@ pub fn long_number_of(text: &[u8]) -> Option<i64>
     }
 }
 
-/// The truth value that a word spells.
+/// Returns the truth value that a word spells: `true`, `True`, `t`, `false`, `False` or `f`.
 pub fn truth_of_word(text: &[u8]) -> Option<bool>
     ensures { result ≡ number.truth_of_word text.now }
 {
@@ -111,7 +111,7 @@ pub fn truth_of_word(text: &[u8]) -> Option<bool>
     }
 }
 
-/// The truth value that a number spells.
+/// Returns the truth value that a number spells: `1` or `0`.
 pub fn truth_of_number(text: &[u8]) -> Option<bool>
     ensures { result ≡ number.truth_of_number text.now }
 {

@@ -20,7 +20,7 @@ fn has_options(fields: &[Field]) -> bool
     fields.iter().any(|field| is_option(field))
 }
 
-/// Copies fields to the end of a list.
+/// Appends copies of fields to a list.
 fn append_copies(alloc: Global, out: &mut Vec<Field>, fields: &[Field]) -> Result<(), AllocError>
     ensures { OnOk result (map field_view out.new.items ≡ map field_view out.old.items ++ map field_view fields.now) }
 {
@@ -30,7 +30,7 @@ fn append_copies(alloc: Global, out: &mut Vec<Field>, fields: &[Field]) -> Resul
     Ok(())
 }
 
-/// The options of a node that has them in several fields.
+/// Returns the fields of all options messages of a node, copied into one list.
 fn joined_options(alloc: Global, fields: &[Field]) -> Result<Vec<Field>, AllocError>
     ensures { IfOk result (λ options. fields_view options.items ≡ config.options_in (map field_view fields.now)) }
 {
@@ -44,7 +44,7 @@ fn joined_options(alloc: Global, fields: &[Field]) -> Result<Vec<Field>, AllocEr
     Ok(options)
 }
 
-/// The message that has all options of a node, if there is one.
+/// Returns the only options message of a node, or none where the node hasn't exactly one.
 fn only_options(fields: &[Field]) -> Option<&Tree>
     ensures { IfSome result (λ tree. view tree.now ≡ config.options_in (map field_view fields.now)) }
 {
@@ -63,7 +63,7 @@ fn only_options(fields: &[Field]) -> Option<&Tree>
     None
 }
 
-/// The options of a node. They are shared with the message that has them all, and copied only where several have them.
+/// Returns the options of a node. They are shared with its only options message, and copied where it has several.
 pub fn options_of(alloc: Global, fields: &[Field]) -> Result<Tree, AllocError>
     ensures { IfOk result (λ options. view options ≡ config.options_in (map field_view fields.now)) }
 {

@@ -9,21 +9,22 @@ use mg_text::Field;
 use mg_value::MgText;
 use std::alloc::{AllocError, Global};
 
-/// How many of the fields have a name.
+/// Returns how many of the fields have this name.
 fn count_of(fields: &[Field], name: &[u8]) -> usize
     ensures { result ≡ paths.count_of name.now (map field_view fields.now) }
 {
     fields.iter().filter(|field| field.name.is(name)).count()
 }
 
-/// `name[k]`.
+/// Returns the text `name[k]`.
 pub fn numbered(alloc: Global, name: &str, k: usize) -> Result<MgText, AllocError>
     ensures { IfOk result (λ text. text ≡ paths.numbered name.now k) }
 {
     Ok(MgText::from_string(format!(in alloc; "{name}[{k}]")?))
 }
 
-/// The field of a name that stands after other fields.
+/// Returns the part of a path that names a field: `name[k]` where it may stand more than once, `k` being how many
+/// fields before it have the name, and otherwise `name`.
 pub fn step(
     alloc: Global,
     many: bool,
@@ -39,7 +40,7 @@ pub fn step(
     }
 }
 
-/// A path from further up.
+/// Returns the path `place.path`.
 pub fn below(alloc: Global, place: &str, path: MgText) -> Result<MgText, AllocError>
     ensures { IfOk result (λ text. text ≡ paths.below place.now path) }
 {
@@ -68,7 +69,7 @@ fn moved(alloc: Global, place: &str, fault: ConfigFault) -> Result<ConfigFault, 
     Ok(moved)
 }
 
-/// A fault of what is inside a field, or want of memory.
+/// Returns a fault with `place` in front of its path, or want of memory.
 pub fn within(alloc: Global, place: &str, fault: ConfigFault) -> ConfigFault
     ensures { result ≢ ConfigFault.OutOfMemory → (fault ≢ ConfigFault.OutOfMemory) × (result ≡ paths.within place.now fault) }
 {
@@ -78,7 +79,7 @@ pub fn within(alloc: Global, place: &str, fault: ConfigFault) -> ConfigFault
     }
 }
 
-/// A fault of what is inside the field of a name that stands after k others of it, or want of memory.
+/// Returns a fault with `name[k]` in front of its path, or want of memory.
 pub fn within_numbered(alloc: Global, name: &str, k: usize, fault: ConfigFault) -> ConfigFault
     ensures { result ≢ ConfigFault.OutOfMemory → (fault ≢ ConfigFault.OutOfMemory) × (result ≡ paths.within (paths.numbered name.now k) fault) }
 {

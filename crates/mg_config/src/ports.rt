@@ -11,7 +11,8 @@ use mg_text::Field;
 use mg_value::MgText;
 use std::alloc::{AllocError, Global};
 
-/// The fault of the fields of a name. That of one text has its number, and that of them all has none.
+/// Returns the fault of the texts that the fields of a name have. The path of one text's fault has the field's number,
+/// and that of the whole list's has none.
 fn port_fault(alloc: Global, name: &str, fault: PlacedFault) -> Result<ConfigFault, AllocError>
     ensures { IfOk result (λ made. made ≡ config.port_fault name.now fault) }
 {
@@ -29,7 +30,7 @@ fn port_fault(alloc: Global, name: &str, fault: PlacedFault) -> Result<ConfigFau
     Ok(fault)
 }
 
-/// The ports of the fields of a name.
+/// Returns the ports that the fields of a name spell.
 pub fn ports_named(alloc: Global, fields: &[Field], name: &str) -> Result<PortMap, ConfigFault>
     ensures ok { IfOk result (λ ports. config.ports_in name.now (map field_view fields.now) ≡ Ok ports) }
     ensures err { IfErr result (λ fault. fault ≢ ConfigFault.OutOfMemory → config.ports_in name.now (map field_view fields.now) ≡ Err fault) }
@@ -41,14 +42,14 @@ pub fn ports_named(alloc: Global, fields: &[Field], name: &str) -> Result<PortMa
     }
 }
 
-/// The ports that come in and those that go out, of streams or of side packets.
+/// The ports of a graph or a node that come in, and those that go out: its streams, or its side packets.
 #[derive(Drop)]
 pub struct PortPair {
     pub inputs: PortMap,
     pub outputs: PortMap,
 }
 
-/// The ports of the fields of two names.
+/// Returns the ports that the fields of two names spell, those that come in and those that go out.
 pub fn pair_named(
     alloc: Global,
     fields: &[Field],

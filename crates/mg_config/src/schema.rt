@@ -3,8 +3,8 @@ ghost use Rattle.mg_config.specs.Schema as schema;
 
 use crate::word::is;
 
-/// What has fields of its own: a graph, a node (MediaPipe, calculator.proto: CalculatorGraphConfig and its Node), and
-/// the two messages in a node whose fields are read.
+/// A message whose fields are known: a graph, a node (MediaPipe, calculator.proto: CalculatorGraphConfig and its Node),
+/// or one of the messages in a node whose fields are read, `input_stream_info` and `input_stream_handler`.
 #[derive(Clone, Copy)]
 pub enum Message {
     Graph,
@@ -13,8 +13,7 @@ pub enum Message {
     Handler,
 }
 
-/// What the value of a field is: a string, a number, a truth value, a message of any fields, or a message with the
-/// fields of its own kind.
+/// The shape of a field's value: a string, a number, a truth value, a message of any fields, or a message whose fields are known.
 #[derive(Clone, Copy)]
 pub enum Shape {
     Text,
@@ -43,7 +42,7 @@ fn many(shape: Shape) -> Option<FieldRule>
     Some(FieldRule { many: true, shape })
 }
 
-/// The rule of the four lists of ports that graphs and nodes have.
+/// Returns the rule of a name, where it is that of one of the four lists of ports that graphs and nodes have.
 fn port_rule(name: &[u8]) -> Option<FieldRule>
     ensures { result ≡ schema.rule_in schema.port_rows name.now }
 {
@@ -130,7 +129,7 @@ fn handler_rule(name: &[u8]) -> Option<FieldRule>
     }
 }
 
-/// The rule of a field by its name, where there is such a field.
+/// Returns the rule of the field with this name in a message, or none where the message has no such field.
 pub fn rule_of(message: Message, name: &[u8]) -> Option<FieldRule>
     ensures { result ≡ schema.rule_of message name.now }
 {

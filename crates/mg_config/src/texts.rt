@@ -7,7 +7,7 @@ use mg_text::Field;
 use mg_value::MgText;
 use std::alloc::{AllocError, Global};
 
-/// The texts of the fields of a name.
+/// Returns the texts of the fields of a name, in order.
 #[tactic(auto, using(crate::proofs::Loops::texts_here, crate::proofs::Loops::texts_skip, crate::proofs::Loops::texts_end))]
 pub fn texts_named(alloc: Global, fields: &[Field], name: &[u8]) -> Result<Vec<MgText>, AllocError>
     ensures { IfOk result (λ texts. texts.items ≡ values.texts_in name.now (map field_view fields.now)) }

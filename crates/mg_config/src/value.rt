@@ -10,7 +10,7 @@ use mg_text::{Field, Scalar, TreeValue};
 use mg_value::MgText;
 use std::alloc::{AllocError, Global};
 
-/// Whether a value is of a shape.
+/// Whether a value has this shape.
 pub fn has_shape(shape: Shape, value: &TreeValue) -> bool
     ensures { result ≡ faults.has_shape shape (value_view value.now) }
 {
@@ -31,7 +31,8 @@ fn number_in_value(value: &TreeValue) -> Option<i32>
     }
 }
 
-/// The number of a value, in the range of 64 signed bits (Protocol Buffers text format: numeric literals).
+/// Returns the number that a value spells, or none where it spells none in the range of 64 signed bits (Protocol
+/// Buffers text format: numeric literals).
 pub fn long_number_in_value(value: &TreeValue) -> Option<i64>
     ensures { result ≡ values.long_number_in_value (value_view value.now) }
 {
@@ -41,7 +42,7 @@ pub fn long_number_in_value(value: &TreeValue) -> Option<i64>
     }
 }
 
-/// The truth value of a value (Protocol Buffers text format: the values of Boolean fields).
+/// Returns the truth value that a value spells, or none where it spells none (Protocol Buffers text format: the values of Boolean fields).
 pub fn truth_in_value(value: &TreeValue) -> Option<bool>
     ensures { result ≡ values.truth_in_value (value_view value.now) }
 {
@@ -52,7 +53,7 @@ pub fn truth_in_value(value: &TreeValue) -> Option<bool>
     }
 }
 
-/// The text of a value, which is empty where it is none.
+/// Returns the text of a value, or the empty text where the value is no quoted text.
 pub fn text_of_value(alloc: Global, value: &TreeValue) -> Result<MgText, AllocError>
     ensures { IfOk result (λ text. text ≡ values.text_of_value (value_view value.now)) }
 {
@@ -62,7 +63,7 @@ pub fn text_of_value(alloc: Global, value: &TreeValue) -> Result<MgText, AllocEr
     }
 }
 
-/// The fields of a message, of which there are none where it is none.
+/// Returns the fields of a value that is a message, and no fields of one that isn't.
 pub fn fields_of_value(value: &TreeValue) -> &[Field]
     ensures { fields_view result.now ≡ values.fields_of_value (value_view value.now) }
 {
@@ -72,14 +73,14 @@ pub fn fields_of_value(value: &TreeValue) -> &[Field]
     }
 }
 
-/// Whether a field has a name.
+/// Whether a field has this name.
 pub fn has_name(field: &Field, name: &[u8]) -> bool
     ensures { result ≡ values.has_name name.now (field_view field.now) }
 {
     field.name.is(name)
 }
 
-/// The first value of a name.
+/// Returns the value of the first field of a name, or none where no field has the name.
 #[tactic(auto, using(crate::proofs::Lists::values_here, crate::proofs::Lists::values_skip, crate::proofs::Lists::no_values))]
 pub fn first_of<'a>(fields: &'a [Field], name: &[u8]) -> Option<&'a TreeValue>
     ensures { option_map value_view (option_copied result) ≡ values.first (values.values_of name.now (map field_view fields.now)) }
@@ -92,7 +93,7 @@ pub fn first_of<'a>(fields: &'a [Field], name: &[u8]) -> Option<&'a TreeValue>
     None
 }
 
-/// The text of the first value of a name, which is empty where there is none.
+/// Returns the text of the first field of a name, or the empty text where there is none.
 pub fn text_named(alloc: Global, fields: &[Field], name: &[u8]) -> Result<MgText, AllocError>
     ensures { IfOk result (λ text. text ≡ values.text_in name.now (map field_view fields.now)) }
 {
@@ -102,7 +103,7 @@ pub fn text_named(alloc: Global, fields: &[Field], name: &[u8]) -> Result<MgText
     }
 }
 
-/// The number of the first value of a name, which is 0 where there is none.
+/// Returns the number of the first field of a name, or 0 where there is none.
 pub fn number_named(fields: &[Field], name: &[u8]) -> i32
     ensures { result ≡ values.number_in name.now (map field_view fields.now) }
 {
@@ -112,7 +113,7 @@ pub fn number_named(fields: &[Field], name: &[u8]) -> i32
     }
 }
 
-/// The truth value of the first value of a name, which is false where there is none.
+/// Returns the truth value of the first field of a name, or false where there is none.
 pub fn truth_named(fields: &[Field], name: &[u8]) -> bool
     ensures { result ≡ values.truth_in name.now (map field_view fields.now) }
 {
@@ -122,7 +123,7 @@ pub fn truth_named(fields: &[Field], name: &[u8]) -> bool
     }
 }
 
-/// The fields of the first message of a name, of which there are none where there is none.
+/// Returns the fields inside the first field of a name, and no fields where there is none or it is no message.
 pub fn message_named<'a>(fields: &'a [Field], name: &[u8]) -> &'a [Field]
     ensures { fields_view result.now ≡ values.message_in name.now (map field_view fields.now) }
 {

@@ -1,8 +1,8 @@
-//! Words that have a meaning here.
+//! The comparison of texts with known words.
 ghost use Rattle.std.specs.Prelude.{◌≡◌};
 ghost use Rattle.std.specs.Str.{bytes_eq};
 
-/// Whether a text is a word.
+/// Whether a text is this word, byte for byte.
 pub fn is(text: &[u8], word: &[u8]) -> bool
     ensures { result ≡ bytes_eq text.now word.now }
 {

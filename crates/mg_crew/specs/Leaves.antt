@@ -6,14 +6,15 @@ use Rattle.mg_turns.specs.Parts.{at, Follows}
 use Rattle.mg_workers.specs.Woven.{frame_of}
 use Rattle.mg_workers.specs.Became.{CameBack}
 
--- a net came apart, and each part of the net that there is now came of the one that was shared at its word: it is lawful for the same
--- jobs, its standing only grew, and it gave up no packet
+-- a net came apart, and each of its parts has become the part of the net that is there now: that is lawful for the same jobs, its standing
+-- only grew, and it gave up no packet
 pub record GoesOn (before now : NetView) : Type 0 where
   pub parts : PartsView
   pub apart : HasComeApart before parts
   pub count : length (frame_of (parts_in now)).parts ≡ length (frame_of parts).parts
   pub follows : (word : ℕ) → word < length (frame_of parts).parts → Follows (frame_of parts) word (at (frame_of (parts_in now)) word)
 
--- the net as it was; or but for the works on its desks, which stand in their windows again; or what it went on to
+-- what workers leave of a net: the net as it was; the net as it was but that the works on its desks stand in their windows again; or a net
+-- whose parts have gone on
 abbrev pub Leaves : NetView → NetView → Type 0
 Leaves before now = (now ≡ before) ⊎ (CameBack before now ⊎ GoesOn before now)

@@ -5,24 +5,24 @@ use std::sync::atomic::Ordering::SeqCst;
 use std::sync::atomic::{AtomicBool, AtomicU64};
 use std::thread;
 
-/// What workers tell each other. By two counts, how often there was something new and how many have nothing to do, idle workers know
-/// when to look again, and the last of them knows that it is the last. No contract rests on any of this.
+/// What workers tell each other. One count says how often there was something new, so that idle workers know when to look again; another
+/// says how many workers have nothing to do, so that the last of them knows that it is the last. No contract rests on it.
 #[derive(Drop)]
 pub(crate) struct Board {
     news: CachePadded<AtomicU64>,
     idle: CachePadded<AtomicU64>,
     begun: AtomicU64,
-    // Whether a worker looks over all nodes, and whether one did and found nothing.
+    // Whether a worker is looking over all nodes, and whether one has done that and found nothing.
     looking: AtomicBool,
     over: AtomicBool,
     // Whether a worker brings packets from the graph inputs, or found none that could be brought.
     fed: AtomicBool,
-    // Whether a work found no memory.
+    // Whether some work found no memory.
     short: AtomicBool,
 }
 
 impl Board {
-    /// Nobody has begun.
+    /// Returns a board on which no worker has begun.
     pub(crate) fn new() -> Board {
         Board {
             news: CachePadded::new(AtomicU64::new(0)),
@@ -35,22 +35,23 @@ impl Board {
         }
     }
 
-    /// A worker begins. It tells whether it is the first.
+    /// Notes that a worker begins, and returns whether it is the first.
     pub(crate) fn begin(&self) -> bool {
         self.begun.fetch_add(1, SeqCst) == 0
     }
 
-    /// How often there was something new so far.
+    /// Returns how often there was something new so far.
     pub(crate) fn news(&self) -> u64 {
         self.news.load(SeqCst)
     }
 
-    /// There is something new for idle workers.
+    /// Tells idle workers that there is something new.
     pub(crate) fn tell(&self) {
         self.news.fetch_add(1, SeqCst);
     }
 
-    /// A worker has nothing to do. It tells whether all that have begun are idle now, and this one is to look over all nodes.
+    /// Notes that a worker has nothing to do. Returns whether it is to look over all nodes: all workers that have begun are idle, and no
+    /// other one is looking or has looked in vain.
     pub(crate) fn rest(&self) -> bool {
         let idle = self.idle.fetch_add(1, SeqCst).wrapping_add(1);
         idle >= self.begun.load(SeqCst)
@@ -58,7 +59,7 @@ impl Board {
             && !self.looking.swap(true, SeqCst)
     }
 
-    /// The worker that looked over all nodes found something, and goes on; or it found nothing, and all end.
+    /// Notes what the worker that looked over all nodes found: something, and it goes on; or nothing, and all workers end.
     pub(crate) fn settle(&self, found: bool) {
         if found {
             self.idle.fetch_sub(1, SeqCst);
@@ -68,7 +69,7 @@ impl Board {
         self.looking.store(false, SeqCst);
     }
 
-    /// Waits as an idle worker until there is more news than a number says, or until all end, and tells whether there is news.
+    /// Waits as an idle worker, until the count of news isn't `seen` any more or until all workers end. Returns whether there is news.
     pub(crate) fn wait<R: Wait>(&self, rt: &R, seen: u64) -> bool {
         for _ in rt.forever() {
             if self.over.load(SeqCst) {
@@ -83,31 +84,31 @@ impl Board {
         unreachable!()
     }
 
-    /// Tells whether the worker that asks is to bring packets from the graph inputs: it is, unless another one does, or there are none.
+    /// Returns whether the worker that asks is to bring packets from the graph inputs: it is, unless another one does or none are left.
     pub(crate) fn takes_inputs(&self) -> bool {
         !self.fed.load(SeqCst) && !self.fed.swap(true, SeqCst)
     }
 
-    /// Packets were brought from the graph inputs. Where something came of that there may be more.
+    /// Notes what came of bringing packets from the graph inputs. Where anything did, there may be more.
     pub(crate) fn fed(&self, came: &Came) {
         if !came.is_nothing() {
             self.leave_inputs();
         }
     }
 
-    /// There may be more packets at the graph inputs, and nobody brings them.
+    /// Notes that there may be more packets at the graph inputs, and that no worker brings them.
     pub(crate) fn leave_inputs(&self) {
         self.fed.store(false, SeqCst);
     }
 
-    /// A work found memory, or it didn't.
+    /// Notes whether a work found memory.
     pub(crate) fn found_memory(&self, found: bool) {
         if !found {
             self.short.store(true, SeqCst);
         }
     }
 
-    /// Whether a work found no memory.
+    /// Whether some work found no memory so far.
     pub(crate) fn is_short(&self) -> bool {
         self.short.load(SeqCst)
     }

@@ -8,18 +8,18 @@ use crate::leads::Leads;
 use mg_calc::{Edge, Plan, PlanNode, Producer};
 use std::alloc::{AllocError, Global};
 
-/// What workers look up in a plan.
+/// What workers look up of a plan.
 #[derive(Drop)]
 pub(crate) struct Chart {
-    // Of which nodes several works may run at once.
+    // For each node whether several of its works may run at once.
     flies: Vec<bool>,
-    /// The edges by the places from which they lead: the nodes, and behind them the graph inputs.
+    /// The edges by the places from which they lead: places are the nodes, and behind them the graph inputs.
     pub from: Leads,
-    /// The edges by their consumers: the nodes, and behind them the collector.
+    /// The edges by their consumers: these are the nodes, and behind them the collector.
     pub into: Leads,
-    // The consumer of each edge.
+    // The consumer of each edge: a node, or the number behind all nodes for the collector.
     consumers: Vec<u32>,
-    // The nodes without inputs, in order, and for each place the number of the feeder there, if one is.
+    // The nodes without inputs, in order; and for each place of `from` the number of the feeder there, if one is.
     sources: Vec<u32>,
     feeders: Vec<Option<u32>>,
     /// How many feeders there are.
@@ -27,7 +27,7 @@ pub(crate) struct Chart {
     ghost counted: { vec_len consumers ≡ from.edges },
 }
 
-// Of which nodes several works may run at once.
+// Returns for each node of a plan whether several of its works may run at once.
 fn flies_of(alloc: Global, plan: &Plan) -> Result<Vec<bool>, AllocError> {
     let mut flies = Vec::new(alloc);
     for node in plan.nodes.as_slice() {
@@ -36,7 +36,7 @@ fn flies_of(alloc: Global, plan: &Plan) -> Result<Vec<bool>, AllocError> {
     Ok(flies)
 }
 
-// Who writes the stream of an edge.
+// Returns what writes the stream of an edge: a node or a graph input.
 fn producer_of(plan: &Plan, edge: Edge) -> Producer
     requires { edge.stream < length plan.now.streams }
     ensures { producer_of plan.now edge ≡ Some result }
@@ -44,7 +44,7 @@ fn producer_of(plan: &Plan, edge: Edge) -> Producer
     plan.streams.as_slice()[edge.stream as usize].producer
 }
 
-// The place from which an edge leads. There is none past 32 bits.
+// Returns the place from which an edge leads: the number of a node, or of a graph input behind all nodes. It is `None` past 32 bits.
 fn source_of(plan: &Plan, edge: Edge) -> Option<u32>
     requires { edge.stream < length plan.now.streams }
     ensures { IfSome result (λ place. source_of plan.now edge ≡ Some place) }
@@ -55,7 +55,7 @@ fn source_of(plan: &Plan, edge: Edge) -> Option<u32>
     }
 }
 
-// The place from which the edge of a number leads.
+// Returns the place from which the edge of a number leads, or `None` past 32 bits.
 fn place_of(plan: &Plan, number: u32) -> Option<u32>
     requires valid { IsValid plan.now }
     requires there { number < length plan.now.edges }
@@ -64,7 +64,7 @@ fn place_of(plan: &Plan, number: u32) -> Option<u32>
     source_of(plan, plan.edges.as_slice()[number as usize])
 }
 
-// The places from which the edges lead. There is no memory for one past 32 bits.
+// Returns the places from which the edges lead. A place past 32 bits counts as want of memory.
 fn starts_of(alloc: Global, plan: &Plan) -> Result<Vec<u32>, AllocError>
     requires { IsValid plan.now }
     ensures each { IfOk result (λ v. length v.items ≡ length plan.now.edges) }
@@ -80,7 +80,7 @@ fn starts_of(alloc: Global, plan: &Plan) -> Result<Vec<u32>, AllocError>
     Ok(starts)
 }
 
-// The consumer of the edge of a number.
+// Returns the consumer of the edge of a number: a node, or the number behind all nodes for the collector.
 fn consumer_of(plan: &Plan, number: u32) -> u32
     requires valid { IsValid plan.now }
     requires there { number < length plan.now.edges }
@@ -89,7 +89,7 @@ fn consumer_of(plan: &Plan, number: u32) -> u32
     plan.edges.as_slice()[number as usize].node
 }
 
-// The consumers of the edges.
+// Returns the consumer of each edge.
 fn consumers_of(alloc: Global, plan: &Plan) -> Result<Vec<u32>, AllocError>
     requires { IsValid plan.now }
     ensures each { IfOk result (λ v. vec_len v ≡ length plan.now.edges) }
@@ -103,14 +103,14 @@ fn consumers_of(alloc: Global, plan: &Plan) -> Result<Vec<u32>, AllocError>
     Ok(consumers)
 }
 
-// The edges by their consumers.
+// The consumer of each edge, and the edges by their consumers.
 #[derive(Drop)]
 struct Entries {
     consumers: Vec<u32>,
     into: Leads,
 }
 
-// Where the edges lead.
+// Returns where the edges of a plan lead.
 fn entries_of(alloc: Global, plan: &Plan) -> Result<Entries, AllocError>
     requires { IsValid plan.now }
     ensures each { IfOk result (λ e. vec_len e.consumers ≡ length plan.now.edges) }
@@ -123,7 +123,7 @@ fn entries_of(alloc: Global, plan: &Plan) -> Result<Entries, AllocError>
     Ok(Entries { consumers, into })
 }
 
-// The nodes without inputs, in order.
+// Returns the numbers of the nodes without inputs, in order.
 fn sources_among(alloc: Global, nodes: &[PlanNode], _count: u32) -> Result<Vec<u32>, AllocError>
     requires { length nodes.now ≡ _count }
     ensures { IfOk result (λ v. v.items ≡ sources_among nodes.now) }
@@ -137,7 +137,8 @@ fn sources_among(alloc: Global, nodes: &[PlanNode], _count: u32) -> Result<Vec<u
     Ok(found)
 }
 
-// For each place the number of the feeder there: those of the graph inputs stand before those of the nodes without inputs.
+// Returns for each place, of nodes and then of graph inputs, the number of the feeder there, if one is. Graph inputs have lower numbers as
+// feeders than nodes without inputs.
 fn feeders_of(alloc: Global, plan: &Plan) -> Result<Vec<Option<u32>>, AllocError> {
     let mut feeders = Vec::new(alloc);
     let mut next = plan.inputs.len();
@@ -155,7 +156,7 @@ fn feeders_of(alloc: Global, plan: &Plan) -> Result<Vec<Option<u32>>, AllocError
     Ok(feeders)
 }
 
-// Where the edges lead from.
+// Returns the edges of a plan by the places from which they lead.
 fn leads_of(alloc: Global, plan: &Plan) -> Result<Leads, AllocError>
     requires { IsValid plan.now }
     ensures places { IfOk result (λ l. l.places ≡ length plan.now.nodes + length plan.now.inputs) }
@@ -167,14 +168,14 @@ fn leads_of(alloc: Global, plan: &Plan) -> Result<Leads, AllocError>
     Ok(leads)
 }
 
-// The nodes without inputs, and the numbers of all feeders.
+// The nodes without inputs, and for each place the number of the feeder there.
 #[derive(Drop)]
 struct Sources {
     sources: Vec<u32>,
     feeders: Vec<Option<u32>>,
 }
 
-// Who feeds a graph.
+// Returns what feeds the graph of a plan: its nodes without inputs, and the numbers of all feeders.
 fn sources_of(alloc: Global, plan: &Plan) -> Result<Sources, AllocError>
     ensures { IfOk result (λ s. s.sources.items ≡ sources plan.now) }
 {
@@ -183,7 +184,7 @@ fn sources_of(alloc: Global, plan: &Plan) -> Result<Sources, AllocError>
     Ok(Sources { sources, feeders })
 }
 
-// How many feeders a plan has, whose nodes without inputs are these.
+// Returns how many feeders a plan has: its graph inputs, and its nodes without inputs, which are `among`.
 fn feeders_in(plan: &Plan, among: &[u32]) -> usize
     requires { among.now ≡ sources plan.now }
     ensures { result ≡ length (feeders plan.now) }
@@ -192,7 +193,7 @@ fn feeders_in(plan: &Plan, among: &[u32]) -> usize
 }
 
 impl Chart {
-    /// The chart of a plan.
+    /// Returns the chart of a plan.
     pub(crate) fn new(alloc: Global, plan: &Plan) -> Result<Chart, AllocError>
         requires { IsValid plan.now }
         ensures places { IfOk result (λ c. c.from.places ≡ length plan.now.nodes + length plan.now.inputs) }
@@ -217,19 +218,19 @@ impl Chart {
         })
     }
 
-    /// The nodes without inputs, in order.
+    /// Returns the nodes without inputs, in order.
     pub(crate) fn sources(&self) -> &[u32]
         ensures { result.now ≡ self.now.sources.items }
     {
         self.sources.as_slice()
     }
 
-    /// How many feeders are graph inputs. Their numbers stand before those of the nodes without inputs.
+    /// Returns how many feeders are graph inputs. They have lower numbers as feeders than the nodes without inputs.
     pub(crate) fn input_count(&self) -> usize {
         self.feeder_count.saturating_sub(self.sources.len())
     }
 
-    /// The number of the feeder at a place, if one is there.
+    /// Returns the number of the feeder at a place of `from`, if one is there.
     pub(crate) fn feeder(&self, place: usize) -> Option<u32> {
         match self.feeders.get(place) {
             Some(feeder) => *feeder,
@@ -242,7 +243,7 @@ impl Chart {
         self.flies.get(node as usize) == Some(&true)
     }
 
-    /// The node into which an edge leads, or the number behind all nodes where it leads into the collector.
+    /// Returns the node into which an edge leads, or the number behind all nodes where it leads into the collector.
     pub(crate) fn consumer(&self, edge: u32) -> u32
         requires { edge < self.now.from.edges }
     {

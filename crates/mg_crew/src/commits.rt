@@ -1,4 +1,4 @@
-//! What becomes of a work that was claimed by itself.
+//! Brings works back that were claimed one by one.
 ghost use Rattle.mg_turns.specs.Calls.{key_of};
 ghost use Rattle.mg_workers.specs.Shared.{IsSharedWith, StaysShared};
 ghost use Rattle.mg_crew.specs.Code.Seats.{FitsWork, FitsOutcome};
@@ -11,7 +11,7 @@ use mg_turns::{NetSeat, SharedNet, TriedCommit, TriedShelf};
 use std::sync::Wait;
 use std::thread;
 
-// Puts a work back into its window as it is.
+// Puts a work back into its window as it is, once the seat gets the turn of the node.
 fn shelve<C: Calculator, R: Wait>(
     rt: &R,
     net: &SharedNet<C>,
@@ -35,7 +35,7 @@ fn shelve<C: Calculator, R: Wait>(
     unreachable!()
 }
 
-// Commits a work, or puts it back into its window where there is no memory. It tells whether it is committed.
+// Commits a work, or puts it back into its window where there is no memory. Returns whether it is committed.
 fn commit<C: Calculator, R: Wait>(
     rt: &R,
     net: &SharedNet<C>,
@@ -63,8 +63,8 @@ fn commit<C: Calculator, R: Wait>(
     unreachable!()
 }
 
-/// Performs a work while the seat has no turn, and commits it. Where there is no memory it stands in its window again. It tells whether
-/// it is committed.
+/// Performs a work while the seat has no turn, and commits it, or puts it back into its window where there is no memory. Returns whether it
+/// is committed.
 pub(crate) fn finish<C: Calculator, R: Wait, G: Gate>(
     rt: &R,
     shop: &Shop<'_, C, G>,

@@ -1,4 +1,4 @@
-//! Workers side by side.
+//! Workers that run a net side by side.
 ghost use Rattle.std.specs.Prelude.{◌≡◌, ◌≤◌, ◌^◌};
 ghost use Rattle.std.specs.Thread.{IsSync, IsSend};
 ghost use Rattle.mg_turns.specs.Calls.{view_of};
@@ -16,8 +16,8 @@ use mg_turns::NetSeat;
 use std::sync::Wait;
 use std::thread::{Threads, join};
 
-// What a worker does that found nothing to do: it waits until there is something new, and tells whether there is. The last one to come
-// here relaxes the limits of full queues in place of that, or else looks over everything, and where it finds nothing all end.
+// Waits, as a worker that found nothing to do, until there is something new, and returns whether there is. The last worker to find nothing
+// relaxes the limits of full queues instead, or else looks over everything; where it finds nothing then, all workers end.
 fn rest<C: Calculator, R: Wait, G: Gate>(
     rt: &R,
     shop: &Shop<'_, C, G>,
@@ -41,7 +41,7 @@ fn rest<C: Calculator, R: Wait, G: Gate>(
     found
 }
 
-// Works until no worker that has begun has anything to do.
+// Works until no worker that has begun has anything to do. Returns the worker's seat.
 fn work<C: Calculator, R: Wait, G: Gate>(
     rt: &R,
     shop: &Shop<'_, C, G>,
@@ -66,7 +66,7 @@ fn work<C: Calculator, R: Wait, G: Gate>(
     unreachable!()
 }
 
-/// So many workers, each with a seat of its own, and at least one. The seat that comes back has what all had.
+/// Runs a net by `workers` workers, at least one, each with a seat of its own. Returns a seat that has the portions of all of them.
 #[cycle(crew)]
 pub(crate) fn crew<C: Calculator + Send, R: Threads + Wait + Sync, G: Gate + Sync>(
     rt: &R,

@@ -5,8 +5,8 @@ use mg_calc::Plan;
 use mg_throttle::Limits;
 use std::alloc::{AllocError, Global};
 
-/// The limits of queues as workers know them. They lie behind a lock, so that nothing is known of them but how many there are: a queue
-/// that isn't there is never full, and a feeder that isn't there is never throttled.
+/// The limits of queues, for workers. They lie behind a lock, so that contracts know nothing of them but how many there are: a queue that
+/// isn't there is never full, and a feeder that isn't there is never throttled.
 #[derive(Drop)]
 pub(crate) struct Gauge {
     limits: Limits,
@@ -19,7 +19,7 @@ pub(crate) struct Gauge {
 }
 
 impl Gauge {
-    /// The limits of a plan, which has so many feeders. Its queues are empty.
+    /// Returns the limits of a plan, whose queues are empty. `count` is how many feeders the plan has.
     pub(crate) fn new(alloc: Global, plan: &Plan, count: usize) -> Result<Gauge, AllocError>
         requires valid { IsValid plan.now }
         requires feeders { count ≡ length (feeders plan.now) }
@@ -42,7 +42,7 @@ impl Gauge {
         self.limits.may_feed(feeder)
     }
 
-    /// The first feeder from a number on, and below another one, that reaches a node and isn't throttled.
+    /// Returns the first feeder from number `from` on, and below `end`, that reaches a node and isn't throttled.
     pub(crate) fn next_feeder(&self, node: u32, from: usize, end: usize) -> Option<usize>
         ensures { IfSome result (λ feeder. (from ≤ feeder) × (feeder < end)) }
     {
@@ -53,7 +53,7 @@ impl Gauge {
         if feeder < end { Some(feeder) } else { None }
     }
 
-    /// Notes how many packets wait in the queue of an edge, and tells whether it is full.
+    /// Notes how many packets wait in the queue of an edge, and returns whether the queue is full.
     pub(crate) fn note(&mut self, edge: u32, packets: u64) -> bool {
         if edge >= self.queues || packets == u64::MAX {
             return false;
@@ -65,7 +65,7 @@ impl Gauge {
         }
     }
 
-    /// Relaxes the limits of full queues, and tells whether there was one.
+    /// Relaxes the limits of full queues, and returns whether some queue was full.
     pub(crate) fn relax(&mut self) -> bool {
         self.limits.relax()
     }

@@ -4,10 +4,10 @@ ghost use Rattle.mg_sched.specs.Code.Agendas.{LeadOn};
 use std::alloc::{AllocError, Global};
 use std::marker::Model;
 
-/// The edges of a plan, by the places of one of their ends.
+/// The edges of a plan in lists, one for each place at which edges have one of their ends.
 #[derive(Drop)]
 pub(crate) struct Leads {
-    // The first edge of each place, and behind each edge the next one of the same place.
+    // The first edge of each place, and for each edge the next one of the same place.
     first: Vec<Option<u32>>,
     next: Vec<Option<u32>>,
 }
@@ -24,14 +24,14 @@ impl Model for Leads {
     ghost invariant = { λ l. LeadOn 0 (vec_len l.next) l.first.items l.next.items };
 }
 
-// The edges from a number on.
+// The lists while they are made: they have the edges from some number on.
 #[derive(Drop)]
 struct Draft {
     first: Vec<Option<u32>>,
     next: Vec<Option<u32>>,
 }
 
-// So many that lead nowhere.
+// Returns `count` entries without an edge.
 fn nowhere(alloc: Global, count: usize) -> Result<Vec<Option<u32>>, AllocError>
     ensures items { IfOk result (λ v. v.items ≡ replicate count None) }
     ensures len { IfOk result (λ v. vec_len v ≡ count) }
@@ -39,7 +39,7 @@ fn nowhere(alloc: Global, count: usize) -> Result<Vec<Option<u32>>, AllocError>
     vec![in alloc; None; count]
 }
 
-// Puts an edge in front of those of a place.
+// Puts an edge in front of the list of a place.
 fn lead(draft: &mut Draft, place: usize, edge: u32)
     requires place { place < vec_len draft.old.first }
     requires edge { edge < vec_len draft.old.next }
@@ -52,7 +52,7 @@ fn lead(draft: &mut Draft, place: usize, edge: u32)
     draft.first[place] = Some(edge);
 }
 
-// The place of an edge.
+// Returns the place of an edge, where `ends` has the place of each.
 fn end_of(ends: &[u32], edge: u32, _places: usize) -> usize
     requires there { edge < length ends.now }
     requires below { All (λ place. place < _places) ends.now }
@@ -61,7 +61,7 @@ fn end_of(ends: &[u32], edge: u32, _places: usize) -> usize
     ends[edge as usize] as usize
 }
 
-// All edges, each at the place of its end.
+// Returns the lists of all edges, where `ends` has the place of each.
 fn drafted(alloc: Global, places: usize, ends: &[u32]) -> Result<Draft, AllocError>
     requires below { All (λ place. place < places) ends.now }
     requires few { length ends.now < 2 ^ 32 }
@@ -80,7 +80,7 @@ fn drafted(alloc: Global, places: usize, ends: &[u32]) -> Result<Draft, AllocErr
 }
 
 impl Leads {
-    /// The edges whose ends these are, of so many places.
+    /// Returns the lists of all edges for `places` places, where `ends` has the place of each edge.
     pub(crate) fn new(alloc: Global, places: usize, ends: &[u32]) -> Result<Leads, AllocError>
         requires below { All (λ place. place < places) ends.now }
         requires few { length ends.now < 2 ^ 32 }
@@ -91,14 +91,14 @@ impl Leads {
         Ok(Leads { first, next })
     }
 
-    /// How many places there are.
+    /// Returns how many places there are.
     pub(crate) fn places(&self) -> usize
         ensures { result ≡ self.now.places }
     {
         self.first.len()
     }
 
-    /// The first edge of a place.
+    /// Returns the first edge of a place, if it has one.
     pub(crate) fn first(&self, place: usize) -> Option<u32>
         requires { place < self.now.places }
         ensures { IfSome result (λ edge. edge < self.now.edges) }
@@ -106,7 +106,7 @@ impl Leads {
         self.first[place]
     }
 
-    /// The next edge of the place of an edge.
+    /// Returns the next edge of the same place, if there is one.
     pub(crate) fn next(&self, edge: u32) -> Option<u32>
         requires { edge < self.now.edges }
         ensures { IfSome result (λ later. (edge < later) × (later < self.now.edges)) }

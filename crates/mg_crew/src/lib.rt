@@ -1,4 +1,5 @@
-//! Workers: threads that run a net side by side. Answers to `specs/Leaves.antt`, and to `specs/Became.antt` of mg_workers.
+//! Workers: threads that run a net side by side. Answers to the definitions of `specs/Leaves.antt`, and to those of `specs/Became.antt` of
+//! mg_workers.
 #![tactic(auto)]
 
 mod board;

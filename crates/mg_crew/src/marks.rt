@@ -2,14 +2,14 @@ use std::alloc::{AllocError, Global};
 use std::sync::atomic::AtomicBool;
 use std::sync::atomic::Ordering::SeqCst;
 
-/// A mark for each of some numbers, which any worker sets and takes away. No contract rests on them.
+/// A mark for each of some numbers, counted from 0, which any worker may set or take away. No contract rests on them.
 #[derive(Drop)]
 pub(crate) struct Marks {
     marks: Vec<AtomicBool>,
 }
 
 impl Marks {
-    /// So many marks, all of them set, or none.
+    /// Returns `count` marks, of which all are set, or none.
     pub(crate) fn new(alloc: Global, count: u32, set: bool) -> Result<Marks, AllocError> {
         let mut marks = Vec::new(alloc);
         for _ in 0..count {
@@ -18,7 +18,7 @@ impl Marks {
         Ok(Marks { marks })
     }
 
-    /// Sets the mark of a number, and tells whether it wasn't set.
+    /// Sets the mark of a number, and returns whether it wasn't set before.
     pub(crate) fn set(&self, number: u32) -> bool {
         match self.marks.get(number as usize) {
             Some(mark) => !mark.swap(true, SeqCst),
@@ -26,7 +26,7 @@ impl Marks {
         }
     }
 
-    /// Takes the mark of a number away, and tells whether it was set.
+    /// Takes the mark of a number away, and returns whether it was set before.
     pub(crate) fn clear(&self, number: u32) -> bool {
         match self.marks.get(number as usize) {
             Some(mark) => mark.swap(false, SeqCst),
@@ -34,7 +34,7 @@ impl Marks {
         }
     }
 
-    /// Sets the mark of a number, or takes it away.
+    /// Sets the mark of a number, or takes it away, as `set` says.
     pub(crate) fn put(&self, number: u32, set: bool) {
         if let Some(mark) = self.marks.get(number as usize) {
             mark.store(set, SeqCst);

@@ -1,4 +1,4 @@
-//! The levels as workers use them: a node is in them at most once, and who found no memory for a seat there does without.
+//! The levels, as workers use them: a node is in them at most once, and a worker for whose seat there was no memory does without them.
 
 ghost use Rattle.std.specs.Prelude.{◌≡◌, ◌+◌, ℕ, Contains, IfSome, Some, None};
 ghost use Rattle.mg_levels.specs.Levels.{order_of, portion_of, IsSeatOf};
@@ -9,17 +9,19 @@ use mg_levels::{LevelSeat, Levels};
 use std::alloc::Global;
 use std::sync::Wait;
 
-/// A worker's seat at the levels, if there was memory for one, and a node to which it comes back once it has taken another one.
+/// What a worker has to do with the levels: a seat at them, if there was memory for one, and a node that it keeps, to come back to once it
+/// has taken another one.
 #[derive(Drop)]
 pub(crate) struct Place {
     pub seat: Option<LevelSeat>,
     pub kept: Option<u32>,
-    /// Whether it put a node in of which the others weren't told. It takes one out itself next, or tells them before it does a work.
+    /// Whether the worker has put a node into the levels that idle workers weren't told of. Next it takes a node out itself, or tells them
+    /// before it does a work.
     pub untold: bool,
 }
 
 impl Place {
-    /// A seat at the levels, and no node.
+    /// Returns a place with this seat at the levels, and without a node.
     pub(crate) fn new(seat: LevelSeat) -> Place
         ensures { (result.seat ≡ Some seat) × (result.kept ≡ None) }
     {
@@ -31,7 +33,7 @@ impl Place {
     }
 }
 
-// A seat for one more worker, if there is memory for it.
+// Splits a seat off for one more worker, if there is memory for it.
 fn split_seat(alloc: Global, levels: &Levels, seat: &mut Option<LevelSeat>) -> Option<LevelSeat>
     requires seat { IsAnyOf levels.now seat.old }
     requires portion { IsLeft 2 seat.old }
@@ -48,7 +50,7 @@ fn split_seat(alloc: Global, levels: &Levels, seat: &mut Option<LevelSeat>) -> O
     }
 }
 
-/// A place for one more worker.
+/// Returns a place for one more worker, with a seat that is split off.
 pub(crate) fn split(alloc: Global, levels: &Levels, place: &mut Place) -> Place
     requires place { IsPlaceAt levels.now place.old }
     requires portion { HasPortion 2 place.old }
@@ -64,7 +66,8 @@ pub(crate) fn split(alloc: Global, levels: &Levels, place: &mut Place) -> Place
     }
 }
 
-// Puts a node in that isn't in, and tells whether it is now. One whose level is full is left to the worker that looks over all nodes.
+// Puts a node into the levels that isn't in them, and returns whether it is in them now. If its level is full it is left to the worker that
+// looks over all nodes.
 fn put_in<R: Wait>(rt: &R, tools: &Tools, seat: &mut LevelSeat, node: u32) -> bool
     requires seat { IsSeatOf tools.now.levels seat.old }
     requires node { Contains (order_of tools.now.levels) node }
@@ -77,7 +80,7 @@ fn put_in<R: Wait>(rt: &R, tools: &Tools, seat: &mut LevelSeat, node: u32) -> bo
     false
 }
 
-// Puts a node in, unless it is in or there is no seat, and tells whether it was put in.
+// Puts a node into the levels, unless it is in them or there is no seat, and returns whether it was put in.
 fn put_new<R: Wait>(rt: &R, tools: &Tools, seat: &mut Option<LevelSeat>, node: u32) -> bool
     requires seat { IsAnyOf tools.now.levels seat.old }
     requires node { Contains (order_of tools.now.levels) node }
@@ -89,7 +92,7 @@ fn put_new<R: Wait>(rt: &R, tools: &Tools, seat: &mut Option<LevelSeat>, node: u
     }
 }
 
-/// Tells idle workers of a node that was put in, where they weren't told.
+/// Tells idle workers of a node that was put into the levels, if they weren't told.
 pub(crate) fn tell_others(tools: &Tools, place: &mut Place)
     requires place { IsPlaceAt tools.now.levels place.old }
     ensures place { IsPlaceAt tools.now.levels place.new }
@@ -100,8 +103,8 @@ pub(crate) fn tell_others(tools: &Tools, place: &mut Place)
     }
 }
 
-/// Puts a node in, unless it is in. Idle workers are told of the second one that a worker puts in before it takes one out itself, and
-/// of each further one.
+/// Puts a node into the levels, unless it is in them. Idle workers are told once a worker has put in a second node before it takes one out
+/// itself, and at each further one.
 pub(crate) fn put<R: Wait>(rt: &R, tools: &Tools, place: &mut Place, node: u32)
     requires place { IsPlaceAt tools.now.levels place.old }
     requires node { Contains (order_of tools.now.levels) node }
@@ -113,7 +116,7 @@ pub(crate) fn put<R: Wait>(rt: &R, tools: &Tools, place: &mut Place, node: u32)
     }
 }
 
-// Puts in the node to which a worker was to come back, if there is one.
+// Puts the node that a worker keeps, if there is one, into the levels.
 fn put_kept<R: Wait>(rt: &R, tools: &Tools, place: &mut Place)
     requires place { IsPlaceAt tools.now.levels place.old }
     ensures place { IsPlaceAt tools.now.levels place.new }
@@ -123,7 +126,7 @@ fn put_kept<R: Wait>(rt: &R, tools: &Tools, place: &mut Place)
     }
 }
 
-/// Keeps a node, to which the worker comes back once it has taken another one.
+/// Keeps a node, to which the worker comes back once it has taken another one. A node that it kept before goes into the levels.
 pub(crate) fn keep<R: Wait>(rt: &R, tools: &Tools, place: &mut Place, node: u32)
     requires place { IsPlaceAt tools.now.levels place.old }
     requires node { Contains (order_of tools.now.levels) node }
@@ -133,7 +136,7 @@ pub(crate) fn keep<R: Wait>(rt: &R, tools: &Tools, place: &mut Place, node: u32)
     place.kept = Some(node);
 }
 
-// Takes a node out of the levels.
+// Takes a node out of the levels, if there is one and the worker has a seat.
 fn take_out<R: Wait>(rt: &R, tools: &Tools, place: &mut Place) -> Option<u32>
     requires place { IsPlaceAt tools.now.levels place.old }
     ensures place { IsPlaceAt tools.now.levels place.new }
@@ -146,7 +149,8 @@ fn take_out<R: Wait>(rt: &R, tools: &Tools, place: &mut Place) -> Option<u32>
     }
 }
 
-/// The next node: one that is taken out of the levels, into which the node goes that was kept; or that node, where they are empty.
+/// Returns the next node: one that is taken out of the levels, into which the kept node goes then; or the kept node, where none could be
+/// taken.
 pub(crate) fn take<R: Wait>(rt: &R, tools: &Tools, place: &mut Place) -> Option<u32>
     requires place { IsPlaceAt tools.now.levels place.old }
     ensures place { IsPlaceAt tools.now.levels place.new }

@@ -11,7 +11,7 @@ use mg_turns::NetSeat;
 use std::sync::Wait;
 use std::thread;
 
-// Serves all nodes, the last first.
+// Serves all nodes, from the one with the highest number down.
 fn serve_all<C: Calculator, R: Wait, G: Gate>(
     rt: &R,
     shop: &Shop<'_, C, G>,
@@ -29,7 +29,7 @@ fn serve_all<C: Calculator, R: Wait, G: Gate>(
     came
 }
 
-// Brings packets from all graph inputs that aren't throttled. Where some came, or a turn was out, there may be more.
+// Brings packets from all graph inputs that aren't throttled, and notes that there may be more unless nothing came of it.
 fn feed_all<C: Calculator, R: Wait, G: Gate>(
     rt: &R,
     shop: &Shop<'_, C, G>,
@@ -51,7 +51,7 @@ fn feed_all<C: Calculator, R: Wait, G: Gate>(
     came
 }
 
-// Brings packets from the graph inputs, unless another worker does, or none were left.
+// Brings packets from the graph inputs, unless another worker does or none were left.
 fn feed<C: Calculator, R: Wait, G: Gate>(
     rt: &R,
     shop: &Shop<'_, C, G>,
@@ -67,7 +67,8 @@ fn feed<C: Calculator, R: Wait, G: Gate>(
     feed_all(rt, shop, seat, place)
 }
 
-/// Looks over all graph inputs and nodes. Where nothing came of it, and no other worker did anything meanwhile, nothing is left to do.
+/// Brings packets from all graph inputs that aren't throttled, and serves all nodes. Where nothing came of it, and no other worker did
+/// anything meanwhile, nothing is left to do.
 pub(crate) fn look_over<C: Calculator, R: Wait, G: Gate>(
     rt: &R,
     shop: &Shop<'_, C, G>,
@@ -82,7 +83,8 @@ pub(crate) fn look_over<C: Calculator, R: Wait, G: Gate>(
     fed.and(&served)
 }
 
-// What a worker does that has no node to serve. One without a seat at the levels goes by rounds.
+// Does what a worker does that has no node to serve: it brings packets from the graph inputs. A worker without a seat at the levels serves
+// all nodes, too.
 fn go_round<C: Calculator, R: Wait, G: Gate>(
     rt: &R,
     shop: &Shop<'_, C, G>,
@@ -99,7 +101,7 @@ fn go_round<C: Calculator, R: Wait, G: Gate>(
     }
 }
 
-// Lets other threads run where turns were out, and nothing could be done. It tells whether there was anything to do.
+// Lets other threads run where nothing was done since other workers had the turns. Returns whether there was anything to do.
 fn pause(came: Came) -> bool {
     if came.is_busy() {
         thread::yield_now();
@@ -107,7 +109,7 @@ fn pause(came: Came) -> bool {
     !came.is_nothing()
 }
 
-/// Serves the next node, or brings packets from the graph inputs where there is none. It tells whether there was anything to do.
+/// Serves the next node, or brings packets from the graph inputs where there is none. Returns whether there was anything to do.
 pub(crate) fn go_on<C: Calculator, R: Wait, G: Gate>(
     rt: &R,
     shop: &Shop<'_, C, G>,

@@ -1,4 +1,4 @@
-//! A net that is run by workers.
+//! Runs a net by workers.
 ghost use Rattle.std.specs.Prelude.{◌≡◌, ◌^◌};
 ghost use Rattle.mg_calc.specs.Plan.{IsValid};
 ghost use Rattle.mg_sched.specs.StandsFor.{StandsForSome, IsRunning};
@@ -19,7 +19,7 @@ use std::alloc::Global;
 use std::sync::Wait;
 use std::thread::Threads;
 
-// How a net is run: by so many workers, each Process call through a gate.
+// How a net is run: by how many workers, and through which gate each Process call goes.
 #[derive(Drop)]
 struct Task<'a, G: Gate> {
     alloc: Global,
@@ -27,7 +27,8 @@ struct Task<'a, G: Gate> {
     gate: &'a G,
 }
 
-// Runs a shared net by at least one worker. Where there is no memory for what workers need, nothing is done.
+// Runs a shared net by at least one worker, and returns a seat with all portions. Where there is no memory for what workers need, nothing
+// is done.
 fn run_shared<C: Calculator + Send, R: Threads + Wait + Sync, G: Gate + Sync>(
     rt: &R,
     task: &Task<'_, G>,
@@ -55,10 +56,10 @@ fn run_shared<C: Calculator + Send, R: Threads + Wait + Sync, G: Gate + Sync>(
     }
 }
 
-/// Lets so many workers run a net whose nodes are begun, side by side, until none of them finds anything to do (MediaPipe,
-/// Synchronization). Full queues hold feeders back, until nothing else can be done (Real-time Streams). What workers leave undone, for
-/// want of memory too, is left to a sweep. Nobody says that they come far: without memory for sharing the net, or with no workers,
-/// nothing is done.
+/// Lets workers run a net whose nodes are begun, side by side, until none of them finds anything to do (MediaPipe's documentation,
+/// Synchronization). While queues are full feeders are held back, until nothing else can be done (Real-time Streams). What workers leave
+/// undone, as for want of memory, is left to a sweep. Nothing says how far they come: without memory for sharing the net, or with no
+/// workers, nothing is done.
 pub fn run_workers<C: Calculator + Send, R: Threads + Wait + Sync, G: Gate + Sync>(
     rt: &R,
     alloc: Global,
@@ -71,7 +72,7 @@ pub fn run_workers<C: Calculator + Send, R: Threads + Wait + Sync, G: Gate + Syn
     ensures running { IsRunning result }
     ensures became { Became net result }
 
-    // Each part of it came of the net's own, and only grew.
+    // The net is as it was; or its claimed works stand in their windows again; or each of its parts only grew.
     ensures left { Leaves net result }
 {
     if workers == 0 {

@@ -13,8 +13,8 @@ use mg_edge::Gate;
 use mg_turns::NetSeat;
 use std::sync::Wait;
 
-// Brings packets along an edge, notes how many wait there, and puts in the node that this woke. So whatever was noted, the node is served
-// later, and it is noted anew.
+// Brings packets along an edge. Where that did anything at a node, notes how many packets wait there, and puts the node into the levels: as
+// the node is served later, their number is noted anew.
 fn wake<C: Calculator, R: Wait, G: Gate>(
     rt: &R,
     shop: &Shop<'_, C, G>,
@@ -58,7 +58,7 @@ pub(crate) fn wake_all<C: Calculator, R: Wait, G: Gate>(
     came
 }
 
-// Brings what a node laid, and marks the node where not all of it could be brought.
+// Brings what a node laid along the edges that lead from it, and marks the node where not all of that could be brought.
 fn bring_laid<C: Calculator, R: Wait, G: Gate>(
     rt: &R,
     shop: &Shop<'_, C, G>,
@@ -75,8 +75,8 @@ fn bring_laid<C: Calculator, R: Wait, G: Gate>(
     came
 }
 
-// Does works of a node, unless it is a source that is throttled, and notes what waits there then. As a work may take long, others are told
-// of what was put in before.
+// Does works of a node, unless it is a source that is throttled, and notes how many packets wait there then. As a work may take long, idle
+// workers are first told of a node that was put into the levels.
 fn work<C: Calculator, R: Wait, G: Gate>(
     rt: &R,
     shop: &Shop<'_, C, G>,
@@ -97,8 +97,8 @@ fn work<C: Calculator, R: Wait, G: Gate>(
     came
 }
 
-// Does works of a node, raises the bounds of its outputs, and brings what was laid along the edges that lead from it. Where the node's
-// turns are out another worker serves it.
+// Does works of a node, raises the bounds of its outputs, and brings what was laid along the edges that lead from it. Where another worker
+// has the node's turns nothing is done.
 fn go_through<C: Calculator, R: Wait, G: Gate>(
     rt: &R,
     shop: &Shop<'_, C, G>,
@@ -119,7 +119,7 @@ fn go_through<C: Calculator, R: Wait, G: Gate>(
     worked.and(&raised).and(&brought)
 }
 
-// Brings what a node laid earlier, where not all of that could be brought.
+// Brings what a node laid in an earlier visit, where not all of that could be brought then.
 fn catch_up<C: Calculator, R: Wait, G: Gate>(
     rt: &R,
     shop: &Shop<'_, C, G>,
@@ -138,8 +138,8 @@ fn catch_up<C: Calculator, R: Wait, G: Gate>(
     }
 }
 
-// Serves a node once all is brought that it laid before. So while a consumer's turn is out, no more waits to be brought than a node lays
-// in one visit, however long the consumer's works take.
+// Serves a node once all is brought that it laid before. So while another worker has a consumer's turn, however long that takes, no more
+// waits to be brought than a node lays in one visit.
 fn visit<C: Calculator, R: Wait, G: Gate>(
     rt: &R,
     shop: &Shop<'_, C, G>,
@@ -159,7 +159,7 @@ fn visit<C: Calculator, R: Wait, G: Gate>(
     late.and(&came)
 }
 
-/// Serves a node, and comes back to it where there may be more to do, or a turn was out.
+/// Serves a node, and keeps it to come back to where there may be more to do, or where another worker had a turn.
 pub(crate) fn serve<C: Calculator, R: Wait, G: Gate>(
     rt: &R,
     shop: &Shop<'_, C, G>,

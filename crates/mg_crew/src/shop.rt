@@ -13,30 +13,30 @@ use mg_levels::{LevelSeat, Levels};
 use mg_turns::SharedNet;
 use std::alloc::{AllocError, Global};
 
-/// What workers take their turns from, and what they tell each other.
+/// What workers share beside a net: what they look up, the nodes that may run, and what they tell each other.
 #[derive(Drop)]
 pub(crate) struct Tools {
     pub chart: Chart,
     pub levels: Levels,
     pub marks: NodeMarks,
-    /// What holds feeders back, where queues have limits.
+    /// What holds feeders back, if queues have limits.
     pub throttle: Option<Throttle>,
     pub board: Board,
 }
 
-/// What is marked of nodes. No contract rests on it.
+/// Marks of nodes. No contract rests on them.
 #[derive(Drop)]
 pub(crate) struct NodeMarks {
     /// Which nodes are in the levels, so that none is in twice: a node whose mark is set is in, or about to be, or was taken out by a
     /// worker that has yet to look at it.
     pub inside: Marks,
-    /// The sources that wait to be let go.
+    /// The sources that are held, until a worker puts them into the levels.
     pub held: Marks,
     /// The nodes that laid packets which couldn't all be brought yet.
     pub behind: Marks,
 }
 
-/// What all workers have in common.
+/// What all workers that run a net have in common.
 #[derive(Drop)]
 pub(crate) struct Shop<'a, C: Calculator, G: Gate> {
     pub alloc: Global,
@@ -45,7 +45,7 @@ pub(crate) struct Shop<'a, C: Calculator, G: Gate> {
     pub gate: &'a G,
 }
 
-/// What came of a try: whether something was done, and whether there may be more to do, as where a turn was out.
+/// What came of a try: whether something was done, and whether there may be more to do, as where another worker had a turn.
 #[derive(Clone, Copy)]
 pub(crate) struct Came {
     pub did: bool,
@@ -53,7 +53,7 @@ pub(crate) struct Came {
 }
 
 impl Came {
-    /// Nothing.
+    /// Returns that nothing was done, and that there is no more to do.
     pub(crate) fn nothing() -> Came {
         Came {
             did: false,
@@ -61,7 +61,7 @@ impl Came {
         }
     }
 
-    /// A turn was out.
+    /// Returns that nothing was done, since another worker had a turn.
     pub(crate) fn busy() -> Came {
         Came {
             did: false,
@@ -69,27 +69,27 @@ impl Came {
         }
     }
 
-    /// Something was done, or nothing was; there is no more to do either way.
+    /// Returns whether something was done, and that there is no more to do.
     pub(crate) fn if_did(did: bool) -> Came {
         Came { did, more: false }
     }
 
-    /// A work was done, and there may be another one; or none was done.
+    /// Returns whether a work was done, and that there may be more to do if it was.
     pub(crate) fn if_worked(did: bool) -> Came {
         Came { did, more: did }
     }
 
-    /// Whether there was nothing to do, and no turn was out.
+    /// Whether nothing was done, and there is no more to do.
     pub(crate) fn is_nothing(&self) -> bool {
         !self.did && !self.more
     }
 
-    /// Whether turns were out, and nothing was done.
+    /// Whether nothing was done, since other workers had turns.
     pub(crate) fn is_busy(&self) -> bool {
         !self.did && self.more
     }
 
-    /// What came of two tries.
+    /// Returns what came of two tries together.
     pub(crate) fn and(&self, other: &Came) -> Came {
         Came {
             did: self.did | other.did,
@@ -98,7 +98,7 @@ impl Came {
     }
 }
 
-// What holds feeders back, where the queues of a plan, with so many feeders, have limits.
+// Returns what holds feeders back, if the queues of a plan have limits. `count` is how many feeders the plan has.
 fn throttle_of(alloc: Global, plan: &Plan, count: usize) -> Result<Option<Throttle>, AllocError>
     requires valid { IsValid plan.now }
     requires feeders { count ≡ length (feeders plan.now) }
@@ -111,7 +111,7 @@ fn throttle_of(alloc: Global, plan: &Plan, count: usize) -> Result<Option<Thrott
     Ok(Some(throttle))
 }
 
-// The marks of so many nodes at first: none is in the levels, and all are held.
+// Returns the first marks of `nodes` nodes: none is in the levels, all are held, and none is behind.
 fn marks_of(alloc: Global, nodes: u32) -> Result<NodeMarks, AllocError> {
     let inside = Marks::new(alloc, nodes, false)?;
     let held = Marks::new(alloc, nodes, true)?;
@@ -123,7 +123,7 @@ fn marks_of(alloc: Global, nodes: u32) -> Result<NodeMarks, AllocError> {
     })
 }
 
-/// The tools for a plan, and the first seat at the levels.
+/// Returns the tools for a plan, and a seat at its levels that has the whole portion.
 pub(crate) fn tools_of(alloc: Global, plan: &Plan) -> Result<(Tools, LevelSeat), AllocError>
     requires { IsValid plan.now }
     ensures levels { IfOk result (λ r. HasEachOnce (length plan.now.nodes) (order_of r.0.levels)) }

@@ -9,14 +9,14 @@ use std::sync::{Mutex, Wait};
 #[derive(Drop)]
 pub(crate) struct Throttle {
     gauge: Mutex<Gauge>,
-    // Below it no queue's limit is, so that a shorter queue needn't be noted.
+    // A number that no queue's limit is below: a queue with fewer packets isn't full and needn't be noted.
     least: u64,
-    // The edges whose queues were full when they were noted last.
+    // The edges whose queues were full when they were last noted.
     full: Marks,
 }
 
 impl Throttle {
-    /// No queue of so many edges is full, and no limit is below the least.
+    /// Returns a throttle for `edges` queues, none of which is full. No limit may be lower than `least`.
     pub(crate) fn new(
         alloc: Global,
         gauge: Gauge,
@@ -35,7 +35,7 @@ impl Throttle {
         self.gauge.lock(rt).may_feed(feeder)
     }
 
-    /// The first feeder from a number on, and below another one, that reaches a node and isn't throttled.
+    /// Returns the first feeder from number `from` on, and below `end`, that reaches a node and isn't throttled.
     pub(crate) fn next_feeder<R: Wait>(
         &self,
         rt: &R,
@@ -48,12 +48,12 @@ impl Throttle {
         self.gauge.lock(rt).next_feeder(node, from, end)
     }
 
-    /// Whether a queue was full when it was noted last.
+    /// Whether the queue of an edge was full when it was last noted.
     pub(crate) fn is_full(&self, edge: u32) -> bool {
         self.full.is_set(edge)
     }
 
-    /// Notes how many packets wait in the queue of an edge, and tells whether the queue was full and is full no more.
+    /// Notes how many packets wait in the queue of an edge, and returns whether the queue was full and isn't any more.
     pub(crate) fn note<R: Wait>(&self, rt: &R, edge: u32, packets: u64) -> bool {
         if packets < self.least && !self.is_full(edge) {
             return false;
@@ -66,7 +66,7 @@ impl Throttle {
         self.full.clear(edge)
     }
 
-    /// Relaxes the limits of full queues, and tells whether there was one.
+    /// Relaxes the limits of full queues, and returns whether some queue was full.
     pub(crate) fn relax<R: Wait>(&self, rt: &R) -> bool {
         self.gauge.lock(rt).relax()
     }

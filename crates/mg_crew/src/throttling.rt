@@ -15,7 +15,7 @@ use mg_edge::Gate;
 use mg_turns::{NetSeat, Tried};
 use std::sync::Wait;
 
-// Puts one of some sources in, where it is held.
+// Puts the source at place `k` of a list into the levels, if it is held.
 fn put_held<R: Wait>(rt: &R, tools: &Tools, place: &mut Place, sources: &[u32], k: usize)
     requires place { IsPlaceAt tools.now.levels place.old }
     requires sources { All (λ node. Contains (order_of tools.now.levels) node) sources.now }
@@ -27,7 +27,7 @@ fn put_held<R: Wait>(rt: &R, tools: &Tools, place: &mut Place, sources: &[u32], 
     put(rt, tools, place, sources[k]);
 }
 
-// Puts those of some sources in that are held.
+// Puts those of some sources into the levels that are held.
 fn put_all_held<R: Wait>(rt: &R, tools: &Tools, place: &mut Place, sources: &[u32])
     requires place { IsPlaceAt tools.now.levels place.old }
     requires sources { All (λ node. Contains (order_of tools.now.levels) node) sources.now }
@@ -38,8 +38,8 @@ fn put_all_held<R: Wait>(rt: &R, tools: &Tools, place: &mut Place, sources: &[u3
     }
 }
 
-// Puts those of the sources in that are held, reach a node and aren't throttled. Whoever is throttled anew meanwhile is let go by the
-// worker that finds the other queue full no more.
+// Puts those sources into the levels that are held, reach a node and aren't throttled. If a source is throttled anew meanwhile, the worker
+// that finds the full queue full no more lets it go.
 fn put_let_go<R: Wait>(rt: &R, tools: &Tools, throttle: &Throttle, place: &mut Place, node: u32)
     requires place { IsPlaceAt tools.now.levels place.old }
     requires sources { HasSources tools.now }
@@ -59,7 +59,7 @@ fn put_let_go<R: Wait>(rt: &R, tools: &Tools, throttle: &Throttle, place: &mut P
     }
 }
 
-// Lets all go that are held: sources, and who brings packets from the graph inputs.
+// Lets all feeders go that are held: puts the sources into the levels, and lets a worker bring packets from the graph inputs.
 fn let_all_go<R: Wait>(rt: &R, tools: &Tools, place: &mut Place)
     requires place { IsPlaceAt tools.now.levels place.old }
     requires sources { HasSources tools.now }
@@ -70,8 +70,8 @@ fn let_all_go<R: Wait>(rt: &R, tools: &Tools, place: &mut Place)
     tools.board.tell();
 }
 
-// Lets those go that are held and aren't throttled any more, as a queue of a node is full no more: sources, and who brings packets from
-// the graph inputs.
+// Lets feeders go that are held and aren't throttled any more, as a queue of a node isn't full any more: puts the sources into the levels
+// that reach the node, and lets a worker bring packets from the graph inputs.
 fn let_go<R: Wait>(rt: &R, tools: &Tools, throttle: &Throttle, place: &mut Place, node: u32)
     requires place { IsPlaceAt tools.now.levels place.old }
     requires sources { HasSources tools.now }
@@ -82,7 +82,7 @@ fn let_go<R: Wait>(rt: &R, tools: &Tools, throttle: &Throttle, place: &mut Place
     tools.board.tell();
 }
 
-/// A worker begins. The first one lets the sources go, all of which are held at first.
+/// Notes that a worker begins. The first one lets all feeders go, as all sources are held at first.
 pub(crate) fn begin<R: Wait>(rt: &R, tools: &Tools, place: &mut Place)
     requires place { IsPlaceAt tools.now.levels place.old }
     requires sources { HasSources tools.now }
@@ -93,7 +93,7 @@ pub(crate) fn begin<R: Wait>(rt: &R, tools: &Tools, place: &mut Place)
     }
 }
 
-// How many packets wait at the end of an edge, unless the turn is out. Who has it tells that.
+// Returns how many packets wait at the end of an edge, or `None` if another worker has the turn there. That one notes it.
 fn waiting<C: Calculator, G: Gate>(
     shop: &Shop<'_, C, G>,
     seat: &mut NetSeat<C>,
@@ -110,7 +110,7 @@ fn waiting<C: Calculator, G: Gate>(
     }
 }
 
-/// Notes how many packets wait at the end of an edge. Where its queue was full, and isn't any more, those go on that this lets go.
+/// Notes how many packets wait at the end of an edge. If its queue was full and isn't any more, feeders go on that were held by it.
 pub(crate) fn note<C: Calculator, R: Wait, G: Gate>(
     rt: &R,
     shop: &Shop<'_, C, G>,
@@ -134,7 +134,7 @@ pub(crate) fn note<C: Calculator, R: Wait, G: Gate>(
     }
 }
 
-// Whether the queue of an edge was full when it was noted last.
+// Whether the queue of an edge was full when it was last noted.
 fn is_full(tools: &Tools, edge: u32) -> bool {
     let Some(throttle) = &tools.throttle else {
         return false;
@@ -189,8 +189,8 @@ pub(crate) fn is_throttled<R: Wait>(rt: &R, tools: &Tools, at: usize) -> bool {
     !throttle.may_feed(rt, feeder)
 }
 
-/// Whether a node is a source that is throttled. It is held then until it is let go. It is marked before the limits are asked, so that
-/// nobody who lets it go passes it over.
+/// Whether a node is a source that is throttled, which is held then until it is let go. Its mark is set before the limits are asked, so
+/// that no worker that lets sources go passes it over.
 pub(crate) fn is_held<R: Wait>(rt: &R, tools: &Tools, node: u32) -> bool {
     if tools.chart.feeder(node as usize).is_none() {
         return false;
@@ -203,7 +203,7 @@ pub(crate) fn is_held<R: Wait>(rt: &R, tools: &Tools, node: u32) -> bool {
     false
 }
 
-/// Relaxes the limits of full queues, so that those go on that are held, and tells whether there was one.
+/// Relaxes the limits of full queues, and returns whether some queue was full. If so it lets all feeders go that are held.
 pub(crate) fn relax<R: Wait>(rt: &R, tools: &Tools, place: &mut Place) -> bool
     requires place { IsPlaceAt tools.now.levels place.old }
     requires sources { HasSources tools.now }

@@ -16,13 +16,13 @@ use mg_node::{Claimed, Delivered, Work};
 use mg_turns::{NetSeat, SharedNet, Tried};
 use std::sync::Wait;
 
-// How many works of a node are done under one pair of turns.
+// How many works of a node are done under one pair of turns, at most.
 const WORKS: u32 = 64;
 
-// How many packets are brought along an edge under one pair of turns, at most.
+// How many packets are brought along an edge under one pair of turns, at most. `try_append` has this number.
 const PACKETS: u32 = 256;
 
-// Does works of a node while its turns are held.
+// Does works of a node under one pair of turns, and returns what came of it.
 fn run<C: Calculator, G: Gate>(shop: &Shop<'_, C, G>, seat: &mut NetSeat<C>, node: u32) -> Came
     requires shared { IsShared shop.now.net.now seat.old }
     requires node { node < nodes_in (key_of shop.now.net.now) }
@@ -38,7 +38,7 @@ fn run<C: Calculator, G: Gate>(shop: &Shop<'_, C, G>, seat: &mut NetSeat<C>, nod
     }
 }
 
-// Claims the next work of a node, or tells what came of that.
+// Claims the next work of a node. If none is claimed the error says what came of the try.
 fn claim<C: Calculator>(
     net: &SharedNet<C>,
     seat: &mut NetSeat<C>,
@@ -63,7 +63,7 @@ fn claim<C: Calculator>(
     }
 }
 
-// Puts a node in, so that other workers do further works of it meanwhile, unless there was no memory for one.
+// Puts a node into the levels, so that other workers do further works of it meanwhile, unless some work found no memory.
 fn share_node<R: Wait>(rt: &R, tools: &Tools, place: &mut Place, node: u32)
     requires place { IsPlaceAt tools.now.levels place.old }
     requires node { Contains (order_of tools.now.levels) node }
@@ -75,7 +75,7 @@ fn share_node<R: Wait>(rt: &R, tools: &Tools, place: &mut Place, node: u32)
     }
 }
 
-// Does one work of a node, and lets other workers do further ones meanwhile.
+// Does one work of a node, and lets other workers do further ones meanwhile. Returns what came of it.
 fn fly<C: Calculator, R: Wait, G: Gate>(
     rt: &R,
     shop: &Shop<'_, C, G>,
@@ -98,7 +98,7 @@ fn fly<C: Calculator, R: Wait, G: Gate>(
     }
 }
 
-/// Does works of a node, and tells what came of it.
+/// Does works of a node, and returns what came of it.
 pub(crate) fn work_at<C: Calculator, R: Wait, G: Gate>(
     rt: &R,
     shop: &Shop<'_, C, G>,
@@ -117,7 +117,7 @@ pub(crate) fn work_at<C: Calculator, R: Wait, G: Gate>(
     }
 }
 
-/// Raises the bounds of a node's outputs, and tells what came of it.
+/// Raises the bounds of a node's outputs, and returns what came of it.
 pub(crate) fn raise<C: Calculator, G: Gate>(
     shop: &Shop<'_, C, G>,
     seat: &mut NetSeat<C>,
@@ -134,7 +134,7 @@ pub(crate) fn raise<C: Calculator, G: Gate>(
     }
 }
 
-/// Brings packets along an edge, and tells what came of it.
+/// Brings packets along an edge, and returns what came of it.
 pub(crate) fn bring<C: Calculator, G: Gate>(
     shop: &Shop<'_, C, G>,
     seat: &mut NetSeat<C>,

@@ -1,4 +1,4 @@
--- Batches: what they hand to a graph.
+-- Batches, what they hand to a graph, and how a run goes on after each.
 use Rattle.std.specs.Prelude.{◌≡◌, ◌⊎◌, ◌<◌, ◌^◌, ℕ, List, All, length, slice_index_or, ⊤}
 use Rattle.mg_edge.specs.Edge.{SourceTold, SinkTold}
 use Rattle.mg_value.specs.Payload.{Plain}
@@ -25,21 +25,21 @@ use Rattle.mg_drive.specs.Nets.{HasRested, Wanted, AreRead}
 use Rattle.mg_drive.specs.declared.batches.Onward.{Onward}
 use Rattle.mg_drive.specs.declared.batches.Onward.TheVariants.{Round, Next, End as Over}
 
--- there is more behind a batch
+-- a batch ended with `More`
 abbrev pub IsMore : BatchEnd → Type 0
 IsMore More = ⊤
 IsMore (End end) = ⊥
 
--- the job of a plan over inputs, with these calculators
+-- the job of a plan over inputs, with the calculators that are handed in
 abbrev pub logged : Plan → Inputs → List CalculatorTold → LoggedJob
 logged plan inputs boxes = record { job = record { plan = plan; inputs = inputs }; boxes = boxes }
 
--- The first batch was given: it fits the plan.
+-- The inputs of the first batch were given, and they fit the plan.
 pub record IsFirst (gives : BatchEnd → Inputs → Type 0) (plan : Plan) (end : BatchEnd) (inputs : Inputs) : Type 0 where
   pub given : gives end inputs
   pub fits : InputsFit plan inputs
 
--- with more, inputs so far come to all: each has its further piece behind what it had, and all of them fit the plan
+-- inputs so far and further inputs are together these: each stream has its further piece behind what it had, and all of them fit the plan
 pub record InputsGoOn (plan : Plan) (so_far more all : Inputs) : Type 0 where
   pub fits : InputsFit plan all
   pub sides : so_far.sides ≡ all.sides
@@ -48,7 +48,7 @@ pub record InputsGoOn (plan : Plan) (so_far more all : Inputs) : Type 0 where
   pub streams : (input : ℕ) → input < length more.streams → slice_index_or all.streams input empty_prefix
       ≡ joined (slice_index_or so_far.streams input empty_prefix) (slice_index_or more.streams input empty_prefix)
 
--- More was given: all together come to inputs that go on from those so far.
+-- Further inputs were given: with those so far they come to all that was given, which goes on from these.
 pub record GoesOn (gives : Inputs → Type 0) (plan : Plan) (so_far more : Inputs) : Type 0 where
   pub all : Inputs
   pub given : gives all
@@ -56,15 +56,15 @@ pub record GoesOn (gives : Inputs → Type 0) (plan : Plan) (so_far more : Input
 
 -- How a run goes on --
 
--- what batches of a kind gave, all of them together
+-- the type of `Batches::gives`: what batches gave, all of them together
 abbrev pub Giving : Type 0 → Type 1
 Giving B = B → B → Plan → SourceTold → SourceTold → BatchEnd → Inputs → Type 0
 
--- what they had given together after each batch, the newest first
+-- the type of `Batches::came`: what batches had given together after each of them, the newest first
 abbrev pub Coming : Type 0 → Type 1
 Coming B = B → B → Plan → SourceTold → SourceTold → BatchEnd → List Inputs → Type 0
 
--- after which inputs the next batch is due
+-- the type of `Batches::is_due`: after which inputs the next batch is due
 abbrev pub Due : Type 0 → Type 1
 Due B = B → Plan → Inputs → Type 0
 
@@ -72,7 +72,7 @@ Due B = B → Plan → Inputs → Type 0
 abbrev pub MayRead : {B : Type 0} → (B → Plan → Type 0) → Due B → B → Plan → Type 0
 MayRead is_fresh is_due batches plan = is_fresh batches plan ⊎ ((inputs : Inputs) × is_due batches plan inputs)
 
--- A net has come to rest over what batches gave, the last of which ended so.
+-- A net has come to rest over what batches gave, the last of which ended in this way.
 pub record IsAsGiven {B : Type 0} (gives : Giving B) (began : B) (plan : Plan) (first source : SourceTold) (last : BatchEnd) (so_far : Inputs) (net : NetView) (batches : B) : Type 0 where
   pub valid : IsValid plan
   pub given : gives began batches plan first source last so_far
@@ -80,7 +80,7 @@ pub record IsAsGiven {B : Type 0} (gives : Giving B) (began : B) (plan : Plan) (
   pub stands : StandsFor (logged plan so_far boxes) net
   pub has_rested : HasRested (logged plan so_far boxes) net
 
--- there is a run of some plan in which it has
+-- in some run of some plan a net has come to rest over what batches gave
 pub record SomeGiven {B : Type 0} (gives : Giving B) (last : BatchEnd) (net : NetView) (batches : B) : Type 0 where
   pub began : B
   pub plan : Plan
@@ -89,21 +89,23 @@ pub record SomeGiven {B : Type 0} (gives : Giving B) (last : BatchEnd) (net : Ne
   pub so_far : Inputs
   pub as_given : IsAsGiven gives began plan first source last so_far net batches
 
--- The next batch is due: the input has no end yet, nothing comes before it, and all that is in the net was read.
+-- The next batch is due: the input has no end yet, nothing comes before the batch, and all that the net has laid for the batches to read
+-- was read.
 pub record NextIsDue {B : Type 0} (gives : Giving B) (is_due : Due B) (wants : B → List Wanted) (began : B) (plan : Plan) (first source : SourceTold) (last : BatchEnd) (so_far : Inputs) (net : NetView) (now : B) : Type 0 where
   pub more : last ≡ More
   pub given : gives began now plan first source More so_far
   pub due : is_due now plan so_far
   pub read : AreRead (wants now) net
 
--- How a run goes on: something comes to the last graph inputs before the next batch; or that is due; or the input ended so, and all of it was given.
+-- How a run goes on: pieces come to the last graph inputs before the next batch; or the next batch is due; or the input ended, and all of
+-- it was given.
 abbrev pub GoesOnward : {B : Type 0} → Giving B → Due B → (B → List Wanted) → B → Plan → SourceTold → SourceTold → BatchEnd → Inputs → NetView → B → Onward → Type 0
 GoesOnward gives is_due wants began plan first source last so_far net now (Round pieces) =
     (last ≡ More) × GoesOn (gives began now plan first source More) plan so_far (for_last (length net.plan.inputs) pieces)
 GoesOnward gives is_due wants began plan first source last so_far net now Next = NextIsDue gives is_due wants began plan first source last so_far net now
 GoesOnward gives is_due wants began plan first source last so_far net now (Over end) = gives began now plan first source (End end) so_far
 
--- the bound on the batches and rounds that may still come: it falls with each round, and else it stays
+-- the bound on the batches and rounds that may still come falls with each round, and stays otherwise
 abbrev pub RoundLeaves : Onward → ℕ → ℕ → Type 0
 RoundLeaves (Round pieces) before now = now < before
 RoundLeaves Next before now = now ≡ before
@@ -116,14 +118,14 @@ PlainOnward (End end) onward = onward ≡ Over end
 
 -- How a run ends --
 
--- outcomes are of as many nodes and streams as a plan has
+-- outcomes have an entry for each node and stream of a plan
 pub record Tells (plan : Plan) (outcomes : Outcomes) : Type 0 where
   pub few : length outcomes.ends.items < 2 ^ 32
   pub many : length outcomes.ends.items ≡ length plan.streams
   pub sets : length outcomes.sets ≡ length plan.nodes
   pub nodes : All (λ fault. fault.node < length plan.nodes) outcomes.faults
 
--- outcomes are told of streams of the job over what batches gave together, with whose last the input ended so
+-- outcomes are of streams of the job over all that batches gave, the last of which ended the input in this way
 pub record AreOfGiven {B : Type 0} (gives : Giving B) (plan : Plan) (end : FeedEnd) (batches : B) (outcomes : Outcomes) : Type 0 where
   pub began : B
   pub first : SourceTold
@@ -133,7 +135,7 @@ pub record AreOfGiven {B : Type 0} (gives : Giving B) (plan : Plan) (end : FeedE
   pub streams : List (StreamPrefix Plain)
   pub tells : TellsOf (record { plan = plan; inputs = inputs }) streams outcomes
 
--- there is a solution of a job of the plan: outcomes are told of it, and a text was put that tells it in a form
+-- a job of the plan has a solution of which the outcomes are, and a text that tells it in a form was put
 pub record Ends (form : Form) (job : Job) (first sink : SinkTold) (plan : Plan) (text : TextView) (outcomes : Outcomes) : Type 0 where
   pub plan_is : job.plan ≡ plan
   pub streams : List (StreamPrefix Plain)

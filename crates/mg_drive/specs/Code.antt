@@ -1,4 +1,4 @@
--- What the code's own functions say to one another.
+-- Definitions that only the code's own functions use.
 pub mod Running
 pub mod Lines
 pub mod Ending

@@ -10,20 +10,20 @@ use Rattle.mg_feed.specs.declared.feed_end.BatchEnd.TheVariants.{More}
 use Rattle.mg_answer.specs.Answer.{is_ended}
 use Rattle.mg_drive.specs.declared.lines.TheConstants.{BATCH}
 
--- what lines give a graph, where the input has ended well or not
+-- what lines give a graph; `ended` says whether the input has ended well with them
 abbrev pub inputs_at : GraphInputs → List (List ℕ) → Bool → Inputs
 inputs_at graph lines ended = record { streams = ended_streams ended (given_by graph lines).streams; sides = (given_by graph lines).sides; ended = ended }
 
--- how many lines that name a stream a batch has
+-- the most lines that name a stream in one batch
 abbrev pub batch_size : ℕ
 batch_size = BATCH
 
--- Lines in batches: each but the last has as many lines that name a stream as a batch may have, of which one is its last line.
+-- Lines are parted into batches: each but the last has `batch_size` lines that name a stream, and ends with one of these.
 pub data InBatches : List (List ℕ) → List (List (List ℕ)) → Type 0 where
   last : {lines : List (List ℕ)} → naming lines < batch_size → InBatches lines (lines ∷ [])
   more : {batch rest : List (List ℕ)} {batches : List (List (List ℕ))} → Fills More batch_size batch → InBatches rest batches → InBatches (batch ++ rest) (batch ∷ batches)
 
--- what has come after each batch, behind these lines
+-- what all batches up to each one have given together, where the lines `past` stand before the first
 abbrev pub come_after : GraphInputs → FeedEnd → List (List ℕ) → List (List (List ℕ)) → List Inputs
 come_after graph end past [] = []
 come_after graph end past (batch ∷ []) = inputs_at graph (past ++ batch) (is_ended end) ∷ []

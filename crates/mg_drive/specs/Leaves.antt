@@ -19,21 +19,20 @@ use Rattle.mg_answer.specs.Ran.{CameTo}
 use Rattle.mg_answer.specs.declared.status.Status.{Status}
 use Rattle.mg_answer.specs.declared.status.Status.TheVariants.{OutOfMemory}
 
--- the first calls of a node's calculator, a number of them: Open, and a Process for each set that the node is shown; and perhaps Close
--- behind them
+-- the first `count` calls of a node's calculator: Open, and a Process for each set that the node is shown; with Close behind them or not
 abbrev pub first_calls : Job → List (StreamPrefix Plain) → PlanNode → ℕ → Bool → List Call
 first_calls job streams node count close =
     take count (Begun ∷ map (λ e. Shown e.at e.set) (shown_sets job streams node)) ++ (if close then Finished ∷ [] else [])
 
--- A calculator had the calls that its node has in a solution: its log, where it tells one, grew by just these, in their order; and it
--- keeps what the node comes to.
+-- A calculator had the calls that its node has in a solution: its log, where it tells one, grew by just these, in their order; and its
+-- state is the one to which the node comes.
 pub record HadItsCalls (job : Job) (streams : List (StreamPrefix Plain)) (node : PlanNode) (before now : CalculatorTold) : Type 0 where
   pub log : now.log ≡ option_map (λ calls. calls ++ log_of job streams node) before.log
   pub state : now.state ≡ (outcome_of job streams node).state
   pub law : now.law ≡ before.law
   pub shape : now.shape ≡ before.shape
 
--- The calculator at a place before and the one there now stand in a relation.
+-- The calculator that stood at a place before and the one that stands there now are related by `P`.
 pub record IsAt (place : ℕ) (P : CalculatorTold → CalculatorTold → Type 0) (boxes : Device (List CalculatorTold)) : Type 0 where
   pub before : CalculatorTold
   pub now : CalculatorTold
@@ -41,21 +40,21 @@ pub record IsAt (place : ℕ) (P : CalculatorTold → CalculatorTold → Type 0)
   pub is : slice_get boxes.now place ≡ Some now
   pub holds : P before now
 
--- Each calculator that a node uses had its calls, in the solution of a job.
+-- Each calculator that a node uses had all the calls that its node has in the solution of a job.
 pub record HadCallsOf (job : Job) (boxes : Device (List CalculatorTold)) : Type 0 where
   pub streams : List (StreamPrefix Plain)
   pub solution : IsSolution job streams
   pub each : (number place : ℕ) (node : PlanNode) → slice_get job.plan.nodes number ≡ Some node → node.box_number ≡ Some place
       → IsAt place (HadItsCalls job streams node) boxes
 
--- They had them in the solution over what the input came to.
+-- Each calculator that a node uses had all the calls that its node has in the solution over what the input came to.
 pub record HadCalls (plan : Plan) (input : Device SourceTold) (boxes : Device (List CalculatorTold)) : Type 0 where
   pub read : Read
   pub came : CameTo (inputs_of plan) input read
   pub had : HadCallsOf (job_of plan read) boxes
 
 -- A calculator had a front of the calls that its node has in a solution: the first of them, a number of them, and perhaps Close behind
--- them, which it had only behind Open. Its log, where it tells one, grew by just these.
+-- them, but not without Open. Its log, where it tells one, grew by just these.
 pub record HadAFront (job : Job) (streams : List (StreamPrefix Plain)) (node : PlanNode) (before now : CalculatorTold) : Type 0 where
   pub count : ℕ
   pub close : Bool
@@ -64,36 +63,36 @@ pub record HadAFront (job : Job) (streams : List (StreamPrefix Plain)) (node : P
   pub law : now.law ≡ before.law
   pub shape : now.shape ≡ before.shape
 
--- what a node has come to once it was opened and shown its first settled sets, a number of them
+-- what a node has come to once it was opened and shown its first `shown` settled sets
 abbrev pub come_to : Job → List (StreamPrefix Plain) → PlanNode → ℕ → Outcome
 come_to job streams node shown = shown_all node.law node.shape.offset (length node.outputs) (sides_of job node) (take shown (settled_sets node.policy (ports_of streams node)))
 
--- A calculator had such a front. Before Open it keeps what it kept, and from Open on what its node has come to after the sets that it was
--- shown. Close changes nothing of it.
+-- A calculator had a front of its node's calls. Before Open its state is what it was, and from Open on it is the one to which its node has
+-- come after the sets that it was shown. Close changes nothing of it.
 pub record KeepsAFront (job : Job) (streams : List (StreamPrefix Plain)) (node : PlanNode) (before now : CalculatorTold) : Type 0 where
   pub front : HadAFront job streams node before now
   pub unopened : front.count ≡ 0 → now.state ≡ before.state
   pub state : (shown : ℕ) → front.count ≡ suc shown → now.state ≡ (come_to job streams node shown).state
 
--- Each calculator that a node uses had such a front, in the solution of a job.
+-- Each calculator that a node uses had a front of the calls that its node has in the solution of a job.
 pub record HadFronts (job : Job) (boxes : Device (List CalculatorTold)) : Type 0 where
   pub streams : List (StreamPrefix Plain)
   pub solution : IsSolution job streams
   pub each : (number place : ℕ) (node : PlanNode) → slice_get job.plan.nodes number ≡ Some node → node.box_number ≡ Some place
       → IsAt place (HadAFront job streams node) boxes
 
--- The input was read, and they had such fronts in the solution over what it came to.
+-- The input was read, and each calculator that a node uses had a front of its node's calls in the solution over what the input came to.
 pub record HadFrontsOfRead (plan : Plan) (input : Device SourceTold) (boxes : Device (List CalculatorTold)) : Type 0 where
   pub read : Read
   pub came : CameTo (inputs_of plan) input read
   pub fronts : HadFronts (job_of plan read) boxes
 
--- Memory ran out: none had a call, or the input was read, and they had such fronts.
+-- Memory ran out: no calculator had a call, or the input was read, and each that a node uses had a front of its node's calls.
 abbrev pub HadSome : Plan → Device SourceTold → Device (List CalculatorTold) → Type 0
 HadSome plan input boxes = Untouched boxes ⊎ HadFrontsOfRead plan input boxes
 
--- What a recorded run leaves. All come back in their order. One that no node uses had no call. The others had all of theirs, and where
--- memory ran out a front of them, perhaps with Close behind it.
+-- What a recorded run leaves of the calculators. All come back in their order. A calculator that no node uses had no call. Each other one
+-- had all of its calls, or, where memory ran out, a front of them, perhaps with Close behind it.
 pub record RunLeaves (plan : Plan) (status : Status) (input : Device SourceTold) (boxes : Device (List CalculatorTold)) : Type 0 where
   pub count : length boxes.now ≡ length boxes.before
   pub unused : (place : ℕ) → All (λ node. ¬ (node.box_number ≡ Some place)) plan.nodes → slice_get boxes.now place ≡ slice_get boxes.before place

@@ -1,4 +1,4 @@
--- What is told of a run of a graph with free nodes: by the plan's numbers what a solution of its core has, and a line for each arrival.
+-- The outcomes of a run of a graph with free nodes: what a solution of its core has, by the plan's numbers, and a line for each arrival.
 use Rattle.std.specs.Prelude.{◌≡◌, ℕ, true, false, List, [], ◌∷◌, map, drop, length, slice_index_or}
 use Rattle.std.specs.List.{flat_map, zip}
 use Rattle.mg_value.specs.Payload.{Plain}
@@ -25,21 +25,21 @@ abbrev pub first_of : List ℕ → ℕ
 first_of [] = 0
 first_of (n ∷ ns) = n
 
--- For each node of a plan how many sets it was shown in the core, or, if it is free, how many packets arrived at it. Both come as lists, one
--- of the core's nodes and one of the free nodes, in the order of the plan.
+-- For each node of a plan how many sets it was shown in the core, or, if it is free, how many packets arrived at it. `sets` has those of
+-- the core's nodes and `arrivals` those of the free nodes, each in the order of the plan.
 abbrev pub sets_by : List PlanNode → List ℕ → List ℕ → List ℕ
 sets_by [] sets arrivals = []
 sets_by (node ∷ nodes) sets arrivals = elim (is_free node) [ true ↦ first_of arrivals ∷ sets_by nodes sets (drop 1 arrivals) | false ↦ first_of sets ∷ sets_by nodes (drop 1 sets) arrivals ]
 
--- the lines of the arrivals at the free nodes, node by node
+-- the lines of the arrivals at a free node
 abbrev pub lines_at : FreeNode × Taken → List ℕ
 lines_at e = flat_map (λ a. arrival_note e.0.node a.port a.packet.at) e.1.log
 
+-- the lines of the arrivals at all free nodes, node by node
 abbrev pub arrivals_text : List FreeNode → List Taken → List ℕ
 arrivals_text frees takens = flat_map lines_at (zip frees takens)
 
--- What is told of a plan's nodes and streams, by a solution of its core and by what the free nodes have taken, with the lines of the
--- arrivals.
+-- The outcomes of a plan with free nodes, by a solution of its core and by what the free nodes have taken, with the lines of the arrivals.
 pub record LiveTells (whole : Plan) (job : Job) (streams : List (StreamPrefix Plain)) (frees : List FreeNode) (takens : List Taken) (outcomes : Outcomes) : Type 0 where
   pub faults : outcomes.faults ≡ map (fault_in (split_of whole).numbers) (faults job streams)
   pub sets : outcomes.sets ≡ sets_by whole.nodes (counts job streams) (map (λ t. length t.log) takens)

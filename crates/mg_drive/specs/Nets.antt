@@ -1,4 +1,4 @@
--- What a net keeps while it is driven.
+-- What a net keeps while it is driven, and which of its packets are still to be read.
 use Rattle.std.specs.Prelude.{◌≡◌, ◌+◌, ◌≤◌, ℕ, List, length, All}
 use Rattle.mg_value.specs.Payload.{Plain}
 use Rattle.mg_stream.specs.Pool.{Backlog}
@@ -26,19 +26,19 @@ pub record HasRested (job : LoggedJob) (net : NetView) : Type 0 where
 abbrev pub GaveNothingUp : NetView → NetView → Type 0
 GaveNothingUp before now = (stream number : ℕ) → HasFrom before stream number → HasFrom now stream number
 
--- a stream, and the number of the first of its packets that is still to be read
+-- the packets of a stream that are still to be read: those with the number `from` or a higher one
 pub record Wanted : Type 0 where
   pub stream : ℕ
   pub from : ℕ
 
--- what is still to be read is there
+-- all packets that are still to be read are there
 abbrev pub AreThere : List Wanted → NetView → Type 0
 AreThere wanted net = All (λ w. HasFrom net w.stream w.from) wanted
 
--- at most so many packets of a stream were laid
+-- no more than `number` packets of a stream were laid
 abbrev pub HasAtMost : NetView → ℕ → ℕ → Type 0
 HasAtMost net stream number = (output : Backlog Plain) → IsOutputOf net stream output → output.gone + length output.packets ≤ number
 
--- all that was laid is read
+-- all packets that were laid are read
 abbrev pub AreRead : List Wanted → NetView → Type 0
 AreRead wanted net = All (λ w. HasAtMost net w.stream w.from) wanted

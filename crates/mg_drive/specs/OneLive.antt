@@ -1,5 +1,5 @@
--- A run of a graph with free nodes as one thing: there are one reading of its input, the batches of its lines, the logs to which the rounds
--- over these come, and one solution of the core for them; and all that is seen of the run is theirs.
+-- A run of a graph with free nodes as one thing: there is one reading of its input, the batches of its lines, the logs to which the free
+-- nodes' rounds over these come, and one solution of the core for these logs; and all that is seen of the run is theirs.
 use Rattle.std.specs.Prelude.{◌≡◌, ◌⊎◌, ℕ, List, [], ◌∷◌, ◌++◌, reverse, Bool, true}
 use Rattle.std.specs.List.{AllZip}
 use Rattle.mg_edge.specs.Edge.{SourceTold, SinkTold}
@@ -34,8 +34,8 @@ use Rattle.mg_drive.specs.InBatches.{InBatches, come_after}
 
 -- A run --
 
--- The rounds over some batches come to logs. In the solution of the core for these the log of each free node is lawful, its output is the
--- one that its law gives for its log, and this is told of the plan.
+-- The rounds over some batches come to logs. In the solution of the core for these, the log of each free node is lawful, the node's output
+-- is the one that its law gives for its log, and `live` is what this tells of the plan.
 pub record ComesTo (whole : Plan) (first : Inputs) (later : List Inputs) : Type 0 where
   pub takens : List Taken
   pub rounds : AllRounds (split_of whole) (first ∷ later) (none_taken (split_of whole)) takens
@@ -46,22 +46,21 @@ pub record ComesTo (whole : Plan) (first : Inputs) (later : List Inputs) : Type 
   pub live : Outcomes
   pub tells : LiveTells whole (core_job (split_of whole) (last_batch first later) takens) streams (split_of whole).free takens live
 
--- the answer of a run over batches, whose input ended so
+-- the answer of a run over batches, by how its input ended
 pub record IsLiveAnswer (form : Form) (report : Bool) (whole : Plan) (first : Inputs) (later : List Inputs) (end : FeedEnd) (answer : Answer) : Type 0 where
   pub comes : ComesTo whole first later
   pub is : answer ≡ told_answer report whole end comes.live (output_in form (split_of whole).core comes.streams)
 
--- A run over batches, whose input ended so. The output, the status and the notes are those of the core's solution, told by the plan's
--- numbers, with a line for each arrival; and each calculator that is handed in had exactly the calls that its node has in that solution.
+-- A run over batches, by how its input ended. The output, the status and the notes are those of the core's solution, by the plan's numbers,
+-- with a line for each arrival; and each calculator that is handed in had exactly the calls that its node has in that solution.
 pub record OneLive (form : Form) (report : Bool) (whole : Plan) (first : Inputs) (later : List Inputs) (end : FeedEnd) (status : Status) (output notes : Device SinkTold) (boxes : Device (List CalculatorTold)) : Type 0 where
   pub comes : ComesTo whole first later
   pub wrote : WroteBy status (told_answer report whole end comes.live (output_in form (split_of whole).core comes.streams)) (told_failed report whole end comes.live) output notes
   pub had : AllHad (split_of whole).core (HadItsCalls (core_job (split_of whole) (last_batch first later) comes.takens) comes.streams) boxes
 
--- A run over batches in which memory ran out. By then some of the first batches had come: the last of them is `base`, and the others
--- stand in `earlier`, the newest first. Rounds over these had come to logs: in the solution of the core for what the free nodes had
--- taken, the output took a front of the text, and each calculator had a front of its calls and keeps what its node has come to after
--- them.
+-- A run over batches in which memory ran out. By then a first number of the batches had come: the last of these is `base`, and those before
+-- it are `earlier`, the newest first. Rounds over these had come to logs. In the solution of the core for what the free nodes had taken,
+-- the output took a front of the text, and each calculator had a front of its calls and keeps what its node has come to after them.
 pub record LiveShort (form : Form) (whole : Plan) (batches : List Inputs) (output : Device SinkTold) (boxes : Device (List CalculatorTold)) : Type 0 where
   pub base : Inputs
   pub earlier : List Inputs
@@ -76,7 +75,7 @@ pub record LiveShort (form : Form) (whole : Plan) (batches : List Inputs) (outpu
 
 -- Over packet lines --
 
--- what has come after each batch of the lines to which an input came
+-- the batches of the lines to which an input came: what all of them up to each one have given together
 pub record AreBatchesOf (whole : Plan) (read : Read) (batches : List Inputs) : Type 0 where
   pub lines : List (List (List ℕ))
   pub in_batches : InBatches read.lines lines
@@ -91,7 +90,7 @@ pub record OneLiveReading (report : Bool) (whole : Plan) (status : Status) (devi
   pub batches : AreBatchesOf whole read (first ∷ later)
   pub run : OneLive packet_lines report whole first later read.end status devices.output devices.notes boxes
 
--- Memory ran out once the input had been read to its end, its first line that isn't good or its first failed read.
+-- Memory ran out once the whole input had been read, to its end, its first line that isn't good or its first failed read.
 pub record LiveShortAtEnd (whole : Plan) (input : Device SourceTold) (output : Device SinkTold) (boxes : Device (List CalculatorTold)) : Type 0 where
   pub read : Read
   pub came : CameTo (inputs_of whole) input read
@@ -99,9 +98,9 @@ pub record LiveShortAtEnd (whole : Plan) (input : Device SourceTold) (output : D
   pub are : AreBatchesOf whole read batches
   pub short : LiveShort packet_lines whole batches output boxes
 
--- Memory ran out while there was more. The input was read once, and these bytes are the first of those that came. Whatever bytes follow
--- them, of which there are none where the source had ended with them, what was written and called is a front of what belongs to the batches
--- of the whole input.
+-- Memory ran out while the input went on. The input was read once, and `first` are the first of the bytes that came. Whatever bytes follow
+-- these, of which there are none where the source had ended with them, what was written and called is a front of what belongs to the
+-- batches of the whole input.
 pub record LiveShortBefore (whole : Plan) (input : Device SourceTold) (output : Device SinkTold) (boxes : Device (List CalculatorTold)) : Type 0 where
   pub read : ReadSome (inputs_of whole) input
   pub first : List ℕ
@@ -112,20 +111,21 @@ pub record LiveShortBefore (whole : Plan) (input : Device SourceTold) (output : 
   pub short : (rest : List ℕ) → (ended ≡ true → rest ≡ []) → (batches : List Inputs) → AreBatchesOf whole (ended_input (inputs_of whole) (first ++ rest)) batches
       → LiveShort packet_lines whole batches output boxes
 
--- memory ran out before anything was written or called, once the input had been read, or while there was more
+-- memory ran out before anything was written or called, once the input had been read, or while it went on
 abbrev pub LiveShortIn : Plan → Device SourceTold → Device SinkTold → Device (List CalculatorTold) → Type 0
 LiveShortIn whole input output boxes = ShortAtOnce whole input output boxes ⊎ (LiveShortAtEnd whole input output boxes ⊎ LiveShortBefore whole input output boxes)
 
--- Memory ran out, and the notes say that alone.
+-- A run over packet lines ended since memory ran out, and the notes say that alone.
 pub record LiveShortReading (whole : Plan) (status : Status) (devices : RunDevices) (boxes : Device (List CalculatorTold)) : Type 0 where
   pub is : status ≡ OutOfMemory
   pub noted : Noted devices.notes memory_note
   pub by : LiveShortIn whole devices.input devices.output boxes
 
+-- a run over packet lines ended with this status: over the whole input, or since memory ran out
 abbrev pub RanLive : Bool → Plan → Status → RunDevices → Device (List CalculatorTold) → Type 0
 RanLive report whole status devices boxes = OneLiveReading report whole status devices boxes ⊎ LiveShortReading whole status devices boxes
 
--- the answer of a graph over an input that ended after these bytes
+-- the answer of a graph with free nodes over an input that ended after these bytes
 pub record AnswersLive (report : Bool) (whole : Plan) (bytes : List ℕ) (answer : Answer) : Type 0 where
   pub first : Inputs
   pub later : List Inputs
@@ -134,21 +134,25 @@ pub record AnswersLive (report : Bool) (whole : Plan) (bytes : List ℕ) (answer
 
 -- Over packets that are made, all of which are one batch --
 
+-- A number of packets were made, and were run as one batch.
 abbrev pub OneLiveMade : Bool → Plan → ℕ → Status → Device SinkTold → Device SinkTold → Device (List CalculatorTold) → Type 0
 OneLiveMade report whole number status output notes boxes = OneLive totals report whole (generated_job whole number).inputs [] Ended status output notes boxes
 
--- Memory ran out: before anything was done, or in that run.
+-- Memory ran out in a run over packets that are made, before anything was done or later.
 abbrev pub LiveShortInMade : Plan → ℕ → Device SinkTold → Device (List CalculatorTold) → Type 0
 LiveShortInMade whole number output boxes = WasNothing output boxes ⊎ LiveShort totals whole ((generated_job whole number).inputs ∷ []) output boxes
 
+-- A run over packets that are made ended since memory ran out, and the notes say that alone.
 pub record LiveShortMade (whole : Plan) (number : ℕ) (status : Status) (output notes : Device SinkTold) (boxes : Device (List CalculatorTold)) : Type 0 where
   pub is : status ≡ OutOfMemory
   pub noted : Noted notes memory_note
   pub by : LiveShortInMade whole number output boxes
 
+-- a run over packets that are made ended with this status: over all packets, or since memory ran out
 abbrev pub RanLiveMade : Bool → Plan → ℕ → Status → Device SinkTold → Device SinkTold → Device (List CalculatorTold) → Type 0
 RanLiveMade report whole number status output notes boxes =
     OneLiveMade report whole number status output notes boxes ⊎ LiveShortMade whole number status output notes boxes
 
+-- the answer of a graph with free nodes over a number of packets that are made
 abbrev pub AnswersLiveMade : Bool → Plan → ℕ → Answer → Type 0
 AnswersLiveMade report whole number answer = IsLiveAnswer totals report whole (generated_job whole number).inputs [] Ended answer

@@ -1,4 +1,4 @@
--- A run as one thing: there are one reading of its input, one job and one solution of it, and all that is seen of the run is theirs, the
+-- A run as one thing: there is one reading of its input, one job and one solution of it, and all that is seen of the run is theirs: the
 -- output, the notes, the status, and the calls of the calculators that are handed in.
 use Rattle.std.specs.Prelude.{◌≡◌, ◌⊎◌, ℕ, List, [], ◌++◌, length, All, Bool, true, Some, slice_get}
 use Rattle.mg_edge.specs.Edge.{SourceTold, SinkTold}
@@ -21,26 +21,26 @@ use Rattle.mg_answer.specs.declared.status.Status.{Status}
 use Rattle.mg_answer.specs.declared.status.Status.TheVariants.{OutOfMemory}
 use Rattle.mg_drive.specs.Leaves.{IsAt, HadItsCalls, KeepsAFront}
 
--- All calculators come back in their order, and one that no node uses had no call.
+-- All calculators come back in their order, and each that no node uses had no call.
 pub record CameBack (plan : Plan) (before now : List CalculatorTold) : Type 0 where
   pub count : length now ≡ length before
   pub unused : (place : ℕ) → All (λ node. ¬ (node.box_number ≡ Some place)) plan.nodes → slice_get now place ≡ slice_get before place
 
--- And each that a node uses stands in a relation to what it was, which is told of the node.
+-- All calculators come back, and each that a node uses is related by `had` to what it was before the run.
 pub record AllHad (plan : Plan) (had : PlanNode → CalculatorTold → CalculatorTold → Type 0) (boxes : Device (List CalculatorTold)) : Type 0 where
   pub back : CameBack plan boxes.before boxes.now
   pub used : (number place : ℕ) (node : PlanNode) → slice_get plan.nodes number ≡ Some node → node.box_number ≡ Some place → IsAt place (had node) boxes
 
--- A run of a job whose input ended so. There is one solution: the output, the notes and the status are those that it has, and each
--- calculator that is handed in had exactly the calls that its node has in it, Open, each of the node's settled sets, and Close.
+-- A run of a job, by how its input ended. There is one solution: the output, the notes and the status are those that it has, and each
+-- calculator that is handed in had exactly the calls that its node has in it: Open, each of the node's settled sets, and Close.
 pub record OneRun (telling : Telling) (job : Job) (end : FeedEnd) (status : Status) (output notes : Device SinkTold) (boxes : Device (List CalculatorTold)) : Type 0 where
   pub streams : List (StreamPrefix Plain)
   pub solution : IsSolution job streams
   pub wrote : WroteBy status (answer_of telling job end streams) (failed_notes telling job end streams) output notes
   pub had : AllHad job.plan (HadItsCalls job streams) boxes
 
--- A run of a job in which memory ran out. In the one solution the output took a front of the text, and each calculator had a front of
--- its calls and keeps what its node has come to after them.
+-- A run of a job in which memory ran out. By the one solution the output took a front of the text, and each calculator had a front of its
+-- calls and keeps what its node has come to after them.
 pub record OneShort (form : Form) (job : Job) (output : Device SinkTold) (boxes : Device (List CalculatorTold)) : Type 0 where
   pub streams : List (StreamPrefix Plain)
   pub solution : IsSolution job streams
@@ -54,25 +54,25 @@ pub record WasNothing (output : Device SinkTold) (boxes : Device (List Calculato
 
 -- Runs over packet lines --
 
--- The input was read to its end, its first line that isn't good or its first failed read, and came to this; and that was run.
+-- The input was read to its end, its first line that isn't good or its first failed read, and the job of what it came to was run.
 pub record OneReading (report : Bool) (plan : Plan) (status : Status) (devices : RunDevices) (boxes : Device (List CalculatorTold)) : Type 0 where
   pub read : Read
   pub came : CameTo (inputs_of plan) devices.input read
   pub run : OneRun (by_lines report) (job_of plan read) read.end status devices.output devices.notes boxes
 
--- Memory ran out before anything was written or called. So far as the input was read by then, it was read once.
+-- Memory ran out before anything was written or called. What was read of the input by then was read once.
 pub record ShortAtOnce (plan : Plan) (input : Device SourceTold) (output : Device SinkTold) (boxes : Device (List CalculatorTold)) : Type 0 where
   pub read : ReadSome (inputs_of plan) input
   pub nothing : WasNothing output boxes
 
--- Memory ran out once the input had been read to its end, its first line that isn't good or its first failed read.
+-- Memory ran out once the whole input had been read, to its end, its first line that isn't good or its first failed read.
 pub record ShortAtEnd (plan : Plan) (input : Device SourceTold) (output : Device SinkTold) (boxes : Device (List CalculatorTold)) : Type 0 where
   pub read : Read
   pub came : CameTo (inputs_of plan) input read
   pub short : OneShort packet_lines (job_of plan read) output boxes
 
--- Memory ran out while there was more. The input was read once, and these bytes are the first of those that came. Whatever bytes follow
--- them, of which there are none where the source had ended with them, what was written and called is a front of what belongs to the whole
+-- Memory ran out while the input went on. The input was read once, and `first` are the first of the bytes that came. Whatever bytes follow
+-- these, of which there are none where the source had ended with them, what was written and called is a front of what belongs to the whole
 -- input.
 pub record ShortBefore (plan : Plan) (input : Device SourceTold) (output : Device SinkTold) (boxes : Device (List CalculatorTold)) : Type 0 where
   pub read : ReadSome (inputs_of plan) input
@@ -83,34 +83,36 @@ pub record ShortBefore (plan : Plan) (input : Device SourceTold) (output : Devic
   pub met : ended ≡ true → EndCame input.before input.now × (later ≡ [])
   pub short : (rest : List ℕ) → (ended ≡ true → rest ≡ []) → OneShort packet_lines (job_of plan (ended_input (inputs_of plan) (first ++ rest))) output boxes
 
--- memory ran out before anything was written or called, once the input had been read, or while there was more
+-- memory ran out before anything was written or called, once the input had been read, or while it went on
 abbrev pub ShortIn : Plan → Device SourceTold → Device SinkTold → Device (List CalculatorTold) → Type 0
 ShortIn plan input output boxes = ShortAtOnce plan input output boxes ⊎ (ShortAtEnd plan input output boxes ⊎ ShortBefore plan input output boxes)
 
--- Memory ran out, and the notes say that alone.
+-- A run over packet lines ended since memory ran out, and the notes say that alone.
 pub record ShortReading (plan : Plan) (status : Status) (devices : RunDevices) (boxes : Device (List CalculatorTold)) : Type 0 where
   pub is : status ≡ OutOfMemory
   pub noted : Noted devices.notes memory_note
   pub by : ShortIn plan devices.input devices.output boxes
 
--- a run over packet lines ended with this status: it was one thing, or memory ran out
+-- a run over packet lines ended with this status: over the whole input, or since memory ran out
 abbrev pub RanOverLines : Bool → Plan → Status → RunDevices → Device (List CalculatorTold) → Type 0
 RanOverLines report plan status devices boxes = OneReading report plan status devices boxes ⊎ ShortReading plan status devices boxes
 
 -- Runs over packets that are made --
 
--- So many packets were made, and these were run.
+-- A number of packets were made, and their job was run.
 abbrev pub OneMade : Bool → Plan → ℕ → Status → Device SinkTold → Device SinkTold → Device (List CalculatorTold) → Type 0
 OneMade report plan number status output notes boxes = OneRun (by_summary report) (generated_job plan number) Ended status output notes boxes
 
--- Memory ran out: before anything was done, or in that run.
+-- Memory ran out in a run over packets that are made, before anything was done or later.
 abbrev pub ShortInMade : Plan → ℕ → Device SinkTold → Device (List CalculatorTold) → Type 0
 ShortInMade plan number output boxes = WasNothing output boxes ⊎ OneShort totals (generated_job plan number) output boxes
 
+-- A run over packets that are made ended since memory ran out, and the notes say that alone.
 pub record ShortMade (plan : Plan) (number : ℕ) (status : Status) (output notes : Device SinkTold) (boxes : Device (List CalculatorTold)) : Type 0 where
   pub is : status ≡ OutOfMemory
   pub noted : Noted notes memory_note
   pub by : ShortInMade plan number output boxes
 
+-- a run over packets that are made ended with this status: over all packets, or since memory ran out
 abbrev pub RanOverPackets : Bool → Plan → ℕ → Status → Device SinkTold → Device SinkTold → Device (List CalculatorTold) → Type 0
 RanOverPackets report plan number status output notes boxes = OneMade report plan number status output notes boxes ⊎ ShortMade plan number status output notes boxes

@@ -1,4 +1,4 @@
--- The lines of the events of a run, which are put into a text one by one as they are heard.
+-- The lines of the events of a run, which are put into a text one by one.
 use Rattle.std.specs.Prelude.{ℕ, List, ◌++◌, Bool, true, false}
 use Rattle.mg_edge.specs.Edge.{SinkTold}
 use Rattle.mg_calc.specs.declared.event.Event.{Event}

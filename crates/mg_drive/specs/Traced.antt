@@ -1,5 +1,5 @@
--- What a recorded run came to, by its status. Its output is a trace: the text of the job, and of the events that led a net from the
--- begin of its nodes to its rest. All else is as it is of a run that writes its outputs.
+-- What a recorded run came to, by its status. Its output is a trace: the text of the job, and of the events that brought a net to rest once
+-- its nodes had begun. All else is as in a run that writes its outputs.
 use Rattle.std.specs.Prelude.{◌≡◌, ◌⊎◌, ℕ, List, ◌++◌, Bool}
 use Rattle.mg_edge.specs.Edge.{SourceTold, SinkTold}
 use Rattle.mg_calc.specs.declared.event.Event.{Event}
@@ -21,25 +21,25 @@ use Rattle.mg_sched.specs.Runs.{IsRun, IsBegun, IsRunAtRest}
 
 -- Traces --
 
--- A trace of a job, with these calculators: its lines, and the events of a run of it at rest.
+-- A trace of a job, with the calculators that are handed in: the job's lines, and the events of a run of it to rest.
 pub record IsTrace (plan : Plan) (inputs : Inputs) (boxes : List CalculatorTold) (text : List ℕ) : Type 0 where
   pub events : List Event
   pub run : IsRunAtRest plan inputs boxes events
   pub is : text ≡ trace_text plan inputs events
 
--- A run of a job so far, with these calculators: it begins where the job's runs begin, and may go on.
+-- The events of a run of a job so far: they begin where the job's runs begin, and the run may go on.
 pub record IsRunSoFar (plan : Plan) (inputs : Inputs) (boxes : List CalculatorTold) (events : List Event) : Type 0 where
   pub begun : NetView
   pub begins : IsBegun plan inputs boxes begun
   pub now : NetView
   pub run : IsRun events begun now
 
--- The output took a front of a trace of a job; or of the job's lines and of the events of a run so far.
+-- The output took a front of a trace of a job, or of the job's lines and of the events of a run so far.
 abbrev pub TookSomeTrace : Plan → Inputs → List CalculatorTold → Device SinkTold → Type 0
 TookSomeTrace plan inputs boxes output = ((text : List ℕ) × IsTrace plan inputs boxes text × TookFront output text)
     ⊎ ((events : List Event) × IsRunSoFar plan inputs boxes events × TookFront output (job_text plan inputs ++ events_text events))
 
--- The answer of a recorded run, over what its input came to: that of a run, but for the output, which is a trace.
+-- The answer of a recorded run over what its input came to: the answer of a run, but that the output is a trace.
 pub record IsTraced (report : Bool) (plan : Plan) (boxes : List CalculatorTold) (read : Read) (answer : Answer) : Type 0 where
   pub text : List ℕ
   pub trace : IsTrace plan (inputs_by (inputs_of plan) read) boxes text
@@ -47,13 +47,13 @@ pub record IsTraced (report : Bool) (plan : Plan) (boxes : List CalculatorTold) 
   pub is_answer : IsAnswer report plan read of_run
   pub is : answer ≡ record of_run { output = text }
 
--- the same over an input that ended after these bytes
+-- the answer of a recorded run over an input that ended after these bytes
 abbrev pub TracesEnded : Bool → Plan → List CalculatorTold → List ℕ → Answer → Type 0
 TracesEnded report plan boxes bytes answer = IsTraced report plan boxes (ended_input (inputs_of plan) bytes) answer
 
 -- The run --
 
--- The recorded run met its answer.
+-- The recorded run wrote its answer.
 pub record TracedAll (report : Bool) (plan : Plan) (boxes : List CalculatorTold) (status : Status) (devices : RunDevices) : Type 0 where
   pub read : Read
   pub input : CameTo (inputs_of plan) devices.input read
@@ -61,7 +61,7 @@ pub record TracedAll (report : Bool) (plan : Plan) (boxes : List CalculatorTold)
   pub is : IsTraced report plan boxes read answer
   pub met : Meets answer status devices.output devices.notes
 
--- A write failed, after the input was read.
+-- A write failed, after the input was read; what was written is of the recorded run's answer.
 pub record TracedShort (report : Bool) (plan : Plan) (boxes : List CalculatorTold) (devices : RunDevices) : Type 0 where
   pub read : Read
   pub input : CameTo (inputs_of plan) devices.input read
@@ -69,7 +69,7 @@ pub record TracedShort (report : Bool) (plan : Plan) (boxes : List CalculatorTol
   pub is : IsTraced report plan boxes read answer
   pub short : MetShort answer (failed_notes (by_lines report) (job_of plan read) read.end is.is_answer.streams) devices.output devices.notes
 
--- Some of a trace was taken, over what the input came to.
+-- The output took some of a trace of the job of what the input came to.
 pub record TracedSome (plan : Plan) (boxes : List CalculatorTold) (input : Device SourceTold) (output : Device SinkTold) : Type 0 where
   pub read : Read
   pub came : CameTo (inputs_of plan) input read
@@ -79,8 +79,7 @@ pub record TracedSome (plan : Plan) (boxes : List CalculatorTold) (input : Devic
 abbrev pub TracedOut : Plan → List CalculatorTold → RunDevices → Type 0
 TracedOut plan boxes devices = Untouched devices.output ⊎ TracedSome plan boxes devices.input devices.output
 
--- A recorded run ended with this status. Where memory ran out the notes say that alone, and so far as the input was read, it was read
--- once.
+-- A recorded run ended with this status. Where memory ran out the notes say that alone, and what was read of the input was read once.
 abbrev pub Traced : Bool → Plan → List CalculatorTold → Status → RunDevices → Type 0
 Traced report plan boxes WriteFault devices = TracedShort report plan boxes devices
 Traced report plan boxes OutOfMemory devices = TracedOut plan boxes devices × Noted devices.notes memory_note × ReadSome (inputs_of plan) devices.input

@@ -31,15 +31,15 @@ pub struct Batch {
 /// How a run goes on once its net has come to rest.
 #[derive(Drop)]
 pub enum Onward {
-    /// These pieces come to the last graph inputs before the next batch does.
+    /// First these pieces come to the last graph inputs; no batch is read yet.
     Round(PrefixList),
     /// The next batch is due.
     Next,
-    /// No batch is left: the input ended so.
+    /// No batch is left, and this is how the input ended.
     End(FeedEnd),
 }
 
-/// How a run ended whose net has come to rest: its input, and the text of its outputs.
+/// What a run comes to its end with: how its input ended, and the text of its outputs.
 #[derive(Drop)]
 pub struct Closing {
     pub end: FeedEnd,
@@ -48,23 +48,23 @@ pub struct Closing {
 
 /// Where the batches of a run come from.
 pub trait Batches: Drop {
-    /// It is new for a plan: it has given no batch.
+    /// It is new for a plan: no batch was read yet.
     ghost is_fresh: { Self → Plan → Type 0 };
 
-    /// From the first value to the second it has given these inputs, all batches together, for a plan; the source told the first then
-    /// and tells the second now; and the last batch ended so.
+    /// Between two states it has given these inputs for a plan, all batches together. The source told the first of the two `SourceTold`
+    /// before that, and tells the second now; and the last batch ended in this way.
     ghost gives: { Self → Self → Plan → SourceTold → SourceTold → Ending → Given → Type 0 };
 
-    /// The same batch by batch: the list has what all batches up to each of them come to together, for the newest batch first.
+    /// As `gives`, but batch by batch: the list has what all batches up to each one gave together, the newest batch first.
     ghost came: { Self → Self → Plan → SourceTold → SourceTold → Ending → List Given → Type 0 };
 
-    /// Where it has given these inputs for a plan, the next batch is due, and nothing else comes before it.
+    /// Where it has given these inputs for a plan, the next batch is due: nothing else comes before that.
     ghost is_due: { Self → Plan → Given → Type 0 };
 
-    /// What it still has to read of a net's streams, so that it mustn't be given up.
+    /// Which packets of a net's streams it still has to read. The net mustn't give them up.
     ghost wants: { Self → List Wanted };
 
-    /// What a further call of `next` reads of its source, whatever it answers, for a plan: the source told the first when the run
+    /// What a further call of `next` reads of its source for a plan, whatever that call returns: the source told the first when the run
     /// began, the second before the call, and the third after it.
     ghost reads_on: { Self → Plan → SourceTold → SourceTold → SourceTold → Type 0 };
 
@@ -74,11 +74,11 @@ pub trait Batches: Drop {
     /// Whether it reads its source.
     ghost reads: { Bool };
 
-    /// What is written at the end of a run over these batches, of a job over what they gave and of an input that ended so: in this
-    /// form, with a report or without, the status, and what the output and the notes take.
+    /// What is written at the end of a run over these batches: the form and whether there is a report, the job over what was given, how its
+    /// input ended, the status, and what the output and the notes took.
     ghost wrote: { Self → Form → Bool → Job → FeedEnding → Stands → Device SinkTold → Device SinkTold → Type 0 };
 
-    /// The next batch. Behind a batch with which the input ended there is none.
+    /// Reads the next batch. Behind a batch with which the input ended there is none.
     fn next<S: Source>(&mut self, input: &mut S) -> Result<Batch, AllocError>
         ensures first { (plan : Plan) → IsValidWithFree plan → is_fresh self.old plan
             → IfOk result (λ b. IsFirst (gives self.old self.new plan (S.told input.old) (S.told input.new)) plan b.end b.inputs) }
@@ -97,7 +97,7 @@ pub trait Batches: Drop {
         ensures further { (plan : Plan) (first : SourceTold) → MayRead is_fresh is_due self.old plan → reads_on self.old plan first (S.told input.old) (S.told input.new) }
         ensures unread { reads ≡ false → S.told input.new ≡ S.told input.old };
 
-    /// How the run goes on, once its net has come to rest over all that was given. The last batch ended so.
+    /// Returns how the run goes on, once its net has come to rest over all that was given. `last` tells how the last batch ended.
     fn onward<N: Driven>(&mut self, last: BatchEnd, net: &N) -> Result<Onward, AllocError>
         requires given { SomeGiven gives last (N.net net.now) self.old }
         requires there { AreThere (wants self.old) (N.net net.now) }
@@ -106,8 +106,8 @@ pub trait Batches: Drop {
         ensures there { OnOk result (AreThere (wants self.new) (N.net net.now)) }
         ensures leaves { IfOk result (λ onward. RoundLeaves onward (left self.old) (left self.new)) };
 
-    /// Ends a run over all batches: writes the rest of the text, and the notes. The outcomes are those of the net, by the numbers of its
-    /// plan.
+    /// Ends a run over all batches: writes the rest of the text, and the notes. `outcomes` are those of the net, by the numbers of the
+    /// net's plan.
     fn conclude<K: Sink, E: Sink>(
         &self,
         run: &Run<'_>,

@@ -6,14 +6,14 @@ use mg_value::PrefixList;
 // than a microsecond, so the work that fewer packets bring takes no longer than starting the threads.
 const LEAST: u64 = 512;
 
-/// Where workers come from, and the gate round each Process call: a runtime that starts threads and may wait for them.
+/// What workers need: a runtime that starts threads and may wait for them, and the gate round each Process call.
 #[derive(Drop)]
 pub struct Crew<'a, R, G: Gate> {
     pub rt: &'a R,
     pub gate: &'a G,
 }
 
-// Whether a calculator was handed in for a node of a plan. A call of it may take long.
+// Whether some node of a plan has a calculator that was handed in. A call of it may take long.
 fn has_handed_in(plan: &Plan) -> bool {
     for node in plan.nodes.as_slice() {
         if node.box_number.is_some() {
@@ -23,7 +23,7 @@ fn has_handed_in(plan: &Plan) -> bool {
     false
 }
 
-// Whether streams of a plan lead round a loop, whose nodes work one after the other.
+// Whether streams of a plan lead round a loop. The nodes of a loop work one after the other.
 fn has_loop(plan: &Plan) -> bool {
     for edge in plan.edges.as_slice() {
         if edge.back {
@@ -33,8 +33,9 @@ fn has_loop(plan: &Plan) -> bool {
     false
 }
 
-/// How many of the workers that a plan asks for have something to do: no more than works may be under way at once. One alone does what a
-/// sweep does, so there is none then, and none either round a loop of calculators which are all the program's own.
+/// Returns how many workers are called for a plan: as many as it asks for, but no more than works may be under way at once. A single worker
+/// would do no more than a sweep does, so 0 in place of 1. Also 0 where streams lead round a loop and all calculators are the program's
+/// own.
 pub(crate) fn workers_for(plan: &Plan) -> u32 {
     if has_loop(plan) && !has_handed_in(plan) {
         return 0;
@@ -47,7 +48,8 @@ pub(crate) fn workers_for(plan: &Plan) -> u32 {
     if workers > 1 { workers } else { 0 }
 }
 
-/// How many packets have to come to a net of a plan before workers are called: one where a calculator was handed in.
+/// Returns how many packets have to come to the net of a plan before workers are called: one where a calculator was handed in, and else
+/// `LEAST`.
 pub(crate) fn least_for(plan: &Plan) -> u64 {
     if has_handed_in(plan) { 1 } else { LEAST }
 }
@@ -62,7 +64,7 @@ pub(crate) fn has_sources(plan: &Plan) -> bool {
     false
 }
 
-/// How many packets come with pieces.
+/// Returns how many packets some pieces have together.
 pub(crate) fn packets_in(pieces: &PrefixList) -> u64 {
     let mut packets: u64 = 0;
     for stream in pieces.as_slice() {

@@ -26,7 +26,8 @@ pub trait Driven {
     /// The net as contracts see it.
     ghost net: { Self → NetView };
 
-    /// Begins each node that isn't begun.
+    /// Begins each node that isn't begun yet: opens its calculator, and lays what that emits. After an `Err`, for want of memory, this may
+    /// be called again.
     fn begin(&mut self) -> Result<(), AllocError>
         requires stands { StandsForSome (net self.old) }
         ensures running { OnOk result (IsRunning (net self.new)) }
@@ -35,7 +36,7 @@ pub trait Driven {
         ensures taken { taken_out (net self.new) ≡ taken_out (net self.old) }
         ensures stands { (job : LoggedJob) → StandsFor job (net self.old) → StandsFor job (net self.new) };
 
-    /// Goes on with further input. Want of memory changes nothing.
+    /// Takes in further input. After an `Err`, for want of memory, the net is as it was.
     fn extend(&mut self, more: &Inputs) -> Result<(), AllocError>
         requires may { MayGoOnWith more.now (net self.old) }
         ensures running { IsRunning (net self.old) → IsRunning (net self.new) }
@@ -45,7 +46,8 @@ pub trait Driven {
         ensures unchanged { OnErr result (net self.new ≡ net self.old) }
         ensures stands { (first later : LoggedJob) → GoesOnWith more.now first later → StandsFor first (net self.old) → OnOk result (StandsFor later (net self.new)) };
 
-    /// Goes on with further input of the last graph inputs alone, a piece for each of them. Want of memory changes nothing.
+    /// Takes in further input at the last graph inputs alone, a piece for each of them. After an `Err`, for want of memory, the net is as
+    /// it was.
     fn extend_last(&mut self, pieces: &PrefixList) -> Result<(), AllocError>
         requires may { MayGoOnWith (for_last (length (net self.old).plan.inputs) pieces.now) (net self.old) }
         ensures running { IsRunning (net self.old) → IsRunning (net self.new) }
@@ -64,7 +66,7 @@ pub trait Driven {
         ensures taken { taken_out (net self.new) ≡ taken_out (net self.old) }
         ensures stands { (job : LoggedJob) → StandsFor job (net self.old) → StandsFor job (net self.new) };
 
-    /// Takes the next settled set of the graph's outputs, where there is one.
+    /// Takes the next settled set of the graph's outputs, and returns whether there was one.
     fn take_out(&mut self, into: &mut InputSet) -> bool
         requires places { length into.old ≡ length (net self.old).plan.outputs }
         requires stands { StandsForSome (net self.old) }
@@ -74,19 +76,19 @@ pub trait Driven {
         ensures in_solution { (job : LoggedJob) (streams : List (StreamPrefix Plain)) → Solves job streams → StandsFor job (net self.old)
             → OnTrue result (HasSet job streams (length (net self.old).plan.nodes) (taken_out (net self.old)) into.new) };
 
-    /// A packet of a stream, by its number from 0 on. It is there exactly where it was laid and wasn't given up.
+    /// Returns the packet of a stream with a number, counted from 0. It is there exactly where it was laid and wasn't given up.
     fn packet(&self, stream: u32, number: u64) -> Option<&Packet>
         requires stands { StandsForSome (net self.now) }
         ensures packet { (output : Backlog Plain) → IsOutputOf (net self.now) stream output → option_copied result ≡ kept_packet output number }
         ensures past { length (net self.now).plan.streams ≤ stream → option_copied result ≡ None };
 
-    /// The bound of a stream.
+    /// Returns the bound of a stream.
     fn bound(&self, stream: u32) -> Timestamp
         requires stream { stream < length (net self.now).plan.streams }
         requires stands { StandsForSome (net self.now) }
         ensures { (output : Backlog Plain) → IsOutputOf (net self.now) stream output → result ≡ output.bound };
 
-    /// How far the net has come.
+    /// Returns how far the net's nodes and streams have come.
     fn report(&self, alloc: Global) -> Result<Report, AllocError>
         ensures { IfOk result (λ r. r ≡ report_of (net self.now)) };
 

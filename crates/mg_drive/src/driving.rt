@@ -1,4 +1,4 @@
-//! The run loop.
+//! The loop of a run: a batch comes, the net is brought to rest, and the sets of its outputs are told.
 ghost use Rattle.std.specs.Prelude.{◌≡◌, ◌<◌, ℕ, List, length, false, IfOk, OnOk, OnErr};
 ghost use Rattle.mg_edge.specs.Edge.{SourceTold, SinkTold};
 ghost use Rattle.mg_calc.specs.declared.inputs.Inputs.{Inputs as Given};
@@ -21,7 +21,7 @@ use std::alloc::AllocError;
 use std::sync::Wait;
 use std::thread::Threads;
 
-// Gives up the packets that all readers have got, reads the next batch, and goes on with it.
+// Gives up the packets that all their readers have got, reads the next batch, and hands it to the net.
 fn next_batch<N: Driven, B: Batches, S: Source>(
     net: &mut N,
     batches: &mut B,
@@ -46,7 +46,7 @@ fn next_batch<N: Driven, B: Batches, S: Source>(
     Ok(batch.end)
 }
 
-/// Takes the sets of the graph's outputs, as many as there are, and tells them.
+/// Takes all settled sets of the graph's outputs that there are out of a net, and tells them.
 pub fn take_all<N: Driven, T: Telling, K: Sink>(
     net: &mut N,
     set: &mut InputSet,
@@ -64,7 +64,7 @@ pub fn take_all<N: Driven, T: Telling, K: Sink>(
     ensures front { OnErr result ((job : LoggedJob) (first : SinkTold) → StandsFor job (N.net net.old) → IsTold T.has_told job.job first (K.told output.old) (taken_out (N.net net.old)) telling.old
         → IsToldSome T.has_told job.job first (K.told output.new)) }
 
-    // Where all outputs had come, they were all taken.
+    // Where all that a solution has at the graph's outputs had come, all of its sets were taken.
     ensures all { OnOk result ((job : LoggedJob) (streams : List (StreamPrefix Plain)) → StandsFor job (N.net net.old) → Solves job streams → HasAllOutputs streams (N.net net.old)
         → taken_out (N.net net.new) ≡ length (settled_outputs (N.net net.new).plan streams)) }
 {
@@ -74,7 +74,7 @@ pub fn take_all<N: Driven, T: Telling, K: Sink>(
     Ok(())
 }
 
-// Drives a net to rest, and tells all sets that its outputs then have.
+// Brings a net to rest, and tells all sets that its outputs then have.
 fn advance<R: Threads + Wait + Sync, G: Gate + Sync, C: Calculator + Send, T: Telling, K: Sink>(
     net: &mut ManyThreads<'_, C, R, G>,
     set: &mut InputSet,
@@ -100,8 +100,8 @@ fn advance<R: Threads + Wait + Sync, G: Gate + Sync, C: Calculator + Send, T: Te
     Ok(())
 }
 
-/// Begins a net, and drives it over the first batch, which it has, and over all that come behind it. What it answers is how the input
-/// ended; the net is at rest then, and all sets of its outputs are told.
+/// Begins a net, and drives it over the first batch, which it already has, and over all further ones. Returns how the input ended: the net
+/// is at rest then, and all sets of its outputs are told.
 pub fn drive<
     R: Threads + Wait + Sync,
     G: Gate + Sync,

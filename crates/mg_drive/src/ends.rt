@@ -1,6 +1,6 @@
 use mg_value::InputSet;
 
-/// The two ends of a net: where its batches come from, the set in which its outputs come, and what is told of them.
+/// The two ends of a net that is driven: where its batches come from, what tells the sets of its outputs, and room for one of these sets.
 #[derive(Drop)]
 pub struct Ends<B, T> {
     pub batches: B,

@@ -1,4 +1,4 @@
-//! The lines of events, which are heard one by one and written in blocks.
+//! Writes the line of each event of a run, in blocks, as the event is heard.
 ghost use Rattle.std.specs.Prelude.{◌≡◌};
 ghost use Rattle.mg_drive.specs.Recorded.{HasEvents};
 
@@ -26,8 +26,8 @@ impl Puts for EventLine {
     }
 }
 
-/// A text to which the line of each event is added as it is heard, and the sink to which the text is written. Both are lent. Once memory
-/// has run out no more lines are added.
+/// A text to which the line of each event is added as it is heard, and the sink to which the text is written; both are borrowed. Once
+/// memory has run out no more lines are added.
 #[derive(Drop)]
 pub struct EventText<'b, 'o, K: Sink> {
     pub blocks: &'b mut BlockText,

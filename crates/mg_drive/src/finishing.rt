@@ -20,8 +20,8 @@ use mg_edge::Sink;
 use mg_feed::FeedEnd;
 use std::alloc::{AllocError, Global};
 
-/// Ends a run whose net has come to rest: the nodes are wound up, and then the rest of the text is written and the notes, with the
-/// report behind them where it is asked for. The text is of either form.
+/// Ends a run whose net has come to rest: winds the nodes up, and writes the rest of the text and then the notes, with the report behind
+/// them where it is asked for. The text may have any form.
 pub fn finish<N: Driven, K: Sink, E: Sink>(
     run: &Run<'_>,
     net: &mut N,
@@ -44,7 +44,7 @@ pub fn finish<N: Driven, K: Sink, E: Sink>(
     Ok(status)
 }
 
-/// The same for a run over batches, which say what is written at its end.
+/// Ends a run over batches whose net has come to rest, as `finish` does, but that the batches write the text and the notes.
 pub(crate) fn finish_batches<N: Driven, B: Batches, K: Sink, E: Sink>(
     run: &Run<'_>,
     net: &mut N,
@@ -67,7 +67,7 @@ pub(crate) fn finish_batches<N: Driven, B: Batches, K: Sink, E: Sink>(
     Ok(status)
 }
 
-/// The same for a run whose input was frozen.
+/// Ends a run whose input was frozen and whose net has come to rest, as `finish` ends any other.
 pub fn finish_frozen<N: Driven, K: Sink, E: Sink>(
     run: &Run<'_>,
     net: &mut N,
@@ -89,7 +89,7 @@ pub fn finish_frozen<N: Driven, K: Sink, E: Sink>(
     Ok(status)
 }
 
-// What is told of a net that has come to rest, whose nodes are then wound up.
+// Returns the outcomes of a net that has come to rest, and winds its nodes up.
 fn wound_up<N: Driven>(run: &Run<'_>, net: &mut N) -> Result<Outcomes, AllocError>
     requires rested { SomeRested run.now.plan.now (N.net net.old) }
     ensures told { IfOk result (λ outcomes. TellsNet (N.net net.old) outcomes) }
@@ -104,7 +104,7 @@ fn wound_up<N: Driven>(run: &Run<'_>, net: &mut N) -> Result<Outcomes, AllocErro
     Ok(outcomes)
 }
 
-// What is told of a net.
+// Returns the outcomes of a net, by what it reports.
 fn outcomes_of<N: Driven>(alloc: Global, net: &N) -> Result<Outcomes, AllocError>
     ensures tells { IfOk result (λ outcomes. TellsNet (N.net net.now) outcomes) }
     ensures few { IfOk result (λ outcomes. length outcomes.ends.items < 2 ^ 32) }
@@ -119,7 +119,7 @@ fn outcomes_of<N: Driven>(alloc: Global, net: &N) -> Result<Outcomes, AllocError
     })
 }
 
-// How far streams have come.
+// Returns how far streams have come, in the form that mg_answer takes.
 fn ends_of(alloc: Global, streams: &[mg_sched::StreamEnd]) -> Result<Vec<StreamEnd>, AllocError>
     ensures { IfOk result (λ ends. ends.items ≡ map told_end streams.now) }
 {
@@ -130,7 +130,7 @@ fn ends_of(alloc: Global, streams: &[mg_sched::StreamEnd]) -> Result<Vec<StreamE
     Ok(ends)
 }
 
-// How far a stream has come.
+// Returns how far a stream has come, in the form that mg_answer takes.
 fn end_of(stream: &mg_sched::StreamEnd) -> StreamEnd
     ensures { result ≡ told_end stream.now }
 {

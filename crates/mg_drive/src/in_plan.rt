@@ -1,4 +1,4 @@
-//! What is told of a core, by the numbers of its plan.
+//! The outcomes of a plan with free nodes, which are made of those of its core.
 ghost use Rattle.std.specs.Prelude.{◌≡◌, ◌<◌, ◌++◌, List, All, Some, map, length, filter, slice_get, IfOk, OnOk};
 ghost use Rattle.mg_value.specs.Payload.{Plain};
 ghost use Rattle.mg_value.specs.Prefix.{StreamPrefix};
@@ -21,8 +21,8 @@ use mg_live::LiveNodes;
 use mg_value::{BlockList, NumberList};
 use std::alloc::{AllocError, Global};
 
-/// A plan with free nodes, and the numbers of its core. `nodes` has the plan's number of each node of the core, and `streams` the core's
-/// number of each stream of the plan.
+/// A plan with free nodes, and how its numbers and those of its core go together: `nodes` has the plan's number of each node of the core,
+/// and `streams` the core's number of each stream of the plan.
 #[derive(Clone, Copy)]
 pub struct InPlan<'p> {
     pub plan: &'p Plan,
@@ -30,7 +30,7 @@ pub struct InPlan<'p> {
     pub streams: &'p NumberList,
 }
 
-// The faults of a core's nodes, by the plan's numbers of these.
+// Returns the faults of a core's nodes with the plan's numbers of these nodes. `numbers` has the plan's number of each node of the core.
 fn faults_in(
     alloc: Global,
     numbers: &[u32],
@@ -50,7 +50,7 @@ fn faults_in(
     Ok(NodeFaultList::from_vec(now)?)
 }
 
-// For each node of a plan how many sets it was shown, or how many packets arrived at it, if it is free.
+// Returns for each node of a plan how many sets it was shown, or, if it is free, how many packets arrived at it.
 fn sets_of(
     alloc: Global,
     nodes: &[PlanNode],
@@ -76,7 +76,8 @@ fn sets_of(
     Ok(BlockList::from_vec(now)?)
 }
 
-// How far the streams of a plan have come, by the numbers that they have in its core and how far the core's have come.
+// Returns how far each stream of a plan has come. `streams` has the core's number of each, and `ends` tells how far the core's streams have
+// come.
 fn ends_of(alloc: Global, streams: &[u32], ends: &[StreamEnd]) -> Result<Vec<StreamEnd>, AllocError>
     requires { All (λ stream. stream < length ends.now) streams.now }
     ensures { (prefixes : List (StreamPrefix Plain)) → ends.now ≡ map end_of prefixes → IfOk result (λ now. now.items ≡ map (λ stream. end_of (stream_of prefixes stream)) streams.now) }
@@ -89,7 +90,7 @@ fn ends_of(alloc: Global, streams: &[u32], ends: &[StreamEnd]) -> Result<Vec<Str
 }
 
 impl<'p> InPlan<'p> {
-    /// What came of the nodes and streams of a core, by the plan's numbers, and the lines of all arrivals at free nodes.
+    /// Returns the outcomes of the plan: those of its core by the plan's numbers, and the lines of all arrivals at free nodes.
     pub fn outcomes(
         &self,
         alloc: Global,
@@ -134,7 +135,7 @@ fn arrival_lines(alloc: Global, live: &LiveNodes) -> Result<Vec<u8>, AllocError>
     Ok(lines)
 }
 
-// Puts the lines of the arrivals at a free node.
+// Puts the lines of the arrivals at a free node, by its place among the free nodes, at a text's end.
 fn put_arrivals(text: &mut Vec<u8>, live: &LiveNodes, place: usize) -> Result<(), AllocError>
     requires free { place < length live.now.free }
     requires takers { place < length live.now.takers.items }

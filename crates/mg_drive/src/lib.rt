@@ -1,7 +1,7 @@
-//! How a net is driven: over batches that come from somewhere, to rest after each, with the sets of its outputs told as they come,
-//! and wound up at the end. The loop stands once, over three small traits: the net, where batches come from, and what is told.
-//! Answers to the definitions of `specs/OneRun.antt`, `specs/OneLive.antt`, `specs/Traced.antt` and `specs/Leaves.antt`, and, of what is
-//! written, to those of mg_answer.
+//! Drives a net over the batches of an input: the net is brought to rest after each, the sets of its outputs are told as they come, and at
+//! the end its nodes are wound up and the notes written. The loop stands once, over three small traits: the net, where batches come from,
+//! and what tells the sets. Answers to the definitions of `specs/OneRun.antt`, `specs/OneLive.antt`, `specs/Traced.antt` and
+//! `specs/Leaves.antt`, and, of what is written, to those of mg_answer.
 #![tactic(auto)]
 
 mod batches;

@@ -25,7 +25,7 @@ use std::alloc::AllocError;
 use std::sync::Wait;
 use std::thread::Threads;
 
-/// How many lines that name a stream a batch has.
+/// The most lines that name a stream in one batch. Each batch but the last has so many.
 pub const BATCH: u32 = 4096;
 
 // Whether the input ended well with a batch.
@@ -127,7 +127,7 @@ pub fn run_lines<
     requires valid { IsValid run.now.plan.now }
     requires boxes { BoxesFit run.now.plan.now (map C.told boxes.old.items) }
 
-    // There are one reading of the input, one job and one solution, and all that is seen is theirs; or memory ran out.
+    // There is one reading of the input, one job and one solution, and all that is seen of the run is theirs; or memory ran out.
     ensures ran { RanOverLines run.now.report run.now.plan.now result (told_by S.told K.told E.told devices.old devices.new) (device (map C.told boxes.old.items) (map C.told boxes.new.items)) }
     ensures same { SameDevices devices.old devices.new }
 {

@@ -16,22 +16,23 @@ use mg_time::Timestamp;
 use mg_value::{PacketList, Prefix, PrefixList};
 use std::alloc::{AllocError, Global};
 
-/// Where the batches of a core come from: the batches of a graph with free nodes, and between two of them what a round of these lays.
+/// Where the batches of a core come from: those of a graph with free nodes, and between two of them what the free nodes lay in a round.
 #[derive(Drop)]
 pub struct Live<'p, B> {
     /// The batches of the plan with free nodes.
     pub batches: B,
+    /// The free nodes of the plan, with what they have taken.
     pub nodes: LiveNodes,
-    /// That plan, with the numbers of its core.
+    /// The plan with free nodes, and the numbers of its core.
     pub whole: InPlan<'p>,
     pub alloc: Global,
     /// How the input ended, once it has.
     pub end: Option<FeedEnd>,
-    /// Whether a round did nothing since the last batch came. Contracts alone read it.
+    /// Whether a round has done nothing since the last batch came. Only contracts use it.
     pub rested: bool,
 }
 
-// How an input ended with a batch, where it did.
+// Returns how the input ended with a batch, where it did.
 fn ended_by(end: BatchEnd) -> Option<FeedEnd>
     ensures { result ≡ ended_of end }
 {
@@ -41,7 +42,7 @@ fn ended_by(end: BatchEnd) -> Option<FeedEnd>
     }
 }
 
-// Some streams, and behind them so many further ones of which nothing is known.
+// Appends `count` streams of which nothing is known to some streams.
 fn opened(alloc: Global, streams: Vec<Prefix>, count: usize) -> Result<Vec<Prefix>, AllocError>
     ensures { IfOk result (λ opened. opened.items ≡ streams.items ++ replicate count empty_prefix) }
 {
@@ -56,8 +57,7 @@ fn opened(alloc: Global, streams: Vec<Prefix>, count: usize) -> Result<Vec<Prefi
     Ok(opened)
 }
 
-// What comes to a core with a batch: the batch at the plan's own inputs, and nothing at the outputs of the free nodes, of which there
-// are so many.
+// Returns what comes to a core with a batch: the batch at the plan's own inputs, and nothing at the outputs of its `count` free nodes.
 fn with_open(alloc: Global, inputs: Inputs, count: usize) -> Result<Inputs, AllocError>
     ensures { IfOk result (λ more. IsOpened inputs more count) }
 {

@@ -24,9 +24,9 @@ use std::alloc::AllocError;
 use std::sync::Wait;
 use std::thread::Threads;
 
-/// Runs the graph of a plan with free nodes over packet lines. It brings the net of the graph's core to rest, lets each free node take a
-/// packet or close its output, goes on with what that comes to, and so on until none of them does anything; then comes the next batch of
-/// lines. All else is as of any other run, and the notes tell each arrival at a free node.
+/// Runs the graph of a plan with free nodes over packet lines. The net of the graph's core is brought to rest; then each free node takes a
+/// packet or closes its output, and the core goes on with what these laid, until no free node does anything; then comes the next batch of
+/// lines. All else is as in `run_lines`, and the notes have a line for each arrival at a free node.
 pub fn run_live_lines<
     R: Threads + Wait + Sync,
     G: Gate + Sync,
@@ -43,8 +43,8 @@ pub fn run_live_lines<
     requires valid { IsValidWithFree run.now.plan.now }
     requires boxes { BoxesFit (split_of run.now.plan.now).core (map C.told boxes.old.items) }
 
-    // There are one reading of the input, its batches, the logs to which the rounds over them come, and one solution, and all that is seen is
-    // theirs; or memory ran out.
+    // There is one reading of the input, its batches, the logs to which the free nodes' rounds over these come, and one solution, and all
+    // that is seen of the run is theirs; or memory ran out.
     ensures ran { RanLive run.now.report run.now.plan.now result (told_by S.told K.told E.told devices.old devices.new) (device (map C.told boxes.old.items) (map C.told boxes.new.items)) }
     ensures same { SameDevices devices.old devices.new }
 {
@@ -82,7 +82,7 @@ fn lines_whole<
     Ok(status)
 }
 
-/// Runs the graph of a plan with free nodes over so many packets that are made.
+/// Runs the graph of a plan with free nodes over `number` packets that are made, all in one batch, and writes a summary of its outputs.
 pub fn run_live_made<
     R: Threads + Wait + Sync,
     G: Gate + Sync,
@@ -100,8 +100,8 @@ pub fn run_live_made<
     requires valid { IsValidWithFree run.now.plan.now }
     requires boxes { BoxesFit (split_of run.now.plan.now).core (map C.told boxes.old.items) }
 
-    // There are one job, the logs to which its rounds come, and one solution, and all that is seen is theirs; or memory ran out. No input has
-    // a part in it.
+    // There is one job, the logs to which its rounds come, and one solution, and all that is seen of the run is theirs; or memory ran out.
+    // The input has no part in it.
     ensures ran { RanLiveMade run.now.report run.now.plan.now number result (told_by S.told K.told E.told devices.old devices.new).output (told_by S.told K.told E.told devices.old devices.new).notes (device (map C.told boxes.old.items) (map C.told boxes.new.items)) }
     ensures unread { S.told devices.new.input.now ≡ S.told devices.old.input.now }
     ensures same { SameDevices devices.old devices.new }
@@ -142,7 +142,8 @@ fn made_whole<
     Ok(status)
 }
 
-// Runs the core of a plan that was split into these parts, over batches. Between two batches the free nodes have their rounds.
+// Runs the core of a plan with free nodes, which was split into these parts, over batches. Between two batches the free nodes have their
+// rounds.
 fn run_live<
     R: Threads + Wait + Sync,
     G: Gate + Sync,

@@ -19,10 +19,11 @@ use std::alloc::AllocError;
 use std::sync::Wait;
 use std::thread::Threads;
 
-/// Runs the graph of a plan over so many packets that are made, with the calculators that are handed in, and leaves these in their
-/// places. It makes them piece by piece, drives a net over each piece to rest, sums up the sets of its outputs, and writes the summary and
-/// then the notes, with the report behind them where it is asked for. As many workers as the plan says run the net before a sweep, where
-/// enough packets have come for that. Each Process call goes through the crew's gate. The input is left as it was.
+/// Runs the graph of a plan over `number` packets that are made, with the calculators that are handed in, and leaves these in their places.
+/// The packets are made piece by piece: the net is driven to rest over each piece, and the sets of its outputs are added to a summary. At
+/// the end the summary is written and then the notes, with the report behind them where it is asked for. As many workers as the plan says
+/// run the net before a sweep, where enough packets have come for that. Each Process call goes through the crew's gate. The input is left
+/// as it was.
 ///
 /// Where a write of the summary fails, the notes are written all the same, and say so. Where memory runs out they say that alone.
 pub fn run_made<
@@ -42,7 +43,7 @@ pub fn run_made<
     requires valid { IsValid run.now.plan.now }
     requires boxes { BoxesFit run.now.plan.now (map C.told boxes.old.items) }
 
-    // There are one job and one solution, and all that is seen is theirs; or memory ran out. No input has a part in it.
+    // There is one job and one solution, and all that is seen of the run is theirs; or memory ran out. The input has no part in it.
     ensures ran { RanOverPackets run.now.report run.now.plan.now number result (told_by S.told K.told E.told devices.old devices.new).output (told_by S.told K.told E.told devices.old devices.new).notes (device (map C.told boxes.old.items) (map C.told boxes.new.items)) }
     ensures unread { S.told devices.new.input.now ≡ S.told devices.old.input.now }
     ensures same { SameDevices devices.old devices.new }
@@ -81,7 +82,7 @@ fn run_whole<
     Ok(status)
 }
 
-// The packets that are to come for a plan, and a summary of which nothing is told yet.
+// Returns the packets that are to be made for a plan, and a summary to which nothing is added yet.
 fn ends_of(run: &Run<'_>, number: u32) -> Result<(Pieces, OutputSummary), AllocError>
     requires { IsValid run.now.plan.now }
     ensures packets { IfOk result (λ ends. AreToCome run.now.plan.now number (making ends.0.generator)) }

@@ -20,23 +20,23 @@ use std::mem;
 use std::sync::Wait;
 use std::thread::Threads;
 
-/// A net that so many workers run side by side. The thread that drives it does what they leave undone.
+/// A net that workers run side by side. The thread that drives it does what they leave undone.
 pub struct ManyThreads<'a, C: Calculator, R, G: Gate> {
     pub one: OneThread<'a, C, G>,
     pub rt: &'a R,
     pub alloc: Global,
     pub workers: u32,
-    /// How many packets have to come before workers are called. What is done with fewer is left to the thread that drives the net.
+    /// How many packets have to come before workers are called. With fewer, the thread that drives the net runs it alone.
     pub least: u64,
-    /// How many packets came since the net was brought to rest. With a batch this is how many the net holds, as whatever waits may go on
-    /// then.
+    /// How many packets have come since the net was last at rest. A batch sets it to how many packets the net holds, as all that waits may
+    /// go on then.
     pub came: u64,
-    /// Whether the net has sources, and has never been brought to rest. They may have something to bring then.
+    /// Whether workers are called however few packets have come. This is so once in a net with sources, which may have packets to bring.
     pub fresh: bool,
 }
 
 impl<'a, C: Calculator + Send, R: Threads + Wait + Sync, G: Gate + Sync> ManyThreads<'a, C, R, G> {
-    // Lets the workers run the net, where it may be worth that. Meanwhile a net of no node stands in its place.
+    // Lets workers run the net, where enough packets have come or `fresh` is set. Meanwhile a net of no node stands in its place.
     fn work(&mut self)
         requires running { IsRunning self.old.one.net }
         requires stands { StandsForSome self.old.one.net }

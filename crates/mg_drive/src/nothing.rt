@@ -7,7 +7,7 @@ use mg_sched::Net;
 use mg_value::BlockList;
 use std::alloc::{AllocError, Global};
 
-// A list without entries.
+// Returns a list without entries.
 fn none<T: Drop>(alloc: Global) -> BlockList<T>
     ensures { result ≡ [] }
 {
@@ -52,7 +52,7 @@ fn inputs_of_nothing(alloc: Global) -> Inputs
     }
 }
 
-/// A net of no node.
+/// Returns a net of no node.
 pub(crate) fn net_of_nothing<C: Calculator>(alloc: Global) -> Result<Net<C>, AllocError> {
     let plan = plan_of_nothing(alloc);
     let inputs = inputs_of_nothing(alloc);

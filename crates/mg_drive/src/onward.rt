@@ -4,7 +4,7 @@ ghost use Rattle.mg_drive.specs.Batches.{PlainOnward};
 use crate::Onward;
 use mg_feed::BatchEnd;
 
-/// The next batch is due, or the input ended with the last one.
+/// Returns that the next batch is due, or that the input ended with the last one.
 pub(crate) fn plain_onward(last: BatchEnd) -> Onward
     ensures { PlainOnward last result }
 {

@@ -12,22 +12,22 @@ use mg_edge::{Sink, Source};
 use mg_feed::{BatchEnd, FeedEnd, Generator};
 use std::alloc::{AllocError, Global};
 
-// How many packets wait before all ports of a graph's nodes together, or are kept of all its streams, where each has the whole of a piece. Where
-// nothing waits, a net holds a piece and not much more: what it holds of all packets doesn't grow with their number, nor with that of its
-// nodes and edges.
+// The size of a piece is chosen by it: so many packets wait at all ports of a graph's nodes together, or are kept of all its streams, where
+// the whole of a piece is at each. Where nothing waits, a net holds a piece and not much more: what it holds of all packets doesn't grow
+// with their number, nor with that of its nodes and edges.
 const MOST_HELD: u32 = 1 << 16;
 
 /// Packets that are made piece by piece, each of which is a batch.
 #[derive(Drop)]
 pub struct Pieces {
     generator: Generator,
-    // How many packets a piece has, but for the last one.
+    // How many packets each piece but the last has.
     most: u32,
     ghost some: { 0 < most },
 }
 
 impl Pieces {
-    /// So many packets for a plan, of which none is made yet.
+    /// Returns `number` packets that are to be made for a plan, none of which is made yet.
     pub fn new(alloc: Global, plan: &Plan, number: u32) -> Result<Pieces, AllocError>
         ensures { IfOk result (λ pieces. AreToCome plan.now number (making pieces.generator)) }
     {
@@ -36,7 +36,8 @@ impl Pieces {
         Ok(Pieces { generator, most })
     }
 
-    /// So many packets for a plan, of which none is made yet, all in one piece: what arrives at free nodes depends on batches.
+    /// Returns `number` packets that are to be made for a plan in one piece, none of which is made yet. What arrives at free nodes depends
+    /// on how packets are parted into batches.
     pub fn at_once(alloc: Global, plan: &Plan, number: u32) -> Result<Pieces, AllocError>
         ensures packets { IfOk result (λ pieces. AreToCome plan.now number (making pieces.generator)) }
         ensures most { IfOk result (λ pieces. number ≤ pieces.most) }
@@ -47,8 +48,8 @@ impl Pieces {
     }
 }
 
-// How many packets a piece has for a plan: at least one for each input, as the packets go to the inputs in turn, and each piece has the net
-// looked over. A graph without an input gets all of them at once, which are none.
+// Returns how many packets a piece has for a plan: at least one for each input, as the packets go to the inputs in turn, and the net is
+// looked over for each piece. A graph without inputs gets all packets at once: there are none.
 fn piece_for(plan: &Plan) -> u32
     ensures { 0 < result }
 {
@@ -59,7 +60,7 @@ fn piece_for(plan: &Plan) -> u32
     (MOST_HELD / most).max(plan.inputs.len()).max(1)
 }
 
-// How a piece ends, of which this tells whether it is the last.
+// Returns how a piece ends: `ended` says whether it is the last.
 fn end_by(ended: bool) -> BatchEnd
     ensures { result ≡ end_of ended }
 {

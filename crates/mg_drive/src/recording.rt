@@ -1,4 +1,4 @@
-//! How the events of a net are written.
+//! Writes the events of a net while it runs to rest.
 ghost use Rattle.std.specs.Prelude.{◌≡◌, false, codes, ℕ, List, [], OnOk, IfOk, OnErr};
 ghost use Rattle.mg_edge.specs.Edge.{SinkTold};
 ghost use Rattle.mg_node.specs.Job.{LoggedJob};
@@ -29,8 +29,8 @@ impl Puts for LastLine {
     }
 }
 
-/// Runs a net to rest, and puts the line of each event that it makes behind a text, and the last line of a trace behind them. At want
-/// of memory the net goes to rest all the same, where it has the memory for that, and no more lines are put.
+/// Runs a net to rest, and puts the line of each event that it makes behind a text, and then the last line of a trace. Where memory runs
+/// out for a line no more lines are put, and the net still runs to rest if it has memory for that.
 pub fn record_run<G: Gate, C: Calculator, K: Sink>(
     alloc: Global,
     net: &mut OneThread<'_, C, G>,
@@ -79,7 +79,7 @@ fn record_events<G: Gate, C: Calculator, K: Sink>(
     hear_run(net, &mut events)
 }
 
-// Runs a net to rest, and lets a text hear its events. So far there was memory for all lines.
+// Runs a net to rest, and lets a text that has all lines so far hear its events.
 fn hear_run<G: Gate, C: Calculator, K: Sink>(
     net: &mut OneThread<'_, C, G>,
     events: &mut EventText<'_, '_, K>,

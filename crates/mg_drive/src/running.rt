@@ -1,4 +1,4 @@
-//! A run of a graph: a net is made of its first batch and driven, and its calculators come back.
+//! A run of a graph over batches: its net is made of the first batch and driven, and its calculators come back.
 ghost use Rattle.std.specs.Prelude.{◌≡◌, [], false, map, length, List, IfOk, OnErr};
 ghost use Rattle.mg_edge.specs.Edge.{SourceTold, SinkTold};
 ghost use Rattle.mg_calc.specs.Plan.{IsValid};
@@ -25,7 +25,7 @@ use std::mem;
 use std::sync::Wait;
 use std::thread::Threads;
 
-/// Runs a net that was made over the first batch, and ends the run.
+/// Runs a net that was made of the first batch, over that and all further batches, and ends the run.
 pub fn run_net<
     R: Threads + Wait + Sync,
     G: Gate + Sync,
@@ -71,7 +71,7 @@ pub fn run_net<
     Ok(status)
 }
 
-// Makes the net of the first batch, runs it with the plan's number of workers, and takes the calculators out of it again.
+// Makes a net of the first batch, runs it with the plan's number of workers, and takes the calculators out of it again.
 fn run_made_net<
     R: Threads + Wait + Sync,
     G: Gate + Sync,

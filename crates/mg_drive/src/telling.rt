@@ -12,27 +12,27 @@ use mg_edge::Sink;
 use mg_value::InputSet;
 use std::alloc::{AllocError, Global};
 
-/// What is told of the sets of a graph's outputs.
+/// What tells the sets of a graph's outputs: by their lines, or by a summary at the end.
 pub trait Telling: Drop {
-    /// The form in which it is told.
+    /// The form in which it tells sets.
     ghost form: { Form };
 
-    /// It was told these sets of a plan's outputs. The output told the first before it, and tells the second now.
+    /// These sets of a plan's outputs were told by it. The output told the first `SinkTold` before that, and tells the second now.
     ghost has_told: { Self → Plan → SinkTold → SinkTold → List (TimedSet Plain) → Type 0 };
 
-    /// Tells a set behind the others.
+    /// Tells one more set.
     fn tell<K: Sink>(&mut self, set: &InputSet, output: &mut K) -> Result<(), AllocError>
         requires { IsFewTold has_told (K.told output.old) self.old }
         ensures put { OnOk result ((plan : Plan) (first : SinkTold) (sets : List (TimedSet Plain)) (timed : TimedSet Plain) → timed.set ≡ set.now
             → has_told self.old plan first (K.told output.old) sets → has_told self.new plan first (K.told output.new) (sets ++ timed ∷ [])) }
         ensures unwritten { OnErr result (K.told output.new ≡ K.told output.old) };
 
-    /// Writes what was told so far, unless all of it is written at the end.
+    /// Writes what was told so far, unless it is a summary, which is written at the end.
     fn pass_on<K: Sink>(&mut self, output: &mut K)
         ensures { (plan : Plan) (first : SinkTold) (sets : List (TimedSet Plain))
             → has_told self.old plan first (K.told output.old) sets → has_told self.new plan first (K.told output.new) sets };
 
-    /// The text of all that was told, of which a part may have been written.
+    /// Returns the text of all that was told, of which a part may have been written.
     fn into_text(self, alloc: Global) -> Result<OutputText, AllocError>
         ensures { IfOk result (λ text. (plan : Plan) (first now : SinkTold) (sets : List (TimedSet Plain)) → has_told self plan first now sets
             → HasPut first now text (told_in form plan sets)) };

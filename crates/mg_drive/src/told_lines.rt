@@ -1,4 +1,4 @@
-//! The lines of an output text, which are told set by set.
+//! Tells sets by the lines of an output text, which is written as it grows.
 ghost use Rattle.mg_answer.specs.Answer.{packet_lines};
 ghost use Rattle.mg_drive.specs.Told.{HasLines};
 

@@ -1,4 +1,4 @@
-//! A summary, to which sets are added; its text is told at the end alone.
+//! Tells sets by adding them to a summary, whose text is made at the end.
 ghost use Rattle.mg_answer.specs.Answer.{totals};
 ghost use Rattle.mg_drive.specs.Told.{HasSums};
 

@@ -1,4 +1,4 @@
-//! Recorded runs: the lines of the job are written, and each event as a net makes it.
+//! Runs that are recorded: the lines of the job are written, and then a line for each event as the net makes it.
 ghost use Rattle.std.specs.Prelude.{◌≡◌, ◌⊎◌, false, List, ℕ, map, IfOk, OnOk, OnErr};
 ghost use Rattle.mg_edge.specs.Edge.{SinkTold};
 ghost use Rattle.mg_calc.specs.declared.inputs.Inputs.{Inputs as Given};
@@ -44,10 +44,10 @@ pub fn trace_lines<G: Gate, C: Calculator, S: Source, K: Sink, E: Sink>(
     requires valid { IsValid run.now.plan.now }
     requires boxes { BoxesFit run.now.plan.now (map C.told boxes.old.items) }
 
-    // What each status means: it is as of a run, and the output took a trace.
+    // What each status means: the same as in a run that isn't recorded, but that the output took a trace.
     ensures traced { Traced run.now.report run.now.plan.now (map C.told boxes.old.items) result (told_by S.told K.told E.told devices.old devices.new) }
 
-    // It leaves the calculators as a run does.
+    // What the run leaves of the calculators that are handed in.
     ensures left { RunLeaves run.now.plan.now result (told_by S.told K.told E.told devices.old devices.new).input (device (map C.told boxes.old.items) (map C.told boxes.new.items)) }
     ensures same { SameDevices devices.old devices.new }
 {
@@ -57,7 +57,7 @@ pub fn trace_lines<G: Gate, C: Calculator, S: Source, K: Sink, E: Sink>(
     }
 }
 
-// Reads the whole input, and runs the graph over it.
+// Reads the whole input, runs the graph over it, and writes the trace and the notes.
 fn trace_whole<G: Gate, C: Calculator, S: Source, K: Sink, E: Sink>(
     run: &Run<'_>,
     gate: &G,
@@ -85,7 +85,7 @@ fn trace_whole<G: Gate, C: Calculator, S: Source, K: Sink, E: Sink>(
     Ok(status)
 }
 
-// What was read, and a text with its canonical lines, behind which the events come.
+// An input that was read, and a text that has its lines in canonical form and takes the lines of events behind them.
 #[derive(Drop)]
 struct Opening {
     whole: WholeInput,

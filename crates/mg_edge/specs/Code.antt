@@ -1,4 +1,4 @@
--- What the code's own functions say to one another. No public contract rests on it.
+-- Definitions for the contracts of the crate's inner functions. No public contract rests on them.
 use Rattle.std.specs.Prelude.{◌≡◌, ◌⊎◌, ℕ, Bool, true, false, List, take, Option, None, Some, ⊤}
 use Rattle.std.specs.Option.{option_map}
 use Rattle.mg_edge.specs.declared.store.Loaded.{Loaded}

@@ -46,7 +46,7 @@ next_got source room =
     else if length source.left == 0 then End
     else Bytes (min (min source.piece room) (length source.left))
 
--- What a read leaves that answers this.
+-- The source after a read with this answer.
 abbrev pub after_got : SourceState → Got → SourceState
 after_got source (Bytes n) = record source { left = drop n source.left; reads = one_more source.reads }
 after_got source End = record source { reads = one_more source.reads; ends = one_more source.ends }
@@ -74,6 +74,7 @@ slow_sink room most failing =
 abbrev pub empty_sink : ℕ → List ℕ → SinkState
 empty_sink room failing = slow_sink room (2 ^ 64 - 1) failing
 
+-- What a sink in memory tells: all that a sink can.
 abbrev pub sink_told : SinkState → SinkTold
 sink_told sink = record { taken = Some sink.taken; faults = sink.faults }
 
@@ -85,7 +86,7 @@ write_fails sink = list_any (λ number. nat_eq number sink.writes) sink.failing 
 abbrev pub next_put : SinkState → ℕ → Put
 next_put sink len = if write_fails sink then PutFailed else Took (min (min len sink.most) (sink.room - length sink.taken))
 
--- What a write of a piece leaves that answers this.
+-- The sink after a write of a piece with this answer.
 abbrev pub after_put : SinkState → List ℕ → Put → SinkState
 after_put sink piece (Took n) = record sink { taken = sink.taken ++ take n piece; writes = one_more sink.writes }
 after_put sink piece PutFailed = record sink { writes = one_more sink.writes; faults = one_more sink.faults }

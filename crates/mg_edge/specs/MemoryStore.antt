@@ -38,7 +38,7 @@ abbrev pub store_told : MemoryStore → StoreTold
 store_told store =
     record { content = λ name. Some (stored store name); failed_name = last_failed store; faults = store_faults store }
 
--- What is known of the loads so far stays.
+-- The counts of loads and of faults, and the name of the load that failed last, are as they were.
 pub record KeepsCalls (old new : MemoryStore) : Type 0 where
   pub loads : loads_made new ≡ loads_made old
   pub failed_name : last_failed new ≡ last_failed old

@@ -19,7 +19,7 @@ pub struct FolderStore<R> {
 }
 
 impl<R: Files + Drop> FolderStore<R> {
-    /// A store over the files of a runtime, by the names that `std::fs` takes.
+    /// Makes a store over the files of a runtime, by the names that `std::fs` takes.
     pub fn new(rt: R) -> FolderStore<R>
         ensures failed_name { (⟦<FolderStore<R> as Store>⟧.told result).failed_name ≡ None }
         ensures faults { (⟦<FolderStore<R> as Store>⟧.told result).faults ≡ 0 }
@@ -48,7 +48,7 @@ impl<R: Files + Drop> Store for FolderStore<R> {
     }
 }
 
-// The first bytes of a file, by its name.
+// Reads the first bytes of a file, by its name.
 fn read_file<R: Files>(rt: &R, alloc: Global, name: &str) -> Loaded
     ensures { LoadsWithin result }
 {
@@ -58,7 +58,7 @@ fn read_file<R: Files>(rt: &R, alloc: Global, name: &str) -> Loaded
     }
 }
 
-// The first bytes of what a reader has left.
+// Reads the first bytes of what a reader has left, `MOST_LOADED` at most.
 fn read_front<F: Read + Drop>(alloc: Global, file: F) -> Loaded
     ensures bound { LoadsWithin result }
     ensures bytes { LoadGives (option_map Some (F.remaining file)) result }

@@ -7,10 +7,10 @@ use std::thread;
 /// What is called round each Process call of a calculator, with the node's number and the number of the set, counted
 /// from 0. It tells nothing and changes no answer: a test may watch by it when calls are made, or hold one up.
 pub trait Gate {
-    /// Before the call.
+    /// Is called before the Process call.
     fn enter(&self, node: u32, number: u64);
 
-    /// After the call.
+    /// Is called after the Process call.
     fn leave(&self, node: u32, number: u64);
 }
 
@@ -25,7 +25,7 @@ impl Gate for StillGate {
 }
 
 /// A gate at which two Process calls meet, each told by its node and the number of its set: the one that comes first is held until the
-/// other has entered, or for so many turns.
+/// other has entered, or for `turns` turns.
 #[derive(Drop)]
 pub struct MeetGate {
     /// The one call: its node and the number of its set.
@@ -34,14 +34,15 @@ pub struct MeetGate {
     pub second: (u32, u64),
     /// How often the call that waits looks for the other one.
     pub turns: u64,
-    // Whether the first call waits or has met, and the same of the second.
+    // Whether the first call waits or has met the second, and whether the second waits or has met the first.
     first_in: AtomicBool,
     second_in: AtomicBool,
+    // Whether the two calls have met.
     met: AtomicBool,
 }
 
 impl MeetGate {
-    /// A gate for these two calls, which haven't met.
+    /// Makes a gate for these two calls, which haven't met.
     pub fn new(first: (u32, u64), second: (u32, u64), turns: u64) -> MeetGate
         ensures calls { (result.first ≡ first) × (result.second ≡ second) }
         ensures turns { result.turns ≡ turns }
@@ -61,7 +62,7 @@ impl MeetGate {
         self.met.load(SeqCst)
     }
 
-    // Holds a call until the other one has entered. Where it gives up, it is as if it hadn't come.
+    // Holds a call until the other one has entered, or for `turns` turns; after these it counts as a call that hasn't come.
     fn meet(&self, mine: &AtomicBool, theirs: &AtomicBool) {
         mine.store(true, SeqCst);
         for _ in 0..self.turns {

@@ -38,7 +38,7 @@ impl Model for MemorySink {
 }
 
 impl MemorySink {
-    /// An empty sink that has taken memory for `room` bytes. The writes whose numbers are in `failing` fail, counted
+    /// Makes an empty sink that has taken memory for `room` bytes. The writes whose numbers are in `failing` fail, counted
     /// from 0.
     pub fn new(alloc: Global, room: usize, failing: &[u64]) -> Result<MemorySink, AllocError>
         ensures { IfOk result (λ sink. sink ≡ empty_sink room failing.now) }
@@ -46,7 +46,7 @@ impl MemorySink {
         MemorySink::slow(alloc, room, usize::MAX, failing)
     }
 
-    /// A sink as [`new`](MemorySink::new) makes it, of which one write takes at most `most` bytes, which is at least 1:
+    /// Makes a sink as [`new`](MemorySink::new) does, of which one write takes at most `most` bytes, which has to be at least 1:
     /// as a pipe or a socket takes what there is room for, and leaves the rest to the next write.
     pub fn slow(
         alloc: Global,

@@ -18,7 +18,7 @@ pub struct MemorySource {
     reads: u64,
     ends: u64,
     faults: u64,
-    // Where the read stood that failed last.
+    // The place in the bytes at which the read that failed last stood, if one failed.
     failed_at: Option<usize>,
 }
 
@@ -43,7 +43,7 @@ impl Model for MemorySource {
 }
 
 impl MemorySource {
-    /// A source of a copy of `bytes`. A read gives at most `piece` of them, which is at least 1, and the reads whose
+    /// Makes a source of a copy of `bytes`. A read gives at most `piece` of them, which has to be at least 1, and the reads whose
     /// numbers are in `failing` fail, counted from 0.
     pub fn new(
         alloc: Global,

@@ -21,7 +21,7 @@ pub struct MemoryStore {
 }
 
 impl MemoryStore {
-    /// A store with no content.
+    /// Makes a store with no content.
     pub fn new(alloc: Global) -> MemoryStore
         ensures contents { (name : List ℕ) → stored result name ≡ None }
         ensures failing { failing_load result ≡ None }
@@ -54,7 +54,7 @@ impl MemoryStore {
         Ok(())
     }
 
-    /// Lets the load with this number fail, counted from 0, and no other one for this reason.
+    /// Makes the load with this number fail, counted from 0, in place of one that was to fail by an earlier call.
     pub fn fail_at(&mut self, call: u64)
         ensures failing { failing_load self.new ≡ Some call }
         ensures contents { (name : List ℕ) → stored self.new name ≡ stored self.old name }
@@ -77,7 +77,7 @@ impl MemoryStore {
         self.faults
     }
 
-    /// The name of the load that failed last, and none before the first.
+    /// Returns the name of the load that failed last, or None where none failed.
     pub fn failed_name(&self) -> Option<&str>
         ensures { option_map (λ name. name.now) result ≡ last_failed self.now }
     {
@@ -119,7 +119,7 @@ impl Store for MemoryStore {
     }
 }
 
-// What a load answers that is to fail or not.
+// Returns what a load of a name answers: the first bytes of its content, or `Failed` where it has none or the load is to fail.
 fn look_up(alloc: Global, contents: &BTreeMap<String, Vec<u8>>, name: &str, fails: bool) -> Loaded
     ensures bound { LoadsWithin result }
     ensures answer { LooksUp fails (content_at contents.now name.now) result }
@@ -130,7 +130,7 @@ fn look_up(alloc: Global, contents: &BTreeMap<String, Vec<u8>>, name: &str, fail
     }
 }
 
-// A copy of the first bytes of a content.
+// Copies the first bytes of a content, `MOST_LOADED` at most.
 fn first_bytes(alloc: Global, content: &[u8]) -> Loaded
     ensures bound { LoadsWithin result }
     ensures bytes { IsFrontOf content.now result }

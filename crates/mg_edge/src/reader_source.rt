@@ -17,7 +17,7 @@ pub struct ReaderSource<R> {
 }
 
 impl<R: Read + Drop> ReaderSource<R> {
-    /// A source over a reader that was not read by it yet.
+    /// Makes a source over a reader, with no end and no fault counted yet.
     pub fn new(reader: R) -> ReaderSource<R>
         ensures { ⟦<ReaderSource<R> as Source>⟧.told result ≡ record { left = R.remaining reader; reads = None; ends = 0; faults = 0; left_at_fault = None } }
     {
@@ -47,7 +47,7 @@ impl<R: Read + Drop> Source for ReaderSource<R> {
     }
 }
 
-// Reads once, and again where a signal interrupted the read.
+// Reads once, and again where a signal interrupted the read, up to `MOST_INTERRUPTIONS` times.
 fn read_uninterrupted<R: Read>(reader: &mut R, buf: &mut [u8]) -> io::Result<usize>
     ensures bound { ReadsAtMost result buf.new }
     ensures bytes { ReadConsumes (R.remaining reader.old) (R.remaining reader.new) result buf.new }

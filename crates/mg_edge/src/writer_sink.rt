@@ -18,7 +18,7 @@ pub struct WriterSink<W> {
 }
 
 impl<W: Write + Drop> WriterSink<W> {
-    /// A sink over a writer.
+    /// Makes a sink over a writer, with no fault counted yet.
     pub fn new(writer: W) -> WriterSink<W>
         ensures { ⟦<WriterSink<W> as Sink>⟧.told result ≡ record { taken = W.contents writer; faults = 0 } }
     {
@@ -40,7 +40,7 @@ impl<W: Write + Drop> Sink for WriterSink<W> {
     }
 }
 
-// Writes once, and again where a signal interrupted the write.
+// Writes once, and again where a signal interrupted the write, up to `MOST_INTERRUPTIONS` times.
 fn write_uninterrupted<W: Write>(writer: &mut W, piece: &[u8]) -> io::Result<usize>
     ensures bound { WritesAtMost result piece.now }
     ensures bytes { WriteAppends (W.contents writer.old) (W.contents writer.new) result piece.now }

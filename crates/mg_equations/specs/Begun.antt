@@ -1,4 +1,4 @@
--- What a node is before it reads a packet, by its law: a source has been called and has ended, a loopback has answered
+-- What has become of a node before it reads a packet, by its law: a source has been called and has ended, a loopback has answered
 -- nothing, and every other node is opened.
 use Rattle.std.specs.Prelude.{length}
 use Rattle.mg_calc.specs.declared.law.Law.{Law}

@@ -19,7 +19,7 @@ use Rattle.mg_equations.specs.Seen.{seen, with_answers}
 
 -- What is kept of a node whose streams have been read.
 
--- no more packets are read than there are
+-- at each port no more packets are read than its stream has
 pub record AreWithin (read : List ℕ) (ss : List (StreamPrefix Plain)) : Type 0 where
   pub ports : length read ≡ length ss
   pub each : (i : ℕ) → i < length ss → slice_index_or read i 0 ≤ length (port_of ss i).packets
@@ -29,36 +29,36 @@ pub record HasRead (node : PlanNode) (ss : List (StreamPrefix Plain)) (progress 
   pub gone : AreGone node.policy (length (settled_sets node.policy ss)) ss progress.read.items
   pub reached : progress.reached ≡ reach node.policy ss
 
--- a loopback has read the packets of MAIN that are answered, and packets of LOOP that nobody asks for
+-- a loopback has read the packets of MAIN that are answered, and of LOOP only packets that no further answer needs
 pub record HasAnswered (main loop : StreamPrefix Plain) (progress : Progress) : Type 0 where
   pub turns : slice_index_or progress.read.items 1 0 ≡ length (replies main loop)
   pub past : IsPast (last_of None (length (replies main loop)) main.packets) loop (slice_index_or progress.read.items 0 0)
 
--- a node has come to what becomes of it from some streams
+-- a node has gone on as far as the given streams let it
 pub record HasCome (job : Job) (streams : List (StreamPrefix Plain)) (node : PlanNode) (progress : Progress) : Type 0 where
   pub outcome : seen progress.outcome ≡ outcome_of job streams node
   pub within : AreWithin progress.read.items (inputs_of streams node.inputs)
   pub sets : IsOuter node.law → HasRead node (inputs_of streams node.inputs) progress
   pub turns : node.law ≡ Loopback → HasAnswered (port_of (inputs_of streams node.inputs) 1) (port_of (inputs_of streams node.inputs) 0) progress
 
--- and so have all nodes of a job
+-- all nodes of a job have gone on as far as the given streams let them
 pub record HaveCome (job : Job) (streams : List (StreamPrefix Plain)) (nodes : List Progress) : Type 0 where
   pub many : length nodes ≡ length job.plan.nodes
   pub each : (k : ℕ) (node : PlanNode) (progress : Progress) → slice_get job.plan.nodes k ≡ Some node → slice_get nodes k ≡ Some progress → HasCome job streams node progress
 
--- what has become of nodes
+-- what has become of each of the nodes
 abbrev pub outcomes : List Progress → List Outcome
 outcomes nodes = map (λ progress. seen progress.outcome) nodes
 
 -- Going on.
 
--- what a node needs for it: its counts fit
+-- a node can go on with these streams at its ports: its counts fit them
 pub record CanGoOn (node : PlanNode) (ss : List (StreamPrefix Plain)) (progress : Progress) : Type 0 where
   pub within : AreWithin progress.read.items ss
   pub room : IsOuter node.law → progress.outcome.taken + length (settled_sets node.policy (without_first progress.read.items ss)) < 2 ^ 64
   pub output : node.law ≡ Loopback → length progress.outcome.outputs.items ≡ 1
 
--- A node is shown the settled sets of what is left, and reads on behind them.
+-- a node was shown the settled sets of what was left of its streams, and has read the packets that go with them
 pub record IsShownMore (node : PlanNode) (ss : List (StreamPrefix Plain)) (before now : Progress) : Type 0 where
   pub outcome : seen now.outcome
       ≡ ended node.law node.shape.offset (reach node.policy (without_first before.read.items ss))
@@ -68,12 +68,12 @@ pub record IsShownMore (node : PlanNode) (ss : List (StreamPrefix Plain)) (befor
   pub read : now.read.items ≡ gone_of ss left
   pub reached : now.reached ≡ reach node.policy (without_first before.read.items ss)
 
--- once the sets have reached the end of all times, nothing changes
+-- a node was shown further sets, or, where its sets have reached the end of all times, stays as it was
 abbrev pub ShowsMore : Bool → PlanNode → List (StreamPrefix Plain) → Progress → Progress → Type 0
 ShowsMore true node ss before now = now ≡ before
 ShowsMore false node ss before now = IsShownMore node ss before now
 
--- A loopback answers what is left of MAIN, by what is left of LOOP.
+-- a loopback has answered what was left of MAIN, from what was left of LOOP
 pub record AnswersMore (main loop : StreamPrefix Plain) (before now : Progress) : Type 0 where
   pub packets : List (Stamped Plain)
   pub left : StreamPrefix Plain
@@ -83,7 +83,7 @@ pub record AnswersMore (main loop : StreamPrefix Plain) (before now : Progress) 
   pub outcome : seen now.outcome ≡ with_answers (seen before.outcome) packets (first_time left.packets left.bound) (length main.packets - length left.packets)
   pub read : now.read.items ≡ (length loop.packets - length rest.packets) ∷ (length main.packets - length left.packets) ∷ []
 
--- a node goes on, by its law
+-- a node has gone on, by its law
 abbrev pub GoesOn : Law → PlanNode → List (StreamPrefix Plain) → Progress → Progress → Type 0
 GoesOn (Count count start step) node ss before now = now ≡ before
 GoesOn (SideOnce at) node ss before now = now ≡ before
@@ -95,11 +95,12 @@ GoesOn law node ss before now = ShowsMore (before.reached == done) node ss befor
 abbrev pub reads_change : List Bool → PlanNode → Bool
 reads_change changed node = list_any (λ i. slice_index_or changed i false) node.inputs
 
--- the nodes that read a changed stream go on, and the others stay
+-- a node has gone on if it reads a changed stream, and otherwise stays as it was
 abbrev pub GoesOnIf : Bool → PlanNode → List (StreamPrefix Plain) → Progress → Progress → Type 0
 GoesOnIf true node streams before now = GoesOn node.law node (inputs_of streams node.inputs) before now
 GoesOnIf false node streams before now = now ≡ before
 
+-- the nodes that read a changed stream have gone on, and the others stay as they were
 pub record AllGoOn (nodes : List PlanNode) (streams : List (StreamPrefix Plain)) (changed : List Bool) (before now : List Progress) : Type 0 where
   pub many : length now ≡ length before
   pub each : (k : ℕ) (node : PlanNode) (first then : Progress) → slice_get nodes k ≡ Some node → slice_get before k ≡ Some first → slice_get now k ≡ Some then

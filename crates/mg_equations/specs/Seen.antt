@@ -24,14 +24,14 @@ seen outcome = record { state = outcome.state; outputs = outcome.outputs.items; 
 abbrev pub with_outputs : PlainOutcome → List (StreamPrefix Plain) → PlainOutcome
 with_outputs outcome outputs = record outcome { outputs = outputs }
 
--- an outcome whose one output has further packets, up to a bound, and which has taken so many
+-- an outcome whose only output has further packets and another bound, and which has another count
 abbrev pub with_answers : PlainOutcome → List (Stamped Plain) → ℕ → ℕ → PlainOutcome
 with_answers outcome packets bound taken = record outcome {
   outputs = record { packets = (slice_index_or outcome.outputs 0 empty_prefix).packets ++ packets; bound = bound } ∷ [];
   taken = taken;
 }
 
--- an outcome has become one that failed of a cause; want of memory is none
+-- an outcome has become one that failed of a cause; want of memory isn't a cause, so no outcome fails of it
 abbrev pub Fails : CalcFault → Phase → PlainOutcome → PlainOutcome → Type 0
 Fails (Fault cause) phase before now = now ≡ failed phase cause before
 Fails OutOfMemory phase before now = ⊥

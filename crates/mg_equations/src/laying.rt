@@ -10,7 +10,7 @@ use mg_route::packets_fault;
 use mg_time::Timestamp;
 use std::alloc::AllocError;
 
-// Why packets can't be put behind an output, one after the other.
+// Returns the first cause why packets can't be put behind an output one after the other, if there is one.
 fn output_fault(
     offset: Option<i64>,
     phase: &Phase,
@@ -22,7 +22,7 @@ fn output_fault(
     packets_fault(offset, phase, output.bound(), output.has_packets(), packets)
 }
 
-/// Why an emission can't be put behind a node's outputs, if there is a reason.
+/// Returns the first cause why an emission can't be put behind a node's outputs, in their order, if there is one.
 pub fn emission_fault(
     offset: Option<i64>,
     phase: &Phase,
@@ -43,7 +43,7 @@ pub fn emission_fault(
     None
 }
 
-// Puts what is emitted at an output behind it.
+// Puts what is emitted at an output behind it: the packets, and then the bound, if there is one.
 fn lay(output: &mut Output, laid: &Laid) -> Result<(), AllocError>
     ensures { OnOk result (output.new ≡ laid_on output.old laid.now) }
 {
@@ -54,7 +54,7 @@ fn lay(output: &mut Output, laid: &Laid) -> Result<(), AllocError>
     Ok(())
 }
 
-/// Puts an emission behind a node's outputs, each its own part. Payloads are shared.
+/// Puts an emission behind a node's outputs, behind each its own entry. Payloads are shared.
 pub fn lay_all(outputs: &mut [Output], emission: &Emission) -> Result<(), AllocError>
     ensures { OnOk result (outputs.new ≡ all_laid_on outputs.old emission.now) }
 {
@@ -66,7 +66,7 @@ pub fn lay_all(outputs: &mut [Output], emission: &Emission) -> Result<(), AllocE
     Ok(())
 }
 
-/// Raises the outputs of a node with an offset to a bound moved by it.
+/// Raises a node's outputs to a bound moved by the node's offset. Without an offset they stay.
 pub fn raise_all(offset: Option<i64>, bound: Timestamp, outputs: &mut [Output])
     ensures { outputs.new ≡ all_raised offset bound outputs.old }
 {

@@ -1,5 +1,5 @@
-//! The solution of a graph, computed plainly: by rounds, as the definitions of mg_calc read (`specs/Laying.antt`,
-//! `specs/Outcome.antt`, `specs/Equations.antt` and `specs/Meaning.antt`), in which each node goes on from where it stood
+//! The solution of a graph, computed in rounds as the definitions of mg_calc say (`specs/Laying.antt`, `specs/Outcome.antt`,
+//! `specs/Equations.antt` and `specs/Meaning.antt`), but with each node going on in a round from where it stood
 //! (`specs/Progress.antt`).
 #![tactic(auto)]
 

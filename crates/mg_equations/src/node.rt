@@ -1,4 +1,4 @@
-//! What a node has come to before its first round, by its law.
+//! What has become of a node before its first round, by its law.
 ghost use Rattle.std.specs.Prelude.{◌≡◌, length, IfOk};
 ghost use Rattle.mg_calc.specs.Outcome.{source_outcome as the_source_outcome};
 ghost use Rattle.mg_calc.specs.Shape.{IsServed, calls_of};
@@ -9,7 +9,7 @@ use crate::outcome::Outcome;
 use mg_calc::{GivenList, Inputs, Law, Plan, PlanNode, node_sides};
 use std::alloc::{AllocError, Global};
 
-/// What becomes of a source, which is called a number of times.
+/// Returns what becomes of a source, which is called as often as its law says.
 fn source_outcome(alloc: Global, node: &PlanNode, sides: &GivenList) -> Result<Outcome, AllocError>
     requires { IsServed node.now.law }
     ensures { IfOk result (λ outcome. seen outcome ≡ the_source_outcome node.now.law (calls_of node.now.law) (length node.now.outputs) sides.now) }
@@ -22,7 +22,7 @@ fn source_outcome(alloc: Global, node: &PlanNode, sides: &GivenList) -> Result<O
     Ok(outcome)
 }
 
-// How many calls a source gets.
+// Returns how many calls a source gets.
 fn call_count(law: &Law) -> u64
     ensures { result ≡ calls_of law.now }
 {
@@ -33,8 +33,8 @@ fn call_count(law: &Law) -> u64
     }
 }
 
-/// What a node is before it reads a packet, by its law: a source has been called and closed, a loopback has answered nothing,
-/// and every other node is opened.
+/// Returns what has become of a node before it reads a packet, by its law: a source has been called and closed, a loopback has
+/// answered nothing, and every other node is opened.
 pub fn begun(
     alloc: Global,
     plan: &Plan,

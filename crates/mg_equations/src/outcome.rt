@@ -22,10 +22,10 @@ pub struct Failure {
     pub cause: Cause,
 }
 
-/// What a node has come to.
+/// What has become of a node: its state, its output streams, its count and its fault.
 #[derive(Debug, Drop)]
 pub struct Outcome {
-    /// What its calculator keeps.
+    /// What the node's calculator keeps.
     pub state: State,
     pub outputs: Vec<Output>,
     /// How many sets or calls were taken, the one that failed included.
@@ -33,7 +33,7 @@ pub struct Outcome {
     pub fault: Option<Failure>,
 }
 
-// So many outputs of which nothing is known yet.
+// Returns `count` outputs of which nothing is known yet.
 fn empty_outputs(alloc: Global, count: u32) -> Result<Vec<Output>, AllocError>
     ensures { IfOk result (λ outputs. outputs.items ≡ replicate count empty_prefix) }
 {
@@ -45,7 +45,7 @@ fn empty_outputs(alloc: Global, count: u32) -> Result<Vec<Output>, AllocError>
 }
 
 impl Outcome {
-    /// A node of so many outputs before it is opened.
+    /// Returns the outcome of a node before it is opened, by the number of its outputs.
     pub fn before_open(alloc: Global, outputs: u32) -> Result<Outcome, AllocError>
         ensures { IfOk result (λ outcome. seen outcome ≡ unopened outputs) }
     {
@@ -57,7 +57,7 @@ impl Outcome {
         })
     }
 
-    /// A node that was opened with side packets.
+    /// Returns the outcome of a node that was opened with side packets.
     pub fn opened(
         alloc: Global,
         law: &Law,
@@ -74,7 +74,7 @@ impl Outcome {
         Ok(outcome)
     }
 
-    /// Shows it a set: before that its outputs are raised to the set's time plus its offset. Once it has failed it stays.
+    /// Shows the node a set; before that its outputs are raised to the set's time plus its offset. A node that has failed stays as it is.
     pub fn show(
         &mut self,
         alloc: Global,
@@ -97,8 +97,8 @@ impl Outcome {
         self.take(offset, &phase, answer)
     }
 
-    /// Shows it that no more sets come below a time: its outputs are raised, and where it is the end of all times, it is
-    /// closed. Once it has failed it stays.
+    /// Tells the node that no more sets come below a time: its outputs are raised, and where the time is Done, the node is closed. A node
+    /// that has failed stays as it is.
     pub fn end(
         &mut self,
         law: &Law,
@@ -118,7 +118,7 @@ impl Outcome {
         }
     }
 
-    /// Calls it by number, if it is a source. Once it has failed it stays.
+    /// Calls the node, a source, by a number. A node that has failed stays as it is.
     pub fn call(&mut self, alloc: Global, law: &Law, number: u64) -> Result<(), AllocError>
         requires source { IsSource law.now }
         requires number { number < calls_of law.now }
@@ -133,7 +133,7 @@ impl Outcome {
         self.take(None, &Phase::Call(number), answer)
     }
 
-    /// Closes its outputs, as after the last call of a source. Once it has failed it stays.
+    /// Closes the node's outputs, as after the last call of a source. A node that has failed stays as it is.
     pub fn close(&mut self)
         ensures { seen self.new ≡ with_last_call (seen self.old) }
     {
@@ -142,7 +142,7 @@ impl Outcome {
         }
     }
 
-    /// Puts further answers behind its one output, up to a bound, as a loopback that has answered so many packets.
+    /// Puts further answers of a loopback behind its only output, sets the output's bound, and sets how many packets were answered.
     pub fn answer(
         &mut self,
         packets: &PacketList,
@@ -157,7 +157,7 @@ impl Outcome {
         Ok(())
     }
 
-    // Calls Close, whose emission is laid before the outputs close.
+    // Calls Close, lays what it emits, and then closes the outputs.
     fn finish(&mut self, law: &Law, offset: Option<i64>) -> Result<(), AllocError>
         requires { (seen self.old).fault ≡ None }
         ensures { OnOk result (seen self.new ≡ finished law.now offset (seen self.old)) }
@@ -175,7 +175,7 @@ impl Outcome {
         }
     }
 
-    // Takes the answer to a call of the calculator, whose new state is kept.
+    // Takes the answer to a call of the calculator, which has kept its new state already: lays what it emits, or fails.
     fn take(
         &mut self,
         offset: Option<i64>,
@@ -208,7 +208,7 @@ impl Outcome {
         }
     }
 
-    // Fails of a cause. Want of memory is no cause.
+    // Sets the fault of the node. Want of memory isn't a fault of the node, and is returned as an error.
     fn fail(&mut self, phase: &Phase, fault: CalcFault) -> Result<(), AllocError>
         ensures { OnOk result (Fails fault phase.now (seen self.old) (seen self.new)) }
     {

@@ -10,7 +10,7 @@ use mg_value::{BlockList, Packet, Prefix, Rest};
 use std::alloc::{AllocError, Global};
 use std::marker::Model;
 
-/// A stream that grows, as an output while a node lays packets behind it. Contracts see its prefix.
+/// A stream that grows, such as an output behind which a node lays packets. Contracts see its prefix.
 #[derive(Debug, Drop)]
 pub struct Output {
     packets: Vec<Packet>,
@@ -30,7 +30,7 @@ impl Model for Output {
 }
 
 impl Output {
-    /// One of which nothing is known yet.
+    /// Returns a stream of which nothing is known yet. It allocates nothing.
     pub fn new(alloc: Global) -> Output
         ensures { result ≡ empty_prefix }
     {
@@ -40,28 +40,28 @@ impl Output {
         }
     }
 
-    /// The lowest timestamp that a further packet may have.
+    /// Returns the stream's bound: the lowest timestamp that a further packet may have.
     pub fn bound(&self) -> Timestamp
         ensures { result ≡ self.now.bound }
     {
         self.bound
     }
 
-    /// Whether it has a packet.
+    /// Whether the stream has packets.
     pub fn has_packets(&self) -> bool
         ensures { result ≡ nat_lt 0 (length self.now.packets) }
     {
         !self.packets.is_empty()
     }
 
-    /// How many packets it has.
+    /// Returns how many packets the stream has.
     pub fn len(&self) -> usize
         ensures { result ≡ length self.now.packets }
     {
         self.packets.len()
     }
 
-    /// What is left of it, where so many first packets have been read.
+    /// Returns what is left of the stream once its first `read` packets have been read.
     pub fn rest(&self, read: usize) -> Rest<'_>
         requires { read ≤ length self.now.packets }
         ensures { result ≡ behind_first read self.now }
@@ -69,7 +69,7 @@ impl Output {
         Rest::behind(self.packets.as_slice(), self.bound, read)
     }
 
-    /// The time of the last of so many first packets, if there are any.
+    /// Returns the time of the last of the first `read` packets, or none where `read` is 0.
     pub fn last_time(&self, read: usize) -> Option<Timestamp>
         requires { read ≤ length self.now.packets }
         ensures { result ≡ option_map (λ p. p.at) (last_of None read self.now.packets) }
@@ -81,7 +81,7 @@ impl Output {
         Some(packet.at)
     }
 
-    /// Puts packets behind its own, and moves its bound to another.
+    /// Appends copies of packets, and sets the bound.
     pub fn extend(&mut self, further: &[Packet], bound: Timestamp) -> Result<(), AllocError>
         ensures packets { OnOk result (self.new.packets ≡ self.old.packets ++ further.now) }
         ensures bound { OnOk result (self.new.bound ≡ bound) }
@@ -93,7 +93,7 @@ impl Output {
         Ok(())
     }
 
-    /// Becomes a prefix that extends it, by what is new. Answers whether anything is.
+    /// Makes the stream one that extends it, by copying only what is new. Returns whether anything is.
     pub fn grow(&mut self, later: &Rest<'_>) -> Result<bool, AllocError>
         requires { IsExtendedBy self.old later.now }
         ensures stream { OnOk result (self.new ≡ later.now) }
@@ -105,7 +105,7 @@ impl Output {
         Ok(!same)
     }
 
-    /// Puts a packet behind the others.
+    /// Appends a packet, and raises the bound past it.
     pub fn append(&mut self, packet: Packet) -> Result<(), AllocError>
         ensures { OnOk result (self.new ≡ appended self.old packet) }
     {
@@ -115,7 +115,7 @@ impl Output {
         Ok(())
     }
 
-    /// Puts packets behind the others, one after the other.
+    /// Appends copies of packets, one after the other, and raises the bound past the last.
     pub fn append_all(&mut self, packets: &LaidPackets) -> Result<(), AllocError>
         ensures { OnOk result (self.new ≡ all_appended self.old packets.now) }
     {
@@ -125,7 +125,7 @@ impl Output {
         Ok(())
     }
 
-    /// Raises its bound.
+    /// Raises the stream to a bound, if its own is lower.
     pub fn raise(&mut self, bound: Timestamp)
         ensures { self.new ≡ raised self.old bound }
     {
@@ -134,14 +134,14 @@ impl Output {
         }
     }
 
-    /// Closes it.
+    /// Closes the stream: its bound is Done.
     pub fn close(&mut self)
         ensures { self.new ≡ closed self.old }
     {
         self.bound = Timestamp::DONE;
     }
 
-    /// Its prefix.
+    /// Returns the stream as a prefix.
     pub fn into_prefix(self) -> Result<Prefix, AllocError>
         ensures { IfOk result (λ prefix. prefix ≡ self) }
     {

@@ -21,16 +21,16 @@ use std::alloc::{AllocError, Global};
 /// What is kept of a node from round to round.
 #[derive(Debug, Drop)]
 pub struct Progress {
-    /// What has become of it.
+    /// What has become of the node.
     pub outcome: Outcome,
-    /// How many packets it has read, at each of its input ports.
+    /// How many packets the node has read, at each of its input ports.
     pub read: Vec<usize>,
-    /// How far the sets reach that it was shown.
+    /// How far the sets reach that the node was shown: a further one stands there or above.
     pub reached: Timestamp,
 }
 
 impl Progress {
-    /// A node that has read nothing.
+    /// Returns the progress of a node that has read nothing.
     pub fn begun(alloc: Global, node: &PlanNode, outcome: Outcome) -> Result<Progress, AllocError>
         ensures outcome { IfOk result (λ progress. progress.outcome ≡ outcome) }
         ensures read { IfOk result (λ progress. progress.read.items ≡ replicate (length node.now.inputs) 0) }
@@ -43,8 +43,8 @@ impl Progress {
         })
     }
 
-    /// Goes on with input streams that have grown: a source has ended, a loopback answers further packets of MAIN, and every
-    /// other node is shown its further settled sets.
+    /// Lets the node go on with input streams that have grown: a source has ended and stays, a loopback answers further packets of MAIN,
+    /// and every other node is shown its further settled sets.
     pub fn go_on(
         &mut self,
         alloc: Global,
@@ -69,7 +69,7 @@ impl Progress {
         }
     }
 
-    // Shows it the further settled sets. Where those before reached the end of all times, there is none.
+    // Shows the node its further settled sets. Where those before reached Done, there is none.
     fn show(&mut self, alloc: Global, node: &PlanNode, streams: &[Output]) -> Result<(), AllocError>
         requires law { IsOuter node.now.law }
         requires served { IsServed node.now.law }
@@ -92,7 +92,7 @@ impl Progress {
         Ok(())
     }
 
-    // Answers further packets of MAIN, if it is a loopback.
+    // Lets the node, a loopback, answer further packets of MAIN.
     fn answer(&mut self, alloc: Global, main: &Output, back: &Output) -> Result<(), AllocError>
         requires main { IsPrefix main.now }
         requires back { IsPrefix back.now }
@@ -114,7 +114,7 @@ impl Progress {
     }
 }
 
-// Two numbers, by port.
+// Returns the numbers of packets that are read at two ports, as a list.
 fn both(alloc: Global, first: usize, second: usize) -> Result<Vec<usize>, AllocError>
     ensures { IfOk result (λ read. read.items ≡ first ∷ second ∷ []) }
 {
@@ -124,7 +124,7 @@ fn both(alloc: Global, first: usize, second: usize) -> Result<Vec<usize>, AllocE
     Ok(read)
 }
 
-// None for each of so many ports.
+// Returns a list of `count` zeros: nothing is read at any port.
 fn nothing_read(alloc: Global, count: u32) -> Result<Vec<usize>, AllocError>
     ensures { IfOk result (λ read. read.items ≡ replicate count 0) }
 {
@@ -135,7 +135,7 @@ fn nothing_read(alloc: Global, count: u32) -> Result<Vec<usize>, AllocError>
     Ok(read)
 }
 
-// The stream at a port of a node.
+// Returns the stream at a port of a node.
 fn port<'a>(streams: &'a [Output], node: &PlanNode, port: usize) -> &'a Output
     requires known { All (λ i. i < length streams.now) node.now.inputs }
     requires there { port < length node.now.inputs }
@@ -162,7 +162,7 @@ fn show_all(
     Ok(())
 }
 
-// What is left of the streams at some ports, at each of which so many packets have been read.
+// Returns what is left of the streams at the ports of a node, by how many packets have been read at each.
 fn rests_at<'a>(
     alloc: Global,
     streams: &'a [Output],
@@ -182,7 +182,7 @@ fn rests_at<'a>(
     Ok(rests)
 }
 
-// How many packets have been read of the streams at some ports: all but what is left.
+// Returns how many packets have been read at each port of a node: all but those that are left.
 fn read_at(
     alloc: Global,
     streams: &[Output],

@@ -1,4 +1,4 @@
-//! Rounds: what the nodes have come to gives the streams of the next round, and these let the nodes go on.
+//! Rounds: the outputs of the nodes give the streams of the next round, and with these the nodes go on.
 ghost use Rattle.std.specs.Prelude.{◌≡◌, ℕ, ◌<◌, ◌++◌, All, Some, length, slice_get, IfOk, OnOk};
 ghost use Rattle.std.specs.List.{flat_map};
 ghost use Rattle.mg_value.specs.Prefix.{IsPrefix};
@@ -19,7 +19,7 @@ use mg_calc::{Inputs, Plan, PlanNode};
 use mg_value::{PrefixList, Rest};
 use std::alloc::{AllocError, Global};
 
-/// All nodes, once they have gone on from nothing to some streams.
+/// Returns the progress of all nodes once each has gone on from nothing to the given streams.
 pub fn first_nodes(
     alloc: Global,
     plan: &Plan,
@@ -38,7 +38,7 @@ pub fn first_nodes(
     Ok(nodes)
 }
 
-// A node, once it has gone on from nothing to some streams.
+// Returns the progress of a node once it has gone on from nothing to the given streams.
 fn first(
     alloc: Global,
     plan: &Plan,
@@ -58,7 +58,7 @@ fn first(
     Ok(progress)
 }
 
-/// The streams of the next round, to be read: the graph inputs, and then the outputs of each node.
+/// Returns the streams of the next round, so that they can be read: the graph inputs, and then the outputs of each node.
 pub fn next_streams<'a>(
     alloc: Global,
     inputs: &'a PrefixList,
@@ -73,7 +73,7 @@ pub fn next_streams<'a>(
     Ok(next)
 }
 
-// Prefixes, to be read.
+// Returns prefixes so that they can be read from the first packet on.
 fn whole<'a>(alloc: Global, prefixes: &'a PrefixList) -> Result<Vec<Rest<'a>>, AllocError>
     ensures { IfOk result (λ rests. rests.items ≡ prefixes.now) }
 {
@@ -84,7 +84,7 @@ fn whole<'a>(alloc: Global, prefixes: &'a PrefixList) -> Result<Vec<Rest<'a>>, A
     Ok(rests)
 }
 
-// Puts outputs behind streams.
+// Appends outputs to a list of streams.
 fn push_outputs<'a>(next: &mut Vec<Rest<'a>>, outputs: &'a [Output]) -> Result<(), AllocError>
     ensures { OnOk result (next.new.items ≡ next.old.items ++ outputs.now) }
 {
@@ -94,7 +94,7 @@ fn push_outputs<'a>(next: &mut Vec<Rest<'a>>, outputs: &'a [Output]) -> Result<(
     Ok(())
 }
 
-/// Streams become those of the next round, by what is new. Answers which have changed.
+/// Makes the streams those of the next round, by copying only what is new. Returns for each stream whether it has changed.
 pub fn grow_all(
     alloc: Global,
     streams: &mut Vec<Output>,
@@ -124,7 +124,7 @@ fn reads_change(node: &PlanNode, changed: &[bool]) -> bool
     false
 }
 
-// A node goes on if it reads a changed stream.
+// Lets a node go on if it reads a changed stream.
 fn go_on_if(
     alloc: Global,
     node: &PlanNode,
@@ -148,7 +148,7 @@ fn go_on_if(
     }
 }
 
-/// The nodes that read a changed stream go on.
+/// Lets the nodes go on that read a changed stream.
 pub fn go_on_all(
     alloc: Global,
     plan: &Plan,

@@ -20,7 +20,7 @@ use std::alloc::{AllocError, Global};
 /// Counts, one for each node.
 pub type CountList = BlockList<u64>;
 
-/// The solution of a job, and what is told of its nodes.
+/// The solution of a job, with the counts and the faults of its nodes.
 #[derive(Debug, Drop)]
 pub struct Streams {
     /// The prefix of each stream.
@@ -34,9 +34,9 @@ pub struct Streams {
 
 /// Solves the equations of a graph for what is handed in.
 ///
-/// This is the plain program: it computes streams in rounds, and calls no calculator that is handed in. A round computes the
-/// nodes alone that read a stream which the round before has changed, each from where it stood, so that all rounds together
-/// read each packet once at each port. Payloads are shared.
+/// Streams are computed in rounds, and no calculator that is handed in is called. A round computes only the nodes that read a stream
+/// which the round before has changed, each from where it stood, so that all rounds together read each packet once at each port.
+/// Payloads are shared.
 pub fn solve(alloc: Global, plan: &Plan, inputs: &Inputs) -> Result<Streams, AllocError>
     requires plan { IsValid plan.now }
     requires inputs { InputsFit plan.now inputs.now }
@@ -55,7 +55,7 @@ pub fn solve(alloc: Global, plan: &Plan, inputs: &Inputs) -> Result<Streams, All
     }
 }
 
-// So many streams of which nothing is known.
+// Returns `count` streams of which nothing is known.
 fn nothing_known(alloc: Global, count: u32) -> Result<Vec<Output>, AllocError>
     ensures { IfOk result (λ streams. streams.items ≡ replicate count empty_prefix) }
 {
@@ -66,7 +66,7 @@ fn nothing_known(alloc: Global, count: u32) -> Result<Vec<Output>, AllocError>
     Ok(streams)
 }
 
-// Streams become those of the next round. Answers which have changed.
+// Makes the streams those of the next round. Returns for each stream whether it has changed.
 fn grown(
     alloc: Global,
     inputs: &PrefixList,
@@ -81,14 +81,14 @@ fn grown(
     grow_all(alloc, streams, next.as_slice())
 }
 
-// Whether some stream is another one.
+// Whether any stream has changed.
 fn has_change(changed: &[bool]) -> bool
     ensures { result ≡ list_any (λ change. change) changed.now }
 {
     changed.iter().any(|change| *change)
 }
 
-// The faults of nodes, in their order. Those of nodes that have none aren't there.
+// Returns the faults of the nodes that have failed, in node order.
 fn fault_list(alloc: Global, nodes: &[Progress]) -> Result<NodeFaultList, AllocError>
     requires { length nodes.now < 2 ^ 32 }
     ensures { IfOk result (λ list. list ≡ filter_map numbered_fault (enumerate_from 0 (map (λ outcome. outcome.fault) (outcomes nodes.now)))) }
@@ -108,7 +108,7 @@ fn fault_list(alloc: Global, nodes: &[Progress]) -> Result<NodeFaultList, AllocE
     Ok(BlockList::from_vec(list)?)
 }
 
-// How many sets or calls each node has taken.
+// Returns how many sets or calls each node has taken, in node order.
 fn count_list(alloc: Global, nodes: &[Progress]) -> Result<CountList, AllocError>
     ensures { IfOk result (λ list. list ≡ map (λ outcome. outcome.taken) (outcomes nodes.now)) }
 {
@@ -119,7 +119,7 @@ fn count_list(alloc: Global, nodes: &[Progress]) -> Result<CountList, AllocError
     Ok(BlockList::from_vec(counts)?)
 }
 
-// The prefixes of streams.
+// Returns the streams as a list of prefixes.
 fn prefix_list(alloc: Global, streams: Vec<Output>) -> Result<PrefixList, AllocError>
     ensures { IfOk result (λ list. list ≡ streams.items) }
 {
@@ -130,7 +130,7 @@ fn prefix_list(alloc: Global, streams: Vec<Output>) -> Result<PrefixList, AllocE
     Ok(BlockList::from_vec(prefixes)?)
 }
 
-// The streams with what the last round tells of the nodes.
+// Returns the streams, with the counts and the faults of the nodes.
 fn told(alloc: Global, streams: Vec<Output>, nodes: &[Progress]) -> Result<Streams, AllocError>
     requires { length nodes.now < 2 ^ 32 }
     ensures prefixes { IfOk result (λ s. s.prefixes ≡ streams.items) }

@@ -16,10 +16,11 @@ use Rattle.mg_feed.specs.declared.standing.Standing.{Standing}
 use Rattle.mg_feed.specs.declared.line_fault.LineFault.{LineFault}
 use Rattle.mg_feed.specs.declared.line_fault.LineFault.TheVariants.{NotJson, BadShape, UnknownStream, BadTimestamp, NotAscending, Closed, KindMismatch, BadValue, TooLong, TooManyLines, SideLate, SideTwice, NotAlone}
 
--- the most bytes of a line, and the most lines of an input, blank ones too
+-- the most bytes of a line, without its line feed
 abbrev pub longest_line : ℕ
 longest_line = LONGEST_LINE
 
+-- the most lines of an input, blank ones too
 abbrev pub most_lines : ℕ
 most_lines = MOST_LINES
 
@@ -32,31 +33,32 @@ pub record State : Type 0 where
   pub sides : List (Option Plain)
   pub named : Bool
 
--- nothing came yet
+-- what is given before any line: streams of which nothing is known, and no side packets
 abbrev pub fresh : GraphInputs → State
 fresh graph = record { streams = replicate (length graph.kinds) empty_prefix; sides = replicate (length graph.sides) None; named = false }
 
--- a list with a step of what is at a place
+-- the list with `step` applied to what is at this place, if anything is
 abbrev pub stepped : {X : Type 0} → ℕ → (X → X) → List X → List X
 stepped place step [] = []
 stepped zero step (x ∷ xs) = step x ∷ xs
 stepped (suc place) step (x ∷ xs) = x ∷ stepped place step xs
 
+-- the list with `step` applied to what is at this place, if there is a place
 abbrev pub stepped_at : {X : Type 0} → Option ℕ → (X → X) → List X → List X
 stepped_at None step xs = xs
 stepped_at (Some place) step xs = stepped place step xs
 
--- the streams with a packet of each that is named
+-- the streams with a packet at this time for each named value, in the stream of its name
 abbrev pub with_packets : GraphInputs → ℕ → List Named → List (StreamPrefix Plain) → List (StreamPrefix Plain)
 with_packets graph time [] ss = ss
 with_packets graph time (v ∷ vs) ss =
     with_packets graph time vs (stepped_at (place_of graph.streams v.name) (λ s. appended s (record { at = time; value = plain_of v.value })) ss)
 
--- what a time means that a line has
+-- the time that a line's JSON value says, or 0 where it says none
 abbrev pub time_or_none : Data → ℕ
 time_or_none t = unwrap_or (time_of t) 0
 
--- what is given with what a good line says. A bound below the stream's own changes nothing
+-- what is given after a good line of this form. A bound below the stream's own changes nothing
 abbrev pub with_form : GraphInputs → State → Form → State
 with_form graph given (packets t vs) = record { streams = with_packets graph (time_or_none t) vs given.streams; sides = given.sides; named = true }
 with_form graph given (bound name t) =
@@ -66,11 +68,12 @@ with_form graph given (close name) =
 with_form graph given (side name v) =
     record { streams = given.streams; sides = stepped_at (place_of graph.sides name) (λ _. Some (plain_of v)) given.sides; named = given.named }
 
+-- what is given after a good line of this form, where it has one
 abbrev pub with_said : GraphInputs → State → Option Form → State
 with_said graph given None = given
 with_said graph given (Some form) = with_form graph given form
 
--- what is given with a good line. One of blanks alone says nothing
+-- what is given after a good line. A line of blanks alone gives nothing
 abbrev pub with_line : GraphInputs → State → List ℕ → State
 with_line graph given line =
     if list_all is_blank line then given else with_said graph given (option_and_then form_of (json_value line))
@@ -81,22 +84,23 @@ given_by graph lines = fold (λ given line. with_line graph given line) (fresh g
 
 -- Refusals --
 
--- a reason, where a test holds
+-- a fault, where a test holds
 abbrev pub when : Bool → LineFault → Option LineFault
 when test fault = if test then Some fault else None
 
--- the first of some reasons that there is
+-- the first fault that is there in a list
 abbrev pub first_refusal : List (Option LineFault) → Option LineFault
 first_refusal [] = None
 first_refusal (None ∷ reasons) = first_refusal reasons
 first_refusal (Some fault ∷ reasons) = Some fault
 
+-- whether a list has an item
 abbrev pub has_some : {X : Type 0} → List X → Bool
 has_some [] = false
 has_some (x ∷ xs) = true
 
--- what a stream is judged by: its bound, and whether it has a packet. It is closed where the bound is Done, which no
--- packet and no bound line makes it
+-- what a stream's next line is judged by: the stream's bound, and whether it has a packet. The stream is closed where the bound is Done,
+-- which no packet and no bound line makes it
 abbrev pub standing : StreamPrefix Plain → Standing
 standing s = record { bound = s.bound; begun = has_some s.packets }
 
@@ -108,6 +112,7 @@ pub record Before : Type 0 where
   pub sides : List (Option Plain)
   pub named : Bool
 
+-- what a line is judged by, after so many lines that gave this
 abbrev pub before : GraphInputs → ℕ → State → Before
 before graph lines given = record { graph = graph; lines = lines; streams = map standing given.streams; sides = given.sides; named = given.named }
 
@@ -115,19 +120,20 @@ before graph lines given = record { graph = graph; lines = lines; streams = map 
 abbrev pub no_stream : Standing
 no_stream = record { bound = done; begun = true }
 
--- what is at a place
+-- what is at a place of a list, if there is a place and something is there
 abbrev pub placed : {X : Type 0} → Option ℕ → List X → Option X
 placed None xs = None
 placed (Some place) xs = slice_get xs place
 
--- the stream of a name: its kind and its standing
+-- the kind of the stream with this name, or Any where there is none
 abbrev pub kind_at : Before → List ℕ → Kind
 kind_at b name = unwrap_or (placed (place_of b.graph.streams name) b.graph.kinds) Any
 
+-- the standing of the stream with this name
 abbrev pub standing_at : Before → List ℕ → Standing
 standing_at b name = unwrap_or (placed (place_of b.graph.streams name) b.streams) no_stream
 
--- the side packet of a name that came
+-- the side packet with this name, if it came
 abbrev pub side_at : Before → List ℕ → Option Plain
 side_at b name = unwrap_or (placed (place_of b.graph.sides name) b.sides) None
 
@@ -154,19 +160,20 @@ close_refusals s = when (s.bound == done) Closed ∷ []
 abbrev pub side_refusals : Bool → Option Plain → Data → List (Option LineFault)
 side_refusals named came v = when named SideLate ∷ when (is_some came) SideTwice ∷ option_map BadValue (first_fault v) ∷ []
 
--- whether a name is that of an input stream, and of a side packet
+-- whether a name is that of an input stream
 abbrev pub is_stream : Before → List ℕ → Bool
 is_stream b name = is_some (place_of b.graph.streams name)
 
+-- whether a name is that of a side packet that is handed in
 abbrev pub is_side : Before → List ℕ → Bool
 is_side b name = is_some (place_of b.graph.sides name)
 
--- why the packets of some streams aren't good, for one stream after the other
+-- why the packets that a line gives its named streams aren't good, stream by stream
 abbrev pub several_refusals : Before → Option ℕ → List Named → List (Option LineFault)
 several_refusals b time vs = flat_map (λ v. packet_refusals (kind_at b v.name) (standing_at b v.name) time v.value) vs
 
--- Why what a line says isn't good: a name is that of no input, or otherwise, for one named stream after the other, each by
--- its own standing.
+-- Why a line of this form isn't good: a name is that of no input; or else, for one named stream after the other, the reasons by that
+-- stream's own standing.
 abbrev pub form_refusals : Before → Form → List (Option LineFault)
 form_refusals b (packets t vs) =
     when (not (list_all (λ v. is_stream b v.name) vs)) UnknownStream
@@ -180,11 +187,12 @@ abbrev pub shape_refusal : Before → Option Form → Option LineFault
 shape_refusal b None = Some BadShape
 shape_refusal b (Some form) = first_refusal (form_refusals b form)
 
+-- why a line isn't good by its JSON value: it has none, or the value is refused
 abbrev pub json_refusal : Before → Option Data → Option LineFault
 json_refusal b None = Some NotJson
 json_refusal b (Some d) = shape_refusal b (form_of d)
 
--- why what a line says isn't good. One of blanks alone is good
+-- why a line isn't good, whatever its length and number. A line of blanks alone is good
 abbrev pub words_refusal : Before → List ℕ → Option LineFault
 words_refusal b line = if list_all is_blank line then None else json_refusal b (json_value line)
 
@@ -201,7 +209,7 @@ refusal graph lines line = line_refusal (before graph (length lines) (given_by g
 
 -- Accepted lines --
 
--- what goes on where a line is good
+-- `good` where a line is good, and `bad` where it is refused
 abbrev pub if_good : {A : Type 0} → Option LineFault → A → A → A
 if_good None good bad = good
 if_good (Some fault) good bad = bad
@@ -212,6 +220,7 @@ accepted_after graph before [] = []
 accepted_after graph before (line ∷ lines) =
     if_good (refusal graph before line) (line ∷ accepted_after graph (before ++ line ∷ []) lines) []
 
+-- the lines of an input that are accepted: those before the first that isn't good
 abbrev pub accepted : GraphInputs → List (List ℕ) → List (List ℕ)
 accepted graph = accepted_after graph []
 
@@ -220,6 +229,7 @@ pub record Refused : Type 0 where
   pub number : ℕ
   pub fault : LineFault
 
+-- the refusal of the line of this number, or a later one where it is good
 abbrev pub refused_at : ℕ → Option LineFault → Option Refused → Option Refused
 refused_at number None later = later
 refused_at number (Some fault) later = Some (record { number = number; fault = fault })
@@ -230,7 +240,7 @@ first_refused_after graph before [] = None
 first_refused_after graph before (line ∷ lines) =
     refused_at (length before + 1) (refusal graph before line) (first_refused_after graph (before ++ line ∷ []) lines)
 
--- whether a line names a stream
+-- whether a line of this form names a stream
 abbrev pub form_names : Option Form → Bool
 form_names None = false
 form_names (Some (packets t vs)) = true
@@ -238,5 +248,6 @@ form_names (Some (bound name t)) = true
 form_names (Some (close name)) = true
 form_names (Some (side name v)) = false
 
+-- whether a line names a stream
 abbrev pub names_stream : List ℕ → Bool
 names_stream line = if list_all is_blank line then false else form_names (option_and_then form_of (json_value line))

@@ -16,7 +16,7 @@ names_in (Some (side name v)) = []
 abbrev pub named_streams : List ℕ → List (List ℕ)
 named_streams line = if list_all is_blank line then [] else names_in (option_and_then form_of (json_value line))
 
--- two lines each name streams, and none of them both
+-- both lines name streams, and no stream is named by both
 pub record AreApart (first second : List ℕ) : Type 0 where
   pub one : names_stream first ≡ true
   pub other : names_stream second ≡ true

@@ -36,7 +36,7 @@ HasCause (Failed number) = ⊤
 HasCause (Refused number cause) = cause ≢ no_memory
 HasCause OutOfMemory = ⊤
 
--- A call that reads an input to its end: these bytes came, and of them and of those that were kept it took these lines.
+-- A call that reads an input to its end: these bytes came, and it took these lines of the bytes that were kept and of those that came.
 pub record HasRead (end : FeedEnd) (before now : SourceTold) (old new : Fed) : Type 0 where
   pub came : List ℕ
   pub taken : List (List ℕ)
@@ -51,24 +51,27 @@ most_kept = longest_line + longest_block
 
 -- Batches --
 
--- how many lines name a stream
+-- how many of the lines name a stream
 abbrev pub naming : List (List ℕ) → ℕ
 naming lines = count_by names_stream lines
 
--- There is more behind a batch exactly where it took as many lines that name a stream as it may. The last of them is the
+-- A batch ends with More exactly where it took as many lines that name a stream as it may. The last of them is then the
 -- batch's last line.
 abbrev pub Fills : BatchEnd → ℕ → List (List ℕ) → Type 0
 Fills More most taken = (naming taken ≡ most) × ((taken ≡ []) ⊎ (naming (but_last taken) < most))
 Fills (End end) most taken = naming taken < most
 
+-- what the end of a batch says of all bytes that came, and of the lines that were accepted of them
 abbrev pub BatchEndsAs : BatchEnd → GraphInputs → List (List ℕ) → List ℕ → List (List ℕ) → Bool → Type 0
 BatchEndsAs More graph first came lines ended = ⊤
 BatchEndsAs (End end) graph first came lines ended = EndsAs end graph first came lines ended
 
+-- the cause of a refusal that ends a batch is never want of memory
 abbrev pub BatchHasCause : BatchEnd → Type 0
 BatchHasCause More = ⊤
 BatchHasCause (End end) = HasCause end
 
+-- what became of the reads of a batch, by how it ended
 abbrev pub BatchFailedBy : BatchEnd → SourceTold → SourceTold → Type 0
 BatchFailedBy More before now = Unfailed before now
 BatchFailedBy (End end) before now = FailedBy end before now
@@ -78,7 +81,7 @@ abbrev pub idle_by : BatchEnd → Bool → ℕ
 idle_by More ended = late ended
 idle_by (End end) ended = 1
 
--- A call that reads a batch.
+-- A call that reads a batch: these bytes came, and it took these lines of the bytes that were kept and of those that came.
 pub record HasReadBatch (most : ℕ) (end : BatchEnd) (before now : SourceTold) (old new : Fed) : Type 0 where
   pub came : List ℕ
   pub taken : List (List ℕ)

@@ -21,6 +21,6 @@ pub record Came (first : List (List ℕ)) (came : List ℕ) (lines : List (List 
   pub cut : IsCut (arrived f.read.ended came) lines f.read.kept
   pub stops : StopsInTime f.view.graph first came
 
--- Of all these lines, after the first ones, so many are accepted, and this is the first that isn't good, if there is one.
+-- Of the lines `all`, which come after the lines `first`, these are accepted, and this is the first that isn't good, if there is one.
 abbrev pub Judged : GraphInputs → List (List ℕ) → List (List ℕ) → List (List ℕ) → Option Refused → Type 0
 Judged graph first all lines refused = (accepted_after graph first all ≡ lines) × (first_refused_after graph first all ≡ refused)

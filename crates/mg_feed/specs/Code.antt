@@ -1,4 +1,4 @@
--- What the code's own functions say to one another.
+-- Definitions for the contracts of the crate's inner functions, and what its private types stand for.
 pub mod Places
 pub mod Forms
 pub mod Streams

@@ -8,7 +8,7 @@ pub record Reading : Type 0 where
   pub kept : List ℕ
   pub ended : Bool
 
--- what lines gave, and what was read besides
+-- what the accepted lines gave, and what was read behind them
 pub record Fed : Type 0 where
   pub view : View
   pub read : Reading

@@ -7,7 +7,7 @@
 --     {"side":s,"value":v}             a side packet
 --     {"at":t,"packets":{s:v}}         packets of one or more streams at one time
 --
--- A packet is said like packets of one stream.
+-- A packet line means the same as packets of one stream at its time.
 use Rattle.std.specs.Prelude.{ℕ, ◌+◌, ◌||◌, ◌&&◌, ◌==◌, ℤ, List, [], ◌∷◌, Bool, Option, None, Some, codes, nat_le, option_and_then, if◌then◌else◌}
 use Rattle.std.specs.Str.{is_utf8, bytes_eq}
 use Rattle.serde_json.specs.Data.{Data, null, boolean, number, string, array, object, Members, no_members, member}
@@ -20,6 +20,7 @@ pub record Named : Type 0 where
   pub name : List ℕ
   pub value : Data
 
+-- what a packet line says
 pub data Form : Type 0 where
   -- at a time a packet of each named stream
   packets : Data → List Named → Form
@@ -52,17 +53,19 @@ abbrev pub listed : Members → List Named
 listed no_members = []
 listed (member k d ms) = record { name = k; value = d } ∷ listed ms
 
--- a member that is a text, one that is true or false, and one that is an object
+-- the text at a key of an object, where one is there
 abbrev pub text_at : List ℕ → Data → Option (List ℕ)
 text_at key d = option_and_then as_str (get key d)
 
+-- the truth value at a key of an object, where one is there
 abbrev pub flag_at : List ℕ → Data → Option Bool
 flag_at key d = option_and_then as_bool (get key d)
 
+-- the members of the object at a key of an object, where one is there
 abbrev pub members_at : List ℕ → Data → Option Members
 members_at key d = option_and_then as_object (get key d)
 
--- the forms, each by the members that it has
+-- the forms, each from the members that it needs, where all are there
 abbrev pub packet_form : Option (List ℕ) → Option Data → Option Data → Option Form
 packet_form None time value = None
 packet_form (Some name) None value = None
@@ -90,12 +93,12 @@ packets_form (Some time) None = None
 packets_form (Some time) (Some no_members) = None
 packets_form (Some time) (Some (member k d ms)) = Some (packets time (listed (member k d ms)))
 
--- the one that is there
+-- the first form, or the other where it isn't there
 abbrev pub either : Option Form → Option Form → Option Form
 either None other = other
 either (Some form) other = Some form
 
--- the forms of two members
+-- the form of an object of two members, where it has one
 abbrev pub two_form : Data → Option Form
 two_form d =
     either (bound_form (text_at (codes "stream") d) (get (codes "bound") d))
@@ -119,9 +122,11 @@ json_value text = if is_utf8 text then read text else None
 abbrev pub is_of_range : ℤ → Bool
 is_of_range time = nat_le least (place_of time) && nat_le (place_of time) greatest
 
+-- the time of a number, where it is in the range
 abbrev pub time_numbered : ℤ → Option ℕ
 time_numbered z = if is_of_range z then Some (place_of z) else None
 
+-- the time of a name, where it is one of the two
 abbrev pub time_named : List ℕ → Option ℕ
 time_named s = if bytes_eq s (codes "PreStream") then Some pre_stream else (if bytes_eq s (codes "PostStream") then Some post_stream else None)
 

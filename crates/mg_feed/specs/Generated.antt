@@ -27,9 +27,10 @@ abbrev pub generated_streams : List Kind → ℕ → List (StreamPrefix Plain)
 generated_streams kinds zero = replicate (length kinds) empty_prefix
 generated_streams kinds (suc i) = stepped (i % length kinds) (λ s. appended s (generated_packet kinds i)) (generated_streams kinds i)
 
--- what is made: the streams end after their packets, and each side packet is the number 1
+-- the streams that are made: so many packets, and each stream is closed behind its own
 abbrev pub generated : List Kind → ℕ → List (StreamPrefix Plain)
 generated kinds number = map closed (generated_streams kinds number)
 
+-- the side packets that are made, each the number 1
 abbrev pub generated_sides : ℕ → List (Option Plain)
 generated_sides sides = replicate sides (Some (int (pos 1)))

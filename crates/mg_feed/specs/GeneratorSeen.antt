@@ -3,5 +3,6 @@ use Rattle.mg_feed.specs.Seen.{collected}
 use Rattle.mg_feed.specs.Pieces.{Making}
 use Rattle.mg_feed.specs.declared.generator.Generator.{Generator}
 
+-- what a generator made, and how many packets it makes in all and made so far
 abbrev pub making : Generator → Making
 making g = record { view = collected g.collected; number = g.number; made = g.made }

@@ -29,11 +29,12 @@ numbered place (name ∷ names) = record { name = name; place = place } ∷ numb
 abbrev pub input_streams : Plan → List PlanStream
 input_streams plan = filter_map (slice_get plan.streams) plan.inputs
 
--- the side packets of a plan that are handed in
+-- the list with a side packet's name and place in front, where it is handed in
 abbrev pub placed_side : List ℕ → PlainSideValue → List Placed → List Placed
 placed_side name (given_at place) later = record { name = name; place = place } ∷ later
 placed_side name (fixed value) later = later
 
+-- the side packets of a plan that are handed in, with their places
 abbrev pub given_sides : List PlainSide → List Placed
 given_sides [] = []
 given_sides (side ∷ sides) = placed_side side.name side.value (given_sides sides)

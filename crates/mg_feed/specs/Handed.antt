@@ -14,7 +14,7 @@ use Rattle.mg_feed.specs.declared.lines.NextLine.TheVariants.{Line, TooLong, End
 abbrev pub HasHanded : List ℕ → List (List ℕ) → Reading → Type 0
 HasHanded came lines read = IsCut (arrived read.ended came) lines read.kept
 
--- Bytes came, and none of a line was handed out meanwhile.
+-- Bytes came, and no line was handed out meanwhile.
 pub record MovesOn (before now : SourceTold) (old new : Reading) : Type 0 where
   pub came : List ℕ
   pub gave : Gave before.left now.left came
@@ -22,7 +22,7 @@ pub record MovesOn (before now : SourceTold) (old new : Reading) : Type 0 where
   pub unfailed : Unfailed before now
   pub grows : (past : List ℕ) (lines : List (List ℕ)) → HasHanded past lines old → HasHanded (past ++ came) lines new
 
--- what became of the reads: none failed, but for the last where there is no line for that
+-- what became of the reads of a call, by its answer: the last failed where this is Failed, and none otherwise
 abbrev pub EndsReads : NextLine → SourceTold → SourceTold → Type 0
 EndsReads Line before now = Unfailed before now
 EndsReads TooLong before now = Unfailed before now
@@ -38,7 +38,7 @@ ComesAs TooLong line came lines read =
 ComesAs Ended line came lines read = (read.ended ≡ true) × (lines ≡ all_lines came)
 ComesAs Failed line came lines read = lines ≡ whole_lines came
 
--- The next line was asked for.
+-- A call that asks for the next line, by its answer.
 pub record NextComes (answer : NextLine) (line : List ℕ) (before now : SourceTold) (old new : Reading) : Type 0 where
   pub came : List ℕ
   pub gave : Gave before.left now.left came
@@ -46,7 +46,7 @@ pub record NextComes (answer : NextLine) (line : List ℕ) (before now : SourceT
   pub reads : EndsReads answer before now
   pub comes : (past : List ℕ) (lines : List (List ℕ)) → HasHanded past lines old → ComesAs answer line (past ++ came) lines new
 
--- how many lines are handed out then
+-- how many lines are handed out after this answer
 abbrev pub counted_with : NextLine → ℕ → ℕ
 counted_with Line count = count + 1
 counted_with TooLong count = count

@@ -23,5 +23,5 @@ pub mod Came
 pub mod Batch
 pub mod Handed
 pub mod LinesSeen
--- What only the code's own functions say to one another. Nothing above rests on it.
+-- Definitions for the contracts of the crate's inner functions, and what its private types stand for.
 pub mod Code

@@ -12,13 +12,13 @@ abbrev pub parts : List ℕ → List (List ℕ)
 parts [] = [] ∷ []
 parts (b ∷ bytes) = if b == 10 then [] ∷ parts bytes else with_first b (parts bytes)
 
--- all but the last
+-- all parts but the last
 abbrev pub but_last : List (List ℕ) → List (List ℕ)
 but_last [] = []
 but_last (part ∷ []) = []
 but_last (part ∷ next ∷ parts) = part ∷ but_last (next ∷ parts)
 
--- all but a last one that is empty
+-- all parts, but the last where it is empty
 abbrev pub but_empty_last : List (List ℕ) → List (List ℕ)
 but_empty_last [] = []
 but_empty_last ([] ∷ []) = []
@@ -33,20 +33,22 @@ whole_lines bytes = but_last (parts bytes)
 abbrev pub all_lines : List ℕ → List (List ℕ)
 all_lines bytes = but_empty_last (parts bytes)
 
--- the bytes after the last line feed
+-- the last part
 abbrev pub last_part : List (List ℕ) → List ℕ
 last_part [] = []
 last_part (part ∷ []) = part
 last_part (part ∷ next ∷ parts) = last_part (next ∷ parts)
 
+-- the bytes after the last line feed
 abbrev pub rest_of : List ℕ → List ℕ
 rest_of bytes = last_part (parts bytes)
 
--- the bytes of an input that has ended, with the line feed that its last line may lack
+-- the bytes, and a line feed behind them where the part after their last line feed isn't empty
 abbrev pub with_feed : List ℕ → List ℕ → List ℕ
 with_feed [] bytes = bytes
 with_feed (b ∷ rest) bytes = bytes ++ 10 ∷ []
 
+-- the bytes of an input that has ended, with the line feed that its last line may lack
 abbrev pub completed : List ℕ → List ℕ
 completed bytes = with_feed (rest_of bytes) bytes
 
@@ -55,6 +57,7 @@ abbrev pub NoFeed : List ℕ → Type 0
 NoFeed [] = Unit {0}
 NoFeed (b ∷ bytes) = ((b == 10) ≡ false) × NoFeed bytes
 
+-- no byte of any line is a line feed
 abbrev pub NoFeeds : List (List ℕ) → Type 0
 NoFeeds [] = Unit {0}
 NoFeeds (line ∷ lines) = NoFeed line × NoFeeds lines

@@ -11,13 +11,14 @@ use Rattle.mg_feed.specs.Accepted.{State, Before, before, fresh, stepped_at, tim
 use Rattle.mg_feed.specs.declared.line_fault.LineFault.{LineFault}
 use Rattle.mg_feed.specs.declared.line_fault.LineFault.TheVariants.{NotJson, BadShape, UnknownStream, TooLong, TooManyLines}
 
+-- what a line said, in one of the four forms
 pub data OldForm : Type 0 where
   old_packet : List ℕ → Data → Data → OldForm
   old_bound : List ℕ → Data → OldForm
   old_close : List ℕ → OldForm
   old_side : List ℕ → Data → OldForm
 
--- the forms, each by the members that it has
+-- the forms, each from the members that it needs, where all are there
 abbrev pub old_packet_form : Option (List ℕ) → Option Data → Option Data → Option OldForm
 old_packet_form None time value = None
 old_packet_form (Some name) None value = None
@@ -39,7 +40,7 @@ old_side_form None value = None
 old_side_form (Some name) None = None
 old_side_form (Some name) (Some value) = Some (old_side name value)
 
--- the one that is there
+-- the first form, or the other where it isn't there
 abbrev pub old_either : Option OldForm → Option OldForm → Option OldForm
 old_either None other = other
 old_either (Some form) other = Some form
@@ -54,7 +55,7 @@ old_form_of d =
     (old_side_form (text_at (codes "side") d) (get (codes "value") d)))
     else None)
 
--- what is given with what a good line says
+-- what is given after a good line of this form
 abbrev pub with_old : GraphInputs → State → OldForm → State
 with_old graph given (old_packet name t v) = record {
   streams = stepped_at (place_of graph.streams name) (λ s. appended s (record { at = time_or_none t; value = plain_of v })) given.streams;
@@ -68,10 +69,12 @@ with_old graph given (old_close name) =
 with_old graph given (old_side name v) =
     record { streams = given.streams; sides = stepped_at (place_of graph.sides name) (λ _. Some (plain_of v)) given.sides; named = given.named }
 
+-- what is given after a good line of this form, where it has one
 abbrev pub with_old_said : GraphInputs → State → Option OldForm → State
 with_old_said graph given None = given
 with_old_said graph given (Some form) = with_old graph given form
 
+-- what is given after a good line
 abbrev pub with_old_line : GraphInputs → State → List ℕ → State
 with_old_line graph given line =
     if list_all is_blank line then given else with_old_said graph given (option_and_then old_form_of (json_value line))
@@ -80,17 +83,19 @@ with_old_line graph given line =
 abbrev pub old_given_by : GraphInputs → List (List ℕ) → State
 old_given_by graph lines = fold (λ given line. with_old_line graph given line) (fresh graph) lines
 
--- why what a line says isn't good
+-- why a line of this form isn't good
 abbrev pub old_refusals : Before → OldForm → List (Option LineFault)
 old_refusals b (old_packet name t v) = when (not (is_stream b name)) UnknownStream ∷ packet_refusals (kind_at b name) (standing_at b name) (time_of t) v
 old_refusals b (old_bound name t) = when (not (is_stream b name)) UnknownStream ∷ bound_refusals (standing_at b name) (time_of t)
 old_refusals b (old_close name) = when (not (is_stream b name)) UnknownStream ∷ close_refusals (standing_at b name)
 old_refusals b (old_side name v) = when (not (is_side b name)) UnknownStream ∷ side_refusals b.named (side_at b name) v
 
+-- why a JSON value isn't good: it has none of the four forms, or its form is refused
 abbrev pub old_shape_refusal : Before → Option OldForm → Option LineFault
 old_shape_refusal b None = Some BadShape
 old_shape_refusal b (Some form) = first_refusal (old_refusals b form)
 
+-- why a line isn't good by its JSON value: it has none, or the value is refused
 abbrev pub old_json_refusal : Before → Option Data → Option LineFault
 old_json_refusal b None = Some NotJson
 old_json_refusal b (Some d) = old_shape_refusal b (old_form_of d)
@@ -102,6 +107,7 @@ old_line_refusal b line =
     else (if nat_le most_lines b.lines then Some TooManyLines
     else (if list_all is_blank line then None else old_json_refusal b (json_value line)))
 
+-- why a line isn't good after these lines
 abbrev pub old_refusal : GraphInputs → List (List ℕ) → List ℕ → Option LineFault
 old_refusal graph lines line = old_line_refusal (before graph (length lines) (old_given_by graph lines)) line
 

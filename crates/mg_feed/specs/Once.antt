@@ -23,8 +23,8 @@ pub record StopsInTime (graph : GraphInputs) (first : List (List ℕ)) (came : L
   pub good : AllGood graph first (whole_lines before)
   pub open_line : length (rest_of before) ≤ longest_line
 
--- An input, of which these bytes came, was read no further than that, and by one read more than bytes came at most, where the source
--- tells its bytes and its reads: the one that answered `End`, or that failed.
+-- An input, of which these bytes came, was read no further than `StopsInTime` says. Where the source tells its bytes and its reads, there
+-- was at most one read more than bytes came: the one that answered `End`, or that failed.
 pub record ReadsOnce (graph : GraphInputs) (before now : SourceTold) (came : List ℕ) : Type 0 where
   pub stops : StopsInTime graph [] came
   pub reads : Spends 0 1 before.left now.left before.reads now.reads

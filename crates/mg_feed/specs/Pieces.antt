@@ -13,7 +13,7 @@ pub record Making : Type 0 where
   pub number : ℕ
   pub made : ℕ
 
--- Of so many packets for a graph a generator made the first ones, and handed all of these on.
+-- A generator of this number of packets for a graph handed on all packets that it made so far.
 pub record HasHandedOn (graph : GraphInputs) (number : ℕ) (m : Making) : Type 0 where
   pub graph_is : m.view.graph ≡ graph
   pub number_is : m.number ≡ number

@@ -1,4 +1,4 @@
--- What the code's own types stand for.
+-- What a `Collected` stands for.
 use Rattle.std.specs.Prelude.{map}
 use Rattle.mg_calc.specs.Given.{given as given_side}
 use Rattle.mg_feed.specs.View.{View}
@@ -6,6 +6,7 @@ use Rattle.mg_feed.specs.Code.Graphs.{graph_view}
 use Rattle.mg_feed.specs.Code.Streams.{waiting, was_taken}
 use Rattle.mg_feed.specs.declared.collected.Collected.{Collected}
 
+-- what a `Collected` has of the accepted lines
 abbrev pub collected : Collected → View
 collected c = record {
   graph = graph_view c.graph;

@@ -16,7 +16,7 @@ pub record SentPart (before now : SinkTold) (text : List ℕ) : Type 0 where
   pub taken : TookAll before.taken now.taken front
   pub rose : Rose before.faults now.faults
 
--- what was sent, by whether all of it was
+-- what a sink took of a text, by whether all of it was sent
 abbrev pub Sent : Bool → SinkTold → SinkTold → List ℕ → Type 0
 Sent true before now text = SentAll before now text
 Sent false before now text = SentPart before now text

@@ -11,16 +11,17 @@ abbrev pub AllGood : GraphInputs → List (List ℕ) → List (List ℕ) → Typ
 AllGood graph before [] = Unit {0}
 AllGood graph before (line ∷ lines) = (refusal graph before line ≡ None) × AllGood graph (before ++ line ∷ []) lines
 
--- a prefix whose first packets were taken, with these before it
+-- a prefix, with the packets that were taken of it in front
 abbrev pub behind : List (Stamped Plain) → StreamPrefix Plain → StreamPrefix Plain
 behind t s = record { packets = t ++ s.packets; bound = s.bound }
 
+-- the prefixes, each with the packets that were taken of it in front
 abbrev pub behind_all : List (List (Stamped Plain)) → List (StreamPrefix Plain) → List (StreamPrefix Plain)
 behind_all [] ss = []
 behind_all (t ∷ ts) [] = []
 behind_all (t ∷ ts) (s ∷ ss) = behind t s ∷ behind_all ts ss
 
--- The feed accepted these lines. Of what they gave it has all but the packets that were taken, of each stream some.
+-- The feed accepted these lines. Of what they gave it has all but the packets that were taken, perhaps some of each stream.
 pub record Stands (lines : List (List ℕ)) (gone : List (List (Stamped Plain))) (v : View) : Type 0 where
   pub number : v.lines ≡ length lines
   pub good : AllGood v.graph [] lines
@@ -32,7 +33,7 @@ pub record Stands (lines : List (List ℕ)) (gone : List (List (Stamped Plain)))
 abbrev pub packets_of : List (StreamPrefix Plain) → List (List (Stamped Plain))
 packets_of ss = map (λ s. s.packets) ss
 
--- no packets of any stream
+-- no packets, for each stream
 abbrev pub nothing_taken : GraphInputs → List (List (Stamped Plain))
 nothing_taken graph = replicate (length graph.kinds) []
 

@@ -14,25 +14,27 @@ pub record View : Type 0 where
   pub taken : List Bool
   pub lines : ℕ
 
--- what the streams are judged by, where packets may have been taken
+-- the standings of the streams, where packets may have been taken
 abbrev pub standings : List Bool → List (StreamPrefix Plain) → List Standing
 standings [] ss = []
 standings (t ∷ ts) [] = []
 standings (t ∷ ts) (s ∷ ss) = record { bound = s.bound; begun = t || has_some s.packets } ∷ standings ts ss
 
+-- what the next line is judged by
 abbrev pub before_seen : View → Before
 before_seen v = record { graph = v.graph; lines = v.lines; streams = standings v.taken v.given.streams; sides = v.given.sides; named = v.given.named }
 
--- a prefix whose packets were taken, and of which streams packets were taken then
+-- a prefix without its packets, as it is once they were taken
 abbrev pub without_packets : StreamPrefix Plain → StreamPrefix Plain
 without_packets s = record { packets = []; bound = s.bound }
 
+-- of which streams packets were taken, once all that they have are
 abbrev pub all_taken : List Bool → List (StreamPrefix Plain) → List Bool
 all_taken [] ss = []
 all_taken (t ∷ ts) [] = []
 all_taken (t ∷ ts) (s ∷ ss) = (t || has_some s.packets) ∷ all_taken ts ss
 
--- the view without its packets
+-- the view after all its packets were taken
 abbrev pub after_taking : View → View
 after_taking v = record {
   graph = v.graph;
@@ -41,11 +43,11 @@ after_taking v = record {
   lines = v.lines;
 }
 
--- with other streams, after a line that named one
+-- the view with other streams, after a line that named one
 abbrev pub with_streams : View → List (StreamPrefix Plain) → View
 with_streams v ss = record { graph = v.graph; given = record { streams = ss; sides = v.given.sides; named = true }; taken = v.taken; lines = v.lines }
 
--- with a side packet
+-- the view with a side packet at a place
 abbrev pub with_side : View → ℕ → Plain → View
 with_side v place p = record {
   graph = v.graph;
@@ -54,9 +56,10 @@ with_side v place p = record {
   lines = v.lines;
 }
 
--- with what was given, and after one more line
+-- the view with what is given
 abbrev pub with_given : View → State → View
 with_given v given = record { graph = v.graph; given = given; taken = v.taken; lines = v.lines }
 
+-- the view with what is given, after one more line
 abbrev pub with_next : View → State → View
 with_next v given = record { graph = v.graph; given = given; taken = v.taken; lines = v.lines + 1 }

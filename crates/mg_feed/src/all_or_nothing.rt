@@ -1,10 +1,10 @@
-//! What is put at a text's end in whole, or not at all.
+//! Appending to a text in whole, or not at all.
 
 ghost use Rattle.std.specs.Prelude.{◌≡◌, ◌++◌, is_ok, take, OnOk, OnErr, if◌then◌else◌};
 
 use std::alloc::AllocError;
 
-/// Ends what put something behind the first bytes of a text, so many: where memory ran out, the text is cut to these again.
+/// Returns `put`, the result of an append to a text that had `len` bytes. Where it is an `Err`, the text is cut to these bytes again.
 pub fn whole_or_none(
     text: &mut Vec<u8>,
     len: usize,

@@ -20,7 +20,7 @@ use serde_json::{Map, Value};
 use std::alloc::{AllocError, Global};
 use std::sync::Arc;
 
-/// What the accepted lines gave a graph's inputs, but for packets that were taken.
+/// What the accepted lines gave a graph's inputs, without the packets that were taken.
 #[derive(Drop)]
 pub struct Collected {
     pub graph: Graph,
@@ -30,7 +30,7 @@ pub struct Collected {
     pub named: bool,
     // How many lines were accepted.
     pub lines: u64,
-    // Room for the prefixes of the streams.
+    // An empty list with room for a prefix of each stream.
     pub room: Vec<Prefix>,
     ghost few: { vec_len streams < 2 ^ 32 },
     ghost few_sides: { vec_len sides < 2 ^ 32 },
@@ -56,7 +56,7 @@ impl Collected {
     ghost use Rattle.mg_feed.specs.Code.Due.{AreDue, AllRoom, laid};
     ghost use Rattle.mg_feed.specs.Code.Heard.{Heard, Took};
 
-    /// Takes the next line, or tells why it isn't good. The answer is whether it names a stream.
+    /// Takes the next line and returns whether it names a stream, or tells why it isn't good.
     pub fn line(
         &mut self,
         alloc: Global,
@@ -78,7 +78,7 @@ impl Collected {
         Ok(named)
     }
 
-    // Takes what a line says.
+    // Takes a line whose length and number are allowed. A line of blanks alone gives nothing.
     fn words(
         &mut self,
         alloc: Global,
@@ -96,7 +96,7 @@ impl Collected {
         Ok(named)
     }
 
-    // Takes what a line says that isn't blank. A usual packet line is read from its tokens, any other as a JSON value.
+    // Takes a line that isn't blank. A packet line of the usual form is read from its tokens, any other line as a JSON value.
     fn json(&mut self, alloc: Global, scratch: &mut Scratch, text: &[u8]) -> Result<bool, LineFault>
         ensures named { IfOk result (λ named. named ≡ form_names (option_and_then form_of (json_value text.now))) }
         ensures heard { Heard (collected self.old) (collected self.new) result (json_refusal (before_seen (collected self.old)) (json_value text.now))
@@ -110,7 +110,7 @@ impl Collected {
         Ok(named)
     }
 
-    // Takes what a line says as a JSON value.
+    // Takes a line by its JSON value.
     fn tree(&mut self, alloc: Global, scratch: &mut Scratch, text: &[u8]) -> Result<bool, LineFault>
         ensures named { IfOk result (λ named. named ≡ form_names (option_and_then form_of (json_value text.now))) }
         ensures heard { Heard (collected self.old) (collected self.new) result (json_refusal (before_seen (collected self.old)) (json_value text.now))
@@ -121,7 +121,7 @@ impl Collected {
         Ok(named)
     }
 
-    // Takes what a JSON value says.
+    // Takes a line's JSON value by its form.
     fn value(&mut self, alloc: Global, value: &Value) -> Result<bool, LineFault>
         ensures named { IfOk result (λ named. named ≡ form_names (form_of (view value.now))) }
         ensures heard { Heard (collected self.old) (collected self.new) result (shape_refusal (before_seen (collected self.old)) (form_of (view value.now)))
@@ -134,7 +134,7 @@ impl Collected {
         Ok(named)
     }
 
-    // Takes what a line says.
+    // Takes a line in one of the five forms, and returns whether it names a stream.
     fn form(&mut self, alloc: Global, form: Form<'_>) -> Result<bool, LineFault>
         ensures named { IfOk result (λ named. named ≡ form_names (Some (form_view form.entry))) }
         ensures heard { Heard (collected self.old) (collected self.new) result (first_refusal (form_refusals (before_seen (collected self.old)) (form_view form.entry)))
@@ -217,7 +217,7 @@ impl Collected {
         self.named = true;
     }
 
-    // Whether all names are those of input streams.
+    // Whether the name of each member is that of an input stream.
     fn knows_all(&self, members: &Map<String, Value>) -> bool
         ensures { result ≡ list_all (λ v. is_stream (before_seen (collected self.now)) v.name) (listed (members_view members.now.entries)) }
     {
@@ -229,7 +229,7 @@ impl Collected {
         true
     }
 
-    // The packets that named values make at a time.
+    // Makes the packets of a line that names several streams, each with its stream's place, or tells why one isn't good.
     fn due(
         &self,
         alloc: Global,
@@ -256,7 +256,7 @@ impl Collected {
         Ok(due)
     }
 
-    // What a stream takes that may not be there, and what its next packet is judged by.
+    // Returns the kind of the stream at a place, or Any where there is none.
     fn kind_of(&self, place: Option<u32>) -> Kind
         ensures { result ≡ unwrap_or (placed place (collected self.now).graph.kinds) Any }
     {
@@ -266,6 +266,7 @@ impl Collected {
         }
     }
 
+    // Returns the standing of the stream at a place, or that of a closed stream where there is none.
     fn standing_of(&self, place: Option<u32>) -> Standing
         ensures { result ≡ unwrap_or (placed place (before_seen (collected self.now)).streams) no_stream }
     {
@@ -333,7 +334,7 @@ impl Collected {
         Ok(())
     }
 
-    /// What the stream at a place takes.
+    /// Returns the kind of the stream at a place, or Any where there is none.
     pub fn kind(&self, place: u32) -> Kind
         ensures { result ≡ unwrap_or (slice_get (collected self.now).graph.kinds place) Any }
     {
@@ -343,7 +344,7 @@ impl Collected {
         }
     }
 
-    // What the next packet of the stream at a place is judged by.
+    // Returns the standing of the stream at a place, by which its next packet is judged.
     fn standing(&self, place: u32) -> Standing
         ensures { result ≡ unwrap_or (slice_get (before_seen (collected self.now)).streams place) no_stream }
     {

@@ -9,14 +9,14 @@ use crate::streams::MOST_PACKETS;
 use mg_value::Packet;
 use std::alloc::AllocError;
 
-/// A packet, and the place of its stream.
+/// A packet, and the place of the input stream that it goes to, if it goes to one.
 #[derive(Drop)]
 pub struct Due {
     pub place: Option<u32>,
     pub packet: Packet,
 }
 
-/// Makes room in their streams for all of some packets, so that they can be laid without memory.
+/// Makes room in each packet's stream for as many further packets as there are in all, so that `lay` takes no memory.
 pub fn make_room(streams: &mut [FeedStream], due: &[Due]) -> Result<(), AllocError>
     ensures kept { map waiting streams.new ≡ map waiting streams.old }
     ensures taken { map was_taken streams.new ≡ map was_taken streams.old }
@@ -28,7 +28,7 @@ pub fn make_room(streams: &mut [FeedStream], due: &[Due]) -> Result<(), AllocErr
     Ok(())
 }
 
-// Makes room in the stream at a place.
+// Makes room for `packets` further packets in the stream at a place.
 fn make_room_at(
     streams: &mut [FeedStream],
     place: Option<u32>,
@@ -48,7 +48,7 @@ fn make_room_at(
     Ok(())
 }
 
-// Makes room in a stream.
+// Makes room for `packets` further packets in a stream.
 fn reserve(stream: &mut FeedStream, packets: usize) -> Result<(), AllocError>
     ensures kept { waiting stream.new ≡ waiting stream.old }
     ensures taken { stream.new.taken ≡ stream.old.taken }

@@ -7,13 +7,13 @@ use mg_calc::{Inputs, Plan};
 use mg_edge::{Got, Source};
 use std::alloc::{AllocError, Global};
 
-/// Takes the packet lines of an input, and gives what they say to a graph.
+/// Reads the packet lines of an input, judges them, and keeps what they give a graph's inputs until it is taken.
 #[derive(Drop)]
 pub struct Feed {
     alloc: Global,
     collected: Collected,
     reader: Reader,
-    // Room for reading a line.
+    // Room for reading the JSON of a line.
     scratch: Scratch,
 }
 
@@ -34,7 +34,7 @@ impl Feed {
     ghost use Rattle.mg_feed.specs.Code.Readers.{left_of};
     ghost use Rattle.mg_feed.specs.Code.Moves.{TookNext, Stepped, SteppedLine, StopsBy};
 
-    /// A feed for the inputs of a plan's graph, which accepted no line yet.
+    /// Makes a feed for the inputs of a plan's graph. It has accepted no line yet.
     pub fn new(alloc: Global, plan: &Plan) -> Result<Feed, AllocError>
         ensures graph { IfOk result (λ feed. (seen feed).graph ≡ inputs_of plan.now) }
         ensures stands { IfOk result (λ feed. Stands [] (nothing_taken (inputs_of plan.now)) (seen feed)) }
@@ -81,7 +81,7 @@ impl Feed {
         Ok(inputs)
     }
 
-    /// The same of a feed that is used no more. It takes no memory.
+    /// Takes what the lines gave since the last taking, as `take_inputs` does, and ends the feed. It takes no memory.
     pub fn into_inputs(self, ended: bool) -> Inputs
         ensures streams { result.streams ≡ ended_streams ended (seen self).given.streams }
         ensures sides { result.sides ≡ (seen self).given.sides }
@@ -116,7 +116,7 @@ impl Feed {
         }
     }
 
-    /// Reads a source until so many lines that name a stream were taken, or to its end, its first fault or the first line that
+    /// Reads a source until `most` lines that name a stream were taken, or to its end, its first fault or the first line that
     /// isn't good. What was read behind the last of these lines is kept for the next call. Once the source answered `End`
     /// it isn't read again.
     pub fn read_batch<S: Source>(&mut self, source: &mut S, most: u32) -> BatchEnd
@@ -150,7 +150,7 @@ impl Feed {
         }
     }
 
-    // Takes the next line, whose line feed is at this place of the block.
+    // Takes the next line, whose line feed is at `end` in what is left of the block.
     fn next_line(&mut self, end: usize) -> Step
         requires { EndsLine (left_of self.old.reader) end }
         ensures { SteppedLine result (fed self.old) (fed self.new) }
@@ -161,6 +161,7 @@ impl Feed {
         }
     }
 
+    // Takes the next line, and returns whether it names a stream.
     fn take_line(&mut self, end: usize) -> Result<bool, LineFault>
         requires { EndsLine (left_of self.old.reader) end }
         ensures { TookNext result (fed self.old) (fed self.new) }
@@ -185,7 +186,7 @@ impl Feed {
         Ok(named)
     }
 
-    // Takes the next line, which began in a block before this one.
+    // Takes the next line, whose beginning is held.
     fn cut_line(&mut self, end: usize) -> Result<bool, LineFault>
         requires { EndsLine (left_of self.old.reader) end }
         ensures { TookNext result (fed self.old) (fed self.new) }
@@ -198,7 +199,7 @@ impl Feed {
         Ok(named)
     }
 
-    // Reads the next block, where no line feed is left in this one.
+    // Holds what is left of the block, which has no line feed, and reads the next block.
     fn read_on<S: Source>(&mut self, source: &mut S) -> Step
         requires { NoFeed (left_of self.old.reader) }
         ensures { Stepped result (S.told source.old) (S.told source.new) (fed self.old) (fed self.new) }
@@ -227,7 +228,7 @@ impl Feed {
         }
     }
 
-    // How the reading stops at a line that isn't good.
+    // Returns how the reading ends where the next line wasn't taken for this cause.
     fn stop_by(&self, fault: LineFault) -> FeedEnd
         ensures { StopsBy fault (seen self.now).lines result }
     {

@@ -5,29 +5,29 @@ use crate::LineFault;
 pub enum FeedEnd {
     /// The source answered `End`, and all lines are good.
     Ended,
-    /// A read failed. So many lines were whole before it, and all of them are good.
+    /// A read failed. `lines` lines were whole before it, and all of them are good.
     Failed { lines: u64 },
-    /// The line of a number, counted from 1, is the first that isn't good.
+    /// The line of number `line`, counted from 1, is the first that isn't good, for this cause.
     Refused { line: u64, cause: LineFault },
-    /// Want of memory. The lines before it are accepted, and a further call goes on behind them.
+    /// Want of memory. The lines that were accepted so far are kept, and a further call goes on behind them.
     OutOfMemory,
 }
 
 /// How a batch of lines ended.
 #[derive(Clone, Copy, Debug, PartialEq, Eq)]
 pub enum BatchEnd {
-    /// There may be more: the batch has as many lines as it may.
+    /// The batch has as many lines that name a stream as it may. More may come behind it.
     More,
-    /// The input ended.
+    /// The reading of the input ended in this way.
     End(FeedEnd),
 }
 
 /// What the next step of a reading came to.
 #[derive(Clone, Copy)]
 pub enum Step {
-    /// A line was accepted, which names a stream or doesn't.
+    /// A line was accepted. True where it names a stream.
     Line(bool),
-    /// More bytes came, or the end.
+    /// A read gave more bytes, or met the end.
     Read,
     /// The reading stops.
     Stop(FeedEnd),

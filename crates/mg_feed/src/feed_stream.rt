@@ -3,8 +3,7 @@ ghost use Rattle.std.specs.Prelude.{◌<◌, ◌^◌, vec_len};
 use mg_time::Timestamp;
 use mg_value::Packet;
 
-/// What is known of an input stream, but for packets that were taken: the others, its bound, and whether there are any
-/// that were taken.
+/// What is known of an input stream: the packets that weren't taken yet, its bound, and whether packets were taken before.
 #[derive(Drop)]
 pub struct FeedStream {
     pub packets: Vec<Packet>,

@@ -15,7 +15,7 @@ pub enum Form<'a> {
     Side(&'a str, &'a Value),
 }
 
-/// The form of a JSON value, where it has one.
+/// Returns the form of a line's JSON value, or None where it has none of the five.
 pub fn form_by(value: &Value) -> Option<Form<'_>>
     ensures { option_map form_view result ≡ form_of (view value.now) }
 {
@@ -26,7 +26,7 @@ pub fn form_by(value: &Value) -> Option<Form<'_>>
     }
 }
 
-// How many members an object has.
+// Returns how many members an object has, and 0 for any other value.
 fn count_of(value: &Value) -> usize
     ensures { result ≡ member_count (view value.now) }
 {
@@ -36,7 +36,7 @@ fn count_of(value: &Value) -> usize
     }
 }
 
-// The packet that an object of three members is.
+// Reads an object of three members as a packet.
 fn packet_by(value: &Value) -> Option<Form<'_>>
     ensures { option_map form_view result
         ≡ packet_form (text_at (codes "stream") (view value.now)) (get (codes "ts") (view value.now)) (get (codes "value") (view value.now)) }
@@ -47,7 +47,7 @@ fn packet_by(value: &Value) -> Option<Form<'_>>
     Some(Form::Packet(stream, time, payload))
 }
 
-// What an object of two members is.
+// Reads an object of two members as a bound, a close, a side packet or packets of several streams.
 fn two_by(value: &Value) -> Option<Form<'_>>
     ensures { option_map form_view result ≡ two_form (view value.now) }
 {

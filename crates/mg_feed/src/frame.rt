@@ -11,7 +11,7 @@ use json::{Reader, Scratch, Token};
 use serde_json::{Number, Value};
 use std::alloc::Global;
 
-/// What a usual packet line says: an object of a stream's name, a whole number as its timestamp and any value, in this order.
+/// A packet line of the usual form: an object with the keys `stream`, `ts` (a whole number) and `value`, in this order.
 #[derive(Drop)]
 pub struct Frame<'a> {
     pub stream: &'a str,
@@ -19,8 +19,8 @@ pub struct Frame<'a> {
     pub value: Value,
 }
 
-/// What a line says, where it is a usual packet line. It is read from its tokens, with no JSON value of the whole line. Of
-/// any other line, and where there is no memory, nothing is told.
+/// Reads a packet line of the usual form from its tokens, without a JSON value of the whole line. None for any other line, and
+/// where there is no memory.
 pub fn frame_of<'a>(alloc: Global, text: &'a [u8], scratch: &'a mut Scratch) -> Option<Frame<'a>>
     ensures { IfSome result (λ f. option_and_then form_of (json_value text.now)
         ≡ Some (packets (view f.time) (record { name = f.stream.now; value = view f.value } ∷ []))) }
@@ -35,7 +35,7 @@ pub fn frame_of<'a>(alloc: Global, text: &'a [u8], scratch: &'a mut Scratch) -> 
     Some(frame)
 }
 
-// What the tokens of a line say.
+// Reads a whole line of the usual form from its tokens.
 fn frame_by<'a>(alloc: Global, reader: &mut Reader<'a>) -> Option<Frame<'a>>
     ensures { IfSome result (λ f. IsFrame reader.old f.stream.now (view f.time) (view f.value)) }
 {
@@ -52,7 +52,7 @@ fn frame_by<'a>(alloc: Global, reader: &mut Reader<'a>) -> Option<Frame<'a>>
     })
 }
 
-// The name that an object begins with.
+// Reads the beginning of an object and its first member, the stream's name.
 fn stream_by<'a>(reader: &mut Reader<'a>) -> Option<&'a str>
     ensures { IfSome result (λ s. reader.old ≡ begin_object ∷ key (codes "stream") ∷ text_token s.now ∷ reader.new) }
 {
@@ -62,7 +62,7 @@ fn stream_by<'a>(reader: &mut Reader<'a>) -> Option<&'a str>
     text_by(reader)
 }
 
-// The timestamp that comes next.
+// Reads the key `ts` and the timestamp behind it, a whole number.
 fn time_by(reader: &mut Reader<'_>) -> Option<Number>
     ensures { IfSome result (λ n. NumberAt (codes "ts") reader.old (number (number_view n)) reader.new) }
 {
@@ -73,7 +73,7 @@ fn time_by(reader: &mut Reader<'_>) -> Option<Number>
     whole_by(text)
 }
 
-// The value that comes next, which lies in the line's object.
+// Reads the key `value` and the value behind it. It lies in the line's object, so it may be one level less deep.
 fn value_by(alloc: Global, reader: &mut Reader<'_>) -> Option<Value>
     ensures { IfSome result (λ v. ValueAt (codes "value") reader.old (view v) reader.new) }
 {
@@ -83,21 +83,21 @@ fn value_by(alloc: Global, reader: &mut Reader<'_>) -> Option<Value>
     value_by_tokens(alloc, reader, MAX_DEPTH - 1)
 }
 
-// Whether an object begins.
+// Whether the next token begins an object.
 fn begins(reader: &mut Reader<'_>) -> bool
     ensures { IsTrue result → reader.old ≡ begin_object ∷ reader.new }
 {
     matches!(reader.next(), Some(Token::BeginObject))
 }
 
-// Whether an object ends, and nothing comes behind it.
+// Whether the next token ends an object and is the last one.
 fn ends(reader: &mut Reader<'_>) -> bool
     ensures { IsTrue result → reader.old ≡ end_object ∷ [] }
 {
     matches!(reader.next(), Some(Token::EndObject)) && reader.next().is_none()
 }
 
-// Whether a key of this name comes next.
+// Whether the next token is a key of this name.
 fn has_key(reader: &mut Reader<'_>, name: &str) -> bool
     ensures { IsTrue result → reader.old ≡ key name.now ∷ reader.new }
 {
@@ -107,7 +107,7 @@ fn has_key(reader: &mut Reader<'_>, name: &str) -> bool
     }
 }
 
-// The text that comes next.
+// Reads the next token, where it is a text.
 fn text_by<'a>(reader: &mut Reader<'a>) -> Option<&'a str>
     ensures { IfSome result (λ s. reader.old ≡ text_token s.now ∷ reader.new) }
 {
@@ -117,7 +117,7 @@ fn text_by<'a>(reader: &mut Reader<'a>) -> Option<&'a str>
     }
 }
 
-// The text of the number that comes next.
+// Reads the next token, where it is a number, and returns the number's text.
 fn number_by<'a>(reader: &mut Reader<'a>) -> Option<&'a str>
     ensures { IfSome result (λ s. reader.old ≡ number_token s.now ∷ reader.new) }
 {

@@ -21,7 +21,7 @@ impl Collected {
     ghost use Rattle.mg_feed.specs.Code.MadeSoFar.{AreMade};
     ghost use Rattle.mg_feed.specs.Seen.{collected};
 
-    /// Makes the packets from one number up to another.
+    /// Makes the packets from number `from` up to `to`, without it, and puts them at the ends of their streams.
     pub fn make_packets(&mut self, alloc: Global, from: u32, to: u32) -> Result<(), AllocError>
         requires { from ≤ to }
         ensures made { OnOk result ((gone : List (List (Stamped Plain))) → AreMade gone from (collected self.old) → AreMade gone to (collected self.new)) }
@@ -38,7 +38,7 @@ impl Collected {
         Ok(())
     }
 
-    // Makes the packet of a number.
+    // Makes packet `i`, and puts it at the end of its stream.
     fn make_packet(&mut self, alloc: Global, i: u32) -> Result<(), AllocError>
         requires { 0 < length (collected self.old).graph.kinds }
         ensures streams { OnOk result ((collected self.new).given.streams
@@ -55,7 +55,7 @@ impl Collected {
         Ok(())
     }
 
-    /// Gives each side packet.
+    /// Gives the number 1 as each side packet of the graph.
     pub fn give_sides(&mut self, alloc: Global) -> Result<(), AllocError>
         ensures sides { OnOk result ((collected self.new).given.sides ≡ generated_sides (length (collected self.old).graph.sides)) }
         ensures streams { OnOk result ((collected self.new).given.streams ≡ (collected self.old).given.streams) }
@@ -66,7 +66,7 @@ impl Collected {
     }
 }
 
-// So many times the number 1.
+// Returns `count` side packets, each the number 1.
 fn ones(alloc: Global, count: usize) -> Result<Vec<Option<Arc<Payload>>>, AllocError>
     ensures sides { IfOk result (λ sides. map given sides.items ≡ replicate count (Some (int (pos 1)))) }
     ensures few { IfOk result (λ sides. vec_len sides < 2 ^ 32) }
@@ -81,7 +81,7 @@ fn ones(alloc: Global, count: usize) -> Result<Vec<Option<Arc<Payload>>>, AllocE
     Ok(sides)
 }
 
-// The packet of a number, of which so many came before it to its stream.
+// Makes packet `number`, before which `round` packets came to its stream.
 fn packet_of(alloc: Global, kind: Kind, number: u32, round: u32) -> Result<Packet, AllocError>
     ensures { IfOk result (λ p. p ≡ record { at = 10 * round + 2 ^ 63; value = generated_value kind number round }) }
 {
@@ -91,7 +91,7 @@ fn packet_of(alloc: Global, kind: Kind, number: u32, round: u32) -> Result<Packe
     Ok(Packet { at, payload })
 }
 
-// The timestamp of ten times a number.
+// Returns the timestamp 10 * `round`.
 fn time_of(round: u32) -> Timestamp
     ensures { result ≡ 10 * round + 2 ^ 63 }
 {
@@ -101,7 +101,7 @@ fn time_of(round: u32) -> Timestamp
     }
 }
 
-// The value of a packet.
+// Makes the value of packet `number` for a stream of a kind.
 fn value_of(alloc: Global, kind: Kind, number: u32, round: u32) -> Result<Payload, AllocError>
     ensures { IfOk result (λ value. plain value ≡ generated_value kind number round) }
 {
@@ -114,7 +114,7 @@ fn value_of(alloc: Global, kind: Kind, number: u32, round: u32) -> Result<Payloa
     }
 }
 
-// The digits of a number.
+// Makes a text of the digits of a number.
 fn digits_of(alloc: Global, number: u32) -> Result<Payload, AllocError>
     ensures { IfOk result (λ value. plain value ≡ text (decimal number)) }
 {
@@ -122,7 +122,7 @@ fn digits_of(alloc: Global, number: u32) -> Result<Payload, AllocError>
     Ok(Payload::Text(MgText::new(alloc, buffer.format(number))?))
 }
 
-// The list of a number.
+// Makes a list whose only item is a number.
 fn items_of(alloc: Global, number: u32) -> Result<Payload, AllocError>
     ensures { IfOk result (λ value. plain value ≡ items (item (int (pos number)) no_items)) }
 {
@@ -131,7 +131,7 @@ fn items_of(alloc: Global, number: u32) -> Result<Payload, AllocError>
     Ok(Payload::Items(PayloadList::from_vec(values)?))
 }
 
-// The record of a number under the key `n`.
+// Makes a record with a number under the key `n`.
 fn record_of(alloc: Global, number: u32) -> Result<Payload, AllocError>
     ensures { IfOk result (λ value. plain value ≡ entries (entry (codes "n") (int (pos number)) no_entries)) }
 {

@@ -6,8 +6,8 @@ use crate::collected::Collected;
 use mg_calc::{Inputs, Plan};
 use std::alloc::{AllocError, Global};
 
-/// Makes packets for the inputs of a plan's graph piece by piece, in all so many, and side packets: with them a graph can be tried
-/// without a file.
+/// Makes a given number of packets for the inputs of a plan's graph, piece by piece, and all its side packets: with them a graph can be
+/// tried without a file.
 #[derive(Drop)]
 pub struct Generator {
     alloc: Global,
@@ -24,7 +24,7 @@ impl Generator {
     ghost use Rattle.mg_feed.specs.Pieces.{HasHandedOn, IsPiece};
     ghost use Rattle.mg_feed.specs.GeneratorSeen.{making};
 
-    /// A generator of so many packets, of which none is made yet.
+    /// Makes a generator of `number` packets, none of which is made yet.
     pub fn new(alloc: Global, plan: &Plan, number: u32) -> Result<Generator, AllocError>
         ensures fresh { IfOk result (λ g. HasHandedOn (inputs_of plan.now) number (making g)) }
         ensures none { IfOk result (λ g. (making g).made ≡ 0) }
@@ -39,8 +39,8 @@ impl Generator {
         })
     }
 
-    /// Makes so many further packets, or all that are left where these are fewer, and hands on what came since the last piece. With the
-    /// last packet all streams end. Where there is no memory for a piece the generator is of no further use.
+    /// Makes `most` further packets, or all that are left where these are fewer, and returns them as inputs of the graph. With the
+    /// last packet all streams end. After an `Err`, which is want of memory, the generator is of no further use.
     pub fn next_piece(&mut self, most: u32) -> Result<Inputs, AllocError>
         ensures piece { (graph : GraphInputs) (number : ℕ) → HasHandedOn graph number (making self.old)
             → IfOk result (λ inputs. IsPiece graph (making self.old).made (making self.new).made ((making self.new).made == number) inputs) }
@@ -55,7 +55,7 @@ impl Generator {
     }
 }
 
-// A number that is raised by so many, up to a bound.
+// Returns `made + most`, or `number` where that is less.
 fn further_by(made: u32, most: u32, number: u32) -> u32
     requires { made ≤ number }
     ensures { result ≡ min (made + most) number }
@@ -67,7 +67,7 @@ fn further_by(made: u32, most: u32, number: u32) -> u32
     }
 }
 
-/// All packets of a generator of so many, as one piece.
+/// Makes `number` packets and all side packets for the inputs of a plan's graph, as one piece. All streams end.
 pub fn generate(alloc: Global, plan: &Plan, number: u32) -> Result<Inputs, AllocError>
     ensures streams { IfOk result (λ inputs. inputs.streams ≡ generated (inputs_of plan.now).kinds number) }
     ensures sides { IfOk result (λ inputs. inputs.sides ≡ generated_sides (length (inputs_of plan.now).sides)) }

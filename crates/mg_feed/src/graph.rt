@@ -12,13 +12,13 @@ use std::alloc::{AllocError, Global};
 pub struct Graph {
     /// The input streams.
     pub streams: Places,
-    /// What each of them takes.
+    /// The kind that each input stream takes, in the order of their places.
     pub kinds: Vec<Kind>,
     /// The side packets that are handed in.
     pub sides: Places,
 }
 
-/// The inputs of a plan's graph.
+/// Returns the inputs of a plan's graph.
 pub fn graph_of(alloc: Global, plan: &Plan) -> Result<Graph, AllocError>
     ensures { IfOk result (λ graph. graph_view graph ≡ inputs_of plan.now) }
 {
@@ -28,7 +28,7 @@ pub fn graph_of(alloc: Global, plan: &Plan) -> Result<Graph, AllocError>
     finish(alloc, placed, kinds, sides)
 }
 
-// The graph of these names.
+// Puts a `Graph` together from names with places and from kinds.
 fn finish(
     alloc: Global,
     placed: Vec<Placed>,
@@ -46,7 +46,7 @@ fn finish(
     })
 }
 
-// The stream of an input, by the input's number.
+// Returns the stream of the graph input of a number, or None where there is none.
 fn stream_of(plan: &Plan, input: u32) -> Option<&PlanStream>
     ensures { option_copied result ≡ option_and_then (slice_get plan.now.streams) (slice_get plan.now.inputs input) }
 {
@@ -54,7 +54,7 @@ fn stream_of(plan: &Plan, input: u32) -> Option<&PlanStream>
     plan.streams.get(number)
 }
 
-// The names of the input streams, numbered.
+// Returns the names of the input streams, numbered from 0.
 fn placed_streams(alloc: Global, plan: &Plan) -> Result<Vec<Placed>, AllocError>
     ensures { IfOk result (λ placed. placed.items ≡ numbered 0 (map (λ s. s.name) (input_streams plan.now))) }
 {
@@ -69,7 +69,7 @@ fn placed_streams(alloc: Global, plan: &Plan) -> Result<Vec<Placed>, AllocError>
     Ok(placed)
 }
 
-// What the input streams take.
+// Returns the kinds of the input streams, in order.
 fn kinds_of(alloc: Global, plan: &Plan) -> Result<Vec<Kind>, AllocError>
     ensures { IfOk result (λ kinds. kinds.items ≡ map (λ s. s.kind) (input_streams plan.now)) }
 {
@@ -82,7 +82,7 @@ fn kinds_of(alloc: Global, plan: &Plan) -> Result<Vec<Kind>, AllocError>
     Ok(kinds)
 }
 
-// The names of the side packets that are handed in, with their places.
+// Returns the names of the side packets that are handed in, with their places.
 fn placed_sides(alloc: Global, sides: &SideList) -> Result<Vec<Placed>, AllocError>
     ensures { IfOk result (λ placed. placed.items ≡ given_sides sides.now) }
 {
@@ -95,7 +95,7 @@ fn placed_sides(alloc: Global, sides: &SideList) -> Result<Vec<Placed>, AllocErr
     Ok(placed)
 }
 
-// The name and the place of a side packet that is handed in.
+// Returns the name and the place of a side packet that is handed in, and None for one whose value the plan has.
 fn given_side(alloc: Global, side: &Side) -> Result<Option<Placed>, AllocError>
     ensures { IfOk result (λ placed. placed_side side.now.name side.now.value [] ≡ option_to_list placed) }
 {

@@ -13,7 +13,7 @@ use serde_json::Value;
 use std::alloc::Global;
 use std::sync::Arc;
 
-/// The packet that a value makes of a stream, of its kind and at this standing, or why it isn't good.
+/// Makes the packet that a line gives a stream of this kind and standing, or tells why it isn't good.
 pub fn packet_by(
     alloc: Global,
     kind: Kind,
@@ -45,7 +45,7 @@ pub fn packet_by(
     Ok(Packet { at, payload })
 }
 
-/// The payload of a JSON value.
+/// Returns the payload of a JSON value, or tells why it has none.
 pub fn payload_by(alloc: Global, value: &Value) -> Result<Arc<Payload>, LineFault>
     ensures payload { IfOk result (λ p. plain (arc_value p) ≡ plain_of (view value.now)) }
     ensures clear { IfOk result (λ _. first_fault (view value.now) ≡ None) }
@@ -58,7 +58,7 @@ pub fn payload_by(alloc: Global, value: &Value) -> Result<Arc<Payload>, LineFaul
     }
 }
 
-// Why a line isn't good whose value has a fault.
+// Returns the fault of a line whose value has this fault.
 fn value_refusal(fault: ValueFault) -> LineFault
     ensures { result ≢ LineFault.OutOfMemory → (fault ≢ ValueFault.OutOfMemory) × (result ≡ LineFault.BadValue fault) }
 {

@@ -48,13 +48,13 @@ pub fn what_lines_give_grows()
         → (given_by graph (lines ++ more)).named ≡ true }
 {}
 
-/// After a batch that counts a line, a line named a stream.
+/// After a batch that has a line that names a stream, some line named a stream.
 pub fn a_full_batch_names_a_stream()
     ensures { (graph : GraphInputs) (lines taken : List (List ℕ)) → 0 < naming taken → (given_by graph (lines ++ taken)).named ≡ true }
 {}
 
-/// Where all that some lines gave was taken, what is taken after more lines is the rest, stream by stream: its packets stand
-/// behind those that were taken, and the greater bound stands.
+/// Where all that some lines gave was taken, what is taken after more lines is the rest, stream by stream: the packets taken first
+/// and then the later ones are all of them, and the greater of both bounds is the stream's.
 pub fn takings_join()
     ensures piece { (lines more : List (List ℕ)) (v : View) (ended : Bool) (input : ℕ)
         → Stands (lines ++ more) (packets_of (given_by v.graph lines).streams) v → input < length v.given.streams
@@ -72,7 +72,7 @@ pub fn takings_join()
         → taken_with gone v.given.streams ≡ packets_of (given_by v.graph lines).streams }
 {}
 
-/// The lines that a feed accepted of the bytes that came stand in front of those that are accepted of the whole input.
+/// The lines that a feed accepted of the bytes that came are the first of those that are accepted of the whole input.
 pub fn what_came_is_a_front()
     ensures { (past rest : List ℕ) (lines : List (List ℕ)) (gone : List (List (Stamped Plain))) (f : Fed) → Came [] past lines gone f
         → (f.read.ended ≡ true → rest ≡ []) → (more : List (List ℕ)) × (accepted f.view.graph (all_lines (past ++ rest)) ≡ lines ++ more) }
@@ -89,8 +89,8 @@ pub fn accepted_lines_are_good()
     ensures { (graph : GraphInputs) (lines : List (List ℕ)) → AllGood graph [] (accepted graph lines) }
 {}
 
-/// What several calls in a row did to the source, by what each of them did: one after the other gave their bytes, met its
-/// end, with all reads but so many gave a byte, and no read failed, or one did in the last.
+/// What two calls, one after the other, did to a source follows from what each of them did: the bytes that it gave, whether it ended,
+/// how many reads gave no byte, and whether a read failed, which is the last one.
 pub fn batches_go_on()
     ensures gave { (first before now : Option (List ℕ)) (came more : List ℕ) → Gave first before came → Gave before now more
         → Gave first now (came ++ more) }

@@ -1,7 +1,7 @@
-//! Packet lines: what they give a graph's inputs, and the lines of what a graph puts out.
-//! Answers to the definitions of `specs/Form.antt`, `specs/Accepted.antt`, `specs/Output.antt`, `specs/Generated.antt` and `specs/Pieces.antt`;
-//! what a feed stands for is in `specs/Stands.antt`, and what of the bytes that it read in `specs/Came.antt` and
-//! `specs/Batch.antt`; and how the lines of an input are handed out in `specs/Handed.antt`.
+//! Reads packet lines into a graph's inputs, and writes the packets that a graph puts out as lines.
+//! What lines mean and what is written is defined in `specs/Form.antt`, `specs/Accepted.antt`, `specs/Output.antt`, `specs/Generated.antt`
+//! and `specs/Pieces.antt`; what a feed stands for in `specs/Stands.antt`; which of the bytes that it read it took as lines in
+//! `specs/Came.antt` and `specs/Batch.antt`; and how `Lines` hands out the lines of an input in `specs/Handed.antt`.
 #![tactic(auto)]
 
 mod all_or_nothing;

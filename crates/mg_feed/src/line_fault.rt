@@ -5,16 +5,16 @@ use mg_value::ValueFault;
 use std::alloc::{AllocError, AllocFailed};
 use thiserror::Error;
 
-/// Why a line isn't good. Of several causes the first is told.
+/// Why a line isn't good. Of several causes the first in the order of `specs/Accepted.antt` is told.
 #[derive(Clone, Copy, Debug, PartialEq, Eq, Error)]
 pub enum LineFault {
-    /// It isn't JSON.
+    /// The line isn't JSON.
     #[error("it is no JSON")]
     NotJson,
-    /// It has none of the five forms of a packet line.
+    /// The line has none of the five forms of a packet line.
     #[error("it has none of the forms of a packet line")]
     BadShape,
-    /// It names a stream or a side packet that is no input of the graph.
+    /// The line names a stream or a side packet that is no input of the graph.
     #[error("it names no input of the graph")]
     UnknownStream,
     /// A timestamp is none that a packet may carry.
@@ -29,19 +29,19 @@ pub enum LineFault {
     /// A payload isn't of its stream's kind.
     #[error("the payload isn't of the kind of its stream")]
     KindMismatch,
-    /// A value says no payload.
+    /// A value stands for no payload, for this cause.
     #[error("{0}")]
     BadValue(ValueFault),
-    /// It has more than 1,048,576 bytes.
+    /// The line has more than 1,048,576 bytes.
     #[error("it has more than 1048576 bytes")]
     TooLong,
-    /// 4,000,000 lines come before it.
+    /// 4,000,000 lines come before the line.
     #[error("4000000 lines come before it")]
     TooManyLines,
-    /// A line before a side packet named a stream.
+    /// A side packet comes after a line that named a stream.
     #[error("a line before the side packet named a stream")]
     SideLate,
-    /// A side packet came already.
+    /// The side packet came already, in a line before.
     #[error("the side packet came already")]
     SideTwice,
     /// A packet at PostStream isn't the only one of its stream.

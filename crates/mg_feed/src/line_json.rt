@@ -9,7 +9,7 @@ use json::Scratch;
 use serde_json::Value;
 use std::alloc::Global;
 
-/// The JSON value of a text. It is read with the scratch that is kept; what can't be read so is read again, for the fault.
+/// Reads the JSON value of a text from its tokens. A text that can't be read so is read by `serde_json`, for its value or the fault.
 pub fn json_by(alloc: Global, text: &[u8], scratch: &mut Scratch) -> Result<Value, LineFault>
     ensures value { IfOk result (λ value. json_value text.now ≡ Some (view value)) }
     ensures fault { IfErr result (λ fault. fault ≢ LineFault.OutOfMemory → (fault ≡ LineFault.NotJson) × (json_value text.now ≡ None)) }
@@ -24,7 +24,7 @@ pub fn json_by(alloc: Global, text: &[u8], scratch: &mut Scratch) -> Result<Valu
     }
 }
 
-/// Whether all its bytes are blanks.
+/// Whether all bytes of a line are blanks: spaces, tabs or carriage returns.
 pub fn is_blank_line(line: &[u8]) -> bool
     ensures { result ≡ list_all is_blank line.now }
 {

@@ -13,7 +13,7 @@ use serde_json::Value;
 use std::alloc::{AllocError, Global};
 use std::marker::Model;
 
-/// Writes the lines of a stream. What all of them begin with is made once. Contracts see the stream's name.
+/// Writes packets of one stream as lines. What all these lines begin with is made once. Contracts see a writer as its stream's name.
 #[derive(Drop)]
 pub struct LineWriter {
     name: MgText,
@@ -32,7 +32,7 @@ impl Model for LineWriter {
 }
 
 impl LineWriter {
-    /// A writer for the stream of a name.
+    /// Makes a writer for the stream of a name.
     pub fn new(alloc: Global, name: &MgText) -> Result<LineWriter, AllocError>
         ensures { IfOk result (λ writer. writer ≡ name.now) }
     {
@@ -52,7 +52,7 @@ impl LineWriter {
     }
 }
 
-/// The line of a packet of the stream with a name.
+/// Returns the line of a packet of the stream with a name.
 pub fn write_line(alloc: Global, name: &MgText, packet: &Packet) -> Result<Vec<u8>, AllocError>
     ensures { IfOk result (λ text. text.items ≡ line_text name.now packet.now) }
 {
@@ -62,7 +62,7 @@ pub fn write_line(alloc: Global, name: &MgText, packet: &Packet) -> Result<Vec<u
     Ok(text)
 }
 
-// What the lines of a stream begin with.
+// Returns what the lines of a stream begin with, up to the timestamp.
 fn head_of(alloc: Global, name: &MgText) -> Result<Vec<u8>, AllocError>
     ensures { IfOk result (λ head. head.items ≡ line_head name.now) }
 {
@@ -74,14 +74,14 @@ fn head_of(alloc: Global, name: &MgText) -> Result<Vec<u8>, AllocError>
     Ok(head)
 }
 
-// A name as JSON.
+// Returns a name as a JSON text.
 fn text_value(alloc: Global, name: &MgText) -> Result<Value, AllocError>
     ensures { IfOk result (λ value. view value ≡ string name.now) }
 {
     Ok(Value::String(String::from_str(alloc, name.as_str())?))
 }
 
-// Writes a line that begins so. After an `Err` the text may end with a part of it.
+// Writes a line that begins with `head` at the end of a text. After an `Err` a part of the line may stand there.
 fn push_with_head(head: &[u8], text: &mut Vec<u8>, packet: &Packet) -> Result<(), AllocError>
     ensures line { OnOk result (text.new.items ≡ text.old.items ++ (head.now ++ line_tail packet.now)) }
     ensures part { OnErr result ((part : List ℕ) × (text.new.items ≡ text.old.items ++ part)) }

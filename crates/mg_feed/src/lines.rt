@@ -5,7 +5,7 @@ use crate::reader::Reader;
 use mg_edge::{Got, Source};
 use std::alloc::{AllocError, Global};
 
-/// What comes next of an input.
+/// What a call of `Lines::next` came to.
 #[derive(Clone, Copy, Debug, PartialEq, Eq)]
 pub enum NextLine {
     /// A line, which is kept until the next one is asked for.
@@ -21,9 +21,9 @@ pub enum NextLine {
 // What a search for the end of the next line came to.
 #[derive(Clone, Copy)]
 enum Found {
-    /// Its line feed is at this place of the block.
+    /// The line feed is at this place, counted in the bytes of the block that weren't passed yet.
     At(usize),
-    /// There is none.
+    /// The search stopped before a line feed was found, for this reason.
     Stop(NextLine),
 }
 
@@ -35,7 +35,7 @@ pub struct Lines {
     number: u64,
 }
 
-// The answer where a line can't be held.
+// Returns `TooLong` for a line that can't be held, or an error where memory ran out.
 fn too_long(fault: LineFault) -> Result<NextLine, AllocError>
     ensures { IfOk result (λ next. (next ≡ NextLine.TooLong) × (fault ≢ LineFault.OutOfMemory)) }
 {
@@ -56,7 +56,7 @@ impl Lines {
     ghost use Rattle.mg_feed.specs.Code.Readers.{left_of, reading_of};
     ghost use Rattle.mg_feed.specs.Code.Handing.{Finds, StepsOn, Takes, counted_by};
 
-    /// The lines of an input of which nothing was read yet.
+    /// Makes a `Lines` that has read nothing yet.
     pub fn new(alloc: Global) -> Result<Lines, AllocError>
         ensures unread { IfOk result (λ lines. reading lines ≡ record { kept = []; ended = false }) }
         ensures none { IfOk result (λ lines. number_of lines ≡ 0) }
@@ -83,8 +83,8 @@ impl Lines {
         self.number
     }
 
-    /// Hands out the next line, or tells why there is none. Once the source answered `End` it isn't read again. At want of memory what
-    /// was read is kept; 2^64 - 1 lines are as many as there is memory to count.
+    /// Hands out the next line, or tells why there is none. Once the source answered `End` it isn't read again. Errs at want of
+    /// memory, where what was read is kept, and after 2^64 - 1 lines.
     pub fn next<S: Source>(&mut self, source: &mut S) -> Result<NextLine, AllocError>
         ensures comes { IfOk result (λ next. NextComes next (line_of self.new) (S.told source.old) (S.told source.new) (reading self.old) (reading self.new)) }
         ensures number { IfOk result (λ next. number_of self.new ≡ counted_with next (number_of self.old)) }
@@ -104,7 +104,7 @@ impl Lines {
         }
     }
 
-    // Reads until the next line has come whole, or there is none.
+    // Reads until the line feed of the next line is in the block, or there is no next line.
     fn find<S: Source>(&mut self, source: &mut S) -> Result<Found, AllocError>
         ensures finds { IfOk result (λ found. Finds found (left_of self.new.reader) (S.told source.old) (S.told source.new) (reading_of self.old.reader) (reading_of self.new.reader)) }
         ensures kept { OnErr result (MovesOn (S.told source.old) (S.told source.new) (reading_of self.old.reader) (reading_of self.new.reader)) }
@@ -122,7 +122,7 @@ impl Lines {
         }
     }
 
-    // Reads the next block, where no line feed is left in this one.
+    // Holds what is left of the block, which has no line feed, and reads the next block. Returns why there is no line, where there is none.
     fn read_on<S: Source>(&mut self, source: &mut S) -> Result<Option<NextLine>, AllocError>
         requires { NoFeed (left_of self.old.reader) }
         ensures steps { IfOk result (λ next. StepsOn next (S.told source.old) (S.told source.new) (reading_of self.old.reader) (reading_of self.new.reader)) }
@@ -140,7 +140,7 @@ impl Lines {
         Ok(self.fill(source))
     }
 
-    // Reads the next block.
+    // Reads the next block. Returns `Failed` where the read failed.
     fn fill<S: Source>(&mut self, source: &mut S) -> Option<NextLine>
         requires passed { left_of self.old.reader ≡ [] }
         requires open { self.old.reader.ended ≡ false }
@@ -154,7 +154,7 @@ impl Lines {
         }
     }
 
-    // Hands out the line whose line feed is at this place of the block, and which has this number.
+    // Hands out the line whose line feed is at `end` in what is left of the block, as line `number`, or returns `TooLong`.
     fn take(&mut self, end: usize, number: u64) -> Result<NextLine, AllocError>
         requires { EndsLine (left_of self.old.reader) end }
         ensures takes { IfOk result (λ next. Takes next self.new.line.items (reading_of self.old.reader) (reading_of self.new.reader)) }

@@ -12,7 +12,7 @@ use itoa::Buffer;
 use mg_value::{Payload, to_json};
 use std::alloc::AllocError;
 
-/// Puts a payload as JSON at the end of a text. Numbers and lists are written there at once, any other by its JSON value.
+/// Puts a payload as JSON at the end of a text. Numbers and lists are written directly, any other payload by its JSON value.
 #[cycle(payload_text)]
 pub fn push_payload(text: &mut Vec<u8>, payload: &Payload) -> Result<(), AllocError>
     ensures put { OnOk result (text.new.items ≡ text.old.items ++ compact_text (json_of (plain payload.now))) }

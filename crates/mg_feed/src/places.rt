@@ -15,11 +15,11 @@ pub struct Placed {
     pub place: u32,
 }
 
-/// Names with their places, each found without a search of all. Contracts see the list of both.
+/// A table of names with their places. Contracts see it as the list of them.
 #[derive(Drop)]
 pub struct Places {
     entries: Vec<Placed>,
-    // The number of the first entry that has a name. It has names of its own, as whoever makes a feed lends it a plan for
+    // Finds the number of the first entry that has a name. The table owns its names, since whoever makes a feed lends it a plan for
     // that one call.
     names: NameTable<'static>,
 }
@@ -37,7 +37,7 @@ impl Model for Places {
 }
 
 impl Places {
-    /// The names with their places. Where a name stands twice the first place is found.
+    /// Makes a table of entries. Of a name that stands twice the first place is found.
     pub fn of(alloc: Global, entries: Vec<Placed>) -> Result<Places, AllocError>
         ensures { IfOk result (λ places. places ≡ entries.items) }
     {
@@ -52,7 +52,7 @@ impl Places {
         self.entries.len()
     }
 
-    /// The place of a name.
+    /// Returns the place of a name, or None where it isn't in the table.
     #[tactic(auto, using(crate::proofs::Finding::place_there, crate::proofs::Finding::place_missing))]
     pub fn find(&self, name: &str) -> Option<u32>
         ensures { result ≡ place_of self.now name.now }
@@ -64,7 +64,7 @@ impl Places {
     }
 }
 
-// The place of an entry.
+// Returns the place in the entry of a number.
 fn place_at(entries: &[Placed], number: usize) -> Option<u32>
     ensures { result ≡ option_map (λ entry. entry.place) (slice_get entries.now number) }
 {
@@ -74,7 +74,7 @@ fn place_at(entries: &[Placed], number: usize) -> Option<u32>
     }
 }
 
-// The table of the names of entries.
+// Makes the table that finds the number of the first entry with a name.
 fn table_of(alloc: Global, entries: &[Placed]) -> Result<NameTable<'static>, AllocError>
     ensures { IfOk result (λ names. Finds names entries.now) }
 {

@@ -2,8 +2,8 @@ ghost use Rattle.mg_feed.specs.Sent.{Sent};
 
 use mg_edge::{Put, Sink};
 
-/// Writes all the bytes, in as few writes as the sink takes. False where a write failed: the sink then took a front
-/// of them. It takes no memory.
+/// Writes all the bytes, with as many writes as the sink needs. False where a write failed: the sink then took
+/// a front of them, perhaps none. It takes no memory.
 pub fn put_all<K: Sink>(sink: &mut K, bytes: &[u8]) -> bool
     ensures { Sent result (K.told sink.old) (K.told sink.new) bytes.now }
 {

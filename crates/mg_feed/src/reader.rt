@@ -11,14 +11,14 @@ use mg_edge::{Got, Source};
 use std::alloc::{AllocError, Global};
 use std::mem;
 
-/// Reads a source in blocks, and finds the lines. A line that lies whole in a block stays there.
+/// Reads a source in blocks, and finds the ends of the lines. A line that lies whole in a block can be read there.
 #[derive(Drop)]
 pub struct Reader {
     // The block that was read last. Of its bytes those from `at` up to `filled` weren't passed yet.
     pub block: Vec<u8>,
     pub at: usize,
     pub filled: usize,
-    // The bytes before them that no line feed has ended yet.
+    // The beginning of the next line, as far as it is held: from earlier blocks, or passed in this one. It has no line feed.
     pub cut: Vec<u8>,
     // Whether the source answered `End`.
     pub ended: bool,
@@ -38,7 +38,7 @@ impl Reader {
     ghost use Rattle.mg_feed.specs.Code.Readers.{left_of, reading_of};
     ghost use Rattle.mg_feed.specs.Code.Filled.{Filled};
 
-    /// A reader that read nothing yet.
+    /// Makes a reader that has read nothing yet.
     pub fn new(alloc: Global) -> Result<Reader, AllocError>
         ensures { IfOk result (λ reader. reading_of reader ≡ record { kept = []; ended = false }) }
     {
@@ -52,28 +52,28 @@ impl Reader {
         })
     }
 
-    /// The bytes of the block that weren't passed yet.
+    /// Returns the bytes of the block that weren't passed yet.
     pub fn left(&self) -> &[u8]
         ensures { result.now ≡ left_of self.now }
     {
         &self.block[self.at..self.filled]
     }
 
-    /// Where the next line feed of the block is.
+    /// Returns the place of the next line feed, counted in the bytes of the block that weren't passed yet.
     pub fn line_end(&self) -> Option<usize>
         ensures { MatchOption result (NoFeed (left_of self.now)) (EndsLine (left_of self.now)) }
     {
         line_end(self.left())
     }
 
-    /// Whether the next line began in a block before this one.
+    /// Whether bytes of the next line are held.
     pub fn has_cut(&self) -> bool
         ensures { result ≡ false → self.now.cut.items ≡ [] }
     {
         !self.cut.is_empty()
     }
 
-    /// The first bytes of the block that weren't passed yet.
+    /// Returns the first `count` bytes of the block that weren't passed yet.
     pub fn front(&self, count: usize) -> &[u8]
         requires { count ≤ length (left_of self.now) }
         ensures { result.now ≡ take count (left_of self.now) }
@@ -81,7 +81,7 @@ impl Reader {
         self.left().split_at(count).0
     }
 
-    /// Passes so many bytes of the block.
+    /// Passes `count` bytes of the block.
     pub fn pass(&mut self, count: usize)
         requires { count ≤ length (left_of self.old) }
         ensures left { left_of self.new ≡ drop count (left_of self.old) }
@@ -91,7 +91,7 @@ impl Reader {
         self.at += count;
     }
 
-    /// Keeps so many bytes of the block for the next line, or tells that the line is too long already.
+    /// Passes `count` bytes of the block, and holds them for the next line. Errs where the line gets too long, or at want of memory.
     pub fn hold(&mut self, count: usize) -> Result<(), LineFault>
         requires within { count ≤ length (left_of self.old) }
         requires none { NoFeed (take count (left_of self.old)) }
@@ -109,7 +109,8 @@ impl Reader {
         Ok(())
     }
 
-    /// Keeps all bytes of the block for the next line, none of which is a line feed, or tells that the line is too long already.
+    /// Passes all that is left of the block, which has no line feed, and holds it for the next line. Errs where the line gets too long,
+    /// or at want of memory.
     pub fn hold_rest(&mut self) -> Result<(), LineFault>
         requires { NoFeed (left_of self.old) }
         ensures reading { reading_of self.new ≡ reading_of self.old }
@@ -121,7 +122,7 @@ impl Reader {
         Ok(())
     }
 
-    /// Passes the line feed of a line that began in a block before this one, and the line.
+    /// Passes the line feed that comes next, and drops the line before it, which was held.
     pub fn pass_cut(&mut self)
         requires { 1 ≤ length (left_of self.old) }
         ensures left { left_of self.new ≡ drop 1 (left_of self.old) }
@@ -132,7 +133,7 @@ impl Reader {
         self.at += 1;
     }
 
-    /// Passes the line feed behind the bytes that are held, and hands these over in place of what `line` had.
+    /// Passes the line feed that comes next, and moves the line before it, which was held, into `line`.
     pub fn hand_over(&mut self, line: &mut Vec<u8>)
         requires { 1 ≤ length (left_of self.old) }
         ensures line { line.new.items ≡ self.old.cut.items }
@@ -163,7 +164,7 @@ impl Reader {
         got
     }
 
-    // The source has ended: the line feed comes that the last line lacks.
+    // Notes that the source has ended, and puts a line feed behind a last line that lacks it.
     fn finish(&mut self)
         requires { left_of self.old ≡ [] }
         ensures ended { self.new.ended ≡ true }
@@ -178,14 +179,14 @@ impl Reader {
     }
 }
 
-// The place of the first line feed.
+// Returns the place of the first line feed.
 fn line_end(bytes: &[u8]) -> Option<usize>
     ensures { MatchOption result (NoFeed bytes.now) (EndsLine bytes.now) }
 {
     memchr(b'\n', bytes)
 }
 
-// So many zeros.
+// Returns `count` zeros.
 fn zeros(alloc: Global, count: usize) -> Result<Vec<u8>, AllocError>
     ensures { IfOk result (λ v. vec_len v ≡ count) }
 {

@@ -1,6 +1,6 @@
 use mg_time::Timestamp;
 
-/// What a stream is judged by: its bound, and whether it has a packet.
+/// What a stream's next line is judged by: the stream's bound, and whether a packet came to it (`begun`).
 #[derive(Clone, Copy, Debug, PartialEq, Eq)]
 pub struct Standing {
     pub bound: Timestamp,

@@ -13,10 +13,10 @@ use mg_value::{BlockList, Packet, Prefix};
 use std::alloc::{AllocError, Global};
 use std::mem;
 
-/// A list of packets has fewer than 2^32: there is no memory for more.
+/// The most packets that a stream holds. More of them count as want of memory.
 pub const MOST_PACKETS: usize = (1 << 32) - 1;
 
-/// What the next packet of the stream at a place is judged by.
+/// Returns the standing of the stream at a place, or that of a closed stream where there is none.
 pub fn standing_at(streams: &[FeedStream], place: u32) -> Standing
     ensures { result ≡ unwrap_or (slice_get (standings (map was_taken streams.now) (map waiting streams.now)) place) no_stream }
 {
@@ -29,7 +29,7 @@ pub fn standing_at(streams: &[FeedStream], place: u32) -> Standing
     }
 }
 
-// What the stream's next packet is judged by.
+// Returns the standing of a stream, by which its next packet is judged.
 fn standing(stream: &FeedStream) -> Standing
     ensures { result ≡ standing_now stream.now }
 {
@@ -105,8 +105,8 @@ fn greater(a: Timestamp, b: Timestamp) -> Timestamp
     if a < b { b } else { a }
 }
 
-/// Takes the packets out of all streams, and puts what is known of each behind some prefixes, which have room for them.
-/// It takes no memory.
+/// Takes the packets out of all streams, and puts a prefix of each into `prefixes`, which is empty and has room: those packets, with the
+/// stream's bound or, where the input ended, Done. It takes no memory.
 pub fn take_prefixes(
     alloc: Global,
     streams: &mut [FeedStream],
@@ -136,7 +136,7 @@ fn push_within(prefixes: &mut Vec<Prefix>, prefix: Prefix)
     let _ = prefixes.push(prefix);
 }
 
-// Takes the packets out of a stream.
+// Takes the packets out of a stream, as a prefix with the stream's bound or, where the input ended, Done.
 fn take_prefix(alloc: Global, stream: &mut FeedStream, ended: bool) -> Prefix
     ensures prefix { result ≡ ended_stream ended (waiting stream.old) }
     ensures waiting { waiting stream.new ≡ without_packets (waiting stream.old) }
@@ -149,7 +149,7 @@ fn take_prefix(alloc: Global, stream: &mut FeedStream, ended: bool) -> Prefix
     prefix_of(packets, bound)
 }
 
-// The prefix of packets and a bound.
+// Puts a prefix together from packets and a bound.
 fn prefix_of(packets: Vec<Packet>, bound: Timestamp) -> Prefix
     requires { vec_len packets < 2 ^ 32 }
     ensures { result ≡ record { packets = packets.items; bound = bound } }

@@ -22,7 +22,7 @@ impl Collected {
     ghost use Rattle.mg_feed.specs.View.{after_taking};
     ghost use Rattle.mg_feed.specs.Seen.{collected};
 
-    /// What no line gave the inputs of a plan's graph.
+    /// Makes the inputs of a plan's graph, to which no line gave anything yet.
     pub fn new(alloc: Global, plan: &Plan) -> Result<Collected, AllocError>
         ensures { IfOk result (λ c. collected c ≡ record {
           graph = inputs_of plan.now;
@@ -56,7 +56,8 @@ impl Collected {
         })
     }
 
-    /// Takes what the lines gave since the last taking. Where there is no memory nothing was taken.
+    /// Takes the packets that came since the last taking, with each stream's bound, or Done where the input ended, and all side packets.
+    /// After an `Err`, which is want of memory, nothing was taken.
     pub fn take_inputs(&mut self, alloc: Global, ended: bool) -> Result<Inputs, AllocError>
         ensures streams { IfOk result (λ inputs. inputs.streams ≡ ended_streams ended (collected self.old).given.streams) }
         ensures sides { IfOk result (λ inputs. inputs.sides ≡ (collected self.old).given.sides) }
@@ -70,7 +71,8 @@ impl Collected {
         Ok(inputs_by(prefixes, sides, ended))
     }
 
-    /// Takes what the lines gave since the last taking. It takes no memory.
+    /// Takes the packets that came since the last taking, with each stream's bound, or Done where the input ended, and all side packets.
+    /// It takes no memory.
     pub fn into_inputs(self, alloc: Global, ended: bool) -> Inputs
         ensures streams { result.streams ≡ ended_streams ended (collected self).given.streams }
         ensures sides { result.sides ≡ (collected self).given.sides }
@@ -90,7 +92,7 @@ impl Collected {
     }
 }
 
-// So many streams of which nothing is known.
+// Returns `count` streams without packets, with the bound PreStream.
 fn open_streams(alloc: Global, count: usize) -> Result<Vec<FeedStream>, AllocError>
     ensures streams { IfOk result (λ streams. map waiting streams.items ≡ replicate count empty_prefix) }
     ensures taken { IfOk result (λ streams. map was_taken streams.items ≡ replicate count false) }
@@ -110,7 +112,7 @@ fn open_streams(alloc: Global, count: usize) -> Result<Vec<FeedStream>, AllocErr
     Ok(streams)
 }
 
-// So many side packets that didn't come.
+// Returns `count` places of side packets, none of which came.
 fn no_sides(alloc: Global, count: usize) -> Result<Vec<Option<Arc<Payload>>>, AllocError>
     ensures sides { IfOk result (λ sides. map given sides.items ≡ replicate count None) }
     ensures few { IfOk result (λ sides. vec_len sides < 2 ^ 32) }
@@ -125,7 +127,7 @@ fn no_sides(alloc: Global, count: usize) -> Result<Vec<Option<Arc<Payload>>>, Al
     Ok(sides)
 }
 
-// A second list of the side packets, which shares them.
+// Returns a list that shares the side packets.
 fn copy_sides(alloc: Global, sides: &[Option<Arc<Payload>>]) -> Result<GivenList, AllocError>
     ensures { IfOk result (λ list. list ≡ map given sides.now) }
 {
@@ -136,7 +138,7 @@ fn copy_sides(alloc: Global, sides: &[Option<Arc<Payload>>]) -> Result<GivenList
     Ok(GivenList::from_vec(copies)?)
 }
 
-// A second owner of a side packet.
+// Shares a side packet, where it came.
 fn copy_side(side: &Option<Arc<Payload>>) -> Result<Option<Arc<Payload>>, AllocError>
     ensures { IfOk result (λ copy. given copy ≡ given side.now) }
 {
@@ -146,7 +148,7 @@ fn copy_side(side: &Option<Arc<Payload>>) -> Result<Option<Arc<Payload>>, AllocE
     }
 }
 
-// The list of side packets.
+// Makes a list of side packets, which are fewer than 2^32.
 fn given_list(sides: Vec<Option<Arc<Payload>>>) -> GivenList
     requires { vec_len sides < 2 ^ 32 }
     ensures { result ≡ map given sides.items }
@@ -157,7 +159,7 @@ fn given_list(sides: Vec<Option<Arc<Payload>>>) -> GivenList
     }
 }
 
-// The inputs of prefixes and side packets.
+// Puts the inputs of a graph together from prefixes and side packets.
 fn inputs_by(prefixes: Vec<Prefix>, sides: GivenList, ended: bool) -> Inputs
     requires { vec_len prefixes < 2 ^ 32 }
     ensures { result ≡ record { streams = prefixes.items; sides = sides; ended = ended } }

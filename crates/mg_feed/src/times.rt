@@ -5,7 +5,7 @@ ghost use Rattle.mg_feed.specs.Form.{time_of, time_named};
 use mg_time::Timestamp;
 use serde_json::Value;
 
-/// The timestamp that a JSON value is, where a packet may carry it.
+/// Returns the timestamp that a JSON value says, where a packet may carry it: a whole number of the range, `PreStream` or `PostStream`.
 pub fn time_by(value: &Value) -> Option<Timestamp>
     ensures { result ≡ time_of (view value.now) }
 {
@@ -16,7 +16,7 @@ pub fn time_by(value: &Value) -> Option<Timestamp>
     }
 }
 
-// The timestamp of a name.
+// Returns the timestamp with this name, `PreStream` or `PostStream`.
 fn time_by_name(text: &str) -> Option<Timestamp>
     ensures { result ≡ time_named text.now }
 {

@@ -13,11 +13,11 @@ use json::{Reader, Scratch, Token};
 use serde_json::{Map, Value, push, put};
 use std::alloc::Global;
 
-/// So many arrays and objects lie inside one another in a line at most, as `serde_json` has it.
+/// The most arrays and objects that may lie inside one another in a line, as `serde_json` has it.
 pub const MAX_DEPTH: usize = 127;
 
-/// The JSON value of a text, read from its tokens with a scratch that is kept. Where it has none, where a number isn't whole
-/// or has more than 64 bits, and where there is no memory, nothing is told.
+/// Reads the JSON value of a text from its tokens, with a scratch that is kept. None where the text isn't JSON, where a number isn't
+/// whole or doesn't fit in 64 bits, and where there is no memory.
 pub fn text_by_tokens(alloc: Global, text: &[u8], scratch: &mut Scratch) -> Option<Value>
     ensures { IfSome result (λ v. json_value text.now ≡ Some (view v)) }
 {
@@ -32,7 +32,7 @@ pub fn text_by_tokens(alloc: Global, text: &[u8], scratch: &mut Scratch) -> Opti
     Some(value)
 }
 
-/// The JSON value that comes next, of so many arrays and objects inside one another at most.
+/// Reads the JSON value that comes next, with at most `depth` arrays and objects inside one another.
 #[cycle(tokens)]
 pub fn value_by_tokens(alloc: Global, reader: &mut Reader<'_>, depth: usize) -> Option<Value>
     ensures value { IfSome result (λ v. converted of_json (json_at depth reader.old) ≡ Some (view v, reader.new)) }
@@ -46,7 +46,7 @@ pub fn value_by_tokens(alloc: Global, reader: &mut Reader<'_>, depth: usize) -> 
     }
 }
 
-// The array that began.
+// Reads the rest of an array that has begun.
 #[cycle(tokens)]
 fn array_by(alloc: Global, reader: &mut Reader<'_>, depth: usize) -> Option<Value>
     ensures value { IfSome result (λ v. converted of_json (json_at depth (begin_array ∷ reader.old)) ≡ Some (view v, reader.new)) }
@@ -59,7 +59,7 @@ fn array_by(alloc: Global, reader: &mut Reader<'_>, depth: usize) -> Option<Valu
     Some(Value::from(items))
 }
 
-// The object that began.
+// Reads the rest of an object that has begun.
 #[cycle(tokens)]
 fn object_by(alloc: Global, reader: &mut Reader<'_>, depth: usize) -> Option<Value>
     ensures value { IfSome result (λ v. converted of_json (json_at depth (begin_object ∷ reader.old)) ≡ Some (view v, reader.new)) }
@@ -72,7 +72,7 @@ fn object_by(alloc: Global, reader: &mut Reader<'_>, depth: usize) -> Option<Val
     Some(Value::from(members))
 }
 
-// The items of an array, up to its end.
+// Reads the items of an array, up to its end.
 #[cycle(tokens)]
 fn items_by(alloc: Global, reader: &mut Reader<'_>, depth: usize) -> Option<Vec<Value>>
     ensures items { IfSome result (λ v. converted of_items (items_at (json_at depth) (length reader.old) reader.old)
@@ -87,7 +87,7 @@ fn items_by(alloc: Global, reader: &mut Reader<'_>, depth: usize) -> Option<Vec<
     Some(found)
 }
 
-// The members of an object, up to its end. Of equal names the last stays.
+// Reads the members of an object, up to its end. Of equal names the last stays.
 #[cycle(tokens)]
 fn members_by(alloc: Global, reader: &mut Reader<'_>, depth: usize) -> Option<Map<String, Value>>
     ensures members { IfSome result (λ m. converted (λ ms. of_members ms no_members) (members_at (json_at depth) (length reader.old) reader.old)
@@ -102,7 +102,7 @@ fn members_by(alloc: Global, reader: &mut Reader<'_>, depth: usize) -> Option<Ma
     Some(found)
 }
 
-// Whether nothing comes any more.
+// Returns None where a further token comes.
 fn over(reader: &mut Reader<'_>) -> Option<()>
     ensures { IfSome result (λ _. reader.old ≡ []) }
 {
@@ -112,7 +112,7 @@ fn over(reader: &mut Reader<'_>) -> Option<()>
     }
 }
 
-// Puts an item behind others, where there is memory.
+// Appends an item to a list, where there is memory.
 fn add_item(items: &mut Vec<Value>, item: Value) -> Option<()>
     ensures { IfSome result (λ _. items.new.items ≡ items.old.items ++ item ∷ []) }
 {
@@ -137,7 +137,7 @@ fn add_member(
     }
 }
 
-// The name of the member that comes next, or that the object ends.
+// Reads the name of the next member: `Some(None)` at the end of the object, and None at a fault.
 fn name_by<'a>(reader: &mut Reader<'a>) -> Option<Option<&'a str>>
     ensures { IfSome result (λ name. read_key reader.old ≡ Some (option_map (λ s. s.now) name, reader.new)) }
 {
@@ -147,7 +147,7 @@ fn name_by<'a>(reader: &mut Reader<'a>) -> Option<Option<&'a str>>
     }
 }
 
-// The value that a token is by itself.
+// Returns the value of a token that is a value by itself, where there is memory.
 fn scalar_by(alloc: Global, token: Token<'_>) -> Option<Value>
     ensures { IfSome result (λ v. scalar_of (token_of token.entry) ≡ Some (view v)) }
 {

@@ -12,7 +12,7 @@ abbrev pub many_name : Many → List ℕ
 many_name Edges = codes "Edges"
 many_name Outputs = codes "Outputs"
 
--- what a graph is refused for, and its fields, each after a space
+-- the words for why the check refuses a graph: what is wrong, and the fault's fields, each after a space
 abbrev pub check_refusal : CheckFault → List ℕ
 check_refusal (UnknownCalculator node) = codes "UnknownCalculator " ++ decimal node
 check_refusal (NoMoreBoxes name has needs) = codes "NoMoreBoxes " ++ shown name ++ codes " " ++ decimal has ++ codes " " ++ decimal needs
@@ -28,6 +28,7 @@ check_refusal (Cycle nodes) = codes "Cycle" ++ flat_map (λ node. codes " " ++ d
 check_refusal (TooMany what) = codes "TooMany " ++ many_name what
 check_refusal OutOfMemory = []
 
+-- the note that the check refuses a graph
 abbrev pub check_note : CheckFault → List ℕ
 check_note fault = codes "refused: check " ++ check_refusal fault ++ codes "\n"
 

@@ -1,16 +1,16 @@
--- What the files of a command are: read in order, all graphs, or refused at the first that is none.
+-- What the files of a command are: all graphs, in order, or refused at the first file that is none.
 use Rattle.std.specs.Prelude.{◌≡◌, ℕ, ◌⊎◌, List, [], ◌∷◌, Option, None, Some, codes}
 use Rattle.mg_config.specs.Config.{GraphView}
 use Rattle.mg_files.specs.File.{File, graph, no_text, no_graph, IsFile}
 use Rattle.mg_files.specs.Notes.{file_note, text_refusal, config_refusal}
 
--- the note of a file that is no graph
+-- the note that refuses a file of this name, where it is no graph
 abbrev pub refusal_of : List ℕ → File → Option (List ℕ)
 refusal_of name (graph g) = None
 refusal_of name (no_text fault) = Some (file_note name (codes "text") (text_refusal fault))
 refusal_of name (no_graph fault) = Some (file_note name (codes "config") (config_refusal fault))
 
--- All files are graphs, these; or one is none, and is refused with this note.
+-- All files are graphs, which are these; or the first that is none is refused with this note.
 pub data Files : Type 0 where
   graphs : List GraphView → Files
   no_graphs : List ℕ → Files
@@ -33,7 +33,7 @@ FirstRefused (name ∷ names) [] note = ⊥
 FirstRefused (name ∷ names) (content ∷ contents) note =
     IsRefused name content note ⊎ ((g : GraphView) × IsFile content (graph g) × FirstRefused names contents note)
 
--- what files of these names and contents are
+-- files of these names and contents are all these graphs, or refused with this note
 abbrev pub AreFiles : List (List ℕ) → List (List ℕ) → Files → Type 0
 AreFiles names contents (graphs gs) = AreGraphs contents gs
 AreFiles names contents (no_graphs note) = FirstRefused names contents note

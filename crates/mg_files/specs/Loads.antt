@@ -4,12 +4,12 @@ use Rattle.std.specs.Option.{option_and_then}
 use Rattle.mg_edge.specs.Edge.{StoreTold, most_loaded, one_more}
 use Rattle.mg_answer.specs.Devices.{Device}
 
--- what a store tells of the names that it may have
+-- what a store tells of each name: the bytes of it, that there is no such file, or nothing
 abbrev pub Told : Type 0
 Told = List ℕ → Option (Option (List ℕ))
 
--- A load of a name gives these bytes, as far as the store tells what the name has: the first of them, and none of a name
--- that isn't there.
+-- A load of a name gives this content, by what the store tells of the name: its first bytes, as many as a load gives at most; nothing where
+-- there is no such file; and anything where the store doesn't tell.
 abbrev pub IsLoaded : Option (Option (List ℕ)) → List ℕ → Type 0
 IsLoaded None content = Unit {0}
 IsLoaded (Some None) content = ⊥
@@ -22,7 +22,7 @@ AreLoaded told [] (content ∷ contents) = ⊥
 AreLoaded told (name ∷ names) [] = ⊥
 AreLoaded told (name ∷ names) (content ∷ contents) = IsLoaded (told name) content × AreLoaded told names contents
 
--- A load leaves each content as it is.
+-- A store has the same contents as before.
 abbrev pub IsKept : Device StoreTold → Type 0
 IsKept store = (name : List ℕ) → store.now.content name ≡ store.before.content name
 
@@ -33,7 +33,7 @@ pub record LoadedAll (names contents : List (List ℕ)) (store : Device StoreTol
   pub steady : store.now.faults ≡ store.before.faults
   pub last : store.now.failed_name ≡ store.before.failed_name
 
--- Of these files this one couldn't be loaded. Those before it were, and no other load failed.
+-- This one of the files couldn't be loaded. Those before it were, and no other load failed.
 pub record FailedAt (names : List (List ℕ)) (file : List ℕ) (store : Device StoreTold) : Type 0 where
   pub kept : IsKept store
   pub before : List (List ℕ)
@@ -44,12 +44,12 @@ pub record FailedAt (names : List (List ℕ)) (file : List ℕ) (store : Device 
   pub once : store.now.faults ≡ one_more store.before.faults
   pub last : store.now.failed_name ≡ Some file
 
--- the bytes of a name that is there
+-- the bytes of a name, where the store tells them
 abbrev pub there : Option (Option (List ℕ)) → Option (List ℕ)
 there None = None
 there (Some bytes) = bytes
 
--- what loads of these names give, where the store tells what each of them has
+-- the contents that loads of these names give, where the store tells the bytes of each
 abbrev pub loads_of : Told → List (List ℕ) → Option (List (List ℕ))
 loads_of told [] = Some []
 loads_of told (name ∷ names) =

@@ -1,4 +1,4 @@
--- The notes, each one line whatever a graph or a word holds.
+-- The notes on files and graphs that are refused, each one line whatever a graph or a word holds.
 use Rattle.std.specs.Prelude.{ℕ, List, [], ◌++◌, codes, decimal}
 use Rattle.mg_text.specs.declared.fault.TextFault.{TextFault}
 use Rattle.mg_text.specs.declared.fault.TextFault.TheVariants.{Syntax, TooDeep, TooLong, OutOfMemory}
@@ -14,18 +14,20 @@ use Rattle.mg_answer.specs.Shown.{shown}
 
 -- A file --
 
+-- the note that a file couldn't be loaded
 abbrev pub store_note : List ℕ → List ℕ
 store_note file = codes "store: " ++ shown file ++ codes "\n"
 
 -- A file or an expansion is refused --
 
--- the file isn't text, and where
+-- the words for why a file isn't text of the grammar, and where
 abbrev pub text_refusal : TextFault → List ℕ
 text_refusal (Syntax place) = codes "Syntax " ++ decimal place
 text_refusal (TooDeep place) = codes "TooDeep " ++ decimal place
 text_refusal TooLong = codes "TooLong"
 text_refusal OutOfMemory = []
 
+-- the word for why a port's names are refused
 abbrev pub cause_name : NameFault → List ℕ
 cause_name names.BadName = codes "BadName"
 cause_name names.BadTag = codes "BadTag"
@@ -34,7 +36,7 @@ cause_name names.Gap = codes "Gap"
 cause_name names.Twice = codes "Twice"
 cause_name names.OutOfMemory = []
 
--- its fields are no configuration, and which
+-- the words for why a file's fields are no configuration, and which field it is
 abbrev pub config_refusal : ConfigFault → List ℕ
 config_refusal (configs.UnknownField path) = codes "UnknownField " ++ shown path
 config_refusal (configs.WrongShape path) = codes "WrongShape " ++ shown path
@@ -42,11 +44,12 @@ config_refusal (configs.Repeated path) = codes "Repeated " ++ shown path
 config_refusal (configs.BadPort path cause) = codes "BadPort " ++ shown path ++ codes " " ++ cause_name cause
 config_refusal configs.OutOfMemory = []
 
--- `stage` is what refuses the file: `text` or `config`
+-- the note that a file is refused; `stage` is what refuses it: `text` or `config`
 abbrev pub file_note : List ℕ → List ℕ → List ℕ → List ℕ
 file_note file stage refusal = codes "refused: " ++ shown file ++ codes " " ++ stage ++ codes " " ++ refusal ++ codes "\n"
 
--- An expansion is refused: what for, and its fields, each after a space. A port is written as in a graph file.
+-- The words for why an expansion is refused: what is wrong, and the fault's fields, each after a space. A port is written as in a graph
+-- file.
 abbrev pub expand_refusal : ExpandFault → List ℕ
 expand_refusal (TypeTwice name) = codes "TypeTwice " ++ shown name
 expand_refusal (Recursive name) = codes "Recursive " ++ shown name
@@ -57,9 +60,10 @@ expand_refusal (BadField owner node field) = codes "BadField " ++ shown owner ++
 expand_refusal (NoSuchPort owner node port) = codes "NoSuchPort " ++ shown owner ++ codes " " ++ decimal node ++ codes " " ++ shown (text_of port)
 expand_refusal expansions.OutOfMemory = []
 
+-- the note that the expansion of a graph is refused
 abbrev pub expand_note : ExpandFault → List ℕ
 expand_note fault = codes "refused: expand " ++ expand_refusal fault ++ codes "\n"
 
--- A graph that has free nodes is refused in some ways to use it: the note tells the way, and the first of these nodes.
+-- The note that a graph with free nodes is refused, as it can't be used in the way of this word; `node` is its first free node.
 abbrev pub free_note : List ℕ → ℕ → List ℕ
 free_note verb node = codes "refused: " ++ verb ++ codes " FreeNode " ++ decimal node ++ codes "\n"

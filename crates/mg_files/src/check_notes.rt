@@ -10,7 +10,7 @@ use mg_check::{CheckFault, Many};
 use mg_value::MgText;
 use std::alloc::{AllocError, Global};
 
-/// The note that a graph has no plan. Want of memory isn't noted.
+/// Returns the note that the check refuses a graph, or an error where memory ran out, which isn't noted.
 pub fn check_note(alloc: Global, fault: &CheckFault) -> Result<Vec<u8>, AllocError>
     ensures some { OnOk result (fault.now ≢ CheckFault.OutOfMemory) }
     ensures note { IfOk result (λ v. v.items ≡ notes.check_note fault.now) }
@@ -84,7 +84,7 @@ fn many_refusal(alloc: Global, what: Many) -> Result<Vec<u8>, AllocError>
     }
 }
 
-/// What `check` writes of a graph that has a plan.
+/// Returns what `check` writes of a graph that has a plan: how many nodes and streams the plan has.
 pub fn check_text(alloc: Global, plan: &Plan) -> Result<Vec<u8>, AllocError>
     ensures { IfOk result (λ v. v.items ≡ notes.check_text plan.now) }
 {

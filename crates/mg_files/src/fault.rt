@@ -3,12 +3,12 @@ ghost use Rattle.mg_files.specs.declared.fault.Fault.TheVariants.{OutOfMemory};
 
 use std::alloc::{AllocError, AllocFailed};
 
-/// Why there is nothing to do with files.
+/// Why a command's files can't be used.
 #[derive(Debug, Drop)]
 pub enum Fault {
-    /// One of them is refused, or couldn't be loaded: the notes say which.
+    /// A file was refused, or couldn't be loaded. The bytes are the note, which names the file.
     Noted(Vec<u8>),
-    /// There was no memory.
+    /// Memory ran out.
     OutOfMemory,
 }
 

@@ -1,4 +1,4 @@
-//! What the contents of a command's files are.
+//! The contents of a command's files, read as graphs.
 ghost use Rattle.std.specs.Prelude.{◌≡◌, ◌≤◌, ℕ, List, IfOk, IfErr, length, map};
 ghost use Rattle.mg_text.specs.Tree.{depth};
 ghost use Rattle.mg_text.specs.View.{view};
@@ -16,7 +16,8 @@ use mg_text::{Tree, parse};
 use mg_value::MgText;
 use std::alloc::Global;
 
-/// The graphs of files of these names and contents, in order, or the note of the first that is none.
+/// Returns the graphs of files of these names and contents, in order. The error is the note of the first file that is no graph, or that
+/// memory ran out.
 pub fn graphs_of(
     alloc: Global,
     names: &[MgText],
@@ -34,7 +35,7 @@ pub fn graphs_of(
     Ok(graphs)
 }
 
-// The graph of a file, or its note.
+// Returns the graph of a file, or as the error the note that it is none.
 fn graph_of(alloc: Global, name: &str, content: &[u8]) -> Result<GraphConfig, Fault>
     ensures graph { IfOk result (λ config. IsFile content.now (graph (graph_view config))) }
     ensures refused { IfErr result (λ fault. IsNotedOf fault name.now content.now) }

@@ -1,4 +1,4 @@
-//! The loads of a command's files.
+//! Loads the files of a command.
 ghost use Rattle.std.specs.Prelude.{IfOk, IfErr};
 ghost use Rattle.mg_answer.specs.Devices.{device};
 ghost use Rattle.mg_files.specs.Loads.{LoadedAll};
@@ -10,7 +10,8 @@ use mg_edge::{Loaded, Store};
 use mg_value::MgText;
 use std::alloc::Global;
 
-/// Loads the files of these names in order, up to the first that can't be loaded.
+/// Loads the files of these names in order, up to the first that can't be loaded, and returns their contents. The error is the note that
+/// names that file, or that memory ran out.
 pub fn load_all<T: Store>(
     alloc: Global,
     store: &mut T,

@@ -6,7 +6,7 @@ use mg_answer::{put_number, put_shown};
 use mg_value::MgText;
 use std::alloc::{AllocError, Global};
 
-/// The note that a graph is refused, with what refuses it and why.
+/// Returns the note that a graph is refused. `stage` is what refuses it, and `refusal` says why.
 pub fn stage_note(alloc: Global, stage: &[u8], refusal: &[u8]) -> Result<Vec<u8>, AllocError>
     ensures { IfOk result (λ v. v.items ≡ codes "refused: " ++ stage.now ++ codes " " ++ refusal.now ++ codes "\n") }
 {
@@ -18,7 +18,7 @@ pub fn stage_note(alloc: Global, stage: &[u8], refusal: &[u8]) -> Result<Vec<u8>
     Ok(note)
 }
 
-/// The word of a refusal, and behind it the number of its place.
+/// Returns the words of a refusal: `refusal`, and behind it the number of a place.
 pub fn at_place(alloc: Global, refusal: &[u8], place: u32) -> Result<Vec<u8>, AllocError>
     ensures { IfOk result (λ v. v.items ≡ refusal.now ++ decimal place) }
 {
@@ -27,7 +27,7 @@ pub fn at_place(alloc: Global, refusal: &[u8], place: u32) -> Result<Vec<u8>, Al
     Ok(text)
 }
 
-/// The word of a refusal, and behind it the text that it is about.
+/// Returns the words of a refusal: `refusal`, and behind it the text that it is about.
 pub fn of_text(alloc: Global, refusal: &[u8], part: &MgText) -> Result<Vec<u8>, AllocError>
     ensures { IfOk result (λ v. v.items ≡ refusal.now ++ shown part.now) }
 {
@@ -36,7 +36,7 @@ pub fn of_text(alloc: Global, refusal: &[u8], part: &MgText) -> Result<Vec<u8>, 
     Ok(text)
 }
 
-/// Puts a number behind a space.
+/// Puts a space and a number at a text's end.
 pub fn put_next_number(text: &mut Vec<u8>, number: u32) -> Result<(), AllocError>
     ensures { OnOk result (text.new.items ≡ text.old.items ++ codes " " ++ decimal number) }
 {
@@ -44,7 +44,7 @@ pub fn put_next_number(text: &mut Vec<u8>, number: u32) -> Result<(), AllocError
     put_number(text, u64::from(number))
 }
 
-/// Puts a text behind a space.
+/// Puts a space and a text at a text's end.
 pub fn put_next_text(text: &mut Vec<u8>, part: &MgText) -> Result<(), AllocError>
     ensures { OnOk result (text.new.items ≡ text.old.items ++ codes " " ++ shown part.now) }
 {

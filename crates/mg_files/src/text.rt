@@ -1,4 +1,4 @@
-//! The text of a configuration.
+//! The text of a graph's configuration.
 ghost use Rattle.std.specs.Prelude.{◌≡◌, IfOk};
 ghost use Rattle.mg_config.specs.Config.{graph_view};
 ghost use Rattle.mg_config.specs.Sound.{IsSound, IsPrintable};
@@ -8,7 +8,7 @@ use mg_config::{GraphConfig, write};
 use mg_text::print;
 use std::alloc::{AllocError, Global};
 
-/// The text of a configuration, which is dropped once its fields are made and before they are printed.
+/// Returns the text of a configuration. The configuration is dropped once its fields are made and before these are printed.
 pub fn graph_text(alloc: Global, graph: GraphConfig) -> Result<Vec<u8>, AllocError>
     requires sound { IsSound (graph_view graph) }
     requires printable { IsPrintable (graph_view graph) }

@@ -1,4 +1,4 @@
--- How the logic stores what a free node has come to.
+-- How the logic stores the state of a free node.
 use Rattle.std.specs.Prelude.{ℕ, refl}
 use Rattle.std.specs.Coded.{Coded, code_by, coded×, coded_ℕ}
 use Rattle.mg_value.specs.Payload.{Plain}

@@ -7,7 +7,7 @@ use Rattle.mg_value.specs.Prefix.{Stamped, StreamPrefix, empty_prefix, appended,
 use Rattle.mg_free.specs.declared.law.FreeLaw.{FreeLaw}
 use Rattle.mg_free.specs.declared.law.FreeLaw.TheVariants.{FirstCome, Limiter}
 
--- an arrival
+-- an arrival: a port, and the packet that arrives there
 pub record Arrival (X : Type 0) : Type 0 where
   pub port : ℕ
   pub packet : Stamped X
@@ -17,7 +17,7 @@ pub record Flow (X : Type 0) : Type 0 where
   pub output : StreamPrefix X
   pub in_flight : ℕ
 
--- at first the output is empty, and nothing is in flight
+-- what a free node has come to at first: the output is empty, and nothing is in flight
 abbrev pub begun : {X : Type 0} → Flow X
 begun = record { output = empty_prefix; in_flight = 0 }
 
@@ -36,16 +36,17 @@ abbrev pub is_laid : {X : Type 0} → FreeLaw → Flow X → Arrival X → Bool
 is_laid (FirstCome lanes) flow arrival = can_follow flow.output arrival.packet.at
 is_laid (Limiter most) flow arrival = (arrival.port == 0) && nat_lt flow.in_flight most
 
--- once a packet is laid, Limiter has one more in flight
+-- how many packets are in flight once a further one is laid: with Limiter one more
 abbrev pub risen : FreeLaw → ℕ → ℕ
 risen (FirstCome lanes) count = count
 risen (Limiter most) count = count + 1
 
+-- what a free node has come to once a packet is laid
 abbrev pub with_laid : {X : Type 0} → FreeLaw → Flow X → Stamped X → Flow X
 with_laid law flow packet = record { output = appended flow.output packet; in_flight = risen law flow.in_flight }
 
--- What becomes of an arrival that isn't laid. FirstCome drops it. Limiter drops a packet of the first port, and raises its output to what may
--- follow that packet; a packet on FINISHED leaves one less in flight, where one is.
+-- what a free node has come to after an arrival that isn't laid. FirstCome drops it. Limiter drops a packet of the first port, and
+-- raises its output to the next time after that packet; a packet of FINISHED leaves one less in flight, where one is
 abbrev pub without_laid : {X : Type 0} → FreeLaw → Flow X → Arrival X → Flow X
 without_laid (FirstCome lanes) flow arrival = flow
 without_laid (Limiter most) flow arrival =
@@ -53,22 +54,22 @@ without_laid (Limiter most) flow arrival =
     then record { output = raised flow.output (next arrival.packet.at); in_flight = flow.in_flight }
     else record { output = flow.output; in_flight = flow.in_flight - 1 }
 
--- The free law: what becomes of a free node by an arrival.
+-- the free law: what a free node has come to after an arrival
 abbrev pub arrived : {X : Type 0} → FreeLaw → Flow X → Arrival X → Flow X
 arrived law flow arrival = if is_laid law flow arrival then with_laid law flow arrival.packet else without_laid law flow arrival
 
--- an arrival may come: the node has the port, a packet may carry the time, and on the first port of Limiter, whose packets come in
--- order, the output doesn't stand in its way
+-- an arrival at the first port of Limiter, whose packets come in order, can still be laid on the output
 abbrev pub IsInTime : {X : Type 0} → FreeLaw → Flow X → Arrival X → Type 0
 IsInTime (FirstCome lanes) flow arrival = Unit {0}
 IsInTime (Limiter most) flow arrival = arrival.port ≡ 0 → (flow.output.bound ≤ arrival.packet.at) × (arrival.packet.at ≡ post_stream → length flow.output.packets ≡ 0)
 
+-- an arrival may come: the node has the port, a packet may stand at the time, and at the first port of Limiter it can still be laid
 pub record MayArrive {X : Type 0} (law : FreeLaw) (flow : Flow X) (arrival : Arrival X) : Type 0 where
   pub port : arrival.port < ports_of law
   pub allowed : IsAllowed arrival.packet.at
   pub in_time : IsInTime law flow arrival
 
--- a free node with its law
+-- the state of a free node: its law, and what it has come to
 pub record FreeStanding : Type 0 where
   pub law : FreeLaw
   pub flow : Flow Plain

@@ -8,11 +8,11 @@ use Rattle.mg_free.specs.declared.law.FreeLaw.{FreeLaw}
 use Rattle.mg_free.specs.declared.law.FreeLaw.TheVariants.{FirstCome, Limiter}
 use Rattle.mg_free.specs.Free.{Arrival, Flow, begun, arrived, MayArrive}
 
--- what a free node has come to by a log
+-- what a free node has come to after the arrivals of a log
 abbrev pub flow_of : {X : Type 0} → FreeLaw → List (Arrival X) → Flow X
 flow_of law log = fold (arrived law) begun log
 
--- each arrival of a log may come once those before it have
+-- each arrival of a log may come once those before it have come
 abbrev pub MayAllArrive : {X : Type 0} → FreeLaw → Flow X → List (Arrival X) → Type 0
 MayAllArrive law flow [] = Unit {0}
 MayAllArrive law flow (arrival ∷ log) = MayArrive law flow arrival × MayAllArrive law (arrived law flow arrival) log
@@ -31,14 +31,15 @@ pub record IsLawful {X : Type 0} (inputs : List (StreamPrefix X)) (log : List (A
   pub ports : All (λ a. a.port < length inputs) log
   pub all : (port : ℕ) → port < length inputs → arrived_at port log ≡ (port_of inputs port).packets
 
--- the input streams after whose ends the output ends: that of each port, and for Limiter that of the first
+-- the input streams that have to end before the output ends: all of them, and for Limiter the first
 abbrev pub ending : {X : Type 0} → FreeLaw → List (StreamPrefix X) → List (StreamPrefix X)
 ending (FirstCome lanes) inputs = inputs
 ending (Limiter most) inputs = take 1 inputs
 
+-- whether the input streams have ended that have to end before the output ends
 abbrev pub has_ended : {X : Type 0} → FreeLaw → List (StreamPrefix X) → Bool
 has_ended law inputs = list_all (λ s. s.bound == done) (ending law inputs)
 
--- the output of a free node at whose ports all has arrived
+-- the output of a free node once all packets of its input streams have arrived, by its log
 abbrev pub output_of : {X : Type 0} → FreeLaw → List (StreamPrefix X) → List (Arrival X) → StreamPrefix X
 output_of law inputs log = if has_ended law inputs then closed (flow_of law log).output else (flow_of law log).output

@@ -11,16 +11,16 @@ use Rattle.mg_free.specs.declared.plan.FreePlan.{FreePlan}
 use Rattle.mg_free.specs.Free.{Arrival}
 use Rattle.mg_free.specs.Logs.{flow_of, arrived_at, has_ended}
 
--- how far a free node is: its log, and whether its output is closed
+-- what a free node has taken: its log, and whether its output is closed
 pub record Taken : Type 0 where
   pub log : List (Arrival Plain)
   pub closed : Bool
 
--- at first nothing has arrived, and the outputs are open
+-- what the free nodes have taken at first: nothing has arrived, and the outputs are open
 abbrev pub none_taken : FreePlan → List Taken
 none_taken split = map (λ free. record { log = []; closed = false }) split.free
 
--- what is known of the output
+-- the output of a free node, as far as it is known
 abbrev pub output_so_far : FreeNode → Taken → StreamPrefix Plain
 output_so_far free taken = elim taken.closed [ true ↦ closed (flow_of free.law taken.log).output | false ↦ (flow_of free.law taken.log).output ]
 
@@ -28,7 +28,7 @@ output_so_far free taken = elim taken.closed [ true ↦ closed (flow_of free.law
 abbrev pub core_inputs : FreePlan → Inputs → List Taken → Inputs
 core_inputs split inputs takens = record inputs { streams = inputs.streams ++ map (λ e. output_so_far e.0 e.1) (zip split.free takens) }
 
--- the core, for what has come
+-- the job of the core with what has come to it
 abbrev pub core_job : FreePlan → Inputs → List Taken → Job
 core_job split inputs takens = record { plan = split.core; inputs = core_inputs split inputs takens }
 
@@ -36,23 +36,23 @@ core_job split inputs takens = record { plan = split.core; inputs = core_inputs 
 abbrev pub free_inputs : List (StreamPrefix Plain) → FreeNode → List (StreamPrefix Plain)
 free_inputs streams free = map (stream_of streams) free.inputs
 
--- of each port whose stream has more packets than have arrived, the next one, in the order of the ports
+-- for each port whose stream has more packets than have arrived, the next arrival, in the order of the ports
 abbrev pub next_arrivals : List (StreamPrefix Plain) → FreeNode → Taken → List (Arrival Plain)
 next_arrivals streams free taken =
     filter_map (λ e. option_map (λ p. record { port = e.0; packet = p }) (slice_get e.1.packets (length (arrived_at e.0 taken.log)))) (enumerate_from 0 (free_inputs streams free))
 
--- the last of some things, if there is one
+-- the last entry of a list, if there is one
 abbrev pub last_of : {X : Type 0} → List X → Option X
 last_of [] = None
 last_of (x ∷ []) = Some x
 last_of (x ∷ y ∷ ys) = last_of (y ∷ ys)
 
--- A free node's turn: it takes the next packet of the last such port; without one it closes its output, once the ports after whose
--- ends the output ends have ended.
+-- what a free node has taken after it takes an arrival; without one it closes its output, if the input streams have ended that have to
 abbrev pub with_next : List (StreamPrefix Plain) → FreeNode → Taken → Option (Arrival Plain) → Taken
 with_next streams free taken (Some arrival) = record { log = taken.log ++ arrival ∷ []; closed = taken.closed }
 with_next streams free taken None = elim (has_ended free.law (free_inputs streams free)) [ true ↦ record { log = taken.log; closed = true } | false ↦ taken ]
 
+-- what a free node has taken after its turn: it takes the next packet of the last port that has one, or may close its output
 abbrev pub turn : List (StreamPrefix Plain) → FreeNode → Taken → Taken
 turn streams free taken = with_next streams free taken (last_of (next_arrivals streams free taken))
 

@@ -1,4 +1,4 @@
--- How much free nodes have taken, how much there is for them to take, and what holds of their logs meanwhile.
+-- How much free nodes have taken, how much there is for them to take, and when their logs are lawful.
 use Rattle.std.specs.Prelude.{◌≡◌, ℕ, ◌+◌, cond, List, [], ◌∷◌, length, sum_by}
 use Rattle.std.specs.List.{AllZip}
 use Rattle.mg_value.specs.Payload.{Plain}
@@ -13,43 +13,45 @@ use Rattle.mg_free.specs.declared.plan.FreePlan.{FreePlan}
 use Rattle.mg_free.specs.Logs.{IsLawfulSoFar, IsLawful, output_of}
 use Rattle.mg_free.specs.Rounds.{Taken, free_inputs, output_so_far, core_job}
 
--- the log of each free node is lawful so far in some streams
+-- the log of each free node is lawful so far in the given streams
 abbrev pub AreLawfulSoFar : List (StreamPrefix Plain) → List FreeNode → List Taken → Type 0
 AreLawfulSoFar streams frees takens = AllZip (λ free taken. IsLawfulSoFar (free_inputs streams free) taken.log) frees takens
 
--- the log of each free node is lawful in some streams: all of them has arrived
+-- the log of each free node is lawful in the given streams: all of their packets have arrived
 abbrev pub AreLawful : List (StreamPrefix Plain) → List FreeNode → List Taken → Type 0
 AreLawful streams frees takens = AllZip (λ free taken. IsLawful (free_inputs streams free) taken.log) frees takens
 
--- how much was taken: each arrival counts, and each output that was closed
+-- how much a free node has taken: each arrival counts one, and the closing of its output too
 abbrev pub taken_by : Taken → ℕ
 taken_by taken = length taken.log + cond {A = ℕ} taken.closed 1 0
 
+-- how much all free nodes have taken
 abbrev pub taken_by_all : List Taken → ℕ
 taken_by_all takens = sum_by taken_by takens
 
--- how much there is to take in some streams: each packet of each port, and one output
+-- how much there is for a free node to take in the given streams: each packet of each port counts one, and the closing of its output
 abbrev pub room_of : List (StreamPrefix Plain) → FreeNode → ℕ
 room_of streams free = sum_by (λ s. length s.packets) (free_inputs streams free) + 1
 
+-- how much there is for all free nodes to take
 abbrev pub room_of_all : List (StreamPrefix Plain) → List FreeNode → ℕ
 room_of_all streams frees = sum_by (room_of streams) frees
 
 -- Batches.
 
--- what has come after each batch of a run: it fits the plan, and extends what came before
+-- inputs as they have come after each further batch of a run: each fits the plan, and extends the one before
 abbrev pub AreBatches : Plan → Inputs → List Inputs → Type 0
 AreBatches plan before [] = Unit {0}
 AreBatches plan before (inputs ∷ later) =
     InputsFit plan inputs × (before.sides ≡ inputs.sides) × AreExtendedBy before.streams inputs.streams × AreBatches plan inputs later
 
--- the last of them
+-- the inputs after the last batch of a run
 abbrev pub last_batch : Inputs → List Inputs → Inputs
 last_batch inputs [] = inputs
 last_batch before (inputs ∷ later) = last_batch inputs later
 
--- what a run has come to: in the solution of the core for all that came and for the free outputs, the log of each free node is lawful,
--- and its output is the one that its law gives for its log
+-- a run has come to its end with these logs: in the solution of the core, for all inputs and for the free nodes' outputs, each log is
+-- lawful, and the output of each free node is the one that its law gives for its log
 pub record HasCome (split : FreePlan) (inputs : Inputs) (takens : List Taken) : Type 0 where
   pub job : IsJob (core_job split inputs takens)
   pub streams : List (StreamPrefix Plain)

@@ -9,7 +9,7 @@ use mg_calc::{Edge, EdgeList, Plan, PlanNode, PlanNodeList, TryClone};
 use mg_value::NumberList;
 use std::alloc::{AllocError, Global};
 
-// Whether the node of a number is free; the collector isn't.
+// Whether a plan's node of a number is free; the collector isn't.
 fn is_free_at(plan: &Plan, node: u32) -> bool
     ensures { result ≡ the_free_at plan.now node }
 {
@@ -19,7 +19,7 @@ fn is_free_at(plan: &Plan, node: u32) -> bool
     }
 }
 
-// A node in the core.
+// Returns a node of the plan as it is in the core, with the core's numbers of its streams.
 fn core_node(
     alloc: Global,
     plan: &Plan,
@@ -37,7 +37,7 @@ fn core_node(
     Ok(now)
 }
 
-/// The nodes of the core.
+/// Returns the nodes of the core, in the plan's order.
 pub fn core_nodes(
     alloc: Global,
     plan: &Plan,
@@ -55,7 +55,7 @@ pub fn core_nodes(
     Ok(PlanNodeList::from_vec(nodes)?)
 }
 
-// An edge in the core.
+// Returns an edge of the plan as it is in the core, with the core's numbers.
 fn core_edge(plan: &Plan, numbering: &Numbering, edge: &Edge) -> Edge
     requires { IsNumberingOf plan.now numbering.now }
     ensures { result ≡ the_core_edge plan.now edge.now }
@@ -68,7 +68,7 @@ fn core_edge(plan: &Plan, numbering: &Numbering, edge: &Edge) -> Edge
     }
 }
 
-/// The edges of the core.
+/// Returns the edges of the core: those of the plan that don't lead to a free node.
 pub fn core_edges(alloc: Global, plan: &Plan, numbering: &Numbering) -> Result<EdgeList, AllocError>
     requires { IsNumberingOf plan.now numbering.now }
     ensures { IfOk result (λ edges. edges ≡ the_edges plan.now) }
@@ -82,7 +82,7 @@ pub fn core_edges(alloc: Global, plan: &Plan, numbering: &Numbering) -> Result<E
     Ok(EdgeList::from_vec(edges)?)
 }
 
-/// The nodes of the core in the plan's order.
+/// Returns the order of the core: the core's numbers of its nodes, as they stand in the plan's order.
 pub fn core_order(
     alloc: Global,
     plan: &Plan,

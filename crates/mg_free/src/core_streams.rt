@@ -1,4 +1,4 @@
-//! The streams of a core, with who writes them there.
+//! The streams of a core, each with its producer in the core.
 ghost use Rattle.std.specs.Prelude.{◌≡◌, ◌++◌, IfOk, OnOk, map, filter};
 ghost use Rattle.std.specs.List.{enumerate_from, flat_map};
 ghost use Rattle.mg_calc.specs.declared.plan_stream.Producer.TheVariants.{Input as the_input};
@@ -10,7 +10,7 @@ use mg_calc::{Plan, PlanStream, PlanStreamList, Producer, TryClone};
 use mg_value::{Kind, MgText, NumberList};
 use std::alloc::{AllocError, Global};
 
-// A stream of the plan, with who writes it in the core.
+// Returns a stream of the plan with its producer in the core.
 fn written_by(
     alloc: Global,
     plan: &Plan,
@@ -37,7 +37,7 @@ fn written_by(
     }
 }
 
-// The streams that come to the core from outside.
+// Returns the graph inputs of the core: the streams that come to it from outside.
 fn entering_streams(alloc: Global, plan: &Plan) -> Result<Vec<PlanStream>, AllocError>
     ensures { IfOk result (λ streams. streams.items ≡ map (λ e. the_written plan.now e.1 (the_input e.0)) (enumerate_from 0 (the_entering plan.now))) }
 {
@@ -51,7 +51,7 @@ fn entering_streams(alloc: Global, plan: &Plan) -> Result<Vec<PlanStream>, Alloc
     Ok(streams)
 }
 
-// The outputs of a node of the core come to some streams.
+// Appends the outputs of a node of the core to a list of streams.
 fn add_outputs(
     alloc: Global,
     into: &mut Vec<PlanStream>,
@@ -69,7 +69,7 @@ fn add_outputs(
     Ok(())
 }
 
-/// The streams of the core.
+/// Returns the streams of the core: those that come from outside, and behind them the outputs of the core's nodes.
 pub fn core_streams(alloc: Global, plan: &Plan) -> Result<PlanStreamList, AllocError>
     ensures { IfOk result (λ streams. streams ≡ the_streams plan.now) }
 {

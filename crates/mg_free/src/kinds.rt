@@ -5,7 +5,7 @@ ghost use Rattle.mg_free.specs.Core.{free_law_of, is_free as the_free, first_fre
 use crate::FreeLaw;
 use mg_calc::{Law, Plan, PlanNode};
 
-/// The free law of a law, where its nodes are free.
+/// Returns the free law of a law, if nodes of that law are free.
 pub(crate) fn free_law(law: &Law) -> Option<FreeLaw>
     ensures { result ≡ free_law_of law.now }
 {
@@ -16,15 +16,14 @@ pub(crate) fn free_law(law: &Law) -> Option<FreeLaw>
     }
 }
 
-/// Whether a node is free.
+/// Whether a node is free: its output depends on the order in which packets arrive.
 pub fn is_free(node: &PlanNode) -> bool
     ensures { result ≡ the_free node.now }
 {
     free_law(&node.law).is_some()
 }
 
-/// The number of a plan's first free node, where it has one. A plan that may have free nodes and has none is valid: it can be run
-/// and solved as it is.
+/// Returns the number of a plan's first free node, if it has one. A plan that is valid but for free nodes, and has none, is valid.
 pub fn first_free(plan: &Plan) -> Option<u32>
     ensures first { result ≡ the_first plan.now }
     ensures valid { IsValidWithFree plan.now → IfNone result (IsValid plan.now) }

@@ -1,8 +1,7 @@
 /// What a free node does with the packets that arrive (MediaPipe, Real-time Streams).
 #[derive(Clone, Copy, Debug, PartialEq, Eq)]
 pub enum FreeLaw {
-    /// Each packet that may still be laid is laid as it comes, and every other is dropped. `lanes` is how many inputs
-    /// there are.
+    /// Each packet that can still be laid on the output is laid as it comes, and every other is dropped. `lanes` is the number of inputs.
     FirstCome { lanes: u32 },
     /// A packet of the first input is laid while fewer than `most` of those that were laid are unfinished, and is
     /// dropped otherwise. A packet of the second input, FINISHED, says that one of them is finished.

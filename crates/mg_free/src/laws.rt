@@ -16,14 +16,14 @@ ghost use Rattle.mg_free.specs.Core.{split_of};
 ghost use Rattle.mg_free.specs.Rounds.{Taken, none_taken, IsRound, AllRounds};
 ghost use Rattle.mg_free.specs.Turns.{AreLawfulSoFar, AreLawful, taken_by_all, room_of_all, AreBatches, last_batch, HasCome};
 
-/// Whatever may arrive keeps the rule of streams at the output, and extends what is known of it.
+/// After an arrival that may come, the output is a prefix by the rule of streams again, and extends the output before.
 pub fn an_arrival_extends_the_output()
     ensures prefix { (law : FreeLaw) (flow : Flow Plain) (arrival : Arrival Plain) → MayArrive law flow arrival → IsPrefix flow.output → IsPrefix (arrived law flow arrival).output }
     ensures extends { (law : FreeLaw) (flow : Flow Plain) (arrival : Arrival Plain) → MayArrive law flow arrival → IsExtendedBy flow.output (arrived law flow arrival).output }
 {}
 
-/// A log that is lawful so far may arrive. What its node lays is a prefix by the rule of streams, also once it has ended, and a
-/// longer log extends it.
+/// Each arrival of a log that is lawful so far may come. The output that a log gives is a prefix by the rule of streams, also where
+/// it has ended, and the output of a longer log extends it.
 pub fn a_logs_output_is_a_prefix()
     ensures may { (law : FreeLaw) (inputs : List (StreamPrefix Plain)) (log : List (Arrival Plain)) → length inputs ≡ ports_of law → All IsPrefix inputs
         → IsLawfulSoFar inputs log → MayAllArrive law begun log }
@@ -33,9 +33,9 @@ pub fn a_logs_output_is_a_prefix()
         → IsExtendedBy (flow_of law log).output (flow_of law (log ++ more)).output }
 {}
 
-/// A free node lays at most as many packets as have arrived, and Limiter as many as have arrived at its first port. So where its
-/// log is lawful so far, its output has at most as many packets as its inputs have, of Limiter its first. Never more than may be
-/// are in flight.
+/// A free node lays at most as many packets as have arrived, and Limiter at most as many as have arrived at its first port. So where
+/// the log is lawful so far, the output has no more packets than the inputs have together, or, for Limiter, than the first input
+/// has. A Limiter never has more packets in flight than it may have.
 pub fn outputs_are_no_longer_than_logs()
     ensures first_come { (lanes : ℕ) (log : List (Arrival Plain)) → length (flow_of (FirstCome lanes) log).output.packets ≤ length log }
     ensures limiter { (most : ℕ) (log : List (Arrival Plain)) → length (flow_of (Limiter most) log).output.packets ≤ length (arrived_at 0 log) }
@@ -44,9 +44,9 @@ pub fn outputs_are_no_longer_than_logs()
     ensures in_flight { (most : ℕ) (log : List (Arrival Plain)) → (flow_of (Limiter most) log).in_flight ≤ most }
 {}
 
-/// A round leaves all as it was, and is the last, or something more is taken in it; and never is more taken than there is: the
-/// packets at the ports of the free nodes, and one closing for each. Each log that is lawful so far stays so in a round, and where
-/// the streams grow. Where a round leaves all as it was, all has arrived.
+/// In a round something more is taken, or all stays as it was. No more is ever taken than there is: the packets at the ports of the
+/// free nodes, and one closing for each. A log that is lawful so far stays so after a round, and where the streams are extended.
+/// Where a round leaves all as it was, each log is lawful: all packets have arrived.
 pub fn rounds_take_what_there_is()
     ensures rises { (split : FreePlan) (inputs : Inputs) (before after : List Taken) → length split.free ≡ length before → IsRound split inputs before after
         → (after ≡ before) ⊎ (taken_by_all before < taken_by_all after) }
@@ -60,9 +60,9 @@ pub fn rounds_take_what_there_is()
         → AreLawfulSoFar round.streams split.free takens → AreLawful round.streams split.free takens }
 {}
 
-/// The rounds of a run end, whatever comes to it in however many batches, and there is one list of logs to which they come. Then what
-/// comes to the core is a job, by which everything but the free outputs is determined; in its solution the log of each free node is
-/// lawful; and each free output is what its node's log lays, closed where it has ended.
+/// The rounds of a run end, whatever its batches are, and they always end with the same logs. What has come to the core is then a job;
+/// in the job's solution the log of each free node is lawful; and the output of each free node is the one that its law gives for its
+/// log, closed where it has ended.
 pub fn rounds_end()
     ensures ends { (plan : Plan) (inputs : Inputs) (later : List Inputs) → IsValidWithFree plan → InputsFit plan inputs → AreBatches plan inputs later
         → (last : List Taken) × AllRounds (split_of plan) (inputs ∷ later) (none_taken (split_of plan)) last }

@@ -1,7 +1,7 @@
 use crate::FreeLaw;
 use mg_value::{BlockList, NumberList};
 
-/// A free node of a plan, whose output is a graph input of the plan's core.
+/// A free node of a plan. Its output is a graph input of the plan's core.
 #[derive(Debug, Drop)]
 pub struct FreeNode {
     /// The node's number in the plan.

@@ -12,25 +12,25 @@ use mg_calc::{Plan, PlanNode};
 use mg_value::NumberList;
 use std::alloc::{AllocError, Global};
 
-/// The numbers of streams and nodes in a core.
+/// The numbers that a plan's streams and nodes have in the plan's core.
 #[derive(Drop)]
 pub struct Numbering {
-    /// The nodes of the core, by the plan's numbers.
+    /// The plan's numbers of the core's nodes, in order.
     pub numbers: NumberList,
-    /// The number of each stream in the core.
+    /// For each stream of the plan its number in the core.
     pub streams: Places,
-    /// The number of each node in the core.
+    /// For each node of the core its number there, by the plan's number.
     pub nodes: Places,
 }
 
-// Whether a node is free, where that is asked, and else whether it is of the core.
+// Whether a node is free, if `free` is set, and otherwise whether it is a node of the core.
 fn is_one(node: &PlanNode, free: bool) -> bool
     ensures { result ≡ is_one_of free node.now }
 {
     if free { is_free(node) } else { !is_free(node) }
 }
 
-// Some numbers, and behind them the outputs of the free nodes, or those of the core's nodes.
+// Returns `before`, with the outputs of the free nodes behind it, or, if `free` isn't set, those of the core's nodes.
 fn with_outputs(before: Vec<u32>, nodes: &[PlanNode], free: bool) -> Result<Vec<u32>, AllocError>
     ensures { IfOk result (λ all. all.items ≡ before.items ++ flat_map (λ node. node.outputs) (filter (is_one_of free) nodes.now)) }
 {
@@ -43,7 +43,7 @@ fn with_outputs(before: Vec<u32>, nodes: &[PlanNode], free: bool) -> Result<Vec<
     Ok(all)
 }
 
-// The streams that come to the core from outside, by the plan's numbers, in a vector that more may come to.
+// Returns the streams that come to the core from outside, by the plan's numbers, as a vector that can grow.
 fn entering_so_far(alloc: Global, plan: &Plan) -> Result<Vec<u32>, AllocError>
     ensures { IfOk result (λ streams. streams.items ≡ the_entering plan.now) }
 {
@@ -52,7 +52,7 @@ fn entering_so_far(alloc: Global, plan: &Plan) -> Result<Vec<u32>, AllocError>
     with_outputs(inputs, plan.nodes.as_slice(), true)
 }
 
-/// The streams that come to the core from outside, by the plan's numbers.
+/// Returns the streams that come to the core from outside, by the plan's numbers: the graph inputs and the free nodes' outputs.
 pub fn entering(alloc: Global, plan: &Plan) -> Result<NumberList, AllocError>
     ensures { IfOk result (λ streams. streams ≡ the_entering plan.now) }
 {
@@ -60,7 +60,7 @@ pub fn entering(alloc: Global, plan: &Plan) -> Result<NumberList, AllocError>
     Ok(NumberList::from_vec(streams)?)
 }
 
-// The places of all streams in the order of the core.
+// Returns the places of the plan's streams in the order of the core.
 fn stream_places(alloc: Global, plan: &Plan) -> Result<Places, AllocError>
     requires { IsValidWithFree plan.now }
     ensures { IfOk result (λ places. ArePlaces places (core_streams plan.now)) }
@@ -71,7 +71,7 @@ fn stream_places(alloc: Global, plan: &Plan) -> Result<Places, AllocError>
     Places::of(alloc, &list, plan.streams.len())
 }
 
-/// The numbers of the nodes of the core.
+/// Returns the plan's numbers of the core's nodes, in order.
 fn core_numbers(alloc: Global, plan: &Plan) -> Result<NumberList, AllocError>
     ensures { IfOk result (λ numbers. numbers ≡ the_core_numbers plan.now) }
 {
@@ -86,7 +86,7 @@ fn core_numbers(alloc: Global, plan: &Plan) -> Result<NumberList, AllocError>
 }
 
 impl Numbering {
-    /// The numbers of a plan's streams and nodes in its core.
+    /// Returns the numbers of a plan's streams and nodes in its core.
     pub fn of(alloc: Global, plan: &Plan) -> Result<Numbering, AllocError>
         requires { IsValidWithFree plan.now }
         ensures { IfOk result (λ numbering. IsNumberingOf plan.now numbering) }

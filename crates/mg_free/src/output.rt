@@ -1,4 +1,4 @@
-//! Outputs that grow.
+//! How the output of a free node grows.
 ghost use Rattle.std.specs.Prelude.{◌≡◌, ◌∷◌, ◌++◌, [], length, ◌<◌, ◌^◌, IfOk, IfErr, OnErr};
 ghost use Rattle.mg_value.specs.Prefix.{appended, closed, raised};
 ghost use Rattle.mg_free.specs.Free.{can_follow as can_still_follow};
@@ -8,7 +8,7 @@ use mg_value::{BlockList, Packet, PacketList, Prefix};
 use std::alloc::{AllocError, AllocFailed, Global};
 use std::mem;
 
-// The list of a vector that is short enough for one.
+// Returns the list of a vector's packets, fewer than 2^32.
 fn list_of(packets: Vec<Packet>) -> PacketList
     requires { length packets.items < 2 ^ 32 }
     ensures { result ≡ packets.items }
@@ -19,14 +19,14 @@ fn list_of(packets: Vec<Packet>) -> PacketList
     }
 }
 
-/// No packets. It takes no memory.
+/// Returns the empty list. It allocates nothing.
 pub fn no_packets(alloc: Global) -> PacketList
     ensures { result ≡ [] }
 {
     list_of(Vec::new(alloc))
 }
 
-// A list with a further packet. Where there is no memory for it, the list comes back as it was.
+// Returns a list with a further packet. Where there is no memory for it, the error gives the list back as it was.
 fn with_packet(list: PacketList, packet: Packet) -> Result<PacketList, AllocFailed<PacketList>>
     ensures more { IfOk result (λ now. now ≡ list ++ packet ∷ []) }
     ensures same { IfErr result (λ e. e.value ≡ list) }
@@ -43,7 +43,7 @@ fn with_packet(list: PacketList, packet: Packet) -> Result<PacketList, AllocFail
     }
 }
 
-/// Lays a packet on an output. At want of memory the output is as before.
+/// Puts a packet behind an output. On an error the output stays.
 pub fn lay(alloc: Global, output: &mut Prefix, packet: &Packet) -> Result<(), AllocError>
     ensures laid { IfOk result (λ _. output.new ≡ appended output.old packet.now) }
     ensures unchanged { OnErr result (output.new ≡ output.old) }
@@ -63,7 +63,7 @@ pub fn lay(alloc: Global, output: &mut Prefix, packet: &Packet) -> Result<(), Al
     }
 }
 
-/// Raises an output to a bound: nothing below it is laid any more.
+/// Raises an output to a bound, if its own is lower.
 pub fn raise(output: &mut Prefix, bound: Timestamp)
     ensures { output.new ≡ raised output.old bound }
 {
@@ -72,7 +72,7 @@ pub fn raise(output: &mut Prefix, bound: Timestamp)
     }
 }
 
-/// Closes an output.
+/// Closes an output: its bound is Done.
 pub fn close(output: &mut Prefix)
     ensures { output.new ≡ closed output.old }
 {

@@ -7,24 +7,23 @@ ghost use Rattle.mg_free.specs.Code.Places.{ArePlaces, place_at};
 use mg_value::NumberList;
 use std::alloc::{AllocError, Global};
 
-/// For each number of a list its place there, and for every other number the length of the list. It is a table, so that nothing is searched
-/// for.
+/// A table with the place of each number of a list, and the length of the list for every other number.
 #[derive(Drop)]
 pub struct Places {
-    /// The places, by number.
+    /// The place of each number that the table has.
     pub table: Vec<u32>,
     /// The place of all numbers past the table, and of those in it that aren't in the list.
     pub past: u32,
 }
 
-// A table of so many numbers, all the same.
+// Returns a table of `count` numbers, all at the same place.
 fn all_same(alloc: Global, place: u32, count: u32) -> Result<Vec<u32>, AllocError>
     ensures { IfOk result (λ table. table.items ≡ replicate count place) }
 {
     vec![in alloc; place; count as usize]
 }
 
-// Puts a number where there is a place for it.
+// Sets the place of a number.
 fn put(table: &mut [u32], number: u32, place: u32)
     requires { number < length table.old }
     ensures { table.new ≡ slice_set table.old number place }
@@ -33,7 +32,7 @@ fn put(table: &mut [u32], number: u32, place: u32)
 }
 
 impl Places {
-    /// The places of the numbers of a list, which are below a count. Of a number that stands there twice the first place counts.
+    /// Returns the places of a list's numbers, which are below `count`. A number that the list has twice has the first of its places.
     pub fn of(alloc: Global, list: &NumberList, count: u32) -> Result<Places, AllocError>
         requires { All (λ n. n < count) list.now }
         ensures { IfOk result (λ places. ArePlaces places list.now) }
@@ -47,7 +46,7 @@ impl Places {
         Ok(Places { table, past })
     }
 
-    /// The place of a number.
+    /// Returns the place of a number, or the length of the list where the list doesn't have it.
     pub fn at(&self, number: u32) -> u32
         ensures { result ≡ place_at self.now number }
     {
@@ -57,7 +56,7 @@ impl Places {
         }
     }
 
-    /// The places of some numbers.
+    /// Returns the places of numbers, in the same order.
     pub fn of_all(&self, alloc: Global, numbers: &[u32]) -> Result<NumberList, AllocError>
         ensures { IfOk result (λ places. (list : List ℕ) → ArePlaces self.now list → places ≡ map (place_in list) numbers.now) }
     {

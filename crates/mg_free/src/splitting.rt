@@ -1,4 +1,4 @@
-//! A plan split into its core and its free nodes.
+//! Splitting a plan into its core and its free nodes.
 ghost use Rattle.std.specs.Prelude.{◌≡◌, IfOk, length, slice_index_or};
 ghost use Rattle.mg_calc.specs.Plan.{IsValid, IsValidWithFree, numbers as the_numbers};
 ghost use Rattle.mg_free.specs.Core.{core_of as the_core, free_node as the_free_node, free_nodes as the_free_nodes, entering as the_entering, stream_numbers as the_stream_numbers, split_of};
@@ -13,7 +13,7 @@ use mg_calc::{Plan, PlanNode, TryClone};
 use mg_value::NumberList;
 use std::alloc::{AllocError, Global};
 
-// The numbers below a count.
+// Returns the numbers below a count.
 fn numbers(alloc: Global, count: u32) -> Result<NumberList, AllocError>
     ensures { IfOk result (λ numbers. numbers ≡ the_numbers count) }
 {
@@ -57,7 +57,7 @@ fn core(alloc: Global, plan: &Plan, numbering: &Numbering) -> Result<Plan, Alloc
     })
 }
 
-// The first of some numbers, and 0 where there is none.
+// Returns the first number of a list, or 0 where the list is empty.
 fn first_of(numbers: &NumberList) -> u32
     ensures { result ≡ slice_index_or numbers.now 0 0 }
 {
@@ -67,7 +67,7 @@ fn first_of(numbers: &NumberList) -> u32
     }
 }
 
-// A node as a free one, where it is free.
+// Returns a node as a free node with the core's numbers of its streams, if it is free.
 fn free_node(
     alloc: Global,
     plan: &Plan,
@@ -108,7 +108,7 @@ fn free_nodes(alloc: Global, plan: &Plan, numbering: &Numbering) -> Result<FreeN
     Ok(FreeNodeList::from_vec(free)?)
 }
 
-// For each stream of a plan its number in the core.
+// Returns for each stream of a plan its number in the core.
 fn stream_numbers(
     alloc: Global,
     plan: &Plan,
@@ -122,8 +122,8 @@ fn stream_numbers(
     Ok(streams)
 }
 
-/// Splits a plan into its core and its free nodes. The core is a valid plan without free nodes, whose outputs are its last graph
-/// inputs. It has the plan's nodes and streams in their order, under its own numbers.
+/// Splits a plan into its core and its free nodes. The core is a valid plan without the free nodes, whose outputs are its last graph
+/// inputs. The other nodes keep their order, and have numbers of their own in the core.
 pub fn split(alloc: Global, plan: &Plan) -> Result<FreePlan, AllocError>
     requires { IsValidWithFree plan.now }
     ensures split { IfOk result (λ split. split ≡ split_of plan.now) }

@@ -12,8 +12,8 @@ use mg_value::{Packet, Prefix};
 use std::alloc::{AllocError, Global};
 use std::marker::Model;
 
-/// What a free node has come to (MediaPipe, Real-time Streams). Contracts see its law, its output so far, and how many packets
-/// are in flight.
+/// The state of a free node (MediaPipe, Real-time Streams). Contracts see its law, its output so far, and how many packets are in
+/// flight.
 #[derive(Drop)]
 pub struct FreeState {
     alloc: Global,
@@ -37,7 +37,7 @@ impl Model for FreeState {
 }
 
 impl FreeState {
-    /// A free node at which nothing arrived yet.
+    /// Returns the state of a free node at which nothing has arrived.
     pub fn new(alloc: Global, free: &FreeNode) -> Result<FreeState, AllocError>
         ensures { IfOk result (λ s. s ≡ record { law = free.now.law; flow = begun }) }
     {
@@ -52,8 +52,8 @@ impl FreeState {
         })
     }
 
-    /// Takes a packet that arrives at a port, by the free law, and answers whether it is laid on the output. At want of memory
-    /// nothing has arrived.
+    /// Takes a packet that arrives at a port, by the free law, and returns whether it was laid on the output. On an error the state
+    /// stays, as if nothing had arrived.
     pub fn arrive(&mut self, port: u32, packet: &Packet) -> Result<bool, AllocError>
         requires { MayArrive self.old.law self.old.flow (record { port = port; packet = packet.now }) }
         ensures laid { IfOk result (λ laid. laid ≡ is_laid self.old.law self.old.flow (record { port = port; packet = packet.now })) }
@@ -70,8 +70,8 @@ impl FreeState {
         }
     }
 
-    /// Whether a packet may arrive at a port now: the port is the node's, a packet may carry the time, and at the first port of a
-    /// Limiter the output doesn't stand in its way. Packets of one stream in their order always may.
+    /// Whether a packet may arrive at a port now: the node has the port, a packet may stand at the time, and at the first port of a
+    /// Limiter the packet can still be laid on the output.
     pub fn may_arrive(&self, port: u32, packet: &Packet) -> bool
         ensures { IsTrue result ↔ MayArrive self.now.law self.now.flow (record { port = port; packet = packet.now }) }
     {
@@ -86,10 +86,9 @@ impl FreeState {
         output::close(&mut self.output);
     }
 
-    /// The output so far.
+    /// Returns the output so far.
     pub fn output(&self) -> &Prefix
         ensures output { result.now ≡ self.now.flow.output }
-        // Whatever arrived, it is a prefix by the rule of streams.
         ensures prefix { IsPrefix result.now }
     {
         &self.output
@@ -120,7 +119,7 @@ impl FreeState {
         }
     }
 
-    // Lays a packet, with one more in flight of a Limiter.
+    // Lays a packet on the output; a Limiter then has one more in flight.
     fn lay(&mut self, packet: &Packet) -> Result<(), AllocError>
         requires follows { MayFollow self.old.flow.output packet.now }
         requires few { HasRoom self.old.law self.old.flow.in_flight }
@@ -133,7 +132,8 @@ impl FreeState {
         Ok(())
     }
 
-    // Takes a packet that isn't laid. FirstCome drops it.
+    // Takes a packet that isn't laid: FirstCome drops it; a Limiter raises its output past one of the first port, and one of FINISHED
+    // leaves it one less in flight.
     fn pass(&mut self, port: u32, at: Timestamp)
         requires { IsAllowed at }
         ensures passed { (value : Plain) → self.new.flow ≡ without_laid self.old.law self.old.flow (record { port = port; packet = record { at = at; value = value } }) }
@@ -149,7 +149,7 @@ impl FreeState {
     }
 }
 
-// How many ports a law has.
+// Returns how many input ports a law has.
 fn ports_of(law: FreeLaw) -> u32
     ensures { result ≡ ports_of law }
 {
@@ -159,7 +159,7 @@ fn ports_of(law: FreeLaw) -> u32
     }
 }
 
-// How many are in flight once a packet is laid.
+// Returns how many packets are in flight once a further one is laid.
 fn risen(law: FreeLaw, in_flight: u32) -> u32
     requires { HasRoom law in_flight }
     ensures { result ≡ risen law in_flight }

@@ -3,7 +3,7 @@ use Rattle.std.specs.Prelude.{ℕ, suc, List, [], ◌∷◌, Bool, true, ◌&&�
 use Rattle.std.specs.List.{list_any}
 use Rattle.std.specs.Str.{bytes_eq}
 
--- each text is a name
+-- the test by which each text is a name
 abbrev pub is_text : List ℕ → Bool
 is_text text = true
 

@@ -6,11 +6,11 @@ use Rattle.indexmap.specs.IndexMap.{get_by}
 use Rattle.mg_index.specs.Places.{place_of, place_again}
 use Rattle.mg_index.specs.declared.name_table.NameTable.{NameTable}
 
--- the place kept of a name
+-- the place that a table keeps of a name
 abbrev pub kept_place : NameTable → List ℕ → Option ℕ
 kept_place table name = get_by (λ key. bytes_eq name (cow_str_bytes key)) table.places
 
--- the names, in the order of the table
+-- the names that a table keeps, in its order
 abbrev pub kept_names : NameTable → List (List ℕ)
 kept_names table = map (λ entry. cow_str_bytes entry.0) table.places.entries
 

@@ -17,7 +17,7 @@ pub struct NameTable<'a> {
     again: Option<usize>,
 }
 
-// Written out, so that the proof of whoever lets a table go needn't open it.
+// Written out, so that a proof about code that drops a table needn't open it.
 impl<'a> Drop for NameTable<'a> {
     fn drop(self) {
         let NameTable { places, again: _ } = self;
@@ -25,7 +25,7 @@ impl<'a> Drop for NameTable<'a> {
     }
 }
 
-// The earlier of two places, of which the first may be missing.
+// Returns the earlier of two places, of which the first may be missing.
 fn earlier_of(place: Option<usize>, other: usize) -> usize
     ensures { Some result ≡ earlier place (Some other) }
 {
@@ -36,7 +36,7 @@ fn earlier_of(place: Option<usize>, other: usize) -> usize
 }
 
 impl<'a> NameTable<'a> {
-    /// The table of no texts.
+    /// Makes a table of no texts.
     pub fn new(alloc: Global) -> NameTable<'a>
         ensures { (is_name : List ℕ → Bool) → IsTable is_name result [] }
     {
@@ -46,7 +46,7 @@ impl<'a> NameTable<'a> {
         }
     }
 
-    /// Adds the name at a place, which is the next behind those of the texts so far.
+    /// Adds the name of the next text, which stands at `place`. A name that is there already keeps its first place.
     pub fn insert(&mut self, name: CowStr<'a>, place: usize) -> Result<(), AllocError>
         ensures { OnOk result ((is_name : List ℕ → Bool) (texts : List (List ℕ)) → is_name (cow_str_bytes name.entry) ≡ true → length texts ≡ place → IsTable is_name self.old texts → IsTable is_name self.new (texts ++ cow_str_bytes name.entry ∷ [])) }
     {
@@ -58,28 +58,28 @@ impl<'a> NameTable<'a> {
         Ok(())
     }
 
-    /// The first place of a name.
+    /// Returns the place at which a name stands first, or None where it isn't there.
     pub fn get(&self, name: &str) -> Option<usize>
         ensures { result ≡ kept_place self.now name.now }
     {
         self.places.get(name).copied()
     }
 
-    /// The first place whose name stands again later.
+    /// Returns the place of the first name that stands again later, if one does.
     pub fn again(&self) -> Option<usize>
         ensures { result ≡ self.now.again }
     {
         self.again
     }
 
-    /// How many different names there are.
+    /// Returns how many different names there are.
     pub fn len(&self) -> usize
         ensures { result ≡ length (kept_names self.now) }
     {
         self.places.len()
     }
 
-    /// The name with a number, by the order in which the names stand first.
+    /// Returns the name of a number, in the order in which the names stand first.
     pub fn name(&self, number: usize) -> Option<&str>
         ensures { option_map (λ name. name.now) result ≡ slice_get (kept_names self.now) number }
     {

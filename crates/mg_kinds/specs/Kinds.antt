@@ -34,6 +34,7 @@ use Rattle.mg_kinds.specs.declared.maps.MapKind.{MapKind}
 
 -- Names.
 
+-- a row of a table of names: a name, and the calculator that has it
 pub record NameRow : Type 0 where
   pub name : List ℕ
   pub kind : CalculatorKind
@@ -41,23 +42,24 @@ pub record NameRow : Type 0 where
 abbrev pub row : List ℕ → CalculatorKind → NameRow
 row name kind = record { name = name; kind = kind }
 
--- those that pass packets on
+-- the calculators that pass packets on
 abbrev pub passing : List NameRow
 passing = row (codes "PassThroughCalculator") PassThrough ∷ row (codes "GateCalculator") Gate ∷ row (codes "MuxCalculator") Mux
     ∷ row (codes "PacketClonerCalculator") Cloner ∷ row (codes "MergeCalculator") Merge ∷ row (codes "PacketThinnerCalculator") Thinner
     ∷ row (codes "TimestampShiftCalculator") Shift ∷ row (codes "PreviousLoopbackCalculator") Loopback
     ∷ row (codes "FlowLimiterCalculator") FlowLimiter ∷ []
 
--- those that work with numbers
+-- the calculators that work with numbers
 abbrev pub reckoning : List NameRow
 reckoning = row (codes "IntSumCalculator") Sum ∷ row (codes "IntFilterCalculator") Filter
     ∷ row (codes "RunningSumCalculator") Running ∷ []
 
--- those without input streams
+-- the calculators without input streams
 abbrev pub beginning : List NameRow
 beginning = row (codes "CountingSourceCalculator") Counting ∷ row (codes "SidePacketToStreamCalculator") SideToStream
     ∷ row (codes "ConstantSidePacketCalculator") Constants ∷ []
 
+-- the calculator that has a name in a table, if there is one
 abbrev pub named_in : List NameRow → List ℕ → Option CalculatorKind
 named_in [] name = None
 named_in (r ∷ rows) name = if bytes_eq name r.name then Some r.kind else named_in rows name
@@ -69,7 +71,7 @@ kind_named name =
 
 -- Options.
 
--- the options that a calculator has. Each stands once at most, but for `packet`.
+-- the options of a calculator that may be set at most once
 abbrev pub single_options : CalculatorKind → List (List ℕ)
 single_options Gate = codes "empty_packets_as_allow" ∷ []
 single_options Thinner = codes "thinner_type" ∷ codes "period" ∷ []
@@ -80,12 +82,14 @@ single_options FlowLimiter = codes "max_in_flight" ∷ []
 single_options Counting = codes "count" ∷ codes "start" ∷ codes "step" ∷ []
 single_options kind = []
 
+-- all options that a calculator has; only `packet` may be set more than once
 abbrev pub all_options : CalculatorKind → List (List ℕ)
 all_options Constants = codes "packet" ∷ []
 all_options kind = single_options kind
 
 -- Ports.
 
+-- the row of count ports of a tag
 abbrev pub many : Tag → Kind → ℕ → Row
 many tag kind count = record { tag = tag; kind = kind; count = count; last = None }
 
@@ -95,6 +99,7 @@ no_ports = many Untagged Any 0
 abbrev pub one : Tag → Kind → Row
 one tag kind = many tag kind 1
 
+-- the row of count ports of a tag, and a last one of another tag
 abbrev pub many_and : Tag → Kind → ℕ → Tag → Kind → Row
 many_and tag kind count last_tag last_kind = record { tag = tag; kind = kind; count = count; last = Some (record { tag = last_tag; kind = last_kind }) }
 
@@ -109,21 +114,21 @@ lanes_of Sum node = length node.inputs
 lanes_of Constants node = length node.output_sides
 lanes_of kind node = 1
 
--- a gate's control is DISALLOW where the node has that, and otherwise ALLOW
+-- whether a gate's control is DISALLOW: whether the node has that port
 abbrev pub disallows : NodeView → Bool
 disallows node = has_port (tag_text Disallow) 0 node.inputs
 
+-- the tag of a gate's control: DISALLOW where the node has that port, and otherwise ALLOW
 abbrev pub control_of : NodeView → Tag
 control_of node = if disallows node then Disallow else Allow
 
--- when the one packet of a SidePacketToStreamCalculator stands
+-- the output tag of a SidePacketToStreamCalculator, which says at which time its only packet stands
 abbrev pub moment_of : NodeView → Tag
 moment_of node =
     if has_port (tag_text AtPreStream) 0 node.outputs then AtPreStream
     else (if has_port (tag_text AtZero) 0 node.outputs then AtZero else AtPostStream)
 
--- the input streams, the output streams, the side packets that come in and those that go out; PassThroughCalculator
--- has its ports from the node
+-- the input streams of a calculator at a node; PassThroughCalculator has its ports from the node
 abbrev pub inputs_of : CalculatorKind → NodeView → Row
 inputs_of PassThrough node = no_ports
 inputs_of Gate node = many_and Untagged Any (lanes_of Gate node) (control_of node) Flag
@@ -142,6 +147,7 @@ inputs_of Constants node = no_ports
 inputs_of Loopback node = many_and Loop Any 1 Main Any
 inputs_of FlowLimiter node = many_and Untagged Any 1 Finished Any
 
+-- the output streams of a calculator at a node
 abbrev pub outputs_of : CalculatorKind → NodeView → Row
 outputs_of PassThrough node = no_ports
 outputs_of Gate node = many Untagged Any (lanes_of Gate node)
@@ -160,10 +166,12 @@ outputs_of Constants node = no_ports
 outputs_of Loopback node = one PrevLoop Any
 outputs_of FlowLimiter node = one Untagged Any
 
+-- the side packets that a calculator takes
 abbrev pub sides_of : CalculatorKind → Row
 sides_of SideToStream = one Untagged Any
 sides_of kind = no_ports
 
+-- the side packets that a calculator writes at a node
 abbrev pub side_outputs_of : CalculatorKind → NodeView → Row
 side_outputs_of Constants node = many Packet Any (lanes_of Constants node)
 side_outputs_of kind node = no_ports
@@ -183,7 +191,7 @@ abbrev pub side_ports : CalculatorKind → NodeView → Option (List PortKind)
 side_ports kind node =
     option_and_then (λ side_outputs. fitting node.input_sides (sides_of kind)) (fitting node.output_sides (side_outputs_of kind node))
 
--- the ports of another calculator, if the node has just these and at least one lane
+-- the ports of a calculator other than PassThroughCalculator, if the node has just these and at least one lane
 abbrev pub rowed_ports : CalculatorKind → NodeView → Option Ports
 rowed_ports kind node =
     if lanes_of kind node == 0 then None
@@ -198,21 +206,21 @@ kind_ports kind node = rowed_ports kind node
 
 -- Laws.
 
--- names that are lent
+-- borrowed names, as the list of what they are
 abbrev pub names_of : List (Bor (List ℕ)) → List (List ℕ)
 names_of names = map (λ name. name.now) names
 
--- whether options are a calculator's
+-- whether a calculator has all of these options, and none that may be set only once is set twice
 abbrev pub are_options : CalculatorKind → List Entry → Bool
 are_options kind options = are_known (all_options kind) options && are_once (single_options kind) options
 
--- the time of a side packet's one packet
+-- the time that an output tag of a SidePacketToStreamCalculator stands for
 abbrev pub time_of : Tag → ℕ
 time_of AtPreStream = pre_stream
 time_of AtZero = place_of (pos 0)
 time_of tag = post_stream
 
--- options with the values that they have where they are absent
+-- options that may be absent, with the value that they have then
 abbrev pub truth_or_false : List ℕ → List Entry → Option Bool
 truth_or_false name options = or_absent false truth_in_value (set_to name options)
 
@@ -258,7 +266,8 @@ flight_or_one name options = or_absent 1 flight_limit (set_to name options)
 abbrev pub limiter_law : List Entry → Option Law
 limiter_law options = option_map law.Limiter (flight_or_one (codes "max_in_flight") options)
 
--- a MergeCalculator whose handler takes packets as they come (MediaPipe, ImmediateInputStreamHandler) is a free node
+-- the law of a MergeCalculator: with the handler that takes packets as they come (MediaPipe, ImmediateInputStreamHandler) that of a
+-- free node
 abbrev pub merge_law : NodeView → Law
 merge_law node =
     if bytes_eq node.handler (codes "ImmediateInputStreamHandler") then law.FirstCome (lanes_of Merge node) else law.Merge (lanes_of Merge node)
@@ -293,6 +302,7 @@ pub record SettingsView : Type 0 where
   pub law : Law
   pub constants : List Plain
 
+-- what options set at a node of a kind, if they are options of that kind
 abbrev pub settings_with : CalculatorKind → NodeView → List Entry → Option SettingsView
 settings_with kind node options =
     if are_options kind options
@@ -303,7 +313,7 @@ settings_with kind node options =
 abbrev pub kind_settings : CalculatorKind → NodeView → Option SettingsView
 kind_settings kind node = option_and_then (settings_with kind node) (options_in node.calculator (entries node.options))
 
--- what a calculator looks like at a node with these ports
+-- the shape that a calculator of a law has at a node with these ports
 abbrev pub shape_with : List ℕ → Ports → Law → Shape
 shape_with name ports rule = record {
   name = name;
@@ -314,10 +324,11 @@ shape_with name ports rule = record {
   stateless = is_stateless rule;
 }
 
--- a node's options are none, but perhaps an empty message of its calculator
+-- whether options were found to be the calculator's, and there are none
 abbrev pub are_none : Option (List Entry) → Bool
 are_none None = false
 are_none (Some options) = length options == 0
 
+-- whether a node has no options, but perhaps empty options messages of its calculator
 abbrev pub has_no_options : NodeView → Bool
 has_no_options node = are_none (options_in node.calculator (entries node.options))

@@ -8,10 +8,11 @@ use Rattle.mg_kinds.specs.Values.{required, operation_in}
 use Rattle.mg_kinds.specs.declared.maps.MapKind.{MapKind}
 use Rattle.mg_kinds.specs.declared.maps.MapKind.TheVariants.{Operand}
 
+-- the calculator of the law Map that has a name, if there is one
 abbrev pub map_named : List ℕ → Option MapKind
 map_named name = if bytes_eq name (codes "IntMapCalculator") then Some Operand else None
 
--- each stands once at most
+-- the options of a calculator, each of which may be set at most once
 abbrev pub map_options : MapKind → List (List ℕ)
 map_options Operand = codes "op" ∷ codes "operand" ∷ []
 

@@ -14,32 +14,34 @@ extension_name calculator = codes "[mediapipe." ++ calculator ++ codes "Options.
 abbrev pub any_name : List ℕ → List ℕ
 any_name calculator = codes "[type.googleapis.com/mediapipe." ++ calculator ++ codes "Options]"
 
+-- whether a name is one of those of a calculator's options message
 abbrev pub is_own : List ℕ → List ℕ → Bool
 is_own calculator name = bytes_eq name (extension_name calculator) || bytes_eq name (any_name calculator)
 
--- the fields of a message; a scalar has none, not even an empty list
+-- the fields of a value that is a message; none where it is a scalar
 abbrev pub fields_inside : Value → Option (List Entry)
 fields_inside (simple kind bytes) = None
 fields_inside (inner fields) = Some (entries fields)
 
+-- the fields inside a field that is a calculator's own options message; none where it isn't
 abbrev pub own_fields : List ℕ → Entry → Option (List Entry)
 own_fields calculator field = if is_own calculator field.name then fields_inside field.value else None
 
--- the options that stand in these fields, which are nothing but the calculator's own messages
+-- the options that stand in these fields, if each field is an options message of the calculator
 abbrev pub options_in : List ℕ → List Entry → Option (List Entry)
 options_in calculator [] = Some []
 options_in calculator (field ∷ fields) =
     option_and_then (λ own. option_map (λ more. own ++ more) (options_in calculator fields)) (own_fields calculator field)
 
--- each option has one of these names
+-- whether each option has one of these names
 abbrev pub are_known : List (List ℕ) → List Entry → Bool
 are_known names options = list_all (λ option. is_one_of names option.name) options
 
--- none of these names stands twice
+-- whether none of these names is the name of two options
 abbrev pub are_once : List (List ℕ) → List Entry → Bool
 are_once names options = list_all (λ name. nat_le (count_by (has_name name) options) 1) names
 
--- what an option is set to, if it is set
+-- what the first option of a name is set to, if there is one
 abbrev pub set_to : List ℕ → List Entry → Option Value
 set_to name options = first (values_of name options)
 

@@ -8,19 +8,21 @@ use Rattle.mg_calc.specs.declared.port_kind.PortKind.{PortKind}
 use Rattle.mg_calc.specs.Shape.{port_cmp}
 use Rattle.mg_kinds.specs.Ports.{port}
 
+-- a port p put into a list of q and ports, by how p compares with q; more is the list of ports with p put into it
 abbrev pub put_by : Ordering → PortKind → PortKind → List PortKind → List PortKind → List PortKind
 put_by Less p q ports more = p ∷ q ∷ ports
 put_by Equal p q ports more = q ∷ ports
 put_by Greater p q ports more = q ∷ more
 
--- a port put before the first that comes after it; one that is there stays
+-- ports in order with a further port at its place; a port that is there already isn't put there again
 abbrev pub put_in_order : List PortKind → PortKind → List PortKind
 put_in_order [] p = p ∷ []
 put_in_order (q ∷ ports) p = put_by (port_cmp p q) p q ports (put_in_order ports p)
 
--- the ports of a node in order, each of which takes any payload
+-- a port of a node, as one that takes any payload
 abbrev pub any_port : Port → PortKind
 any_port p = port p.tag Any p.index
 
+-- the ports of a node in order, each of which takes any payload
 abbrev pub in_order : List Port → List PortKind
 in_order ports = fold (λ done p. put_in_order done (any_port p)) [] ports

@@ -14,19 +14,20 @@ use Rattle.mg_kinds.specs.declared.row.LastPort.{LastPort}
 abbrev pub port : List ℕ → Kind → ℕ → PortKind
 port tag kind index = record { tag = tag; index = index; kind = kind }
 
+-- the last port of a row, if the row has one
 abbrev pub last_port : Option LastPort → List PortKind
 last_port None = []
 last_port (Some last) = port (tag_text last.tag) last.kind 0 ∷ []
 
--- the ports of a row: so many of one tag, and after them perhaps one of another
+-- the ports of a row: its count of one tag, and after them perhaps one of another
 abbrev pub ports_in : Row → List PortKind
 ports_in row = ports (tag_text row.tag) row.count row.kind ++ last_port row.last
 
--- ports with just these tags and indexes, where none of them stands twice
+-- whether ports, of which none is given twice, are just the wanted ones by tag and index
 abbrev pub has_just : List Port → List PortKind → Bool
 has_just given wanted = (length given == length wanted) && list_all (λ p. has_port p.tag p.index given) wanted
 
--- ports with just those of a row. No tag has more ports than there are indexes.
+-- whether ports are just those of a row, which has no more ports of a tag than there are indexes
 abbrev pub has_row : List Port → Row → Bool
 has_row given row = nat_le row.count index_count && has_just given (ports_in row)
 

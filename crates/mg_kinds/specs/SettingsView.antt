@@ -1,4 +1,4 @@
--- What settings stand for.
+-- What contracts see of settings: the law, and the side packets as plain trees.
 use Rattle.mg_kinds.specs.Kinds.{SettingsView}
 use Rattle.mg_kinds.specs.Views.{plain_of}
 use Rattle.mg_kinds.specs.declared.settings.Settings.{Settings}

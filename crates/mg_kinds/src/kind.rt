@@ -104,7 +104,7 @@ fn beginning(name: &[u8]) -> Option<CalculatorKind>
     }
 }
 
-/// The calculator of a name.
+/// Returns the built-in calculator of a name, if there is one.
 pub fn kind_named(name: &[u8]) -> Option<CalculatorKind>
     ensures { result ≡ table.kind_named name.now }
 {
@@ -114,7 +114,7 @@ pub fn kind_named(name: &[u8]) -> Option<CalculatorKind>
     }
 }
 
-/// The options that stand at most once.
+/// Returns the names of a calculator's options that may be set at most once.
 pub fn single_options(kind: CalculatorKind) -> &'static [&'static str]
     ensures { table.names_of result.now ≡ table.single_options kind }
 {
@@ -130,7 +130,7 @@ pub fn single_options(kind: CalculatorKind) -> &'static [&'static str]
     }
 }
 
-/// The options that a calculator has.
+/// Returns the names of all options that a calculator has.
 pub fn all_options(kind: CalculatorKind) -> &'static [&'static str]
     ensures { table.names_of result.now ≡ table.all_options kind }
 {
@@ -172,7 +172,7 @@ fn many_and(tag: Tag, kind: Kind, count: u32, last_tag: Tag, last_kind: Kind) ->
     }
 }
 
-/// How many lanes a node has: inputs that are treated alike, or side packets that it writes.
+/// Returns how many lanes a node has: inputs that are treated alike, or side packets that it writes.
 pub fn lanes_of(kind: CalculatorKind, node: &NodeConfig) -> u32
     ensures { result ≡ table.lanes_of kind (node_view node.now) }
 {
@@ -186,7 +186,7 @@ pub fn lanes_of(kind: CalculatorKind, node: &NodeConfig) -> u32
     }
 }
 
-/// Whether a gate's control is DISALLOW.
+/// Whether a gate's control port is DISALLOW.
 pub fn disallows(node: &NodeConfig) -> bool
     ensures { result ≡ table.disallows (node_view node.now) }
 {
@@ -203,7 +203,7 @@ fn control_of(node: &NodeConfig) -> Tag
     }
 }
 
-/// When the one packet of a SidePacketToStreamCalculator stands.
+/// Returns the output tag of a SidePacketToStreamCalculator, which says at which time its only packet stands.
 pub fn moment_of(node: &NodeConfig) -> Tag
     ensures { result ≡ table.moment_of (node_view node.now) }
 {
@@ -216,7 +216,7 @@ pub fn moment_of(node: &NodeConfig) -> Tag
     }
 }
 
-/// The input streams of a calculator.
+/// Returns the input ports that a calculator has at a node. PassThroughCalculator has none here: it takes those of the node.
 pub fn inputs_of(kind: CalculatorKind, node: &NodeConfig) -> Row
     ensures { result ≡ table.inputs_of kind (node_view node.now) }
 {
@@ -251,7 +251,7 @@ pub fn inputs_of(kind: CalculatorKind, node: &NodeConfig) -> Row
     }
 }
 
-/// The output streams of a calculator.
+/// Returns the output ports that a calculator has at a node. PassThroughCalculator has none here: it takes those of the node.
 pub fn outputs_of(kind: CalculatorKind, node: &NodeConfig) -> Row
     ensures { result ≡ table.outputs_of kind (node_view node.now) }
 {
@@ -277,7 +277,7 @@ pub fn outputs_of(kind: CalculatorKind, node: &NodeConfig) -> Row
     }
 }
 
-/// The side packets that a calculator takes.
+/// Returns the ports of the side packets that a calculator takes.
 pub fn sides_of(kind: CalculatorKind) -> Row
     ensures { result ≡ table.sides_of kind }
 {
@@ -287,7 +287,7 @@ pub fn sides_of(kind: CalculatorKind) -> Row
     }
 }
 
-/// The side packets that a calculator writes.
+/// Returns the ports of the side packets that a calculator writes at a node.
 pub fn side_outputs_of(kind: CalculatorKind, node: &NodeConfig) -> Row
     ensures { result ≡ table.side_outputs_of kind (node_view node.now) }
 {

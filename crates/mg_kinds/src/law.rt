@@ -1,4 +1,4 @@
-//! Laws by options.
+//! The law of a calculator at a node, by the node's ports and options.
 ghost use Rattle.std.specs.Prelude.{◌≡◌};
 ghost use Rattle.mg_config.specs.Config.{node_view};
 ghost use Rattle.mg_kinds.specs.Kinds as laws;
@@ -16,7 +16,7 @@ use mg_config::{NodeConfig, is, truth_in_value};
 use mg_text::Field;
 use mg_time::Timestamp;
 
-/// The time of a side packet's one packet.
+/// Returns the timestamp that an output tag of a SidePacketToStreamCalculator stands for.
 fn time_of(tag: Tag) -> Timestamp
     ensures { result ≡ laws.time_of tag }
 {
@@ -142,7 +142,7 @@ fn merge_law(node: &NodeConfig) -> Law
     }
 }
 
-/// A calculator's law, if its options set it.
+/// Returns the law of a calculator at a node with these options, or none where the options don't set it.
 pub fn law_with(kind: CalculatorKind, node: &NodeConfig, options: &[&Field]) -> Option<Law>
     ensures { result ≡ laws.law_with kind (node_view node.now) (fields_of options.now) }
 {

@@ -10,14 +10,14 @@ use mg_calc::MapOp;
 use mg_config::is;
 use mg_text::Field;
 
-/// The calculators that map each number to one.
+/// The calculators of the law `Map`.
 #[derive(Clone, Copy, Debug, PartialEq, Eq)]
 pub enum MapKind {
     /// IntMapCalculator
     Operand,
 }
 
-/// The calculator of a name.
+/// Returns the calculator of a name, if a calculator of the law `Map` has it.
 pub fn map_named(name: &[u8]) -> Option<MapKind>
     ensures { result ≡ maps.map_named name.now }
 {
@@ -28,7 +28,7 @@ pub fn map_named(name: &[u8]) -> Option<MapKind>
     }
 }
 
-/// The options that a calculator has, each once at most.
+/// Returns the names of a calculator's options, each of which may be set at most once.
 pub fn map_options(kind: MapKind) -> &'static [&'static str]
     ensures { names_of result.now ≡ maps.map_options kind }
 {
@@ -45,7 +45,7 @@ fn operand_map(options: &[&Field]) -> Option<(MapOp, i64)>
     Some((op, operand))
 }
 
-/// A calculator's operation and operand, if its options set them.
+/// Returns a calculator's operation and operand, or none where its options don't set them.
 pub fn map_with(kind: MapKind, options: &[&Field]) -> Option<(MapOp, i64)>
     ensures { result ≡ maps.map_with kind (fields_of options.now) }
 {

@@ -33,7 +33,7 @@ fn is_own(names: &OwnNames, name: &[u8]) -> bool
     is(name, names.extension.as_bytes()) || is(name, names.any.as_bytes())
 }
 
-/// The fields of a field that is a calculator's own options message.
+/// Returns the fields inside a field that is the calculator's own options message, or none where it isn't.
 #[tactic(auto, using(crate::proofs::OwnFields::own_message, crate::proofs::OwnFields::other_name))]
 fn own_fields<'a>(names: &OwnNames, field: &'a Field) -> Option<&'a [Field]>
     ensures { (calculator : List ℕ) → AreOwn names.now calculator → option_map (λ list. map field_view list.now) result ≡ rules.own_fields calculator (field_view field.now) }
@@ -57,7 +57,7 @@ fn append<'a>(out: &mut Vec<&'a Field>, fields: &'a [Field]) -> Result<(), Alloc
     Ok(())
 }
 
-/// The options that stand in these fields, if these are nothing but the calculator's own messages.
+/// Returns the options that stand in the fields, or none where a field isn't an options message of the calculator.
 #[tactic(auto, using(crate::proofs::OwnFields::options_step, crate::proofs::OwnFields::options_other, crate::proofs::OwnFields::options_end))]
 pub fn options_in<'a>(
     alloc: Global,
@@ -118,7 +118,7 @@ fn count_of(name: &str, options: &[&Field]) -> usize
         .count()
 }
 
-/// Whether none of these names stands twice.
+/// Whether none of these names is the name of two options.
 #[tactic(auto, using(crate::proofs::Lists::once_not, crate::proofs::Lists::once_next, crate::proofs::Lists::once_end))]
 pub fn are_once(names: &[&str], options: &[&Field]) -> bool
     ensures { result ≡ rules.are_once (names_of names.now) (fields_of options.now) }
@@ -131,7 +131,7 @@ pub fn are_once(names: &[&str], options: &[&Field]) -> bool
     true
 }
 
-/// What an option is set to, if it is set.
+/// Returns what the first option of a name is set to, if there is one.
 #[tactic(auto, using(crate::proofs::Lists::set_here, crate::proofs::Lists::set_skip, crate::proofs::Lists::set_none))]
 pub fn set_to<'a>(name: &str, options: &[&'a Field]) -> Option<&'a TreeValue>
     ensures { option_map value_view (option_copied result) ≡ rules.set_to name.now (fields_of options.now) }
@@ -144,7 +144,7 @@ pub fn set_to<'a>(name: &str, options: &[&'a Field]) -> Option<&'a TreeValue>
     None
 }
 
-/// The number that a required option is set to.
+/// Returns the number that an option is set to, or none where it isn't set or its value is no number of 64 signed bits.
 pub fn number(name: &str, options: &[&Field]) -> Option<i64>
     ensures { result ≡ rules.number name.now (fields_of options.now) }
 {

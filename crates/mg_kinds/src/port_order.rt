@@ -7,7 +7,7 @@ use mg_value::{BlockList, Kind, MgText};
 use std::alloc::{AllocError, Global};
 use std::collections::BTreeMap;
 
-/// The ports of a node by tag, in byte order and the empty tag first, and then by index. Each takes any payload.
+/// Returns the ports of a node by tag, in byte order and the empty tag first, and then by index. Each takes any payload.
 pub fn in_order(alloc: Global, ports: &PortMap) -> Result<PortKindList, AllocError>
     ensures { IfOk result (λ list. list ≡ order.in_order ports.now) }
 {

@@ -9,14 +9,14 @@ use mg_calc::{PortKind, PortKindList};
 use mg_value::{BlockList, Kind, MgText};
 use std::alloc::{AllocError, Global};
 
-/// A port of index 0 behind others of another tag.
+/// A port of index 0 that comes behind the others of a row and has another tag.
 #[derive(Clone, Copy, Debug, PartialEq, Eq)]
 pub struct LastPort {
     pub tag: Tag,
     pub kind: Kind,
 }
 
-/// The ports of a calculator at one side: so many of a tag, and perhaps a last one of another tag.
+/// The ports of a calculator of one sort, such as its inputs: `count` of a tag, and perhaps a last one of another tag.
 #[derive(Clone, Copy, Debug, PartialEq, Eq)]
 pub struct Row {
     pub tag: Tag,
@@ -56,7 +56,7 @@ fn put_ports(
     Ok(())
 }
 
-/// The ports of a row.
+/// Returns the ports of a row, in order.
 pub fn ports_in(alloc: Global, row: Row) -> Result<PortKindList, AllocError>
     requires { row.count ≤ index_count }
     ensures { IfOk result (λ list. list ≡ ports.ports_in row) }

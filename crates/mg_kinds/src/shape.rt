@@ -6,7 +6,7 @@ use mg_calc::{Law, Shape, is_stateless, offset_of};
 use mg_value::MgText;
 use std::alloc::{AllocError, Global};
 
-/// What a calculator of a law looks like at a node with these ports (MediaPipe, Calculators: the contract of a
+/// Returns the shape that a calculator of a law has at a node with these ports (MediaPipe, Calculators: the contract of a
 /// calculator).
 pub fn shape_of(alloc: Global, name: &MgText, ports: Ports, law: &Law) -> Result<Shape, AllocError>
     ensures { IfOk result (λ made. made ≡ laws.shape_with name.now ports law.now) }

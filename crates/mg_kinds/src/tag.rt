@@ -1,7 +1,7 @@
 ghost use Rattle.std.specs.Prelude.{◌≡◌};
 ghost use Rattle.mg_kinds.specs.Tags.{tag_text};
 
-/// The tags of the ports of built-in calculators.
+/// A tag of the ports of built-in calculators.
 #[derive(Clone, Copy, Debug, PartialEq, Eq)]
 pub enum Tag {
     Untagged,
@@ -22,7 +22,7 @@ pub enum Tag {
 }
 
 impl Tag {
-    /// How it is spelled.
+    /// Returns the tag as it is spelled in a graph; empty for `Untagged`.
     pub fn text(self) -> &'static str
         ensures { result.now ≡ tag_text self }
     {

@@ -14,21 +14,21 @@ fn number_between(low: i64, high: i64, value: &TreeValue) -> Option<i64>
     if low <= n && n <= high { Some(n) } else { None }
 }
 
-/// A number above 0.
+/// Returns the number that a value says, if it is above 0.
 pub fn positive(value: &TreeValue) -> Option<i64>
     ensures { result ≡ values.positive (value_view value.now) }
 {
     number_between(1, i64::MAX, value)
 }
 
-/// The number of a timestamp of the range.
+/// Returns the number that a value says, if a timestamp in the range has it.
 pub fn timestamp_number(value: &TreeValue) -> Option<i64>
     ensures { result ≡ values.timestamp_number (value_view value.now) }
 {
     number_between(i64::MIN + 3, i64::MAX - 3, value)
 }
 
-/// How many calls a counting source has.
+/// Returns how many calls a value sets for a counting source, if it is a number from 0 to 1000000.
 pub fn call_count(value: &TreeValue) -> Option<u32>
     ensures { result ≡ values.call_count (value_view value.now) }
 {
@@ -36,7 +36,7 @@ pub fn call_count(value: &TreeValue) -> Option<u32>
     Some(n as u32)
 }
 
-/// How many packets of a limiter may be in flight.
+/// Returns how many packets a value allows a limiter in flight, if it is a number from 1 to 2147483647.
 pub fn flight_limit(value: &TreeValue) -> Option<u32>
     ensures { result ≡ values.flight_limit (value_view value.now) }
 {
@@ -53,7 +53,7 @@ fn word_in(value: &TreeValue) -> &[u8]
     }
 }
 
-/// What IntMapCalculator does.
+/// Returns the operation of IntMapCalculator that a value names, if it names one.
 pub fn operation_in(value: &TreeValue) -> Option<MapOp>
     ensures { result ≡ values.operation_in (value_view value.now) }
 {
@@ -69,7 +69,7 @@ pub fn operation_in(value: &TreeValue) -> Option<MapOp>
     }
 }
 
-/// What IntFilterCalculator keeps.
+/// Returns which numbers IntFilterCalculator is told to keep by a value, if the value names one of the choices.
 pub fn keep_in(value: &TreeValue) -> Option<Keep>
     ensures { result ≡ values.keep_in (value_view value.now) }
 {
@@ -87,7 +87,7 @@ pub fn keep_in(value: &TreeValue) -> Option<Keep>
     }
 }
 
-/// Whether it is the one way in which PacketThinnerCalculator thins.
+/// Whether a value is `ASYNC`, the only thinner type that PacketThinnerCalculator has here.
 pub fn is_asynchronous(value: &TreeValue) -> bool
     ensures { result ≡ values.is_asynchronous (value_view value.now) }
 {

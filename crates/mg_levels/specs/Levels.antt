@@ -8,30 +8,35 @@ use Rattle.mg_levels.specs.Places.{node_of, times_of, room_for, sums, TookLast}
 use Rattle.mg_levels.specs.declared.levels.Levels.{Levels}
 use Rattle.mg_levels.specs.declared.seat.LevelSeat.{LevelSeat}
 
+-- the order of the levels' nodes
 abbrev pub order_of : Levels → List ℕ
 order_of levels = levels.order
 
+-- what a seat has done at each level
 abbrev pub hands_of : LevelSeat → List HandView
 hands_of seat = map hand_view seat.hands.items
 
+-- the portion of a seat
 abbrev pub portion_of : LevelSeat → ℕ
 portion_of seat = seat.portion
 
--- how often a seat put a node in, and how often it took it out
+-- how often a seat put a node in
 abbrev pub puts_of : List ℕ → ℕ → LevelSeat → ℕ
 puts_of order node seat = total (λ (h : HandView). times_of order node h.put) (hands_of seat)
 
+-- how often a seat took a node out
 abbrev pub takes_of : List ℕ → ℕ → LevelSeat → ℕ
 takes_of order node seat = total (λ (h : HandView). times_of order node h.taken) (hands_of seat)
 
--- how often it found each level full, and empty
+-- how often a seat found each level full
 abbrev pub fulls_of : LevelSeat → List ℕ
 fulls_of seat = map (λ (h : HandView). h.fulls) (hands_of seat)
 
+-- how often a seat found each level empty
 abbrev pub empties_of : LevelSeat → List ℕ
 empties_of seat = map (λ (h : HandView). h.empties) (hands_of seat)
 
--- a seat is of these levels
+-- a seat is one of these levels
 abbrev pub IsSeatOf : Levels → LevelSeat → Type 0
 IsSeatOf levels seat = map hand_id seat.hands.items ≡ map queue_id levels.queues.items
 
@@ -39,6 +44,7 @@ IsSeatOf levels seat = map hand_id seat.hands.items ≡ map queue_id levels.queu
 abbrev pub rooms_in : Levels → List ℕ
 rooms_in levels = map ruled_capacity levels.queues.items
 
+-- there is a level for each 32 places of the order, and each has room for four entries for each of its nodes
 pub record HasRooms (levels : Levels) : Type 0 where
   pub count : length (rooms_in levels) ≡ (length (order_of levels) + 31) / 32
   pub each : (level : ℕ) → level < length (rooms_in levels) → get_or (rooms_in levels) level 0 ≡ room_for (length (order_of levels)) level
@@ -54,14 +60,14 @@ pub record SameCounts (order : List ℕ) (old new : LevelSeat) : Type 0 where
   pub fulls : fulls_of new ≡ fulls_of old
   pub empties : empties_of new ≡ empties_of old
 
--- a seat has done what two have
+-- the new seat has done what the old one and the other have
 pub record AddsCounts (order : List ℕ) (old other new : LevelSeat) : Type 0 where
   pub puts : (node : ℕ) → puts_of order node new ≡ puts_of order node old + puts_of order node other
   pub takes : (node : ℕ) → takes_of order node new ≡ takes_of order node old + takes_of order node other
   pub fulls : fulls_of new ≡ sums (fulls_of old) (fulls_of other)
   pub empties : empties_of new ≡ sums (empties_of old) (empties_of other)
 
--- at one step the level of a node was full, which is counted
+-- the level of a node was full at one moment, which is counted
 pub record FoundFullAt (levels : Levels) (node : ℕ) (old new : LevelSeat) : Type 0 where
   pub place : ℕ
   pub stands : slice_get (order_of levels) place ≡ Some node

@@ -1,4 +1,4 @@
--- Nodes by their places in an order, which are counted, and what a step at the levels finds.
+-- How often nodes stand in a list of their places in an order, and what is found at the levels.
 use Rattle.std.specs.Prelude.{◌≡◌, ℕ, suc, ◌+◌, ◌-◌, ◌*◌, ◌%◌, ◌<◌, ◌≤◌, ◌==◌, if◌then◌else◌, List, [], ◌∷◌, length, min, Option, None, Some, slice_index, slice_get, slice_set}
 use Rattle.mg_levels.specs.Balance.{weigh}
 use Rattle.mg_levels.specs.Hands.{HandView, took_from, FoundEmpty}
@@ -19,6 +19,7 @@ times x xs = weigh (once x) xs
 abbrev pub times_of : List ℕ → ℕ → List ℕ → ℕ
 times_of order node places = weigh (λ place. once node (node_of order place)) places
 
+-- 1 where this node was taken out, and 0 otherwise
 abbrev pub taken_once : Option ℕ → ℕ → ℕ
 taken_once None node = 0
 taken_once (Some x) node = once node x
@@ -33,7 +34,7 @@ sums [] ys = []
 sums (x ∷ xs) [] = []
 sums (x ∷ xs) (y ∷ ys) = min (x + y) 18446744073709551615 ∷ sums xs ys
 
--- at one step each level from one on was empty, which is counted; the others are as they were
+-- each level from this one on was empty at a moment of its own, which is counted; the others are as they were
 pub record FoundEmptyFrom (from : ℕ) (old new : List HandView) : Type 0 where
   pub count : length new ≡ length old
   pub empty : (level : ℕ) (h w : HandView) → from ≤ level → slice_get old level ≡ Some h → slice_get new level ≡ Some w → FoundEmpty h w

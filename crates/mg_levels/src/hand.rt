@@ -13,7 +13,7 @@ pub(crate) struct Hand {
     ghost idle: { pass.me.1 ≡ [] },
 }
 
-/// The first hand of a level.
+/// Makes the first hand of a level, which has found the level neither full nor empty.
 pub(crate) fn first_hand(pass: Pass<u32, Share>) -> Hand
     requires { pass.me.1 ≡ [] }
     ensures pass { result.pass ≡ pass }

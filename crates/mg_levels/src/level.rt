@@ -16,21 +16,21 @@ use std::sync::Wait;
 /// A level's queue of places.
 pub(crate) type Queue = RuledArrayQueue<u32, Share, Balance>;
 
-/// A count with one more, up to the greatest number.
+/// Returns a count with one more, up to the greatest number of 64 bits.
 fn one_more(count: u64) -> u64
     ensures { result ≡ min (count + 1) (2 ^ 64 - 1) }
 {
     count.saturating_add(1)
 }
 
-/// The sum, up to the greatest number.
+/// Returns the sum of two counts, up to the greatest number of 64 bits.
 fn sum_of(count: u64, more: u64) -> u64
     ensures { result ≡ min (count + more) (2 ^ 64 - 1) }
 {
     count.saturating_add(more)
 }
 
-/// Puts a place in, unless the level is full.
+/// Puts a place into a level, unless the level is full. Returns whether it did.
 pub(crate) fn put_at<R: Wait>(rt: &R, queue: &Queue, hand: &mut Hand, place: u32) -> bool
     requires id { hand_id hand.old ≡ queue_id queue.now }
     requires portion { 0 < (hand_view hand.old).portion }
@@ -46,7 +46,7 @@ pub(crate) fn put_at<R: Wait>(rt: &R, queue: &Queue, hand: &mut Hand, place: u32
     }
 }
 
-/// Takes out the place that was put in first, unless the level is empty.
+/// Takes out of a level the place that was put in first, unless the level is empty.
 pub(crate) fn take_at<R: Wait>(rt: &R, queue: &Queue, hand: &mut Hand) -> Option<u32>
     requires id { hand_id hand.old ≡ queue_id queue.now }
     requires portion { 0 < (hand_view hand.old).portion }
@@ -62,7 +62,7 @@ pub(crate) fn take_at<R: Wait>(rt: &R, queue: &Queue, hand: &mut Hand) -> Option
     }
 }
 
-/// Hands over a part of the portion. How much it is, is picked by the call.
+/// Hands over a part of a hand's portion, `N.amount`, which the call picks.
 fn cut<N: Amount>(queue: &Queue, hand: &mut Hand, _portion: u64) -> Pass<u32, Share>
     requires id { hand_id hand.old ≡ queue_id queue.now }
     requires portion { (_portion ≡ N.amount) × (0 < N.amount) × (N.amount < (hand_view hand.old).portion) }
@@ -72,7 +72,7 @@ fn cut<N: Amount>(queue: &Queue, hand: &mut Hand, _portion: u64) -> Pass<u32, Sh
     queue.another::<Cut<N>>(&mut hand.pass)
 }
 
-/// A new hand with a part of the portion.
+/// Makes a new hand with a part of a hand's portion.
 pub(crate) fn cut_at(queue: &Queue, hand: &mut Hand, portion: u64) -> Hand
     requires id { hand_id hand.old ≡ queue_id queue.now }
     requires portion { (0 < portion) × (portion < (hand_view hand.old).portion) }
@@ -82,7 +82,7 @@ pub(crate) fn cut_at(queue: &Queue, hand: &mut Hand, portion: u64) -> Hand
     first_hand(cut::<Brand>(queue, hand, portion))
 }
 
-/// Takes in another hand.
+/// Takes another hand of the level into a hand: its portion, what it has done and its counts.
 pub(crate) fn join_at(queue: &Queue, hand: &mut Hand, other: Hand)
     requires id { (hand_id hand.old ≡ queue_id queue.now) × (hand_id other ≡ queue_id queue.now) }
     requires portions { (0 < (hand_view hand.old).portion) × (0 < (hand_view other).portion) }
@@ -98,7 +98,7 @@ pub(crate) fn join_at(queue: &Queue, hand: &mut Hand, other: Hand)
     hand.empties = sum_of(hand.empties, empties);
 }
 
-/// The node at a place of an order. Behind the last one the order begins again.
+/// Returns the node at a place of an order. Behind the last one the order begins again.
 pub(crate) fn node_in(order: &Order, place: u32) -> u32
     requires { 0 < length order.now }
     ensures { result ≡ node_of order.now place }
@@ -106,7 +106,7 @@ pub(crate) fn node_in(order: &Order, place: u32) -> u32
     order.node_at(place % order.len())
 }
 
-/// Takes out all that is left at a level, as nodes, where no other thread uses it any more.
+/// Takes out all that is left at a level, and puts it into `left` as nodes. No other thread uses the level any more.
 pub(crate) fn drain<R: Wait>(rt: &R, queue: &Queue, hand: Hand, order: &Order, left: &mut Vec<u32>)
     requires id { hand_id hand ≡ queue_id queue.now }
     requires whole { (hand_view hand).portion ≡ whole }

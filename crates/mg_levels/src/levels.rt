@@ -10,16 +10,16 @@ use mg_value::NumberList;
 use std::alloc::{AllocError, Global};
 use std::sync::Wait;
 
-/// The nodes that were left in, in no order.
+/// The nodes that are left in the levels at the end, in no order.
 pub type LeftList = NumberList;
 
 /// Queues of nodes that may run, for threads that share them: one for each 32 places of an order of nodes (MediaPipe,
-/// Synchronization: a later node goes first), with room for four entries for each of these.
+/// Synchronization: a later node goes first), with room for four entries for each of its nodes.
 #[derive(Drop)]
 pub struct Levels {
     order: Order,
     pub(crate) queues: Vec<Queue>,
-    // For what is left at the end.
+    // An empty list with room for all that may be left at the end.
     left: Vec<u32>,
     ghost levels: { length queues.items ≡ (length order + 31) / 32 },
     ghost empty: { left.items ≡ [] },
@@ -32,7 +32,7 @@ impl Levels {
     ghost use Rattle.mg_levels.specs.Places.{once, times, taken_once, FoundEmptyFrom};
     ghost use Rattle.mg_levels.specs.Levels.{order_of, HasRooms, IsSeatOf, portion_of, HasDoneNothing, puts_of, takes_of, fulls_of, empties_of, FoundFullAt, TookNode, hands_of};
 
-    /// The levels of an order in which no node stands twice, all empty. The seat has the whole portion, 2^32.
+    /// Makes the levels of an order in which no node stands twice, all empty, and a seat that has the whole portion, 2^32.
     pub fn new(alloc: Global, order: &NumberList) -> Result<(Levels, LevelSeat), AllocError>
         requires { AllPairs (λ a b. a ≢ b) order.now }
         ensures order { IfOk result (λ r. order_of r.0 ≡ order.now) }
@@ -61,7 +61,7 @@ impl Levels {
         Ok((levels, seat))
     }
 
-    /// Puts a node in, behind those of its level, unless the level is full.
+    /// Puts a node of the order into its level, behind those that are there, unless the level is full. Returns whether it did.
     pub fn put<R: Wait>(&self, rt: &R, seat: &mut LevelSeat, node: u32) -> bool
         requires of { IsSeatOf self.now seat.old }
         requires node { Contains (order_of self.now) node }
@@ -76,7 +76,7 @@ impl Levels {
         put_at(rt, &self.queues[level], &mut seat.hands[level], place)
     }
 
-    /// Takes a node out of the last level that isn't empty, the one that was put in first.
+    /// Takes a node out of the last level that isn't empty, the one that was put in first. None where each level was found empty.
     pub fn take<R: Wait>(&self, rt: &R, seat: &mut LevelSeat) -> Option<u32>
         requires of { IsSeatOf self.now seat.old }
         ensures of { IsSeatOf self.now seat.new × (portion_of seat.new ≡ portion_of seat.old) }
@@ -90,7 +90,7 @@ impl Levels {
         Some(node_in(&self.order, place))
     }
 
-    /// What is left, once every other seat was joined into this one.
+    /// Returns the nodes that are left, once every other seat was joined into this one.
     pub fn close<R: Wait>(self, rt: &R, seat: LevelSeat) -> LeftList
         requires of { IsSeatOf self seat }
         requires whole { portion_of seat ≡ whole }

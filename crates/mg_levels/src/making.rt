@@ -17,7 +17,7 @@ pub(crate) struct Made {
     pub room: usize,
 }
 
-// A level with so many nodes goes behind the others.
+// Makes a level for so many nodes behind the others.
 fn make_level(alloc: Global, made: &mut Made, nodes: u32) -> Result<(), AllocError>
     requires nodes { (0 < nodes) × (nodes ≤ 32) }
     requires room { made.old.room < 2 ^ 40 }
@@ -31,7 +31,7 @@ fn make_level(alloc: Global, made: &mut Made, nodes: u32) -> Result<(), AllocErr
     Ok(())
 }
 
-/// All levels of an order of so many nodes.
+/// Makes all levels of an order of so many nodes.
 pub(crate) fn make_levels(alloc: Global, nodes: u32) -> Result<Made, AllocError>
     ensures { IfOk result (λ m. AreMade nodes ((nodes + 31) / 32) m) }
 {

@@ -26,7 +26,7 @@ pub(crate) fn take_last<R: Wait>(rt: &R, queues: &[Queue], hands: &mut [Hand]) -
     None
 }
 
-/// Hands over a part of the portion at each level.
+/// Hands over a part of the portion at each level, to new hands.
 pub(crate) fn cut_all(queues: &[Queue], hands: &mut [Hand], portion: u64, into: &mut Vec<Hand>)
     requires of { map hand_id hands.old ≡ map queue_id queues.now }
     requires portions { (0 < portion) × All (λ p. portion < p) (portions_in hands.old) }
@@ -39,7 +39,7 @@ pub(crate) fn cut_all(queues: &[Queue], hands: &mut [Hand], portion: u64, into: 
     }
 }
 
-/// Takes in other hands, level by level.
+/// Takes other hands into these, level by level.
 pub(crate) fn join_all(queues: &[Queue], hands: &mut [Hand], mut others: Vec<Hand>)
     requires of { (map hand_id hands.old ≡ map queue_id queues.now) × (map hand_id others.items ≡ map queue_id queues.now) }
     requires portions { All (λ p. 0 < p) (portions_in hands.old) × All (λ p. 0 < p) (portions_in others.items) }
@@ -51,7 +51,7 @@ pub(crate) fn join_all(queues: &[Queue], hands: &mut [Hand], mut others: Vec<Han
     }
 }
 
-/// Takes out all that is left.
+/// Takes out all that is left at all levels, and puts it into `left` as nodes.
 pub(crate) fn drain_all<R: Wait>(
     rt: &R,
     queues: &[Queue],

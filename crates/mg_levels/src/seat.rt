@@ -6,7 +6,7 @@ use crate::levels::Levels;
 use crate::rows::{cut_all, join_all};
 use std::alloc::{AllocError, Global};
 
-/// What a thread works with: a portion, and what it has done at each level.
+/// What a thread calls the levels with: a portion, and what it has done at each level.
 #[derive(Drop)]
 pub struct LevelSeat {
     pub(crate) hands: Vec<Hand>,
@@ -19,7 +19,8 @@ impl LevelSeat {
     ghost use Rattle.mg_levels.specs.Balance.{whole};
     ghost use Rattle.mg_levels.specs.Levels.{order_of, IsSeatOf, portion_of, HasDoneNothing, SameCounts, AddsCounts};
 
-    /// Hands over so much of the portion to a new seat, which has done nothing yet. After want of memory the seat is unchanged.
+    /// Hands over so much of the portion to a new seat, which has done nothing yet. After an `Err`, which is want of memory, the seat is
+    /// unchanged.
     pub fn split(
         &mut self,
         alloc: Global,
@@ -39,7 +40,7 @@ impl LevelSeat {
         Ok(LevelSeat { hands, portion })
     }
 
-    /// Takes over another seat's portion, and what it has done.
+    /// Takes over the portion of another seat of these levels, and what it has done.
     pub fn join(&mut self, levels: &Levels, other: LevelSeat)
         requires of { IsSeatOf levels.now self.old × IsSeatOf levels.now other }
         requires portions { portion_of self.old + portion_of other ≤ whole }

@@ -4,13 +4,14 @@ use crossbeam_queue::protocol::{Join, Lesson, Outcome, Protocol, Split};
 use std::collections::LinkedList;
 use std::marker::{Brand, PhantomData};
 
-// A portion of the right to know the whole, and the places that were put in and taken out with it. No value of it is made.
+// What a thread has of a level: a portion of the whole, and the places that it put in and took out. No value of it is made.
 pub struct Share {
     pub portion: u64,
     pub put: LinkedList<u32>,
     pub taken: LinkedList<u32>,
 }
 
+// The rule of a level: what was put in is what was taken out and what is there.
 pub struct Balance;
 
 impl Protocol<u32, Share> for Balance {
@@ -54,7 +55,7 @@ impl Lesson<u32, Share> for Takes {
     ghost fact = { Knows };
 }
 
-/// How much of a portion is handed over. A call picks it.
+/// An amount of a portion that is handed over, which a call picks.
 pub trait Amount {
     ghost use Rattle.std.specs.Prelude.{ℕ};
 
@@ -65,6 +66,7 @@ impl Amount for Brand {
     ghost amount = { 0 };
 }
 
+// Handing over an amount of a portion.
 pub struct Cut<N: Amount> {
     of: PhantomData<N>,
 }
@@ -78,6 +80,7 @@ impl<N: Amount> Split<Share> for Cut<N> {
     ghost right = { λ v. share N.amount [] [] };
 }
 
+// Making one share of two.
 pub struct Both;
 
 impl Join<Share> for Both {

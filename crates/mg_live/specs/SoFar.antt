@@ -1,5 +1,5 @@
--- Rounds under way: what free nodes have taken so far. Each entry of a list of inputs is all that had come to the graph by the end of a batch,
--- and the newest entry stands first.
+-- Rounds under way: what free nodes have taken so far. Each entry of a list of inputs is all that had come to the graph by the end of
+-- a batch, and the newest entry stands first.
 use Rattle.std.specs.Prelude.{◌≡◌, List, [], ◌∷◌, ⊤}
 use Rattle.mg_value.specs.Extension.{AreExtendedBy}
 use Rattle.mg_calc.specs.declared.inputs.Inputs.{Inputs}
@@ -9,6 +9,7 @@ use Rattle.mg_calc.specs.Equations.{IsJob}
 use Rattle.mg_free.specs.declared.plan.FreePlan.{FreePlan}
 use Rattle.mg_free.specs.Rounds.{Taken, none_taken, core_inputs, core_job, IsRound}
 
+-- the free nodes have taken this much at some point of a run with these inputs
 pub data SoFar (split : FreePlan) : List Inputs → List Taken → Type 0 where
   -- the first batch has come, and nothing is taken
   begins : {inputs : Inputs} → SoFar split (inputs ∷ []) (none_taken split)
@@ -18,13 +19,13 @@ pub data SoFar (split : FreePlan) : List Inputs → List Taken → Type 0 where
   -- a round did nothing, and a batch more has come
   comes : {inputs more : Inputs} {earlier : List Inputs} {takens : List Taken} → SoFar split (inputs ∷ earlier) takens → IsRound split inputs takens takens → SoFar split (more ∷ inputs ∷ earlier) takens
 
--- what has come after each batch: it fits the plan, and extends what came before
+-- inputs as they had come after each batch, the newest first: each fits the plan, and extends the one before
 abbrev pub HaveCome : Plan → List Inputs → Type 0
 HaveCome plan [] = ⊤
 HaveCome plan (inputs ∷ []) = InputsFit plan inputs
 HaveCome plan (inputs ∷ before ∷ earlier) = InputsFit plan inputs × (before.sides ≡ inputs.sides) × AreExtendedBy before.streams inputs.streams × HaveCome plan (before ∷ earlier)
 
--- the core goes on: what has come to it now makes a job, and its streams extend those of what had come before
+-- the core goes on: what has come to it now makes a job, and extends what had come to it before
 pub record CoreGoesOn (split : FreePlan) (inputs more : Inputs) (before after : List Taken) : Type 0 where
   pub is_job : IsJob (core_job split more after)
   pub sides : inputs.sides ≡ more.sides

@@ -14,8 +14,8 @@ ghost use Rattle.mg_free.specs.Turns.{HasCome};
 ghost use Rattle.mg_live.specs.Takes.{MayAllTurn, piece_behind};
 ghost use Rattle.mg_live.specs.SoFar.{SoFar, HaveCome, CoreGoesOn};
 
-/// Once a round does nothing and no batch is left, the rounds that were under way are all rounds of the run. Then in the solution of the
-/// core the log of each free node is lawful, and each free output is what its node's log lays.
+/// If a round does nothing after the last batch, the rounds so far are all rounds of the run. In the solution of the core the log of
+/// each free node is then lawful, and the output of each free node is the one that its law gives for its log.
 pub fn rounds_so_far_are_rounds()
     ensures all { (split : FreePlan) (inputs : Inputs) (earlier : List Inputs) (takens : List Taken) → SoFar split (inputs ∷ earlier) takens → IsRound split inputs takens takens
         → AllRounds split (reverse (inputs ∷ earlier)) (none_taken split) takens }
@@ -23,7 +23,8 @@ pub fn rounds_so_far_are_rounds()
         → SoFar (split_of plan) (inputs ∷ earlier) takens → IsRound (split_of plan) inputs takens takens → HasCome (split_of plan) inputs takens }
 {}
 
-/// While rounds are under way what has come to the core makes a job. After a round, or a batch more, it makes one that goes on from that.
+/// At each point of a run, what has come to the core makes a job. After a further round, or a further batch, it makes a job whose
+/// inputs extend those before.
 pub fn rounds_go_on()
     ensures job { (plan : Plan) (inputs : Inputs) (earlier : List Inputs) (takens : List Taken) → IsValidWithFree plan → HaveCome plan (inputs ∷ earlier) → SoFar (split_of plan) (inputs ∷ earlier) takens
         → IsJob (core_job (split_of plan) inputs takens) }
@@ -39,8 +40,8 @@ pub fn free_nodes_may_have_their_turns()
         → SoFar (split_of plan) (inputs ∷ earlier) takens → IsSolution (core_job (split_of plan) inputs takens) streams → MayAllTurn streams (split_of plan).free takens }
 {}
 
-/// A piece that a free node hands on stands behind what it handed on before: what was handed on, with the piece behind it, is the output as
-/// it is now, and the higher of the two bounds is its bound.
+/// A piece that a free node hands on goes behind what it handed on before: the packets before and those of the piece are the packets of
+/// the output as it is now, and the higher of the two bounds is its bound.
 pub fn pieces_go_behind()
     ensures packets { (before after : StreamPrefix Plain) → IsExtendedBy before after → before.packets ++ (piece_behind (length before.packets) after).packets ≡ after.packets }
     ensures bound { (before after : StreamPrefix Plain) → IsExtendedBy before after → max before.bound (piece_behind (length before.packets) after).bound ≡ after.bound }

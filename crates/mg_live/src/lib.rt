@@ -1,5 +1,5 @@
 //! Live graphs: how free nodes take packets while a graph runs, and what they hand on to its core.
-//! Answers to the rounds of mg_free, and of what is kept for them to `specs/Takes.antt`.
+//! Answers to the definitions of rounds in mg_free, and to `specs/Takes.antt`, which says what is kept of a free node.
 #![tactic(auto)]
 
 mod arrived;

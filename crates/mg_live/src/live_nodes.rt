@@ -11,14 +11,14 @@ use mg_free::{FreeNode, FreeNodeList};
 use mg_value::{Prefix, PrefixList};
 use std::alloc::{AllocError, Global};
 
-/// The free nodes of a graph that runs, each with what is kept of it.
+/// The free nodes of a graph that runs, each with its taker.
 #[derive(Drop)]
 pub struct LiveNodes {
     free: FreeNodeList,
     takers: Vec<Taker>,
 }
 
-// Free nodes that have taken nothing.
+// Returns the takers of free nodes that have taken nothing.
 fn takers_of(alloc: Global, frees: &[FreeNode]) -> Result<Vec<Taker>, AllocError>
     ensures taken { IfOk result (λ takers. HaveTaken frees.now (nothing_taken frees.now) takers.items) }
     ensures handed { IfOk result (λ takers. handed_of takers.items ≡ replicate (length frees.now) 0) }
@@ -30,7 +30,7 @@ fn takers_of(alloc: Global, frees: &[FreeNode]) -> Result<Vec<Taker>, AllocError
     Ok(takers)
 }
 
-// A round: each free node has its turn, in order. Tells whether something was done.
+// Makes a round: each free node has its turn, in order. Returns whether one of them did something.
 fn round<S: Streams>(
     frees: &[FreeNode],
     takers: &mut [Taker],
@@ -50,7 +50,7 @@ fn round<S: Streams>(
     Ok(did)
 }
 
-// The arrivals so far at the node of a place.
+// Returns the log of the taker at a place.
 fn log_at(takers: &[Taker], place: usize) -> &[Arrived]
     requires { place < length takers.now }
     ensures { (taker : TakerView) → slice_get takers.now place ≡ Some taker → result.now ≡ taker.log.items }
@@ -58,7 +58,7 @@ fn log_at(takers: &[Taker], place: usize) -> &[Arrived]
     takers[place].log()
 }
 
-// What came to each output since it was asked before.
+// Returns for each free node what was laid on its output since it was last handed on.
 fn hand_on(alloc: Global, takers: &mut [Taker]) -> Result<Vec<Prefix>, AllocError>
     ensures pieces { (frees : List FreeNodeView) (takens : List Taken) → HaveTaken frees takens takers.old
         → IfOk result (λ pieces. pieces.items ≡ pieces_behind (handed_of takers.old) (outputs_so_far frees takens)) }
@@ -74,7 +74,7 @@ fn hand_on(alloc: Global, takers: &mut [Taker]) -> Result<Vec<Prefix>, AllocErro
 }
 
 impl LiveNodes {
-    /// Free nodes that have taken nothing.
+    /// Returns free nodes that have taken nothing.
     pub fn new(alloc: Global, free: FreeNodeList) -> Result<LiveNodes, AllocError>
         ensures free { IfOk result (λ live. live.free ≡ free) }
         ensures taken { IfOk result (λ live. HaveTaken free (nothing_taken free) live.takers.items) }
@@ -84,8 +84,9 @@ impl LiveNodes {
         Ok(LiveNodes { free, takers })
     }
 
-    /// A round, in streams that have come to rest: each free node has its turn, in order. Tells whether something was done. Its cost
-    /// is the ports of the free nodes and the packets that they take. At want of memory some have had their turns.
+    /// Makes a round, in streams of a graph that can go no further: each free node has its turn, in order. Returns whether one of them did
+    /// something. The cost grows with the ports of the free nodes and the packets that they take. After an error some free nodes may
+    /// have had their turns.
     pub fn round<S: Streams>(&mut self, streams: &S) -> Result<bool, AllocError>
         requires { MayRound S.are S.has_from streams.now self.old.free self.old.takers.items }
         ensures free { self.new.free ≡ self.old.free }
@@ -99,8 +100,8 @@ impl LiveNodes {
         Ok(did)
     }
 
-    /// What came to the outputs of the free nodes since this was asked before, as further input of the last graph inputs of a core: a piece
-    /// for each free node, in order.
+    /// Returns what was laid on the outputs of the free nodes since it was last handed on, as further input of the core's last graph
+    /// inputs: a piece for each free node, in order.
     pub fn hand_on(&mut self, alloc: Global) -> Result<PrefixList, AllocError>
         ensures free { self.new.free ≡ self.old.free }
         ensures pieces { (takens : List Taken) → HaveTaken self.old.free takens self.old.takers.items
@@ -120,7 +121,7 @@ impl LiveNodes {
         self.takers.as_slice().len()
     }
 
-    /// The number in the plan of a free node, by its place among them.
+    /// Returns the number in the plan of the free node at a place, from 0 on.
     pub fn node(&self, place: usize) -> u32
         requires { place < length self.now.free }
         ensures { (free : FreeNodeView) → slice_get self.now.free place ≡ Some free → result ≡ free.node }
@@ -128,7 +129,7 @@ impl LiveNodes {
         self.free.as_slice()[place].node
     }
 
-    /// The arrivals at a free node so far, by the place of the node among them.
+    /// Returns the arrivals so far at the free node at a place, from 0 on.
     pub fn log(&self, place: usize) -> &[Arrived]
         requires { place < length self.now.takers.items }
         ensures { (takens : List Taken) (taken : Taken) → HaveTaken self.now.free takens self.now.takers.items → slice_get takens place ≡ Some taken → result.now ≡ map told taken.log }

@@ -8,19 +8,19 @@ use mg_value::Packet;
 
 /// Streams that can be read by their numbers.
 pub trait Streams {
-    /// These are the streams.
+    /// A list has these streams, by number.
     ghost are: { Self → List (StreamPrefix Plain) → Type 0 };
 
-    /// The packets of a stream, by its number, from a number of the packet on can be read: only earlier ones may be given up.
+    /// The packets of a stream can be read from a number on: only earlier ones may be given up.
     ghost has_from: { Self → ℕ → ℕ → Type 0 };
 
-    /// A packet of a stream, by its number from 0 on; none where the stream has no such packet.
+    /// Returns a stream's packet by its number, from 0 on, or none where the stream has no such packet.
     fn packet(&self, stream: u32, number: u64) -> Option<&Packet>
         requires there { has_from self.now stream number }
         requires streams { (streams : List (StreamPrefix Plain)) × are self.now streams }
         ensures { (streams : List (StreamPrefix Plain)) → are self.now streams → option_copied result ≡ slice_get (stream_of streams stream).packets number };
 
-    /// The bound of a stream.
+    /// Returns the bound of a stream.
     fn bound(&self, stream: u32) -> Timestamp
         requires { (streams : List (StreamPrefix Plain)) × are self.now streams × (stream < length streams) }
         ensures { (streams : List (StreamPrefix Plain)) → are self.now streams → result ≡ (stream_of streams stream).bound };

@@ -16,8 +16,8 @@ use mg_time::Timestamp;
 use mg_value::{Packet, PacketList, Prefix};
 use std::alloc::{AllocError, Global};
 
-/// What is kept of a free node while a graph runs: what it has come to, how many packets arrived at each port, its arrivals as they
-/// are told, whether its output is closed, and how many packets of the output were handed on.
+/// What is kept of a free node while a graph runs: its state, how many packets have arrived at each port, its log, whether its output
+/// is closed, and how many packets of the output were handed on.
 #[derive(Drop)]
 pub struct Taker {
     state: FreeState,
@@ -27,14 +27,14 @@ pub struct Taker {
     handed: usize,
 }
 
-// So many zeros.
+// Returns `count` zeros.
 fn zeros(alloc: Global, count: u32) -> Result<Vec<u64>, AllocError>
     ensures { IfOk result (λ zeros. zeros.items ≡ replicate count 0) }
 {
     vec![in alloc; 0u64; count as usize]
 }
 
-// The packets from a place on. Payloads are shared.
+// Returns copies of the packets from a place on. Payloads are shared.
 fn packets_from(alloc: Global, packets: &[Packet], from: usize) -> Result<PacketList, AllocError>
     ensures { IfOk result (λ rest. rest ≡ drop from packets.now) }
 {
@@ -45,7 +45,7 @@ fn packets_from(alloc: Global, packets: &[Packet], from: usize) -> Result<Packet
     Ok(PacketList::from_vec(rest)?)
 }
 
-// How many ports a node has after whose ends its output ends, the first ones.
+// Returns how many ports, the first ones of a node, have to end before its output ends.
 fn ending_ports(free: &FreeNode) -> u32
     ensures { (streams : List (StreamPrefix Plain)) → result ≡ length (ending free.now.law (free_inputs streams free.now)) }
 {
@@ -63,7 +63,7 @@ fn is_done<S: Streams>(streams: &S, stream: u32) -> bool
     streams.bound(stream) == Timestamp::DONE
 }
 
-// Whether the streams have ended after whose ends the output ends.
+// Whether the streams have ended that have to end before the node's output ends.
 fn has_ended<S: Streams>(free: &FreeNode, streams: &S) -> bool
     requires { (ss : List (StreamPrefix Plain)) × S.are streams.now ss × ((port stream : ℕ) → slice_get free.now.inputs port ≡ Some stream → stream < length ss) }
     ensures { (ss : List (StreamPrefix Plain)) → S.are streams.now ss → result ≡ have_ended free.now.law (free_inputs ss free.now) }
@@ -78,7 +78,7 @@ fn has_ended<S: Streams>(free: &FreeNode, streams: &S) -> bool
 }
 
 impl Taker {
-    /// A free node that has taken nothing.
+    /// Returns the taker of a free node that has taken nothing.
     pub fn new(alloc: Global, free: &FreeNode) -> Result<Taker, AllocError>
         ensures taken { IfOk result (λ taker. HasTaken free.now (record { log = []; closed = false }) taker) }
         ensures handed { IfOk result (λ taker. HasHanded free.now (record { log = []; closed = false }) taker) }
@@ -94,8 +94,8 @@ impl Taker {
         })
     }
 
-    /// The node's turn: it takes the next packet of the last port that has one; without one it closes its output, once the streams
-    /// have ended after whose ends the output ends. Tells whether it did something. Its cost is its ports and one packet.
+    /// Gives the node its turn: it takes the next packet of the last port that has one; without one it closes its output, once the streams
+    /// have ended that have to. Returns whether it did something. The cost grows with the node's ports.
     pub fn turn<S: Streams>(&mut self, free: &FreeNode, streams: &S) -> Result<bool, AllocError>
         requires { MayTurnIn S.are S.has_from streams.now free.now self.old }
         ensures taken { (ss : List (StreamPrefix Plain)) (taken : Taken) → S.are streams.now ss → HasTaken free.now taken self.old
@@ -114,7 +114,7 @@ impl Taker {
         Ok(true)
     }
 
-    // The last port at which a packet waits, if there is one.
+    // Returns the last port at which a packet waits, if there is one.
     fn last_port<S: Streams>(&self, free: &FreeNode, streams: &S) -> Option<u32>
         requires { MayTurnIn S.are S.has_from streams.now free.now self.now }
         ensures { (ss : List (StreamPrefix Plain)) (taken : Taken) → S.are streams.now ss → HasTaken free.now taken self.now
@@ -130,7 +130,7 @@ impl Taker {
         None
     }
 
-    // The packet of a port that arrives next, if there is one.
+    // Returns the packet that arrives next at a port, if there is one.
     fn next_at<'s, S: Streams>(
         &self,
         free: &FreeNode,
@@ -165,7 +165,7 @@ impl Taker {
         Ok(())
     }
 
-    // Closes the output, where it is open, once the streams have ended after whose ends it ends. Tells whether it did.
+    // Closes the output, if it is open and the streams have ended that have to. Returns whether it did.
     fn close_at_end<S: Streams>(&mut self, free: &FreeNode, streams: &S) -> bool
         requires { MayTurnIn S.are S.has_from streams.now free.now self.old }
         ensures taken { (ss : List (StreamPrefix Plain)) (taken : Taken) → S.are streams.now ss → HasTaken free.now taken self.old
@@ -181,7 +181,7 @@ impl Taker {
         true
     }
 
-    /// The arrivals so far, as they are told.
+    /// Returns the log: the arrivals so far, in order.
     pub fn log(&self) -> &[Arrived]
         ensures items { result.now ≡ self.now.log.items }
         ensures told { (free : FreeNodeView) (taken : Taken) → HasTaken free taken self.now → result.now ≡ map told taken.log }
@@ -189,7 +189,8 @@ impl Taker {
         &self.log
     }
 
-    /// What came to the output since this was asked before, with the bound as it is now. At want of memory it counts as not asked.
+    /// Returns the packets that were laid on the output since the last call, with the bound as it is now. After an error the next call
+    /// returns these packets too.
     pub fn hand_on(&mut self, alloc: Global) -> Result<Prefix, AllocError>
         ensures piece { (free : FreeNodeView) (taken : Taken) → HasTaken free taken self.old → IfOk result (λ piece. piece ≡ piece_behind self.old.handed (output_so_far free taken)) }
         ensures handed { (free : FreeNodeView) (taken : Taken) → HasTaken free taken self.old → OnOk result (HasHanded free taken self.new) }
@@ -205,7 +206,7 @@ impl Taker {
     }
 }
 
-// The bound of an output that may be closed.
+// Returns the bound of an output, which is Done if it is closed.
 fn bound_of(output: &Prefix, closed: bool) -> Timestamp
     ensures { result ≡ (if closed then done else output.now.bound) }
 {

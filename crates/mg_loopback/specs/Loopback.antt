@@ -20,7 +20,7 @@ pub record Held (X : Type 0) : Type 0 where
 abbrev pub queue_at : {X : Type 0} → ℕ → Held X → Waiting X
 queue_at port held = if port == 0 then held.loop else held.main
 
--- nothing differs but the queue of a port: the other port has the same queue, and the predecessor is the same
+-- two loopbacks differ only in the queue of a port: the other port has the same queue, and the predecessor is the same
 pub record DifferOnlyAt {X : Type 0} (port : ℕ) (held other : Held X) : Type 0 where
   pub queue : queue_at (1 - port) held ≡ queue_at (1 - port) other
   pub previous : held.previous ≡ other.previous
@@ -52,8 +52,8 @@ without (Some t) q = record {
   spare = q.spare + length (filter (λ p. nat_le p.at t) q.packets);
 }
 
--- what is held once the first packet of MAIN is answered: it is gone, and with it the packets of LOOP at or below its
--- predecessor's time; and it is the predecessor of the next one
+-- what is held once the first packet of MAIN is answered: that packet is gone, and becomes the predecessor of the next one; and the packets
+-- of LOOP at or below the time of its own predecessor are gone
 abbrev pub replied : {X : Type 0} → Held X → Held X
 replied held = record {
   loop = without held.previous held.loop;
@@ -61,20 +61,21 @@ replied held = record {
   previous = option_map (λ p. p.at) (slice_get held.main.packets 0);
 }
 
--- what is held after an answer, and after none
+-- what is held after an answer, or as before where no answer can be given yet
 abbrev pub after_answer : {X : Type 0} → Held X → Held X
 after_answer held = if is_some (next_reply held) then replied held else held
 
--- how an answer is told: a packet, or the time alone where there is nothing, or that it can't be told yet
+-- how an answer at a time is told: as a packet, or as the time alone where there is nothing
 abbrev pub told_at : ℕ → Option Plain → Answered
 told_at t None = Silent t
 told_at t (Some v) = Packet (record { at = t; value = v })
 
+-- how an answer is told, or that there is none yet
 abbrev pub told : Option (Reply Plain) → Answered
 told None = NotYet
 told (Some r) = told_at r.at r.value
 
--- the time up to which the output stream is told: that of the first packet of MAIN that waits, or else MAIN's bound
+-- how far the output stream is told: up to the time of the first packet of MAIN that waits, or to MAIN's bound
 abbrev pub reached : {X : Type 0} → Held X → ℕ
 reached held = first_time held.main.packets held.main.bound
 

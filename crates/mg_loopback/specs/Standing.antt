@@ -11,9 +11,9 @@ abbrev pub time_before : {X : Type 0} → ℕ → List (Stamped X) → Option �
 time_before zero ps = None
 time_before (suc k) ps = option_map (λ p. p.at) (slice_get ps k)
 
--- a loopback stands for the prefixes of MAIN and LOOP with k answers given: each queue stands for its prefix; k packets of
--- MAIN are gone, each of them answered; the time that is kept is that of the last of them; and a packet of LOOP is gone only
--- where it stands below that time
+-- a loopback stands for the prefixes of MAIN and LOOP with k answers given: each queue stands for its prefix; k packets of MAIN are gone,
+-- each of them answered; the predecessor's time is the time of the last of them; and a packet of LOOP is gone only where it stands below
+-- that time
 pub record StandsAfter {X : Type 0} (k : ℕ) (held : Held X) (main loop : StreamPrefix X) : Type 0 where
   pub at_main : StandsFor held.main main
   pub at_loop : StandsFor held.loop loop
@@ -22,10 +22,11 @@ pub record StandsAfter {X : Type 0} (k : ℕ) (held : Held X) (main loop : Strea
   pub previous : held.previous ≡ time_before k main.packets
   pub below : All (λ p. IsSomeAnd held.previous (λ t. p.at < t)) (take held.loop.gone loop.packets)
 
--- the prefixes of MAIN and LOOP where the stream of one port goes a step
+-- the prefix of MAIN once the stream of a port has gone a step: the new prefix where that port is MAIN
 abbrev pub main_stepped : {X : Type 0} → ℕ → StreamPrefix X → StreamPrefix X → StreamPrefix X
 main_stepped port stepped main = if port == 0 then main else stepped
 
+-- the prefix of LOOP once the stream of a port has gone a step: the new prefix where that port is LOOP
 abbrev pub loop_stepped : {X : Type 0} → ℕ → StreamPrefix X → StreamPrefix X → StreamPrefix X
 loop_stepped port stepped loop = if port == 0 then stepped else loop
 

@@ -9,7 +9,7 @@ ghost use Rattle.mg_stream.specs.Queue.{StandsFor};
 ghost use Rattle.mg_loopback.specs.Loopback.{Held, IsAsFar, next_reply};
 ghost use Rattle.mg_loopback.specs.Standing.{StandsAfter, after_replies};
 
-/// The next answer is that of the whole streams, behind those that were given.
+/// Where k answers are given, the next one is answer k of the whole streams, counted from 0.
 pub fn the_next_answer_is_the_streams()
     ensures { (k : ℕ) (held : Held Plain) (main loop : StreamPrefix Plain) → StandsAfter k held main loop → next_reply held ≡ slice_get (replies main loop) k }
 {}

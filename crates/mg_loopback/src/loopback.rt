@@ -51,7 +51,7 @@ impl Loopback {
         }
     }
 
-    /// Makes room for more packets at a port: so many appends there take no memory.
+    /// Makes room for `more` packets at a port: that many appends there take no memory. An error changes at most the room.
     pub fn reserve(&mut self, port: u32, more: u32) -> Result<(), AllocError>
         requires { port < 2 }
         ensures room { OnOk result (more ≤ (queue_at port self.new).spare) }
@@ -170,8 +170,8 @@ impl Loopback {
         self.queue(port).count()
     }
 
-    /// The time up to which the output stream is told by the answers so far: that of the first packet of MAIN that
-    /// waits, or MAIN's bound where none waits.
+    /// How far the answers so far tell the output stream: up to the time of the first packet of MAIN that waits, or to MAIN's bound where
+    /// none waits.
     pub fn out_bound(&self) -> Timestamp
         ensures reached { result ≡ reached self.now }
         ensures told { (k : ℕ) (main loop : StreamPrefix Plain) → StandsAfter k self.now main loop → result ≡ (after_replies k main loop).bound }
@@ -179,19 +179,19 @@ impl Loopback {
         self.main.first().unwrap_or(self.main.bound())
     }
 
-    /// Answers the next packet of MAIN, where it can be told, and takes it away, and with it the packets of LOOP at or
+    /// Answers the next packet of MAIN, where its answer can be told. The packet leaves its queue, and so do the packets of LOOP at or
     /// below the time of the packet of MAIN before it. Otherwise nothing changes. It takes no memory.
     pub fn answer(&mut self) -> Answered
         ensures answer { result ≡ told (next_reply self.old) }
         ensures left { self.new ≡ after_answer self.old }
 
-        // Each other answer than a packet comes exactly here.
+        // When the answer isn't a packet.
         ensures not_yet { (result ≡ Answered.NotYet)
             ↔ ((self.old.main.packets ≡ []) ⊎ IsSomeAnd self.old.previous (λ t. self.old.loop.bound ≤ t)) }
         ensures silent { (t : ℕ) → (result ≡ Answered.Silent t) ↔ (next_reply self.old ≡ Some (record { at = t; value = None })) }
         ensures unchanged { result ≡ Answered.NotYet → self.new ≡ self.old }
 
-        // In whole streams: the next of their answers, one for each packet of MAIN that is gone.
+        // In whole streams: the answer is the next one of theirs, one for each packet of MAIN that is gone.
         ensures next { (k : ℕ) (main loop : StreamPrefix Plain) → StandsAfter k self.old main loop → result ≡ told (slice_get (replies main loop) k) }
         ensures stands_after { (k : ℕ) (main loop : StreamPrefix Plain) → StandsAfter k self.old main loop → result ≢ Answered.NotYet → StandsAfter (k + 1) self.new main loop }
     {

@@ -1,4 +1,4 @@
-//! The parts of an answer.
+//! The parts of an answer: what leaves LOOP, and how the answer is told.
 ghost use Rattle.std.specs.Prelude.{◌≡◌, option_map};
 ghost use Rattle.mg_value.specs.Settled.{packet_at};
 ghost use Rattle.mg_loopback.specs.Loopback.{value_at, without, told_at};
@@ -8,7 +8,7 @@ use mg_stream::Queue;
 use mg_time::Timestamp;
 use mg_value::Packet;
 
-/// Takes the packets at or below a timestamp, and answers the one exactly at it.
+/// Takes the packets at or below a timestamp, and returns the one exactly at it.
 fn take_up_to(queue: &mut Queue, at: Timestamp) -> Option<Packet>
     ensures packet { result ≡ packet_at at queue.old.packets }
     ensures left { queue.new ≡ without (Some at) queue.old }
@@ -22,8 +22,8 @@ fn take_up_to(queue: &mut Queue, at: Timestamp) -> Option<Packet>
     queue.pop_at(at)
 }
 
-/// Takes the packets of LOOP at or below the predecessor's timestamp, where there is one, and answers the one exactly
-/// at it.
+/// Takes the packets of LOOP at or below the time of the packet of MAIN that was answered last, if there was one, and returns the one
+/// exactly at it.
 pub(crate) fn take_previous(queue: &mut Queue, previous: Option<Timestamp>) -> Option<Packet>
     ensures value { option_map (λ p. p.value) result ≡ value_at previous queue.old.packets }
     ensures left { queue.new ≡ without previous queue.old }
@@ -34,7 +34,7 @@ pub(crate) fn take_previous(queue: &mut Queue, previous: Option<Timestamp>) -> O
     }
 }
 
-/// The answer at a timestamp: the packet, stamped anew, or nothing. The payload is the packet's own.
+/// The answer at a timestamp: the packet's payload with this timestamp, or nothing.
 pub(crate) fn told_at(at: Timestamp, packet: Option<Packet>) -> Answered
     ensures { result ≡ told_at at (option_map (λ p. p.value) packet) }
 {

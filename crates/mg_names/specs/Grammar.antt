@@ -3,19 +3,19 @@
 use Rattle.std.specs.Prelude.{ℕ, ◌+◌, ◌-◌, ◌*◌, List, [], ◌∷◌, Bool, false, ◌&&◌, ◌||◌, ◌==◌, nat_le, nat_lt, Option, None, Some, if◌then◌else◌}
 use Rattle.std.specs.List.{list_all}
 
--- a byte from low to high
+-- whether a byte is from low to high, both included
 abbrev pub is_between : ℕ → ℕ → ℕ → Bool
 is_between low high byte = nat_le low byte && nat_le byte high
 
--- `0` to `9`
+-- whether a byte is a digit, `0` to `9`
 abbrev pub is_digit : ℕ → Bool
 is_digit byte = is_between 48 57 byte
 
--- `a` to `z`, or `_`
+-- whether a name may begin with a byte: `a` to `z`, or `_`
 abbrev pub begins_name : ℕ → Bool
 begins_name byte = is_between 97 122 byte || (byte == 95)
 
--- `A` to `Z`, or `_`
+-- whether a tag may begin with a byte: `A` to `Z`, or `_`
 abbrev pub begins_tag : ℕ → Bool
 begins_tag byte = is_between 65 90 byte || (byte == 95)
 
@@ -25,12 +25,12 @@ continues_name byte = begins_name byte || is_digit byte
 abbrev pub continues_tag : ℕ → Bool
 continues_tag byte = begins_tag byte || is_digit byte
 
--- a name: `[a-z_][a-z0-9_]*`
+-- whether a text is a name: `[a-z_][a-z0-9_]*`
 abbrev pub is_name : List ℕ → Bool
 is_name [] = false
 is_name (first ∷ rest) = begins_name first && list_all continues_name rest
 
--- a tag: `[A-Z_][A-Z0-9_]*`
+-- whether a text is a tag: `[A-Z_][A-Z0-9_]*`
 abbrev pub is_tag : List ℕ → Bool
 is_tag [] = false
 is_tag (first ∷ rest) = begins_tag first && list_all continues_tag rest
@@ -39,7 +39,7 @@ is_tag (first ∷ rest) = begins_tag first && list_all continues_tag rest
 abbrev pub index_count : ℕ
 index_count = 64
 
--- the number of two digits, below the count of indexes
+-- the number that two digits spell, if it is below the count of indexes
 abbrev pub two_digits : ℕ → ℕ → Option ℕ
 two_digits tens ones =
     if nat_lt (10 * tens + ones) index_count then Some (10 * tens + ones) else None

@@ -13,24 +13,25 @@ use Rattle.mg_names.specs.declared.fault.NameFault.TheVariants.{BadIndex, Gap, T
 use Rattle.mg_names.specs.declared.placed_fault.PlacedFault.{PlacedFault}
 use Rattle.mg_names.specs.declared.placed_fault.PlacedFault.TheVariants.{At, Whole, OutOfMemory}
 
--- what follows a result, unless that is a refusal
+-- goes on with the value of a result, or keeps its refusal
 abbrev pub after : {A B E : Type 0} → Result A E → (A → Result B E) → Result B E
 after (Ok value) next = next value
 after (Err refusal) next = Err refusal
 
--- an untagged port's index is its running number, and a tagged one's is 0 if none is spelled
+-- the index of a port: the running number of an untagged one; the spelled index of a tagged one, or 0 where none is spelled
 abbrev pub index_in : ℕ → Spelling → ℕ
 index_in number spelling = if bytes_eq spelling.tag [] then number else unwrap_or spelling.index 0
 
--- the port that a spelling makes where so many untagged ports stand before it
+-- the port that a spelling makes, where this number of untagged ports stands before it
 abbrev pub port_of : ℕ → Spelling → Port
 port_of number spelling = record { tag = spelling.tag; index = index_in number spelling; name = spelling.name }
 
--- an untagged port after 64 others has no index
+-- whether a text is an untagged port for which no index is left, since 64 stand before it
 abbrev pub lacks_index : ℕ → List ℕ → Bool
 lacks_index number text = is_untagged text && nat_le index_count number
 
--- the port of a text where so many untagged ports stand before it. The index is tested before the name here too.
+-- The port of a text, where this number of untagged ports stands before it, or its refusal. That no index is left is
+-- tested before the text is.
 abbrev pub port_at : ℕ → List ℕ → Result Port NameFault
 port_at number text = if lacks_index number text then Err BadIndex else after (spelling_of text) (λ spelling. Ok (port_of number spelling))
 
@@ -38,7 +39,7 @@ port_at number text = if lacks_index number text then Err BadIndex else after (s
 abbrev pub port_after : List (List ℕ) → List ℕ → Result Port NameFault
 port_after before text = port_at (count_by is_untagged before) text
 
--- a text's refusal, with the text's place
+-- the result of the text at a place, whose refusal gets that place
 abbrev pub placed_at : {A : Type 0} → ℕ → Result A NameFault → Result A PlacedFault
 placed_at place (Ok value) = Ok value
 placed_at place (Err cause) = Err (At place cause)
@@ -54,20 +55,20 @@ ports_after before (text ∷ texts) =
 abbrev pub is_at : List ℕ → ℕ → Port → Bool
 is_at tag index port = bytes_eq tag port.tag && (index == port.index)
 
--- whether one of the ports has it
+-- whether one of the ports has this tag and index
 abbrev pub has_port : List ℕ → ℕ → List Port → Bool
 has_port tag index ports = list_any (is_at tag index) ports
 
--- whether a tag and index stand twice
+-- whether two of the ports have the same tag and index
 abbrev pub stands_twice : List Port → Bool
 stands_twice [] = false
 stands_twice (port ∷ ports) = has_port port.tag port.index ports || stands_twice ports
 
--- whether a port has an index above 0 while none has its tag and the index below
+-- whether a port has an index above 0 while none of the ports has its tag and the index one lower
 abbrev pub has_gap : List Port → Bool
 has_gap ports = list_any (λ port. not (port.index == 0) && not (has_port port.tag (port.index - 1) ports)) ports
 
--- a tag and index that stand twice are refused before a gap, and both are faults of the whole list
+-- the ports, unless the list as a whole is refused: for a tag and index that stand twice, or else for a gap
 abbrev pub checked : List Port → Result (List Port) PlacedFault
 checked ports = if stands_twice ports then Err (Whole Twice) else (if has_gap ports then Err (Whole Gap) else Ok ports)
 
@@ -89,7 +90,7 @@ without_place (Err refusal) = Err (cause_of refusal)
 abbrev pub ports_of : List (List ℕ) → Result (List Port) NameFault
 ports_of texts = without_place (placed_ports_of texts)
 
--- a refusal's cause is one of texts, and never want of memory
+-- The cause that a refusal tells of a text or of the list isn't want of memory.
 abbrev pub HasCause : PlacedFault → Type 0
 HasCause (At place cause) = cause ≢ fault.OutOfMemory
 HasCause (Whole cause) = cause ≢ fault.OutOfMemory
@@ -108,7 +109,7 @@ tagged_text tag index name =
 abbrev pub text_of : Port → List ℕ
 text_of port = if bytes_eq port.tag [] then port.name else tagged_text port.tag port.index port.name
 
--- a port that a text can spell
+-- The port can be spelled: its tag is empty or a tag, its index is below 64, and its name is a name.
 pub record IsSpelled (port : Port) : Type 0 where
   pub tag : (port.tag ≡ []) ⊎ IsTrue (is_tag port.tag)
   pub index : port.index < index_count

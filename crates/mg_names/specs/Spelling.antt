@@ -6,7 +6,7 @@ use Rattle.mg_names.specs.declared.spelling.Spelling.{Spelling}
 use Rattle.mg_names.specs.declared.fault.NameFault.{NameFault}
 use Rattle.mg_names.specs.declared.fault.NameFault.TheVariants.{BadName, BadTag, BadIndex}
 
--- the colon
+-- whether a byte is a colon
 abbrev pub is_colon : ℕ → Bool
 is_colon byte = byte == 58
 
@@ -14,20 +14,21 @@ is_colon byte = byte == 58
 abbrev pub parts_of : List ℕ → List (List ℕ)
 parts_of text = slice_split is_colon text
 
--- the name is tested last
+-- the spelling with this tag, this index and a name, if the name is one
 abbrev pub named : List ℕ → Option ℕ → List ℕ → Result Spelling NameFault
 named tag index name =
     if is_name name then Ok (record { tag = tag; index = index; name = name }) else Err BadName
 
--- the tag is tested before the name
+-- the spelling of `TAG:name`; the tag is tested before the name
 abbrev pub tagged : List ℕ → List ℕ → Result Spelling NameFault
 tagged tag name = if is_tag tag then named tag None name else Err BadTag
 
--- the tag, then the index, then the name
+-- the spelling with this tag, the index that was read, if one was, and a name
 abbrev pub named_at : List ℕ → Option ℕ → List ℕ → Result Spelling NameFault
 named_at tag None name = Err BadIndex
 named_at tag (Some index) name = named tag (Some index) name
 
+-- the spelling of `TAG:index:name`; the tag is tested first, then the index, then the name
 abbrev pub indexed : List ℕ → List ℕ → List ℕ → Result Spelling NameFault
 indexed tag index name = if is_tag tag then named_at tag (index_of index) name else Err BadTag
 
@@ -43,10 +44,11 @@ spelling_of_parts _ = Err BadName
 abbrev pub spelling_of : List ℕ → Result Spelling NameFault
 spelling_of text = spelling_of_parts (parts_of text)
 
--- a text without a colon is that of an untagged port
+-- whether there is one part, as of a text without a colon
 abbrev pub is_one : List (List ℕ) → Bool
 is_one (part ∷ []) = true
 is_one _ = false
 
+-- whether a text spells an untagged port, as one without a colon does
 abbrev pub is_untagged : List ℕ → Bool
 is_untagged text = is_one (parts_of text)

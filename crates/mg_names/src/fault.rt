@@ -19,7 +19,7 @@ pub enum NameFault {
     /// The indexes of a tag don't run from 0 without gaps.
     #[error("the indexes of a tag have a gap")]
     Gap = 4,
-    /// A tag and index stand twice.
+    /// Two ports have the same tag and index.
     #[error("a tag and index stand twice")]
     Twice = 5,
     /// Want of memory.

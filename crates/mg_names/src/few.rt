@@ -1,4 +1,4 @@
-//! Few ports, which are looked through one by one. Most nodes have no more, and so no table of places.
+//! The search in lists of at most `FEW` ports, one port after the other. Most nodes have no more, and need no table of places.
 ghost use Rattle.std.specs.Prelude.{◌≡◌, ◌≢◌, ◌<◌, ◌^◌, ◌&&◌, ◌==◌, length, Ok, Err, OnOk, IfErr};
 ghost use Rattle.std.specs.Str.{bytes_eq};
 ghost use Rattle.mg_names.specs.Ports.{is_at, has_port, stands_twice, has_gap, place_of, checked};
@@ -8,10 +8,10 @@ use crate::fault::NameFault;
 use crate::placed_fault::PlacedFault;
 use crate::port::Port;
 
-/// How many ports are few.
+/// Lists of at most this many ports are searched one by one; longer ones have a table of places.
 pub(crate) const FEW: usize = 8;
 
-/// Whether a text is another.
+/// Whether two texts have the same bytes.
 #[inline]
 fn is(text: &[u8], other: &[u8]) -> bool
     ensures { result ≡ bytes_eq text.now other.now }
@@ -19,7 +19,7 @@ fn is(text: &[u8], other: &[u8]) -> bool
     text == other
 }
 
-/// Whether a port has a tag and index.
+/// Whether a port has this tag and this index.
 #[inline]
 fn is_at(tag: &[u8], index: u8, port: &Port) -> bool
     ensures { result ≡ is_at tag.now index port.now }
@@ -27,14 +27,14 @@ fn is_at(tag: &[u8], index: u8, port: &Port) -> bool
     is(tag, port.tag.as_bytes()) && index == port.index
 }
 
-/// Whether one of the ports has a tag and index.
+/// Whether one of the ports has this tag and this index.
 fn has_port(tag: &[u8], index: u8, ports: &[Port]) -> bool
     ensures { result ≡ has_port tag.now index ports.now }
 {
     ports.iter().any(|port| is_at(tag, index, port))
 }
 
-/// The place of the port with a tag and index.
+/// Returns the place, from 0 on, of the first port with this tag and index, or none where no port has them.
 pub(crate) fn place_among(ports: &[Port], tag: &[u8], index: u8) -> Option<u32>
     requires { length ports.now < 2 ^ 32 }
     ensures { result ≡ place_of tag.now index ports.now }
@@ -47,7 +47,7 @@ pub(crate) fn place_among(ports: &[Port], tag: &[u8], index: u8) -> Option<u32>
     None
 }
 
-/// Whether a tag and index stand twice.
+/// Whether two of the ports have the same tag and index.
 fn stands_twice(ports: &[Port]) -> bool
     ensures { result ≡ stands_twice ports.now }
 {
@@ -60,7 +60,7 @@ fn stands_twice(ports: &[Port]) -> bool
     false
 }
 
-/// Whether a port has an index above 0 while none has its tag and the index below.
+/// Whether a port has an index above 0 while none of the ports has its tag and the index one lower.
 fn lacks_below(ports: &[Port], port: &Port) -> bool
     ensures { result ≡ lacks_below ports.now port.now }
 {
@@ -73,7 +73,7 @@ fn has_gap(ports: &[Port]) -> bool
     ports.iter().any(|port| lacks_below(ports, port))
 }
 
-/// Refuses ports of which a tag and index stand twice, or whose indexes have a gap.
+/// Refuses ports of which two have the same tag and index, or else ports where the indexes of a tag have a gap.
 pub(crate) fn check_few(ports: &[Port]) -> Result<(), PlacedFault>
     ensures ok { OnOk result (checked ports.now ≡ Ok ports.now) }
     ensures err { IfErr result (λ fault. checked ports.now ≡ Err fault) }

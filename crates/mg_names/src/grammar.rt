@@ -1,4 +1,4 @@
-//! Names, tags and indexes by their bytes, and where a text is cut.
+//! Tests for names, tags and indexes, byte by byte, and the cutting of texts at colons.
 ghost use Rattle.std.specs.Prelude.{◌≡◌, ◌∷◌, [], MatchOption, IfOk, position};
 ghost use Rattle.std.specs.List.{list_all};
 ghost use Rattle.std.specs.Str.{IsAscii};
@@ -71,7 +71,7 @@ pub(crate) fn is_tag(text: &[u8]) -> bool
     }
 }
 
-/// The index that a text spells: 0 to 63 in decimal, without leading zeros.
+/// Returns the index that a text spells, 0 to 63 in decimal without leading zeros, or none where it spells none.
 pub(crate) fn index_of(text: &[u8]) -> Option<u8>
     ensures { result ≡ grammar.index_of text.now }
 {
@@ -91,7 +91,7 @@ fn first_colon(text: &[u8]) -> Option<usize>
     text.iter().position(|byte| *byte == b':')
 }
 
-/// A text cut at its first colon, or none where it has no colon.
+/// Returns what stands before and behind the first colon of a text, or none where the text has no colon.
 #[tactic(auto, using(crate::proofs::Parts::parts_without_colon))]
 pub(crate) fn cut(text: &[u8]) -> Option<(&[u8], &[u8])>
     ensures { MatchOption result (parts_of text.now ≡ text.now ∷ []) (λ cut. parts_of text.now ≡ cut.0.now ∷ parts_of cut.1.now) }
@@ -116,7 +116,7 @@ pub(crate) fn is_untagged(text: &[u8]) -> bool
     }
 }
 
-/// A text of its own, of ASCII bytes.
+/// Returns a new text with a copy of ASCII bytes.
 #[tactic(auto, using(crate::proofs::Parts::ascii_is_utf8))]
 pub(crate) fn owned(alloc: Global, bytes: &[u8]) -> Result<MgText, AllocError>
     requires { IsAscii bytes.now }

@@ -11,7 +11,7 @@ use crate::places::Places;
 use crate::port::Port;
 use std::alloc::{AllocError, Global};
 
-/// The places of ports, by tag and index, unless a tag and index stand twice.
+/// Returns the table of the places of ports by tag and index, or the refusal where two ports have the same tag and index.
 pub(crate) fn places_of(alloc: Global, ports: &[Port]) -> Result<Places, PlacedFault>
     requires { length ports.now < 2 ^ 32 }
     ensures places { IfOk result (λ places. (tag : List ℕ) (index : ℕ) → kept_place places tag index ≡ place_of tag index ports.now) }
@@ -37,14 +37,14 @@ fn lacks_lower(places: &Places, port: &Port) -> bool
     port.index != 0 && places.get(port.tag.as_bytes(), port.index - 1).is_none()
 }
 
-/// Whether a port has an index above 0 while no place is kept of its tag and the index below.
+/// Whether one of the ports has an index above 0 while the table has no place for its tag and the index one lower.
 pub(crate) fn any_lacks_lower(places: &Places, ports: &[Port]) -> bool
     ensures { result ≡ list_any (table.lacks_lower places.now) ports.now }
 {
     ports.iter().any(|port| lacks_lower(places, port))
 }
 
-/// The table of many ports, unless they are refused.
+/// Returns the table of the places of ports, or why they are refused: a tag and index that stand twice, or else a gap.
 fn table_of(alloc: Global, ports: &[Port]) -> Result<Places, PlacedFault>
     requires { length ports.now < 2 ^ 32 }
     ensures places { IfOk result (λ places. (tag : List ℕ) (index : ℕ) → kept_place places tag index ≡ place_of tag index ports.now) }
@@ -60,7 +60,7 @@ fn table_of(alloc: Global, ports: &[Port]) -> Result<Places, PlacedFault>
     Ok(places)
 }
 
-/// The table of ports where they aren't few, unless they are refused.
+/// Judges ports. Returns the table of their places, or none where there are at most `FEW` ports, which need no table.
 pub(crate) fn judged_places(alloc: Global, ports: &[Port]) -> Result<Option<Places>, PlacedFault>
     requires { length ports.now < 2 ^ 32 }
     ensures places { IfOk result (λ places. (tag : List ℕ) (index : ℕ) → found_in places ports.now tag index ≡ place_of tag index ports.now) }
@@ -75,7 +75,7 @@ pub(crate) fn judged_places(alloc: Global, ports: &[Port]) -> Result<Option<Plac
     }
 }
 
-/// The table of a second copy of ports that were judged.
+/// Returns the table of places for a copy of ports that were judged, or none where they had none.
 pub(crate) fn copied_places(
     alloc: Global,
     ports: &[Port],
@@ -87,7 +87,7 @@ pub(crate) fn copied_places(
     if places.is_none() {
         return Ok(None);
     }
-    // No tag and index stands twice among ports that were judged, so nothing but memory can want.
+    // Ports that were judged have no tag and index twice, so the only fault here is want of memory.
     match places_of(alloc, ports) {
         Ok(places) => Ok(Some(places)),
         Err(_) => Err(AllocError),

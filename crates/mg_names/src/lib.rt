@@ -1,5 +1,6 @@
-//! Ports by their spelling, as `TAG:index:name`: one port's text, and the ports of a list of texts with the indexes
-//! that they leave out. It answers to `spelling_of` and `ports_of` of specs/, and `text_of` is the way back.
+//! Ports as graph files spell them: `TAG:index:name`. `read_port` reads the text of one port, and `PortMap` the ports
+//! of a list of texts, with the indexes that the texts leave out; `print_port` writes the text of a port. What they
+//! return is `spelling_of`, `ports_of` and `text_of` of specs/.
 #![tactic(auto)]
 
 mod fault;

@@ -5,8 +5,8 @@ ghost use Rattle.mg_names.specs.Code.Places.{kept_place, slot_at};
 use std::alloc::{AllocError, Global};
 use std::collections::BTreeMap;
 
-/// Where the port of each tag and index stands: for each tag its places by index. A look-up takes as long as one in
-/// a tree of the tags.
+/// A table of the places of ports by tag and index: for each tag a list with a place or none at each index. A look-up
+/// takes as long as one in a tree of the tags.
 #[derive(Debug, Drop)]
 pub struct Places {
     tags: BTreeMap<Vec<u8>, Vec<Option<u32>>>,
@@ -24,7 +24,7 @@ fn set_slot(slots: &mut Vec<Option<u32>>, index: u8, place: u32) -> Result<(), A
 }
 
 impl Places {
-    /// No places.
+    /// Returns an empty table.
     pub fn new(alloc: Global) -> Places
         ensures { (tag : List ℕ) (index : ℕ) → kept_place result tag index ≡ None }
     {
@@ -33,7 +33,7 @@ impl Places {
         }
     }
 
-    /// The place that is kept of a tag and index.
+    /// Returns the place of a tag and index, or none where the table has none.
     pub fn get(&self, tag: &[u8], index: u8) -> Option<u32>
         ensures { result ≡ kept_place self.now tag.now index }
     {
@@ -46,7 +46,7 @@ impl Places {
         }
     }
 
-    /// Keeps the place of a tag and index.
+    /// Puts the place of a tag and index into the table, instead of one that was there.
     pub fn put(
         &mut self,
         alloc: Global,

@@ -12,12 +12,11 @@ use mg_value::{BlockList, MgText};
 use std::alloc::{AllocError, Global};
 use std::marker::Model;
 
-/// The ports of a graph or a node, or those of one of its sides, in the order of spelling. Contracts see it as the
-/// list of its ports.
+/// A list of ports, such as the input streams of a node, in the order in which they are spelled. Contracts see it as the list of its ports.
 #[derive(Debug, Drop)]
 pub struct PortMap {
     ports: BlockList<Port>,
-    // Where each of many ports stands. Few ports are looked through.
+    // The places by tag and index where there are more than `FEW` ports. Shorter lists are searched one by one.
     places: Option<Places>,
 }
 
@@ -39,7 +38,7 @@ impl PortMap {
     ghost use Rattle.mg_names.specs.Ports.{ports_of, placed_ports_of, HasCause, place_of};
     ghost use Rattle.mg_names.specs.Renaming as renaming;
 
-    /// No ports.
+    /// Returns a list of no ports.
     pub fn new(alloc: Global) -> PortMap
         ensures { result ≡ [] }
     {
@@ -49,9 +48,10 @@ impl PortMap {
         }
     }
 
-    /// The ports of texts, each spelled as `name`, `TAG:name` or `TAG:index:name`. Without a spelled index a port has
-    /// the index 0 of its tag, or where it is untagged its running number. The texts go in order, and the first that
-    /// spells no port is refused; then tags and indexes that stand twice, then indexes of a tag with a gap.
+    /// Reads the ports of texts, each spelled as `name`, `TAG:name` or `TAG:index:name`. A tagged port without a
+    /// spelled index has the index 0, and an untagged one its running number among the untagged. The texts go in order,
+    /// and the first that spells no port is refused; then a tag and index that stand twice, then a gap in the indexes
+    /// of a tag.
     pub fn read(alloc: Global, texts: &[MgText]) -> Result<PortMap, NameFault>
         ensures ok { IfOk result (λ map. ports_of texts.now ≡ Ok map) }
         ensures err { IfErr result (λ fault. fault ≢ NameFault.OutOfMemory → ports_of texts.now ≡ Err fault) }
@@ -64,7 +64,7 @@ impl PortMap {
         ensures ok { IfOk result (λ map. placed_ports_of texts.now ≡ Ok map) }
         ensures err { IfErr result (λ fault. fault ≢ PlacedFault.OutOfMemory → placed_ports_of texts.now ≡ Err fault) }
 
-        // Want of memory is no cause: it is a fault of its own.
+        // The cause of an `At` or `Whole` is never want of memory, which is a fault of its own.
         ensures cause { IfErr result HasCause }
     {
         let ports = BlockList::from_vec(read_ports(alloc, texts)?)?;
@@ -79,22 +79,22 @@ impl PortMap {
         self.ports.len()
     }
 
-    /// Whether there is none.
+    /// Whether there are no ports.
     pub fn is_empty(&self) -> bool
         ensures { result ≡ (length self.now == 0) }
     {
         self.ports.is_empty()
     }
 
-    /// The port at a place, from 0 on.
+    /// Returns the port at a place, from 0 on, or none past the last.
     pub fn get(&self, i: u32) -> Option<&Port>
         ensures { option_copied result ≡ slice_get self.now i }
     {
         self.ports.get(i)
     }
 
-    /// The place of the port with a tag, which is empty for the untagged, and an index. Among many ports it is looked
-    /// up in a tree of the tags.
+    /// Returns the place, from 0 on, of the port with a tag and an index, or none where no port has them. The tag of
+    /// untagged ports is empty. In a long list the place is looked up in a tree of the tags.
     pub fn find(&self, tag: &[u8], index: u8) -> Option<u32>
         ensures { result ≡ place_of tag.now index self.now }
     {
@@ -104,7 +104,7 @@ impl PortMap {
         }
     }
 
-    /// A second copy.
+    /// Returns a copy of the list of ports.
     pub fn try_clone(&self, alloc: Global) -> Result<PortMap, AllocError>
         ensures { IfOk result (λ map. map ≡ self.now) }
     {
@@ -113,7 +113,8 @@ impl PortMap {
         Ok(PortMap { ports, places })
     }
 
-    /// The ports under other names, in their order. Ports past the last name keep theirs.
+    /// Returns the ports with these names instead of their own, in order. Ports past the last name keep theirs, and
+    /// names past the last port are dropped.
     pub fn with_names(self, names: Vec<MgText>) -> PortMap
         ensures { result ≡ renaming.with_names self names.items }
     {

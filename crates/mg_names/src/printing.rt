@@ -21,8 +21,9 @@ fn written(alloc: Global, port: &Port) -> Result<String, AllocError>
     Ok(text)
 }
 
-/// The text of a port: `name` where it is untagged, `TAG:name` at index 0, and `TAG:index:name` otherwise. It is read
-/// back as the same port where it has the form of one, and an untagged one comes after as many as its index says.
+/// Returns the text of a port: `name` where it is untagged, `TAG:name` at index 0, and `TAG:index:name` otherwise. A
+/// port that can be spelled is read back from its text; an untagged one needs as many untagged ports before it as its
+/// index says.
 
 pub fn print_port(alloc: Global, port: &Port) -> Result<MgText, AllocError>
     ensures text { IfOk result (λ text. text ≡ text_of port.now) }

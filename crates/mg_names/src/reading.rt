@@ -9,7 +9,7 @@ use crate::grammar::{cut, index_of, is_name, is_tag, owned};
 use crate::spelling::Spelling;
 use std::alloc::Global;
 
-/// The last test, of the name. The tag is empty or a tag.
+/// Returns the spelling of these parts, after the last test, which is that of the name. The tag is empty or was tested.
 #[tactic(auto, using(crate::proofs::Parts::tag_is_ascii, crate::proofs::Parts::name_is_ascii))]
 fn named(alloc: Global, tag: &[u8], index: Option<u8>, name: &[u8]) -> Result<Spelling, NameFault>
     requires { IsAscii tag.now }
@@ -27,7 +27,7 @@ fn named(alloc: Global, tag: &[u8], index: Option<u8>, name: &[u8]) -> Result<Sp
     })
 }
 
-/// A tag without an index, and then the name.
+/// Returns the spelling of `TAG:name`, from its two parts.
 #[tactic(auto, using(crate::proofs::Parts::tag_is_ascii, crate::proofs::Parts::name_is_ascii))]
 fn tagged(alloc: Global, tag: &[u8], name: &[u8]) -> Result<Spelling, NameFault>
     ensures ok { IfOk result (λ spelling. spelled.tagged tag.now name.now ≡ Ok spelling) }
@@ -40,7 +40,7 @@ fn tagged(alloc: Global, tag: &[u8], name: &[u8]) -> Result<Spelling, NameFault>
     named(alloc, tag, None, name)
 }
 
-/// A tag with an index, and then the name.
+/// Returns the spelling of `TAG:index:name`, from its three parts.
 #[tactic(auto, using(crate::proofs::Parts::tag_is_ascii, crate::proofs::Parts::name_is_ascii))]
 fn indexed(alloc: Global, tag: &[u8], index: &[u8], name: &[u8]) -> Result<Spelling, NameFault>
     ensures ok { IfOk result (λ spelling. spelled.indexed tag.now index.now name.now ≡ Ok spelling) }
@@ -56,8 +56,8 @@ fn indexed(alloc: Global, tag: &[u8], index: &[u8], name: &[u8]) -> Result<Spell
     }
 }
 
-/// The spelling of a port. A text is refused by the first of these that it breaks: it has at most two colons, its
-/// tag is a tag, its index is an index, its name is a name.
+/// Reads the spelling of one port. A text is refused for the first of these rules that it breaks: it has at most two
+/// colons, its tag is a tag, its index is an index, its name is a name.
 #[tactic(auto, using(crate::proofs::Parts::third_colon_refused))]
 pub fn read_port(alloc: Global, text: &[u8]) -> Result<Spelling, NameFault>
     ensures ok { IfOk result (λ spelling. spelled.spelling_of text.now ≡ Ok spelling) }

@@ -16,7 +16,7 @@ fn copy_of(alloc: Global, port: &Port) -> Result<Port, AllocError>
     })
 }
 
-/// A second copy of ports.
+/// Returns copies of ports, in order.
 pub(crate) fn copies_of(alloc: Global, ports: &[Port]) -> Result<Vec<Port>, AllocError>
     ensures { IfOk result (λ copies. copies.items ≡ ports.now) }
 {
@@ -27,7 +27,7 @@ pub(crate) fn copies_of(alloc: Global, ports: &[Port]) -> Result<Vec<Port>, Allo
     Ok(copies)
 }
 
-/// Gives ports other names, in order.
+/// Gives ports these names instead of their own, in order. Ports past the last name keep theirs.
 #[tactic(auto, using(crate::proofs::Renamed::named_here, crate::proofs::Renamed::named_past, crate::proofs::Renamed::no_names))]
 fn name_all(ports: &mut [Port], names: Vec<MgText>)
     ensures { ports.new ≡ renaming.with_names ports.old names.items }
@@ -42,7 +42,7 @@ fn name_all(ports: &mut [Port], names: Vec<MgText>)
     }
 }
 
-/// Ports under other names, in order.
+/// Returns the ports with these names instead of their own, in order. Ports past the last name keep theirs.
 pub(crate) fn named(ports: BlockList<Port>, names: Vec<MgText>) -> BlockList<Port>
     ensures { result ≡ renaming.with_names ports names.items }
 {

@@ -6,8 +6,8 @@ use crate::grammar;
 use mg_value::MgText;
 use std::alloc::Global;
 
-/// What one port is spelled as: `name`, `TAG:name` or `TAG:index:name`. The tag of an untagged port is empty, and
-/// an index of 0 to 63 stands only where it is spelled.
+/// A port as its text spells it: `name`, `TAG:name` or `TAG:index:name`. The tag of an untagged port is empty, and the
+/// index, 0 to 63, is there only where the text spells it.
 #[derive(Debug, Drop)]
 pub struct Spelling {
     pub tag: MgText,

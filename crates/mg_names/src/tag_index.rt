@@ -15,7 +15,7 @@ fn is_tag_or_empty(text: &[u8]) -> bool
     text.is_empty() || is_tag(text)
 }
 
-/// A tag without an index.
+/// Reads `TAG`, a tag alone, which has the index 0.
 #[tactic(auto, using(crate::proofs::Parts::tag_is_ascii))]
 fn tag_alone(alloc: Global, tag: &[u8]) -> Result<(MgText, u8), NameFault>
     ensures ok { IfOk result (λ pair. spelled.tag_alone tag.now ≡ Ok pair) }
@@ -28,7 +28,7 @@ fn tag_alone(alloc: Global, tag: &[u8]) -> Result<(MgText, u8), NameFault>
     Ok((owned(alloc, tag)?, 0))
 }
 
-/// A tag, which may be empty, before an index.
+/// Reads `TAG:index` or `:index`, from its two parts.
 #[tactic(auto, using(crate::proofs::Parts::tag_or_empty_is_ascii))]
 fn tag_before(alloc: Global, tag: &[u8], index: &[u8]) -> Result<(MgText, u8), NameFault>
     ensures ok { IfOk result (λ pair. spelled.tag_before tag.now index.now ≡ Ok pair) }
@@ -44,8 +44,9 @@ fn tag_before(alloc: Global, tag: &[u8], index: &[u8]) -> Result<(MgText, u8), N
     }
 }
 
-/// The tag and index of a text. A tag alone has the index 0, and a tag before an index may be empty. A text is refused
-/// by the first of these that it breaks: it has at most one colon, its tag is a tag, its index is an index.
+/// Reads the tag and index of a text. A tag alone has the index 0, and a tag before an index may be empty. A text is
+/// refused for the first of these rules that it breaks: it has at most one colon, its tag is a tag, its index is an
+/// index.
 #[tactic(auto, using(crate::proofs::Parts::second_colon_refused))]
 pub fn read_tag_index(alloc: Global, text: &[u8]) -> Result<(MgText, u8), NameFault>
     ensures ok { IfOk result (λ pair. spelled.tag_index_of text.now ≡ Ok pair) }
@@ -74,8 +75,9 @@ fn written(alloc: Global, tag: &MgText, index: u8) -> Result<String, AllocError>
     Ok(text)
 }
 
-/// The text of a tag, which may be empty, and an index: `TAG` at index 0, `TAG:index` at another one, and `:index` for
-/// the empty tag. It is read back as the same where the tag is one and the index is below 64.
+/// Returns the text of a tag, which may be empty, and an index: `TAG` at index 0, `TAG:index` at another one, and
+/// `:index` for the empty tag. Both are read back from the text where the tag is empty or a tag, and the index is below
+/// 64.
 pub fn print_tag_index(alloc: Global, tag: &MgText, index: u8) -> Result<MgText, AllocError>
     ensures text { IfOk result (λ text. text ≡ spelled.text_of_tag_index tag.now index) }
     ensures read_back { IfOk result (λ text. spelled.IsTagIndex tag.now index → spelled.tag_index_of text ≡ Ok (tag.now, index)) }

@@ -11,6 +11,7 @@ pub record StandsOver (plan : Plan) (inputs : Inputs) (net : NetView) : Type 0 w
   pub stands : StandsForSome net
   pub of_job : stands.job.job ≡ record { plan = plan; inputs = inputs }
 
+-- a net is driven: it is of this plan, its nodes are begun, and it stands for a job of this plan and these inputs
 pub record IsDriven (plan : Plan) (inputs : Inputs) (net : NetView) : Type 0 where
   pub of_plan : net.plan ≡ plan
   pub running : IsRunning net

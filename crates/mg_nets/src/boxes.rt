@@ -32,7 +32,7 @@ fn tally(alloc: Global) -> Result<LawBox, Fail>
     Ok(LawBox::new(alloc, outer(alloc)?, true)?)
 }
 
-/// What is known of them.
+/// Returns what is known of the two calculators: the shape and the law of each.
 pub(crate) fn outers(alloc: Global) -> Result<Vec<OuterShape>, Fail>
     ensures { IfOk result (λ outers. outers.items ≡ two_outers) }
 {
@@ -41,7 +41,7 @@ pub(crate) fn outers(alloc: Global) -> Result<Vec<OuterShape>, Fail>
     Ok(vec![in alloc; first, second]?)
 }
 
-/// Two calculators that count the sets which they are shown, and tell their calls.
+/// Returns two calculators that count the sets which they are shown, and keep a log of their calls.
 pub(crate) fn tallies(alloc: Global) -> Result<Vec<LawBox>, Fail>
     ensures { IfOk result (λ tallies. tallies.items ≡ two_tallies) }
 {

@@ -1,27 +1,29 @@
-//! Graphs, packet lines, and what comes of a net over them.
+//! Graphs with packet lines, and what comes out of their nets.
 use crate::graphs::{
     adding, choosing, counting, merging, one_two_three, passing, stalling, summing, tallying,
     throttling,
 };
 
-/// A graph over packet lines.
+/// A graph with packet lines, and what is wanted of its net.
 #[derive(Clone, Copy)]
 pub struct Case<'a> {
+    /// The text of the graph file.
     pub graph: &'a str,
+    /// The packet lines of its inputs.
     pub lines: &'a str,
-    /// The limit of the queues under which it is tried.
+    /// The limit of the queues under which the graph is tried.
     pub limit: i32,
-    /// What comes out of it at rest, as `come_out` shows it: one of these lines. A line may have `..` in place of the sets, whatever
-    /// they are.
+    /// What may come out of the net at rest, as `come_out` shows it: one of these lines. `..` in place of a line's sets stands for any
+    /// sets.
     pub wanted: &'a str,
-    /// The calls of the two calculators that come back at its end.
+    /// The calls of the two calculators that come back at the end, as `show_boxes` shows them.
     pub calls: &'a str,
 }
 
 /// How many cases there are.
 pub const CASES: u32 = 9;
 
-/// The case of a number.
+/// Returns the case of this number, below `CASES`.
 pub fn case_of(number: u32) -> Case<'static> {
     match number {
         0 => passed(),
@@ -36,7 +38,7 @@ pub fn case_of(number: u32) -> Case<'static> {
     }
 }
 
-/// A case under another limit.
+/// Returns a case with another limit.
 pub fn under(case: Case<'_>, limit: i32) -> Case<'_> {
     Case {
         graph: case.graph,
@@ -47,7 +49,7 @@ pub fn under(case: Case<'_>, limit: i32) -> Case<'_> {
     }
 }
 
-// What a line says behind the sets.
+// Returns what a line has behind its sets.
 fn behind_sets(line: &str) -> &str {
     match line.split_once('|') {
         Some((_, behind)) => behind,
@@ -55,7 +57,7 @@ fn behind_sets(line: &str) -> &str {
     }
 }
 
-// Whether a line is what is wanted.
+// Whether a line is the wanted one, which may have `..` in place of its sets.
 fn is_line(wanted: &str, shown: &str) -> bool {
     if wanted == shown {
         return true;
@@ -66,12 +68,12 @@ fn is_line(wanted: &str, shown: &str) -> bool {
     }
 }
 
-/// Whether what comes out of a case is wanted.
+/// Whether what comes out of a case is one of its wanted lines.
 pub(crate) fn is_wanted(case: &Case, shown: &str) -> bool {
     case.wanted.split('\n').any(|line| is_line(line, shown))
 }
 
-// The packet is laid and taken, and all are closed.
+// One packet is laid and taken, and all streams are closed.
 fn passed() -> Case<'static> {
     Case {
         graph: passing(),
@@ -82,7 +84,7 @@ fn passed() -> Case<'static> {
     }
 }
 
-// The packets at 10 are one set, and the first one goes on. All that is laid is claimed or taken, so nothing is left.
+// The packets at 10 are one set, of which the first one goes on. All that is laid is claimed or taken, so nothing is left.
 fn merged() -> Case<'static> {
     Case {
         graph: merging(),
@@ -95,8 +97,8 @@ fn merged() -> Case<'static> {
     }
 }
 
-// The second choice is of no stream, and its node stops at it, with its output raised to its time. The first choice waits for the
-// packets of b, and with the second one all go that have come. Where those of a come only then, both wait there in vain.
+// The second packet of sel chooses a stream that isn't there: the node fails, with its output raised to that time. The first choice waits
+// for the packets of b, and at the second one all packets go that have come. If those of a come only after that, both wait in vain.
 fn chosen() -> Case<'static> {
     Case {
         graph: choosing(),
@@ -109,7 +111,7 @@ fn chosen() -> Case<'static> {
     }
 }
 
-/// Of three answers the first is nothing. The last sum waits at LOOP: it would answer a packet behind 30.
+/// The first of the loopback's three answers is empty. The last sum waits at LOOP: it would be the answer to a packet behind 30.
 pub fn summed() -> Case<'static> {
     Case {
         graph: summing(),
@@ -142,7 +144,7 @@ pub fn throttled() -> Case<'static> {
     }
 }
 
-/// Each packet is ten more.
+/// Each packet comes out greater by ten.
 pub fn added() -> Case<'static> {
     Case {
         graph: adding(),

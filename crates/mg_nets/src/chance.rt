@@ -1,20 +1,20 @@
 //! Numbers at random.
 
-/// Numbers of a linear congruence, each of which follows from the one before. The first follows from the seed, and isn't drawn: it
-/// differs too little from those of the seeds beside it.
+/// Numbers of a linear congruence, each of which follows from the one before. The first follows from the seed, and isn't drawn: seeds
+/// beside each other have first numbers that differ too little.
 #[derive(Drop)]
 pub struct Chance {
     number: u64,
 }
 
-// The next number of the congruence.
+// Returns the number that follows in the congruence.
 fn next(number: u64) -> u64 {
     number
         .wrapping_mul(6364136223846793005)
         .wrapping_add(1442695040888963407)
 }
 
-// A place below a number of places, picked by the higher half of a drawn number.
+// Returns a place below `places`, picked by the higher half of a drawn number, or 0 where there are no places.
 fn place_of(number: u64, places: u32) -> u32 {
     if places == 0 {
         return 0;
@@ -23,11 +23,12 @@ fn place_of(number: u64, places: u32) -> u32 {
 }
 
 impl Chance {
+    /// Returns the numbers that follow from a seed.
     pub fn new(seed: u64) -> Chance {
         Chance { number: next(seed) }
     }
 
-    /// Draws a place below a number of places.
+    /// Draws a place below `places`, or 0 where there are no places.
     pub fn below(&mut self, places: u32) -> u32 {
         self.number = next(self.number);
         place_of(self.number, places)

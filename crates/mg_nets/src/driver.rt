@@ -26,7 +26,7 @@ pub struct Driver {
     pub net: Net<LawBox>,
 }
 
-// The net of a plan over inputs. Two calculators are handed in, and no node is begun.
+// Makes the net of a plan over inputs, with two calculators that are handed in. No node is begun.
 #[tactic(auto, using(crate::proofs::Driving::made_plan))]
 fn net_of(alloc: Global, plan: &Plan, inputs: &Inputs) -> Result<Net<LawBox>, Fail>
     requires job { IsJob (record { plan = plan.now; inputs = inputs.now }) }
@@ -41,7 +41,7 @@ fn net_of(alloc: Global, plan: &Plan, inputs: &Inputs) -> Result<Net<LawBox>, Fa
     }
 }
 
-// The net of a plan over inputs, with its nodes begun.
+// Makes the net of a plan over inputs, and begins its nodes.
 fn begun(alloc: Global, plan: &Plan, inputs: &Inputs) -> Result<Net<LawBox>, Fail>
     requires job { IsJob (record { plan = plan.now; inputs = inputs.now }) }
     requires fit { OutersFit plan.now two_outers }
@@ -57,7 +57,7 @@ fn begun(alloc: Global, plan: &Plan, inputs: &Inputs) -> Result<Net<LawBox>, Fai
     }
 }
 
-// The net of a plan over inputs that perhaps don't fit it.
+// Makes the net of a plan over inputs, and begins its nodes. Inputs that don't fit the plan are an error.
 fn net_over(alloc: Global, plan: &Plan, inputs: &Inputs) -> Result<Net<LawBox>, Fail>
     requires valid { IsValid plan.now }
     requires fit { OutersFit plan.now two_outers }
@@ -69,7 +69,7 @@ fn net_over(alloc: Global, plan: &Plan, inputs: &Inputs) -> Result<Net<LawBox>, 
     begun(alloc, plan, inputs)
 }
 
-/// The net of a plan over inputs, with its nodes begun.
+/// Makes the net of a plan over inputs, and begins its nodes. Inputs that don't fit the plan are an error.
 pub fn driver_over(alloc: Global, plan: Plan, inputs: Inputs) -> Result<Driver, Fail>
     requires valid { IsValid plan }
     requires fit { OutersFit plan two_outers }
@@ -85,7 +85,7 @@ pub fn driver_over(alloc: Global, plan: Plan, inputs: Inputs) -> Result<Driver, 
     }
 }
 
-/// The net of a graph over packet lines, with its nodes begun.
+/// Makes the net of a graph over packet lines, and begins its nodes.
 pub fn driver_of(alloc: Global, graph: &str, lines: &str) -> Result<Driver, Fail>
     ensures { IfOk result (λ d. IsDriven d.plan d.inputs d.net) }
 {
@@ -99,7 +99,7 @@ pub fn driver_of(alloc: Global, graph: &str, lines: &str) -> Result<Driver, Fail
     }
 }
 
-/// Lets a net go.
+/// Drops a net with its plan and its inputs.
 pub(crate) fn let_go(driver: Driver) {
     drop(driver);
 }
@@ -118,7 +118,7 @@ fn is_event_of(plan: &Plan, event: Event) -> bool
     }
 }
 
-/// Makes a step.
+/// Makes a step, and returns its effect. An event of a node or an edge that isn't there is an error.
 pub fn act(driver: &mut Driver, event: Event) -> Result<Effect, Fail>
     requires { IsDriven driver.old.plan driver.old.inputs driver.old.net }
     ensures { IsDriven driver.new.plan driver.new.inputs driver.new.net }
@@ -129,7 +129,7 @@ pub fn act(driver: &mut Driver, event: Event) -> Result<Effect, Fail>
     Ok(driver.net.act(event, &StillGate))
 }
 
-/// Makes steps until none would do anything, each Process call through a gate. Each step that does something is told.
+/// Makes steps until none would do anything, each Process call through a gate. Each step that does something is told to the hearer.
 pub fn sweep<G: Gate, H: Hears>(driver: &mut Driver, gate: &G, hearer: &mut H) -> Result<(), Fail>
     requires { IsDriven driver.old.plan driver.old.inputs driver.old.net }
     ensures { IsDriven driver.new.plan driver.new.inputs driver.new.net }
@@ -140,7 +140,7 @@ pub fn sweep<G: Gate, H: Hears>(driver: &mut Driver, gate: &G, hearer: &mut H) -
     }
 }
 
-/// The next set of the graph's outputs, if there is one.
+/// Takes the next set of the graph's outputs, if there is one.
 pub(crate) fn take_out(alloc: Global, driver: &mut Driver) -> Result<Option<InputSet>, Fail>
     requires { IsDriven driver.old.plan driver.old.inputs driver.old.net }
     ensures { IsDriven driver.new.plan driver.new.inputs driver.new.net }
@@ -152,7 +152,7 @@ pub(crate) fn take_out(alloc: Global, driver: &mut Driver) -> Result<Option<Inpu
     Ok(None)
 }
 
-/// Gives up the packets that all have got.
+/// Gives up the packets that have come along all edges of their streams.
 pub fn trim(driver: &mut Driver)
     requires { IsDriven driver.old.plan driver.old.inputs driver.old.net }
     ensures { IsDriven driver.new.plan driver.new.inputs driver.new.net }
@@ -160,12 +160,12 @@ pub fn trim(driver: &mut Driver)
     driver.net.trim();
 }
 
-/// How many packets are in the net.
+/// Returns how many packets are in the net.
 pub fn held(driver: &Driver) -> u64 {
     driver.net.held()
 }
 
-/// How far the net has come.
+/// Returns how far the net has come.
 pub(crate) fn report(alloc: Global, driver: &Driver) -> Result<Report, Fail> {
     Ok(driver.net.report(alloc)?)
 }

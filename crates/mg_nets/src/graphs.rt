@@ -2,31 +2,31 @@
 use std::alloc::Global;
 use std::test::Fail;
 
-/// A graph with a limit of its queues, below 0 with none.
+/// Returns a graph with a limit of its queues; a limit below 0 is none.
 pub(crate) fn limited(alloc: Global, limit: i32, graph: &str) -> Result<String, Fail> {
     Ok(format!(in alloc; "max_queue_size: {limit} {graph}")?)
 }
 
-/// One packet goes through.
+/// Returns a graph of one node that passes packets through.
 pub fn passing() -> &'static str {
     r#"input_stream: "in" output_stream: "out"
 node { calculator: "PassThroughCalculator" input_stream: "in" output_stream: "out" }"#
 }
 
-/// Two streams become one.
+/// Returns a graph that merges two streams into one.
 pub fn merging() -> &'static str {
     r#"input_stream: "a" input_stream: "b" output_stream: "out"
 node { calculator: "MergeCalculator" input_stream: "a" input_stream: "b" output_stream: "out" }"#
 }
 
-/// A stream tells from which of two others a packet is taken.
+/// Returns a graph in which a stream tells from which of two others a packet is taken.
 pub(crate) fn choosing() -> &'static str {
     r#"input_stream: "a" input_stream: "b" input_stream: "sel" output_stream: "out"
 node { calculator: "MuxCalculator" input_stream: "INPUT:0:a" input_stream: "INPUT:1:b"
   input_stream: "SELECT:sel" output_stream: "OUTPUT:out" }"#
 }
 
-/// Each sum takes the one before in.
+/// Returns a graph with a loop: each sum is that of a packet and of the sum before.
 pub fn summing() -> &'static str {
     r#"input_stream: "in" output_stream: "sum"
 node { calculator: "PreviousLoopbackCalculator" input_stream: "MAIN:in" input_stream: "LOOP:sum"
@@ -34,7 +34,7 @@ node { calculator: "PreviousLoopbackCalculator" input_stream: "MAIN:in" input_st
 node { calculator: "IntSumCalculator" input_stream: "in" input_stream: "prev" output_stream: "sum" }"#
 }
 
-/// Sums of which only the even ones come back, so that the loop waits behind an odd one.
+/// Returns a graph of sums of which only the even ones come back, so that the loop waits behind an odd one.
 pub fn stalling() -> &'static str {
     r#"input_stream: "in" output_stream: "sum"
 node { calculator: "PreviousLoopbackCalculator" input_stream: "MAIN:in" input_stream: "LOOP:kept"
@@ -44,7 +44,7 @@ node { calculator: "IntFilterCalculator" input_stream: "sum" output_stream: "kep
   options { [mediapipe.IntFilterCalculatorOptions.ext] { keep: EVEN } } }"#
 }
 
-/// A source whose packets wait for a filter that lets none through.
+/// Returns a graph with a source whose packets wait at a merge for a filter that lets none through.
 pub(crate) fn throttling() -> &'static str {
     r#"output_stream: "out"
 node { calculator: "CountingSourceCalculator" output_stream: "n"
@@ -54,14 +54,14 @@ node { calculator: "IntFilterCalculator" input_stream: "n" output_stream: "f"
 node { calculator: "MergeCalculator" input_stream: "f" input_stream: "n" output_stream: "out" }"#
 }
 
-/// Several packets are worked on at once.
+/// Returns a graph of one node that may work on four packets at once.
 pub fn adding() -> &'static str {
     r#"input_stream: "in" output_stream: "out"
 node { calculator: "IntMapCalculator" input_stream: "in" output_stream: "out" max_in_flight: 4
   options { [mediapipe.IntMapCalculatorOptions.ext] { op: ADD operand: 10 } } }"#
 }
 
-/// Two calculators of one kind are handed in: they count all packets, and the even ones.
+/// Returns a graph with two calculators of one kind that are handed in: they count all packets, and the even ones.
 pub fn counting() -> &'static str {
     r#"input_stream: "in" output_stream: "all" output_stream: "some"
 node { calculator: "TallyCalculator" input_stream: "in" output_stream: "all" }
@@ -70,13 +70,13 @@ node { calculator: "IntFilterCalculator" input_stream: "in" output_stream: "even
 node { calculator: "TallyCalculator" input_stream: "even" output_stream: "some" }"#
 }
 
-/// A calculator that is handed in counts all packets.
+/// Returns a graph of one node whose calculator is handed in and counts all packets.
 pub(crate) fn tallying() -> &'static str {
     r#"input_stream: "in" output_stream: "out"
 node { calculator: "TallyCalculator" input_stream: "in" output_stream: "out" }"#
 }
 
-/// Three packets on one stream.
+/// Returns the lines of three packets on one stream.
 pub(crate) fn one_two_three() -> &'static str {
     r#"{"stream":"in","ts":10,"value":1}
 {"stream":"in","ts":20,"value":2}

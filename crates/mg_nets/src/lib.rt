@@ -1,6 +1,6 @@
-//! What the crates of tests share that drive whole nets: a net with its plan and its inputs, two calculators that are handed in, what
-//! comes out of it, graphs with what they come to, graphs at random, and what owns a net while a way of the tests drives it. Answers
-//! to `specs/Driven.antt`.
+//! What the crates of tests that drive whole nets share: a net with its plan and its inputs, two calculators that are handed in, what comes
+//! out of a net, graphs with what they come to, graphs at random, and what owns a net while a way of the tests drives it. Answers to
+//! `specs/Driven.antt`.
 #![tactic(auto)]
 
 mod boxes;

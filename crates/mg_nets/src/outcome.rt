@@ -7,7 +7,7 @@ use mg_tables::show_set_at;
 use std::alloc::Global;
 use std::test::Fail;
 
-/// All sets of the outputs that are there, a blank behind each.
+/// Takes all sets of the graph's outputs that are there, and shows them, a blank behind each. 2,000 sets or more are an error.
 pub fn all_taken(alloc: Global, driver: &mut Driver) -> Result<String, Fail>
     requires { IsDriven driver.old.plan driver.old.inputs driver.old.net }
     ensures { IsDriven driver.new.plan driver.new.inputs driver.new.net }
@@ -22,13 +22,13 @@ pub fn all_taken(alloc: Global, driver: &mut Driver) -> Result<String, Fail>
     Err(Fail::from("there is always a set"))
 }
 
-/// What a net tells of how far it has come.
+/// Shows what a net tells of how far it has come.
 pub fn told(alloc: Global, driver: &Driver) -> Result<String, Fail> {
     let report = report(alloc, driver)?;
     show_report(alloc, &report)
 }
 
-/// What comes out of a net at rest; and then, once all that can be is given up, how many packets are in it, and how far it has come.
+/// Shows what comes out of a net at rest; and then, once all packets are given up that can be, how many are in it, and how far it has come.
 pub(crate) fn come_out(alloc: Global, driver: &mut Driver) -> Result<String, Fail>
     requires { IsDriven driver.old.plan driver.old.inputs driver.old.net }
     ensures { IsDriven driver.new.plan driver.new.inputs driver.new.net }
@@ -40,7 +40,7 @@ pub(crate) fn come_out(alloc: Global, driver: &mut Driver) -> Result<String, Fai
     Ok(format!(in alloc; "{}| {held} | {}", sets.as_str(), told.as_str())?)
 }
 
-// What a net tells once it is wound up.
+// Winds a net up, and shows what it tells then.
 fn told_wound_up(alloc: Global, driver: &mut Driver) -> Result<String, Fail>
     requires { IsDriven driver.old.plan driver.old.inputs driver.old.net }
 {
@@ -48,7 +48,7 @@ fn told_wound_up(alloc: Global, driver: &mut Driver) -> Result<String, Fail>
     told(alloc, driver)
 }
 
-// The calls of the calculators that a net gives back.
+// Shows the calls of the calculators that a net gives back.
 fn given_back(alloc: Global, driver: Driver) -> Result<String, Fail> {
     let Driver { plan, inputs, net } = driver;
     drop(plan);
@@ -59,7 +59,7 @@ fn given_back(alloc: Global, driver: Driver) -> Result<String, Fail> {
     calls
 }
 
-/// What a net tells once it is wound up, and the calls of the calculators that come back.
+/// Winds a net up, and shows what it tells then, and the calls of the calculators that come back.
 pub(crate) fn ended(alloc: Global, driver: Driver) -> Result<(String, String), Fail>
     requires { IsDriven driver.plan driver.inputs driver.net }
 {

@@ -1,4 +1,4 @@
-//! Plans of graphs that are written as texts, and inputs that are written as packet lines.
+//! Plans of graphs that are written as texts.
 ghost use Rattle.std.specs.Prelude.{IfOk};
 ghost use Rattle.mg_calc.specs.Plan.{IsValid, OutersFit};
 ghost use Rattle.mg_nets.specs.Handed.{two_outers};

@@ -1,5 +1,5 @@
-//! Graphs at random: a stream that is handed in, or a source, or both, and behind them nodes, each of which reads streams that stand
-//! before it. The last stream is the graph's output. No loop goes round, and no node fails.
+//! Graphs at random: a stream that is handed in, or a source, or both, and behind them nodes, each of which reads streams that stand before
+//! it. The last stream is the graph's output. No graph has a loop, and no node fails.
 use crate::cases::Case;
 use crate::chance::Chance;
 use std::alloc::Global;
@@ -12,14 +12,14 @@ pub struct Drawn {
     pub lines: String,
 }
 
-// A source of three packets, at 0 to 2.
+// Returns a source of three packets, at 0 to 2.
 fn source() -> &'static str {
     r#"node { calculator: "CountingSourceCalculator" output_stream: "s0"
   node_options: { [type.googleapis.com/mediapipe.CountingSourceCalculatorOptions] { count: 3 } } }
 "#
 }
 
-// Three packets of a stream, at 1 to 3.
+// Appends the lines of three packets of a stream, at 1 to 3.
 fn put_lines(lines: &mut String, chance: &mut Chance, stream: u32) -> Result<(), Fail> {
     for at in 1..4u32 {
         let value = chance.below(10);
@@ -31,7 +31,7 @@ fn put_lines(lines: &mut String, chance: &mut Chance, stream: u32) -> Result<(),
     Ok(())
 }
 
-// Puts in what stands before the nodes. Tells how many streams these are.
+// Appends the source, or the input with its lines, or both. Returns how many streams these are.
 fn put_beginning(drawn: &mut Drawn, chance: &mut Chance) -> Result<u32, Fail> {
     let kind = chance.below(3);
     if kind > 0 {
@@ -46,7 +46,7 @@ fn put_beginning(drawn: &mut Drawn, chance: &mut Chance) -> Result<u32, Fail> {
     Ok(given + 1)
 }
 
-// A calculator of one stream.
+// Returns a calculator that reads one stream.
 fn of_one(kind: u32) -> &'static str {
     match kind {
         0 => r#"calculator: "PassThroughCalculator""#,
@@ -61,7 +61,7 @@ fn of_one(kind: u32) -> &'static str {
     }
 }
 
-// A calculator of two streams.
+// Returns a calculator that reads two streams.
 fn of_two(kind: u32) -> &'static str {
     match kind {
         3 => r#"calculator: "IntSumCalculator""#,
@@ -69,7 +69,7 @@ fn of_two(kind: u32) -> &'static str {
     }
 }
 
-// Puts in a node whose output is the stream of a number. It reads streams before that.
+// Appends a node whose output is the stream of number `made`. It reads streams of lower numbers.
 fn put_node(graph: &mut String, chance: &mut Chance, made: u32) -> Result<(), Fail> {
     let kind = chance.below(5);
     let first = chance.below(made);
@@ -90,7 +90,7 @@ fn put_node(graph: &mut String, chance: &mut Chance, made: u32) -> Result<(), Fa
     Ok(())
 }
 
-// Puts in nodes whose outputs are the streams from a number up to another.
+// Appends nodes whose outputs are the streams from number `first` on, up to and without `end`.
 fn put_nodes(graph: &mut String, chance: &mut Chance, first: u32, end: u32) -> Result<(), Fail> {
     for made in first..end {
         put_node(graph, chance, made)?;
@@ -98,7 +98,7 @@ fn put_nodes(graph: &mut String, chance: &mut Chance, first: u32, end: u32) -> R
     Ok(())
 }
 
-/// The graph of a seed: 3 to 8 nodes.
+/// Returns the graph of a seed, with 3 to 8 nodes behind its source and its input.
 pub fn draw_graph(alloc: Global, seed: u64) -> Result<Drawn, Fail> {
     let mut chance = Chance::new(seed);
     let mut drawn = Drawn {
@@ -113,7 +113,7 @@ pub fn draw_graph(alloc: Global, seed: u64) -> Result<Drawn, Fail> {
     Ok(drawn)
 }
 
-/// The case of a graph that was drawn, of which this is wanted.
+/// Returns the case of a graph that was drawn, with what is wanted of it.
 pub fn drawn_case<'a>(drawn: &'a Drawn, wanted: &'a str) -> Case<'a> {
     Case {
         graph: drawn.graph.as_str(),

@@ -7,7 +7,7 @@ use mg_value::Packet;
 use std::alloc::Global;
 use std::test::Fail;
 
-/// Packets, a blank behind each.
+/// Shows packets, a blank behind each.
 pub fn show_packets(alloc: Global, packets: &[Packet]) -> Result<String, Fail> {
     let mut shown = String::new(alloc);
     for packet in packets {
@@ -16,7 +16,7 @@ pub fn show_packets(alloc: Global, packets: &[Packet]) -> Result<String, Fail> {
     Ok(shown)
 }
 
-// Numbers, a blank behind each.
+// Shows numbers, a blank behind each.
 fn show_numbers(alloc: Global, numbers: &[u64]) -> Result<String, Fail> {
     let mut shown = String::new(alloc);
     for number in numbers {
@@ -25,7 +25,7 @@ fn show_numbers(alloc: Global, numbers: &[u64]) -> Result<String, Fail> {
     Ok(shown)
 }
 
-// How many packets each stream has, `@` and its bound, a blank behind each.
+// Shows how many packets each stream has, `@` and its bound, a blank behind each stream.
 fn show_ends(alloc: Global, ends: &[StreamEnd]) -> Result<String, Fail> {
     let mut shown = String::new(alloc);
     for end in ends {
@@ -35,7 +35,7 @@ fn show_ends(alloc: Global, ends: &[StreamEnd]) -> Result<String, Fail> {
     Ok(shown)
 }
 
-// A phase, with the time of its set.
+// Shows a phase, with the time of its set.
 fn show_phase(alloc: Global, phase: Phase) -> Result<String, Fail> {
     match phase {
         Phase::Open => Ok(String::from_str(alloc, "open")?),
@@ -48,7 +48,7 @@ fn show_phase(alloc: Global, phase: Phase) -> Result<String, Fail> {
     }
 }
 
-// Faults, each behind a blank: the node, when it failed, and why.
+// Shows faults, each behind a blank: the node, when it failed, and why.
 fn show_faults(alloc: Global, faults: &[NodeFault]) -> Result<String, Fail> {
     let mut shown = String::new(alloc);
     for fault in faults {
@@ -64,7 +64,7 @@ fn show_faults(alloc: Global, faults: &[NodeFault]) -> Result<String, Fail> {
     Ok(shown)
 }
 
-/// A report: of each node how many sets were laid; of each stream how many packets it has, `@` and its bound; and the faults.
+/// Shows a report: of each node how many sets were laid; of each stream how many packets it has, `@` and its bound; and the faults.
 pub fn show_report(alloc: Global, report: &Report) -> Result<String, Fail> {
     let sets = show_numbers(alloc, report.sets.as_slice())?;
     let streams = show_ends(alloc, report.streams.as_slice())?;
@@ -77,7 +77,7 @@ pub fn show_report(alloc: Global, report: &Report) -> Result<String, Fail> {
     )?)
 }
 
-// The calls that a calculator had, each behind a blank: a set by its time.
+// Shows the calls that a calculator had, each behind a blank: a set by its time.
 fn show_calls(alloc: Global, calls: &CallList) -> Result<String, Fail> {
     let mut shown = String::new(alloc);
     for call in calls.as_slice() {
@@ -93,7 +93,7 @@ fn show_calls(alloc: Global, calls: &CallList) -> Result<String, Fail> {
     Ok(shown)
 }
 
-/// The calls of calculators, `;` behind those of each.
+/// Shows the calls of calculators, `;` behind those of each calculator.
 pub(crate) fn show_boxes(alloc: Global, boxes: &[LawBox]) -> Result<String, Fail> {
     let mut shown = String::new(alloc);
     for calculator in boxes {

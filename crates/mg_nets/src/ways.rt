@@ -1,5 +1,5 @@
-//! Nets that are driven in some way, and what they have to come to. What drives a net has it by `&mut`, and
-//! what owns it here lets it go, so that no crate of tests proves how it is dropped.
+//! Nets that are driven in some way, and what they have to come to. What drives a net has it by `&mut`, and what owns it here drops it, so
+//! that no crate of tests proves how it is dropped.
 ghost use Rattle.std.specs.Prelude.{IfOk};
 ghost use Rattle.mg_nets.specs.Driven.{IsDriven};
 
@@ -20,7 +20,7 @@ pub trait Way {
         ensures { IsDriven driver.new.plan driver.new.inputs driver.new.net };
 }
 
-/// The net of a case under a limit of its queues, with its nodes begun.
+/// Makes the net of a case under a limit of its queues, and begins its nodes.
 pub fn driver_under(alloc: Global, case: &Case, limit: i32) -> Result<Driver, Fail>
     ensures { IfOk result (λ d. IsDriven d.plan d.inputs d.net) }
 {
@@ -28,7 +28,7 @@ pub fn driver_under(alloc: Global, case: &Case, limit: i32) -> Result<Driver, Fa
     driver_of(alloc, graph.as_str(), case.lines)
 }
 
-/// A net that is driven in a way.
+/// Drives a net in a way, and returns it. Where the way fails, the net is dropped.
 pub fn driven<W: Way>(alloc: Global, driver: Driver, way: &mut W) -> Result<Driver, Fail>
     requires { IsDriven driver.plan driver.inputs driver.net }
     ensures { IfOk result (λ d. IsDriven d.plan d.inputs d.net) }
@@ -43,7 +43,7 @@ pub fn driven<W: Way>(alloc: Global, driver: Driver, way: &mut W) -> Result<Driv
     }
 }
 
-// What comes out of a net that is swept.
+// Sweeps a net, and shows what comes out of it.
 fn come_out_swept(alloc: Global, driver: &mut Driver) -> Result<String, Fail>
     requires { IsDriven driver.old.plan driver.old.inputs driver.old.net }
 {
@@ -51,7 +51,7 @@ fn come_out_swept(alloc: Global, driver: &mut Driver) -> Result<String, Fail>
     come_out(alloc, driver)
 }
 
-/// What comes out of the net of a case under its limit, which is swept on one thread.
+/// Sweeps the net of a case under its limit on one thread, and shows what comes out of it.
 pub fn swept(alloc: Global, case: &Case) -> Result<String, Fail> {
     let mut driver = driver_under(alloc, case, case.limit)?;
     let shown = come_out_swept(alloc, &mut driver);
@@ -59,8 +59,8 @@ pub fn swept(alloc: Global, case: &Case) -> Result<String, Fail> {
     shown
 }
 
-/// Drives a net to rest in a way. What comes out of it is wanted; and wound up it tells the same as before, and gives its calculators
-/// back in their order, with the calls that are wanted.
+/// Drives a net to rest in a way, and expects what is wanted to come out of it. Then winds it up, and expects it to tell the same as
+/// before, and to give its calculators back in their order, with the calls that are wanted.
 pub fn expect<W: Way>(alloc: Global, driver: Driver, way: &mut W, case: &Case) -> Result<(), Fail>
     requires { IsDriven driver.plan driver.inputs driver.net }
 {
@@ -74,7 +74,7 @@ pub fn expect<W: Way>(alloc: Global, driver: Driver, way: &mut W, case: &Case) -
     }
 }
 
-// What comes out of a net at rest is wanted. This is what it tells.
+// Expects what is wanted to come out of a net at rest, and returns what the net tells.
 fn expect_rest(alloc: Global, driver: &mut Driver, case: &Case) -> Result<String, Fail>
     requires { IsDriven driver.old.plan driver.old.inputs driver.old.net }
     ensures { IsDriven driver.new.plan driver.new.inputs driver.new.net }
@@ -86,7 +86,7 @@ fn expect_rest(alloc: Global, driver: &mut Driver, case: &Case) -> Result<String
     Err(Fail::new(format_args!("{shown}, of {}", case.graph)))
 }
 
-// What a net tells once it is wound up, and the calls of the calculators that come back, are wanted.
+// Expects this of what a net tells once it is wound up, and of the calls of the calculators that come back.
 fn expect_end(alloc: Global, driver: Driver, told: &str, calls: &str) -> Result<(), Fail>
     requires { IsDriven driver.plan driver.inputs driver.net }
 {

@@ -12,28 +12,30 @@ use Rattle.mg_node.specs.Views.{EntryView, EngineView}
 use Rattle.mg_node.specs.Ports.{horizon_of}
 use Rattle.mg_node.specs.Windows.{has_ended}
 
--- the lesser of a time and that of the first set which is claimed and not laid, where there is one; claimed sets are in order
+-- the lesser of a time and the time of a phase, where that is a set
 abbrev pub until_phase : Phase → ℕ → ℕ
 until_phase (Process at) t = min at t
 until_phase phase t = t
 
+-- the lesser of a time and the time of the first set that is claimed and not laid, if there is one; the sets of a window are in order
 abbrev pub until_claimed : List EntryView → ℕ → ℕ
 until_claimed [] t = t
 until_claimed (entry ∷ entries) t = until_phase entry.phase t
 
--- the bound to which outputs are raised: for a loopback how far its stream is told, and for a node with an offset the time moved
--- by it; those of other nodes aren't raised
+-- the bound to which a time t raises the outputs of a node: t itself at a loopback, t moved by the offset at a node with an offset, and
+-- none at every other node
 abbrev pub raised_by : Role → Option ℤ → ℕ → Option ℕ
 raised_by Loop offset t = Some t
 raised_by role None t = None
 raised_by role (Some offset) t = Some (shift t offset)
 
--- whether those of a node aren't raised, whatever waits
+-- whether what waits never raises the outputs of a node
 abbrev pub never_raised : Role → Option ℤ → Bool
 never_raised Loop offset = false
 never_raised role None = true
 never_raised role (Some offset) = false
 
+-- the bound to which an engine raises its outputs by what waits at its node, if it raises them
 abbrev pub advance_bound : EngineView → Waits → Option ℕ
 advance_bound engine waits =
     if has_ended engine then None else raised_by engine.role engine.offset (until_claimed engine.window (horizon_of waits))
@@ -43,19 +45,20 @@ abbrev pub raised_output : Option ℕ → Backlog Plain → Backlog Plain
 raised_output None output = output
 raised_output (Some bound) output = record output { bound = max output.bound bound }
 
--- whether a bound is higher than that of one of some outputs
+-- whether a bound is higher than the bound of at least one output
 abbrev pub any_moved : ℕ → List (Backlog Plain) → Bool
 any_moved bound [] = false
 any_moved bound (output ∷ outputs) = if nat_lt output.bound bound then true else any_moved bound outputs
 
+-- whether a bound, if there is one, is higher than the bound of at least one output
 abbrev pub any_moved_by : Option ℕ → List (Backlog Plain) → Bool
 any_moved_by None outputs = false
 any_moved_by (Some bound) outputs = any_moved bound outputs
 
--- an engine's outputs are raised as far as what waits at its node tells
+-- an engine with its outputs raised as far as what waits at its node tells
 abbrev pub advanced : EngineView → Waits → EngineView
 advanced engine waits = record engine { outputs = map (raised_output (advance_bound engine waits)) engine.outputs }
 
--- and whether that moves one of them
+-- whether what waits at its node raises at least one output of an engine
 abbrev pub is_advanced : EngineView → Waits → Bool
 is_advanced engine waits = any_moved_by (advance_bound engine waits) engine.outputs

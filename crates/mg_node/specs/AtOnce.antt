@@ -1,4 +1,5 @@
--- A node's next set whose work is claimed, performed and committed at once: what is left is as the three leave it, one after the other.
+-- The work of a node's next set that is claimed, performed and committed in one call, which leaves what the three calls leave one after the
+-- other.
 use Rattle.std.specs.Prelude.{◌≡◌, ℕ, ◌<◌, false, [], length, ⊤}
 use Rattle.mg_node.specs.declared.at_once.AtOnce.{AtOnce}
 use Rattle.mg_node.specs.declared.at_once.AtOnce.TheVariants.{Other, NotReady, Claimed, Performed, Committed}
@@ -11,14 +12,14 @@ use Rattle.mg_node.specs.Running.{IsPerformed}
 use Rattle.mg_node.specs.Claims.{AreSame, Claims}
 use Rattle.mg_node.specs.Commits.{Commits}
 
--- the node goes on and is shown sets, no work is under way, and a bench is idle
+-- an engine may do a set at once: it is shown sets and goes on, no work is under way, and a bench is idle
 pub record MayShow (engine : EngineView) : Type 0 where
   pub role : engine.role ≡ Sets
   pub goes : has_ended engine ≡ false
   pub none : engine.window ≡ []
   pub bench : 0 < length engine.idle
 
--- the work of a number is claimed, which leaves the engine like this, and is performed
+-- the work of a number is claimed, which leaves the engine `between` and the intake `intake_now`, and is then performed
 pub record IsDoneBetween (C : Type 0) (number : ℕ) (engine between : EngineView) (intake intake_now : IntakeView) : Type 0 where
   pub work : WorkView
   pub claims : Claims {C = C} (Work work) engine between intake intake_now
@@ -26,20 +27,20 @@ pub record IsDoneBetween (C : Type 0) (number : ℕ) (engine between : EngineVie
   pub done : IsPerformed work performed
   pub number_is : number ≡ work.number
 
--- it stands in its window then
+-- the work of a number is claimed and performed, and stands in the engine's window as performed and not committed
 pub record IsLeftPerformed (C : Type 0) (number : ℕ) (engine engine_now : EngineView) (intake intake_now : IntakeView) : Type 0 where
   pub between : EngineView
   pub done : IsDoneBetween C number engine between intake intake_now
   pub left : engine_now ≡ shelved between (outcome_of done.performed)
 
--- or is committed
+-- the work of a number is claimed, performed and committed
 pub record IsLeftCommitted (C : Type 0) (number : ℕ) (engine engine_now : EngineView) (intake intake_now : IntakeView) : Type 0 where
   pub between : EngineView
   pub done : IsDoneBetween C number engine between intake intake_now
   pub laid : ℕ
   pub commits : Commits (outcome_of done.performed) laid between engine_now
 
--- what is done at once, and what that leaves
+-- what each answer says of the engine and the intake before the call and after it
 abbrev pub DoesAtOnce : {C : Type 0} → AtOnce C → EngineView → EngineView → IntakeView → IntakeView → Type 0
 DoesAtOnce Other engine engine_now intake intake_now = AreSame engine intake engine_now intake_now
 DoesAtOnce {C} NotReady engine engine_now intake intake_now = Claims {C = C} NoneReady engine engine_now intake intake_now
@@ -47,7 +48,7 @@ DoesAtOnce {C} (Claimed work) engine engine_now intake intake_now = Claims {C = 
 DoesAtOnce {C} (Performed number) engine engine_now intake intake_now = IsLeftPerformed C number engine engine_now intake intake_now
 DoesAtOnce {C} (Committed number) engine engine_now intake intake_now = IsLeftCommitted C number engine engine_now intake intake_now
 
--- the next set was claimed
+-- whether an answer tells that the next set was claimed
 abbrev pub IsShown : {C : Type 0} → AtOnce C → Type 0
 IsShown Other = ⊥
 IsShown NotReady = ⊥

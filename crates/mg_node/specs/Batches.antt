@@ -4,7 +4,7 @@ use Rattle.mg_value.specs.Extension.{AreExtendedBy}
 use Rattle.mg_calc.specs.Equations.{IsJob}
 use Rattle.mg_node.specs.Job.{LoggedJob}
 
--- a job, and the same with more lines: the plan, the side packets and the calculators are the same, and each graph input is extended
+-- a job grows to a later one with more lines: plan, side packets and calculators are the same, and each graph input is extended
 pub record Grows (first later : LoggedJob) : Type 0 where
   pub plan : later.job.plan ≡ first.job.plan
   pub sides : first.job.inputs.sides ≡ later.job.inputs.sides

@@ -1,5 +1,5 @@
--- How the engine of a node is begun: its calculator is opened with the node's side packets, and what it emits is laid. Where there
--- is no memory for that, the calculator was opened all the same and isn't opened again: its answer stands in the window till then.
+-- How the engine of a node is begun: its calculator is opened with the node's side packets, and what it emits is laid. Where memory for
+-- laying is short, the calculator isn't opened again later: its answer stands in the window until it is laid.
 use Rattle.std.specs.Prelude.{◌≡◌, ℕ, ◌-◌, ◌⊎◌, List, [], ◌∷◌, ◌++◌, length, map, replicate, Option, Some, option_map, Result, true, slice_get}
 use Rattle.mg_value.specs.Payload.{Plain}
 use Rattle.mg_calc.specs.declared.call.Call.TheVariants.{Begun}
@@ -28,7 +28,7 @@ pub record IsOpened (before now : HolderView) (sides : List (Option Plain)) (ans
   pub shape : now.shape ≡ before.shape
   pub same_handed : now.handed ≡ before.handed
 
--- the entry of what it answered
+-- the window's entry for the answer of a calculator that was opened
 abbrev pub opened_entry : ℕ → BenchView → Result (List Laid) Cause → EntryView
 opened_entry number bench answer = record {
   phase = Open;
@@ -36,18 +36,18 @@ opened_entry number bench answer = record {
   committed = true;
 }
 
--- the benches with the node's own calculators, which aren't opened: they keep nothing
+-- the benches with the calculators that the node makes itself; these aren't opened and keep nothing
 abbrev pub own_benches : PlanNode → List BenchView
 own_benches node = replicate (node.in_flight - 1) (bench_of node (own_told node))
 
--- an engine whose calculator was opened, and what it emitted isn't laid
+-- an engine's calculator was opened, and what that emitted isn't laid
 pub record HasOpened (node : PlanNode) (number : ℕ) (told : HolderView) (sides : List (Option Plain)) (view : EngineView) : Type 0 where
   pub now : HolderView
   pub answer : Result (List Laid) Cause
   pub opened : IsOpened told now sides answer
   pub is : view ≡ record (fresh_engine node number told) { window = opened_entry number (bench_of node now) answer ∷ []; idle = own_benches node }
 
--- an engine that isn't begun
+-- an engine isn't begun: it is as it was made, or its calculator was opened and what that emitted isn't laid
 abbrev pub IsUnbegun : PlanNode → ℕ → HolderView → List (Option Plain) → EngineView → Type 0
 IsUnbegun node number told sides view = (view ≡ fresh_engine node number told) ⊎ HasOpened node number told sides view
 
@@ -55,7 +55,7 @@ IsUnbegun node number told sides view = (view ≡ fresh_engine node number told)
 abbrev pub opened_node : PlanNode → List (Option Plain) → Outcome
 opened_node node sides = opened node.law node.shape.offset (length node.outputs) sides
 
--- an engine that is begun: what Open emits is laid, or its fault is kept
+-- an engine is begun: what Open emits is laid, or its fault is kept
 pub record HasBegun (node : PlanNode) (number : ℕ) (told : HolderView) (sides : List (Option Plain)) (view : EngineView) : Type 0 where
   pub now : HolderView
   pub state : now.state ≡ (opened_node node sides).state
@@ -75,7 +75,8 @@ pub record HasBegun (node : PlanNode) (number : ℕ) (told : HolderView) (sides 
 abbrev pub IsBlank : HolderView → Type 0
 IsBlank told = (told.state ≡ []) ⊎ IsOuter told.law
 
--- the calculator that a job has for a node, at its start: it fits the node, what it keeps doesn't matter, and it is the job's
+-- a calculator is the one that a job has for a node at the start: it fits the node, what it keeps before Open doesn't matter, and its log
+-- and state are as the job tells them
 pub record IsHanded (job : LoggedJob) (number : ℕ) (node : PlanNode) (told : HolderView) : Type 0 where
   pub there : slice_get job.job.plan.nodes number ≡ Some node
   pub fits : FitsHolder node told
@@ -83,18 +84,20 @@ pub record IsHanded (job : LoggedJob) (number : ℕ) (node : PlanNode) (told : H
   pub log : told.log ≡ first_log job node
   pub kept : KeepsFirst job node told.state
 
--- an engine of a node that isn't begun is lawful: it is that of what the job has for the node, and was opened with its side packets
+-- an engine that isn't begun is lawful for a job: it is made of the node and of the job's calculator for it, and where that was opened, it
+-- was with the node's side packets
 pub record IsUnbegunOf (job : LoggedJob) (number : ℕ) (view : EngineView) : Type 0 where
   pub node : PlanNode
   pub told : HolderView
   pub handed : IsHanded job number node told
   pub unbegun : IsUnbegun node number told (sides_of job.job node) view
 
+-- an engine that isn't begun is lawful for a job, as the engine of the node of this number
 unfoldable pub LawfulUnbegun : LoggedJob → ℕ → EngineView → Type 0
 LawfulUnbegun job number view = IsUnbegunOf job number view
 
--- an engine isn't begun: there are a node, its number and a calculator of which it is made, and with these side packets it was opened
--- if it was
+-- an engine isn't begun: it is made of some node, number and calculator, and where the calculator was opened, it was with these side
+-- packets
 pub record SomeUnbegun (sides : List (Option Plain)) (view : EngineView) : Type 0 where
   pub node : PlanNode
   pub number : ℕ

@@ -1,5 +1,5 @@
--- Claims: what an engine and its intake give next, and what that leaves. Each answer is given exactly where its case holds, and
--- the cases leave no two answers but want of memory.
+-- Claims: what an engine and its intake give next, and what that leaves. Each answer is given only where its case holds. No two cases hold
+-- at once, but for want of memory, which may stand in place of another answer at a loopback.
 use Rattle.std.specs.Prelude.{◌≡◌, ℕ, ◌+◌, ◌<◌, ◌≤◌, Bool, true, false, List, [], ◌∷◌, ◌++◌, length, slice_get, slice_set, Option, Some, None, IsSomeAnd, is_some, ◌⊎◌, if◌then◌else◌, ⊤}
 use Rattle.mg_time.specs.Time.{next as next_time}
 use Rattle.mg_value.specs.Payload.{Plain}
@@ -26,14 +26,16 @@ use Rattle.mg_node.specs.Job.{LoggedJob, Solves}
 use Rattle.mg_node.specs.Shelves.{IsOut}
 use Rattle.mg_node.specs.Lawful.{LawfulIntake, LawfulEngine, LawfulWork, of_node, Agree}
 
--- the first entry whose work came back unrun, counted from a number on
+-- whether an outcome is there, of a work that wasn't run
 abbrev pub came_back : Option OutcomeView → Bool
 came_back None = false
 came_back (Some o) = if is_some o.answer then false else true
 
+-- whether an entry's work came back unrun
 abbrev pub is_unrun : EntryView → Bool
 is_unrun entry = came_back entry.outcome
 
+-- the place of the first entry whose work came back unrun, counted from n on, or none
 abbrev pub first_unrun : ℕ → List EntryView → Option ℕ
 first_unrun n [] = None
 first_unrun n (entry ∷ entries) = if is_unrun entry then Some n else first_unrun (n + 1) entries
@@ -48,9 +50,9 @@ abbrev pub IsEarly : Role → Waits → Type 0
 IsEarly (Source calls) waits = ⊥
 IsEarly role waits = IsNext waits NotYet
 
--- the next input set of an intake is taken: it shows these packets, which are those of its number in the solution of every job for
--- which the intake is lawful, and it stays lawful; and its standing only grows. At each port the packets that go with the set are
--- gone, and no other; as many are counted as before, and the bound is the same.
+-- the next input set of an intake is taken. The set has these packets, which are those of its number in the solution of every job for which
+-- the intake is lawful; the intake stays lawful, and its standing grows. At each port the packets that go with the set are gone, and no
+-- others; as many are counted as before, and the bound is the same.
 pub record Takes (intake now : IntakeView) (set : List (Option (Stamped Plain))) : Type 0 where
   pub shown : IsSomeAnd (next_set_of intake.waits) (λ e. set ≡ e.set)
   pub counted : now.claimed ≡ intake.claimed + 1
@@ -62,11 +64,12 @@ pub record Takes (intake now : IntakeView) (set : List (Option (Stamped Plain)))
   pub stays_lawful : (job : LoggedJob) (consumer : ℕ) → LawfulIntake job consumer intake → LawfulIntake job consumer now
   pub in_solution : (job : LoggedJob) (consumer : ℕ) (streams : List (StreamPrefix Plain)) → Solves job streams → LawfulIntake job consumer intake → HasSet job streams consumer intake.claimed set
 
--- an answer put behind an output, where it isn't nothing; a loopback has one output
+-- an output with a loopback's answer behind its packets, where that isn't nothing
 abbrev pub behind : Option (Stamped Plain) → Backlog Plain → Backlog Plain
 behind None b = b
 behind (Some p) b = record { gone = b.gone; packets = b.packets ++ p ∷ []; bound = next_time p.at }
 
+-- the outputs of a loopback, of which there is one, with its answer
 abbrev pub with_answer : Option (Stamped Plain) → List (Backlog Plain) → List (Backlog Plain)
 with_answer answer [] = []
 with_answer answer (b ∷ bs) = behind answer b ∷ bs
@@ -89,15 +92,15 @@ pub record HandsOut (window now : List EntryView) (place : ℕ) (work : WorkView
   pub outcome : entry.outcome ≡ Some (record { work = work; answer = None })
   pub left : now ≡ slice_set window place (record { phase = entry.phase; outcome = None; committed = false })
 
--- the first work that came back unrun is handed out again, and its entry is claimed
+-- the first work that came back unrun is handed out again, and its entry has no outcome any more
 pub record TakesUnrun (engine engine_now : EngineView) (work : WorkView) : Type 0 where
   pub place : ℕ
   pub first : first_unrun 0 engine.window ≡ Some place
   pub hands : HandsOut engine.window engine_now.window place work
   pub now : engine_now ≡ record engine { window = engine_now.window }
 
--- a work is claimed, with the last idle bench: it has the next number, and its entry stands behind the others. So many more are
--- claimed, none for Close.
+-- a work is claimed, with the last idle bench: it has the next number, and its entry stands behind the others in the window. The count of
+-- claims grows by `more`, which is 0 for Close.
 pub record Hands (engine engine_now : EngineView) (phase : Phase) (more : ℕ) (bench : BenchView) : Type 0 where
   pub idle : engine.idle ≡ engine_now.idle ++ bench ∷ []
   pub now : engine_now ≡ record engine {
@@ -106,11 +109,11 @@ pub record Hands (engine engine_now : EngineView) (phase : Phase) (more : ℕ) (
     idle = engine_now.idle;
   }
 
--- the work of a bench
+-- the next work of an engine, in a phase, with this bench
 abbrev pub work_of : EngineView → Phase → BenchView → WorkView
 work_of engine phase bench = record { node = engine.node; number = engine.claimed; phase = phase; bench = bench }
 
--- the next call of a source
+-- the next call of a source is handed out
 pub record TakesCall (engine engine_now : EngineView) (work : WorkView) : Type 0 where
   pub calls : ℕ
   pub role : engine.role ≡ Source calls
@@ -119,7 +122,7 @@ pub record TakesCall (engine engine_now : EngineView) (work : WorkView) : Type 0
   pub hands : Hands engine engine_now (Call engine.claimed) 1 bench
   pub work_is : work ≡ work_of engine (Call engine.claimed) bench
 
--- the next input set, which leaves the intake
+-- the next input set is handed out, and leaves the intake
 pub record TakesSet (engine engine_now : EngineView) (intake intake_now : IntakeView) (work : WorkView) : Type 0 where
   pub role : engine.role ≡ Sets
   pub at : ℕ
@@ -129,7 +132,7 @@ pub record TakesSet (engine engine_now : EngineView) (intake intake_now : Intake
   pub work_is : work ≡ work_of engine (Process at) (record { told = bench.told; set = work.bench.set })
   pub takes : Takes intake intake_now work.bench.set
 
--- Close, once no set comes any more and all that was claimed is laid
+-- Close is handed out: no set comes any more, and all that was claimed is laid
 pub record TakesClose (engine engine_now : EngineView) (waits : Waits) (work : WorkView) : Type 0 where
   pub over : IsOver engine.role engine.claimed waits
   pub laid : engine.window ≡ []
@@ -167,7 +170,7 @@ abbrev pub IsLawfulWork : {C : Type 0} → LoggedJob → Claimed C → Type 0
 IsLawfulWork job (Work work) = LawfulWork job work
 IsLawfulWork job _ = ⊤
 
--- a work that is handed out is out
+-- a work that a claim hands out is out of the engine
 abbrev pub GivesOut : {C : Type 0} → Claimed C → EngineView → Type 0
 GivesOut (Work work) engine = IsOut engine work
 GivesOut _ engine = ⊤

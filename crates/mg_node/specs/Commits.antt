@@ -17,13 +17,14 @@ use Rattle.mg_node.specs.Lawful.{of_node, LawfulEngine, StandForAll, is_close}
 use Rattle.mg_node.specs.Shelves.{back}
 use Rattle.mg_node.specs.Windows.{ready_of}
 
--- before a set, outputs are raised to its time plus the offset, and before Close to the end of all times
+-- the outputs before an answer of a phase is laid: before a set they are raised to its time plus the offset, and before Close to the end of
+-- all times
 abbrev pub raised_before : Option ℤ → Phase → List (StreamPrefix Plain) → List (StreamPrefix Plain)
 raised_before offset (Process at) outputs = all_raised offset at outputs
 raised_before offset Close outputs = all_raised offset done outputs
 raised_before offset phase outputs = outputs
 
--- behind Close all outputs close
+-- the outputs behind a phase: behind Close they are closed
 abbrev pub closed_after : Phase → List (StreamPrefix Plain) → List (StreamPrefix Plain)
 closed_after Close outputs = map closed outputs
 closed_after phase outputs = outputs
@@ -33,11 +34,12 @@ abbrev pub laid_by : Option ℤ → Phase → List (StreamPrefix Plain) → Resu
 laid_by offset phase outputs answer =
     after answer (λ emission. after (laid_behind offset phase outputs emission) (λ longer. Ok (closed_after phase longer)))
 
--- a fault leaves the outputs as they were raised
+-- the outputs once an answer was to be laid: where there is a cause against it, they stay as they were raised
 abbrev pub outputs_by : List (StreamPrefix Plain) → Result (List (StreamPrefix Plain)) Cause → List (StreamPrefix Plain)
 outputs_by raised (Ok outputs) = outputs
 outputs_by raised (Err cause) = raised
 
+-- the failure in a phase, where the answer can't be laid
 abbrev pub failure_by : Phase → Result (List (StreamPrefix Plain)) Cause → Option Failure
 failure_by phase (Ok outputs) = None
 failure_by phase (Err cause) = Some (record { phase = phase; cause = cause })
@@ -58,7 +60,7 @@ pub record Front : Type 0 where
   pub closed : Bool
   pub fault : Option Failure
 
--- an answer is laid, and its bench is free again; these entries are left
+-- a front once an answer is laid: its bench is idle again, and these entries are left in the window
 abbrev pub answer_laid : Option ℤ → Phase → BenchView → Result (List Laid) Cause → List EntryView → Front → Front
 answer_laid offset phase bench answer rest front = record {
   outputs = outputs_by (raised_before offset phase front.outputs) (laid_by offset phase (raised_before offset phase front.outputs) answer);
@@ -69,27 +71,28 @@ answer_laid offset phase bench answer rest front = record {
   fault = failure_by phase (laid_by offset phase (raised_before offset phase front.outputs) answer);
 }
 
--- a node that has failed or is closed lays nothing more
+-- whether a front lays nothing more: its node has failed or is closed
 abbrev pub has_stopped : Front → Bool
 has_stopped front = front.closed || is_some front.fault
 
--- what is made of what was performed, or something else where an entry isn't ready
+-- `go` of what was performed, or `none` where nothing is ready
 abbrev pub with_ready : {A : Type 0} → Option PerformedView → A → (PerformedView → A) → A
 with_ready None none go = none
 with_ready (Some p) none go = go p
 
--- what is committed at the front of a window is laid, one entry after the other, until the first that isn't ready or at which the
--- node fails or closes
+-- a front once what is committed at the front of the window is laid, one entry after the other, until the first that isn't ready or at
+-- which the node fails or closes
 abbrev pub front_laid : Option ℤ → List EntryView → Front → Front
 front_laid offset [] front = front
 front_laid offset (entry ∷ entries) front =
     if has_stopped front then front
     else with_ready (ready_of entry) front (λ p. front_laid offset entries (answer_laid offset entry.phase p.work.bench p.answer entries front))
 
--- a work comes back to its window, and what was performed is committed
+-- the entry of a work that comes back: committed, where the work was performed
 abbrev pub committed_entry : OutcomeView → EntryView
 committed_entry outcome = record (back outcome) { committed = is_some outcome.answer }
 
+-- an engine's window with the entry of a work that comes back, at the work's place
 abbrev pub window_with : EngineView → OutcomeView → List EntryView
 window_with engine outcome = slice_set engine.window (outcome.work.number - engine.laid) (committed_entry outcome)
 
@@ -104,10 +107,11 @@ front_of engine window whole = record {
   fault = option_map (λ f. record { phase = f.phase; cause = f.cause }) engine.fault;
 }
 
+-- the fault of a node that has failed like this
 abbrev pub fault_at : ℕ → Failure → NodeFault
 fault_at node f = record { node = node; phase = f.phase; cause = f.cause }
 
--- an engine whose front has come to this: its outputs stand for the front's, and nothing was given up
+-- an engine has come to a front: its outputs stand for the front's, and no packet was given up
 pub record HasFront (before now : EngineView) (front : Front) : Type 0 where
   pub outputs : StandForAll now.outputs front.outputs
   pub given_up : map (λ b. b.gone) now.outputs ≡ map (λ b. b.gone) before.outputs
@@ -120,8 +124,8 @@ pub record HasFront (before now : EngineView) (front : Front) : Type 0 where
     fault = option_map (fault_at before.node) front.fault;
   }
 
--- a commit: the work comes back to its window, and what is committed at the front is laid; so many sets or calls with it. No packet
--- is given up, and nothing else changes.
+-- a commit: the work comes back to its window, and what is committed at the front is laid, `laid` sets or calls in all. No packet is given
+-- up, and nothing else changes.
 pub record Commits (outcome : OutcomeView) (laid : ℕ) (before now : EngineView) : Type 0 where
   pub counted : now.laid ≡ before.laid + laid
   pub given_up : map (λ b. b.gone) now.outputs ≡ map (λ b. b.gone) before.outputs

@@ -18,15 +18,15 @@ abbrev pub with_packets : Waiting Plain → List (Stamped Plain) → Waiting Pla
 with_packets q [] = q
 with_packets q (p ∷ ps) = with_packets (with_packet q p) ps
 
--- the queue of a port once so many packets have come that it hadn't got: once all are there, its bound is raised too
+-- the queue of a port once n of the packets that it hadn't got have come; where those are all, its bound is raised too
 abbrev pub delivered : Waiting Plain → Waiting Plain → ℕ → Waiting Plain
 delivered output port n =
     if n == length (missing output port)
     then raised_to (with_packets port (missing output port)) output.bound
     else with_packets port (take n (missing output port))
 
--- what a delivery of at most so many packets answers and leaves: it moves as many as there are, and tells whether it raised the
--- bound behind them; where it finds no memory, those stay that it has moved
+-- what a delivery of at most `most` packets answers and leaves: it moves as many as the port hasn't got, and tells whether it raised the
+-- bound behind them; where memory is short, the packets that it has moved by then stay
 abbrev pub Delivers : Delivered → Waiting Plain → ℕ → ℕ → Waits → Waits → Type 0
 Delivers (Moved packets raised) output port most before now =
     (packets ≡ min most (length (missing output (port_queue before port))))
@@ -36,8 +36,8 @@ Delivers (OutOfMemory packets) output port most before now =
     (packets < min most (length (missing output (port_queue before port))))
     × (now ≡ with_port before port (with_room (with_packets (port_queue before port) (take packets (missing output (port_queue before port)))) (port_queue now port).spare))
 
--- an output and a port are of one stream: what was laid at one and what came to the other are prefixes that it extends; and
--- the output still keeps the first packet that the port hasn't got
+-- an output and a port are of one stream, which extends what was laid at the output and what came to the port; and the output still keeps
+-- the first packet that the port hasn't got
 pub record AreOfOne (output port : Waiting Plain) : Type 0 where
   pub stream : StreamPrefix Plain
   pub whole : IsPrefix stream

@@ -9,19 +9,19 @@ use Rattle.mg_node.specs.Job.{LoggedJob}
 use Rattle.mg_node.specs.Lawful.{LawfulEngine, of_input}
 use Rattle.mg_node.specs.Outputs.{laid_at}
 
--- a prefix with what came later behind it; the greater of the two bounds stands
+-- a prefix with a further one behind it; the greater of the two bounds stands
 abbrev pub joined : {X : Type 0} → StreamPrefix X → StreamPrefix X → StreamPrefix X
 joined s more = record { packets = s.packets ++ more.packets; bound = max s.bound more.bound }
 
--- an output with it behind; what was given up stays given up
+-- an output with a prefix behind what it keeps; what was given up stays given up
 abbrev pub lengthened : Backlog Plain → StreamPrefix Plain → Backlog Plain
 lengthened output more = record { gone = output.gone; packets = output.packets ++ more.packets; bound = max output.bound more.bound }
 
--- the engine of the same graph input, whose output goes on so; nothing else of it changes
+-- the engine of a graph input whose output goes on with a prefix; nothing else of it changes
 abbrev pub extended : EngineView → StreamPrefix Plain → EngineView
 extended engine more = record engine { outputs = map (λ output. lengthened output more) engine.outputs }
 
--- a queue may be lengthened: with this behind, what it stands for is a prefix
+-- a queue may be lengthened by a prefix: what it stands for, with that behind, is still a prefix
 pub record MayLengthen (q : Waiting Plain) (more : StreamPrefix Plain) : Type 0 where
   pub whole : StreamPrefix Plain
   pub stands : StandsFor q whole
@@ -34,7 +34,7 @@ pub record MayExtend (engine : EngineView) (more : StreamPrefix Plain) : Type 0 
   pub lawful : LawfulEngine job (of_input input) engine
   pub output : MayLengthen (laid_at engine 0) more
 
--- an engine was extended: it might be, this is it now, and its output's bound was this
+-- an engine was extended, as it might be, from `before` to `now`, and the bound of its output was `bound`
 pub record WasExtended (more : StreamPrefix Plain) (bound : ℕ) (before now : EngineView) : Type 0 where
   pub may : MayExtend before more
   pub is : now ≡ extended before more

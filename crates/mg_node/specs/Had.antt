@@ -25,8 +25,8 @@ abbrev pub front_calls : LoggedJob → List (StreamPrefix Plain) → PlanNode �
 front_calls job solution node count close =
     take count (Begun ∷ map (λ e. Shown e.at e.set) (shown_sets job.job solution node)) ++ (if close then Finished ∷ [] else [])
 
--- a calculator had such a front of its node's calls; it had Close only behind Open; before Open it keeps what it kept at the start, and
--- from Open on what its node has come to after the sets that it was shown
+-- a calculator had a front of its node's calls; it had Close only behind Open; before Open it keeps what it kept at the start, and from
+-- Open on what its node has come to after the sets that it was shown
 pub record HadFront (job : LoggedJob) (solution : List (StreamPrefix Plain)) (node : PlanNode) (told : CalculatorTold) : Type 0 where
   pub count : ℕ
   pub close : Bool
@@ -42,7 +42,7 @@ pub record FailsToOpen (job : Job) (streams : List (StreamPrefix Plain)) (node :
   pub fails : (outcome_of job streams node).fault ≡ Some failure
   pub in_open : failure.phase ≡ Open
 
--- a calculator isn't left open: it had such a front with Open, and Close behind it; where Open failed, none
+-- a calculator isn't left open: it had a front of its node's calls with Open, and Close behind it, or no Close where Open failed
 pub record HadClose (job : LoggedJob) (solution : List (StreamPrefix Plain)) (node : PlanNode) (told : CalculatorTold) : Type 0 where
   pub front : HadFront job solution node told
   pub begun : 1 ≤ front.count

@@ -18,12 +18,14 @@ use Rattle.mg_node.specs.Views.{IntakeView}
 use Rattle.mg_node.specs.Job.{LoggedJob, ports_of, policy_of, law_of, streams_at}
 use Rattle.mg_node.specs.Lawful.{HoldsWaits, LawfulIntake}
 
--- to a consumer nothing came yet: a loopback is one by its law, and every other has its policy and its ports
+-- what waits at a consumer to which nothing came yet: an empty loopback where that is the consumer's law, and otherwise an empty inbox with
+-- the consumer's policy and ports
 abbrev pub HoldsNone : Plan → ℕ → Waits → Type 0
 HoldsNone plan consumer (Sets inbox) = ¬ (law_of plan consumer ≡ Some Loopback)
     × (inbox ≡ record { policy = policy_of plan consumer; pool = record { ports = replicate (length (ports_of plan consumer)) empty_backlog; spare = 0 } })
 HoldsNone plan consumer (Loop held) = (law_of plan consumer ≡ Some Loopback) × IsFreshLoop held
 
+-- the intake of a consumer to which nothing came yet
 pub record IsFresh (plan : Plan) (consumer : ℕ) (intake : IntakeView) : Type 0 where
   pub claimed : intake.claimed ≡ 0
   pub holds : HoldsNone plan consumer intake.waits
@@ -33,12 +35,13 @@ abbrev pub next_set_of : Waits → Option (TimedSet Plain)
 next_set_of (Sets inbox) = next_set inbox.policy (queues_of inbox.pool)
 next_set_of (Loop held) = None
 
--- what is left once the next set is claimed, at each port: what waited without the packets that go with the set; the policy is the same
+-- what waits once the next set is claimed: at each port what waited before, without the packets that go with the set; the policy is the
+-- same
 abbrev pub IsLeft : Waits → Waits → Type 0
 IsLeft (Sets inbox) (Sets now) = (now.policy ≡ inbox.policy) × (rests (queues_of now.pool) ≡ after_sets inbox.policy 1 (rests (queues_of inbox.pool)))
 IsLeft waits now = ⊥
 
--- there is a job of which an intake is a lawful part
+-- an intake is lawful for some job
 pub record SomeJobHasIntake (intake : IntakeView) : Type 0 where
   pub job : LoggedJob
   pub consumer : ℕ
@@ -49,14 +52,14 @@ pub record HasSet (job : LoggedJob) (streams : List (StreamPrefix Plain)) (consu
   pub at : ℕ
   pub is : slice_get (settled_sets (policy_of job.job.plan consumer) (streams_at streams (ports_of job.job.plan consumer))) number ≡ Some (record { at = at; set = set })
 
--- the next set of what waits is claimed: what waits then has one more claimed, which is still a number of 64 bits, and the set is
--- that of its number in the solution
+-- the next set of what waits is claimed: one more set is claimed of what waits then, still a number of 64 bits, and the set is the one of
+-- its number in the solution
 pub record Claims (job : LoggedJob) (streams : List (StreamPrefix Plain)) (consumer claimed : ℕ) (now : Waits) (set : List (Option (Stamped Plain))) : Type 0 where
   pub holds : HoldsWaits job streams consumer (claimed + 1) now
   pub few : claimed + 1 ≤ done
   pub shows : HasSet job streams consumer claimed set
 
--- at a node nothing waits yet
+-- what waits at a node to which nothing came yet
 abbrev pub NoneWaits : PlanNode → Waits → Type 0
 NoneWaits node (Sets inbox) = ¬ (node.law ≡ Loopback) × (inbox ≡ record { policy = node.policy; pool = record { ports = replicate (length node.inputs) empty_backlog; spare = 0 } })
 NoneWaits node (Loop held) = (node.law ≡ Loopback) × IsFreshLoop held
@@ -71,7 +74,7 @@ abbrev pub HasLoop : Waits → Type 0
 HasLoop (Sets inbox) = ⊥
 HasLoop (Loop held) = ⊤
 
--- the next packet of MAIN is answered, where it can be told; otherwise nothing changes
+-- what an intake answers to the next packet of MAIN, and what that leaves: nothing changes where the answer can't be told
 abbrev pub AnswersBy : Waits → Answered → IntakeView → IntakeView → Type 0
 AnswersBy (Sets inbox) result before now = ⊥
 AnswersBy (Loop held) result before now =

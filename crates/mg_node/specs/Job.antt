@@ -30,7 +30,7 @@ pub record LoggedJob : Type 0 where
   pub job : Job
   pub boxes : List CalculatorTold
 
--- these are the solution of a job: its plan is valid, and what is handed in fits
+-- some streams are the solution of a job, whose plan is valid and whose inputs fit it
 pub record Solves (job : LoggedJob) (streams : List (StreamPrefix Plain)) : Type 0 where
   pub is_job : IsJob job.job
   pub solution : IsSolution job.job streams
@@ -41,6 +41,7 @@ pub record Solves (job : LoggedJob) (streams : List (StreamPrefix Plain)) : Type
 abbrev pub ports_of : Plan → ℕ → List ℕ
 ports_of plan consumer = unwrap_or (option_map (λ node. node.inputs) (slice_get plan.nodes consumer)) plan.outputs
 
+-- the policy of a consumer; the collector has the default policy
 abbrev pub policy_of : Plan → ℕ → Policy
 policy_of plan consumer = unwrap_or (option_map (λ node. node.policy) (slice_get plan.nodes consumer)) Default
 
@@ -52,7 +53,7 @@ law_of plan consumer = option_map (λ node. node.law) (slice_get plan.nodes cons
 abbrev pub streams_at : List (StreamPrefix Plain) → List ℕ → List (StreamPrefix Plain)
 streams_at streams ports = map (λ number. slice_index_or streams number empty_prefix) ports
 
--- the role of a law's engine
+-- the role of the engine of a node with this law
 abbrev pub role_of : Law → Role
 role_of (Count count start step) = Source count
 role_of (SideOnce at) = Source 1
@@ -60,10 +61,11 @@ role_of Constants = Source 0
 role_of Loopback = Loop
 role_of law = Sets
 
--- LOOP and MAIN of a loopback
+-- the stream at LOOP of a loopback
 abbrev pub loop_of : List (StreamPrefix Plain) → PlanNode → StreamPrefix Plain
 loop_of streams node = slice_index_or (inputs_of streams node) 0 empty_prefix
 
+-- the stream at MAIN of a loopback
 abbrev pub main_of : List (StreamPrefix Plain) → PlanNode → StreamPrefix Plain
 main_of streams node = slice_index_or (inputs_of streams node) 1 empty_prefix
 
@@ -71,7 +73,7 @@ main_of streams node = slice_index_or (inputs_of streams node) 1 empty_prefix
 abbrev pub sets_of : List (StreamPrefix Plain) → PlanNode → List (TimedSet Plain)
 sets_of streams node = settled_sets node.policy (inputs_of streams node)
 
--- how many sets a node has, calls a source, and answers a loopback
+-- how many sets a node has in some streams, or how many calls a source, or answers a loopback; by its law
 abbrev pub count_by : Law → List (StreamPrefix Plain) → PlanNode → ℕ
 count_by (Count count start step) streams node = calls_of node.law
 count_by (SideOnce at) streams node = calls_of node.law
@@ -79,10 +81,12 @@ count_by Constants streams node = calls_of node.law
 count_by Loopback streams node = length (replies (main_of streams node) (loop_of streams node))
 count_by law streams node = length (sets_of streams node)
 
+-- how many sets, calls or answers a node has in some streams
 abbrev pub count_of_all : List (StreamPrefix Plain) → PlanNode → ℕ
 count_of_all streams node = count_by node.law streams node
 
--- no more of them come: the sets reach the end of all times; each packet of MAIN is answered, and MAIN has ended
+-- no more sets or answers of a node come, by its law: its sets reach the end of all times; at a loopback each packet of MAIN is answered,
+-- and MAIN has ended; a source never has more than its calls
 abbrev pub IsOverBy : Law → List (StreamPrefix Plain) → PlanNode → Type 0
 IsOverBy (Count count start step) streams node = ⊤
 IsOverBy (SideOnce at) streams node = ⊤
@@ -95,8 +99,8 @@ IsOverBy law streams node = reach node.policy (inputs_of streams node) ≡ done
 abbrev pub answered : ℕ → StreamPrefix Plain → StreamPrefix Plain → StreamPrefix Plain
 answered n main loop = all_appended empty_prefix (filter_map packet_of (take n (replies main loop)))
 
--- what a node has come to after its first sets, calls or answers, a number of them: it was opened, and then shown these sets or
--- called so often, up to its first fault
+-- what a node has come to after its first n sets, calls or answers, by its law: it was opened, and then shown these sets or called so
+-- often, up to its first fault
 abbrev pub stage_by : Law → Job → List (StreamPrefix Plain) → PlanNode → ℕ → Outcome
 stage_by (Count count start step) job streams node n = fold (called node.law) (opened node.law None (length node.outputs) (sides_of job node)) (range_with_len 0 n)
 stage_by (SideOnce at) job streams node n = fold (called node.law) (opened node.law None (length node.outputs) (sides_of job node)) (range_with_len 0 n)
@@ -104,6 +108,7 @@ stage_by Constants job streams node n = fold (called node.law) (opened node.law 
 stage_by Loopback job streams node n = record { state = []; outputs = answered n (main_of streams node) (loop_of streams node) ∷ []; taken = n; fault = None }
 stage_by law job streams node n = shown_all node.law node.shape.offset (length node.outputs) (sides_of job node) (take n (sets_of streams node))
 
+-- what a node has come to after its first n sets, calls or answers
 abbrev pub stage : Job → List (StreamPrefix Plain) → PlanNode → ℕ → Outcome
 stage job streams node n = stage_by node.law job streams node n
 
@@ -126,19 +131,20 @@ IsTask job streams node number Close set = IsLast job streams node number
 abbrev pub first_log : LoggedJob → PlanNode → Option (List Call)
 first_log job node = option_and_then (λ number. option_and_then (λ box. box.log) (slice_get job.boxes number)) node.box_number
 
--- what a calculator keeps is what that of a node kept at the start
+-- a calculator keeps what the box of its node kept at the start, if the node has a box
 abbrev pub KeepsFirst : LoggedJob → PlanNode → List Plain → Type 0
 KeepsFirst job node state = (number : ℕ) (box : CalculatorTold) → node.box_number ≡ Some number → slice_get job.boxes number ≡ Some box → state ≡ box.state
 
--- and after some calls
+-- the log of a node's calculator after some calls, where it tells one
 abbrev pub log_after : LoggedJob → PlanNode → List Call → Option (List Call)
 log_after job node calls = option_map (λ before. before ++ calls) (first_log job node)
 
--- the calls that a calculator has had after its node's first sets, a number of them; a loopback is shown none
+-- the calls that a calculator has had after its node's first n sets, by the node's law; a loopback is shown none
 abbrev pub calls_before_by : Law → List (StreamPrefix Plain) → PlanNode → ℕ → List Call
 calls_before_by Loopback streams node n = Begun ∷ []
 calls_before_by law streams node n = Begun ∷ map (λ e. Shown e.at e.set) (take n (sets_of streams node))
 
+-- the calls that a calculator has had after its node's first n sets
 abbrev pub calls_before : List (StreamPrefix Plain) → PlanNode → ℕ → List Call
 calls_before streams node n = calls_before_by node.law streams node n
 

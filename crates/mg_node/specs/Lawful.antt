@@ -35,33 +35,35 @@ use Rattle.mg_node.specs.Job.{LoggedJob, Solves, ports_of, policy_of, law_of, st
 
 -- Intakes.
 
--- what waits for sets: what came at each port is a prefix that the solution's stream at that port extends; of what came the
--- first sets are claimed, a number of them, and what waits is the rest
+-- what waits for sets is lawful: what came at each port is a prefix that the solution's stream at that port extends; the first `claimed`
+-- sets of what came are claimed, and what waits is the rest
 pub record HoldsSets (job : LoggedJob) (streams : List (StreamPrefix Plain)) (consumer claimed : ℕ) (inbox : Gathered) : Type 0 where
   pub policy : inbox.policy ≡ policy_of job.job.plan consumer
   pub came : List (StreamPrefix Plain)
   pub extended : AreExtendedBy came (streams_at streams (ports_of job.job.plan consumer))
   pub stands : StandAfter inbox.policy claimed (queues_of inbox.pool) came
 
--- what waits at a loopback: what came at MAIN and LOOP are prefixes that the solution's streams extend; of these the first
--- answers are given, a number of them
+-- what waits at a loopback is lawful: what came at MAIN and LOOP are prefixes that the solution's streams extend, and of these the first
+-- `claimed` answers are given
 pub record HoldsLoop (job : LoggedJob) (streams : List (StreamPrefix Plain)) (consumer claimed : ℕ) (held : Held Plain) : Type 0 where
   pub main : StreamPrefix Plain
   pub loop : StreamPrefix Plain
   pub extended : AreExtendedBy (loop ∷ main ∷ []) (streams_at streams (ports_of job.job.plan consumer))
   pub stands : StandsAfter claimed held main loop
 
+-- what waits at a consumer is lawful: a loopback's where that is the consumer's law, and otherwise what waits for sets
 abbrev pub HoldsWaits : LoggedJob → List (StreamPrefix Plain) → ℕ → ℕ → Waits → Type 0
 HoldsWaits job streams consumer claimed (WaitingSets inbox) = ¬ (law_of job.job.plan consumer ≡ Some Loopback) × HoldsSets job streams consumer claimed inbox
 HoldsWaits job streams consumer claimed (WaitingLoop held) = (law_of job.job.plan consumer ≡ Some Loopback) × HoldsLoop job streams consumer claimed held
 
+-- an intake is that of a consumer of a job: what waits there is lawful in the job's solution
 pub record IsIntakeOf (job : LoggedJob) (consumer : ℕ) (view : IntakeView) : Type 0 where
   pub streams : List (StreamPrefix Plain)
   pub solves : Solves job streams
   pub is_there : consumer ≤ length job.job.plan.nodes
   pub holds : HoldsWaits job streams consumer view.claimed view.waits
 
--- an intake of a consumer is lawful
+-- an intake is lawful for a job, as the intake of this consumer
 unfoldable pub LawfulIntake : LoggedJob → ℕ → IntakeView → Type 0
 LawfulIntake job consumer view = IsIntakeOf job consumer view
 
@@ -74,12 +76,12 @@ answer_in law state (SourceCall number) set = call law state number
 answer_in law state (Process at) set = step law state at set
 answer_in law state Close set = finish law state
 
--- a calculator has answered: what it keeps is the new state of its answer, or still the old one where the answer is a cause
+-- a calculator has answered: it keeps the new state of its answer, or still the old one where the answer is a cause
 abbrev pub HasAnswered : Result (List Laid) Cause → List Plain → List Plain → Answer → Type 0
 HasAnswered (Ok emission) before now answer = answer ≡ Ok (now, emission)
 HasAnswered (Err cause) before now answer = (answer ≡ Err cause) × (now ≡ before)
 
--- what a calculator keeps, and what its log has, before a work and after it
+-- what a calculator keeps, and what its log has, before a work (with no answer) and after it (with its answer)
 abbrev pub IsAtWork : LoggedJob → List (StreamPrefix Plain) → PlanNode → WorkView → Option (Result (List Laid) Cause) → Type 0
 IsAtWork job streams node work None =
     (work.bench.told.state ≡ (stage job.job streams node work.number).state)
@@ -89,7 +91,8 @@ IsAtWork job streams node work (Some answer) =
     (answer_in node.law (stage job.job streams node work.number).state work.phase work.bench.set)
     × (work.bench.told.log ≡ log_after job node (calls_before streams node work.number ++ calls_in work.phase work.bench.set))
 
--- a work that may have its answer: its calculator fits the node, it is one of the node's works, and its set is that of its number
+-- a work of a job, perhaps with its answer: its calculator fits the node, it is one of the node's works, and its set is the one of its
+-- number
 pub record IsWorkOf (job : LoggedJob) (view : OutcomeView) : Type 0 where
   pub streams : List (StreamPrefix Plain)
   pub solves : Solves job streams
@@ -100,13 +103,15 @@ pub record IsWorkOf (job : LoggedJob) (view : OutcomeView) : Type 0 where
   pub task : IsTask job.job streams node view.work.number view.work.phase view.work.bench.set
   pub at_work : IsAtWork job streams node view.work view.answer
 
--- a work is lawful, and one with its outcome
+-- an outcome is lawful for a job
 unfoldable pub LawfulOutcome : LoggedJob → OutcomeView → Type 0
 LawfulOutcome job view = IsWorkOf job view
 
+-- a work that isn't run is lawful for a job
 unfoldable pub LawfulWork : LoggedJob → WorkView → Type 0
 LawfulWork job view = IsWorkOf job (record { work = view; answer = None })
 
+-- a work that was performed is lawful for a job
 unfoldable pub LawfulPerformed : LoggedJob → PerformedView → Type 0
 LawfulPerformed job view = IsWorkOf job (record { work = view.work; answer = Some view.answer })
 
@@ -117,7 +122,7 @@ pub data Owner : Type 0 where
   of_node : ℕ → Owner
   of_input : ℕ → Owner
 
--- what an engine knows of its node
+-- an engine is set up by a node: it has the node's role, number, outputs, offset, limit of works and number of inputs
 pub record IsSetUp (node : PlanNode) (number : ℕ) (view : EngineView) : Type 0 where
   pub role : view.role ≡ role_of node.law
   pub number_is : view.node ≡ number
@@ -126,20 +131,20 @@ pub record IsSetUp (node : PlanNode) (number : ℕ) (view : EngineView) : Type 0
   pub in_flight : view.in_flight ≡ node.in_flight
   pub inputs : view.inputs ≡ length node.inputs
 
--- what was laid at some outputs, in whole: each output keeps the last packets of it, and gave the others up
+-- outputs stand for what was laid at them in whole: each output keeps the last packets of its prefix, and gave the others up
 abbrev pub StandForAll : List (Backlog Plain) → List (StreamPrefix Plain) → Type 0
 StandForAll outputs whole = AllZip (λ output s. StandsFor (queue_of 0 output) s) outputs whole
 
--- a prefix is another one, perhaps raised
+-- a prefix is another one, perhaps with a higher bound
 pub record IsRaised (s raised : StreamPrefix Plain) : Type 0 where
   pub packets : raised.packets ≡ s.packets
   pub bound : s.bound ≤ raised.bound
 
--- what a node has come to once so many of its sets, calls or answers are laid, and perhaps its Close
+-- what a node has come to once `laid` of its sets, calls or answers are laid, and Close too where it is `closed`
 abbrev pub come_to : LoggedJob → List (StreamPrefix Plain) → PlanNode → ℕ → Bool → Outcome
 come_to job streams node laid closed = if closed then outcome_of job.job streams node else stage job.job streams node laid
 
--- the calls that an engine's calculator has had by then
+-- the calls that a node's calculator has had once `laid` of its sets are laid, and Close too where it is `closed`
 abbrev pub calls_by : List (StreamPrefix Plain) → PlanNode → ℕ → Bool → List Call
 calls_by streams node laid closed = calls_before streams node laid ++ (if closed then Finished ∷ [] else [])
 
@@ -155,14 +160,14 @@ abbrev pub is_close : Phase → Bool
 is_close Close = true
 is_close phase = false
 
--- an outcome that stands in a window is the work of its number there, and lawful
+-- an outcome in a window is the lawful outcome of the work of this node, number and phase
 pub record StandsAt (job : LoggedJob) (node number : ℕ) (phase : Phase) (outcome : OutcomeView) : Type 0 where
   pub node_is : outcome.work.node ≡ node
   pub number_is : outcome.work.number ≡ number
   pub phase_is : outcome.work.phase ≡ phase
   pub lawful : LawfulOutcome job outcome
 
--- an entry of a window, by its number: it is claimed, unrun or performed. Only what was performed is committed, and Close is
+-- an entry of a window, by its number: its work is out, or came back unrun or performed. Only what was performed is committed, and Close is
 -- claimed once all else is laid.
 pub record IsEntry (job : LoggedJob) (streams : List (StreamPrefix Plain)) (node : PlanNode) (laid number : ℕ) (owner : ℕ) (entry : EntryView) : Type 0 where
   pub set : List (Option (Stamped Plain))
@@ -171,7 +176,7 @@ pub record IsEntry (job : LoggedJob) (streams : List (StreamPrefix Plain)) (node
   pub committed : entry.committed ≡ true → IsSome entry.outcome × IfSome entry.outcome (λ o. IsSome o.answer)
   pub close : entry.phase ≡ Close → number ≡ laid
 
--- the engine of a node, with its first sets, calls or answers laid, and a number of them claimed
+-- an engine is that of a node of a job: the node's first sets, calls or answers are laid, and some more are claimed
 pub record IsEngineOf (job : LoggedJob) (number : ℕ) (view : EngineView) : Type 0 where
   pub streams : List (StreamPrefix Plain)
   pub solves : Solves job streams
@@ -179,12 +184,12 @@ pub record IsEngineOf (job : LoggedJob) (number : ℕ) (view : EngineView) : Typ
   pub there : slice_get job.job.plan.nodes number ≡ Some node
   pub set_up : IsSetUp node number view
   pub begun : view.begun ≡ true
-  -- so many are laid as the node takes; and Close only behind all of them
+  -- what is laid is claimed, and no more than the node has; Close is laid only behind all of it
   pub claimed : view.laid ≤ view.claimed
   pub taken : view.laid ≤ count_of job.job streams node
   pub closed : view.closed ≡ true → IsLast job.job streams node view.laid
-  -- its outputs are those of what is laid, perhaps raised, and the solution's streams extend them; its fault is that of what
-  -- is laid
+  -- the engine's outputs are those of what is laid, perhaps raised, and the solution's streams extend them; its fault is that of what is
+  -- laid
   pub whole : List (StreamPrefix Plain)
   pub kept : StandForAll view.outputs whole
   pub raised : AllZip IsRaised (come_to job streams node view.laid view.closed).outputs whole
@@ -200,7 +205,7 @@ pub record IsEngineOf (job : LoggedJob) (number : ℕ) (view : EngineView) : Typ
   -- a node that has ended keeps a bench that no work has: the one whose answer was laid last
   pub ended : has_ended view ≡ true → 0 < length view.idle
 
--- the engine of a graph input: its one output is the solution's stream of that input
+-- an engine is that of a graph input of a job: its one output is the solution's stream of that input
 pub record IsInputOf (job : LoggedJob) (number : ℕ) (view : EngineView) : Type 0 where
   pub streams : List (StreamPrefix Plain)
   pub solves : Solves job streams
@@ -215,19 +220,20 @@ pub record IsInputOf (job : LoggedJob) (number : ℕ) (view : EngineView) : Type
   pub idle : view.idle ≡ []
   pub fault : view.fault ≡ None
 
--- an engine is lawful
+-- an engine is lawful for a job, as the engine of this owner
 unfoldable pub LawfulEngine : LoggedJob → Owner → EngineView → Type 0
 LawfulEngine job (of_node number) view = IsEngineOf job number view
 LawfulEngine job (of_input number) view = IsInputOf job number view
 
 -- Cells.
 
--- an engine and an intake agree: the sets or answers that one counts as claimed are those that the other does. A source's
--- calls aren't claimed of its intake.
+-- an engine and an intake agree, by the engine's role: both count as many sets or answers as claimed. A source's calls aren't claimed of
+-- its intake.
 abbrev pub AgreeBy : Role → ℕ → ℕ → Type 0
 AgreeBy (Source calls) claimed of_intake = of_intake ≡ 0
 AgreeBy role claimed of_intake = claimed ≡ of_intake
 
+-- an engine and an intake agree: both count as many sets or answers as claimed
 abbrev pub Agree : EngineView → IntakeView → Type 0
 Agree engine intake = AgreeBy engine.role engine.claimed intake.claimed
 

@@ -1,4 +1,5 @@
--- The calculators that stand in an engine, and those of them that were handed in: where no work is out, the one of its node is among them.
+-- The calculators that stand in an engine, and those of them that were handed in: where no work is out, the calculator of the engine's node
+-- is among them.
 use Rattle.std.specs.Prelude.{◌≡◌, ℕ, true, List, [], ◌∷◌, ◌++◌, map, All, Option, Some, None, option_map, is_some, slice_get, ◌⊎◌, Result, if◌then◌else◌}
 use Rattle.std.specs.List.{filter_map}
 use Rattle.mg_value.specs.Prefix.{StreamPrefix}
@@ -26,10 +27,11 @@ calculators_in engine = map (λ b. b.told) engine.idle ++ filter_map calculator_
 abbrev pub handed_told : HolderView → Option CalculatorTold
 handed_told held = if held.handed then Some (told_by held) else None
 
--- what those of an engine tell that were handed in, and the first of them
+-- what the calculators in an engine that were handed in tell of themselves, in order
 abbrev pub handed_in : EngineView → List CalculatorTold
 handed_in engine = filter_map handed_told (calculators_in engine)
 
+-- what the first calculator in an engine that was handed in tells of itself
 abbrev pub first_handed : EngineView → Option CalculatorTold
 first_handed engine = slice_get (handed_in engine) 0
 
@@ -37,7 +39,7 @@ first_handed engine = slice_get (handed_in engine) 0
 abbrev pub NoneOut : EngineView → Type 0
 NoneOut engine = All (λ e. is_some e.outcome ≡ true) engine.window
 
--- a calculator is idle: it keeps what all that is laid gives, and its log ends there
+-- a calculator is at rest in an engine whose window is empty: it keeps what all that is laid gives, and its log ends there
 pub record IsAtRest (job : LoggedJob) (node : PlanNode) (engine : EngineView) (held : HolderView) : Type 0 where
   pub window : engine.window ≡ []
   pub streams : List (StreamPrefix Plain)
@@ -45,7 +47,7 @@ pub record IsAtRest (job : LoggedJob) (node : PlanNode) (engine : EngineView) (h
   pub state : held.state ≡ (come_to job streams node engine.laid engine.closed).state
   pub log : held.log ≡ log_after job node (calls_by streams node engine.laid engine.closed)
 
--- it stands in the window, in a lawful outcome
+-- a calculator stands in the one entry of an engine's window, in a lawful outcome
 pub record IsInWindow (job : LoggedJob) (engine : EngineView) (held : HolderView) : Type 0 where
   pub entry : EntryView
   pub outcome : OutcomeView
@@ -54,7 +56,7 @@ pub record IsInWindow (job : LoggedJob) (engine : EngineView) (held : HolderView
   pub held_is : held ≡ outcome.work.bench.told
   pub lawful : LawfulOutcome job outcome
 
--- an engine has one calculator, which was handed in for its node, and it is as the job tells it
+-- an engine has one calculator, which was handed in for its node; it is at rest, or stands in the window
 pub record HasCalculator (job : LoggedJob) (node : PlanNode) (engine : EngineView) : Type 0 where
   pub held : HolderView
   pub only : calculators_in engine ≡ held ∷ []
@@ -62,7 +64,7 @@ pub record HasCalculator (job : LoggedJob) (node : PlanNode) (engine : EngineVie
   pub found : handed_in engine ≡ told_by held ∷ []
   pub stands : IsAtRest job node engine held ⊎ IsInWindow job engine held
 
--- it was opened with its node's side packets
+-- a calculator was opened with its node's side packets
 pub record IsOpenedFor (job : LoggedJob) (node : PlanNode) (told held : HolderView) : Type 0 where
   pub answer : Result (List Laid) Cause
   pub opened : IsOpened told held (sides_of job.job node) answer

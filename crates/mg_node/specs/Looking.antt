@@ -1,4 +1,4 @@
--- What is still there of what was laid.
+-- The packets that an output still keeps of what was laid there.
 use Rattle.std.specs.Prelude.{ℕ, ◌-◌, nat_lt, Option, None, slice_get, if◌then◌else◌}
 use Rattle.mg_value.specs.Payload.{Plain}
 use Rattle.mg_value.specs.Prefix.{Stamped}

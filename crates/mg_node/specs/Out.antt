@@ -14,14 +14,14 @@ pub record IsMissing (engine : EngineView) (number : ℕ) : Type 0 where
   pub there : slice_get engine.window place ≡ Some entry
   pub missing : entry.outcome ≡ None
 
--- one more work is out, which wasn't; all that were out are, and no other
+-- one more work is out, which wasn't before; all others that were out stay out, and no others are
 pub record GoesOut (before now : EngineView) (work : WorkView) : Type 0 where
   pub out : IsOut now work
   pub apart : (other : WorkView) → IsOut before other → other.number ≢ work.number
   pub stays : (other : WorkView) → IsOut before other → IsOut now other
   pub only : (place : ℕ) (entry : EntryView) → slice_get now.window place ≡ Some entry → entry.outcome ≡ None → (work.number ≡ now.laid + place) ⊎ IsMissing before (now.laid + place)
 
--- the work of a number is out no more; all others that were out are, and no other
+-- the work of a number is out no more; all others that were out stay out, and no others are
 pub record ComesBack (before now : EngineView) (number : ℕ) : Type 0 where
   pub stays : (other : WorkView) → IsOut before other → other.number ≢ number → IsOut now other
   pub only : (place : ℕ) (entry : EntryView) → slice_get now.window place ≡ Some entry → entry.outcome ≡ None → IsMissing before (now.laid + place) × (now.laid + place ≢ number)

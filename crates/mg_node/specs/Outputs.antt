@@ -19,7 +19,7 @@ count_at engine output = (slice_index_or engine.outputs output empty_backlog).go
 abbrev pub kept_in : EngineView → ℕ
 kept_in engine = sum_by (λ b. length b.packets) engine.outputs
 
--- an output of which so many first packets are given up, or as many as were before
+-- an output of which the first `got` packets are given up, or as many as were before where those are more
 abbrev pub without_first : ℕ → Backlog Plain → Backlog Plain
 without_first got output = record { gone = max output.gone got; packets = drop (got - output.gone) output.packets; bound = output.bound }
 
@@ -27,7 +27,7 @@ without_first got output = record { gone = max output.gone got; packets = drop (
 abbrev pub kept_whole : StreamPrefix Plain → Backlog Plain
 kept_whole s = record { gone = 0; packets = s.packets; bound = s.bound }
 
--- the engine of a graph input, by its number, its stream's, and what is known of it
+-- the engine of a graph input, by its number, the number of its stream, and the prefix that is known of that
 abbrev pub input_engine : ℕ → ℕ → StreamPrefix Plain → EngineView
 input_engine input stream s = record {
   role = Input;

@@ -31,10 +31,11 @@ abbrev pub waiting_in : Waits → ℕ
 waiting_in (Sets inbox) = pool_len inbox.pool
 waiting_in (Loop held) = length held.loop.packets + length held.main.packets
 
--- what waits with another queue at a port
+-- what waits at a loopback with another queue at a port
 abbrev pub held_with : Held Plain → ℕ → Waiting Plain → Held Plain
 held_with held port q = if port == 0 then record held { loop = q } else record held { main = q }
 
+-- what waits with another queue at a port
 abbrev pub with_port : Waits → ℕ → Waiting Plain → Waits
 with_port (Sets inbox) port q = Sets (record inbox { pool = with_queue inbox.pool port q })
 with_port (Loop held) port q = Loop (held_with held port q)

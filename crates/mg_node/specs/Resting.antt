@@ -24,8 +24,8 @@ pub record HasCome (intake : IntakeView) (came : List (StreamPrefix Plain)) : Ty
   pub ports : length came ≡ ports_in intake.waits
   pub stands : (port : ℕ) → port < length came → StandsFor (port_queue intake.waits port) (slice_index_or came port empty_prefix)
 
--- what came to the cell of a node is what some streams have at its ports, and what it laid is known in whole; both stand in the
--- solution's streams
+-- what came to the cell of a node is what some streams have at its ports, and `laid` is what it laid, in whole; the solution's streams
+-- extend both
 pub record HasCarried (job : LoggedJob) (solution streams : List (StreamPrefix Plain)) (node : PlanNode) (engine : EngineView) (intake : IntakeView) (laid : List (StreamPrefix Plain)) : Type 0 where
   pub solves : Solves job solution
   pub came : HasCome intake (inputs_of streams node)

@@ -22,7 +22,7 @@ MayRun (SourceCall number) bench = IsSource bench.told.law × (number < calls_of
 MayRun (Process at) bench = IsOuter bench.told.law × FitsInputs bench.told.shape bench.set
 MayRun Close bench = ⊤
 
--- its log has the call afterwards; a source tells none
+-- the log of a calculator that has run in a phase has the call, unless memory was short; a source's calls aren't told
 abbrev pub LogsPhase : {E : Type 0} → Result E CalcFault → Option (List Call) → Option (List Call) → Phase → List (Option (Stamped Plain)) → Type 0
 LogsPhase result before now Open set = now ≡ before
 LogsPhase result before now (SourceCall number) set = now ≡ before
@@ -40,7 +40,7 @@ pub record HasRun (result : Result (List Laid) CalcFault) (phase : Phase) (befor
   pub same_handed : now.told.handed ≡ before.told.handed
   pub set : now.set ≡ before.set
 
--- there is a job for which a work is lawful
+-- a work is lawful for some job
 pub record SomeJobHas (work : WorkView) : Type 0 where
   pub job : LoggedJob
   pub lawful : LawfulWork job work

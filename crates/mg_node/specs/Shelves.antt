@@ -11,35 +11,36 @@ pub record IsOut (engine : EngineView) (work : WorkView) : Type 0 where
   pub out : entry.outcome ≡ None
   pub phase_is : entry.phase ≡ work.phase
 
--- an entry of a work that came back, and isn't committed
+-- the entry of a work that came back, not committed
 abbrev pub back : OutcomeView → EntryView
 back outcome = record { phase = outcome.work.phase; outcome = Some outcome; committed = false }
 
--- a work stands in its window again
+-- an engine with a work that came back in its window, not committed
 abbrev pub shelved : EngineView → OutcomeView → EngineView
 shelved engine outcome = record engine { window = slice_set engine.window (outcome.work.number - engine.laid) (back outcome) }
 
--- what was performed, of an outcome
+-- what was performed, where an outcome is that of a work that was run
 abbrev pub performed_of : OutcomeView → Option PerformedView
 performed_of outcome = option_map (λ answer. record { work = outcome.work; answer = answer }) outcome.answer
 
--- and the outcome of what was performed
+-- the outcome of a work that was performed
 abbrev pub outcome_of : PerformedView → OutcomeView
 outcome_of p = record { work = p.work; answer = Some p.answer }
 
--- what stands in an entry as performed and not committed
+-- the performed work that an entry has, not committed, if it has one
 abbrev pub shelf_of : EntryView → Option PerformedView
 shelf_of entry = if entry.committed then None else option_and_then performed_of entry.outcome
 
--- and in a window, under a number
+-- the performed work that an engine's window has under a number, not committed, if it has one
 abbrev pub shelf_at : EngineView → ℕ → Option PerformedView
 shelf_at engine number = if nat_lt number engine.laid then None else option_and_then shelf_of (slice_get engine.window (number - engine.laid))
 
--- it is taken: its entry is claimed again
+-- a performed work is taken out of a window at a place: its entry has no outcome any more; where there is no work, nothing changes
 abbrev pub Taken : Option PerformedView → List EntryView → List EntryView → ℕ → Type 0
 Taken None window now place = now ≡ window
 Taken (Some p) window now place = now ≡ slice_set window place (record { phase = p.work.phase; outcome = None; committed = false })
 
+-- the performed work of a number is taken out of an engine's window: it is out again; where there is no such work, nothing changes
 abbrev pub Unshelves : Option PerformedView → EngineView → EngineView → ℕ → Type 0
 Unshelves None engine engine_now number = engine_now ≡ engine
 Unshelves (Some p) engine engine_now number = engine_now ≡ record engine { window = slice_set engine.window (number - engine.laid) (record { phase = p.work.phase; outcome = None; committed = false }) }

@@ -9,18 +9,19 @@ use Rattle.mg_calc.specs.Told.{with_call}
 use Rattle.mg_node.specs.Views.{BenchView, OutcomeView, EntryView, EngineView}
 use Rattle.mg_node.specs.Lawful.{is_close}
 
--- a node that failed in this phase is still to be closed: not where Open failed, or Close itself
+-- whether a node that failed in this phase is still to be closed: not where Open or Close itself failed
 abbrev pub closes_after : Phase → Bool
 closes_after Open = false
 closes_after (Call number) = true
 closes_after (Process at) = true
 closes_after Close = false
 
+-- whether a node with this fault, or with none, is still to be closed
 abbrev pub closes_despite : Option NodeFault → Bool
 closes_despite None = true
 closes_despite (Some fault) = closes_after fault.phase
 
--- a node was opened and had no Close
+-- whether a node was opened and had no Close
 abbrev pub lacks_close : EngineView → Bool
 lacks_close engine = engine.begun && not engine.closed && closes_despite engine.fault
 
@@ -42,7 +43,7 @@ pub record FinishesLast (before now : EngineView) : Type 0 where
   pub is_finished : IsFinished bench finished
   pub is : now ≡ record before { idle = others ++ finished ∷ [] }
 
--- a work had Close: it is that of Close, and was performed
+-- whether the work of an outcome was Close and was performed
 abbrev pub was_closed : OutcomeView → Bool
 was_closed outcome = is_close outcome.work.phase && is_some outcome.answer
 
@@ -52,27 +53,28 @@ pub record ClosesWork (before now : OutcomeView) : Type 0 where
   pub is_finished : IsFinished before.work.bench finished
   pub is : now ≡ record { work = record before.work { bench = finished }; answer = before.answer }
 
--- so it is, unless the work had Close
+-- the calculator of a work that came back is closed, unless that work was Close and was performed
 pub record FinishesWork (before now : OutcomeView) : Type 0 where
   pub closes : was_closed before ≡ false → ClosesWork before now
   pub had : was_closed before ≡ true → now ≡ before
 
+-- the calculator of a work that came back, if there is one, is closed, unless that work was Close and was performed
 abbrev pub FinishesBack : Option OutcomeView → Option OutcomeView → Type 0
 FinishesBack None now = now ≡ None
 FinishesBack (Some outcome) now = (outcome_now : OutcomeView) × FinishesWork outcome outcome_now × (now ≡ Some outcome_now)
 
--- the work that came back to an entry is finished so, if there is one
+-- the calculator of the work that came back to an entry, if there is one, is closed, unless that work was Close and was performed
 pub record FinishesEntry (before now : EntryView) : Type 0 where
   pub outcome : Option OutcomeView
   pub finishes : FinishesBack before.outcome outcome
   pub is : now ≡ record { phase = before.phase; outcome = outcome; committed = before.committed }
 
--- so is the first one of a window
+-- the first entry of a window, if there is one, has the calculator of its work closed
 abbrev pub FinishesFirst : List EntryView → List EntryView → Type 0
 FinishesFirst [] now = now ≡ []
 FinishesFirst (entry ∷ entries) now = (entry_now : EntryView) × FinishesEntry entry entry_now × (now ≡ entry_now ∷ entries)
 
--- and nothing else of an engine changes
+-- the first entry of an engine's window has the calculator of its work closed, and nothing else of the engine changes
 pub record FinishesFront (before now : EngineView) : Type 0 where
   pub window : List EntryView
   pub finishes : FinishesFirst before.window window

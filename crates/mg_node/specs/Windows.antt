@@ -3,11 +3,11 @@ use Rattle.std.specs.Prelude.{Bool, false, List, [], ◌∷◌, Option, None, op
 use Rattle.mg_node.specs.Views.{PerformedView, EntryView, EngineView}
 use Rattle.mg_node.specs.Shelves.{performed_of}
 
--- the node has failed, or closed
+-- whether a node has failed or closed
 abbrev pub has_ended : EngineView → Bool
 has_ended engine = engine.closed || is_some engine.fault
 
--- an entry that is committed has what was performed; every other one isn't ready
+-- what was performed, where an entry is committed; every other entry isn't ready
 abbrev pub ready_of : EntryView → Option PerformedView
 ready_of entry = if entry.committed then option_and_then performed_of entry.outcome else None
 

@@ -1,7 +1,7 @@
 use crate::Work;
 use mg_calc::Calculator;
 
-/// How far a node's next set came, of which the work is claimed, performed and committed at once.
+/// How far the work of a node's next set came in a call that claims, performs and commits it.
 #[derive(Drop)]
 pub enum AtOnce<C: Calculator> {
     /// No set is shown: works are under way, or a claim may answer with something else than a set. Nothing has changed.

@@ -22,8 +22,7 @@ use mg_value::InputSet;
 use std::alloc::{AllocError, Global};
 use std::marker::Model;
 
-/// What a work needs: a calculator, and a set for what it is shown. A set lies there from one work to the next, so that no work
-/// takes memory for one.
+/// A calculator, with the set that it is shown. The set's memory stays from one work to the next, so that no work takes memory for it.
 #[derive(Drop)]
 pub struct Bench<C: Calculator> {
     // On the heap: a bench moves with each work that is claimed and comes back.
@@ -43,7 +42,7 @@ impl<C: Calculator> Model for Bench<C> {
 }
 
 impl<C: Calculator> Bench<C> {
-    /// One of a calculator and a set. Want of memory hands the calculator back.
+    /// Returns a bench of a calculator and a set, or the calculator where there is no memory.
     pub fn new(alloc: Global, holder: Holder<C>, set: InputSet) -> Result<Bench<C>, Holder<C>>
         ensures made { IfOk result (λ b. b ≡ record { told = holder; set = set }) }
         ensures returned { IfErr result (λ h. h ≡ holder) }
@@ -54,7 +53,7 @@ impl<C: Calculator> Bench<C> {
         }
     }
 
-    /// The bench with a calculator that is handed in, in the place of its own.
+    /// Returns the bench with a calculator that is handed in, in the place of its own.
     pub(crate) fn with(self, calculator: C) -> Bench<C>
         ensures { result ≡ record { told = holder_view true (C.told calculator); set = self.set } }
     {
@@ -76,7 +75,7 @@ impl<C: Calculator> Bench<C> {
         self.holder.begin(alloc, sides)
     }
 
-    /// Opens the calculator, and tells what it answers, where there is memory for that. Want of memory changes nothing.
+    /// Opens the calculator with side packets, and returns its answer, or `None` where there is no memory. Want of memory changes nothing.
     pub(crate) fn open(
         &mut self,
         alloc: Global,
@@ -106,8 +105,7 @@ impl<C: Calculator> Bench<C> {
         }
     }
 
-    /// Shows the calculator the set that lies here, and tells what it answers, where there is memory for that. Want of memory changes
-    /// nothing.
+    /// Shows the calculator the bench's set, and returns its answer, or `None` where there is no memory. Want of memory changes nothing.
     pub(crate) fn show(&mut self, alloc: Global, at: Timestamp) -> Option<Result<Emission, Cause>>
         requires { MayRun (Process at) self.old }
         ensures shown { IfSome result (λ answer. HasShown at answer self.old self.new) }
@@ -132,7 +130,7 @@ impl<C: Calculator> Bench<C> {
         }
     }
 
-    /// Takes the next input set of an intake, whose time is known.
+    /// Takes the next input set of an intake, which must stand at `at`, into the bench's set.
     pub(crate) fn fill(&mut self, at: Timestamp, intake: &mut Intake)
         requires places { length self.old.set ≡ ports_in intake.old.waits }
         requires lawful { SomeJobHasIntake intake.old }
@@ -149,7 +147,7 @@ impl<C: Calculator> Bench<C> {
         ensures there { is_some result ≡ self.told.handed }
         ensures told { IfSome result (λ c. C.told c ≡ told_by self.told) }
 
-        // The same as one equation.
+        // What the calculator tells of itself, as one equation for both cases.
         ensures handed { option_map C.told result ≡ handed_told self.told }
     {
         let Bench { holder, .. } = self;

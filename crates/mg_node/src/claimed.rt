@@ -1,7 +1,7 @@
 use crate::Work;
 use mg_calc::Calculator;
 
-/// What a claim gives. The first that holds, in the order of the engine's rule, is answered.
+/// What a claim gives. Where more than one of these holds, `Engine::claim` says which is given.
 #[derive(Drop)]
 pub enum Claimed<C: Calculator> {
     /// A work: one that came back unrun, or the next set, call or Close.

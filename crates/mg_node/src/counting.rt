@@ -1,4 +1,4 @@
-//! How many packets are held. A number past 64 bits is told as the greatest one.
+//! How many packets are held, at most `u64::MAX`.
 ghost use Rattle.std.specs.Prelude.{◌≡◌, ◌-◌, ◌^◌, length, min, sum_by};
 ghost use Rattle.mg_stream.specs.Pool.{pool_len};
 

@@ -1,8 +1,8 @@
 /// What a delivery did.
 #[derive(Clone, Copy, Debug, PartialEq, Eq)]
 pub enum Delivered {
-    /// So many packets came, and the bound behind them rose or didn't.
+    /// This many packets came, and `raised` tells whether the port's bound rose behind them.
     Moved { packets: u32, raised: bool },
-    /// There was no memory for a further packet. So many came before.
+    /// There was no memory for a further packet; this many came before it.
     OutOfMemory { packets: u32 },
 }

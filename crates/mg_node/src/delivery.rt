@@ -1,4 +1,4 @@
-//! How the packets of an output come to a port.
+//! Bringing the packets of an output to a port.
 ghost use Rattle.std.specs.Prelude.{◌≡◌, ◌<◌, IfOk, false, nat_lt, slice_get, option_copied, is_ok, if◌then◌else◌};
 ghost use Rattle.mg_stream.specs.Queue.{with_packet, MayCome};
 ghost use Rattle.mg_node.specs.Ports.{ports_in, port_queue, with_port, with_room};
@@ -11,7 +11,7 @@ use mg_stream::Queue;
 use mg_value::Packet;
 use std::alloc::AllocError;
 
-/// Brings at most so many packets of an output to a port that hasn't got them, and then the bound.
+/// Brings at most `most` packets of an output to a port that hasn't got them, and the bound once all are there.
 pub(crate) fn deliver(output: &Queue, intake: &mut Intake, port: u32, most: u32) -> Delivered
     requires port { port < ports_in intake.old.waits }
     requires of_one { AreOfOne output.now (port_queue intake.old.waits port) }
@@ -27,7 +27,8 @@ pub(crate) fn deliver(output: &Queue, intake: &mut Intake, port: u32, most: u32)
     Delivered::Moved { packets, raised }
 }
 
-/// Brings at most so many packets, and tells how many, also where there is no memory for the next one.
+/// Brings at most `most` packets of an output to a port that hasn't got them, and returns how many came. The error is that number too,
+/// where there was no memory for the next one.
 fn bring_all(output: &Queue, intake: &mut Intake, port: u32, most: u32) -> Result<u32, u32>
     requires port { port < ports_in intake.old.waits }
     requires of_one { AreOfOne output.now (port_queue intake.old.waits port) }
@@ -48,7 +49,7 @@ fn bring_all(output: &Queue, intake: &mut Intake, port: u32, most: u32) -> Resul
     Ok(packets)
 }
 
-/// The first packet of an output that a port hasn't got.
+/// The first packet of an output that a port hasn't got, if there is one.
 fn next_packet<'a>(output: &'a Queue, intake: &Intake, port: u32) -> Option<&'a Packet>
     requires port { port < ports_in intake.now.waits }
     requires of_one { AreOfOne output.now (port_queue intake.now.waits port) }
@@ -70,7 +71,7 @@ fn bring(packet: &Packet, intake: &mut Intake, port: u32) -> Result<(), AllocErr
     intake.put(port, packet)
 }
 
-/// Raises a port to the bound of an output, where it has all of its packets, and tells whether its bound rose.
+/// Raises a port to the bound of an output, where it has all of the output's packets, and returns whether the port's bound rose.
 fn raise_behind(output: &Queue, intake: &mut Intake, port: u32) -> bool
     requires port { port < ports_in intake.old.waits }
     requires of_one { AreOfOne output.now (port_queue intake.old.waits port) }

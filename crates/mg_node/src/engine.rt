@@ -34,14 +34,19 @@ pub struct Engine<C: Calculator> {
     node: u32,
     // The number of the first output's stream.
     first: u32,
+    // The timestamp offset of the node, if it has one.
     offset: Option<i64>,
+    // How many works may be claimed and not laid.
     in_flight: u32,
+    // How many input ports the node has.
     inputs: u32,
     outputs: Vec<Queue>,
     // How many sets, calls or answers were laid, and how many were claimed.
     laid: u64,
     claimed: u64,
+    // The works that are claimed and not laid, in order.
     window: VecDeque<Entry<C>>,
+    // The benches that no work has.
     idle: Vec<Bench<C>>,
     begun: bool,
     closed: bool,
@@ -81,28 +86,28 @@ impl<C: Calculator> Model for Engine<C> {
 }
 
 impl<C: Calculator> Engine<C> {
-    /// How many sets were laid, calls or answers. Close isn't counted.
+    /// How many sets, calls or answers were laid. Close isn't counted.
     pub fn laid(&self) -> u64
         ensures { result ≡ self.now.laid }
     {
         self.laid
     }
 
-    /// How many sets were claimed, calls or answers. Close isn't counted.
+    /// How many sets, calls or answers were claimed. Close isn't counted.
     pub fn claimed(&self) -> u64
         ensures { result ≡ self.now.claimed }
     {
         self.claimed
     }
 
-    /// Whether its node has failed, or closed.
+    /// Whether the node has failed, or closed.
     pub fn has_ended(&self) -> bool
         ensures { result ≡ (self.now.closed || is_some self.now.fault) }
     {
         self.closed || self.fault.is_some()
     }
 
-    /// The fault of its node, if there is one.
+    /// The fault of the node, if it has failed.
     pub fn fault(&self) -> Option<NodeFault>
         ensures { result ≡ self.now.fault }
     {
@@ -124,14 +129,14 @@ impl<C: Calculator> Engine<C> {
         self.outputs[output as usize].count()
     }
 
-    /// How many packets are kept at all outputs. A number past 64 bits is told as the greatest one.
+    /// How many packets are kept at all outputs, at most `u64::MAX`.
     pub fn held(&self) -> u64
         ensures { result ≡ min (kept_in self.now) (2 ^ 64 - 1) }
     {
         held_at(&self.outputs)
     }
 
-    /// The bound of an output.
+    /// The bound of an output: the lowest timestamp that a further packet may have there.
     pub fn bound(&self, output: u32) -> Timestamp
         requires { output < length self.now.outputs }
         ensures { result ≡ (slice_index_or self.now.outputs output empty_backlog).bound }

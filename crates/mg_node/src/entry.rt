@@ -14,7 +14,7 @@ use mg_calc::{Calculator, Cause, Emission, Phase};
 use std::alloc::{AllocError, Global};
 use std::marker::Model;
 
-/// A work that was claimed and isn't laid. It is out, or its outcome stands here.
+/// An entry of a window: a work that was claimed and isn't laid. The work is out, or its outcome stands here.
 #[derive(Drop)]
 pub struct Entry<C: Calculator> {
     phase: Phase,
@@ -33,7 +33,7 @@ impl<C: Calculator> Model for Entry<C> {
     ghost view = { λ e. record { phase = e.phase; outcome = e.outcome; committed = e.committed } };
 }
 
-// Closes the calculator of a work that came back, unless the work did, where there is one.
+// Closes the calculator of the work that came back, if there is one, unless that was a performed Close. Want of memory changes nothing.
 fn finish_back<C: Calculator>(
     outcome: &mut Option<Outcome<C>>,
     alloc: Global,
@@ -48,7 +48,7 @@ fn finish_back<C: Calculator>(
 }
 
 impl<C: Calculator> Entry<C> {
-    /// That of a work that is handed out.
+    /// The entry of a work that is handed out.
     pub(crate) fn out(phase: Phase) -> Entry<C>
         ensures { result ≡ record { phase = phase; outcome = None; committed = false } }
     {
@@ -66,7 +66,7 @@ impl<C: Calculator> Entry<C> {
         self.phase
     }
 
-    /// Whether its work came back unrun.
+    /// Whether the entry's work came back unrun.
     pub(crate) fn is_unrun(&self) -> bool
         ensures { result ≡ is_unrun self.now }
     {
@@ -76,7 +76,7 @@ impl<C: Calculator> Entry<C> {
         }
     }
 
-    /// Hands out its work, which came back unrun.
+    /// Hands out the entry's work, which must have come back unrun.
     pub(crate) fn hand_out(&mut self) -> Work<C>
         requires { is_unrun self.old ≡ true }
         ensures work { self.old.outcome ≡ Some (record { work = result; answer = None }) }
@@ -89,7 +89,7 @@ impl<C: Calculator> Entry<C> {
         }
     }
 
-    /// That of a work that came back.
+    /// The entry of a work that came back, not committed.
     pub(crate) fn back(outcome: Outcome<C>) -> Entry<C>
         ensures { result ≡ back outcome }
     {
@@ -100,7 +100,7 @@ impl<C: Calculator> Entry<C> {
         }
     }
 
-    /// That of a work that came back: what was performed is committed.
+    /// The entry of a work that came back, committed if it was performed.
     pub(crate) fn committed(outcome: Outcome<C>) -> Entry<C>
         ensures { result ≡ committed_entry outcome }
     {
@@ -111,7 +111,7 @@ impl<C: Calculator> Entry<C> {
         }
     }
 
-    /// That of a node's calculator that was opened, and of what it answered.
+    /// The entry of a calculator that was opened, with its answer, committed.
     pub(crate) fn opened(node: u32, bench: Bench<C>, answer: Result<Emission, Cause>) -> Entry<C>
         ensures { result ≡ opened_entry node bench answer }
     {
@@ -119,7 +119,7 @@ impl<C: Calculator> Entry<C> {
         Entry::committed(Outcome::ran(Performed::new(work, answer)))
     }
 
-    /// Whether what was performed is committed.
+    /// Whether the entry is ready to be laid: it is committed, and its work was performed.
     pub(crate) fn is_ready(&self) -> bool
         ensures { result ≡ is_some (ready_of self.now) }
     {
@@ -132,7 +132,7 @@ impl<C: Calculator> Entry<C> {
         }
     }
 
-    /// How many packets were emitted at an output, where it is ready.
+    /// How many packets an entry that is ready has at an output.
     pub(crate) fn packets_at(&self, output: u32) -> u32
         ensures { (p : PerformedView) → ready_of self.now ≡ Some p → result ≡ packets_by output p.answer }
     {
@@ -142,7 +142,7 @@ impl<C: Calculator> Entry<C> {
         }
     }
 
-    /// What was performed, where it is ready.
+    /// The performed work of an entry, which must be ready.
     pub(crate) fn into_performed(self) -> Performed<C>
         requires { is_some (ready_of self) ≡ true }
         ensures { ready_of self ≡ Some result }
@@ -154,7 +154,7 @@ impl<C: Calculator> Entry<C> {
         }
     }
 
-    /// The work that came back to it.
+    /// The outcome that stands in the entry. There must be one.
     pub(crate) fn into_outcome(self) -> Outcome<C>
         requires { is_some self.outcome ≡ true }
         ensures { self.outcome ≡ Some result }
@@ -166,7 +166,7 @@ impl<C: Calculator> Entry<C> {
         }
     }
 
-    /// Whether its work stands here as performed, and not committed.
+    /// Whether the entry has a performed work that isn't committed.
     pub(crate) fn is_shelf(&self) -> bool
         ensures { result ≡ is_some (shelf_of self.now) }
     {
@@ -179,7 +179,7 @@ impl<C: Calculator> Entry<C> {
         }
     }
 
-    /// Takes what was performed, and stands here not committed.
+    /// Takes the performed work, which must stand in the entry and not be committed.
     pub(crate) fn take_shelf(&mut self) -> Performed<C>
         requires { is_some (shelf_of self.old) ≡ true }
         ensures found { shelf_of self.old ≡ Some result }
@@ -193,7 +193,8 @@ impl<C: Calculator> Entry<C> {
         performed
     }
 
-    /// Closes the calculator of the work that came back, unless that work did. Want of memory changes nothing.
+    /// Closes the calculator of the work that came back, if there is one, unless that was a performed Close. Want of memory changes
+    /// nothing.
     pub(crate) fn finish(&mut self, alloc: Global) -> Result<(), AllocError>
         ensures finished { OnOk result (FinishesEntry self.old self.new) }
         ensures unchanged { OnErr result (self.new ≡ self.old) }

@@ -1,4 +1,4 @@
-//! How what is committed at the front of a window is laid.
+//! Laying what is committed at the front of a window.
 ghost use Rattle.std.specs.Prelude.{◌≡◌, ◌<◌, ◌≤◌, ◌+◌, ◌^◌, ◌||◌, true, map, length, IfOk, OnOk, is_some, vec_len, vec_capacity};
 ghost use Rattle.std.specs.VecDeque.{deque_len, deque_capacity};
 ghost use Rattle.mg_stream.specs.Pool.{backlog_of};
@@ -17,7 +17,7 @@ use mg_stream::Queue;
 use std::alloc::AllocError;
 use std::collections::VecDeque;
 
-/// What laying a front has come to: how many sets or calls were laid, whether Close was, and the node's fault, if there is one.
+/// What laying a front came to: how many sets or calls were laid, whether Close was, and the node's fault, if there is one.
 #[derive(Clone, Copy, Debug, PartialEq, Eq)]
 pub struct FrontEnd {
     pub laid: u32,
@@ -76,8 +76,8 @@ fn packets_by(answer: &Result<Emission, Cause>, output: u32) -> u32
     }
 }
 
-// How many packets the entries that are ready at the front of a window have at an output. A number that is too large counts as want
-// of memory.
+// How many packets the entries that are ready at the front of a window have at an output. A number past 32 bits is an error, as if there
+// were no memory.
 #[tactic(auto, using(crate::proofs::FrontSteps::needed_more, crate::proofs::FrontSteps::needed_end, crate::proofs::FrontSteps::needed_all))]
 fn needed<C: Calculator>(window: &VecDeque<Entry<C>>, output: u32) -> Result<u32, AllocError>
     ensures { IfOk result (λ n. n ≡ needed_at output window.now.items) }
@@ -134,7 +134,7 @@ pub(crate) fn lay_front<C: Calculator>(
     }
 }
 
-// Lays the first entry, which is ready.
+// Lays the first entry of a window, which must be ready.
 fn lay_first<C: Calculator>(
     offset: Option<i64>,
     node: u32,
@@ -162,7 +162,7 @@ fn lay_first<C: Calculator>(
     end(node, &phase, cause)
 }
 
-// What an entry of a phase has come to.
+// What laying an entry of a phase comes to, where `cause` is why it couldn't be laid.
 fn end(node: u32, phase: &Phase, cause: Option<Cause>) -> FrontEnd
     ensures { result ≡ end_of node phase.now cause }
 {
@@ -173,7 +173,7 @@ fn end(node: u32, phase: &Phase, cause: Option<Cause>) -> FrontEnd
     }
 }
 
-/// The fault of a node that can't lay what an entry of a phase has.
+/// The fault of a node, where `cause` is why an entry of a phase couldn't be laid; `None` where there is no cause.
 pub(crate) fn fault_of(node: u32, phase: &Phase, cause: Option<Cause>) -> Option<NodeFault>
     ensures { result ≡ (end_of node phase.now cause).fault }
 {

@@ -43,13 +43,13 @@ impl Model for Intake {
 }
 
 impl Intake {
-    /// That of a consumer of a plan, a node or the collector, to which nothing came yet.
+    /// The intake, to which nothing came yet, of a consumer of a plan: of a node by its number, or of the collector by the number of nodes.
     pub fn new(alloc: Global, plan: &Plan, consumer: u32) -> Result<Intake, AllocError>
         requires valid { IsValid plan.now }
         requires consumer { consumer ≤ length plan.now.nodes }
         ensures fresh { IfOk result (λ i. IsFresh plan.now consumer i) }
 
-        // It is lawful for every job of the plan.
+        // The intake is lawful for every job of the plan.
         ensures lawful { (job : LoggedJob) (streams : List (StreamPrefix Plain)) → job.job.plan ≡ plan.now → Solves job streams
             → IfOk result (λ i. LawfulIntake job consumer i) }
     {
@@ -57,8 +57,8 @@ impl Intake {
         Ok(Intake { waits, claimed: 0 })
     }
 
-    /// Claims the next input set, where there is one: it is then in `into`, and its packets are gone. Otherwise nothing changes. A
-    /// loopback has none.
+    /// Claims the next input set, and returns whether there was one: the set is then in `into`, and its packets are gone. Where there is
+    /// none nothing changes. A loopback has no sets.
     pub fn claim(&mut self, into: &mut InputSet) -> bool
         requires places { length into.old ≡ ports_in self.old.waits }
         requires lawful { SomeJobHasIntake self.old }
@@ -74,7 +74,7 @@ impl Intake {
         ensures counts { (port : ℕ) → count_of (port_queue self.new.waits port) ≡ count_of (port_queue self.old.waits port) }
         ensures bounds { (port : ℕ) → (port_queue self.new.waits port).bound ≡ (port_queue self.old.waits port).bound }
 
-        // Its standing only grows.
+        // The intake's standing only grows.
         ensures grows { IntakeGrows self.old self.new }
 
         // Lawful in, lawful out, for every job; and the set is that of its number in the solution.
@@ -89,7 +89,7 @@ impl Intake {
         true
     }
 
-    /// Claims the next input set, whose time is known. It isn't asked of a loopback.
+    /// Claims the next input set, which must stand at `at`. The intake must not be a loopback's.
     pub(crate) fn claim_at(&mut self, at: Timestamp, into: &mut InputSet)
         requires places { length into.old ≡ ports_in self.old.waits }
         requires lawful { SomeJobHasIntake self.old }
@@ -151,7 +151,7 @@ impl Intake {
         }
     }
 
-    /// How many packets wait at all ports. A number past 64 bits is told as the greatest one.
+    /// How many packets wait at all ports, at most `u64::MAX`.
     pub fn held(&self) -> u64
         ensures { result ≡ min (waiting_in self.now.waits) (2 ^ 64 - 1) }
     {
@@ -172,7 +172,7 @@ impl Intake {
         }
     }
 
-    /// Whether there is a next input set, and at which time, or why there is none. It isn't asked of a loopback.
+    /// Whether there is a next input set, and at which time, or why there is none. The intake must not be a loopback's.
     pub(crate) fn set_readiness(&self) -> Readiness
         requires { HasSets self.now.waits }
         ensures { IsNext self.now.waits result }
@@ -183,7 +183,7 @@ impl Intake {
         }
     }
 
-    /// Whether a loopback is at its end: nothing waits on MAIN, and nothing comes there any more.
+    /// Whether a loopback is at its end: no packet waits on MAIN, and none comes there any more. The intake must be a loopback's.
     pub(crate) fn is_over(&self) -> bool
         requires { HasLoop self.now.waits }
         ensures yes { result ≡ true → IsNext self.now.waits Readiness.Close }
@@ -196,7 +196,7 @@ impl Intake {
         }
     }
 
-    /// Answers the next packet of MAIN of a loopback, where it can be told.
+    /// Answers the next packet of MAIN, where its answer can be told. The intake must be a loopback's.
     pub(crate) fn answer(&mut self) -> Answered
         requires looped { HasLoop self.old.waits }
         requires few { self.old.claimed + 1 < 2 ^ 64 }
@@ -213,7 +213,7 @@ impl Intake {
         answered
     }
 
-    /// The time below which no further set is claimed, and no further answer given, whatever comes.
+    /// The time below which no further set is claimed, or answer given, whatever comes.
     pub fn horizon(&self) -> Timestamp
         ensures { result ≡ horizon_of self.now.waits }
     {
@@ -223,7 +223,8 @@ impl Intake {
         }
     }
 
-    /// Puts a packet that may come behind those that wait at a port. Where there is no memory, nothing but the room changes.
+    /// Puts a packet that may come behind those that wait at a port. Where there is no memory, the packet is dropped, and nothing but the
+    /// room changes.
     pub(crate) fn put(&mut self, port: u32, packet: Packet) -> Result<(), AllocError>
         requires port { port < ports_in self.old.waits }
         requires may_come { MayCome (port_queue self.old.waits port) packet.at }
@@ -275,7 +276,7 @@ fn waits_of(alloc: Global, node: &PlanNode) -> Result<Waits, AllocError>
     Ok(Waits::Sets(Inbox::new(alloc, node.inputs.len(), node.policy)?))
 }
 
-/// Claims the next input set of what waits, where there is one.
+/// Claims the next input set of what waits into `into`, and returns whether there was one.
 fn claim_of(waits: &mut Waits, into: &mut InputSet) -> bool
     requires { length into.old ≡ ports_in waits.old }
     ensures claimed { IsTrue result ↔ IsSome (next_set_of waits.old) }
@@ -297,7 +298,7 @@ fn claim_of(waits: &mut Waits, into: &mut InputSet) -> bool
     }
 }
 
-/// Claims the next input set of what waits, whose time is known.
+/// Claims the next input set of what waits, which must stand at `at`. What waits must not be a loopback's.
 fn claim_known(waits: &mut Waits, at: Timestamp, into: &mut InputSet)
     requires places { length into.old ≡ ports_in waits.old }
     requires sets { HasSets waits.old }

@@ -1,4 +1,4 @@
-//! Queues of what was laid at an output.
+//! Queues of what was laid at the outputs of an engine.
 ghost use Rattle.std.specs.Prelude.{◌≡◌, ◌<◌, ◌≤◌, ◌-◌, ◌++◌, ℕ, IfOk, OnOk, OnErr, length};
 ghost use Rattle.mg_value.specs.Prefix.{IsPrefix, Ascends, first_time};
 ghost use Rattle.mg_stream.specs.Pool.{backlog_of};
@@ -12,7 +12,7 @@ use mg_time::Timestamp;
 use mg_value::{Packet, Prefix};
 use std::alloc::{AllocError, Global};
 
-/// A queue with all packets of a prefix, and its bound. Payloads are shared.
+/// Returns a queue with all packets of a prefix, and its bound. Payloads are shared.
 pub(crate) fn queue_of(alloc: Global, prefix: &Prefix) -> Result<Queue, AllocError>
     requires { IsPrefix prefix.now }
     ensures { IfOk result (λ q. backlog_of q ≡ kept_whole prefix.now) }
@@ -31,7 +31,7 @@ fn fill(queue: &mut Queue, packets: &[Packet]) -> Result<(), AllocError>
     ensures above { (b : ℕ) → queue.old.bound ≤ b → OnOk result (queue.old.bound ≤ first_time packets.now b) }
     ensures grows { OnOk result (queue.old.bound ≤ queue.new.bound) }
 
-    // What was there before is there at want of memory, and further packets perhaps.
+    // At want of memory what was there before is still there, with some of the further packets behind it perhaps.
     ensures left { OnErr result (IsLike (cut_back (length queue.old.packets) queue.old.bound queue.new) queue.old) }
 {
     for packet in packets {
@@ -42,8 +42,8 @@ fn fill(queue: &mut Queue, packets: &[Packet]) -> Result<(), AllocError>
     Ok(())
 }
 
-/// Puts the packets of a prefix behind those of a queue, and raises its bound to that of the prefix. Payloads are shared. Where memory
-/// is short, the packets that are there by then are taken back.
+/// Puts the packets of a prefix behind those of a queue, and raises the queue's bound to that of the prefix. Payloads are shared. Where
+/// memory is short, the packets that came by then are taken back, and the queue is as before.
 pub(crate) fn lengthen(queue: &mut Queue, more: &Prefix) -> Result<(), AllocError>
     requires { MayLengthen queue.old more.now }
     ensures longer { OnOk result (backlog_of queue.new ≡ lengthened (backlog_of queue.old) more.now) }
@@ -59,7 +59,7 @@ pub(crate) fn lengthen(queue: &mut Queue, more: &Prefix) -> Result<(), AllocErro
     Ok(())
 }
 
-/// Takes the packets of a prefix back, which stand behind all others of a queue, and gives the queue this bound.
+/// Takes back the last packets of a queue, which are those of a prefix, and sets the queue's bound.
 pub(crate) fn shorten(queue: &mut Queue, more: &Prefix, bound: Timestamp)
     requires count { length more.now.packets ≤ length queue.old.packets }
     requires left { IsQueue (cut_back (length queue.old.packets - length more.now.packets) bound queue.old) }
@@ -69,7 +69,7 @@ pub(crate) fn shorten(queue: &mut Queue, more: &Prefix, bound: Timestamp)
     queue.cut_back(waiting, bound);
 }
 
-/// Gives up the first packets of a queue, until so many in all are given up.
+/// Gives up the first packets of a queue, until `got` packets are given up in all.
 pub(crate) fn give_up(queue: &mut Queue, got: u64)
     requires { got ≤ count_of queue.old }
     ensures { backlog_of queue.new ≡ without_first got (backlog_of queue.old) }
@@ -82,7 +82,7 @@ pub(crate) fn give_up(queue: &mut Queue, got: u64)
     }
 }
 
-/// Puts a packet behind those of an output that has room for it.
+/// Puts a packet that may come behind those of an output. There must be room for it.
 pub(crate) fn append(output: &mut Queue, packet: Packet)
     requires may_come { MayCome output.old packet.at }
     requires room { 0 < output.old.spare }

@@ -1,4 +1,4 @@
-//! Laws of the definitions: each function does nothing, and its contract is the law.
+//! Laws of cells: each function does nothing, and its contract is the law.
 ghost use Rattle.std.specs.Prelude.{◌≡◌, ◌≤◌, ◌<◌, ◌+◌, ◌^◌, ℕ, Option, Some, None, true, false, is_some, List, [], ◌∷◌, All, min, length, slice_get, slice_index_or};
 ghost use Rattle.mg_time.specs.Time.{done};
 ghost use Rattle.mg_value.specs.Payload.{Plain};
@@ -35,7 +35,7 @@ ghost use Rattle.mg_node.specs.Resting.{IsResting, HasCome, HasCarried};
 ghost use Rattle.mg_node.specs.Carried.{HasLaid, HasReached};
 ghost use Rattle.mg_node.specs.Shelves.{IsOut, shelved, outcome_of, shelf_at, performed_of, Unshelves};
 
-/// What was performed and came back is found in its window again, and nothing is found of a work that came back unrun.
+/// A performed work that was shelved is found in its window again, and none is found where the work came back unrun.
 pub fn what_is_shelved_is_found()
     ensures { (engine : EngineView) (outcome : OutcomeView) → IsOut engine outcome.work → shelf_at (shelved engine outcome) outcome.work.number ≡ performed_of outcome }
 {}
@@ -58,7 +58,7 @@ pub fn what_is_handed_in_is_there()
         → slice_get job.job.plan.nodes number ≡ Some node → is_some node.box_number ≡ true → NoneOut engine → HasCalculator job node engine }
 {}
 
-/// And so has one that isn't begun, beside those of the node's own.
+/// The engine of a node whose calculator was handed in has that one before it is begun, too, beside those that it makes itself.
 pub fn what_is_handed_in_waits_to_begin()
     ensures { (job : LoggedJob) (number : ℕ) (node : PlanNode) (engine : EngineView) → LawfulUnbegun job number engine
         → slice_get job.job.plan.nodes number ≡ Some node → is_some node.box_number ≡ true → HasHanded job number node engine }
@@ -75,7 +75,7 @@ pub fn stays_lawful()
     ensures outcome { (first later : LoggedJob) (outcome : OutcomeView) → Grows first later → LawfulOutcome first outcome → LawfulOutcome later outcome }
 {}
 
-/// What was taken out of a window can be put back, which leaves the engine as it was.
+/// A performed work that was taken out of a window can be put back, which leaves the engine as it was.
 pub fn what_is_taken_can_be_put_back()
     ensures { (job : LoggedJob) (owner : ℕ) (engine engine_now : EngineView) (number : ℕ) (p : PerformedView) → LawfulEngine job (of_node owner) engine
         → shelf_at engine number ≡ Some p → Unshelves (Some p) engine engine_now number → shelved engine_now (outcome_of p) ≡ engine }
@@ -105,7 +105,7 @@ pub fn ports_are_known()
         → ports_in intake.waits ≡ length (ports_of job.job.plan consumer) }
 {}
 
-/// Few packets wait at a port: a number of 64 bits counts them, and one more.
+/// The packets that wait at a port are few: a number of 64 bits counts them and one more.
 pub fn few_wait()
     ensures { (job : LoggedJob) (consumer port : ℕ) (intake : IntakeView) → LawfulIntake job consumer intake
         → length (port_queue intake.waits port).packets + 1 < 2 ^ 64 }
@@ -119,13 +119,13 @@ pub fn numbers_are_small()
     ensures port_bounds { (job : LoggedJob) (consumer port : ℕ) (intake : IntakeView) → LawfulIntake job consumer intake → (port_queue intake.waits port).bound ≤ done }
 {}
 
-/// No more sets, calls or answers are claimed of a node than the solution counts, and those that may be in flight beyond.
+/// No more sets, calls or answers of a node are claimed than the solution counts and, beyond these, may be in flight.
 pub fn claims_are_counted()
     ensures { (job : LoggedJob) (number : ℕ) (node : PlanNode) (engine : EngineView) (solution : List (StreamPrefix Plain)) → Solves job solution
         → slice_get job.job.plan.nodes number ≡ Some node → LawfulEngine job (of_node number) engine → engine.claimed ≤ count_of job.job solution node + node.in_flight }
 {}
 
-/// A commit leaves as many outputs as before, and none of them falls.
+/// A commit leaves as many outputs as before, and the engine's standing only grows.
 pub fn outputs_only_rise()
     ensures grows { (outcome : OutcomeView) (laid : ℕ) (before now : EngineView) → SomeJobHasEngine before → Commits outcome laid before now → EngineGrows before now }
     ensures same { (outcome : OutcomeView) (laid : ℕ) (before now : EngineView) → Commits outcome laid before now → length now.outputs ≡ length before.outputs }
@@ -161,14 +161,14 @@ pub fn works_come_back_one_by_one()
     ensures taken_grows { (found : Option PerformedView) (number : ℕ) (engine engine_now : EngineView) → Unshelves found engine engine_now number → EngineGrows engine engine_now }
 {}
 
-/// An advance leaves out the works that were, and the engine as it was set up; and its standing grows.
+/// An advance leaves the same works out, and the engine as it was set up; and the engine's standing grows.
 pub fn advances_leave_works_out()
     ensures out { (engine : EngineView) (waits : Waits) → KeepsOut engine (advanced engine waits) }
     ensures set_up { (engine : EngineView) (waits : Waits) → KeepsSetUp engine (advanced engine waits) }
     ensures grows { (engine : EngineView) (waits : Waits) → EngineGrows engine (advanced engine waits) }
 {}
 
-/// A standing that grew, and then grew again, has grown; and each has grown to itself.
+/// The growth of standings is transitive and reflexive.
 pub fn standings_grow_on()
     ensures engine { (first second third : EngineView) → EngineGrows first second → EngineGrows second third → EngineGrows first third }
     ensures intake { (first second third : IntakeView) → IntakeGrows first second → IntakeGrows second third → IntakeGrows first third }
@@ -238,7 +238,7 @@ pub fn what_was_wound_up_had_its_calls()
         → (told : CalculatorTold) × (first_handed engine_now ≡ Some told) × HadCalls job solution node told }
 {}
 
-/// At any time the calculator of a node that was handed in, wherever in its cell it stands, had a front of its calls.
+/// At any time the calculator of a node that was handed in, wherever in its cell it stands, had a front of its node's calls.
 pub fn what_is_under_way_had_a_front()
     ensures engine { (job : LoggedJob) (number : ℕ) (node : PlanNode) (engine : EngineView) (solution : List (StreamPrefix Plain)) (told : CalculatorTold) → Solves job solution
         → slice_get job.job.plan.nodes number ≡ Some node → is_some node.box_number ≡ true → IsOuter node.law → LawfulEngine job (of_node number) engine
@@ -254,8 +254,8 @@ pub fn what_is_under_way_had_a_front()
         → first_handed engine_now ≡ Some told → HadFront job solution node told }
 {}
 
-/// Where an engine was wound up, the calculator of its node that stands there isn't left open, whatever had been done: it had Close behind
-/// Open and some of its sets, or its Open failed. One whose work is out doesn't stand there.
+/// Where an engine was wound up, the calculator of its node, if it stands there, isn't left open, whatever had been done: it had Close
+/// behind Open and some of its sets, or its Open failed. A calculator whose work is out doesn't stand there.
 pub fn what_was_wound_up_had_close()
     ensures { (job : LoggedJob) (number : ℕ) (node : PlanNode) (engine engine_now : EngineView) (solution : List (StreamPrefix Plain)) (told : CalculatorTold) → Solves job solution
         → slice_get job.job.plan.nodes number ≡ Some node → is_some node.box_number ≡ true → IsOuter node.law → LawfulEngine job (of_node number) engine → WindsUp engine engine_now

@@ -1,5 +1,5 @@
-//! How what a call emits is put behind the queues of a node's outputs (MediaPipe, Calculators and Synchronization). Its packets are
-//! moved there, into room that was made before, so that laying takes no memory.
+//! Putting what a call emits behind the queues of a node's outputs (MediaPipe, Calculators and Synchronization). The packets are moved
+//! there, into room that was made before, so that laying takes no memory.
 ghost use Rattle.std.specs.Prelude.{◌≡◌, ◌<◌, ◌≤◌, List, length, map, Ok, slice_index_or, slice_set};
 ghost use Rattle.mg_time.specs.Time.{done};
 ghost use Rattle.mg_value.specs.Payload.{Plain};
@@ -19,7 +19,7 @@ use mg_time::Timestamp;
 use mg_time::laws::done_is_greatest;
 use mg_value::Packet;
 
-/// Lays an answer behind outputs that have room for it, or tells the cause why it can't be. Before that they are raised.
+/// Raises outputs as the phase asks for, and lays an answer behind them, or returns the cause why it can't be laid. There must be room.
 pub(crate) fn lay(
     offset: Option<i64>,
     phase: &Phase,
@@ -90,7 +90,7 @@ fn lay_emission(
     None
 }
 
-// Why packets can't be put behind an output, one after the other.
+// Why packets can't be put behind an output, one after the other, or `None` if they can.
 fn output_fault(
     offset: Option<i64>,
     phase: &Phase,
@@ -102,7 +102,7 @@ fn output_fault(
     packets_fault(offset, phase, output.bound(), output.count() > 0, packets)
 }
 
-// Why an emission can't be put behind outputs, if there is a reason.
+// Why an emission can't be put behind outputs, or `None` if it can.
 fn emission_fault(
     offset: Option<i64>,
     phase: &Phase,
@@ -123,7 +123,7 @@ fn emission_fault(
     None
 }
 
-// Puts packets behind those of an output, which has room for them.
+// Puts packets behind those of an output. There must be room for them.
 fn append_all(output: &mut Queue, packets: LaidPackets)
     requires { MayAllCome output.old packets }
     ensures { output.new ≡ all_appended output.old packets }
@@ -144,7 +144,7 @@ fn append_each(output: &mut Queue, packets: Vec<Packet>)
     }
 }
 
-// Puts what is emitted at an output behind it.
+// Puts what is emitted at an output behind it, and raises the output to the bound, if there is one.
 fn lay_part(output: &mut Queue, laid: Laid)
     requires { MayAllCome output.old laid.packets }
     ensures laid { output.new ≡ with_part output.old laid }
@@ -158,7 +158,7 @@ fn lay_part(output: &mut Queue, laid: Laid)
     }
 }
 
-// Puts what is emitted at the output of a place behind it, where there is such an output.
+// Puts what is emitted at an output behind the output at a place, if there is one.
 fn lay_at(outputs: &mut [Queue], place: usize, laid: Laid)
     requires { place < length outputs.old → MayAllCome (slice_index_or outputs.old place empty_queue) laid.packets }
     ensures laid { outputs.new ≡ slice_set outputs.old place (with_part (slice_index_or outputs.old place empty_queue) laid) }
@@ -169,7 +169,7 @@ fn lay_at(outputs: &mut [Queue], place: usize, laid: Laid)
     }
 }
 
-// Puts an emission behind outputs, each its own part.
+// Puts an emission behind outputs, each part behind its own output.
 fn lay_all(outputs: &mut [Queue], emission: Emission)
     requires { MayBeLaid outputs.old emission }
     ensures laid { outputs.new ≡ laid_each with_part outputs.old emission }
@@ -181,7 +181,7 @@ fn lay_all(outputs: &mut [Queue], emission: Emission)
     }
 }
 
-// Puts the parts of an emission behind outputs, from the last on.
+// Puts the parts of an emission behind outputs, each behind its own, from the last on.
 fn lay_parts(outputs: &mut [Queue], parts: Vec<Laid>)
     requires { MayBeLaid outputs.old parts.items }
     ensures laid { outputs.new ≡ laid_each with_part outputs.old parts.items }
@@ -193,7 +193,7 @@ fn lay_parts(outputs: &mut [Queue], parts: Vec<Laid>)
     }
 }
 
-// Closes outputs behind Close.
+// Closes the outputs where the phase is Close.
 fn close_behind(phase: &Phase, outputs: &mut [Queue])
     ensures { outputs.new ≡ queues_after phase.now outputs.old }
 {
@@ -205,7 +205,7 @@ fn close_behind(phase: &Phase, outputs: &mut [Queue])
     }
 }
 
-// Closes outputs.
+// Closes all outputs.
 fn close_all(outputs: &mut [Queue])
     ensures { outputs.new ≡ map closed_queue outputs.old }
 {

@@ -1,4 +1,4 @@
-//! Calculators that were handed in, and leave the benches and the window where they stand.
+//! Calculators that were handed in, as they leave the benches and the window where they stand.
 ghost use Rattle.std.specs.Prelude.{◌≡◌, map, option_map, slice_get};
 ghost use Rattle.std.specs.List.{filter_map};
 ghost use Rattle.mg_node.specs.Leaving.{calculator_in, handed_told};
@@ -8,7 +8,7 @@ use crate::entry::Entry;
 use mg_calc::Calculator;
 use std::collections::VecDeque;
 
-/// The first that was handed in, of some benches.
+/// The first calculator that was handed in, of those in some benches.
 pub(crate) fn from_benches<C: Calculator>(benches: Vec<Bench<C>>) -> Option<C>
     ensures { option_map C.told result ≡ slice_get (filter_map handed_told (map (λ b. b.told) benches.items)) 0 }
 {
@@ -20,7 +20,7 @@ pub(crate) fn from_benches<C: Calculator>(benches: Vec<Bench<C>>) -> Option<C>
     None
 }
 
-/// The first that was handed in, of the outcomes in a window.
+/// The first calculator that was handed in, of those in the outcomes of a window.
 pub(crate) fn from_window<C: Calculator>(window: VecDeque<Entry<C>>) -> Option<C>
     ensures { option_map C.told result ≡ slice_get (filter_map handed_told (filter_map calculator_in window.items)) 0 }
 {

@@ -32,7 +32,7 @@ impl<C: Calculator> Model for Outcome<C> {
 }
 
 impl<C: Calculator> Outcome<C> {
-    /// Of a work that wasn't run.
+    /// The outcome of a work that wasn't run.
     pub fn unrun(work: Work<C>) -> Outcome<C>
         ensures outcome { result ≡ record { work = work; answer = None } }
 
@@ -42,7 +42,7 @@ impl<C: Calculator> Outcome<C> {
         Outcome { work, answer: None }
     }
 
-    /// Of a work that was performed.
+    /// The outcome of a work that was performed.
     pub fn ran(performed: Performed<C>) -> Outcome<C>
         ensures outcome { result ≡ outcome_of performed }
 
@@ -56,14 +56,14 @@ impl<C: Calculator> Outcome<C> {
         }
     }
 
-    /// The node whose work it is.
+    /// The number of the node whose work it is.
     pub fn node(&self) -> u32
         ensures { result ≡ self.now.work.node }
     {
         self.work.node()
     }
 
-    /// The work's number.
+    /// The work's number, counted from 0.
     pub fn number(&self) -> u64
         ensures { result ≡ self.now.work.number }
     {
@@ -87,7 +87,7 @@ impl<C: Calculator> Outcome<C> {
         }
     }
 
-    /// Whether the work is Close, and was performed.
+    /// Whether the work was Close and was performed.
     fn was_closed(&self) -> bool
         ensures { result ≡ was_closed self.now }
     {
@@ -97,7 +97,7 @@ impl<C: Calculator> Outcome<C> {
         self.answer.is_some()
     }
 
-    /// Closes the calculator, unless the work did. Want of memory changes nothing.
+    /// Closes the calculator, unless the work was a performed Close. Want of memory changes nothing.
     pub(crate) fn finish(&mut self, alloc: Global) -> Result<(), AllocError>
         ensures finished { OnOk result (FinishesWork self.old self.new) }
         ensures unchanged { OnErr result (self.new ≡ self.old) }
@@ -119,7 +119,7 @@ impl<C: Calculator> Outcome<C> {
         }
     }
 
-    /// The work, which wasn't run.
+    /// The work, which must not have been run.
     pub(crate) fn into_work(self) -> Work<C>
         requires { self.answer ≡ None }
         ensures { self ≡ record { work = result; answer = None } }
@@ -128,7 +128,7 @@ impl<C: Calculator> Outcome<C> {
         work
     }
 
-    /// What was performed.
+    /// The performed work. The work must have been performed.
     pub(crate) fn into_performed(self) -> Performed<C>
         requires { is_some self.answer ≡ true }
         ensures { performed_of self ≡ Some result }
@@ -140,7 +140,7 @@ impl<C: Calculator> Outcome<C> {
         }
     }
 
-    /// The bench of its work.
+    /// The bench of the work.
     pub(crate) fn into_bench(self) -> Bench<C>
         ensures { result ≡ self.work.bench }
     {

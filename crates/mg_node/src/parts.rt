@@ -13,7 +13,7 @@ use mg_stream::Queue;
 use mg_value::{InputSet, NumberList};
 use std::alloc::{AllocError, Global};
 
-/// How the engine of a law comes by its works.
+/// The role of the engine of a node with this law.
 pub(crate) fn role_of(law: &Law) -> Role
     ensures { result ≡ role_by law.now }
 {
@@ -36,7 +36,7 @@ pub(crate) fn first_of(numbers: &NumberList) -> u32
     numbers.as_slice()[0]
 }
 
-/// Outputs at which nothing was laid, so many.
+/// Returns `count` outputs at which nothing was laid.
 pub(crate) fn empty_outputs(alloc: Global, count: u32) -> Result<Vec<Queue>, AllocError>
     ensures items { IfOk result (λ v. map backlog_of v.items ≡ replicate count empty_backlog) }
     ensures len { IfOk result (λ v. vec_len v ≡ count) }
@@ -48,7 +48,7 @@ pub(crate) fn empty_outputs(alloc: Global, count: u32) -> Result<Vec<Queue>, All
     Ok(outputs)
 }
 
-// A bench of one of a node's own calculators.
+// Returns a bench with a calculator that is made by a node's law and shape.
 fn own_bench<C: Calculator>(alloc: Global, node: &PlanNode) -> Result<Bench<C>, AllocError>
     requires ranges { ParametersFit node.now.law }
     requires of_law { IsShapeOf node.now.law node.now.shape }
@@ -63,7 +63,7 @@ fn own_bench<C: Calculator>(alloc: Global, node: &PlanNode) -> Result<Bench<C>, 
     }
 }
 
-/// Benches of a node's own calculators, so many, with room for one more.
+/// Returns `count` benches with calculators that are made by a node's law and shape, with room for one more bench.
 pub(crate) fn own_benches<C: Calculator>(
     alloc: Global,
     node: &PlanNode,

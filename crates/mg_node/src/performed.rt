@@ -39,14 +39,14 @@ impl<C: Calculator> Performed<C> {
         (work, answer)
     }
 
-    /// The node whose work it was.
+    /// The number of the node whose work it was.
     pub fn node(&self) -> u32
         ensures { result ≡ self.now.work.node }
     {
         self.work.node()
     }
 
-    /// The work's number.
+    /// The work's number, counted from 0.
     pub fn number(&self) -> u64
         ensures { result ≡ self.now.work.number }
     {

@@ -1,4 +1,4 @@
-//! How far outputs are raised by what waits.
+//! Raising outputs by what waits.
 ghost use Rattle.std.specs.Prelude.{◌≡◌, nat_lt, min, map};
 ghost use Rattle.mg_stream.specs.Pool.{backlog_of};
 ghost use Rattle.mg_stream.specs.Queue.{raised_to};
@@ -18,7 +18,7 @@ fn is_below(output: &Queue, bound: Timestamp) -> bool
     output.bound() < bound
 }
 
-/// Whether a bound is higher than that of one of some outputs.
+/// Whether a bound is higher than the bound of at least one output.
 #[tactic(auto, using(crate::proofs::Advancing::moved_here, crate::proofs::Advancing::moved_next, crate::proofs::Advancing::moved_none))]
 pub(crate) fn moves_one(outputs: &[Queue], bound: Timestamp) -> bool
     ensures { result ≡ any_moved bound (map backlog_of outputs.now) }
@@ -31,7 +31,7 @@ pub(crate) fn moves_one(outputs: &[Queue], bound: Timestamp) -> bool
     false
 }
 
-/// Raises outputs to a bound.
+/// Raises all outputs to a bound.
 pub(crate) fn raise_all(outputs: &mut [Queue], bound: Timestamp)
     ensures { outputs.new ≡ map (λ q. raised_to q bound) outputs.old }
 {
@@ -55,7 +55,7 @@ fn until(phase: Phase, time: Timestamp) -> Timestamp
     }
 }
 
-/// The lesser of a time and that of the first claimed set.
+/// The lesser of a time and the time of the first set that is claimed and not laid, if there is one.
 #[tactic(auto, using(crate::proofs::Advancing::until_first, crate::proofs::Advancing::until_none))]
 pub(crate) fn until_claimed<C: Calculator>(
     window: &VecDeque<Entry<C>>,
@@ -82,7 +82,7 @@ pub(crate) fn never_raises(role: Role, offset: Option<i64>) -> bool
     }
 }
 
-/// The bound to which the outputs of a node are raised.
+/// The bound to which a time raises the outputs of a node, if it does.
 pub(crate) fn raised_by(role: Role, offset: Option<i64>, time: Timestamp) -> Option<Timestamp>
     ensures { result ≡ raised_by_role role offset time }
 {

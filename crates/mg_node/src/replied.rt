@@ -1,4 +1,4 @@
-//! Answers of loopbacks, from the intake to the one output.
+//! Answers of loopbacks, which go from the intake to the one output.
 ghost use Rattle.std.specs.Prelude.{◌≡◌, ◌<◌, ◌+◌, ◌^◌};
 ghost use Rattle.mg_node.specs.Intakes.{HasLoop};
 ghost use Rattle.mg_node.specs.Code.Replying.{MayLay, Replies};
@@ -8,14 +8,14 @@ use crate::laid::append;
 use mg_loopback::Answered;
 use mg_stream::Queue;
 
-/// What became of the next answer.
+/// What became of a loopback's next answer.
 #[derive(Clone, Copy, Debug, PartialEq, Eq)]
 pub enum Replied {
-    /// It is laid.
+    /// The answer is laid.
     Laid,
-    /// It can't be told yet.
+    /// The answer can't be told yet, and nothing has changed.
     NotYet,
-    /// There was no memory.
+    /// There was no memory, and nothing has changed.
     OutOfMemory,
 }
 

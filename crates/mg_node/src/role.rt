@@ -1,12 +1,12 @@
 /// How an engine comes by its works.
 #[derive(Clone, Copy, Debug, PartialEq, Eq)]
 pub enum Role {
-    /// It has none: its one output is a graph input.
+    /// An engine without works: its one output is a graph input.
     Input,
-    /// Its calculator is a source, which is called a number of times.
+    /// A source: its calculator is called this number of times.
     Source { calls: u32 },
-    /// Each packet of MAIN is answered at once.
+    /// A loopback: each packet of MAIN is answered at once.
     Loop,
-    /// Its calculator is shown the node's input sets.
+    /// A calculator that is shown the node's input sets.
     Sets,
 }

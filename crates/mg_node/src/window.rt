@@ -14,7 +14,7 @@ use std::alloc::{AllocError, Global};
 use std::collections::VecDeque;
 use std::mem;
 
-/// The place of the first entry whose work came back unrun.
+/// The place of the first entry whose work came back unrun, if there is one.
 #[tactic(auto, using(crate::proofs::Unrun::unrun_here, crate::proofs::Unrun::unrun_next, crate::proofs::Unrun::unrun_none))]
 pub(crate) fn first_unrun<C: Calculator>(window: &VecDeque<Entry<C>>) -> Option<usize>
     ensures { result ≡ first_unrun_from 0 window.now.items }
@@ -45,7 +45,7 @@ pub(crate) fn is_empty<C: Calculator>(window: &VecDeque<Entry<C>>) -> bool
     window.is_empty()
 }
 
-/// Puts a work that came back into its place.
+/// Puts a work that came back into its place as it is.
 pub(crate) fn put_back<C: Calculator>(
     window: &mut VecDeque<Entry<C>>,
     place: usize,
@@ -59,7 +59,7 @@ pub(crate) fn put_back<C: Calculator>(
     window[place] = Entry::back(outcome);
 }
 
-/// Puts a work that came back into its place, and commits what was performed.
+/// Puts a work that came back into its place, committed if it was performed.
 pub(crate) fn put_committed<C: Calculator>(
     window: &mut VecDeque<Entry<C>>,
     place: usize,
@@ -73,7 +73,7 @@ pub(crate) fn put_committed<C: Calculator>(
     window[place] = Entry::committed(outcome);
 }
 
-/// Takes a work out of its place again, which leaves it as claimed.
+/// Takes the outcome at a place out of the window again. The entry stays, as that of a work that is out.
 pub(crate) fn take_back<C: Calculator>(
     window: &mut VecDeque<Entry<C>>,
     place: usize,
@@ -90,7 +90,7 @@ pub(crate) fn take_back<C: Calculator>(
     entry.into_outcome()
 }
 
-/// Whether the first entry is ready to be laid.
+/// Whether the first entry of a window is ready to be laid.
 #[tactic(auto, using(crate::proofs::FrontSteps::ready_first, crate::proofs::FrontSteps::ready_none))]
 pub(crate) fn is_ready<C: Calculator>(window: &VecDeque<Entry<C>>) -> bool
     ensures { result ≡ starts_ready window.now.items }
@@ -101,7 +101,7 @@ pub(crate) fn is_ready<C: Calculator>(window: &VecDeque<Entry<C>>) -> bool
     window[0].is_ready()
 }
 
-/// Takes what stands at a place as performed and not committed.
+/// Takes the work at a place, if it is performed and not committed. The entry stays, as that of a work that is out.
 pub(crate) fn take_shelf<C: Calculator>(
     window: &mut VecDeque<Entry<C>>,
     place: u64,
@@ -121,7 +121,7 @@ pub(crate) fn take_shelf<C: Calculator>(
     Some(window[place].take_shelf())
 }
 
-/// The place of the first entry whose work stands there as performed and not committed.
+/// The place of the first entry with a performed work that isn't committed, if there is one.
 pub(crate) fn first_shelf<C: Calculator>(window: &VecDeque<Entry<C>>) -> Option<usize>
     ensures within { IfSome result (λ place. place < length window.now.items) }
     ensures some { IfSome result (λ place. IsSome (option_and_then shelf_of (slice_get window.now.items place))) }
@@ -135,7 +135,7 @@ pub(crate) fn first_shelf<C: Calculator>(window: &VecDeque<Entry<C>>) -> Option<
     None
 }
 
-/// Closes the calculator of the first work, if it came back and didn't do that. Want of memory changes nothing.
+/// Closes the calculator of the first entry's work, if that came back and wasn't a performed Close. Want of memory changes nothing.
 pub(crate) fn finish_first<C: Calculator>(
     window: &mut VecDeque<Entry<C>>,
     alloc: Global,

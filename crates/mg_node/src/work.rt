@@ -9,7 +9,7 @@ use mg_edge::Gate;
 use std::alloc::{AllocError, Global};
 use std::marker::Model;
 
-/// A set that was claimed, or a call of a source, or Close, with the calculator that is to work on it.
+/// A work: a set that was claimed, or a call of a source, or Close, with the calculator that is to work on it.
 #[derive(Drop)]
 pub struct Work<C: Calculator> {
     node: u32,
@@ -30,7 +30,7 @@ impl<C: Calculator> Model for Work<C> {
 }
 
 impl<C: Calculator> Work<C> {
-    /// The work of a bench.
+    /// The work of a node with this number, to be done in a phase on a bench.
     pub(crate) fn new(node: u32, number: u64, phase: Phase, bench: Bench<C>) -> Work<C>
         ensures { result ≡ record { node = node; number = number; phase = phase; bench = bench } }
     {
@@ -42,14 +42,14 @@ impl<C: Calculator> Work<C> {
         }
     }
 
-    /// The node whose work it is.
+    /// The number of the node whose work it is.
     pub fn node(&self) -> u32
         ensures { result ≡ self.now.node }
     {
         self.node
     }
 
-    /// Its number, counted from 0: that of its set or call. Close has the number behind the last one.
+    /// The work's number, counted from 0: that of its set or call. Close has the number behind the last one.
     pub fn number(&self) -> u64
         ensures { result ≡ self.now.number }
     {
@@ -63,7 +63,7 @@ impl<C: Calculator> Work<C> {
         self.phase
     }
 
-    /// The bench where it was done.
+    /// The bench of the work.
     pub(crate) fn into_bench(self) -> Bench<C>
         ensures { result ≡ self.bench }
     {
@@ -71,7 +71,7 @@ impl<C: Calculator> Work<C> {
         bench
     }
 
-    /// Runs its calculator in its phase, with the gate round each call but Close. Want of memory changes nothing.
+    /// Runs the work's calculator in its phase, with the gate round each call but Close. Want of memory changes nothing.
     pub(crate) fn run<G: Gate>(&mut self, alloc: Global, gate: &G) -> Result<Emission, CalcFault>
         requires { MayRun self.old.phase self.old.bench }
         ensures ran { HasRun result self.old.phase self.old.bench self.new.bench }
@@ -86,7 +86,7 @@ impl<C: Calculator> Work<C> {
         answer
     }
 
-    /// Closes its calculator, and drops what that answers. Want of memory changes nothing.
+    /// Closes the work's calculator, and drops its answer. Want of memory changes nothing.
     pub(crate) fn finish(&mut self, alloc: Global) -> Result<(), AllocError>
         ensures finished { OnOk result (IsFinished self.old.bench self.new.bench) }
         ensures same { self.new ≡ record self.old { bench = self.new.bench } }
@@ -95,7 +95,7 @@ impl<C: Calculator> Work<C> {
         self.bench.finish(alloc)
     }
 
-    /// Its calculator, if it was handed in. What was to be done isn't done then.
+    /// The work's calculator, if it was handed in. The work itself is dropped undone.
     pub fn into_calculator(self) -> Option<C>
         ensures there { is_some result ≡ self.bench.told.handed }
         ensures told { IfSome result (λ c. C.told c ≡ told_by self.bench.told) }

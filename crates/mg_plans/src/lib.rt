@@ -1,6 +1,5 @@
-//! What the crates of tests share that drive cells and nets: the plans and inputs of graphs that are written as texts, and shapes of
-//! calculators that are handed in. It answers to no definition of its own: its clauses are what the calls that the tests make
-//! require.
+//! Helpers of the test crates that drive cells and nets: the plans and inputs of graphs that are written as texts, and shapes of
+//! calculators that are handed in. The crate has no definitions of its own: its contracts give what the calls of the tests require.
 #![tactic(auto)]
 
 mod plans;

@@ -14,13 +14,14 @@ use mg_value::are_prefixes;
 use std::alloc::Global;
 use std::test::Fail;
 
-// The graph of a text.
+// Reads the graph of a text.
 fn graph_of(alloc: Global, text: &str) -> Result<GraphConfig, Fail> {
     let tree = parse(alloc, text.as_bytes())?;
     Ok(read(alloc, &tree)?)
 }
 
-/// The plan of a graph that uses no files and has no free nodes, with the calculators that are handed in.
+/// Returns the plan of a graph, by its text, with the calculators that are handed in. It fails where the text isn't a graph, the graph
+/// has too many nodes or is refused by the check, or a node is free.
 pub fn plan_of(alloc: Global, text: &str, outers: &[OuterShape]) -> Result<Plan, Fail>
     requires { All IsOuterShape outers.now }
     ensures valid { IfOk result IsValid }
@@ -37,7 +38,8 @@ pub fn plan_of(alloc: Global, text: &str, outers: &[OuterShape]) -> Result<Plan,
     }
 }
 
-/// What is handed to a graph by some packet lines. Where the input has ended, no packet comes any more.
+/// Returns what packet lines hand to the graph of a plan. If `ended` is set, no further packet comes. It fails at the first line that
+/// isn't good.
 pub fn inputs_of(alloc: Global, plan: &Plan, lines: &str, ended: bool) -> Result<Inputs, Fail> {
     let mut feed = Feed::new(alloc, plan)?;
     for line in lines.split('\n') {
@@ -48,7 +50,7 @@ pub fn inputs_of(alloc: Global, plan: &Plan, lines: &str, ended: bool) -> Result
     Ok(feed.into_inputs(ended))
 }
 
-/// Whether inputs fit a plan without side packets. It is false of every plan that has some.
+/// Whether inputs fit a plan that has no side packets. For a plan that has some it is false.
 pub fn do_fit(plan: &Plan, inputs: &Inputs) -> bool
     ensures { result ≡ true → InputsFit plan.now inputs.now }
 {

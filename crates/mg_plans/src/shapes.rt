@@ -8,7 +8,7 @@ use mg_value::{Kind, MgText};
 use std::alloc::Global;
 use std::test::Fail;
 
-/// An untagged port of a kind.
+/// Returns a list of one untagged port of a kind.
 pub fn port(alloc: Global, kind: Kind) -> Result<PortKindList, Fail>
     ensures { IfOk result (λ ports. ports ≡ untagged 1 kind) }
 {
@@ -21,14 +21,14 @@ pub fn port(alloc: Global, kind: Kind) -> Result<PortKindList, Fail>
     Ok(PortKindList::from_vec(vec![in alloc; port]?)?)
 }
 
-// No ports.
+// Returns the empty list of ports.
 fn no_ports(alloc: Global) -> Result<PortKindList, Fail>
     ensures { IfOk result (λ ports. ports ≡ []) }
 {
     Ok(PortKindList::from_vec(Vec::new(alloc))?)
 }
 
-/// The shape of a calculator with these inputs, one untagged output of a kind, and no side packets.
+/// Returns the shape of a calculator with these inputs, one untagged output of a kind, and no side packets.
 pub fn shape_of(
     alloc: Global,
     name: &str,

@@ -20,8 +20,8 @@ use mg_value::{InputSet, Packet, Policy};
 use std::alloc::{AllocError, Global};
 use std::marker::Model;
 
-/// What waits at the inputs of a node, one queue per port (MediaPipe, Synchronization, input policies). Contracts see
-/// its policy and its pool: a queue per port, and the room of all.
+/// The packets that wait at the inputs of a node, a queue for each port, and the node's input policy (MediaPipe, Synchronization, input
+/// policies). Contracts see the policy and the pool: a queue per port, and the room of all.
 #[derive(Debug, Drop)]
 pub struct Inbox {
     pool: Pool,
@@ -42,7 +42,7 @@ impl Model for Inbox {
 }
 
 impl Inbox {
-    /// An inbox of as many ports, to which nothing came yet. Room for packets is made later.
+    /// An inbox of `ports` ports to which nothing came yet, without room for packets.
     pub fn new(alloc: Global, ports: u32, policy: Policy) -> Result<Inbox, AllocError>
         requires { HasPorts policy (record { ports = replicate ports empty_backlog; spare = 0 }) }
         ensures inbox { IfOk result (λ i. i ≡ record { policy = policy; pool = record { ports = replicate ports empty_backlog; spare = 0 } }) }
@@ -59,7 +59,7 @@ impl Inbox {
         self.pool.ports()
     }
 
-    /// Makes room for more packets: so many appends take no memory, at whatever ports they come.
+    /// Makes room for `more` packets: that many appends take no memory, at whatever ports they come. On an error the inbox is as before.
     pub fn reserve(&mut self, more: u32) -> Result<(), AllocError>
         ensures room { OnOk result (more ≤ self.new.pool.spare) }
         ensures no_memory { OnErr result (self.old.pool.spare < more) }
@@ -164,9 +164,9 @@ impl Inbox {
         self.pool.count(port)
     }
 
-    /// How far the input sets reach: each further one stands there or above. By default that is the least bound of the
-    /// ports, `DONE` where there is none; under Mux the time of SELECT's first packet that isn't settled, or SELECT's
-    /// bound. Under Mux this looks at the packets of SELECT that are settled, and otherwise once at each port.
+    /// How far the input sets reach: each set that isn't settled yet stands there or above. By default that is the least bound of the
+    /// ports, `DONE` where there is no port; under Mux the time of SELECT's first packet that isn't settled, or SELECT's bound. By default
+    /// this looks once at each port, and under Mux at SELECT's packets up to the first that isn't settled.
     pub fn low(&self) -> Timestamp
         ensures low { result ≡ reach self.now.policy (rests (queues_of self.now.pool)) }
         // The answer is the reach of all that came.
@@ -186,7 +186,7 @@ impl Inbox {
         }
     }
 
-    // The same, as readiness tells it.
+    // The horizon by the inbox's readiness: the time of the next set, or how far the sets reach where there is none.
     fn told_horizon(&self) -> Timestamp
         ensures { result ≡ unwrap_or (option_map (λ e. e.at) (next_set self.now.policy (queues_of self.now.pool))) (reach self.now.policy (rests (queues_of self.now.pool))) }
     {
@@ -197,7 +197,7 @@ impl Inbox {
         }
     }
 
-    /// Whether there is a next input set, and at which timestamp, or why there is none. It looks at each port once.
+    /// Whether there is a next input set, and at which timestamp, or why there is none. Looks once at each port that the policy asks for.
     pub fn readiness(&self) -> Readiness
         ensures waits { Tells self.now.policy result (queues_of self.now.pool) }
         ensures whole { (k : ℕ) (ss : List (StreamPrefix Plain)) → StandAfter self.now.policy k (queues_of self.now.pool) ss → TellsOf self.now.policy k ss result }
@@ -212,8 +212,8 @@ impl Inbox {
         Readiness::NotReady
     }
 
-    /// Takes the next input set, whose time is known: its packets leave the queues, and under Mux those of other ports before its
-    /// time or at it.
+    /// Takes the next input set, which must stand at `at`, into `into`: its packets leave the queues, and under Mux those of other ports
+    /// before its time or at it.
     pub fn claim_at(&mut self, at: Timestamp, into: &mut InputSet)
         requires places { length into.old ≡ length self.old.pool.ports }
         requires next { Tells self.old.policy (Ready at) (queues_of self.old.pool) }
@@ -235,8 +235,8 @@ impl Inbox {
         take_set(&mut self.pool, self.policy, at, into);
     }
 
-    /// Takes the next input set, where there is one: its packets leave the queues, and under Mux those of other ports
-    /// before its time or at it. Otherwise nothing changes.
+    /// Takes the next input set into `into`, and returns whether there was one. Its packets leave the queues, and under Mux those of other
+    /// ports before its time or at it. Where there is none nothing changes.
     pub fn claim(&mut self, into: &mut InputSet) -> bool
         requires { length into.old ≡ length self.old.pool.ports }
         ensures claimed { IsTrue result ↔ IsSome (next_set self.old.policy (queues_of self.old.pool)) }

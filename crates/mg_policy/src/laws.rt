@@ -11,13 +11,13 @@ ghost use Rattle.mg_stream.specs.Queue.{Waiting, StandsFor};
 ghost use Rattle.mg_policy.specs.Inbox.{rests, Tells, StandAfter};
 ghost use Rattle.mg_policy.specs.declared.readiness.Readiness.{Readiness};
 
-/// One readiness at most fits: so each is answered exactly where it fits.
+/// At most one readiness fits what waits, so the one that is answered is the one that fits.
 pub fn one_readiness_fits()
     ensures { (policy : Policy) (a b : Readiness) (qs : List (Waiting Plain)) → Tells policy a qs → Tells policy b qs → a ≡ b }
 {}
 
-/// The settled sets of what waits are those of the prefixes that aren't claimed: so the next set is the first of these.
-/// The reach is that of the prefixes.
+/// The settled sets of what waits are the settled sets of the whole prefixes that aren't claimed, so the next set is the first of these;
+/// and what waits reaches as far as the prefixes.
 pub fn what_waits_is_not_claimed()
     ensures sets { (policy : Policy) (k : ℕ) (qs : List (Waiting Plain)) (ss : List (StreamPrefix Plain))
         → StandAfter policy k qs ss → settled_sets policy (rests qs) ≡ drop k (settled_sets policy ss) }
@@ -25,15 +25,15 @@ pub fn what_waits_is_not_claimed()
         → StandAfter policy k qs ss → reach policy (rests qs) ≡ reach policy ss }
 {}
 
-/// Where prefixes are extended, and the queues come to stand for the extended ones with as many packets gone, the same
-/// sets are claimed.
+/// Where prefixes are extended, and the queues come to stand for the extended ones with as many packets gone, as many sets are claimed as
+/// before.
 pub fn arrivals_keep_what_is_claimed()
     ensures { (policy : Policy) (k : ℕ) (qs rs : List (Waiting Plain)) (ss ts : List (StreamPrefix Plain))
         → StandAfter policy k qs ss → AllZip StandsFor rs ts → AreExtendedBy ss ts → map (λ r. r.gone) rs ≡ map (λ q. q.gone) qs
         → StandAfter policy k rs ts }
 {}
 
-/// Where the packets of the next set go, one more set is claimed.
+/// Where the packets of the next set leave the queues, one more set is claimed.
 pub fn a_claim_counts()
     ensures { (policy : Policy) (k : ℕ) (qs rs : List (Waiting Plain)) (ss : List (StreamPrefix Plain))
         → StandAfter policy k qs ss → AllZip StandsFor rs ss → 0 < length (settled_sets policy (rests qs))

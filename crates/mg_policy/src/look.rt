@@ -13,12 +13,12 @@ use mg_stream::Pool;
 use mg_time::Timestamp;
 use mg_value::Policy;
 
-/// What a look finds.
+/// What a look at the ports of a pool finds.
 #[derive(Clone, Copy)]
 pub(crate) struct Look {
     /// The time of the next set, where there is one.
     pub(crate) next: Option<Timestamp>,
-    /// Whether the reach is the end of all times; of no meaning where there is a next set.
+    /// Whether the reach is the end of all times. It has no meaning where there is a next set.
     pub(crate) ended: bool,
 }
 
@@ -78,8 +78,8 @@ fn look_at_select(pool: &Pool) -> Look
     }
 }
 
-/// How far the sets reach: each further one stands there or above. Under Mux this looks at the packets of SELECT that
-/// are settled, and at one more.
+/// How far the sets reach: each set that isn't settled yet stands there or above. Under Mux this looks at the packets of SELECT that are
+/// settled, and at one more.
 pub(crate) fn reach_of(pool: &Pool, policy: Policy) -> Timestamp
     requires { HasPorts policy pool.now }
     ensures { result ≡ reach policy (rests (queues_of pool.now)) }
@@ -104,7 +104,7 @@ fn select_reach(pool: &Pool) -> Timestamp
     pool.bound(select)
 }
 
-/// The time of the next set under the default policy, or how far the sets reach where there is none. It looks once at each port.
+/// The time of the next set under the default policy, or how far the sets reach where there is none. Looks once at each port.
 pub(crate) fn least_time(pool: &Pool) -> Timestamp
     ensures time { result ≡ unwrap_or (first_set_time Default (rests (queues_of pool.now))) (low (rests (queues_of pool.now))) }
     ensures prefixes { All IsPrefix (rests (queues_of pool.now)) }
@@ -122,7 +122,7 @@ struct Times {
     low: Timestamp,
 }
 
-/// Looks once at each port.
+/// Finds the least timestamp that waits and the least bound, with one look at each port.
 fn times_of(pool: &Pool) -> Times
     ensures earliest { result.earliest ≡ earliest (rests (queues_of pool.now)) }
     ensures low { result.low ≡ low (rests (queues_of pool.now)) }

@@ -5,8 +5,8 @@ use mg_time::Timestamp;
 pub enum Readiness {
     /// There is an input set at this timestamp.
     Ready { at: Timestamp },
-    /// Nothing waits, and nothing comes any more.
+    /// No input set comes any more: nothing waits at a port that leads (under Mux, at SELECT), and no packet comes there any more.
     Close,
-    /// It can't be told yet.
+    /// Whether a set comes, or none any more, can't be told yet.
     NotReady,
 }

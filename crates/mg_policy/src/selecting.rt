@@ -11,7 +11,7 @@ ghost use Rattle.mg_policy.specs.Inbox.{HasPorts, rests};
 use mg_stream::Pool;
 use mg_value::{Packet, Payload, Policy};
 
-/// The number of SELECT.
+/// The port number of SELECT.
 pub(crate) fn select_port(pool: &Pool) -> u32
     requires { HasPorts Mux pool.now }
     ensures number { result + 1 ≡ length pool.now.ports }
@@ -30,7 +30,8 @@ pub(crate) fn is_settled(pool: &Pool, packet: &Packet) -> bool
     }
 }
 
-/// The port that a payload selects, of so many ports, of which the last is SELECT.
+/// The port that a packet of SELECT with this payload selects, of `ports` ports of which the last is SELECT; `None` where the payload
+/// isn't the number of another port.
 fn selected(ports: u32, payload: &Payload) -> Option<u32>
     ensures { result ≡ selected ports (plain payload.now) }
 {
@@ -40,7 +41,7 @@ fn selected(ports: u32, payload: &Payload) -> Option<u32>
     }
 }
 
-/// The port that SELECT's first packet selects.
+/// The port that SELECT's first packet selects, if one waits and it selects a port; `None` under the default policy.
 pub(crate) fn chosen_port(pool: &Pool, policy: Policy) -> Option<u32>
     requires { HasPorts policy pool.now }
     ensures { result ≡ chosen_port policy (rests (queues_of pool.now)) }
@@ -54,7 +55,7 @@ pub(crate) fn chosen_port(pool: &Pool, policy: Policy) -> Option<u32>
     }
 }
 
-/// Whether a set shows what a port has.
+/// Whether a set shows the packet of a port: by default of each port, under Mux of SELECT and of the port that is chosen.
 pub(crate) fn is_shown(policy: Policy, ports: u32, chosen: Option<u32>, port: u32) -> bool
     requires { port < ports }
     ensures { result ≡ is_shown policy ports chosen port }

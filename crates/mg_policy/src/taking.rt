@@ -1,4 +1,4 @@
-//! What goes with a set.
+//! Taking a set: what leaves the queues with it.
 ghost use Rattle.std.specs.Prelude.{◌≡◌, ◌<◌, ◌+◌, ℕ, All, Some, None, length, map, slice_get, sum_by, if◌then◌else◌};
 ghost use Rattle.mg_value.specs.Prefix.{IsPrefix};
 ghost use Rattle.mg_value.specs.Settled.{settled_sets, packet_at};
@@ -13,7 +13,7 @@ use mg_stream::Pool;
 use mg_time::Timestamp;
 use mg_value::{InputSet, Packet, Policy};
 
-/// Takes the set at a time, which is the next one: from each port goes what stands there or before it.
+/// Takes the next set, which must stand at `at`, into `into`: from each port go the packets that stand there or before it.
 pub(crate) fn take_set(pool: &mut Pool, policy: Policy, at: Timestamp, into: &mut InputSet)
     requires ports { HasPorts policy pool.old }
     requires places { length into.old ≡ length pool.old.ports }
@@ -33,14 +33,14 @@ pub(crate) fn take_set(pool: &mut Pool, policy: Policy, at: Timestamp, into: &mu
     }
 }
 
-/// A packet where it is shown, and otherwise none.
+/// Returns the packet where it is shown, and otherwise `None`.
 fn where_shown(packet: Option<Packet>, shown: bool) -> Option<Packet>
     ensures { result ≡ (if shown then packet else None) }
 {
     if shown { packet } else { None }
 }
 
-/// Takes the packets of a port that stand at a time or before it, and gives the one at that time.
+/// Takes the packets of a port that stand at a time or before it, and returns the one at that time.
 fn take_through(pool: &mut Pool, port: u32, at: Timestamp) -> Option<Packet>
     requires port { port < length pool.old.ports }
     requires rest { IsPrefix (rest_of (queue_at pool.old port)) }
@@ -51,7 +51,7 @@ fn take_through(pool: &mut Pool, port: u32, at: Timestamp) -> Option<Packet>
     pool.pop_at(port, at)
 }
 
-/// Lets the packets of a port go that stand before a time.
+/// Drops the packets of a port that stand before a time.
 fn drop_before(pool: &mut Pool, port: u32, at: Timestamp)
     requires { port < length pool.old.ports }
     ensures { pool.new ≡ with_queue pool.old port (dropped_before at (queue_at pool.old port)) }

@@ -7,7 +7,7 @@ pub record ReadyNodes : Type 0 where
   pub order : List ℕ
   pub is_in : List Bool
 
--- the empty set
+-- the empty set of nodes with an order
 abbrev pub none_ready : List ℕ → ReadyNodes
 none_ready order = record { order = order; is_in = replicate (length order) false }
 
@@ -21,7 +21,7 @@ pub record HasAt (r : ReadyNodes) (place node : ℕ) : Type 0 where
 abbrev pub IsIn : ReadyNodes → ℕ → Type 0
 IsIn r node = (place : ℕ) × HasAt r place node
 
--- no node is
+-- no node is in the set
 abbrev pub IsEmpty : ReadyNodes → Type 0
 IsEmpty r = (node : ℕ) → ¬ IsIn r node
 

@@ -21,7 +21,7 @@ pub(crate) fn clear_bit(words: &mut [u64], number: usize)
     words[number / 64] &= !(1u64 << (number % 64));
 }
 
-/// The greatest number of the set. It looks at each word from the last on.
+/// Returns the greatest number of the set, if there is one. It looks at each word from the last on.
 pub(crate) fn greatest(words: &[u64]) -> Option<usize>
     requires { length words.now < 2 ^ 32 }
     ensures { MatchOption result ((k : ℕ) → bit_of words.now k ≡ 0) (λ n. IsGreatest words.now n) }

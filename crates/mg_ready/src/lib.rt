@@ -1,5 +1,5 @@
-//! An order of nodes, and the nodes that may run, with which of them goes first.
-//! Answers to the definitions of `specs/Ready.antt`.
+//! An order of nodes, and a set of those that may run, of which the last in the order goes first. Answers to the definitions of
+//! `specs/Ready.antt`.
 #![tactic(auto)]
 
 mod bits;

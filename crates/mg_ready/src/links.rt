@@ -32,7 +32,7 @@ impl Model for Links {
     ghost invariant = { λ l. IsLinked l.is_in.items l.above.items l.below.items };
 }
 
-// The slot of a place.
+// Returns the slot of a place.
 fn slot_of(place: u32) -> usize
     ensures { result ≡ slot_of place }
 {
@@ -40,21 +40,21 @@ fn slot_of(place: u32) -> usize
     place / BUCKET * STRIDE + place % BUCKET + 1
 }
 
-// The slot above all places.
+// Returns the slot above all places.
 fn top_of(places: u32) -> usize
     ensures { result ≡ top_of places }
 {
     (places as usize).div_ceil(BUCKET) * STRIDE
 }
 
-// Marks for this many places, all of which are out.
+// Returns marks for `places` places, all of which are out.
 fn all_out(alloc: Global, places: u32) -> Result<Vec<bool>, AllocError>
     ensures { IfOk result (λ v. v.items ≡ replicate places false) }
 {
     vec![in alloc; false; places as usize]
 }
 
-// The links up to a slot where no place is in.
+// Returns the links up of the slots to `top`, where no place is in.
 fn links_up(alloc: Global, top: usize) -> Result<Vec<usize>, AllocError>
     requires { top < 2 ^ 40 }
     ensures len { IfOk result (λ v. vec_len v ≡ top + 1) }
@@ -67,7 +67,7 @@ fn links_up(alloc: Global, top: usize) -> Result<Vec<usize>, AllocError>
     Ok(above)
 }
 
-// The links down from a slot where no place is in.
+// Returns the links down of the slots to `top`, where no place is in.
 fn links_down(alloc: Global, top: usize) -> Result<Vec<usize>, AllocError>
     requires { top < 2 ^ 40 }
     ensures len { IfOk result (λ v. vec_len v ≡ top + 1) }
@@ -81,7 +81,7 @@ fn links_down(alloc: Global, top: usize) -> Result<Vec<usize>, AllocError>
 }
 
 impl Links {
-    /// A set over this many places, in which none is.
+    /// Returns a set over `places` places, in which none is.
     pub(crate) fn new(alloc: Global, places: u32) -> Result<Links, AllocError>
         ensures { IfOk result (λ l. l ≡ replicate places false) }
     {
@@ -104,7 +104,7 @@ impl Links {
         self.is_in[place as usize]
     }
 
-    // The next linked slot above a slot, which is at most 33 steps away.
+    // Returns the next linked slot above a slot, which is at most 33 steps away.
     fn roof_over(&self, slot: usize) -> usize
         requires small { slot < 2 ^ 34 }
         requires slot { slot < top_of (length self.now) }
@@ -147,7 +147,7 @@ impl Links {
         self.is_in[place as usize] = false;
     }
 
-    /// The greatest place of a bucket that is in.
+    /// Returns the greatest place of a bucket that is in, if one is.
     pub(crate) fn greatest_of(&self, bucket: usize) -> Option<u32>
         requires small { bucket < 2 ^ 32 }
         requires bucket { bucket < (length self.now + 31) / 32 }

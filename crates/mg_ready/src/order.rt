@@ -6,7 +6,8 @@ use mg_value::NumberList;
 use std::alloc::{AllocError, Global};
 use std::marker::Model;
 
-/// An order of nodes in which no node stands twice, with the place of each. It keeps a table as long as the greatest number of a node.
+/// An order of nodes in which no node stands twice, with the place of each. It keeps a table with a place for each number up to the
+/// greatest of a node.
 #[derive(Drop)]
 pub struct Order {
     nodes: Vec<u32>,
@@ -24,7 +25,7 @@ impl Model for Order {
     ghost invariant = { λ o. IsKept o.nodes.items o.places.items };
 }
 
-// How long a table by these numbers is.
+// Returns how long a table has to be for a place at each of these numbers.
 fn table_len(order: &[u32]) -> usize
     ensures { All (λ node. node < result) order.now }
 {
@@ -35,14 +36,14 @@ fn table_len(order: &[u32]) -> usize
     len
 }
 
-// A table of so many zeros.
+// Returns a table of `len` zeros.
 fn zeros(alloc: Global, len: usize) -> Result<Vec<u32>, AllocError>
     ensures { IfOk result (λ v. length v.items ≡ len) }
 {
     vec![in alloc; 0; len]
 }
 
-// The place of each node of an order, by its number.
+// Returns a table with the place of each node of an order, by the node's number.
 fn places_of(alloc: Global, order: &[u32]) -> Result<Vec<u32>, AllocError>
     requires few { length order.now < 2 ^ 32 }
     requires distinct { AllPairs (λ a b. a ≢ b) order.now }
@@ -56,7 +57,7 @@ fn places_of(alloc: Global, order: &[u32]) -> Result<Vec<u32>, AllocError>
 }
 
 impl Order {
-    /// An order in which no node stands twice.
+    /// Returns the order of these nodes, none of which stands twice.
     pub fn new(alloc: Global, order: &NumberList) -> Result<Order, AllocError>
         requires { AllPairs (λ a b. a ≢ b) order.now }
         ensures { IfOk result (λ o. o ≡ order.now) }
@@ -67,14 +68,14 @@ impl Order {
         Ok(Order { nodes, places })
     }
 
-    /// How many nodes there are.
+    /// Returns how many nodes the order has.
     pub fn len(&self) -> u32
         ensures { result ≡ length self.now }
     {
         self.nodes.len() as u32
     }
 
-    /// The place of a node, which has only one.
+    /// Returns the place of a node of the order, counted from 0.
     pub fn place_of(&self, node: u32) -> u32
         requires { Contains self.now node }
         ensures at { slice_get self.now result ≡ Some node }
@@ -83,7 +84,7 @@ impl Order {
         self.places[node as usize]
     }
 
-    /// The node at a place, and at no other.
+    /// Returns the node at a place, counted from 0.
     pub fn node_at(&self, place: u32) -> u32
         requires { place < length self.now }
         ensures at { slice_get self.now place ≡ Some result }

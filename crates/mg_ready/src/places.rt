@@ -11,7 +11,7 @@ use std::marker::Model;
 // How many buckets a word has bits for.
 const BITS: usize = 64;
 
-/// Which of some places are in, with a bit for each bucket that has one.
+/// Which of some places are in, with a bit for each bucket that tells whether one of its places is.
 #[derive(Drop)]
 pub(crate) struct Places {
     links: Links,
@@ -29,7 +29,7 @@ impl Model for Places {
     ghost invariant = { λ p. IsMarked p.links p.words.items };
 }
 
-// This many words without a bit.
+// Returns `words` words in which no bit is set.
 fn no_bits(alloc: Global, words: usize) -> Result<Vec<u64>, AllocError>
     ensures { IfOk result (λ v. v.items ≡ replicate words 0) }
 {
@@ -37,7 +37,7 @@ fn no_bits(alloc: Global, words: usize) -> Result<Vec<u64>, AllocError>
 }
 
 impl Places {
-    /// A set over this many places, in which none is.
+    /// Returns a set over `places` places, in which none is.
     pub(crate) fn new(alloc: Global, places: u32) -> Result<Places, AllocError>
         ensures { IfOk result (λ p. p ≡ replicate places false) }
     {
@@ -78,7 +78,7 @@ impl Places {
         }
     }
 
-    /// The last place that is in.
+    /// Returns the last place that is in, if one is.
     pub(crate) fn last(&self) -> Option<u32>
         ensures { MatchOption result ((q : ℕ) → slice_index_or self.now q false ≡ false) (IsLast self.now) }
     {

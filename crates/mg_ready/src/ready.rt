@@ -7,9 +7,9 @@ use mg_value::NumberList;
 use std::alloc::{AllocError, Global};
 use std::marker::Model;
 
-/// The nodes that may run, each at most once. The one that stands last in an order goes first (MediaPipe,
-/// Synchronization). A call looks at no more than a bucket of 32 places, and `take` at a word for each 2,048 nodes. Only
-/// `new` takes memory: it keeps a table as long as the greatest number of a node.
+/// A set of nodes that may run. The one that stands last in an order goes first (MediaPipe, Synchronization). A call looks at no more than
+/// a bucket of 32 places, and `take` at a word for each 2,048 nodes. Only `new` takes memory: it keeps a table with a place for each number
+/// up to the greatest of a node.
 #[derive(Drop)]
 pub struct Ready {
     order: Order,
@@ -28,7 +28,7 @@ impl Model for Ready {
 }
 
 impl Ready {
-    /// No node of an order. No node stands in the order twice.
+    /// Returns an empty set of nodes with this order, in which no node stands twice.
     pub fn new(alloc: Global, order: &NumberList) -> Result<Ready, AllocError>
         requires { AllPairs (λ a b. a ≢ b) order.now }
         ensures { IfOk result (λ r. r ≡ none_ready order.now) }
@@ -38,7 +38,7 @@ impl Ready {
         Ok(Ready { order, places })
     }
 
-    /// Puts a node in. One that is there stays as it is.
+    /// Puts a node of the order into the set. A node that is in stays in.
     pub fn put(&mut self, node: u32)
         requires { Contains self.old.order node }
         ensures put { IsIn self.new node }
@@ -50,7 +50,7 @@ impl Ready {
         }
     }
 
-    /// Takes out the node of the highest priority.
+    /// Takes out the node of the highest priority, the last one in the order, or returns `None` if the set is empty.
     pub fn take(&mut self) -> Option<u32>
         ensures order { self.new.order ≡ self.old.order }
         ensures none { IfNone result (IsEmpty self.old) }
@@ -65,7 +65,7 @@ impl Ready {
         Some(self.order.node_at(place))
     }
 
-    /// Takes a node out, where it is in.
+    /// Takes a node of the order out of the set, if it is in.
     pub fn drop_node(&mut self, node: u32)
         requires { Contains self.old.order node }
         ensures dropped { ¬ IsIn self.new node }

@@ -1,4 +1,4 @@
--- What the code's own functions say to one another.
+-- Definitions for the contracts of the crate's inner functions.
 pub mod Packets
 pub mod Reading
 pub mod Nets

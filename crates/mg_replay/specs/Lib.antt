@@ -5,5 +5,5 @@ pub mod Reading
 pub mod Note
 pub mod Leaves
 pub mod Replayed
--- What only the code's own functions say to one another. Nothing above rests on it.
+-- Definitions for the contracts of the crate's inner functions. No other definition rests on them.
 pub mod Code

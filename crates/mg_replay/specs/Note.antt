@@ -10,6 +10,7 @@ use Rattle.mg_replay.specs.declared.trace_end.TraceFault.TheVariants.{Line, BadE
 use Rattle.mg_replay.specs.declared.trace_end.TraceEnd.{TraceEnd}
 use Rattle.mg_replay.specs.declared.trace_end.TraceEnd.TheVariants.{Accepted, Refused, Failed}
 
+-- the word that a note has for a cause
 abbrev pub trace_refusal : TraceFault → List ℕ
 trace_refusal (Line cause) = line_refusal cause
 trace_refusal BadEvent = codes "BadEvent"
@@ -18,11 +19,13 @@ trace_refusal NotAtRest = codes "NotAtRest"
 trace_refusal NoEnd = codes "NoEnd"
 trace_refusal AfterEnd = codes "AfterEnd"
 
+-- the note of how the reading of a recorded run ended, which is empty for an accepted one
 abbrev pub trace_note : TraceEnd → List ℕ
 trace_note Accepted = []
 trace_note (Refused line cause) = codes "line " ++ decimal line ++ codes ": " ++ trace_refusal cause ++ codes "\n"
 trace_note (Failed lines) = read_note lines
 
+-- the status of how the reading of a recorded run ended
 abbrev pub trace_status : TraceEnd → Status
 trace_status Accepted = Good
 trace_status (Refused line cause) = LineRefused

@@ -11,11 +11,11 @@ use Rattle.mg_feed.specs.declared.line_fault.LineFault.TheVariants.{TooLong}
 use Rattle.mg_replay.specs.declared.trace_end.TraceFault.{TraceFault}
 use Rattle.mg_replay.specs.declared.trace_end.TraceFault.TheVariants.{Line, BadEvent}
 
--- a line ends the packet lines
+-- whether a line ends the packet lines
 abbrev pub is_end_word : List ℕ → Bool
 is_end_word line = bytes_eq line (codes "ended") || bytes_eq line (codes "frozen")
 
--- a line opens an object, perhaps behind blanks, or is of blanks alone
+-- whether a line opens an object, perhaps behind blanks, or is of blanks alone
 abbrev pub may_say_packet : List ℕ → Bool
 may_say_packet [] = true
 may_say_packet (b ∷ line) = if is_blank b then may_say_packet line else b == 123
@@ -27,15 +27,16 @@ packet_refusal graph before line =
     else (if may_say_packet line then option_map Line (refusal graph before line)
     else Some BadEvent)
 
--- lines are packet lines, each of them good after those before it
+-- a line is a packet line that is good after those before it
 abbrev pub IsPacket : GraphInputs → List (List ℕ) → List ℕ → Type 0
 IsPacket graph before line = (is_end_word line ≡ false) × (packet_refusal graph before line ≡ None)
 
+-- lines are packet lines, each of them good after those before it
 abbrev pub ArePackets : GraphInputs → List (List ℕ) → List (List ℕ) → Type 0
 ArePackets graph before [] = ⊤
 ArePackets graph before (line ∷ lines) = IsPacket graph before line × ArePackets graph (before ++ line ∷ []) lines
 
--- what they hand to a graph, where its input ended well or not
+-- the inputs that packet lines give a graph, whose input ended well or didn't
 abbrev pub inputs_with : Plan → List (List ℕ) → Bool → Inputs
 inputs_with plan lines ended = record {
   streams = ended_streams ended (given_by (inputs_of plan) lines).streams;

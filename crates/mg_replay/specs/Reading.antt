@@ -29,7 +29,7 @@ pub record IsReading (first now : SourceTold) (read : Reading) (number : ℕ) (l
   pub handed : HasHanded came lines read
   pub counted : number ≡ length lines
 
--- They are all packet lines, and a feed has taken them.
+-- The lines that were handed out are all packet lines, and a feed has taken them.
 pub record IsOpening (plan : Plan) (first now : SourceTold) (read : Reading) (number : ℕ) (view : View) : Type 0 where
   pub lines : List (List ℕ)
   pub reading : IsReading first now read number lines
@@ -37,13 +37,13 @@ pub record IsOpening (plan : Plan) (first now : SourceTold) (read : Reading) (nu
   pub stands : Stands lines (nothing_taken (inputs_of plan)) view
   pub packets : ArePackets (inputs_of plan) [] lines
 
--- there are such a plan and such a source
+-- the lines that were handed out are packet lines for some plan, from some source
 pub record IsSomeOpening (now : SourceTold) (read : Reading) (number : ℕ) (view : View) : Type 0 where
   pub plan : Plan
   pub first : SourceTold
   pub opening : IsOpening plan first now read number view
 
--- The packet lines have ended with a word behind them.
+-- The packet lines of a job have ended with a word behind them, and a feed has taken them.
 pub record HasJob (plan : Plan) (ended : Bool) (first now : SourceTold) (read : Reading) (number : ℕ) (view : View) : Type 0 where
   pub given : List (List ℕ)
   pub reading : IsReading first now read number (given ++ end_word ended ∷ [])

@@ -34,6 +34,7 @@ StopsEarlyAt plan given [] end = end ≡ Refused (length given + 1) NoEnd
 StopsEarlyAt plan given (line ∷ more) end =
     (is_end_word line ≡ false) × ((cause : TraceFault) × (packet_refusal (inputs_of plan) given line ≡ Some cause) × (end ≡ Refused (length given + 1) cause))
 
+-- The lines begin with packet lines, behind which the reading stops before there is a job.
 pub record StopsEarly (plan : Plan) (lines : List (List ℕ)) (end : TraceEnd) : Type 0 where
   pub given : List (List ℕ)
   pub tail : List (List ℕ)
@@ -83,6 +84,7 @@ abbrev pub StopsAt : Plan → NetView → ℕ → List (List ℕ) → TraceEnd �
 StopsAt plan net number [] end = end ≡ Refused number NoEnd
 StopsAt plan net number (line ∷ more) end = IsNoEvent plan number line end ⊎ (IsIdleEvent plan net number line end ⊎ IsEnd net number line more end)
 
+-- The lines begin with those that led a net somewhere, where the reading stops.
 pub record StopsLater (plan : Plan) (boxes : List CalculatorTold) (lines : List (List ℕ)) (inputs : Inputs) (end : TraceEnd) : Type 0 where
   pub front : List (List ℕ)
   pub tail : List (List ℕ)
@@ -106,6 +108,7 @@ pub record GoesOn (plan : Plan) (boxes : List CalculatorTold) (lines : List (Lis
   pub has_run : HasRun plan boxes front inputs net
   pub lines_are : (lines ≡ front) ⊎ ((lines ≡ front ++ codes "end" ∷ []) × IsAtRest net)
 
+-- More lines may come: where there is no job yet, all lines so far are packet lines; else none of them is refused.
 abbrev pub MayComeTo : Plan → List CalculatorTold → List (List ℕ) → Option Inputs → Type 0
 MayComeTo plan boxes lines None = ArePackets (inputs_of plan) [] lines
 MayComeTo plan boxes lines (Some inputs) = GoesOn plan boxes lines inputs
@@ -120,13 +123,13 @@ CameAs (Refused line cause) plan boxes input came job =
     (ended : Bool) × MetEnd false ended input.before input.now × ((more : List ℕ) → (ended ≡ true → more ≡ []) → ComesTo plan boxes (all_lines (came ++ more)) job (Refused line cause))
 CameAs (Failed lines) plan boxes input came job = (lines ≡ length (whole_lines came)) × MayComeTo plan boxes (whole_lines came) job
 
--- a read failed where the reading ended with that, and nowhere else
+-- no read failed, unless the reading ended by that
 abbrev pub FailsAs : TraceEnd → SourceTold → SourceTold → Type 0
 FailsAs Accepted before now = Unfailed before now
 FailsAs (Refused line cause) before now = Unfailed before now
 FailsAs (Failed lines) before now = ReadFailed before now
 
--- A recorded run was read so, with these calculators.
+-- A recorded run was read from this input with these calculators: it told this job, if any, and the reading ended so.
 pub record WasRead (plan : Plan) (boxes : List CalculatorTold) (input : Device SourceTold) (job : Option Inputs) (end : TraceEnd) : Type 0 where
   pub came : List ℕ
   pub gave : Gave input.before.left input.now.left came

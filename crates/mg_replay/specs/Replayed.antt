@@ -51,11 +51,12 @@ pub record AnswersTrace (report : Bool) (plan : Plan) (boxes : List CalculatorTo
 
 -- What was written --
 
+-- What was written of a job: that of a run of it where its input ended well, and else that of a frozen job.
 abbrev pub WroteJob : Bool → Bool → Job → Status → Device SinkTold → Device SinkTold → Type 0
 WroteJob true report job status output notes = Wrote (by_lines report) job Ended status output notes
 WroteJob false report job status output notes = WroteFrozen (by_lines report) job status output notes
 
--- An accepted run was answered as its job's is. One that isn't accepted wrote nothing but its note.
+-- For an accepted run the answer of its job was written, and for any other nothing but the one note.
 abbrev pub WroteEnd : TraceEnd → Bool → Plan → Option Inputs → Status → Device SinkTold → Device SinkTold → Type 0
 WroteEnd Accepted report plan None status output notes = ⊥
 WroteEnd Accepted report plan (Some inputs) status output notes = WroteJob inputs.ended report (job_over plan inputs) status output notes
@@ -64,8 +65,8 @@ WroteEnd (Failed lines) report plan job status output notes = Untouched output �
 
 -- The calculators --
 
--- Behind an accepted run each that a node uses had all calls of its node. Behind any other, where the nodes were begun, each was opened,
--- shown some of the first sets, perhaps none, and closed; where they weren't, none had a call.
+-- Behind an accepted run each calculator that a node uses had all calls of its node. Behind any other, where the nodes were begun, each was
+-- opened, shown some of the first sets, perhaps none, and closed; where they weren't, none had a call.
 abbrev pub HadEnd : TraceEnd → Plan → Option Inputs → Device (List CalculatorTold) → Type 0
 HadEnd Accepted plan None boxes = ⊥
 HadEnd Accepted plan (Some inputs) boxes = HadCallsOf (job_over plan inputs) boxes
@@ -76,7 +77,7 @@ HadEnd (Failed lines) plan (Some inputs) boxes = HadCloses (job_over plan inputs
 
 -- The call --
 
--- A recorded run was read to its end, and what is due then was done.
+-- A recorded run was read as far as it goes, and what is due then was done.
 pub record Replayed (report : Bool) (plan : Plan) (status : Status) (devices : RunDevices) (boxes : Device (List CalculatorTold)) : Type 0 where
   pub job : Option Inputs
   pub end : TraceEnd

@@ -26,7 +26,7 @@ use std::alloc::AllocError;
 /// Makes the events of a recorded run on a net of its plan, one by one, each Process call through the gate. The lines of the run's job were
 /// read before, and the net was made for that job and begun.
 ///
-/// Answers how the reading ended. The run is accepted where each line is that of an event that moves the net, behind them stands `end`, at
+/// Returns how the reading ended. The run is accepted where each line is that of an event that moves the net, behind them stands `end`, at
 /// a net at rest, and nothing stands behind that. Otherwise the first line that isn't so is refused, with its number among all lines of
 /// the source; or a read failed.
 ///
@@ -58,7 +58,7 @@ pub fn replay_events<G: Gate, C: Calculator, S: Source>(
     }
 }
 
-// Reads the next line, and makes its event.
+// Reads the next line, and makes its event. Returns how the reading ended, if it did.
 fn next_event<G: Gate, C: Calculator, S: Source>(
     plan: &Plan,
     net: &mut Net<C>,
@@ -88,7 +88,7 @@ fn next_event<G: Gate, C: Calculator, S: Source>(
     }
 }
 
-// Makes the event of the line that was handed out last, or ends the run with it.
+// Makes the event of the line that was handed out last, or ends the run where that line is `end`.
 fn take_event<G: Gate, C: Calculator, S: Source>(
     plan: &Plan,
     net: &mut Net<C>,
@@ -111,7 +111,7 @@ fn take_event<G: Gate, C: Calculator, S: Source>(
     Ok(stop)
 }
 
-// Makes the event of a line of a number.
+// Makes the event of a line, which has this number, or refuses the line.
 fn make_line<G: Gate, C: Calculator>(
     plan: &Plan,
     net: &mut Net<C>,
@@ -137,7 +137,7 @@ fn make_line<G: Gate, C: Calculator>(
     }
 }
 
-// Makes an event, whose line has a number.
+// Makes an event, or refuses its line, which has this number, where the event does nothing.
 fn make_event<G: Gate, C: Calculator>(
     net: &mut Net<C>,
     gate: &G,
@@ -160,7 +160,7 @@ fn make_event<G: Gate, C: Calculator>(
     }
 }
 
-// Looks whether a net is at rest behind the last line of a run, and that nothing stands behind that.
+// Ends a run at its last line: the net has to be at rest, and nothing may stand behind that line.
 fn end_run<C: Calculator, S: Source>(
     net: &mut Net<C>,
     lines: &mut Lines,
@@ -184,7 +184,7 @@ fn end_run<C: Calculator, S: Source>(
     Ok(behind_end(next, number))
 }
 
-// How the reading ends behind the last line of a run, which has this number.
+// Returns how the reading ends, by what comes behind the last line of a run, which has this number.
 fn behind_end(next: NextLine, number: u64) -> TraceEnd
     requires { number + 1 < 2 ^ 64 }
     ensures { StopsBehind next number result }

@@ -9,8 +9,8 @@ use mg_edge::Sink;
 use mg_feed::{FeedEnd, put_all};
 use std::alloc::{AllocError, Global};
 
-/// Writes the note of how the reading of a recorded run ended, where it isn't accepted, and answers the status: the one that is due for that,
-/// or `WriteFault` where a write failed. Where memory runs out nothing was written.
+/// Writes the note of how the reading of a recorded run ended, where it isn't accepted, and returns the status: the one that is due for
+/// that, or `WriteFault` where a write failed. Where memory runs out nothing was written.
 pub fn note_end<E: Sink>(alloc: Global, end: TraceEnd, notes: &mut E) -> Result<Status, AllocError>
     ensures wrote { IfOk result (λ status. WroteNote end status (device (E.told notes.old) (E.told notes.new))) }
     ensures unnoted { OnErr result (E.told notes.new ≡ E.told notes.old) }
@@ -24,7 +24,7 @@ pub fn note_end<E: Sink>(alloc: Global, end: TraceEnd, notes: &mut E) -> Result<
     }
 }
 
-// The status of a run whose reading ended so.
+// Returns the status of a recorded run whose reading ended like this.
 fn status_of(end: TraceEnd) -> Status
     ensures { result ≡ trace_status end }
 {
@@ -35,7 +35,7 @@ fn status_of(end: TraceEnd) -> Status
     }
 }
 
-// Puts the note at a text's end.
+// Puts the note of how the reading ended at a text's end.
 fn put_note(text: &mut Vec<u8>, end: TraceEnd) -> Result<(), AllocError>
     ensures { OnOk result (text.new.items ≡ text.old.items ++ trace_note end) }
 {
@@ -60,7 +60,7 @@ fn put_refused(text: &mut Vec<u8>, line: u64, cause: TraceFault) -> Result<(), A
     }
 }
 
-// Puts the number of a line and a word for it at a text's end.
+// Puts the note of a line and the word for its fault at a text's end.
 fn put_word(text: &mut Vec<u8>, line: u64, word: &[u8]) -> Result<(), AllocError>
     ensures { OnOk result (text.new.items ≡ text.old.items ++ (codes "line " ++ (decimal line ++ (codes ": " ++ (word.now ++ codes "\n"))))) }
 {

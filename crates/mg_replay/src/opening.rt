@@ -17,13 +17,13 @@ use std::alloc::AllocError;
 /// What the reading of a job's lines came to.
 #[derive(Clone, Copy)]
 pub enum Opened {
-    /// Its packet lines have ended, and its input ended well (`true`) or was frozen.
+    /// The job's packet lines have ended, and its input ended well (`true`) or is frozen (`false`).
     Job(bool),
     /// The reading stopped.
     Stopped(TraceEnd),
 }
 
-/// How the reading stops behind so many lines, where no further one is handed out. A line that is too long is refused with this cause.
+/// Returns how the reading stops behind `lines` lines where no further one is handed out. A line that is too long is refused with `long`.
 pub fn stopped_at(next: NextLine, lines: u64, long: TraceFault) -> Option<TraceEnd>
     requires { lines + 1 < 2 ^ 64 }
     ensures { StopsBy next lines long result }
@@ -44,7 +44,7 @@ pub fn stopped_at(next: NextLine, lines: u64, long: TraceFault) -> Option<TraceE
 
 /// Reads the lines of a recorded run's job: packet lines, which a feed takes, up to the line `ended` or `frozen`.
 ///
-/// Answers which of the two it was, or how the reading stopped: the first line that is neither of them and no good packet line is refused,
+/// Returns which of the two it was, or how the reading stopped: the first line that is neither of them and no good packet line is refused,
 /// with its number; or the lines end there, or a read failed.
 ///
 /// It leaves the feed with what the packet lines gave, and the lines behind the one that ended them. Where the reading stopped, or memory
@@ -67,7 +67,7 @@ pub fn read_job<S: Source>(
     }
 }
 
-// Reads the next line, and takes it if it is a packet line.
+// Reads the next line, and takes it if it is a packet line. Returns what the reading came to, if it ends there.
 fn next_packet<S: Source>(
     feed: &mut Feed,
     lines: &mut Lines,
@@ -89,7 +89,7 @@ fn next_packet<S: Source>(
     }
 }
 
-// Takes the line of a number, if it is a packet line, and answers what became of it if it isn't.
+// Takes the line of this number, if it is a packet line, and returns what the reading came to if it isn't.
 fn take_line(feed: &mut Feed, line: &[u8], number: u64) -> Result<Option<Opened>, AllocError>
     requires { length line.now ≤ longest_line }
     ensures { IfOk result (λ opened. TakesLine opened line.now number (seen feed.old) (seen feed.new)) }
@@ -103,7 +103,7 @@ fn take_line(feed: &mut Feed, line: &[u8], number: u64) -> Result<Option<Opened>
     }
 }
 
-// Takes a line that doesn't end the packet lines.
+// Takes a line that doesn't end the packet lines, or refuses it.
 fn take_other(feed: &mut Feed, line: &[u8], number: u64) -> Result<Option<Opened>, AllocError>
     requires { length line.now ≤ longest_line }
     ensures { IfOk result (λ opened. TakesOther opened line.now number (seen feed.old) (seen feed.new)) }

@@ -29,7 +29,7 @@ fn may_say_packet(line: &[u8]) -> bool
     true
 }
 
-/// What a line says of how the input of a job ended, if it says that.
+/// Returns whether the input of a job ended well, where a line says that: true for `ended`, false for `frozen`.
 pub fn end_word(line: &[u8]) -> Option<bool>
     ensures { result ≡ ends_so line.now }
 {
@@ -59,7 +59,7 @@ pub fn take_packet(feed: &mut Feed, line: &[u8]) -> Result<Option<TraceFault>, A
     }
 }
 
-// A line isn't good, unless memory ran out.
+// Returns why a line isn't good, or an error where memory ran out.
 fn refused(fault: LineFault) -> Result<Option<TraceFault>, AllocError>
     ensures { IfOk result (λ cause. (cause ≡ Some (TraceFault.Line fault)) × (fault ≢ LineFault.OutOfMemory)) }
 {

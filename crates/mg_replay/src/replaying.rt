@@ -102,7 +102,7 @@ fn replay_whole<G: Gate, C: Calculator, S: Source, K: Sink, E: Sink>(
     }
 }
 
-// What the lines of a job hand to a graph, and the lines behind them.
+// The inputs that the lines of a job give a graph, and the lines behind them.
 #[derive(Drop)]
 struct Opening {
     inputs: Inputs,
@@ -176,7 +176,7 @@ fn replay_net<G: Gate, C: Calculator, S: Source, K: Sink, E: Sink>(
     Ok(status)
 }
 
-// Whether the reading of a run ended so that it is accepted.
+// Whether the reading ended so that the run is accepted.
 fn is_accepted(end: TraceEnd) -> bool
     ensures { result ≡ accepts end }
 {
@@ -239,7 +239,7 @@ fn accept<G: Gate, C: Calculator, K: Sink, E: Sink>(
     Ok(status)
 }
 
-// Takes all sets of the outputs of a net at rest, and tells them.
+// Takes all sets of the outputs of a net at rest, and writes their lines.
 fn tell_outputs<G: Gate, C: Calculator, K: Sink>(
     run: &Run<'_>,
     net: &mut OneThread<'_, C, G>,

@@ -1,4 +1,4 @@
--- What a holder has: a built-in calculator, which tells no log, or one that was handed in.
+-- What contracts see of a holder, by what it has: a built-in calculator, or one that was handed in.
 use Rattle.std.specs.Prelude.{true, false}
 use Rattle.mg_calc.specs.Told.{CalculatorTold}
 use Rattle.mg_route.specs.declared.holder.Held.{Held}

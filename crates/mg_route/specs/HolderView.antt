@@ -14,11 +14,11 @@ pub record HolderView : Type 0 where
   pub log : Option (List Call)
   pub handed : Bool
 
--- that of what a calculator tells
+-- the view of a holder, from whether its calculator was handed in, and what the calculator tells of itself
 abbrev pub holder_view : Bool → CalculatorTold → HolderView
 holder_view handed told = record { law = told.law; shape = told.shape; state = told.state; log = told.log; handed = handed }
 
--- and what its calculator tells
+-- what the calculator of a holder tells of itself
 abbrev pub told_by : HolderView → CalculatorTold
 told_by held = record { law = held.law; shape = held.shape; state = held.state; log = held.log }
 

@@ -12,7 +12,7 @@ use mg_value::InputSet;
 use std::alloc::{AllocError, Global};
 use std::marker::Model;
 
-/// A calculator of one of the built-in kinds, with what it keeps. Contracts see what it tells of itself, which is no log.
+/// A built-in calculator: its law, its shape and its state. Contracts see what it tells of itself; it keeps no log.
 #[derive(Drop)]
 pub struct Builtin {
     law: Law,
@@ -36,7 +36,7 @@ impl Model for Builtin {
 }
 
 impl Builtin {
-    /// One of a law and a shape, before it is opened.
+    /// Returns a calculator of a law and a shape, which hasn't been opened.
     pub fn new(alloc: Global, law: &Law, shape: &Shape) -> Result<Builtin, AllocError>
         requires ranges { ParametersFit law.now }
         requires of_law { IsShapeOf law.now shape.now }
@@ -50,7 +50,7 @@ impl Builtin {
         })
     }
 
-    /// Its law, which never changes.
+    /// Returns the calculator's law, which never changes.
     pub fn law(&self) -> &Law
         ensures law { result.now ≡ self.now.law }
         ensures ranges { ParametersFit result.now }
@@ -59,7 +59,7 @@ impl Builtin {
         &self.law
     }
 
-    /// Its ports, which never change.
+    /// Returns the calculator's shape, which never changes.
     pub fn shape(&self) -> &Shape
         ensures shape { result.now ≡ self.now.shape }
         ensures of_law { IsShapeOf self.now.law result.now }
@@ -67,7 +67,7 @@ impl Builtin {
         &self.shape
     }
 
-    // What it emits when it is opened. A fault, and want of memory, change nothing.
+    // Opens the calculator with its side packets, and returns what it emits. On an error the state stays.
     pub(crate) fn begin(&mut self, alloc: Global, sides: &GivenList) -> Result<Emission, CalcFault>
         ensures answer { GivesEmission result self.new.state (opening self.old.law sides.now) }
         ensures kept { OnErr result (self.new.state ≡ self.old.state) }
@@ -79,7 +79,7 @@ impl Builtin {
         begin_in(alloc, &self.law, &mut self.state, sides)
     }
 
-    // What it emits at a set. A fault, and want of memory, change nothing.
+    // Shows the calculator the set at a time, and returns what it emits. On an error the state stays.
     pub(crate) fn process(
         &mut self,
         alloc: Global,
@@ -97,7 +97,7 @@ impl Builtin {
         outer_step_in(alloc, &self.law, &mut self.state, at, set)
     }
 
-    // What it emits at a call, if it is a source.
+    // Returns what the calculator, a source, emits at the call of a number.
     pub(crate) fn called(&self, alloc: Global, number: u64) -> Result<Emission, CalcFault>
         requires source { IsSource self.now.law }
         requires number { number < calls_of self.now.law }
@@ -106,7 +106,7 @@ impl Builtin {
         source_step(alloc, &self.law, &self.state, number)
     }
 
-    // What it emits when it is closed.
+    // Returns what the calculator emits in Close.
     pub(crate) fn closed(&self, alloc: Global) -> Result<Emission, AllocError>
         ensures emission { IfOk result (λ emission. closing self.now.law self.now.state ≡ Ok (self.now.state, emission)) }
         ensures untold { self.now.log ≡ None }

@@ -13,7 +13,7 @@ use mg_value::{InputSet, Payload};
 use std::alloc::{AllocError, Global};
 use std::sync::Arc;
 
-// What a place keeps after a set: the payload of the packet there, or else what it kept.
+// Returns what a place keeps after a set: the payload of the packet there, or else what it kept.
 fn renewed(state: &State, set: &InputSet, i: u32) -> Result<Option<Arc<Payload>>, AllocError>
     ensures { IfOk result (λ place. given place ≡ the_renewed (place_at set.now i, kept_at state.now i)) }
 {
@@ -26,7 +26,7 @@ fn renewed(state: &State, set: &InputSet, i: u32) -> Result<Option<Arc<Payload>>
     }
 }
 
-// What each place keeps after a set.
+// Returns what each of the first `count` places keeps after a set.
 fn all_renewed(
     alloc: Global,
     count: u32,
@@ -42,7 +42,7 @@ fn all_renewed(
     Ok(places)
 }
 
-/// What a cloner gives at a set.
+/// Returns what a cloner gives at a set: its new state and its emission.
 pub fn cloner(
     alloc: Global,
     lanes: u32,

@@ -9,20 +9,20 @@ use mg_value::{InputSet, Packet};
 use std::alloc::{AllocError, Global};
 use std::sync::Arc;
 
-/// What packets are taken from, by number.
+/// Something that packets are taken from by number: a set, or a state, whose payloads become packets at the time that is asked for.
 pub trait Places {
     ghost use Rattle.std.specs.Prelude.{ℕ, Option};
     ghost use Rattle.mg_value.specs.Plain.{Plain};
     ghost use Rattle.mg_value.specs.Prefix.{Stamped};
 
-    /// The packet at a number, taken at a time, or none.
+    /// The packet at a number, if there is one, where it is taken at a time.
     ghost place: { Self → ℕ → ℕ → Option (Stamped Plain) };
 
-    /// Whether there is one.
+    /// Whether there is a packet at a number.
     fn is_full(&self, i: u32) -> bool
         ensures { (t : ℕ) → result ≡ is_some (place self.now t i) };
 
-    /// A packet that shares its payload.
+    /// Returns the packet at a number, if there is one. It shares the payload.
     fn packet(&self, at: Timestamp, i: u32) -> Result<Option<Packet>, AllocError>
         ensures { IfOk result (λ p. p ≡ place self.now at i) };
 }
@@ -65,7 +65,7 @@ impl Places for State {
     }
 }
 
-// Whether some of the first places have a packet.
+// Whether one of the first `count` places has a packet.
 fn has_packet<P: Places>(from: &P, at: Timestamp, count: u32) -> bool
     ensures { result ≡ list_any is_some (first_places (P.place from.now at) count) }
 {
@@ -77,7 +77,7 @@ fn has_packet<P: Places>(from: &P, at: Timestamp, count: u32) -> bool
     false
 }
 
-/// The packet of each of the first places at the output of its number.
+/// Returns the emission of the packets of the first `count` places, each at the output of its number.
 pub fn placed<P: Places>(
     alloc: Global,
     from: &P,
@@ -99,7 +99,7 @@ pub fn placed<P: Places>(
     Ok(ShortList::from_vec(entries)?)
 }
 
-// The packet of a place, as what is laid at an output.
+// Returns the packet of a place, if there is one, as what is laid at an output.
 fn entry<P: Places>(alloc: Global, from: &P, at: Timestamp, i: u32) -> Result<Laid, AllocError>
     ensures { IfOk result (λ entry. entry ≡ laid (P.place from.now at i)) }
 {
@@ -108,7 +108,7 @@ fn entry<P: Places>(alloc: Global, from: &P, at: Timestamp, i: u32) -> Result<La
     Ok(entry)
 }
 
-/// The packets of the first ports of a set, each at the output of its number.
+/// Returns the emission of the packets at the first ports of a set, each at the output of its number.
 pub fn front(alloc: Global, set: &InputSet, lanes: u32) -> Result<Emission, AllocError>
     ensures { IfOk result (λ emission. emission ≡ emission_of (take lanes set.now)) }
 {
@@ -116,7 +116,7 @@ pub fn front(alloc: Global, set: &InputSet, lanes: u32) -> Result<Emission, Allo
     placed(alloc, set, Timestamp::MIN, lanes.min(set.len()))
 }
 
-/// The packet, if there is one, at the one output.
+/// Returns the emission of a packet, if there is one, by a calculator with one output.
 pub fn handed_on(alloc: Global, packet: Option<&Packet>) -> Result<Emission, AllocError>
     ensures { IfOk result (λ emission. emission ≡ emission_of (option_copied packet.entry ∷ [])) }
 {

@@ -15,8 +15,8 @@ use std::marker::Model;
 /// The calculator of a node: a built-in one, or one that was handed in. Contracts see what it tells of itself, and which of the
 /// two it is.
 ///
-/// Each call answers what the table of laws has for the law and the state that is kept, and keeps the new state. A call that
-/// finds no memory changes nothing, and may be made again.
+/// Each call returns what the table of laws gives for the calculator's law and state, and the calculator then keeps the new state. A
+/// call that fails leaves the state; one that returns `OutOfMemory` leaves the log too, and may be made again.
 #[derive(Drop)]
 pub struct Holder<C: Calculator> {
     held: Held<C>,
@@ -41,7 +41,7 @@ impl<C: Calculator> Model for Holder<C> {
 }
 
 impl<C: Calculator> Holder<C> {
-    /// The holder of a built-in calculator.
+    /// Returns the holder of a built-in calculator.
     pub fn own(builtin: Builtin) -> Holder<C>
         ensures { result ≡ holder_view false builtin }
     {
@@ -50,7 +50,7 @@ impl<C: Calculator> Holder<C> {
         }
     }
 
-    /// The holder of a calculator that was handed in.
+    /// Returns the holder of a calculator that was handed in.
     pub fn outer(calculator: C) -> Holder<C>
         ensures { result ≡ holder_view true (C.told calculator) }
     {
@@ -59,7 +59,7 @@ impl<C: Calculator> Holder<C> {
         }
     }
 
-    /// Its law, which never changes.
+    /// Returns the calculator's law, which never changes.
     pub fn law(&self) -> &Law
         ensures law { result.now ≡ self.now.law }
         ensures ranges { ParametersFit result.now }
@@ -70,7 +70,7 @@ impl<C: Calculator> Holder<C> {
         }
     }
 
-    /// Its ports, which never change.
+    /// Returns the calculator's shape, which never changes.
     pub fn shape(&self) -> &Shape
         ensures shape { result.now ≡ self.now.shape }
         ensures of_law { IsShapeOf self.now.law result.now }
@@ -81,7 +81,7 @@ impl<C: Calculator> Holder<C> {
         }
     }
 
-    /// Opens it, before all sets, with its side packets.
+    /// Opens the calculator with its side packets. It comes before all sets.
     pub fn begin(&mut self, alloc: Global, sides: &GivenList) -> Result<Emission, CalcFault>
         ensures answer { GivesEmission result self.new.state (opening self.old.law sides.now) }
         ensures kept { OnErr result (self.new.state ≡ self.old.state) }
@@ -96,7 +96,7 @@ impl<C: Calculator> Holder<C> {
         }
     }
 
-    /// Shows it the set at a time.
+    /// Shows the calculator the set at a time, which has a place for each of its inputs.
     pub fn process(
         &mut self,
         alloc: Global,
@@ -118,7 +118,7 @@ impl<C: Calculator> Holder<C> {
         }
     }
 
-    /// Calls a source by a number, from 0 on. Nothing of it changes.
+    /// Calls the calculator, a source, by a number, from 0 on. The holder stays as it is.
     pub fn call(&mut self, alloc: Global, number: u64) -> Result<Emission, CalcFault>
         requires source { IsSource self.old.law }
         requires number { number < calls_of self.old.law }
@@ -134,7 +134,7 @@ impl<C: Calculator> Holder<C> {
         }
     }
 
-    /// Closes it, after all sets.
+    /// Closes the calculator, after all sets.
     pub fn finish(&mut self, alloc: Global) -> Result<Emission, CalcFault>
         ensures answer { GivesEmission result self.new.state (closing self.old.law self.old.state) }
         ensures kept { OnErr result (self.new.state ≡ self.old.state) }
@@ -149,7 +149,7 @@ impl<C: Calculator> Holder<C> {
         }
     }
 
-    /// The calculator that was handed in, if one was.
+    /// Returns the calculator, if it was handed in, and none if it is built in.
     pub fn into_outer(self) -> Option<C>
         ensures there { is_some result ≡ self.handed }
         ensures told { IfSome result (λ c. C.told c ≡ told_by self) }

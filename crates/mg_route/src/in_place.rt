@@ -1,4 +1,4 @@
-//! What a calculator gives, by law, where its state is kept in place. A fault, and want of memory, leave the state.
+//! Open and Process of a calculator by its law, with its state changed in place. On an error the state stays.
 ghost use Rattle.std.specs.Prelude.{◌≡◌, ℕ, List, IfOk, OnErr, Ok};
 ghost use Rattle.mg_value.specs.Payload.{Plain};
 ghost use Rattle.mg_calc.specs.declared.law.Law.TheVariants.{Pass};
@@ -14,7 +14,7 @@ use mg_time::Timestamp;
 use mg_value::InputSet;
 use std::alloc::{AllocError, Global};
 
-/// What a calculator emits when it is opened.
+/// Returns what a calculator emits when it is opened with its side packets, and puts its first state in the place of `state`.
 pub fn begin_in(
     alloc: Global,
     law: &Law,
@@ -28,8 +28,8 @@ pub fn begin_in(
     keep_of(state, own_begin(alloc, law, sides))
 }
 
-/// What a calculator that is shown sets emits at one. What the end of a loop over lists costs grows with the set and with what is
-/// emitted, and not with the list that is kept.
+/// Returns what a calculator emits at the set at a time, and puts its new state in the place of the old one. The cost of an EndLoop
+/// grows with the set and with what is emitted, and not with the list that is kept.
 pub fn outer_step_in(
     alloc: Global,
     law: &Law,
@@ -63,7 +63,7 @@ pub fn outer_step_in(
     }
 }
 
-// What a calculator emits at a set that hands on each packet, and keeps nothing.
+// Returns what Pass emits at a set: each packet at the output of its port.
 fn passed(alloc: Global, set: &InputSet) -> Result<Emission, AllocError>
     ensures emission { IfOk result (λ emission. (state : List Plain) (at : ℕ) → step Pass state at set.now ≡ Ok (state, emission)) }
 {
@@ -76,7 +76,7 @@ fn passed(alloc: Global, set: &InputSet) -> Result<Emission, AllocError>
     Ok(emission)
 }
 
-// Keeps the state of an answer.
+// Puts the state of an answer in the place of `state`, and returns the emission. On an error the state stays.
 fn keep_of(
     state: &mut State,
     answer: Result<(State, Emission), CalcFault>,

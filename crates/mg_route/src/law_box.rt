@@ -11,8 +11,8 @@ use mg_value::InputSet;
 use std::alloc::{AllocError, Global};
 use std::marker::Model;
 
-/// A calculator that can be handed in, by a law of the table. Where it is telling, it keeps a log of its calls, whose sets share
-/// the payloads of those that it was shown.
+/// A calculator that can be handed in, of any law that is shown sets. If it is telling, it keeps a log of its calls, whose sets share
+/// the payloads of the sets that it was shown.
 #[derive(Drop)]
 pub struct LawBox {
     inner: Builtin,
@@ -34,7 +34,7 @@ impl Model for LawBox {
 }
 
 impl LawBox {
-    /// One of a law and a shape, before it is opened.
+    /// Returns a calculator of a law and a shape, which hasn't been opened. If `telling` is set, it keeps a log of its calls.
     pub fn new(alloc: Global, outer: OuterShape, telling: bool) -> Result<LawBox, AllocError>
         requires outer { IsOuter outer.law }
         requires ranges { ParametersFit outer.law }

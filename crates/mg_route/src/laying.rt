@@ -8,7 +8,7 @@ ghost use Rattle.mg_route.specs.Reasons.{reason_of};
 use mg_calc::{Cause, LaidPackets, Phase};
 use mg_time::Timestamp;
 
-// Whether a packet at a time stands below what the node's offset promises.
+// Whether a packet at a time stands below the time that the node's offset promises.
 fn is_below(offset: Option<i64>, phase: &Phase, at: Timestamp) -> bool
     ensures { result ≡ is_below_offset offset phase.now at }
 {
@@ -18,7 +18,7 @@ fn is_below(offset: Option<i64>, phase: &Phase, at: Timestamp) -> bool
     }
 }
 
-// Whether a node with such an offset may emit nothing.
+// Whether a node with this offset may emit nothing in this phase.
 fn is_silent(offset: Option<i64>, phase: &Phase) -> bool
     ensures { result ≡ is_bound_to_silence offset phase.now }
 {
@@ -28,7 +28,7 @@ fn is_silent(offset: Option<i64>, phase: &Phase) -> bool
     }
 }
 
-// Why a packet at a time can't be put behind an output with such a bound, the first reason, if there is one.
+// Returns the first cause why a packet at a time can't be put behind an output with this bound, if there is one.
 fn laying_fault(
     offset: Option<i64>,
     phase: &Phase,
@@ -54,8 +54,8 @@ fn laying_fault(
     }
 }
 
-/// Why packets can't be put behind an output, one after the other: the first reason, in their order, if there is one. It is the
-/// same for every output that has this bound, and has packets or not as this one (MediaPipe, Calculators and Synchronization).
+/// Returns the first cause why packets can't be put behind an output one after the other, if there is one. It depends on the output's
+/// bound and on whether the output has packets, and on nothing else of it (MediaPipe, Calculators and Synchronization).
 pub fn packets_fault(
     offset: Option<i64>,
     phase: &Phase,

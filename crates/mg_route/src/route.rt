@@ -13,7 +13,7 @@ use mg_time::Timestamp;
 use mg_value::{InputSet, Packet, Payload};
 use std::alloc::Global;
 
-/// What a calculator that hands packets on gives at a set: its new state and its emission, or its cause.
+/// Returns what a calculator that hands packets on gives at a set: its new state and its emission, or its cause.
 ///
 /// Packets that go on share their payloads.
 pub fn route_step(
@@ -51,7 +51,7 @@ fn pass(alloc: Global, state: &State, set: &InputSet) -> Result<(State, Emission
     Ok((state.try_clone(alloc)?, emission))
 }
 
-// The truth value of a packet; false where it has none.
+// Returns the truth value of a packet, or false where its payload is of another kind.
 fn truth_of(packet: &Packet) -> bool
     ensures { result ≡ the_truth_of packet.now.value }
 {
@@ -93,7 +93,7 @@ fn gate(
     Ok((state.try_clone(alloc)?, emission))
 }
 
-// The port that a packet selects, if there is one of that number.
+// Returns the port whose number a packet has, if there is a data port of that number.
 fn selected(lanes: u32, packet: &Packet) -> Option<u32>
     ensures { result ≡ the_selected (lanes + 1) packet.now.value }
 {
@@ -121,7 +121,7 @@ fn mux(
     Ok((state.try_clone(alloc)?, emission))
 }
 
-// The packet of the first port that has one.
+// Returns the packet of the first port that has one.
 fn first_packet(set: &InputSet) -> Option<&Packet>
     ensures { option_copied result ≡ the_first_packet set.now }
 {

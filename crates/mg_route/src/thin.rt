@@ -8,7 +8,7 @@ use mg_time::Timestamp;
 use mg_value::{InputSet, Packet};
 use std::alloc::Global;
 
-// The time of the range a period after another, or none.
+// Returns the timestamp a period after another, or none where one of the two isn't in the range.
 fn period_after(period: i64, at: Timestamp) -> Option<Timestamp>
     ensures { unwrap_or result one_over_post_stream ≡ is_valid_after period at }
 {
@@ -19,7 +19,7 @@ fn period_after(period: i64, at: Timestamp) -> Option<Timestamp>
     }
 }
 
-// The next valid timestamp after a packet that passes.
+// Returns the timestamp from which on a packet may pass after one that passed: a period later, or OneOverPostStream.
 fn valid_after(period: i64, at: Timestamp) -> Timestamp
     ensures { result ≡ is_valid_after period at }
 {
@@ -50,7 +50,7 @@ fn thinned(
     }
 }
 
-/// What a thinner gives at a set.
+/// Returns what a thinner gives at a set: its new state and its emission.
 pub fn thin(
     alloc: Global,
     period: i64,

@@ -15,15 +15,16 @@ use std::alloc::{AllocError, Global};
 use std::sync::Wait;
 use std::thread::Threads;
 
-// The room of a sink where a case gives none: more than most texts take.
+// How many bytes a sink takes where a case doesn't say: more than most texts have.
 const ROOM: u64 = 1 << 20;
 
-// How many boxes that count a call is handed, and how many for the ends of loops over lists.
+// How many TallyCalculator boxes a call is handed.
 const TALLIES: usize = 4;
 
+// How many boxes for loops over lists a call is handed: one for the begin of a loop, and the others for its end.
 const LOOP_ENDS: usize = 2;
 
-/// The names of what is counted: by the devices, and of the boxes.
+/// The names of what is counted, by the devices and by the boxes.
 pub const COUNTS: [&str; 11] = [
     "loads",
     "load_faults",
@@ -46,7 +47,7 @@ pub struct Outcome {
     pub status: u8,
     /// What was counted, in the order of `COUNTS`.
     pub counts: [u64; 11],
-    /// The name of the load that failed last.
+    /// The name of the file whose load failed last.
     pub failed_name: Option<String>,
 }
 
@@ -58,7 +59,7 @@ struct Devices {
     notes: MemorySink,
 }
 
-/// Makes one of a case's calls. The status is the one to exit with.
+/// Makes the call of a case that takes a choice and in which a turn fails. The outcome's status is the one that the program exits with.
 pub fn make_call<R: Threads + Wait + Sync>(
     rt: &R,
     alloc: Global,
@@ -126,7 +127,7 @@ impl Devices {
     }
 }
 
-// A box for the begin of a loop, and for any other number one for its end.
+// Returns the box of a number among those for loops over lists: number 0 is for the begin, and every other for the end.
 fn loop_box(alloc: Global, number: usize) -> Result<BatchBox, AllocError> {
     if number == 0 {
         begin_loop_box(alloc, false, true)
@@ -135,7 +136,7 @@ fn loop_box(alloc: Global, number: usize) -> Result<BatchBox, AllocError> {
     }
 }
 
-// How many calls some boxes had.
+// Returns how many calls some boxes had, by their logs.
 fn calls_of(boxes: &[Box<dyn Calculator + Send>]) -> u64 {
     let mut calls = 0u64;
     for one in boxes {
@@ -144,7 +145,7 @@ fn calls_of(boxes: &[Box<dyn Calculator + Send>]) -> u64 {
     calls
 }
 
-// The words `run` and `g.pbtxt` where a case has none.
+// Returns the words of a choice, or `run` and `g.pbtxt` where the case has none.
 fn words_of(alloc: Global, case: &Value, choice: Choice) -> Result<Vec<MgText>> {
     let mut words = Vec::new(alloc);
     match list(case, "words")?.get(choice.words) {

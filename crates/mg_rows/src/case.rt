@@ -1,4 +1,4 @@
-//! What the lines of a table come to.
+//! The lines of a table, and what comes of each.
 
 use crate::call::make_call;
 use crate::choice::{Choice, choice_of};
@@ -12,7 +12,7 @@ use std::alloc::Global;
 use std::sync::Wait;
 use std::thread::Threads;
 
-// The keys of a case.
+// The keys that a case may have.
 const KEYS: [&str; 23] = [
     "case",
     "words",
@@ -39,19 +39,19 @@ const KEYS: [&str; 23] = [
     "differs",
 ];
 
-/// What a line comes to.
+/// What comes of a line.
 #[derive(Drop)]
 pub enum Verdict {
-    /// It names a text, or says what follows.
+    /// The line names a text, or the section of the lines that follow.
     Said,
-    /// All of its calls came out as the case wants.
+    /// All calls of the line's case came out as the case wants.
     Passed,
-    /// A call didn't, in the way that is told.
+    /// A call of the line's case didn't come out as the case wants. The text tells how it differs.
     Failed(String),
 }
 
-/// Reads a line, keeps the text that it names, and makes the calls of its case. An error says why it is no line of a
-/// table. A line that says so of a text passes where that text is refused.
+/// Reads a line, keeps the text that it names, or makes the calls of its case. An error says why it is no line of a table. A line with the
+/// key `refused` passes where the text at that key is no line of a table.
 pub fn judge<R: Threads + Wait + Sync>(
     rt: &R,
     alloc: Global,
@@ -71,7 +71,7 @@ pub fn judge<R: Threads + Wait + Sync>(
     Ok(Verdict::Passed)
 }
 
-// Does what a line says: a case's calls, or a text's naming.
+// Does what a line says: makes the calls of a case, or keeps a text under its name.
 fn act<R: Threads + Wait + Sync>(
     rt: &R,
     alloc: Global,
@@ -95,7 +95,7 @@ fn act<R: Threads + Wait + Sync>(
     Ok(Verdict::Said)
 }
 
-// The value of a line. In compact form it is as long as the line, unless a key stands twice.
+// Reads the JSON value of a line, which is in compact form and has no key twice: only then the value is written as long as the line.
 fn read(alloc: Global, line: &str) -> Result<Value> {
     let said = Value::from_str(alloc, line)?;
     let compact = said.to_string(alloc)?;
@@ -134,7 +134,7 @@ fn judge_case<R: Threads + Wait + Sync>(
     Ok(Verdict::Passed)
 }
 
-// Makes the calls of a choice, one for each turn, and tells how the first that differs does.
+// Makes the calls of a choice, one for each turn. Returns how the first call differs that isn't as wanted.
 fn judge_choice<R: Threads + Wait + Sync>(
     rt: &R,
     alloc: Global,

@@ -1,4 +1,4 @@
-//! Which of a case's alternatives a call takes.
+//! The alternatives of a case that a call takes.
 
 ghost use Rattle.std.specs.Prelude.{◌≡◌, ◌+◌, ◌*◌, ◌<◌, max};
 
@@ -10,10 +10,10 @@ use std::alloc::Global;
 use std::fmt;
 use std::fmt::{Display, Formatter, Write};
 
-// The lengths of pieces that are tried where a case names none.
+// The most bytes of a read that are tried where a case says none.
 const PIECES: [u64; 4] = [1, 7, 64, 4096];
 
-/// What a call takes of each list of alternatives: a place in the list, or the alternative itself.
+/// What a call takes of each list of alternatives of its case: a place in the list, or the alternative itself.
 #[derive(Clone, Copy)]
 pub struct Choice {
     pub words: usize,
@@ -25,8 +25,8 @@ pub struct Choice {
     pub piece: u64,
 }
 
-/// What the call of a number takes, counted from 0, and nothing past the last call. There are as many calls as
-/// combinations of alternatives.
+/// Returns what the call of a number takes, counted from 0, and `None` past the last call. There are as many calls as combinations of
+/// alternatives.
 pub fn choice_of(alloc: Global, case: &Value, number: usize) -> Result<Option<Choice>> {
     let mut left = number;
     let words = place(&mut left, list(case, "words")?.len());
@@ -42,8 +42,8 @@ pub fn choice_of(alloc: Global, case: &Value, number: usize) -> Result<Option<Ch
     Ok((left == 0).then_some(choice))
 }
 
-// The place that a number stands for in a list, as the digit of a numeral whose base is the list's length. The
-// number is left with the digits above. An empty list counts as one alternative.
+// Returns the place in a list that a number stands for, as the last digit of a numeral whose base is the list's length, and leaves the
+// number that the other digits make. An empty list counts as one alternative.
 fn place(left: &mut usize, len: usize) -> usize
     ensures below { result < max len 1 }
     ensures digit { left.new * max len 1 + result ≡ left.old }
@@ -54,7 +54,7 @@ fn place(left: &mut usize, len: usize) -> usize
     place
 }
 
-// Where a case doesn't say it, a call with the last line feed and one without it are made.
+// Returns whether a line feed at the input's end stays: as the case says, and where it doesn't, two calls are made, with it and without.
 fn last_line_feed(case: &Value, left: &mut usize) -> Result<bool> {
     Ok(match truth(case, "last_line_feed")? {
         Some(said) => said,
@@ -75,7 +75,7 @@ fn piece(alloc: Global, case: &Value, left: &mut usize) -> Result<u64> {
     }
 }
 
-/// The bytes of the input that a call takes.
+/// Returns the bytes of the input that a call reads.
 pub fn input_of(alloc: Global, texts: &Texts, case: &Value, choice: Choice) -> Result<Vec<u8>> {
     let mut input = bytes_of(alloc, texts, list(case, "inputs")?.get(choice.input))?;
     if !choice.last_line_feed && input.last() == Some(&b'\n') {

@@ -1,4 +1,4 @@
-//! What is wanted of a call, and where what came of it differs.
+//! What is wanted of a call, and how what came of it differs.
 
 ghost use Rattle.std.specs.Prelude.{◌≡◌, ◌≢◌, ◌↔◌, IsTrue, IfOk};
 ghost use Rattle.mg_rows.specs.Wanted.{IsEnough};
@@ -16,13 +16,13 @@ use std::fmt::Write;
 #[derive(Drop)]
 pub struct Wanted {
     output: Vec<u8>,
-    // Where this is said, a front of the output is enough that has so many bytes.
+    // Where there is a number, a front of the output with at least so many bytes is enough.
     output_at_least: Option<u64>,
     notes: Vec<u8>,
     status: u64,
 }
 
-// The parts in which what came of a call may differ.
+// The names of the parts in which what came of a call may differ.
 const PARTS: [&str; 5] = ["output", "notes", "status", "counts", "failed_name"];
 
 /// Reads what a case wants of the call of a turn, but for the counts.
@@ -38,7 +38,8 @@ pub fn wanted_of(alloc: Global, texts: &Texts, case: &Value, turn: Turn) -> Resu
     })
 }
 
-// Behind so many whole lines what the case says of these, and of a write that fails the bytes before it.
+// Returns the output that is wanted: where a read fails, what the case says of the whole lines before it; where a write fails, the bytes
+// before it.
 fn wanted_output(alloc: Global, texts: &Texts, case: &Value, turn: Turn) -> Result<Vec<u8>> {
     if let Turn::Read(_, lines) = turn {
         let Some(said) = list(case, "after_lines")?.get(lines) else {
@@ -53,7 +54,7 @@ fn wanted_output(alloc: Global, texts: &Texts, case: &Value, turn: Turn) -> Resu
     Ok(output)
 }
 
-// A read that fails is noted before all else.
+// Returns the notes that are wanted. A read that fails is noted before all else.
 fn wanted_notes(alloc: Global, texts: &Texts, case: &Value, turn: Turn) -> Result<Vec<u8>> {
     let mut notes = Vec::new(alloc);
     if let Turn::Read(_, lines) = turn {
@@ -64,8 +65,8 @@ fn wanted_notes(alloc: Global, texts: &Texts, case: &Value, turn: Turn) -> Resul
     Ok(notes)
 }
 
-/// How what came of a call differs from what is wanted, or nothing where it doesn't. Where a case says that some parts
-/// differ, just these have to.
+/// Returns how what came of a call differs from what is wanted, or `None` where it doesn't. Where a case says that some parts differ,
+/// exactly these have to.
 pub fn difference(
     alloc: Global,
     case: &Value,
@@ -134,7 +135,7 @@ fn status_differs(told: &mut String, wanted: &Wanted, came: &Outcome) -> Result<
     Ok(wanted != came)
 }
 
-// Only the counts that a case names are compared.
+// Whether counts differ from those that a case names. What it doesn't name isn't compared.
 fn counts_differ(told: &mut String, case: &Value, came: &Outcome) -> Result<bool> {
     let Some(said) = case.get("counts") else {
         return Ok(false);
@@ -163,7 +164,7 @@ fn failed_name_differs(told: &mut String, case: &Value, came: &Outcome) -> Resul
     Ok(came != Some(wanted))
 }
 
-// Whether what came is the text, or where that is enough a front of it that is long enough.
+// Whether what came is the text, or, where a least number of bytes is said, a front of the text with at least so many.
 fn is_enough(text: &[u8], at_least: Option<u64>, came: &[u8]) -> bool
     ensures { IsTrue result ↔ IsEnough text.now at_least came.now }
 {
@@ -176,7 +177,7 @@ fn is_enough(text: &[u8], at_least: Option<u64>, came: &[u8]) -> bool
     }
 }
 
-// Writes two texts, from some bytes before the place where they part.
+// Writes what was wanted and what came of a part, from some bytes before the first that differs.
 fn tell(told: &mut String, part: &str, wanted: &[u8], came: &[u8]) -> Result<(), AllocError> {
     let from = common_len(wanted, came).saturating_sub(40);
     let (wanted_len, came_len) = (wanted.len(), came.len());
@@ -187,7 +188,7 @@ fn tell(told: &mut String, part: &str, wanted: &[u8], came: &[u8]) -> Result<(),
     )
 }
 
-// How many bytes two texts begin with in common.
+// Returns how many first bytes two texts have in common.
 fn common_len(a: &[u8], b: &[u8]) -> usize {
     let len = a.len().min(b.len());
     for i in 0..len {
@@ -198,7 +199,7 @@ fn common_len(a: &[u8], b: &[u8]) -> usize {
     len
 }
 
-// Bytes from a place on, a few hundred at most.
+// Returns the bytes from a place on, a few hundred at most, as they are shown.
 fn shown(bytes: &[u8], from: usize) -> std::slice::EscapeAscii<'_> {
     let rest = bytes.get(from..).unwrap_or(&[]);
     rest.get(..300).unwrap_or(rest).escape_ascii()

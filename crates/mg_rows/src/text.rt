@@ -1,4 +1,4 @@
-//! Texts, in the forms that a table says them in.
+//! Texts, in the forms in which a table says them.
 
 use crate::member::{knows, list, number, numbers, text};
 use anyhow::{Result, bail};
@@ -6,10 +6,10 @@ use serde_json::Value;
 use std::alloc::{AllocError, Global};
 use std::collections::BTreeMap;
 
-/// The texts that a table has named so far.
+/// The texts that the lines of a table have named so far, by their names.
 pub type Texts = BTreeMap<String, Vec<u8>>;
 
-/// The bytes of a text. Where there is none they are none.
+/// Returns the bytes of a text, none where no text is said.
 pub fn bytes_of(alloc: Global, texts: &Texts, said: Option<&Value>) -> Result<Vec<u8>> {
     let mut bytes = Vec::new(alloc);
     match said {
@@ -24,7 +24,7 @@ pub fn bytes_of(alloc: Global, texts: &Texts, said: Option<&Value>) -> Result<Ve
     Ok(bytes)
 }
 
-// One part of a text: as it stands, or in one of five forms.
+// Appends one part of a text: a string as it stands, or an object in one of five forms.
 fn append(alloc: Global, texts: &Texts, part: &Value, bytes: &mut Vec<u8>) -> Result<()> {
     if let Some(plain) = part.as_str() {
         bytes.extend_from_slice(plain.as_bytes())?;
@@ -54,7 +54,7 @@ fn append_lines(alloc: Global, part: &Value, bytes: &mut Vec<u8>) -> Result<()> 
     Ok(())
 }
 
-// A line for each number, which stands in place of each `#`.
+// Appends a line for each number of a range. The number stands in place of each `#`.
 fn append_numbered(alloc: Global, part: &Value, bytes: &mut Vec<u8>) -> Result<()> {
     knows(part, &["line", "from", "to"])?;
     let (Some(line), Some(from), Some(to)) = (
@@ -92,7 +92,7 @@ fn append_bytes(numbers: &[u64], bytes: &mut Vec<u8>) -> Result<()> {
     Ok(())
 }
 
-// A text that the table has named, or so many of its first bytes.
+// Appends a text that the table has named, or its first bytes where a number of them is said.
 fn append_named(texts: &Texts, part: &Value, bytes: &mut Vec<u8>) -> Result<()> {
     knows(part, &["named", "front"])?;
     let Some(name) = text(part, "named")? else {
@@ -115,7 +115,7 @@ fn front_len(part: &Value, whole: usize) -> Result<usize> {
     })
 }
 
-// A line with its line feed, and `"` in place of `'`.
+// Appends a line with its line feed, and `"` in place of each `'`.
 fn append_line(alloc: Global, line: &str, bytes: &mut Vec<u8>) -> Result<(), AllocError> {
     bytes.extend_from_slice(line.replace(alloc, "'", "\"")?.as_bytes())?;
     bytes.push(b'\n')?;

@@ -1,4 +1,4 @@
-//! Reads and writes that fail in turn, each in a call of its own.
+//! The turns of a case: reads or writes of which each fails in a call of its own.
 
 use crate::choice::{Choice, input_of};
 use crate::member::{number, truth};
@@ -9,17 +9,17 @@ use std::alloc::Global;
 use std::fmt;
 use std::fmt::{Display, Formatter, Write};
 
-/// What fails in a call, beside what fails in each call of its case.
+/// What fails in one call of a case, beside what fails in each of them.
 #[derive(Clone, Copy)]
 pub enum Turn {
     Nothing,
-    /// The read of this number, behind so many whole lines.
+    /// The read of this number fails, counted from 0, behind so many whole lines.
     Read(u64, usize),
-    /// The write of this number to the output, behind so many bytes.
+    /// The write of this number to the output fails, counted from 0, behind so many bytes.
     Write(u64, usize),
 }
 
-/// The turn of a number, counted from 0, and nothing past the last. A case in which nothing fails in turn has one.
+/// Returns the turn of a number, counted from 0, and `None` past the last one. A case in which nothing fails in turn has one turn.
 pub fn turn_of(
     alloc: Global,
     texts: &Texts,
@@ -39,7 +39,7 @@ pub fn turn_of(
     Ok((number == 0).then_some(Turn::Nothing))
 }
 
-// Each read but the last gives a whole piece, and behind the last piece one more meets the end.
+// Returns the turn in which a read fails. Each read but the last gives a whole piece, and one more meets the end.
 fn read_turn(input: &[u8], piece: u64, number: u64) -> Option<Turn> {
     let before = number.saturating_mul(piece);
     if number > 0 && before.saturating_sub(piece) >= input.len() as u64 {
@@ -49,13 +49,13 @@ fn read_turn(input: &[u8], piece: u64, number: u64) -> Option<Turn> {
     Some(Turn::Read(number, count_lines(came)))
 }
 
-// Each write takes as much as it may.
+// Returns the turn in which a write fails. Each write takes as many bytes as it may.
 fn write_turn(len: usize, most: u64, number: u64) -> Option<Turn> {
     let before = number.saturating_mul(most);
     (before < len as u64).then_some(Turn::Write(number, before as usize))
 }
 
-// How many lines are whole.
+// Returns how many lines are whole: how many line feeds there are.
 fn count_lines(bytes: &[u8]) -> usize {
     let mut lines = 0usize;
     for byte in bytes {
@@ -66,7 +66,7 @@ fn count_lines(bytes: &[u8]) -> usize {
     lines
 }
 
-/// The most bytes that a write takes.
+/// Returns the most bytes that a write takes in a case.
 pub fn most_written(case: &Value) -> Result<u64> {
     match number(case, "most_written")? {
         Some(0) => bail!("no write takes 0 bytes"),

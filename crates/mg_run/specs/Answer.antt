@@ -1,5 +1,5 @@
--- What the program answers: the output text, the notes and the status, by the command, by what its files are, and by the
--- input's bytes. There is one answer (`src/laws.rt`).
+-- What the program answers, its output text, notes and status, by the command, by what the command's files are, and by the input's bytes.
+-- There is one answer (`src/laws.rt`).
 use Rattle.std.specs.Prelude.{◌≡◌, ℕ, ℤ, pos, negsuc, Bool, ◌==◌, List, [], ◌∷◌, codes, Option, None, Some, min, Result, Ok, Err, if◌then◌else◌}
 use Rattle.mg_config.specs.Config.{GraphView}
 use Rattle.mg_calc.specs.declared.plan.Plan.{Plan}
@@ -31,9 +31,9 @@ use Rattle.mg_answer.specs.declared.status.Status.TheVariants.{Good, GraphRefuse
 
 -- What is to be done --
 
--- A file, the expansion or the graph is refused, with a note; or a text is the output; or the graph of this plan is run, as one without or
--- as one with free nodes; or it is solved; or it is run over so many packets that are made, in one of these ways; or it is run, and the run
--- is recorded; or a recorded run of it is made again. The notes of all but the first two end with a report or not.
+-- What a command has to do: to refuse a file, the expansion or the graph with a note; to write a text; to run the graph of a plan, without
+-- free nodes or with; to solve it; to run it over a number of packets that are made, without free nodes or with; to run it and record the
+-- run; or to make a recorded run of it again. Where there is a truth value, it says whether the notes end with a report.
 pub data Job : Type 0 where
   refuse : List ℕ → Job
   show : List ℕ → Job
@@ -45,31 +45,32 @@ pub data Job : Type 0 where
   trace : Bool → Plan → Job
   replay : Bool → Plan → Job
 
--- A graph that is checked has a text that is written, or it is refused. One whose plan is used is checked before.
+-- The job of `check`: to write a text where the graph has a plan, and else to refuse the graph. A graph is checked before its plan is used,
+-- too.
 abbrev pub check_job : Result Plan CheckFault → Job
 check_job (Ok plan) = show (check_text plan)
 check_job (Err fault) = refuse (check_note fault)
 
--- the limit that the words ask for; 0 asks for the plan's own
+-- the limit that the words ask for, where 0 stands for the plan's own
 abbrev pub limit_or : ℤ → ℤ → ℤ
 limit_or (pos n) own = if n == 0 then own else pos n
 limit_or (negsuc n) own = negsuc n
 
--- A plan whose queues have the limit that the words ask for, where they do.
+-- A plan with the limit of queues that the words ask for, where they do.
 abbrev pub with_limit : Option ℤ → Plan → Plan
 with_limit None plan = plan
 with_limit (Some limit) plan = record plan { limit = limit_or limit plan.limit }
 
--- A plan that is run by as many workers as the words ask for, where they do, and by 64 at most.
+-- A plan with the number of workers that the words ask for, where they do, and 64 at most.
 abbrev pub with_workers : Option ℕ → Plan → Plan
 with_workers None plan = plan
 with_workers (Some workers) plan = record plan { workers = min workers MOST_WORKERS }
 
--- a plan as it is run
+-- a plan with the limit of queues and the number of workers that an order asks for
 abbrev pub as_asked : Order → Plan → Plan
 as_asked order plan = with_workers order.workers (with_limit order.limit plan)
 
--- A plan is used in one of these ways: what the note of a refusal names, and what there is to do. A recorded run has no workers.
+-- The word of a way to use a plan, which the note of a refusal names.
 abbrev pub way_word : Way → List ℕ
 way_word Run = codes "run"
 way_word Solve = codes "solve"
@@ -77,6 +78,7 @@ way_word Generate = codes "generate"
 way_word Trace = codes "trace"
 way_word Replay = codes "replay"
 
+-- the job of using a plan without free nodes in a way; for a run that is recorded or made again the number of workers doesn't count
 abbrev pub way_job : Way → Order → Plan → Job
 way_job Run order plan = run_plan order.report (as_asked order plan)
 way_job Solve order plan = solve order.report plan
@@ -84,7 +86,8 @@ way_job Generate order plan = generate order.report order.number (as_asked order
 way_job Trace order plan = trace order.report (with_limit order.limit plan)
 way_job Replay order plan = replay order.report (with_limit order.limit plan)
 
--- A graph with free nodes, of which this is the first, is run, over the input or over packets that are made. In each other way it is refused.
+-- The job of using a graph with free nodes in a way, of which `first` is the first: it is run, over the input or over packets that are
+-- made, and refused in each other way.
 abbrev pub live_job : Way → Order → ℕ → Plan → Job
 live_job Run order first plan = run_live order.report (as_asked order plan)
 live_job Solve order first plan = refuse (free_note (way_word Solve) first)
@@ -92,14 +95,17 @@ live_job Generate order first plan = generate_live order.report order.number (as
 live_job Trace order first plan = refuse (free_note (way_word Trace) first)
 live_job Replay order first plan = refuse (free_note (way_word Replay) first)
 
+-- the job of using a plan in a way, by its first free node, if it has one
 abbrev pub used_job : Option ℕ → Way → Order → Plan → Job
 used_job None way order plan = way_job way order plan
 used_job (Some first) way order plan = live_job way order first plan
 
+-- the job of using a graph in a way, by what the check says of it
 abbrev pub plan_job : Way → Order → Result Plan CheckFault → Job
 plan_job way order (Ok plan) = used_job (first_free plan) way order plan
 plan_job way order (Err fault) = refuse (check_note fault)
 
+-- the job of a command with a graph whose subgraphs are expanded
 abbrev pub verb_job : Verb → Order → List OuterShape → GraphView → Job
 verb_job Check order outers g = check_job (check_of outers g)
 verb_job Expand order outers g = show (graph_text g)
@@ -108,28 +114,32 @@ verb_job (Use way) order outers g = plan_job way order (check_of outers g)
 abbrev pub graph_job : Order → List OuterShape → GraphView → Job
 graph_job order outers g = verb_job order.verb order outers g
 
+-- the job of a command, by what the expansion of its graph comes to
 abbrev pub expanded_job : Order → List OuterShape → Result GraphView ExpandFault → Job
 expanded_job order outers (Ok g) = graph_job order outers g
 expanded_job order outers (Err fault) = refuse (expand_note fault)
 
--- The first graph is the main one, and it is expanded with the others as its library. A command always has a first.
+-- The job of a command over graphs: the first is the main one, and it is expanded with the others as its library. A command always has a
+-- first.
 abbrev pub graphs_job : Order → List OuterShape → List GraphView → Job
 graphs_job order outers [] = refuse []
 graphs_job order outers (main ∷ library) = expanded_job order outers (expansion_of main library)
 
+-- the job of a command, by what its files are
 abbrev pub files_job : Order → List OuterShape → Files → Job
 files_job order outers (graphs gs) = graphs_job order outers gs
 files_job order outers (no_graphs note) = refuse note
 
+-- the job of a task, by what its files are
 abbrev pub job_of : Task → Files → Job
 job_of task files = files_job task.order task.outers files
 
 -- The answers --
 
--- An answer is that of a job where an input of these bytes ends well, and these calculators are handed in. To run a graph without free
--- nodes and to solve it is to answer the same, and to record a run is to answer the same but for the output, which is a trace of any run of
--- the job. To make a recorded run again is to answer what its job's run answers, where the input's lines are such a run to rest, and else
--- to refuse a line of it. Where packets are made no input matters.
+-- The answer of a job where an input of these bytes ends well, and these calculators are handed in. Running a graph without free nodes and
+-- solving it have the same answer, and recording a run has that answer too, but that the output is a trace of any run of the job. Making a
+-- recorded run again has the answer of its job's run where the input's lines are such a run to rest, and else refuses a line. Where packets
+-- are made the input doesn't matter.
 abbrev pub IsAnswerOf : Job → List CalculatorTold → List ℕ → Answer → Type 0
 IsAnswerOf (refuse note) boxes input given = given ≡ record { output = []; notes = note; status = GraphRefused }
 IsAnswerOf (show text) boxes input given = given ≡ record { output = text; notes = []; status = Good }
@@ -141,7 +151,7 @@ IsAnswerOf (generate_live report number plan) boxes input given = AnswersLiveMad
 IsAnswerOf (trace report plan) boxes input given = TracesEnded report plan boxes input given
 IsAnswerOf (replay report plan) boxes input given = AnswersTrace report plan boxes (all_lines input) given
 
--- a job's answer is a recorded run, of which there may be many
+-- the output of a job is a trace, and there may be many
 abbrev pub Records : Job → Type 0
 Records (refuse note) = ⊥
 Records (show text) = ⊥
@@ -153,7 +163,7 @@ Records (generate_live report number plan) = ⊥
 Records (trace report plan) = Unit {0}
 Records (replay report plan) = ⊥
 
--- a job makes a recorded run again: its answer is of the events that the input's lines tell
+-- a job makes a recorded run again, whose events the input's lines tell
 abbrev pub Replays : Job → Type 0
 Replays (refuse note) = ⊥
 Replays (show text) = ⊥

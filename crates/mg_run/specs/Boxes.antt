@@ -19,17 +19,17 @@ tally_shape = record {
   stateless = false;
 }
 
--- one that had no call; where it is telling it keeps a log
+-- a TallyCalculator that had no call; with `telling` it keeps a log
 abbrev pub new_tally : Bool → CalculatorTold
 new_tally telling = record { law = Tally; shape = tally_shape; state = []; log = if telling then Some [] else None }
 
--- what is known of boxes before they are called: their shapes and laws
+-- what is known of a calculator before it is called: its shape and its law
 abbrev pub outer_told : CalculatorTold → OuterShape
 outer_told told = record { shape = told.shape; law = told.law }
 
 abbrev pub outers_told : List CalculatorTold → List OuterShape
 outers_told boxes = map outer_told boxes
 
--- a calculator of its law may be handed in
+-- a calculator with this law may be handed in
 abbrev pub MayBeHandedIn : OuterShape → Type 0
 MayBeHandedIn outer = IsOuter outer.law

@@ -22,10 +22,10 @@ pub use Rattle.mg_answer.specs.Status.{IsOneOf}
 use Rattle.mg_answer.specs.declared.status.Status.{Status}
 use Rattle.mg_answer.specs.declared.status.Status.TheVariants.{Good, StoreFault, Usage, GraphRefused, WriteFault, OutOfMemory}
 
--- What became of it --
+-- What a call did --
 
--- The words were no command, and the note says how the program is used. Where there was no memory to judge them the note says that, and
--- nothing was done.
+-- The words were no command, and the note says how the program is used. Where memory didn't suffice to judge them, the note says that.
+-- Nothing else was done.
 pub record WasUsage (status : Status) (devices : Devices) : Type 0 where
   pub noted : ((status ≡ Usage) × Noted devices.notes usage_note) ⊎ ((status ≡ OutOfMemory) × Noted devices.notes memory_note)
   pub unloaded : Untouched devices.store
@@ -38,15 +38,15 @@ abbrev pub Written : List ℕ → Status → Devices → Type 0
 Written text status devices = ((status ≡ Good) × TookText devices.output text × Untouched devices.notes)
     ⊎ ((status ≡ WriteFault) × TookPart devices.output text × Noted devices.notes write_note)
 
--- A text of the program's own was asked for: it was written, or a write of it failed. Where there was no memory to judge
--- the words the note says that, and nothing was done.
+-- A text of the program's own was asked for: it was written, or a write of it failed. Where memory didn't suffice to judge the words, the
+-- note says that. Nothing else was done.
 pub record WasTold (text : List ℕ) (status : Status) (devices : Devices) : Type 0 where
   pub written : Written text status devices ⊎ ((status ≡ OutOfMemory) × Untouched devices.output × Noted devices.notes memory_note)
   pub unloaded : Untouched devices.store
   pub unread : Untouched devices.input
   pub uncalled : Untouched devices.boxes
 
--- One of these files couldn't be loaded, the first of which that is so, and the note names it.
+-- One of these files couldn't be loaded, and the note names the first such file.
 pub record WasUnloaded (files : List (List ℕ)) (devices : Devices) : Type 0 where
   pub file : List ℕ
   pub failed : FailedAt files file devices.store
@@ -55,7 +55,7 @@ pub record WasUnloaded (files : List (List ℕ)) (devices : Devices) : Type 0 wh
   pub unwritten : Untouched devices.output
   pub uncalled : Untouched devices.boxes
 
--- A file or the expansion was refused, with this note.
+-- A file, the expansion or the graph was refused with this note.
 pub record WasRefused (note : List ℕ) (status : Status) (devices : Devices) : Type 0 where
   pub ended : status ≡ GraphRefused
   pub noted : Noted devices.notes note
@@ -76,13 +76,14 @@ pub record SolvedGraph (report : Bool) (plan : Plan) (status : Status) (devices 
   pub ran : runs.Ran report plan status (run_of devices)
   pub uncalled : Untouched devices.boxes
 
--- The graph of this plan was run over so many packets that are made, and a summary of its outputs was written. The input was left as it
+-- The graph of this plan was run over `number` packets that are made, and a summary of its outputs was written. The input was left as it
 -- was.
 pub record GeneratedGraph (report : Bool) (number : ℕ) (plan : Plan) (status : Status) (devices : Devices) : Type 0 where
   pub ran : RanOverPackets report plan number status devices.output devices.notes devices.boxes
   pub unread : Untouched devices.input
 
--- The graph of this plan, which has free nodes, was run over so many packets that are made, in the same way.
+-- The graph of this plan, which has free nodes, was run over `number` packets that are made, and a summary of its outputs was written. The
+-- input was left as it was.
 pub record GeneratedLive (report : Bool) (number : ℕ) (plan : Plan) (status : Status) (devices : Devices) : Type 0 where
   pub ran : RanLiveMade report plan number status devices.output devices.notes devices.boxes
   pub unread : Untouched devices.input
@@ -99,7 +100,7 @@ pub record ReplayedGraph (report : Bool) (plan : Plan) (status : Status) (device
 
 -- A call --
 
--- what was done, by what there was to do; a graph that is run over the input is written as its outputs settle
+-- what was done with a job; where a graph is run over the input, its outputs are written as they settle
 abbrev pub Did : Job → Status → Devices → Type 0
 Did (refuse note) status devices = WasRefused note status devices
 Did (show text) status devices = WasShown text status devices
@@ -115,7 +116,7 @@ Did (replay report plan) status devices = ReplayedGraph report plan status devic
 abbrev pub IsJob : Task → List (List ℕ) → Job → Type 0
 IsJob task contents job = (files : Files) × AreFiles task.files contents files × (job ≡ job_of task files)
 
--- All files were loaded, and what the command has to do with them was done.
+-- All files were loaded, and what the command has to do with their contents was done.
 pub record CallDid (status : Status) (task : Task) (devices : Devices) : Type 0 where
   pub contents : List (List ℕ)
   pub loaded : LoadedAll task.files contents devices.store
@@ -123,13 +124,13 @@ pub record CallDid (status : Status) (task : Task) (devices : Devices) : Type 0 
   pub due : IsJob task contents job
   pub did : Did job status devices
 
--- Nothing was read, written or called.
+-- Nothing was read from the input, written to the output or called.
 pub record DidNothing (devices : Devices) : Type 0 where
   pub unread : Untouched devices.input
   pub unwritten : Untouched devices.output
   pub uncalled : Untouched devices.boxes
 
--- Memory ran out: before it was known what there is to do, or while that was done. The note says that, and there is no other.
+-- Memory ran out, before it was known what there is to do or while that was done. The only note says that.
 pub record CallShort (task : Task) (devices : Devices) : Type 0 where
   pub noted : Noted devices.notes memory_note
   pub by : DidNothing devices ⊎ CallDid OutOfMemory task devices
@@ -141,17 +142,17 @@ Called Usage task devices = ⊥
 Called OutOfMemory task devices = CallShort task devices
 Called status task devices = CallDid status task devices
 
--- A call ended with this status, by what its words ask for, where these calculators are handed in.
+-- A call ended with this status, by what its words ask for and by the calculators that are handed in.
 abbrev pub Came : List OuterShape → Asked → Status → Devices → Type 0
 Came outers asks_usage status devices = WasUsage status devices
 Came outers (asks_text text) status devices = WasTold text status devices
 Came outers (asks_command command) status devices = Called status (task command outers) devices
 
--- The call met the answer of a job over an input that ends after these bytes.
+-- The call wrote the answer of a job over an input that ends after these bytes.
 abbrev pub MetAnswer : Job → List ℕ → Status → Devices → Type 0
 MetAnswer job read status devices = (given : Answer) × IsAnswerOf job devices.boxes.before read given × Meets given status devices.output devices.notes
 
--- Where the devices tell the files' bytes and the input's, the call met the answer to them.
+-- Where the devices tell the files' bytes and the input's, the call wrote the answer to them.
 abbrev pub IsAnswered : Status → Task → Devices → Type 0
 IsAnswered status task devices =
     IfSome (loads_of devices.store.before.content task.files) (λ contents. IfSome devices.input.before.left (λ read.

@@ -1,2 +1,2 @@
--- What the code's own functions say to one another.
+-- Definitions that only the code's own functions use.
 pub mod Job

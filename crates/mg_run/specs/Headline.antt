@@ -1,5 +1,5 @@
--- What a `run` or a `generate` that no fault of the files and no want of memory kept from its graph is, as one thing: there are one content
--- of each file, one graph and its plan, one reading of the input and one solution, and all that is seen of the call is theirs.
+-- A `run` or a `generate` that reached its graph, as no fault of a file and no want of memory kept it from that, is one thing: there is one
+-- content of each file, one graph and its plan, one reading of the input and one solution, and all that is seen of the call is theirs.
 use Rattle.std.specs.Prelude.{◌≡◌, ◌⊎◌, ℕ, negsuc, Bool, List, [], ◌∷◌, None, Some, Ok}
 use Rattle.mg_edge.specs.Edge.{SourceTold}
 use Rattle.mg_config.specs.Config.{GraphView}
@@ -27,16 +27,17 @@ use Rattle.mg_words.specs.declared.words.Verb.{Verb}
 use Rattle.mg_words.specs.declared.words.Verb.TheVariants.{Use}
 use Rattle.mg_words.specs.declared.words.Way.TheVariants.{Run, Generate}
 
--- the commands of which it is told
+-- the commands that run a graph and write its outputs or a summary of them
 abbrev pub RunsGraph : Verb → Type 0
 RunsGraph verb = (verb ≡ Use Run) ⊎ (verb ≡ Use Generate)
 
--- and the statuses: all went well, a line was refused, a node failed, a stream never closed, a read failed, a write failed
+-- the statuses of a call that ran its graph: all went well, a line was refused, a node failed, a stream never closed, a read failed, or a
+-- write failed
 abbrev pub ran_statuses : List Status
 ran_statuses = Good ∷ LineRefused ∷ NodeFault ∷ Stalled ∷ ReadFault ∷ WriteFault ∷ []
 
--- The contents are graphs, the first of which expands with the others as its library; that is a valid graph with this plan, where the
--- calculators that are handed in have these shapes and laws; and no node of it is free.
+-- The contents are graphs. The first expands with the others as its library to a valid graph with this plan, where the calculators that are
+-- handed in have these shapes and laws, and no node of it is free.
 pub record IsGraph (task : Task) (contents : List (List ℕ)) (plan : Plan) : Type 0 where
   pub main : GraphView
   pub library : List GraphView
@@ -46,32 +47,38 @@ pub record IsGraph (task : Task) (contents : List (List ℕ)) (plan : Plan) : Ty
   pub checked : check_of task.outers graph ≡ Ok plan
   pub bound : first_free plan ≡ None
 
--- What was run is what the input came to, or so many packets that are made.
+-- What a graph was run over: what the input came to, or a number of packets that are made.
 pub data Origin : Type 0 where
   from_input : Read → Origin
   from_number : ℕ → Origin
 
--- The input was read once, to its end, its first line that isn't good or its first failed read; or it was left as it was.
+-- The graph was run over the input, which was read once, to its end, its first line that isn't good or its first failed read; or over
+-- packets that are made, and the input was left as it was.
 abbrev pub IsOrigin : Order → Plan → Device SourceTold → Origin → Type 0
 IsOrigin order plan input (from_input read) = (order.verb ≡ Use Run) × CameTo (inputs_of plan) input read
 IsOrigin order plan input (from_number number) = (order.verb ≡ Use Generate) × (number ≡ order.number) × Untouched input
 
+-- the job of a plan over what the input came to, or over packets that are made
 abbrev pub job_from : Plan → Origin → equations.Job
 job_from plan (from_input read) = job_of plan read
 job_from plan (from_number number) = generated_job plan number
 
+-- how the input of a run ended: packets that are made end well
 abbrev pub end_from : Origin → FeedEnd
 end_from (from_input read) = read.end
 end_from (from_number number) = Ended
 
+-- how a run is told: by lines where it was over an input, and by a summary where packets were made
 abbrev pub telling_from : Bool → Origin → Telling
 telling_from report (from_input read) = by_lines report
 telling_from report (from_number number) = by_summary report
 
--- a plan without its limit of queues and its number of workers, which have no part in what is answered
+-- a plan without its limit of queues and its number of workers, which have no part in the answer
 abbrev pub bare : Plan → Plan
 bare plan = record plan { limit = negsuc 0; workers = 0 }
 
+-- A call ran its graph, in which no node is free: there is one content of each file, one plan, one thing that it was run over, and one
+-- solution.
 pub record Headline (task : Task) (status : Status) (devices : Devices) : Type 0 where
   pub contents : List (List ℕ)
   pub loaded : LoadedAll task.files contents devices.store
@@ -83,7 +90,8 @@ pub record Headline (task : Task) (status : Status) (devices : Devices) : Type 0
 
 -- Graphs with free nodes --
 
--- The same, but that a node of it is free, and this is the first.
+-- The contents are graphs. The first expands with the others as its library to a valid graph with this plan, where the calculators that are
+-- handed in have these shapes and laws, and some node of it is free, of which this is the first.
 pub record IsLiveGraph (task : Task) (contents : List (List ℕ)) (plan : Plan) : Type 0 where
   pub main : GraphView
   pub library : List GraphView
@@ -94,7 +102,8 @@ pub record IsLiveGraph (task : Task) (contents : List (List ℕ)) (plan : Plan) 
   pub first : ℕ
   pub free : first_free plan ≡ Some first
 
--- What had come to the graph by the end of each batch: of the lines to which the input came; or all packets that are made, as one batch.
+-- The batches over which a graph was run, each with what had come by its end: the lines to which the input came, or all packets that are
+-- made as one batch.
 abbrev pub AreBatchesFrom : Plan → Origin → List Inputs → Type 0
 AreBatchesFrom plan (from_input read) batches = AreBatchesOf plan read batches
 AreBatchesFrom plan (from_number number) batches = batches ≡ (generated_job plan number).inputs ∷ []
@@ -103,8 +112,8 @@ abbrev pub form_from : Origin → Form
 form_from (from_input read) = packet_lines
 form_from (from_number number) = totals
 
--- There are one content of each file, one graph and its plan, one reading of the input, the logs to which the rounds of the free nodes come
--- over its batches, and one solution of the core for what these lay.
+-- A call ran its graph, which has free nodes: there is one content of each file, one plan, one thing that it was run over, the logs to
+-- which the free nodes' rounds over its batches come, and one solution of the core for these.
 pub record LiveHeadline (task : Task) (status : Status) (devices : Devices) : Type 0 where
   pub contents : List (List ℕ)
   pub loaded : LoadedAll task.files contents devices.store
@@ -117,6 +126,6 @@ pub record LiveHeadline (task : Task) (status : Status) (devices : Devices) : Ty
   pub batches : AreBatchesFrom (bare plan) from (first ∷ later)
   pub run : OneLive (form_from from) task.order.report (bare plan) first later (end_from from) status devices.output devices.notes devices.boxes
 
--- what was run, a graph without free nodes or one with such
+-- a call ran its graph, without free nodes or with
 abbrev pub RanGraph : Task → Status → Devices → Type 0
 RanGraph task status devices = Headline task status devices ⊎ LiveHeadline task status devices

@@ -5,5 +5,5 @@ pub mod Devices
 pub mod Boxes
 pub mod Call
 pub mod Headline
--- What only the code's own functions say to one another. Nothing above rests on it.
+-- Definitions that only the code's own functions use. None of those above rests on them.
 pub mod Code

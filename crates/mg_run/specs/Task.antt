@@ -4,6 +4,7 @@ use Rattle.mg_calc.specs.declared.shape.OuterShape.{OuterShape}
 use Rattle.mg_words.specs.Command.{Command}
 use Rattle.mg_words.specs.declared.words.Order.{Order}
 
+-- a command: what it does, the names of its files, and the shapes and laws of the calculators that are handed in
 pub record Task : Type 0 where
   pub order : Order
   pub files : List (List ℕ)

@@ -27,9 +27,9 @@ use std::alloc::Global;
 use std::sync::Wait;
 use std::thread::Threads;
 
-/// Does what the words of a command line say, and answers the status to exit with. A `run` and a `generate` call workers, so many as the
-/// option `--workers` says, or else the graph's `num_threads`, each in a thread of its own; with none of them the call waits for nobody.
-/// Their number changes nothing of what the call answers.
+/// Does what the words of a command line ask for, and returns the status to exit with. A `run` and a `generate` call workers, as many as
+/// the option `--workers` says, or else the graph's `num_threads`, each in a thread of its own; with none of them the call waits for
+/// nobody. Their number changes nothing of what the call answers.
 pub fn run_words<R: Threads + Wait + Sync, S: Source, K: Sink, E: Sink, T: Store, G: Gate + Sync>(
     rt: &R,
     alloc: Global,
@@ -41,19 +41,19 @@ pub fn run_words<R: Threads + Wait + Sync, S: Source, K: Sink, E: Sink, T: Store
     boxes: &mut Vec<Box<dyn Calculator + Send>>,
     gate: &G,
 ) -> Status
-    // Whether the words are a command is judged first, and no device has a part in it.
+    // Whether the words are a command is judged first, and depends on no device.
     ensures usage { result ≢ Status.OutOfMemory → (result ≡ Status.Usage) ↔ (asked_of words.now ≡ asks_usage) }
     ensures usage_note { asked_of words.now ≡ asks_usage → WasUsage result (told_apart T.told S.told K.told E.told (λ b. (Calculator-box b).told b.value)
         store.old store.new input.old input.new output.old output.new notes.old notes.new boxes.old boxes.new) }
 
-    // The help and the version are texts that are written.
+    // The help and the version are texts that are only written.
     ensures told { (text : List ℕ) → asked_of words.now ≡ asks_text text → WasTold text result (told_apart T.told S.told K.told E.told (λ b. (Calculator-box b).told b.value)
         store.old store.new input.old input.new output.old output.new notes.old notes.new boxes.old boxes.new) }
 
-    // A `run` or a `generate` that nothing kept from its graph is one thing: there are one content of each file, one graph and its plan, one
-    // reading of the input and one solution, and the output, the notes, the status and the calls of every box are those of it. Where a node
-    // is free there are besides the logs to which the free nodes' rounds come over the batches of the input, and the notes tell them. No limit
-    // of queues and no number of workers has a part in it.
+    // A `run` or a `generate` that reached its graph is one thing: there is one content of each file, one graph and its plan, one reading
+    // of the input and one solution, and the output, the notes, the status and the calls of every box are theirs. Where a node is free
+    // there are also the logs to which the free nodes' rounds come over the batches of the input, and the notes tell these. Neither the
+    // limit of queues nor the number of workers has a part in it.
     ensures headline { IfSome (command_of words.now) (λ command. RunsGraph command.order.verb → IsOneOf result ran_statuses
         → RanGraph (task command (outers_told (map (λ b. (Calculator-box b).told b.value) boxes.old.items))) result (told_apart T.told S.told K.told E.told (λ b. (Calculator-box b).told b.value)
         store.old store.new input.old input.new output.old output.new notes.old notes.new boxes.old boxes.new)) }
@@ -62,8 +62,8 @@ pub fn run_words<R: Threads + Wait + Sync, S: Source, K: Sink, E: Sink, T: Store
     ensures called { IfSome (command_of words.now) (λ command. Called result (task command (outers_told (map (λ b. (Calculator-box b).told b.value) boxes.old.items))) (told_apart T.told S.told K.told E.told (λ b. (Calculator-box b).told b.value)
         store.old store.new input.old input.new output.old output.new notes.old notes.new boxes.old boxes.new)) }
 
-    // No device failed and memory was had: the output's text, the notes and the status are those of the answer to
-    // the files' bytes and the input's.
+    // Where no device failed and memory didn't run out, the output's text, the notes and the status are those of the answer to the files'
+    // bytes and the input's.
     ensures answered { IfSome (command_of words.now) (λ command.
         NoneFailed (told_apart T.told S.told K.told E.told (λ b. (Calculator-box b).told b.value)
         store.old store.new input.old input.new output.old output.new notes.old notes.new boxes.old boxes.new)
@@ -169,7 +169,7 @@ fn do_asked<
     }
 }
 
-// Writes a text, and notes where it can't.
+// Writes a text, and no note. Where a write of it fails, the note says so.
 fn told<K: Sink, E: Sink>(output: &mut K, notes: &mut E, text: &[u8]) -> Status
     ensures { ((result ≡ Status.Good) × TookText (device (K.told output.old) (K.told output.new)) text.now × Untouched (device (E.told notes.old) (E.told notes.new)))
         ⊎ ((result ≡ Status.WriteFault) × TookPart (device (K.told output.old) (K.told output.new)) text.now × Noted (device (E.told notes.old) (E.told notes.new)) write_note) }
@@ -181,14 +181,14 @@ fn told<K: Sink, E: Sink>(output: &mut K, notes: &mut E, text: &[u8]) -> Status
     }
 }
 
-// A command: what is done, and the names of its files.
+// A command: what is to be done, and the names of the files.
 #[derive(Clone, Copy)]
 struct Ordered<'a> {
     order: Order,
     files: &'a [MgText],
 }
 
-// Loads all files, and does what the verb has to do with them, with these calculators at hand.
+// Loads all files of a command, and does what it has to do with them. `boxes` are the calculators that are handed in.
 fn do_command<
     R: Threads + Wait + Sync,
     G: Gate + Sync,
@@ -220,7 +220,7 @@ fn do_command<
     }
 }
 
-// Loads the files of a command, and finds what there is to do with them, where these calculators are handed in.
+// Loads the files of a command, and returns what there is to do with them. `boxes` are the calculators that are handed in.
 fn due_job<C: Calculator, T: Store>(
     alloc: Global,
     ordered: &Ordered<'_>,
@@ -279,7 +279,7 @@ fn do_job<
     }
 }
 
-// Uses the graph of a plan.
+// Runs or solves the graph of a plan, in the way that `used` says.
 fn use_plan<
     R: Threads + Wait + Sync,
     G: Gate + Sync,

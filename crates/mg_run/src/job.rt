@@ -26,35 +26,35 @@ use std::alloc::{AllocError, Global};
 /// How the graph of a plan is used.
 #[derive(Clone, Copy, Debug, PartialEq, Eq)]
 pub enum Use {
-    /// It is run.
+    /// The graph is run over the input.
     Run,
-    /// It has free nodes, and is run.
+    /// The graph, which has free nodes, is run over the input.
     RunLive,
-    /// It is solved.
+    /// The graph's equations are solved for the input.
     Solve,
-    /// It is run over so many packets that are made.
+    /// The graph is run over so many packets that are made.
     Generate(u32),
-    /// It has free nodes, and is run over so many packets that are made.
+    /// The graph, which has free nodes, is run over so many packets that are made.
     GenerateLive(u32),
-    /// It is run, and the run is recorded.
+    /// The graph is run over the input, and the run is recorded.
     Trace,
-    /// A recorded run of it is made again.
+    /// A recorded run of the graph, which the input tells, is made again.
     Replay,
 }
 
-/// What there is to do.
+/// What a command has to do once its files are loaded.
 #[derive(Debug, Drop)]
 pub enum Job {
-    /// A file, the expansion or the graph is refused, with this note.
+    /// A file, the expansion or the graph is refused with this note.
     Refuse(Vec<u8>),
     /// This text is written.
     Show(Vec<u8>),
-    /// The graph of this plan is used so, with a report or without.
+    /// The graph of this plan is used in this way, with a report behind the notes or without.
     Graph(Use, bool, Plan),
 }
 
-/// Reads the contents of the files of these names, and finds what the verb has to do with them, where these calculators
-/// are handed in.
+/// Reads the contents of a command's files, and returns what the command has to do with them. `outers` are the shapes and laws of the
+/// calculators that are handed in.
 pub fn job_of(
     alloc: Global,
     order: Order,
@@ -76,7 +76,7 @@ pub fn job_of(
     }
 }
 
-// A file is refused, with the note that is known.
+// Returns the job of refusing a file with its note, or an error where memory ran out.
 fn refused(fault: Fault) -> Result<Job, AllocError>
     ensures valid { IfOk result (λ job. (outers : List OuterShape) → CanBeDone outers (job_view job)) }
     ensures due { IfOk result (λ job. (task : Task) (contents : List (List ℕ)) → AreNotedOf fault task.files contents → IsJob task contents (job_view job)) }
@@ -87,7 +87,7 @@ fn refused(fault: Fault) -> Result<Job, AllocError>
     }
 }
 
-// The first graph is the main one, and the others are its library.
+// Returns what there is to do with graphs, of which the first is the main one and the others are its library.
 fn graphs_job(
     alloc: Global,
     order: Order,
@@ -147,7 +147,7 @@ fn graph_job(
     }
 }
 
-// What `check` writes of a graph that has a plan; any other graph is refused.
+// Returns the job of `check`: to write its text where the graph has a plan, and else to refuse the graph.
 fn check_job(alloc: Global, outers: &[OuterShape], graph: &GraphConfig) -> Result<Job, AllocError>
     requires few { length graph.now.nodes ≤ 4096 }
     requires outers { All IsOuterShape outers.now }
@@ -160,7 +160,7 @@ fn check_job(alloc: Global, outers: &[OuterShape], graph: &GraphConfig) -> Resul
     }
 }
 
-// A graph that has a plan is used in this way, if its free nodes allow that, and any other is refused.
+// Returns the job of using a graph in a way. A graph without a plan is refused, and so is one whose free nodes don't allow that way.
 fn plan_job(
     alloc: Global,
     way: Way,

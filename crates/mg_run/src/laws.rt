@@ -14,9 +14,9 @@ ghost use Rattle.mg_files.specs.Loads.{LoadedAll, loads_of};
 ghost use Rattle.mg_run.specs.Headline.{Headline};
 ghost use Rattle.mg_run.specs.Answer.{Answer, Job, run_plan, solve, trace, job_of, with_limit, IsAnswerOf, Records, Replays};
 
-/// To the bytes of an input the program has one answer at most, but for the events of a run that it records, which are those of any run
-/// of the job. Of a recorded run too there are one status and one text of notes, and they are those of the run. What a recorded run comes to
-/// when it is made again isn't in it.
+/// The program has at most one answer to the bytes of an input, but for the events of a run that it records: these are those of any run of
+/// the job. A recorded run too has one status and one text of notes, which are those of the run. A recorded run that is made again isn't
+/// part of this law.
 pub fn one_answer()
     ensures one { (job : Job) (boxes : List CalculatorTold) (input : List ℕ) (a b : Answer) → ¬ Records job → ¬ Replays job → IsAnswerOf job boxes input a → IsAnswerOf job boxes input b → a ≡ b }
     ensures ends { (job : Job) (boxes : List CalculatorTold) (input : List ℕ) (a b : Answer) → ¬ Replays job → IsAnswerOf job boxes input a → IsAnswerOf job boxes input b → (a.notes ≡ b.notes) × (a.status ≡ b.status) }
@@ -24,9 +24,9 @@ pub fn one_answer()
         → (a.notes ≡ b.notes) × (a.status ≡ b.status) }
 {}
 
-/// Neither the limit of queues nor the number of workers changes an answer: whatever the words ask for, the answer is that of the same words
-/// without these options. Of a recorded run the notes and the status are the same. A recorded run is made again under the limit that the
-/// words ask for, so that isn't in it.
+/// Neither the limit of queues nor the number of workers changes an answer: whatever the words ask for, the answer is that of the same
+/// words without these options. Of a recorded run the notes and the status are the same. A recorded run that is made again isn't part of
+/// this law, since that is done under the limit that the words ask for.
 pub fn limits_and_workers_change_no_answer()
     ensures words { (task : Task) (files : Files) (boxes : List CalculatorTold) (input : List ℕ) (a : Answer) → ¬ Records (job_of task files) → ¬ Replays (job_of task files)
         → IsAnswerOf (job_of task files) boxes input a → IsAnswerOf (job_of (record task { order = record task.order { limit = None; workers = None } }) files) boxes input a }
@@ -35,13 +35,13 @@ pub fn limits_and_workers_change_no_answer()
         → (a.notes ≡ b.notes) × (a.status ≡ b.status) }
 {}
 
-/// To run a graph without free nodes, with whatever limit of queues, and to solve it is to answer the same.
+/// A graph without free nodes has the same answer whether it is run, with any limit of queues, or solved.
 pub fn run_and_solve_answer_the_same()
     ensures { (report : Bool) (limit : Option ℤ) (plan : Plan) (boxes : List CalculatorTold) (input : List ℕ) (a b : Answer)
         → IsAnswerOf (run_plan report (with_limit limit plan)) boxes input a → IsAnswerOf (solve report plan) boxes input b → a ≡ b }
 {}
 
-/// Devices that tell what they have pin what a run was of: the contents of the files are those that the store tells, and where no read
+/// Devices that tell what they hold determine what was run: the contents of the files are those that the store tells, and where no read
 /// failed, what came is the whole input.
 pub fn told_devices_pin_a_headline()
     ensures contents { (names contents told : List (List ℕ)) (store : Device StoreTold) → LoadedAll names contents store → loads_of store.before.content names ≡ Some told → contents ≡ told }
@@ -49,8 +49,8 @@ pub fn told_devices_pin_a_headline()
         → Unrisen input.before.faults input.now.faults → read ≡ ended_input (inputs_of plan) bytes }
 {}
 
-/// There is one headline where no node is free: two calls with the same words and boxes, whose stores and inputs tell the same and of which
-/// no read failed, have the same plan, the same reading and the same solution, and so the same answer.
+/// Two calls have the same headline where no node is free: with the same words and boxes, and with stores and inputs that tell the same and
+/// of which no read failed, they have the same plan, the same reading and the same solution.
 pub fn one_headline()
     ensures { (task : Task) (status other_status : Status) (devices other : Devices) (contents : List (List ℕ)) (bytes : List ℕ) (a : Headline task status devices) (b : Headline task other_status other)
         → loads_of devices.store.before.content task.files ≡ Some contents → loads_of other.store.before.content task.files ≡ Some contents

@@ -1,4 +1,4 @@
-//! The top call: from the words of the command line and the devices to the bytes and the status.
+//! The top call of the program: from the words of the command line and the devices to the bytes that are written and the status.
 //! Answers to the definitions of `specs/Headline.antt`, `specs/Call.antt` and `specs/Answer.antt`.
 #![tactic(auto)]
 

@@ -7,7 +7,7 @@ ghost use Rattle.mg_run.specs.Answer as answers;
 use mg_calc::Plan;
 use mg_words::{MOST_WORKERS, Order};
 
-/// A plan with a limit of queues, where there is one.
+/// Returns a plan with another limit of queues, where one is given; 0 leaves the plan's own.
 pub fn limited(limit: Option<i32>, plan: Plan) -> Plan
     ensures limit { result ≡ answers.with_limit limit plan }
     ensures valid { IsValid plan → IsValid result }
@@ -20,7 +20,7 @@ pub fn limited(limit: Option<i32>, plan: Plan) -> Plan
     }
 }
 
-// A limit, or the plan's own where it is 0.
+// Returns `limit`, or `own` where that is 0.
 fn limit_or(limit: i32, own: i32) -> i32
     ensures limit { result ≡ answers.limit_or limit own }
     ensures some { own ≢ pos 0 → result ≢ pos 0 }
@@ -39,7 +39,7 @@ fn with_limit(limit: i32, plan: Plan) -> Plan
     plan
 }
 
-// A plan that is run by so many workers, where the words say so.
+// Returns a plan with another number of workers, at most 64, where one is given.
 fn with_workers(workers: Option<u32>, plan: Plan) -> Plan
     ensures workers { result ≡ answers.with_workers workers plan }
     ensures valid { IsValid plan → IsValid result }
@@ -63,7 +63,7 @@ fn worked_by(workers: u32, plan: Plan) -> Plan
     plan
 }
 
-/// A plan as it is run.
+/// Returns a plan with the limit of queues and the number of workers that an order asks for.
 pub fn as_asked(order: Order, plan: Plan) -> Plan
     ensures asked { result ≡ answers.as_asked order plan }
     ensures valid { IsValid plan → IsValid result }

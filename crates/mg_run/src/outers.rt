@@ -6,7 +6,7 @@ ghost use Rattle.mg_run.specs.Boxes.{outer_told, outers_told, MayBeHandedIn};
 use mg_calc::{Calculator, OuterShape, TryClone};
 use std::alloc::{AllocError, Global};
 
-/// The shape and the law of each, in their order.
+/// Returns the shape and the law of each calculator that is handed in, in order.
 pub fn outers_of<C: Calculator>(alloc: Global, boxes: &[C]) -> Result<Vec<OuterShape>, AllocError>
     ensures outers { IfOk result (λ outers. outers.items ≡ outers_told (map C.told boxes.now)) }
     ensures shaped { IfOk result (λ outers. All IsOuterShape outers.items) }

@@ -1,4 +1,4 @@
-//! The calculator that the program hands in.
+//! The TallyCalculator, as a box that can be handed in.
 ghost use Rattle.std.specs.Prelude.{◌≡◌, [], IfOk};
 ghost use Rattle.mg_calc.specs.Shape.{untagged};
 ghost use Rattle.mg_run.specs.Boxes.{tally_shape, new_tally};
@@ -8,7 +8,7 @@ use mg_route::LawBox;
 use mg_value::{Kind, MgText};
 use std::alloc::{AllocError, Global};
 
-/// A TallyCalculator, which counts the sets that it is shown. Where it is telling it keeps a log of its calls.
+/// Returns a TallyCalculator, which counts the sets that it is shown. With `telling` it keeps a log of its calls.
 pub fn tally_box(alloc: Global, telling: bool) -> Result<LawBox, AllocError>
     ensures { IfOk result (λ b. b ≡ new_tally telling) }
 {
@@ -37,7 +37,7 @@ fn shape_of_tally(alloc: Global) -> Result<Shape, AllocError>
     })
 }
 
-// One port without a tag.
+// Returns a list of one port without a tag.
 fn one_port(alloc: Global, kind: Kind) -> Result<PortKindList, AllocError>
     ensures { IfOk result (λ ports. ports ≡ untagged 1 kind) }
 {

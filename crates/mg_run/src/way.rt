@@ -1,4 +1,4 @@
-//! What is done with the plan of a graph.
+//! What is done with the plan of a graph, in each way to use it.
 ghost use Rattle.std.specs.Prelude.{◌≡◌, List, IfOk};
 ghost use Rattle.mg_calc.specs.declared.shape.OuterShape.{OuterShape};
 ghost use Rattle.mg_calc.specs.Plan.{IsValid, IsValidWithFree, OutersFit};
@@ -13,7 +13,7 @@ use mg_files::free_note;
 use mg_words::{Order, Way};
 use std::alloc::{AllocError, Global};
 
-/// The word for it on a command line.
+/// Returns the word of a way on the command line.
 pub fn way_word(way: Way) -> &'static str
     ensures { result.now ≡ answers.way_word way }
 {
@@ -26,7 +26,8 @@ pub fn way_word(way: Way) -> &'static str
     }
 }
 
-/// What there is to do with a plan without free nodes in this way. A recorded run has no workers.
+/// Returns the job of using a plan without free nodes in a way. For a run that is recorded or made again the number of workers in the words
+/// doesn't count.
 pub fn way_job(way: Way, order: Order, plan: Plan) -> Job
     ensures due { job_view result ≡ answers.way_job way order plan }
     ensures valid { (outers : List OuterShape) → IsValid plan → OutersFit plan outers → CanBeDone outers (job_view result) }
@@ -44,8 +45,8 @@ pub fn way_job(way: Way, order: Order, plan: Plan) -> Job
     }
 }
 
-/// What there is to do with a plan that has free nodes, of which this is the first: it is run, over the input or over packets that are made,
-/// and refused in any other way.
+/// Returns the job of using a plan with free nodes in a way. `first` is the first free node. The plan is run, over the input or over
+/// packets that are made, and refused in any other way.
 pub fn live_job(
     alloc: Global,
     way: Way,
@@ -69,7 +70,7 @@ pub fn live_job(
     }
 }
 
-// A graph with a free node, its first, is refused in this way.
+// Returns the job of refusing a graph in a way, since it has free nodes. `first` is the first of these.
 fn refused(alloc: Global, way: Way, first: u32) -> Result<Job, AllocError>
     ensures { IfOk result (λ job. job_view job ≡ answers.refuse (the_note (answers.way_word way) first)) }
 {

@@ -42,11 +42,12 @@ pub record Rests (effect : Effect) (before now : NetView) : Type 0 where
 
 -- Limits hear what waits.
 
--- queues whose lengths, from that of a number on, are told
+-- queues that are told their lengths, one after the other, from the queue of this number on
 abbrev pub all_noted : List Queue → ℕ → List ℕ → List Queue
 all_noted queues number [] = queues
 all_noted queues number (n ∷ ns) = all_noted (noted queues number n) (number + 1) ns
 
+-- a net whose limits are told the lengths of queues, from the queue of this number on
 abbrev pub with_noted : NetView → ℕ → List ℕ → NetView
 with_noted net number ns = with_limits net (record net.limits { queues = all_noted net.limits.queues number ns })
 
@@ -58,7 +59,7 @@ pub record IsHeld (net : NetView) (e : Edge) : Type 0 where
   pub from : producer_of net.plan e ≡ Some (Input input)
   pub throttled : IsThrottled net.plan net.limits (graph_input input)
 
--- what a delivery did
+-- the effect of a delivery
 abbrev pub effect_of : Delivered → Effect
 effect_of (Moved packets raised) = if not (packets == 0) || raised then Did else Idle
 effect_of (NoRoom packets) = OutOfMemory
@@ -80,7 +81,8 @@ pub record Brings (number : ℕ) (e : Edge) (effect : Effect) (before now : NetV
   pub effect_is : effect ≡ effect_of answer
   pub now_is : now ≡ with_noted (with_intake before e.node intake_now) number (length (port_queue intake_now.waits e.port).packets ∷ [])
 
--- nothing goes along an edge from a graph input that is throttled
+-- what a delivery along the edge of this number does: nothing where the edge leads from a graph input that is throttled, and otherwise
+-- packets go along it
 pub record DeliversAlong (number : ℕ) (effect : Effect) (before now : NetView) : Type 0 where
   pub edge : Edge
   pub there : slice_get before.plan.edges number ≡ Some edge
@@ -110,7 +112,7 @@ pub record TakesWork (engine engine_now : EngineView) (intake intake_now : Intak
   pub claims : Claims {C = ℕ} (Work work) engine engine_now intake intake_now
   pub on_desk : desk_now ≡ record desk { works = desk.works ++ work ∷ [] }
 
--- what a claim gave
+-- what a claim gives, by its effect
 abbrev pub ClaimsBy : Effect → EngineView → EngineView → IntakeView → IntakeView → DeskView → DeskView → Type 0
 ClaimsBy Did engine engine_now intake intake_now desk desk_now =
     TakesWork engine engine_now intake intake_now desk desk_now ⊎ (Claims {C = ℕ} Answered engine engine_now intake intake_now × (desk_now ≡ desk))
@@ -122,7 +124,7 @@ ClaimsBy Idle engine engine_now intake intake_now desk desk_now =
     × (desk_now ≡ desk)
 ClaimsBy OutOfMemory engine engine_now intake intake_now desk desk_now = Claims {C = ℕ} NoMemory engine engine_now intake intake_now × (desk_now ≡ desk)
 
--- a node's engine claims of its intake, and the limits hear how many packets wait now at each of its ports
+-- a node's engine claims from its intake, and the limits hear how many packets wait now at each of its ports
 pub record ClaimsNext (node : ℕ) (effect : Effect) (before now : NetView) : Type 0 where
   pub engine : EngineView
   pub at : slice_get before.engines node ≡ Some engine
@@ -137,7 +139,7 @@ pub record ClaimsNext (node : ℕ) (effect : Effect) (before now : NetView) : Ty
   pub now_is : now
       ≡ with_noted (with_desk (with_intake (with_engine before node engine_now) node intake_now) node desk_now) (first_edge before.plan node) (lengths_of intake_now.waits)
 
--- a throttled source claims nothing
+-- what the claim of a node does: nothing where it is a source that is throttled, and otherwise the node claims its next work
 abbrev pub Claimed : ℕ → Effect → NetView → NetView → Type 0
 Claimed node effect before now = (IsHeldSource before node × Rests effect before now) ⊎ (¬ IsHeldSource before node × ClaimsNext node effect before now)
 
@@ -151,6 +153,7 @@ PerformedBy Did node engine desk left work before now =
 PerformedBy Idle node engine desk left work before now = ⊥
 PerformedBy OutOfMemory node engine desk left work before now = now ≡ before
 
+-- a node's work of this number lies on the node's desk, and is performed
 pub record Performs (node number : ℕ) (effect : Effect) (desk : DeskView) (before now : NetView) : Type 0 where
   pub engine : EngineView
   pub at : slice_get before.engines node ≡ Some engine
@@ -161,7 +164,7 @@ pub record Performs (node number : ℕ) (effect : Effect) (desk : DeskView) (bef
   pub number_is : work.number ≡ number
   pub performed : PerformedBy effect node engine desk (front ++ back) work before now
 
--- there may be no such work
+-- a node's work of this number is performed, or no such work lies on the node's desk
 pub record Performed (node number : ℕ) (effect : Effect) (before now : NetView) : Type 0 where
   pub desk : DeskView
   pub on : slice_get before.desks node ≡ Some desk
@@ -169,7 +172,7 @@ pub record Performed (node number : ℕ) (effect : Effect) (before now : NetView
 
 -- Commits.
 
--- the limits once a node has come to this: the queues of one that has ended don't count
+-- the limits once a node's engine is this one: if it has ended, the node's queues don't count
 abbrev pub stopped_by : ℕ → EngineView → QueueLimits → QueueLimits
 stopped_by node engine limits = if has_ended engine then record limits { queues = map (stopped node) limits.queues } else limits
 
@@ -182,16 +185,18 @@ pub record CommitsTo (node number : ℕ) (engine : EngineView) (p : PerformedVie
   pub commits : Commits (outcome_of p) laid taken engine_now
   pub now_is : now ≡ with_limits (with_engine before node engine_now) (stopped_by node engine_now before.limits)
 
+-- what is performed and not committed is committed; where there is no memory it stays in the window
 abbrev pub CommittedBy : Effect → ℕ → ℕ → EngineView → PerformedView → NetView → NetView → Type 0
 CommittedBy Did node number engine p before now = CommitsTo node number engine p before now
 CommittedBy Idle node number engine p before now = ⊥
 CommittedBy OutOfMemory node number engine p before now = now ≡ before
 
+-- what a commit does where this is performed and not committed, and nothing where nothing is
 abbrev pub CommittedAt : ℕ → ℕ → Option PerformedView → Effect → EngineView → NetView → NetView → Type 0
 CommittedAt node number None effect engine before now = Rests effect before now
 CommittedAt node number (Some p) effect engine before now = CommittedBy effect node number engine p before now
 
--- there may be no such work
+-- a node's work of this number is committed, or no such work stands in the node's window as performed and not committed
 pub record Committed (node number : ℕ) (effect : Effect) (before now : NetView) : Type 0 where
   pub engine : EngineView
   pub at : slice_get before.engines node ≡ Some engine
@@ -207,7 +212,7 @@ Relaxed effect before now =
     (¬ IsAnyFull before.limits × Rests effect before now)
     ⊎ (IsAnyFull before.limits × (effect ≡ Did) × (now ≡ with_limits before (record before.limits { queues = map relaxed before.limits.queues })))
 
--- A step.
+-- A step: what an event does to a net, by its effect.
 abbrev pub Acts : Event → Effect → NetView → NetView → Type 0
 Acts (Deliver edge) effect before now = DeliversAlong edge effect before now
 Acts (Advance node) effect before now = Advanced node effect before now

@@ -36,6 +36,7 @@ pub record PartsView : Type 0 where
   pub intakes : List IntakeView
   pub rest : RestView
 
+-- the parts of a net
 abbrev pub parts_in : NetView → PartsView
 parts_in net = record {
   plan = net.plan;
@@ -46,16 +47,16 @@ parts_in net = record {
 
 -- Works that lie on desks come back.
 
+-- a work as an outcome that wasn't performed
 abbrev pub unrun_of : WorkView → OutcomeView
 unrun_of work = record { work = work; answer = None }
 
--- an engine in whose window works stand again, as unrun
+-- an engine in whose window works stand again, not performed
 abbrev pub all_shelved : EngineView → List WorkView → EngineView
 all_shelved engine [] = engine
 all_shelved engine (work ∷ works) = shelved (all_shelved engine works) (unrun_of work)
 
--- the works on the desks of the first nodes, a number of them, stand in their windows again, and these desks are empty; all else is
--- what it was
+-- the works on the desks of the first `count` nodes stand in their windows again, and these desks are empty; all else is what it was
 pub record PutsBack (count : ℕ) (engines engines_now : List EngineView) (desks desks_now : List DeskView) : Type 0 where
   pub engine_count : length engines_now ≡ length engines
   pub desk_count : length desks_now ≡ length desks
@@ -76,8 +77,8 @@ pub record HasComeApart (net : NetView) (parts : PartsView) : Type 0 where
 
 -- Parts that are of one net.
 
--- what stays of a net is that of a job, of its plan and of these engines: there is a desk for each node, with room for its works, on
--- which nothing lies; the limits are those of the plan; and the queues of a node that goes on count
+-- what stays of a net fits a job, its plan and these engines: there is a desk for each node, with room for its works, on which nothing
+-- lies; the limits are those of the plan; and the queues of a node that goes on count
 pub record IsRestOf (job : LoggedJob) (plan : Plan) (engines : List EngineView) (rest : RestView) : Type 0 where
   pub given : rest.given ≡ job.job.inputs.sides
   pub desks : length rest.desks ≡ length plan.nodes

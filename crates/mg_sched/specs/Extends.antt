@@ -17,7 +17,7 @@ pub record GoesOnWith (more : Inputs) (first later : LoggedJob) : Type 0 where
   pub streams : (input : ℕ) → input < length more.streams → slice_index_or later.job.inputs.streams input empty_prefix
       ≡ joined (slice_index_or first.job.inputs.streams input empty_prefix) (slice_index_or more.streams input empty_prefix)
 
--- further input of the last graph inputs alone, of so many in all
+-- further input of the last graph inputs alone, where the graph has `inputs` inputs in all
 abbrev pub for_last : ℕ → List (StreamPrefix Plain) → Inputs
 for_last inputs pieces = record { streams = replicate (inputs - length pieces) empty_prefix ++ pieces; sides = []; ended = false }
 

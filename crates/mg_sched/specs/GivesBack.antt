@@ -10,32 +10,35 @@ use Rattle.mg_sched.specs.Views.{DeskView, NetView}
 use Rattle.mg_sched.specs.StandsFor.{StandsFor}
 use Rattle.mg_sched.specs.WindsUp.{WindsUpNet}
 
--- what the first calculator that was handed in tells, of those with which works lie on a desk
+-- what is told by the first calculator that was handed in, among those of the works on a desk
 abbrev pub on_desk : DeskView → Option CalculatorTold
 on_desk desk = slice_get (filter_map handed_told (map (λ (w : WorkView). w.bench.told) desk.works)) 0
 
--- what that of a node tells: it stands in the node's engine, or else a work of it lies on the node's desk
+-- the first of two, or the other where there is no first
 abbrev pub or_else : Option CalculatorTold → Option CalculatorTold → Option CalculatorTold
 or_else None other = other
 or_else (Some told) other = Some told
 
+-- what is told by the calculator of a node, if it was handed in: it stands in the node's engine, or else it is that of a work on the node's
+-- desk
 abbrev pub cell_told : EngineView → DeskView → Option CalculatorTold
 cell_told engine desk = or_else (first_handed engine) (on_desk desk)
 
--- a calculator lies in its place again
+-- the places, with a calculator back in the place of its number, if there are both
 abbrev pub with_told : List (Option CalculatorTold) → Option ℕ → Option CalculatorTold → List (Option CalculatorTold)
 with_told places None told = places
 with_told places (Some number) None = places
 with_told places (Some number) (Some told) = slice_set places number (Some told)
 
--- those of nodes lie in the places of their numbers, by the engines and desks of these nodes
+-- the places, with the calculators of nodes back in the places of the nodes' box numbers: each is in its node's engine, or with a work on
+-- the node's desk
 abbrev pub with_cells : List (Option CalculatorTold) → List PlanNode → List EngineView → List DeskView → List (Option CalculatorTold)
 with_cells places [] engines desks = places
 with_cells places (node ∷ nodes) [] desks = places
 with_cells places (node ∷ nodes) (engine ∷ engines) [] = places
 with_cells places (node ∷ nodes) (engine ∷ engines) (desk ∷ desks) = with_cells (with_told places node.box_number (cell_told engine desk)) nodes engines desks
 
--- all that come back: those that no node uses, and those of the nodes, in the order of their places
+-- all calculators that come back, in the order of their places: those that no node uses, and those of the nodes
 abbrev pub given_back : NetView → List CalculatorTold
 given_back net = filter_map (λ (place : Option CalculatorTold). place) (with_cells net.spare net.plan.nodes net.engines net.desks)
 

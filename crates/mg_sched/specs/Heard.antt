@@ -10,6 +10,6 @@ abbrev pub Heard : {H : Type 0} → (H → H → List Event → Type 0) → H �
 Heard {H} has_heard before now net net_now =
     (began : H) (events : List Event) → has_heard began before events → (more : List Event) × IsRun more net net_now × has_heard began now (events ++ more)
 
--- It heard a run from a position on, which leads to some other.
+-- What hears a net's events heard a run that leads from this position of the net to some other.
 abbrev pub HeardSome : {H : Type 0} → (H → H → List Event → Type 0) → H → H → NetView → Type 0
 HeardSome {H} has_heard before now net = (there : NetView) × Heard has_heard before now net there

@@ -19,12 +19,13 @@ use Rattle.mg_sched.specs.Looks.{HasFrom}
 abbrev pub job_of : Plan → Inputs → List CalculatorTold → LoggedJob
 job_of plan inputs boxes = record { job = record { plan = plan; inputs = inputs }; boxes = boxes }
 
--- the calculators that are handed in fit: where a node has a number, that one is there and has the node's law and shape, and its law is
--- one that may be handed in. What it keeps from before doesn't matter: its Open doesn't fail, and forgets it
+-- a calculator that is handed in fits a node: it has the node's law and shape, and its law is one that may be handed in. What it keeps from
+-- before doesn't matter: its Open doesn't fail, and forgets it
 pub record FitsNew (node : PlanNode) (box : CalculatorTold) : Type 0 where
   pub fits : FitsNode node box.law box.shape
   pub outer : IsOuter box.law
 
+-- the calculators that are handed in fit a plan: where a node has a box number, the calculator of that number is there and fits the node
 abbrev pub BoxesFit : Plan → List CalculatorTold → Type 0
 BoxesFit plan boxes = All (λ node. IfSome node.box_number (λ number. IsSomeAnd (slice_get boxes number) (FitsNew node))) plan.nodes
 
@@ -37,5 +38,5 @@ pub record IsMade (plan : Plan) (inputs : Inputs) (boxes : List CalculatorTold) 
   pub whole : (stream : ℕ) → HasFrom net stream 0
   pub kept : net.kept ≡ replicate (length plan.streams) false
   pub limits : net.limits.queues ≡ map (new_queue (length plan.nodes) (limit_of plan.limit)) plan.edges
-  -- those that no node uses lie in their places as they were
+  -- the calculators that no node uses lie in their places as they were
   pub unused : (place : ℕ) (told : CalculatorTold) → slice_get net.spare place ≡ Some (Some told) → slice_get boxes place ≡ Some told

@@ -11,7 +11,7 @@ use Rattle.mg_node.specs.Ports.{ports_in, port_queue}
 use Rattle.mg_throttle.specs.Throttle.{QueueLimits, producer_of}
 use Rattle.mg_sched.specs.Views.{DeskView, NetView}
 
--- the place of the engine that writes a stream: those of the graph inputs stand behind those of the nodes
+-- the place of the engine that writes a stream: the engines of the graph inputs stand behind those of the nodes
 abbrev pub place_of : Plan → Producer → ℕ
 place_of plan (Input number) = length plan.nodes + number
 place_of plan (Node node port) = node

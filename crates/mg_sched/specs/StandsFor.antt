@@ -73,6 +73,7 @@ pub record HasSpare (job : LoggedJob) (spare : List (Option CalculatorTold)) : T
 
 -- Nets.
 
+-- a net is one of a job: it has a part at each place, each part is lawful, and what two parts have to agree on holds
 pub record IsNetOf (job : LoggedJob) (net : NetView) : Type 0 where
   pub is_job : IsJob job.job
   pub plan : net.plan ≡ job.job.plan
@@ -81,12 +82,12 @@ pub record IsNetOf (job : LoggedJob) (net : NetView) : Type 0 where
   pub engines : length net.engines ≡ length net.plan.nodes + length net.plan.inputs
   pub intakes : length net.intakes ≡ length net.plan.nodes + 1
   pub desks : length net.desks ≡ length net.plan.nodes
-  -- each is lawful
+  -- each part is lawful
   pub cells : (node : ℕ) (engine : EngineView) (intake : IntakeView) (desk : DeskView) → slice_get net.engines node ≡ Some engine → slice_get net.intakes node ≡ Some intake
       → slice_get net.desks node ≡ Some desk → IsCell job (nat_lt node net.begun) node engine intake desk
   pub inputs : (input : ℕ) (engine : EngineView) → slice_get net.engines (length net.plan.nodes + input) ≡ Some engine → LawfulEngine job (of_input input) engine
   pub collector : (intake : IntakeView) → slice_get net.intakes (length net.plan.nodes) ≡ Some intake → LawfulIntake job (length net.plan.nodes) intake
-  -- at each edge
+  -- at each edge engine and intake agree
   pub edges : (e : Edge) (number place : ℕ) (engine : EngineView) (intake : IntakeView) → slice_get net.plan.edges number ≡ Some e → source_of net.plan e ≡ Some place
       → slice_get net.engines place ≡ Some engine → slice_get net.intakes e.node ≡ Some intake → IsJoined engine e intake
   pub limits : KnowsLimits net

@@ -20,7 +20,7 @@ collector_of net = slice_get net.intakes (length net.plan.nodes)
 abbrev pub taken_out : NetView → ℕ
 taken_out net = unwrap_or (option_map (λ i. i.claimed) (collector_of net)) 0
 
--- the collector's next set is taken, and the limits hear how many packets wait; where there is none, nothing changes
+-- the collector's next set is taken, and the limits hear how many packets wait
 pub record TakesNext (before now : NetView) (set : List (Option (Stamped Plain))) : Type 0 where
   pub intake : IntakeView
   pub there : collector_of before ≡ Some intake
@@ -28,6 +28,7 @@ pub record TakesNext (before now : NetView) (set : List (Option (Stamped Plain))
   pub takes : Takes intake intake_now set
   pub now_is : now ≡ with_noted (with_intake before (length before.plan.nodes) intake_now) (first_edge before.plan (length before.plan.nodes)) (lengths_of intake_now.waits)
 
+-- there is no next set at the collector, and nothing changes
 pub record TakesNothing (before now : NetView) (set set_now : List (Option (Stamped Plain))) : Type 0 where
   pub intake : IntakeView
   pub there : collector_of before ≡ Some intake
@@ -35,6 +36,7 @@ pub record TakesNothing (before now : NetView) (set set_now : List (Option (Stam
   pub same : now ≡ before
   pub same_set : set_now ≡ set
 
+-- the collector's next set is taken, or there is none
 abbrev pub TakesOut : Bool → List (Option (Stamped Plain)) → List (Option (Stamped Plain)) → NetView → NetView → Type 0
 TakesOut true set set_now before now = TakesNext before now set_now
 TakesOut false set set_now before now = TakesNothing before now set set_now

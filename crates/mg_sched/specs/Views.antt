@@ -25,7 +25,7 @@ pub record NetView : Type 0 where
   pub limits : QueueLimits
   -- the places of the calculators that were handed in: those that no node uses lie here
   pub spare : List (Option CalculatorTold)
-  -- of each stream whether all that is laid of it is kept, also what all have got
+  -- of each stream whether all that is laid of it is kept, also what has come along all its edges
   pub kept : List Bool
   -- how many of the nodes are begun, from the first on, and how many are wound up
   pub begun : ℕ

@@ -4,13 +4,13 @@ use Rattle.mg_node.specs.Views.{EngineView}
 use Rattle.mg_node.specs.WindingUp.{WindsUp}
 use Rattle.mg_sched.specs.Views.{NetView}
 
--- each node has an engine, and no more of them are wound up than there are. So it is of every net that stands for a job, and of one
--- that was wound up in part
+-- a net may be wound up: each node has an engine, and no more nodes are wound up than there are. Every net that stands for a job may be,
+-- and every one that was wound up in part
 pub record MayWindUp (net : NetView) : Type 0 where
   pub engines : length net.plan.nodes ≤ length net.engines
   pub wound : net.wound ≤ length net.plan.nodes
 
--- the next node is wound up, and counted
+-- the first node that wasn't wound up is, and is counted
 pub record WindsNext (before now : NetView) : Type 0 where
   pub engine : EngineView
   pub there : slice_get before.engines before.wound ≡ Some engine
@@ -18,8 +18,8 @@ pub record WindsNext (before now : NetView) : Type 0 where
   pub winds_up : WindsUp engine engine_now
   pub now_is : now ≡ record before { engines = slice_set before.engines before.wound engine_now; wound = before.wound + 1 }
 
--- the nodes from the first that wasn't wound up are, as far as the count tells. The engines before them and behind them are the same,
--- and so is all else
+-- more nodes are wound up: those from the first that wasn't, up to the new count. The engines before them and behind them are the same, and
+-- so is all else
 pub record WindsUpNet (before now : NetView) : Type 0 where
   pub more : before.wound ≤ now.wound
   pub upto : now.wound ≤ length before.plan.nodes

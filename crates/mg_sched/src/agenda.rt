@@ -13,23 +13,26 @@ use mg_value::{BlockList, NumberList};
 use std::alloc::{AllocError, Global};
 use std::marker::Model;
 
-/// The places of a net whose parts may have something to do, the one of the highest priority first, and the edges that lead from each.
-/// The places are those of the net's engines: the nodes', and behind them those of the graph inputs. Nodes stand before graph inputs,
-/// and of two nodes the one goes first that stands later in the plan's order (MediaPipe, Synchronization).
+/// What a sweep visits next: the places of a net that may have something to do, by priority, and the edges that lead from each place. A
+/// place is the number of an engine: that of a node, or one behind the nodes for each graph input. Nodes go before graph inputs, and of two
+/// nodes the one that stands later in the plan's order goes first (MediaPipe, Synchronization).
 ///
-/// It is kept from sweep to sweep, with the places whose parts may have changed since the net was at rest. These are the places of the
-/// engines and of the intakes: at the number behind those of the nodes stand the collector and the first graph input.
+/// An agenda is kept from sweep to sweep, with the places whose parts may have changed since the net was at rest. Among these a place
+/// stands for an intake too: the number behind those of the nodes is that of the collector and of the first graph input.
 #[derive(Drop)]
 pub(crate) struct Agenda {
+    // The places that are to be visited.
     ready: Ready,
-    // The feeders that were found throttled, until a queue falls below its limit.
+    // The feeders that were found throttled, which `release` adds to `ready` again.
     held: Ready,
     // The places whose parts may have changed since the net was at rest.
     touched: Ready,
-    // The edge along which each place goes on: the first that leads from it, and of a graph input the first along which not all has
-    // gone; the first edge that leads from each place; and behind each edge the next one from the same place.
+    // For each place the edge from which sending goes on: the first that leads from a node, and the first from a graph input along which
+    // not all has gone, if there is one.
     first: Vec<Option<u32>>,
+    // For each place the first edge that leads from it.
     starts: Vec<Option<u32>>,
+    // For each edge the next edge that leads from the same place.
     next: Vec<Option<u32>>,
 }
 
@@ -47,7 +50,7 @@ impl Model for Agenda {
     ghost invariant = { λ a. IsAgenda (vec_len a.first) (vec_len a.next) a.ready.order a.held.order a.touched.order a.first.items a.starts.items a.next.items };
 }
 
-/// The sets of an agenda, in which no place is.
+/// The sets of places of a new agenda, each of them empty.
 #[derive(Drop)]
 struct Sets {
     ready: Ready,
@@ -55,14 +58,15 @@ struct Sets {
     touched: Ready,
 }
 
-/// The first edge that leads from each place, and behind each edge the next one from the same place.
+/// The edges of a plan as a list for each place from which they lead: the first edge of each place, and for each edge the next one from the
+/// same place.
 #[derive(Drop)]
 struct Leads {
     first: Vec<Option<u32>>,
     next: Vec<Option<u32>>,
 }
 
-// How many places a plan's parts have. There is no memory for 2^32 - 1 or more.
+// Returns how many nodes and graph inputs a plan has. 2^32 - 1 of them or more count as want of memory.
 fn count_of(plan: &Plan) -> Result<u32, AllocError>
     ensures count { IfOk result (λ n. n ≡ length plan.now.nodes + length plan.now.inputs) }
     ensures few { IfOk result (λ n. n + 1 < 2 ^ 32) }
@@ -78,7 +82,7 @@ fn count_of(plan: &Plan) -> Result<u32, AllocError>
     }
 }
 
-// The places by priority: those of the graph inputs, and then those of the nodes by the plan's order.
+// Returns the places by rising priority: those of the graph inputs, and then those of the nodes in the plan's order.
 fn order_of(alloc: Global, plan: &Plan, count: u32) -> Result<NumberList, AllocError>
     requires valid { IsValid plan.now }
     requires count { count ≡ length plan.now.nodes + length plan.now.inputs }
@@ -93,7 +97,7 @@ fn order_of(alloc: Global, plan: &Plan, count: u32) -> Result<NumberList, AllocE
     Ok(BlockList::from_vec(places)?)
 }
 
-// The place from which an edge leads.
+// Returns the place of the engine from which an edge leads.
 fn place_of(plan: &Plan, edge: u32) -> usize
     requires valid { IsValid plan.now }
     requires there { edge < length plan.now.edges }
@@ -103,7 +107,7 @@ fn place_of(plan: &Plan, edge: u32) -> usize
     source_of(plan, plan.edges.as_slice()[edge as usize])
 }
 
-// So many that lead nowhere.
+// Returns `count` entries without an edge.
 fn nowhere(alloc: Global, count: u32) -> Result<Vec<Option<u32>>, AllocError>
     ensures items { IfOk result (λ v. v.items ≡ replicate count None) }
     ensures len { IfOk result (λ v. vec_len v ≡ count) }
@@ -111,7 +115,7 @@ fn nowhere(alloc: Global, count: u32) -> Result<Vec<Option<u32>>, AllocError>
     vec![in alloc; None; count as usize]
 }
 
-// Lets an edge lead from a place, before those that lead from there.
+// Lets an edge lead from a place, as the first of those that lead from it.
 fn lead(leads: &mut Leads, place: usize, edge: u32)
     requires place { place < vec_len leads.old.first }
     requires edge { edge < vec_len leads.old.next }
@@ -124,7 +128,7 @@ fn lead(leads: &mut Leads, place: usize, edge: u32)
     leads.first[place] = Some(edge);
 }
 
-// The edges of a plan, by the places from which they lead.
+// Returns the edges of a plan by the places from which they lead.
 fn leads_of(alloc: Global, plan: &Plan, count: u32) -> Result<Leads, AllocError>
     requires valid { IsValid plan.now }
     requires count { count ≡ length plan.now.nodes + length plan.now.inputs }
@@ -143,7 +147,7 @@ fn leads_of(alloc: Global, plan: &Plan, count: u32) -> Result<Leads, AllocError>
     Ok(leads)
 }
 
-// The first numbers, so many.
+// Returns the numbers below `count`, from 0 on.
 fn first_numbers(alloc: Global, count: u32) -> Result<NumberList, AllocError>
     ensures { IfOk result (λ l. HasEachOnce count l) }
 {
@@ -154,7 +158,7 @@ fn first_numbers(alloc: Global, count: u32) -> Result<NumberList, AllocError>
     Ok(BlockList::from_vec(numbers)?)
 }
 
-// The sets of the places of a plan.
+// Returns the sets of places of a new agenda of a plan.
 fn sets_of(alloc: Global, plan: &Plan, count: u32) -> Result<Sets, AllocError>
     requires valid { IsValid plan.now }
     requires count { count ≡ length plan.now.nodes + length plan.now.inputs }
@@ -176,7 +180,7 @@ fn sets_of(alloc: Global, plan: &Plan, count: u32) -> Result<Sets, AllocError>
     })
 }
 
-// Takes all that are in one set, and puts them into another.
+// Moves all places of one set into another.
 fn pour(from: &mut Ready, into: &mut Ready)
     requires { (n : ℕ) → Contains from.old.order n → Contains into.old.order n }
     ensures from { from.new.order ≡ from.old.order }
@@ -189,7 +193,7 @@ fn pour(from: &mut Ready, into: &mut Ready)
     }
 }
 
-/// Puts in the last places of an agenda that is kept, if one is, so many.
+/// Wakes the last `count` places of an agenda, if there is one.
 pub(crate) fn wake_last(kept: &mut Option<Agenda>, count: u32)
     requires { IfSome kept.old (λ a. count ≤ length a.heads) }
     ensures { OfKept (WakesLast count) kept.old kept.new }
@@ -199,7 +203,7 @@ pub(crate) fn wake_last(kept: &mut Option<Agenda>, count: u32)
     }
 }
 
-/// Keeps in mind that the parts of a place have changed, in an agenda that is kept, if one is.
+/// Notes in an agenda, if there is one, that the parts of a place have changed.
 pub(crate) fn touch(kept: &mut Option<Agenda>, place: u32)
     requires { IfSome kept.old (λ a. place ≤ length a.heads) }
     ensures { OfKept (Touches place) kept.old kept.new }
@@ -210,7 +214,7 @@ pub(crate) fn touch(kept: &mut Option<Agenda>, place: u32)
 }
 
 impl Agenda {
-    /// An agenda of a plan's net. No place is in.
+    /// Returns an agenda for the nets of a plan, with no place in it.
     pub(crate) fn new(alloc: Global, plan: &Plan) -> Result<Agenda, AllocError>
         requires { IsValid plan.now }
         ensures of_plan { IfOk result (λ a. IsAgendaOf plan.now a) }
@@ -231,7 +235,7 @@ impl Agenda {
         })
     }
 
-    /// Puts a place in. One that is in stays as it is.
+    /// Adds a place to those that are to be visited, unless it is one of them.
     pub(crate) fn put(&mut self, place: u32)
         requires { place < length self.old.heads }
         ensures put { IsIn self.new.ready place }
@@ -241,7 +245,7 @@ impl Agenda {
         self.ready.put(place);
     }
 
-    /// Keeps in mind that the parts of a place have changed.
+    /// Notes that the parts of a place have changed.
     pub(crate) fn touch(&mut self, place: u32)
         requires { place ≤ length self.old.heads }
         ensures touched { IsIn self.new.touched place }
@@ -251,7 +255,8 @@ impl Agenda {
         self.touched.put(place);
     }
 
-    /// Puts in a place whose parts have changed from outside. It goes on with the first edge that leads from it.
+    /// Adds a place whose parts have changed outside of a sweep, and notes that. Sending from it begins with the first edge that leads from
+    /// it.
     pub(crate) fn wake(&mut self, place: u32)
         requires { place < length self.old.heads }
         ensures touched { IsIn self.new.touched place }
@@ -264,7 +269,7 @@ impl Agenda {
         self.first[place as usize] = self.starts[place as usize];
     }
 
-    /// Puts in the last places, so many, whose parts have changed from outside.
+    /// Wakes the last `count` places, whose parts have changed outside of a sweep.
     pub(crate) fn wake_last(&mut self, count: u32)
         requires { count ≤ length self.old.heads }
         ensures { WakesLast count self.old self.new }
@@ -276,7 +281,7 @@ impl Agenda {
         }
     }
 
-    /// Puts in all places, as nothing is known of any.
+    /// Wakes all places, where it isn't known which have changed.
     pub(crate) fn wake_all(&mut self)
         ensures all { (n : ℕ) → n ≤ length self.old.heads → IsIn self.new.touched n }
         ensures heads { length self.new.heads ≡ length self.old.heads }
@@ -287,7 +292,7 @@ impl Agenda {
         self.touch(count);
     }
 
-    /// How many places there are, but for that of the collector where there are no graph inputs.
+    /// Returns how many places of engines there are: one for each node and each graph input.
     pub(crate) fn count(&self) -> u32
         ensures count { result ≡ length self.now.heads }
         ensures few { result < 2 ^ 32 - 1 }
@@ -295,7 +300,7 @@ impl Agenda {
         self.first.len() as u32
     }
 
-    /// Takes out a place whose parts may have changed.
+    /// Takes a place out of those whose parts may have changed, if there is one.
     pub(crate) fn next_touched(&mut self) -> Option<u32>
         ensures place { IfSome result (λ p. p ≤ length self.old.heads) }
         ensures only { IfSome result (λ p. ChangesOnly self.old.touched self.new.touched p) }
@@ -307,7 +312,7 @@ impl Agenda {
         self.touched.take()
     }
 
-    /// Takes out the place of the highest priority.
+    /// Takes the place of the highest priority out of those that are to be visited, if there is one.
     pub(crate) fn take(&mut self) -> Option<u32>
         ensures place { IfSome result (λ p. p < length self.old.heads) }
         ensures highest { IfSome result (λ p. IsHighest self.old.ready p) }
@@ -321,7 +326,7 @@ impl Agenda {
         self.ready.take()
     }
 
-    /// Keeps a feeder that is throttled, until `release`.
+    /// Holds back a feeder that is throttled, until `release`.
     pub(crate) fn hold(&mut self, place: u32)
         requires { place < length self.old.heads }
         ensures held { IsIn self.new.held place }
@@ -331,7 +336,7 @@ impl Agenda {
         self.held.put(place);
     }
 
-    /// Puts in the feeders that were kept.
+    /// Adds the feeders that were held back to the places that are to be visited.
     pub(crate) fn release(&mut self)
         ensures none { IsEmpty self.new.held }
         ensures ready { (n : ℕ) → IsIn self.new.ready n ↔ (IsIn self.old.ready n ⊎ IsIn self.old.held n) }
@@ -341,7 +346,7 @@ impl Agenda {
         pour(&mut self.held, &mut self.ready);
     }
 
-    /// The edge along which a place goes on.
+    /// Returns the edge from which sending from a place goes on.
     pub(crate) fn first_edge(&self, place: u32) -> Option<u32>
         requires { place < length self.now.heads }
         ensures first { result ≡ slice_index_or self.now.heads place None }
@@ -359,7 +364,7 @@ impl Agenda {
         self.starts[place as usize]
     }
 
-    /// The next edge that leads from where an edge leads from.
+    /// Returns the next edge that leads from the same place as this one.
     pub(crate) fn next_edge(&self, edge: u32) -> Option<u32>
         requires { edge < length self.now.links }
         ensures next { result ≡ slice_index_or self.now.links edge None }
@@ -368,7 +373,7 @@ impl Agenda {
         self.next[edge as usize]
     }
 
-    /// Lets a place go on along an edge that leads from it.
+    /// Lets sending from a place go on from this edge.
     pub(crate) fn resume_at(&mut self, place: u32, edge: u32)
         requires place { place < length self.old.heads }
         requires edge { edge < length self.old.links }
@@ -377,7 +382,7 @@ impl Agenda {
         self.first[place as usize] = Some(edge);
     }
 
-    /// Along no edge of a place is there anything to send any more.
+    /// Notes that there is nothing left to send along the edges of a place.
     pub(crate) fn finish(&mut self, place: u32)
         requires { place < length self.old.heads }
         ensures { self.new ≡ record self.old { heads = slice_set self.old.heads place None } }

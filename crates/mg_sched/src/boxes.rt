@@ -12,7 +12,7 @@ ghost use Rattle.mg_sched.specs.Code.Made.{AtPlaces, IsEngineAt, IsLeft, FindEac
 use mg_calc::{Calculator, Plan};
 use mg_node::Engine;
 
-/// Moves what was handed in to places of its own, in order, behind what lies there.
+/// Moves the calculators that were handed in to places, in their order, behind what lies there.
 pub(crate) fn lay_out<C>(boxes: &mut Vec<C>, places: &mut Vec<Option<C>>)
     requires room { vec_len places.old + vec_len boxes.old ≤ vec_capacity places.old }
     ensures items { places.new.items ≡ places.old.items ++ map Some boxes.old.items }
@@ -40,7 +40,7 @@ fn hand_over<C: Calculator>(places: &mut [Option<C>], number: u32, engine: &mut 
     engine.hand_in(calculator);
 }
 
-/// Hands each node that has a number the calculator of that number.
+/// Hands each node that has a box number the calculator of that number.
 pub(crate) fn hand_out<C: Calculator>(
     plan: &Plan,
     places: &mut [Option<C>],

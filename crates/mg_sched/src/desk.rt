@@ -10,7 +10,7 @@ use mg_node::Work;
 use std::alloc::{AllocError, Global};
 use std::marker::Model;
 
-/// The works of a node that are claimed and not performed, with room for so many.
+/// The works of a node that are claimed and not performed, of which at most `room` may lie here.
 #[derive(Drop)]
 pub struct Desk<C: Calculator> {
     room: u32,
@@ -31,7 +31,7 @@ impl<C: Calculator> Model for Desk<C> {
     ghost invariant = { λ d. d.room ≤ vec_capacity d.works };
 }
 
-/// The place of the work of a number.
+/// Returns the place of the work that has this number.
 fn place_of<C: Calculator>(works: &[Work<C>], number: u64) -> Option<usize>
     ensures found { IfSome result (λ place. IsSomeAnd (slice_get works.now place) (λ w. w.number ≡ number)) }
     ensures none { IfNone result (All (λ w. w.number ≢ number) works.now) }
@@ -51,7 +51,7 @@ fn handed_of<C: Calculator>(work: Work<C>) -> Option<C>
     work.into_calculator()
 }
 
-// The first calculator that was handed in, of the works'.
+// Returns the first calculator that was handed in, among those of the works.
 fn first_of<C: Calculator>(works: Vec<Work<C>>) -> Option<C>
     ensures { option_map C.told result ≡ slice_get (filter_map handed_told (map (λ (w : WorkView). w.bench.told) works.items)) 0 }
 {
@@ -64,7 +64,7 @@ fn first_of<C: Calculator>(works: Vec<Work<C>>) -> Option<C>
 }
 
 impl<C: Calculator> Desk<C> {
-    /// An empty one, with room for so many.
+    /// Returns an empty desk with room for `room` works.
     pub(crate) fn new(alloc: Global, room: u32) -> Result<Desk<C>, AllocError>
         ensures { IfOk result (λ d. d ≡ record { room = room; works = [] }) }
     {
@@ -89,7 +89,7 @@ impl<C: Calculator> Desk<C> {
         Some(work.number())
     }
 
-    /// Takes the work of a number, and tells the place where it lay.
+    /// Takes the work that has this number, and returns it with the place where it lay.
     pub(crate) fn take(&mut self, number: u64) -> Option<(usize, Work<C>)>
         ensures taken { IfSome result (λ t. TakesFrom number t.0 t.1 self.old self.new) }
         ensures none { IfNone result (All (λ w. w.number ≢ number) self.old.works) }
@@ -108,7 +108,7 @@ impl<C: Calculator> Desk<C> {
         self.works.pop()
     }
 
-    /// Lays a work where it lay.
+    /// Lays a work back at the place where it lay.
     pub(crate) fn put_back(&mut self, place: usize, work: Work<C>)
         requires room { length self.old.works < self.old.room }
         requires place { place ≤ length self.old.works }
@@ -119,7 +119,7 @@ impl<C: Calculator> Desk<C> {
         };
     }
 
-    /// The first calculator that was handed in, of the works' that lie here. What was to be done isn't done then.
+    /// Returns the first calculator that was handed in, among those of the works that lie here. The works are dropped and not performed.
     pub(crate) fn into_calculator(self) -> Option<C>
         ensures { option_map C.told result ≡ on_desk self }
     {

@@ -3,17 +3,18 @@ ghost use Rattle.mg_calc.specs.declared.event.Event.{Event as AnEvent};
 
 use mg_calc::Event;
 
-/// What hears the events of a net, each once it has done something.
+/// A hearer of a net's events: each event that does something is told to it, once it has done it.
 pub trait Hears {
-    /// It has heard these events since it was the first value.
+    /// The hearer has come from the first value to the second by hearing these events.
     ghost has_heard: { Self → Self → List AnEvent → Type 0 };
 
-    /// Hears one more event. Where it can't take it in, as at want of memory, it keeps that to itself, and may tell it once all is heard.
+    /// Hears one more event. No error comes back: a hearer that can't take the event in, as at want of memory, may tell so once all is
+    /// heard.
     fn hear(&mut self, event: Event)
         ensures { (began : Self) (events : List AnEvent) → has_heard began self.old events → has_heard began self.new (events ++ event ∷ []) };
 }
 
-/// Hears nothing.
+/// A hearer that ignores all events.
 #[derive(Drop)]
 pub struct Deaf;
 

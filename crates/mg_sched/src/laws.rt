@@ -57,7 +57,7 @@ pub fn what_rests_is_the_solution()
         → slice_get net.plan.nodes number ≡ Some node → slice_get net.engines number ≡ Some engine → engine.fault ≡ fault_of job.job solution (number, node) }
 {}
 
-/// The numbers that the nodes of a net have claimed add up to at most the weight of its job.
+/// The nodes of a net have claimed at most as many sets, calls and answers, all together, as the weight of its job is.
 pub fn claims_are_within_the_weight()
     ensures { (job : LoggedJob) (net : NetView) (solution : List (StreamPrefix Plain))
         → StandsFor job net → IsRunning net → Solves job solution → claimed_in net ≤ weight job.job solution }
@@ -90,7 +90,7 @@ pub fn edges_of_parts_are_in_place()
         → IsInPlace parts number e }
 {}
 
-/// No step touches the calculators that no node uses, begins a node, or takes a set from the collector.
+/// No step changes the plan or the calculators that no node uses, begins a node, or takes a set from the collector.
 pub fn steps_leave_what_no_node_uses()
     ensures plan { (before now : NetView) → Becomes before now → now.plan ≡ before.plan }
     ensures spare { (before now : NetView) → Becomes before now → now.spare ≡ before.spare }
@@ -110,8 +110,8 @@ pub fn takings_are_counted()
         → settled_outputs job.job.plan solution ≡ settled_sets Default (inputs_of solution job.job.plan.outputs) }
 {}
 
-/// Of a net at rest sets are taken until all of the solution's were: all has come to the collector, that stays so when a set is taken,
-/// and where none is taken any more as many were as the solution has.
+/// All sets that the solution has at the graph's outputs can be taken from a net at rest: all has come to the collector, that stays so when
+/// a set is taken, and once there is none to take, as many were taken as the solution has.
 pub fn all_outputs_are_taken()
     ensures rest { (job : LoggedJob) (solution : List (StreamPrefix Plain)) (net : NetView) → StandsFor job net → IsRunning net → IsAtRest net → Solves job solution
         → HasAllOutputs solution net }
@@ -121,15 +121,16 @@ pub fn all_outputs_are_taken()
         → StandsFor job net → Solves job solution → HasAllOutputs solution net → TakesOut false set set_now net now → taken_out net ≡ length (settled_outputs net.plan solution) }
 {}
 
-/// Where the nodes are left as they were, as by takings, that is so step by step, and the report is the same.
+/// What leaves the nodes of a net as they were, as taking a set does, leaves its report as it was; and so do two such changes, one after
+/// the other.
 pub fn what_leaves_nodes_leaves_the_report()
     ensures itself { (net : NetView) → LeavesNodes net net }
     ensures further { (before between now : NetView) → LeavesNodes before between → LeavesNodes between now → LeavesNodes before now }
     ensures report { (before now : NetView) → LeavesNodes before now → report_of now ≡ report_of before }
 {}
 
-/// A net that came to rest, perhaps had sets taken, and was wound up gives back each calculator in its place: that of a node with all its
-/// calls, and one that no node uses as it lay.
+/// A net that came to rest, perhaps had sets taken, and was wound up gives back each calculator in its place: the calculator of a node with
+/// all its calls, and one that no node uses as it lay.
 pub fn what_comes_back_had_its_calls()
     ensures used { (job : LoggedJob) (rested net wound : NetView) (solution : List (StreamPrefix Plain)) (number place : ℕ) (node : PlanNode)
         → StandsFor job rested → IsRunning rested → IsAtRest rested → Solves job solution
@@ -143,8 +144,8 @@ pub fn what_comes_back_had_its_calls()
         → All (λ n. ¬ (n.box_number ≡ Some place)) net.plan.nodes → (told : CalculatorTold) × (slice_get net.spare place ≡ Some (Some told)) }
 {}
 
-/// Whenever a run ends, the calculator of a node comes back with a front of its calls: in the solution of the net's job, and in that of
-/// every job with more lines.
+/// Whenever a run ends, the calculator of a node comes back with a front of the calls that it has in the solution: that of the net's job,
+/// and that of every job with more lines.
 pub fn what_comes_back_had_a_front()
     ensures { (job later : LoggedJob) (net : NetView) (solution : List (StreamPrefix Plain)) (number place : ℕ) (node : PlanNode)
         → StoodFor job net → (later ≡ job) ⊎ Grows job later → Solves later solution
@@ -152,8 +153,8 @@ pub fn what_comes_back_had_a_front()
         → (told : CalculatorTold) × (slice_get (given_back net) place ≡ Some told) × HadFront later solution node told }
 {}
 
-/// Wherever a run ends, once no work lies on a desk and all nodes are wound up, no calculator is left open: that of a node comes back with
-/// Close behind Open and some of its sets, or its Open failed.
+/// Wherever a run ends, once no work lies on a desk and all nodes are wound up, no calculator is left open: the calculator of a node comes
+/// back with Close behind Open and some of its sets, or its Open failed.
 pub fn what_comes_back_had_close()
     ensures { (job : LoggedJob) (net wound : NetView) (solution : List (StreamPrefix Plain)) (number place : ℕ) (node : PlanNode)
         → StandsFor job net → IsRunning net → NoneOnDesks net → WindsUpNet net wound → wound.wound ≡ length net.plan.nodes → Solves job solution

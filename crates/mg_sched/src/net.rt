@@ -29,8 +29,8 @@ use mg_throttle::Limits;
 use std::alloc::Global;
 use std::marker::Model;
 
-/// The cells of a graph, joined by its edges. Each part lies at a place of its own: the engines and intakes by the numbers of their
-/// nodes, behind them those of the graph inputs and of the collector of the graph's outputs.
+/// The cells of a graph, joined by its edges. Each engine and each intake lies at a place of its own: those of the nodes by the nodes'
+/// numbers, and behind them the engines of the graph inputs, and the intake of the collector of the graph's outputs.
 #[derive(Drop)]
 pub struct Net<C: Calculator> {
     alloc: Global,
@@ -40,23 +40,28 @@ pub struct Net<C: Calculator> {
     intakes: Vec<Intake>,
     desks: Vec<Desk<C>>,
     limits: Limits,
-    // The number of the first edge into each consumer, and of the feeder that each node is, if it is a source.
+    // For each consumer the number of the first edge into it.
     first_edges: Vec<u32>,
+    // For each node that is a source its number as a feeder.
     own_feeders: Vec<Option<u32>>,
-    // A number for each stream, for `trim` alone, and whether all of it is kept.
+    // For each stream a number, which `trim` alone uses.
     got: Vec<u64>,
+    // For each stream whether all that is laid of it is kept.
     kept: Vec<bool>,
-    // The places of the calculators that were handed in, and the list in which they came, which is empty.
+    // The places of the calculators that were handed in. Those that no node uses lie here.
     spare: Vec<Option<C>>,
+    // The list in which they came. It is empty, and has room for all of them.
     boxes: Vec<C>,
+    // How many nodes are begun, and how many are wound up, from the first on.
     begun: u32,
     wound: u32,
-    // What a sweep left for the next one, and whether nothing but the places that it has kept has changed since the net was at rest.
+    // What the last sweep left for the next one.
     agenda: Option<Agenda>,
+    // Whether nothing has changed since the net was at rest but at places that the agenda has noted.
     known: bool,
 }
 
-/// A plan with the tables that nets look up: a net's, while its parts are elsewhere.
+/// A plan with the tables that a net looks up. It is one of the parts into which a net comes apart.
 #[derive(Drop)]
 pub struct IndexedPlan {
     plan: Plan,

@@ -2,7 +2,7 @@ use crate::net::{IndexedPlan, NetRest};
 use mg_calc::Calculator;
 use mg_node::{Engine, Intake};
 
-/// What a net comes apart into, and is put together of: each engine and each intake may go elsewhere meanwhile, and what stays is kept.
+/// The parts into which a net comes apart, and of which it is put together again. Each engine and each intake may go elsewhere meanwhile.
 #[derive(Drop)]
 pub struct NetParts<C: Calculator> {
     /// The plan, with its tables.
@@ -11,6 +11,6 @@ pub struct NetParts<C: Calculator> {
     pub engines: Vec<Engine<C>>,
     /// The intakes of the nodes, and after them the collector's.
     pub intakes: Vec<Intake>,
-    /// What stays of the net.
+    /// The rest of the net: its side packets, its desks, its limits, and the calculators that were handed in and that no node uses.
     pub rest: NetRest<C>,
 }

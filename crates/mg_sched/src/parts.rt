@@ -17,7 +17,7 @@ use mg_throttle::Limits;
 use mg_value::PrefixList;
 use std::alloc::{AllocError, Global};
 
-/// What a net keeps of what it is made from, and places for the calculators that are handed in.
+/// The plan and the side packets that a net keeps, and places for the calculators that are handed in.
 #[derive(Drop)]
 pub(crate) struct Kept<C: Calculator> {
     pub(crate) plan: Plan,
@@ -25,7 +25,7 @@ pub(crate) struct Kept<C: Calculator> {
     pub(crate) places: Vec<Option<C>>,
 }
 
-/// The parts of its cells.
+/// The engines, intakes and desks of a net.
 #[derive(Drop)]
 pub(crate) struct Cells<C: Calculator> {
     pub(crate) engines: Vec<Engine<C>>,
@@ -33,7 +33,7 @@ pub(crate) struct Cells<C: Calculator> {
     pub(crate) desks: Vec<Desk<C>>,
 }
 
-/// The limits of its queues, and its tables.
+/// The limits of a net's queues, and its tables.
 #[derive(Drop)]
 pub(crate) struct Rules {
     pub(crate) limits: Limits,
@@ -108,7 +108,7 @@ pub(crate) fn intakes_of(alloc: Global, plan: &Plan) -> Result<Vec<Intake>, Allo
     Ok(intakes)
 }
 
-/// The desks of the nodes, where nothing lies.
+/// Returns the desks of the nodes, on which nothing lies.
 pub(crate) fn desks_of<C: Calculator>(
     alloc: Global,
     plan: &Plan,
@@ -124,7 +124,7 @@ pub(crate) fn desks_of<C: Calculator>(
     Ok(desks)
 }
 
-/// Copies of a plan and of side packets, and room for so many calculators.
+/// Returns copies of a plan and of side packets, and room for `count` calculators.
 pub(crate) fn kept_of<C: Calculator>(
     alloc: Global,
     plan: &Plan,

@@ -1,16 +1,16 @@
-/// How far a node's next work came at once.
+/// How far a node's next work came, which is claimed, performed and committed at once.
 #[derive(Clone, Copy, Debug, PartialEq, Eq)]
 pub enum Reached {
-    /// There was none to claim.
+    /// There was no work to claim.
     Nothing,
-    /// There was no memory to claim it.
+    /// There was no memory to claim the work.
     NotClaimed,
-    /// It was a loopback's answer, which is laid as it is claimed.
+    /// The work was a loopback's answer, which is laid as it is claimed.
     Answered,
-    /// It is claimed, and there was no memory to perform it.
+    /// The work is claimed, and there was no memory to perform it.
     Claimed,
-    /// That of a number is performed, and there was no memory to commit it.
+    /// The work of this number is performed, and there was no memory to commit it.
     Performed(u64),
-    /// That of a number is committed.
+    /// The work of this number is committed.
     Committed(u64),
 }

@@ -17,8 +17,8 @@ ghost use Rattle.mg_sched.specs.Reports.{stream_end, report_of};
 ghost use Rattle.mg_sched.specs.Runs.{IsRun, IsRunAtRest};
 ghost use Rattle.mg_sched.specs.Sweeps.{Becomes};
 
-/// No event is a run from a net to itself, an event that does something is one, and a run that begins where another one ended goes on
-/// with it.
+/// The empty list is a run from a net to itself, an event that does something is a run, and two runs of which the second begins where the
+/// first ended are one run.
 pub fn runs_go_on()
     ensures none { (net : NetView) → IsRun [] net net }
     ensures one { (event : Event) (before now : NetView) → IsEventOf before event → Acts event Did before now → IsRun (event ∷ []) before now }
@@ -26,8 +26,8 @@ pub fn runs_go_on()
         → IsRun (events ++ more) before now }
 {}
 
-/// Whatever the events of a run are, the net runs at its end and stands for its job as it did at its begin, and a run that has an event
-/// leaves no net as it was.
+/// Whatever the events of a run are, at its end every node is begun and the net stands for its job, as at its begin; and a run that has an
+/// event leaves no net as it was.
 pub fn runs_stand_for_their_job()
     ensures running { (events : List Event) (before now : NetView) → IsRun events before now → IsRunning before → IsRunning now }
     ensures stands { (job : LoggedJob) (events : List Event) (before now : NetView) → IsRun events before now → IsRunning before → StandsFor job before
@@ -36,16 +36,16 @@ pub fn runs_stand_for_their_job()
         → events ≢ [] → now ≢ before }
 {}
 
-/// Whatever steps a net makes, whether they do something or find nothing to do or no memory, it stands for its job at the end as it did
-/// at the begin; so it does after every list of events.
+/// Whatever steps a net makes, whether they do something or find nothing to do or no memory, every node is begun and the net stands for its
+/// job at the end as at the begin. A run is a way to make steps.
 pub fn steps_keep_what_a_net_stands_for()
     ensures running { (before now : NetView) → Becomes before now → IsRunning before → IsRunning now }
     ensures stands { (job : LoggedJob) (before now : NetView) → Becomes before now → IsRunning before → StandsFor job before → StandsFor job now }
     ensures run { (events : List Event) (before now : NetView) → IsRun events before now → Becomes before now }
 {}
 
-/// Whatever its events are, a run of a job at rest has come to the job's solution: the net reports how many sets each node has there,
-/// its faults, and how far each stream comes.
+/// Whatever its events are, a run of a job to rest has come to the job's solution: the net reports how many sets each node has there, its
+/// faults, and how far each stream comes.
 pub fn runs_at_rest_have_the_solution()
     ensures sets { (plan : Plan) (inputs : Inputs) (boxes : List CalculatorTold) (events : List Event) (solution : List (StreamPrefix Plain))
         (run : IsRunAtRest plan inputs boxes events) → Solves (job_of plan inputs boxes) solution → (report_of run.rested).sets ≡ counts (job_of plan inputs boxes).job solution }

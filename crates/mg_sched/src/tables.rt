@@ -23,7 +23,7 @@ pub(crate) fn first_edges(alloc: Global, plan: &Plan) -> Result<Vec<u32>, AllocE
     Ok(firsts)
 }
 
-/// For each node the number of the feeder that it is, if it is one. There is no memory for the numbers of 2^32 feeders or more.
+/// Returns for each node that is a source its number as a feeder. 2^32 nodes and graph inputs or more count as want of memory.
 pub(crate) fn own_feeders(alloc: Global, plan: &Plan) -> Result<Vec<Option<u32>>, AllocError>
     ensures count { IfOk result (λ v. length v.items ≡ length plan.now.nodes) }
     ensures feeders { IfOk result (λ v. AreOwnFeeders plan.now v.items) }
@@ -44,14 +44,14 @@ pub(crate) fn own_feeders(alloc: Global, plan: &Plan) -> Result<Vec<Option<u32>>
     Ok(own)
 }
 
-/// A number for each stream, which is 0.
+/// Returns a number for each stream, at first 0.
 pub(crate) fn stream_numbers(alloc: Global, plan: &Plan) -> Result<Vec<u64>, AllocError>
     ensures { IfOk result (λ v. vec_len v ≡ length plan.now.streams) }
 {
     vec![in alloc; 0u64; plan.streams.len() as usize]
 }
 
-/// For each stream that nothing but what waits is kept of it.
+/// Returns for each stream that it isn't kept: `trim` may give up its packets.
 pub(crate) fn none_kept(alloc: Global, plan: &Plan) -> Result<Vec<bool>, AllocError>
     ensures { IfOk result (λ v. v.items ≡ replicate (length plan.now.streams) false) }
 {

@@ -6,7 +6,7 @@ use Rattle.mg_sched.specs.StandsFor.{StandsForSome}
 use Rattle.mg_turns.specs.Parts.{FrameView}
 use Rattle.mg_workers.specs.Shared.{KeptView, IsSharedOf}
 
--- a net stands for some job, and has so many outputs
+-- a net stands for some job, and its graph has `count` outputs
 pub record HasOutputs (count : ℕ) (net : NetView) : Type 0 where
   pub stands : StandsForSome net
   pub outputs : length net.plan.outputs ≡ count
@@ -17,7 +17,7 @@ pub record CameOf (count : ℕ) (key : FrameView) (kept : KeptView) : Type 0 whe
   pub has : HasOutputs count before
   pub of : IsSharedOf before key kept
 
--- a work is another one, whatever its calculator has done
+-- two works are the same one, whatever its calculator has done in between
 pub record IsSameWork (work now : WorkView) : Type 0 where
   pub node : now.node ≡ work.node
   pub number : now.number ≡ work.number

@@ -1,4 +1,4 @@
-//! The calls on a shared net, each by one seat, which has no work but between a claim and the commit or the shelving of what it gave.
+//! The calls on a shared net, each by one seat. A seat has a work only from a claim to the commit or the shelving of what the claim gave.
 ghost use Rattle.std.specs.Prelude.{◌≡◌, ◌<◌, true, Option, IfOk, OnErr, IfSome, OnSome};
 ghost use Rattle.mg_node.specs.declared.claimed.Claimed.TheVariants as Claimed;
 ghost use Rattle.mg_node.specs.Views.{WorkView};
@@ -17,7 +17,7 @@ use mg_route::LawBox;
 use mg_turns::{NetSeat, SharedNet, Tried, TriedCommit, TriedShelf};
 use std::alloc::Global;
 
-/// Brings packets along an edge, and tells how many, and whether the bound rose. It tells nothing where there is no such edge, where
+/// Brings packets along an edge, and returns how many, and whether the bound rose. Returns `None` where there is no such edge, where
 /// another seat has a turn, or where there is no memory.
 #[tactic(auto, using(crate::proofs::Sharing::stays_shared, crate::proofs::Sharing::stays_itself))]
 pub fn append(net: &SharedNet<LawBox>, seat: &mut NetSeat<LawBox>, edge: u32) -> Option<(u32, bool)>
@@ -35,7 +35,7 @@ pub fn append(net: &SharedNet<LawBox>, seat: &mut NetSeat<LawBox>, edge: u32) ->
     }
 }
 
-/// Raises the bounds of a node's outputs, and tells whether one moved. It tells nothing where another seat has a turn.
+/// Raises the bounds of a node's outputs, and returns whether one moved, or `None` where another seat has a turn.
 #[tactic(auto, using(crate::proofs::Sharing::stays_shared))]
 pub fn raise(net: &SharedNet<LawBox>, seat: &mut NetSeat<LawBox>, node: u32) -> Option<bool>
     requires shared { IsShared net.now seat.old }
@@ -49,7 +49,7 @@ pub fn raise(net: &SharedNet<LawBox>, seat: &mut NetSeat<LawBox>, node: u32) -> 
     }
 }
 
-/// Works at a node, at most so many works under one pair of turns, and tells how many. It tells 0 where another seat has a turn.
+/// Does at most `most` works of a node under one pair of turns, and returns how many. Returns 0 where another seat has a turn.
 #[tactic(auto, using(crate::proofs::Sharing::stays_shared))]
 pub fn run(
     alloc: Global,
@@ -72,7 +72,9 @@ pub fn run(
 /// Why a claim gave no work.
 #[derive(Clone, Copy)]
 pub enum Idle {
+    /// As many works of the node are in flight as may be.
     InFlightFull,
+    /// Any other reason, also that another seat has a turn.
     Other,
 }
 
@@ -92,7 +94,7 @@ fn work_of(claimed: Claimed<LawBox>) -> Result<Work<LawBox>, Idle>
     }
 }
 
-/// Claims the next work of a node, or tells why there is none.
+/// Claims the next work of a node, or returns why the claim gave none.
 pub fn claim(
     net: &SharedNet<LawBox>,
     seat: &mut NetSeat<LawBox>,
@@ -111,7 +113,7 @@ pub fn claim(
     }
 }
 
-/// Performs a work. It gives nothing where there is no memory.
+/// Performs a work, and returns its outcome, or `None` where there is no memory.
 pub fn performed(alloc: Global, work: Work<LawBox>) -> Option<Outcome<LawBox>>
     requires { SomeJobHas work }
     ensures lawful { IfSome result (λ o. (job : LoggedJob) → LawfulWork job work → LawfulOutcome job o) }
@@ -123,8 +125,8 @@ pub fn performed(alloc: Global, work: Work<LawBox>) -> Option<Outcome<LawBox>>
     }
 }
 
-/// Commits the work that a seat has, and tells how many sets or calls were laid. It tells nothing where another seat has the turn, or
-/// where there is no memory; the seat has the work still, which is lost.
+/// Commits the work that a seat has, and returns how many sets or calls were laid. Returns `None` where another seat has the turn, or where
+/// there is no memory: the work is lost then, and the seat still counts as having it.
 pub fn commit(
     net: &SharedNet<LawBox>,
     seat: &mut NetSeat<LawBox>,
@@ -142,8 +144,8 @@ pub fn commit(
     }
 }
 
-/// Puts the work that a seat has back into its window, and tells whether it is there. Where another seat has the turn, this seat has
-/// the work still, which is lost.
+/// Puts the work that a seat has back into its window, and returns whether it did. Where another seat has the turn, the work is lost, and
+/// the seat still counts as having it.
 pub fn shelve(net: &SharedNet<LawBox>, seat: &mut NetSeat<LawBox>, outcome: Outcome<LawBox>) -> bool
     requires has { IsSharedWith net.now seat.old outcome.work }
     requires lawful { (job : LoggedJob) → Fits job (key_of net.now) → LawfulOutcome job outcome }

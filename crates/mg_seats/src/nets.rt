@@ -15,7 +15,7 @@ use mg_value::InputSet;
 use mg_workers::{Kept, share, unshare};
 use std::alloc::{AllocError, Global};
 
-/// A shared net, its first seat, and what stays of it aside.
+/// A shared net, its first seat, and what stays aside while it is shared.
 #[derive(Drop)]
 pub struct Shared {
     pub net: SharedNet<LawBox>,
@@ -23,7 +23,7 @@ pub struct Shared {
     pub kept: Kept<LawBox>,
 }
 
-// No calculators.
+// Returns an empty list of calculators.
 fn no_boxes(alloc: Global) -> Vec<LawBox>
     ensures { result.items ≡ [] }
 {
@@ -43,7 +43,7 @@ fn net_of(alloc: Global, plan: &Plan, inputs: &Inputs) -> Result<Net<LawBox>, Al
     }
 }
 
-/// The net of a plan for which no calculators are handed in, with its nodes begun.
+/// Makes the net of a plan for which no calculators are handed in, and begins its nodes.
 pub fn begun(alloc: Global, plan: &Plan, inputs: &Inputs) -> Result<Net<LawBox>, AllocError>
     requires job { IsJob (record { plan = plan.now; inputs = inputs.now }) }
     requires none { OutersFit plan.now [] }
@@ -57,7 +57,7 @@ pub fn begun(alloc: Global, plan: &Plan, inputs: &Inputs) -> Result<Net<LawBox>,
     Ok(net)
 }
 
-/// Shares a net. The seat has the whole portion.
+/// Shares a net. Its first seat has the whole portion, 2^32. At want of memory the net is dropped.
 pub fn shared_net(alloc: Global, net: Net<LawBox>) -> Result<Shared, AllocError>
     requires running { IsRunning net }
     requires stands { StandsForSome net }
@@ -71,7 +71,7 @@ pub fn shared_net(alloc: Global, net: Net<LawBox>) -> Result<Shared, AllocError>
     }
 }
 
-/// Puts a shared net together again. The seat has the whole portion again.
+/// Puts a shared net together again, by a seat that has the whole portion.
 pub fn together(net: SharedNet<LawBox>, seat: NetSeat<LawBox>, kept: Kept<LawBox>) -> Net<LawBox>
     requires shared { IsShared net seat }
     requires whole { (view_of seat).portion ≡ 2 ^ 32 }
@@ -83,7 +83,7 @@ pub fn together(net: SharedNet<LawBox>, seat: NetSeat<LawBox>, kept: Kept<LawBox
     net
 }
 
-/// Takes the next set of a net with one output, and tells whether there is one.
+/// Takes the next set of a net with one output, and returns whether there was one. Where `set` hasn't one place, none is taken.
 pub fn take_next(net: &mut Net<LawBox>, set: &mut InputSet) -> bool
     requires outputs { HasOutputs 1 net.old }
     ensures outputs { HasOutputs 1 net.new }

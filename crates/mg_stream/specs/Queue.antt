@@ -6,7 +6,7 @@ use Rattle.mg_time.specs.Time.{pre_stream, post_stream, IsAllowed, next}
 use Rattle.mg_value.specs.Prefix.{Stamped, StreamPrefix, IsPrefix}
 pub use Rattle.mg_value.specs.FirstSet.{front_at}
 
--- a queue
+-- a queue: how many packets are gone, those that wait, the bound, and for how many more packets there is room
 pub record Waiting (X : Type 0) : Type 0 where
   pub gone : ℕ
   pub packets : List (Stamped X)
@@ -61,7 +61,7 @@ popped q = record { gone = q.gone + 1; packets = drop 1 q.packets; bound = q.bou
 abbrev pub popped_at : {X : Type 0} → ℕ → Waiting X → Waiting X
 popped_at t q = if is_some (front_at t q.packets) then popped q else q
 
--- a queue of whose waiting packets the first are left, a number of them, with another bound
+-- a queue with the first `waiting` of its waiting packets, without the others, and with another bound
 abbrev pub cut_back : {X : Type 0} → ℕ → ℕ → Waiting X → Waiting X
 cut_back waiting bound q = record q { packets = take waiting q.packets; bound = bound }
 

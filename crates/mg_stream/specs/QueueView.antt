@@ -5,6 +5,7 @@ use Rattle.mg_value.specs.Payload.{Plain}
 use Rattle.mg_stream.specs.Queue.{Waiting}
 use Rattle.mg_stream.specs.declared.queue.Queue.TheInside.{Inside}
 
+-- a queue as contracts see it
 abbrev pub queue_view : Inside → Waiting Plain
 queue_view q = record {
   gone = q.gone;

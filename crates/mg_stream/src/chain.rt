@@ -15,7 +15,7 @@ pub(crate) struct Entry {
     pub(crate) next: usize,
 }
 
-/// The entries of one port, in order, and what the port knows of its stream.
+/// The entries of one port as a linked list, and the counts and the bound of the port's stream.
 #[derive(Clone, Copy, Debug)]
 pub(crate) struct Chain {
     pub(crate) first: usize,
@@ -54,7 +54,7 @@ pub(crate) fn pop_first(entries: &mut Slab<Entry>, chain: &mut Chain) -> Packet
     entry.packet
 }
 
-/// Puts a packet into a vacant entry, behind the last of a chain.
+/// Puts a packet into a vacant entry, which becomes the last of a chain.
 pub(crate) fn push_last(entries: &mut Slab<Entry>, chain: &mut Chain, packet: Packet)
     requires whole { IsWhole entries.old.slots chain.old }
     requires room { HasRoomFor entries.old 1 }

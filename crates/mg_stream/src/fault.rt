@@ -1,7 +1,7 @@
 use mg_value::Packet;
 use thiserror::Error;
 
-/// Why a queue refuses a packet. The first that holds is answered.
+/// Why a queue refuses a packet. Where more than one of these holds, the first is the cause.
 #[derive(Clone, Copy, Debug, PartialEq, Eq, Drop, Error)]
 pub enum StreamFault {
     /// No packet may carry this timestamp.
@@ -13,12 +13,12 @@ pub enum StreamFault {
     /// The packet stands at PostStream and isn't the only one of its stream.
     #[error("a packet at PostStream must be alone")]
     NotAlone = 3,
-    /// Want of memory.
+    /// There is no memory for the packet.
     #[error("out of memory")]
     OutOfMemory = 4,
 }
 
-/// A packet that was refused comes back, with the cause.
+/// A packet that was refused, and why.
 #[derive(Debug, Drop)]
 pub struct Refused {
     pub packet: Packet,

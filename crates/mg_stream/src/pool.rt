@@ -14,8 +14,8 @@ use slab::Slab;
 use std::alloc::{AllocError, Global};
 use std::marker::Model;
 
-/// The packets that wait at all inputs of one node, in one block of memory (MediaPipe, Synchronization). A packet that
-/// goes gives its place back to the whole. Contracts see a queue per port, and for how many more packets there is room.
+/// The packets that wait at all inputs of one node, in one block of memory (MediaPipe, Synchronization). The place of a packet that goes is
+/// free for the next one at any port. Contracts see a queue per port, and for how many more packets there is room.
 #[derive(Debug, Drop)]
 pub struct Pool {
     entries: Slab<Entry>,
@@ -41,7 +41,7 @@ impl Model for Pool {
 }
 
 impl Pool {
-    /// A pool of as many ports, to which nothing came yet. Room for packets is made later.
+    /// A pool of `ports` ports to which nothing came yet, without room for packets.
     pub fn new(alloc: Global, ports: u32) -> Result<Pool, AllocError>
         ensures { IfOk result (λ p. p ≡ record { ports = replicate ports empty_backlog; spare = 0 }) }
     {
@@ -65,7 +65,7 @@ impl Pool {
         self.chains.len() as u32
     }
 
-    /// Makes room for more packets: so many appends take no memory, at whatever ports they come.
+    /// Makes room for `more` packets: that many appends take no memory, at whatever ports they come. On an error the pool is as before.
     pub fn reserve(&mut self, more: u32) -> Result<(), AllocError>
         ensures room { OnOk result (more ≤ self.new.spare) }
         ensures no_memory { OnErr result (self.old.spare < more) }
@@ -224,7 +224,7 @@ impl Pool {
         chain.gone + chain.waiting
     }
 
-    /// Takes the first packet of a port, where it stands at this timestamp.
+    /// Takes the first packet of a port, if it stands at this timestamp. Otherwise changes nothing and returns `None`.
     pub fn pop_at(&mut self, port: u32, at: Timestamp) -> Option<Packet>
         requires { port < length self.old.ports }
         ensures packet { result ≡ front_at at (queue_at self.old port).packets }
@@ -237,7 +237,7 @@ impl Pool {
         Some(self.take(port))
     }
 
-    // Takes the first packet of a port, where one waits.
+    // Takes the first packet of a port. One must wait there.
     fn take(&mut self, port: u32) -> Packet
         requires port { port < length self.old.ports }
         requires waits { 0 < length (queue_at self.old port).packets }
@@ -250,7 +250,7 @@ impl Pool {
         packet
     }
 
-    // Puts a packet that may come behind those that wait at a port, where there is room.
+    // Puts a packet that may come behind those that wait at a port. There must be room for it.
     fn put(&mut self, port: u32, packet: Packet)
         requires port { port < length self.old.ports }
         requires may_come { MayCome (queue_at self.old port) packet.at }
@@ -262,7 +262,7 @@ impl Pool {
         self.chains[port as usize] = chain;
     }
 
-    // Why a packet at this timestamp may not come at a port, if it may not.
+    // Why a packet at this timestamp may not come at a port, or `None` if it may.
     fn cause_of(&self, port: u32, at: Timestamp) -> Option<StreamFault>
         requires { port < length self.now.ports }
         ensures none { IfNone result (MayCome (queue_at self.now port) at) }
@@ -291,7 +291,7 @@ fn later(a: Timestamp, b: Timestamp) -> Timestamp
     if a < b { b } else { a }
 }
 
-// A number of entries that a pool may have.
+// A capacity as a number of 32 bits, at most `u32::MAX`.
 fn capped(capacity: usize) -> u32
     ensures { result ≡ min capacity (2 ^ 32 - 1) }
 {

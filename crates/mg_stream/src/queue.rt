@@ -13,7 +13,7 @@ use std::alloc::{AllocError, Global};
 use std::collections::VecDeque;
 use std::marker::Model;
 
-// For how many packets there is room once one came.
+// How many packets there is room for, at least, once the first one came.
 const FIRST_ROOM: usize = 4;
 
 /// The packets of a stream that wait at one input, in order (MediaPipe, Synchronization). Contracts see how many
@@ -54,7 +54,7 @@ impl Queue {
         }
     }
 
-    /// Makes room for more packets: so many appends take no memory.
+    /// Makes room for `more` packets: that many appends take no memory. An error changes at most the room.
     pub fn reserve(&mut self, more: u32) -> Result<(), AllocError>
         ensures room { OnOk result (more ≤ self.new.spare) }
         ensures no_memory { OnErr result (self.old.spare < more) }
@@ -105,7 +105,7 @@ impl Queue {
         Err(Refused { packet, cause })
     }
 
-    /// Puts a packet that may come behind those that wait, where there is room for it, and moves the bound to what may follow it.
+    /// Puts a packet that may come behind those that wait, and moves the bound to what may follow it. There must be room for the packet.
     pub fn put(&mut self, packet: Packet)
         requires may_come { MayCome self.old packet.at }
         requires room { 0 < self.old.spare }
@@ -127,8 +127,8 @@ impl Queue {
         }
     }
 
-    /// Takes back what came last: so many of the packets that wait are left, the first ones, with the bound that stood then. The others
-    /// are dropped.
+    /// Takes back what came last: keeps the first `waiting` of the packets that wait and drops the others, and sets the bound to `bound`,
+    /// where it stood then.
     pub fn cut_back(&mut self, waiting: u64, bound: Timestamp)
         requires { IsQueue (cut_back waiting bound self.old) }
         ensures { IsLike self.new (cut_back waiting bound self.old) }
@@ -145,7 +145,7 @@ impl Queue {
         self.bound = Timestamp::DONE;
     }
 
-    /// The timestamp of the first packet that waits.
+    /// The timestamp of the first packet that waits, if one does.
     pub fn first(&self) -> Option<Timestamp>
         ensures first { result ≡ option_map (λ p. p.at) (slice_get self.now.packets 0) }
         // Of every queue: what waits, with the bound, is a prefix.
@@ -154,7 +154,7 @@ impl Queue {
         Some(self.packets.front()?.at)
     }
 
-    /// The packet that waits at a place, from 0 on.
+    /// The packet at a place among those that wait, counted from 0, or `None` where fewer wait.
     pub fn get(&self, place: u64) -> Option<&Packet>
         ensures { option_copied result ≡ slice_get self.now.packets place }
     {
@@ -182,7 +182,7 @@ impl Queue {
         self.gone + self.packets.len() as u64
     }
 
-    /// Takes the first packet, where it stands at this timestamp.
+    /// Takes the first packet, if it stands at this timestamp. Otherwise changes nothing and returns `None`.
     pub fn pop_at(&mut self, at: Timestamp) -> Option<Packet>
         ensures packet { result ≡ front_at at self.old.packets }
         ensures popped { self.new ≡ popped_at at self.old }
@@ -196,7 +196,7 @@ impl Queue {
         packet
     }
 
-    /// Why a packet at this timestamp may not come, if it may not.
+    /// Why a packet at this timestamp may not come, or `None` if it may.
     fn cause_of(&self, at: Timestamp) -> Option<StreamFault>
         ensures none { IfNone result (MayCome self.now at) }
         ensures not_allowed { (result ≡ Some StreamFault.NotAllowed) ↔ ¬ IsAllowed at }
@@ -217,8 +217,8 @@ impl Queue {
     }
 }
 
-// Makes room for one more packet at least: for as many again as there is room for, so that the packets are moved
-// seldom.
+// Makes room for at least one more packet. A full queue gets room for as many more as it holds, and for `FIRST_ROOM` at least, so that
+// packets are moved seldom.
 fn make_room(packets: &mut VecDeque<Packet>) -> Result<(), AllocError>
     ensures ok { OnOk result (deque_len packets.new < deque_capacity packets.new) }
     ensures no_memory { OnErr result (deque_capacity packets.old ≤ deque_len packets.old) }

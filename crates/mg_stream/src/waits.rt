@@ -6,7 +6,7 @@ use mg_value::Packet;
 use slab::Slab;
 use std::marker::Model;
 
-/// The packets that wait at a port of a pool, in order. Contracts see the list of those that are still to come.
+/// An iterator over the packets that wait at a port of a pool, in order. Contracts see the list of those that are still to come.
 #[derive(Drop)]
 pub struct Waits<'a> {
     pub(crate) entries: &'a Slab<Entry>,

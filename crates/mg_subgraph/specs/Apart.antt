@@ -6,7 +6,7 @@ use Rattle.mg_config.specs.Config.{GraphView}
 use Rattle.mg_subgraph.specs.Names.{is_reserved}
 use Rattle.mg_subgraph.specs.Refusals.{graph_names}
 
--- a graph that has no name of the form that expansion gives
+-- The graph has no name of the form that expansion makes.
 abbrev pub IsFree : GraphView → Type 0
 IsFree graph = find is_reserved (graph_names graph) ≡ None
 
@@ -14,7 +14,7 @@ IsFree graph = find is_reserved (graph_names graph) ≡ None
 abbrev pub StayApart : (List ℕ → Option (List ℕ)) → (List ℕ → List ℕ) → Type 0
 StayApart outer rename = (first second : List ℕ) → first ≢ second → rename first ≡ rename second → (outer first ≡ Some (rename first)) × (outer second ≡ Some (rename second))
 
--- a name that a graph doesn't have
+-- The graph doesn't have the name.
 abbrev pub IsNew : List ℕ → GraphView → Type 0
 IsNew name graph = list_any (bytes_eq name) (graph_names graph) ≡ false
 

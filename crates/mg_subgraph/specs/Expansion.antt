@@ -17,6 +17,6 @@ abbrev pub expansion_by : Option ExpandFault → GraphView → Result GraphView 
 expansion_by None graph = Ok graph
 expansion_by (Some fault) graph = Err fault
 
--- the graph with its expanded nodes; its other fields stay
+-- the graph with its expanded nodes, whose other fields stay, or the first refusal
 abbrev pub expansion_of : GraphView → List GraphView → Result GraphView ExpandFault
 expansion_of main library = expansion_by (refusal main library) (record main { nodes = expanded library main.nodes })

@@ -12,11 +12,11 @@ is_of type file = names type file.type_name
 abbrev pub file_of : List GraphView → List ℕ → Option GraphView
 file_of library calculator = find (is_of calculator) library
 
--- A node whose calculator is the type of a file is a subgraph node.
+-- whether a node is a subgraph node: its calculator is the type of a file
 abbrev pub is_subgraph : List GraphView → NodeView → Bool
 is_subgraph library node = is_some (file_of library node.calculator)
 
--- whether one of the nodes is of a file's type
+-- whether one of the nodes uses a file directly: its calculator is the file's type
 abbrev pub uses : List NodeView → GraphView → Bool
 uses nodes file = list_any (λ node. is_of node.calculator file) nodes
 
@@ -26,7 +26,7 @@ reaches zero library nodes file = uses nodes file
 reaches (suc others) library nodes file =
     reaches others library nodes file || list_any (λ other. reaches others library nodes other && uses other.nodes file) library
 
--- Nodes use a file, directly or not. No more files stand between than there are.
+-- Whether nodes use a file, directly or not. No more files stand between than there are.
 abbrev pub uses_file : List GraphView → List NodeView → GraphView → Bool
 uses_file library nodes file = reaches (length library) library nodes file
 
@@ -34,6 +34,6 @@ uses_file library nodes file = reaches (length library) library nodes file
 abbrev pub used_files : GraphView → List GraphView → List GraphView
 used_files main library = filter (uses_file library main.nodes) library
 
--- a file that uses itself, directly or not
+-- whether a file uses itself, directly or not
 abbrev pub is_recursive : List GraphView → GraphView → Bool
 is_recursive library file = uses_file library file.nodes file

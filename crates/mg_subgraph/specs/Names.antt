@@ -9,7 +9,7 @@ use Rattle.mg_names.specs.Ports.{is_at}
 use Rattle.mg_names.specs.declared.port.Port.{Port}
 use Rattle.mg_config.specs.Config.{NodeView, GraphView}
 
--- whether a text is a name, and this one; the empty text is none
+-- whether a text isn't empty and is this name
 abbrev pub names : List ℕ → List ℕ → Bool
 names text name = not (bytes_eq text []) && bytes_eq text name
 
@@ -21,7 +21,7 @@ prefix n = codes "s" ++ decimal n ++ codes "__"
 abbrev pub digit_count : List ℕ → ℕ
 digit_count name = prefix_len is_digit (drop 1 name)
 
--- a name that begins with `s`, one digit or more, and `__`
+-- whether a name begins with `s`, one digit or more, and `__`
 abbrev pub is_reserved : List ℕ → Bool
 is_reserved name =
     (slice_index name 0 == 115) && nat_lt 0 (digit_count name)
@@ -37,29 +37,32 @@ outer_name given ports name =
 abbrev pub joined_name : List Port → List Port → List Port → List Port → List ℕ → Option (List ℕ)
 joined_name given_in given_out inputs outputs name = option_or (outer_name given_in inputs name) (outer_name given_out outputs name)
 
--- that of a stream of a file, and that of a side packet, where a node uses the file
+-- the outer name of a stream of a file, where a node uses the file
 abbrev pub outer_stream : NodeView → GraphView → List ℕ → Option (List ℕ)
 outer_stream node file = joined_name node.inputs node.outputs file.inputs file.outputs
 
+-- the outer name of a side packet of a file, where a node uses the file
 abbrev pub outer_side : NodeView → GraphView → List ℕ → Option (List ℕ)
 outer_side node file = joined_name node.input_sides node.output_sides file.input_sides file.output_sides
 
--- An inner name without an outer one gets the prefix of the node's number.
+-- the new name of a stream of a file: the outer name, or else the inner one with the prefix of the node's number
 abbrev pub stream_name : ℕ → NodeView → GraphView → List ℕ → List ℕ
 stream_name n node file name = unwrap_or (outer_stream node file name) (prefix n ++ name)
 
+-- the new name of a side packet of a file, likewise
 abbrev pub side_name : ℕ → NodeView → GraphView → List ℕ → List ℕ
 side_name n node file name = unwrap_or (outer_side node file name) (prefix n ++ name)
 
--- a node's name gets the prefix too, unless it is empty
+-- the new name of a node of a file: the name with the prefix, or the empty name where it is empty
 abbrev pub node_name : ℕ → List ℕ → List ℕ
 node_name n [] = []
 node_name n (first ∷ rest) = prefix n ++ first ∷ rest
 
--- ports of the same tags and indexes with other names
+-- a port of the same tag and index with another name
 abbrev pub renamed_port : (List ℕ → List ℕ) → Port → Port
 renamed_port rename port = record port { name = rename port.name }
 
+-- ports of the same tags and indexes with other names
 abbrev pub renamed_ports : (List ℕ → List ℕ) → List Port → List Port
 renamed_ports rename ports = map (renamed_port rename) ports
 

@@ -18,7 +18,7 @@ abbrev pub first_twice : List (List ℕ) → Option (List ℕ)
 first_twice [] = None
 first_twice (text ∷ texts) = if list_any (names text) texts then Some text else first_twice texts
 
--- the first answer that there is
+-- the first answer that a function has for an element of a list
 abbrev pub first_some : {A B : Type 0} → (A → Option B) → List A → Option B
 first_some answer [] = None
 first_some answer (x ∷ xs) = option_or (answer x) (first_some answer xs)
@@ -27,7 +27,7 @@ first_some answer (x ∷ xs) = option_or (answer x) (first_some answer xs)
 abbrev pub types_of : List GraphView → List (List ℕ)
 types_of library = map (λ file. file.type_name) library
 
--- Two files have the same type.
+-- Two files have the same type: the first that another one has too is told.
 abbrev pub type_twice : List GraphView → Option ExpandFault
 type_twice library = option_map TypeTwice (first_twice (types_of library))
 
@@ -42,18 +42,20 @@ max_nodes = 4096
 abbrev pub too_many_nodes : GraphView → List GraphView → Option ExpandFault
 too_many_nodes main library = if nat_lt max_nodes (length (expanded library main.nodes)) then Some TooManyNodes else None
 
--- the names of streams and side packets, in the order of writing
+-- the names at ports
 abbrev pub port_names : List Port → List (List ℕ)
 port_names ports = map (λ port. port.name) ports
 
+-- the names at four lists of ports, in the order of writing
 abbrev pub list_names : List Port → List Port → List Port → List Port → List (List ℕ)
 list_names inputs outputs input_sides output_sides =
     port_names inputs ++ (port_names outputs ++ (port_names input_sides ++ port_names output_sides))
 
--- all names of a graph, in the order of writing: those at its own ports, and each node's own and those at its ports
+-- the names of a node, in the order of writing: its own, and those at its ports
 abbrev pub node_names : NodeView → List (List ℕ)
 node_names node = node.name ∷ list_names node.inputs node.outputs node.input_sides node.output_sides
 
+-- all names of a graph, in the order of writing: those at its own ports, and those of each node
 abbrev pub graph_names : GraphView → List (List ℕ)
 graph_names graph = list_names graph.inputs graph.outputs graph.input_sides graph.output_sides ++ flat_map node_names graph.nodes
 
@@ -64,7 +66,7 @@ reserved_name main library =
     then option_map ReservedName (find is_reserved (flat_map graph_names (main ∷ used_files main library)))
     else None
 
--- A name stands at two stream ports of a file, or else at two side ports.
+-- the first name that stands at two stream ports of a file, or else at two side packet ports
 abbrev pub shared_name : GraphView → Option (List ℕ)
 shared_name file =
     option_or (first_twice (port_names file.inputs ++ port_names file.outputs)) (first_twice (port_names file.input_sides ++ port_names file.output_sides))
@@ -81,16 +83,17 @@ node_fault library judge n [] = None
 node_fault library judge n (node ∷ nodes) =
     option_or (option_and_then (judge n node) (file_of library node.calculator)) (node_fault library judge (suc n) nodes)
 
--- that of a subgraph node in a file; in the main graph, which is called `main`, and then in the files that it uses
+-- the first fault of a subgraph node in a file
 abbrev pub fault_in : (List ℕ → ℕ → NodeView → GraphView → Option ExpandFault) → List GraphView → GraphView → Option ExpandFault
 fault_in judge library file = node_fault library (judge file.type_name) 0 file.nodes
 
+-- the first fault of a subgraph node in the main graph, which is called `main`, or else in the files that it uses
 abbrev pub owned_fault : (List ℕ → ℕ → NodeView → GraphView → Option ExpandFault) → GraphView → List GraphView → Option ExpandFault
 owned_fault judge main library =
     option_or (node_fault library (judge (codes "main")) 0 main.nodes)
     (first_some (fault_in judge library) (used_files main library))
 
--- the first of the fields that a subgraph node can't have
+-- whether there are any fields
 abbrev pub has_fields : Fields → Bool
 has_fields none = false
 has_fields (scalar name kind bytes rest) = true
@@ -100,6 +103,7 @@ abbrev pub is_zero : ℤ → Bool
 is_zero (pos n) = n == 0
 is_zero number = false
 
+-- the name of the first field of a node that a subgraph node can't have
 abbrev pub bad_field_of : NodeView → Option (List ℕ)
 bad_field_of node =
     if has_fields node.options then Some (codes "options") else
@@ -113,10 +117,11 @@ bad_field_at owner n node file = option_map (BadField owner n) (bad_field_of nod
 abbrev pub bad_field : GraphView → List GraphView → Option ExpandFault
 bad_field = owned_fault bad_field_at
 
--- the first port of a node that the file hasn't
+-- the first of the given ports whose tag and index no port of a file has
 abbrev pub port_beyond : List Port → List Port → Option Port
 port_beyond given ports = find (λ port. not (has_port port.tag port.index ports)) given
 
+-- the first port of a node that the file hasn't
 abbrev pub missing_port : NodeView → GraphView → Option Port
 missing_port node file =
     option_or (port_beyond node.inputs file.inputs) (option_or (port_beyond node.outputs file.outputs)

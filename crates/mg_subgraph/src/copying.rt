@@ -1,4 +1,4 @@
-//! Second copies of nodes and of what graphs and nodes have.
+//! Copies of nodes, and of the lists of ports that graphs and nodes have.
 ghost use Rattle.std.specs.Prelude.{◌≡◌, IfOk};
 ghost use Rattle.mg_config.specs.Config.{node_view};
 
@@ -7,7 +7,7 @@ use mg_names::PortMap;
 use mg_value::{BlockList, MgText};
 use std::alloc::{AllocError, Global};
 
-/// The lists of ports of a graph or a node.
+/// The four lists of ports that a graph or a node has.
 #[derive(Debug, Drop)]
 pub struct PortLists {
     pub inputs: PortMap,
@@ -31,7 +31,7 @@ fn two_of(alloc: Global, first: &PortMap, second: &PortMap) -> Result<TwoLists, 
     Ok(TwoLists { first, second })
 }
 
-/// Second copies of lists of ports.
+/// Returns copies of four lists of ports.
 pub fn lists_of(
     alloc: Global,
     inputs: &PortMap,
@@ -83,7 +83,7 @@ fn texts_of(alloc: Global, node: &NodeConfig) -> Result<Texts, AllocError>
     })
 }
 
-/// A second copy of a node.
+/// Returns a copy of a node.
 pub fn copy_of(alloc: Global, node: &NodeConfig) -> Result<NodeConfig, AllocError>
     ensures { IfOk result (λ copy. node_view copy ≡ node_view node.now) }
 {

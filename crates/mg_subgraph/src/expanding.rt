@@ -17,7 +17,8 @@ use crate::shared::FileNames;
 use mg_config::NodeConfig;
 use std::alloc::{AllocError, Global};
 
-/// A library whose files have been judged, with the names at their ports and the number of nodes that each comes to.
+/// A library whose files have been judged, with the names at their ports, and for each file, where it is known, the
+/// number of nodes that it expands to.
 #[derive(Drop)]
 pub struct Judged<'a> {
     pub library: &'a Library<'a>,
@@ -28,7 +29,7 @@ pub struct Judged<'a> {
     ghost sized: { AreSizes (map graph_view library.now.files.now) sizes.now },
 }
 
-/// Whether the file at a place is known to come to no node. What uses it then costs nothing.
+/// Whether the file at a place is known to expand to no nodes, so that a node that uses it costs no work.
 fn is_empty(judged: &Judged, place: usize) -> bool
     requires { place < length judged.now.library.now.files.now }
     ensures { result ≡ true → slice_get judged.now.sizes.now place ≡ Some (Some 0) }
@@ -39,7 +40,7 @@ fn is_empty(judged: &Judged, place: usize) -> bool
     }
 }
 
-/// Adds nodes of a file under their new names.
+/// Appends nodes of a file under the names that they get where it is used.
 fn rename_all(
     alloc: Global,
     out: &mut Vec<NodeConfig>,
@@ -97,7 +98,7 @@ fn expand_node(
     }
 }
 
-/// The expanded nodes of a list of nodes.
+/// Returns the expanded nodes of a list of nodes.
 #[cycle(expanding)]
 pub fn expanded(
     alloc: Global,

@@ -23,7 +23,7 @@ use mg_config::GraphConfig;
 use mg_value::BlockList;
 use std::alloc::{AllocError, Global};
 
-/// Which files are used, and how many nodes each of them comes to.
+/// For each file whether it is used, and, where it is known, the number of nodes that it expands to.
 #[derive(Drop)]
 struct Survey {
     used: Vec<bool>,
@@ -129,11 +129,11 @@ fn expand_in(
     Ok(build(alloc, main, &judged)?)
 }
 
-/// The graph with the nodes of library files in the place of the nodes that use them (MediaPipe, Graphs: subgraphs). A
-/// node whose calculator is the type of a file uses that file. What stands at a port of the file gets the name at the
-/// node's port of the same tag and index; every other name of the file gets the prefix `s<n>__`, n being the number of
-/// the node. The refusals are looked for in the order in which `ExpandFault` has them. The graph and the files stay as
-/// they are.
+/// Returns the graph with the nodes of library files in the place of the nodes that use them (MediaPipe, Graphs:
+/// subgraphs). A node whose calculator is the type of a file uses that file. What stands at a port of the file that the
+/// node connects gets the name at the node's port of the same tag and index; every other name of the file that isn't
+/// empty gets the prefix `s<n>__`, n being the number of the node. The refusals are looked for in the order in which
+/// `ExpandFault` has them. The graph and the files stay as they are.
 pub fn expand(
     alloc: Global,
     main: &GraphConfig,
@@ -142,7 +142,7 @@ pub fn expand(
     ensures ok { IfOk result (λ graph. expansion_of (graph_view main.now) (map graph_view library.now) ≡ Ok (graph_view graph)) }
     ensures err { IfErr result (λ fault. fault ≢ ExpandFault.OutOfMemory → expansion_of (graph_view main.now) (map graph_view library.now) ≡ Err fault) }
 
-    // So it can be written and read back, and printed, where all that comes in can.
+    // Where the graph and all files can be written and read back, so can the expanded graph, and it can be printed where all of them can.
     ensures sound { IfOk result (λ graph. IsSound (graph_view main.now) → All (λ file. IsSound (graph_view file)) library.now → IsSound (graph_view graph)) }
     ensures printable { IfOk result (λ graph. IsPrintable (graph_view main.now) → All (λ file. IsPrintable (graph_view file)) library.now → IsPrintable (graph_view graph)) }
 {

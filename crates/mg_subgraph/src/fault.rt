@@ -15,7 +15,7 @@ pub enum ExpandFault {
     TypeTwice {
         name: MgText,
     },
-    /// A type uses itself, directly or not.
+    /// A file that is used uses itself, directly or not.
     #[error("the type {} uses itself", .name.as_str())]
     Recursive {
         name: MgText,
@@ -23,12 +23,13 @@ pub enum ExpandFault {
     /// There would be more than 4,096 nodes.
     #[error("there are too many nodes")]
     TooManyNodes,
-    /// There is a subgraph node, and a name begins with `s`, digits and `__`, as those that expansion makes.
+    /// There is a subgraph node, and the graph or a used file has a name that begins with `s`, digits and `__`, as
+    /// those that expansion makes do.
     #[error("the name {} is reserved", .name.as_str())]
     ReservedName {
         name: MgText,
     },
-    /// A name stands at two ports of a file, so a node that uses the file could connect it twice.
+    /// A name stands at two ports of a used file, so a node that uses the file could connect it twice.
     #[error("the name {} stands at two ports of {}", .name.as_str(), .owner.as_str())]
     PortShared {
         owner: MgText,

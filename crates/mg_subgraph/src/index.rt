@@ -5,7 +5,7 @@ use mg_index::NameTable;
 use std::alloc::AllocError;
 use std::borrow::CowStr;
 
-/// Adds the text at a place, which is the next behind those of a table's texts. The empty text is no name.
+/// Adds the text at a place to the table of the texts before it. The empty text is no name: it isn't added, but keeps its place.
 pub fn add_text<'a>(
     table: &mut NameTable<'a>,
     text: &'a str,

@@ -15,7 +15,7 @@ pub fn expansion_is_recursive()
     ensures { (main : GraphView) (library : List GraphView) → recursive main library ≡ None → expanded library main.nodes ≡ all_replaced (expanded library) library 0 main.nodes }
 {}
 
-/// Nothing is left: what was expanded, expanded again with the same files, is itself.
+/// An expanded graph has no subgraph node left: expanded again with the same files, it stays as it is.
 pub fn nothing_is_left()
     ensures { (main graph : GraphView) (library : List GraphView) → expansion_of main library ≡ Ok graph → expansion_of graph library ≡ Ok graph }
 {}
@@ -26,16 +26,17 @@ pub fn owners_are_free()
     ensures { (main graph : GraphView) (library : List GraphView) → expansion_of main library ≡ Ok graph → list_any (is_subgraph library) main.nodes ≡ true → All IsFree (main ∷ used_files main library) }
 {}
 
-/// Names stay apart: of one subgraph node, two inner names become different outer names, unless both stand at ports to
-/// which the node connects the same name.
+/// Where a graph has no name of the form that expansion makes, two names of a file that one of its nodes uses become
+/// different ones, unless both stand at ports to which the node connects the same name. Two names of nodes always
+/// become different ones.
 pub fn names_stay_apart()
     ensures streams { (owner file : GraphView) (n : ℕ) (node : NodeView) → IsFree owner → slice_get owner.nodes n ≡ Some node → StayApart (names.outer_stream node file) (names.stream_name n node file) }
     ensures sides { (owner file : GraphView) (n : ℕ) (node : NodeView) → IsFree owner → slice_get owner.nodes n ≡ Some node → StayApart (names.outer_side node file) (names.side_name n node file) }
     ensures nodes { (n : ℕ) (first second : List ℕ) → names.node_name n first ≡ names.node_name n second → first ≡ second }
 {}
 
-/// An inner name that stands at no connected port becomes a name that the enclosing graph doesn't have, and so does a
-/// node's name that isn't empty.
+/// Where a graph has no name of the form that expansion makes, a name of a file that stands at no port which the node
+/// connects becomes one that the graph doesn't have, and so does a node's name that isn't empty.
 pub fn names_are_new()
     ensures streams { (owner file : GraphView) (n : ℕ) (node : NodeView) → IsFree owner → AreNew (names.outer_stream node file) (names.stream_name n node file) owner }
     ensures sides { (owner file : GraphView) (n : ℕ) (node : NodeView) → IsFree owner → AreNew (names.outer_side node file) (names.side_name n node file) owner }

@@ -1,5 +1,5 @@
 //! Expansion of subgraphs: a node whose calculator is the type of a library file is replaced by the nodes of that file.
-//! `expand` answers to `expansion_of` of specs/, the expanded graph or its first refusal.
+//! `expand` returns the expanded graph or its first refusal, `expansion_of` of specs/.
 #![tactic(auto)]
 
 mod copying;

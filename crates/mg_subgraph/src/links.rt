@@ -55,7 +55,7 @@ impl Found {
     }
 }
 
-/// The places of the files that nodes use, each once.
+/// Returns the places of the files that nodes use directly, each once.
 pub fn links_of(
     alloc: Global,
     library: &Library,
@@ -73,7 +73,7 @@ pub fn links_of(
     Ok(found.places)
 }
 
-/// The places of the files that each file uses.
+/// Returns for each file the places of the files that it uses directly.
 pub fn all_links(alloc: Global, library: &Library) -> Result<Vec<Vec<usize>>, AllocError>
     ensures { IfOk result (λ links. AreLinks (files_of library.now) (map (λ list. list.items) links.items)) }
 {
@@ -84,7 +84,7 @@ pub fn all_links(alloc: Global, library: &Library) -> Result<Vec<Vec<usize>>, Al
     Ok(links)
 }
 
-/// Whether each file is used, directly or not, where these are used directly.
+/// Returns for each file whether it is used, directly or not, where the files at `start` are used directly.
 pub fn reach(alloc: Global, links: &[Vec<usize>], start: &[usize]) -> Result<Vec<bool>, AllocError>
     requires links { AreClosed (map (λ list. list.items) links.now) }
     requires start { AreWithin (map (λ list. list.items) links.now) start.now }

@@ -1,4 +1,4 @@
-//! What a subgraph node can't have.
+//! The checks of subgraph nodes: they have no fields that only calculators have, and connect only ports that their files have.
 ghost use Rattle.std.specs.Prelude.{◌≡◌, ◌≢◌, [], None, Some, IfOk, IfErr, OnOk, map, codes, option_map, option_copied, not, length};
 ghost use Rattle.std.specs.Option.{option_or};
 ghost use Rattle.mg_config.specs.Config.{node_view, graph_view};
@@ -16,12 +16,12 @@ use mg_text::Tree;
 use mg_value::MgText;
 use std::alloc::{AllocError, Global};
 
-/// What is asked of subgraph nodes.
+/// A rule that all subgraph nodes have to keep.
 #[derive(Clone, Copy, Debug)]
 pub enum Check {
-    /// None has a field that only calculators have.
+    /// No subgraph node has a field that only calculators have.
     Fields,
-    /// None connects a port that its file hasn't.
+    /// No subgraph node connects a port that its file hasn't.
     Ports,
 }
 
@@ -43,7 +43,7 @@ fn is_given(number: i32) -> bool
     number != 0
 }
 
-/// The first of the fields that only calculators have.
+/// Returns the name of the first field of a node that only calculators have, or none where the node has no such field.
 fn bad_field(node: &NodeConfig) -> Option<&'static str>
     ensures { option_copied result ≡ refusals.bad_field_of (node_view node.now) }
 {
@@ -60,7 +60,7 @@ fn bad_field(node: &NodeConfig) -> Option<&'static str>
     }
 }
 
-/// The first port that other ports don't have.
+/// Returns the first of the given ports whose tag and index none of the other ports has, if there is one.
 fn port_beyond<'a>(given: &'a PortMap, ports: &PortMap) -> Option<&'a Port>
     ensures { option_copied result ≡ refusals.port_beyond given.now ports.now }
 {
@@ -186,8 +186,7 @@ fn check_files(
     Ok(())
 }
 
-/// Looks for a subgraph node that has what it can't have, in the graph, which is called `main`, and then in the files
-/// that it uses.
+/// Refuses the first subgraph node that breaks a rule, in the graph, which is called `main`, and then in the files that it uses.
 pub fn check_subgraphs(
     alloc: Global,
     check: Check,

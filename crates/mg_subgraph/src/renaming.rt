@@ -15,7 +15,8 @@ use mg_names::{Port, PortMap};
 use mg_value::MgText;
 use std::alloc::{AllocError, Global};
 
-/// How the ports of a node meet those of its file, for streams or for side packets.
+/// The ports of a file, with a table of the names there, and the ports that a node which uses the file has been given,
+/// for streams or for side packets.
 #[derive(Drop)]
 struct Joint<'a> {
     names: &'a NameTable<'a>,
@@ -27,7 +28,7 @@ struct Joint<'a> {
     ghost once: { first_twice (port_names inputs.now ++ port_names outputs.now) ≡ None },
 }
 
-/// A node that uses a file.
+/// The new names that a file's nodes, streams and side packets get where a node uses the file.
 #[derive(Drop)]
 pub struct Use<'a> {
     prefix: MgText,
@@ -41,7 +42,7 @@ fn prefixed(alloc: Global, prefix: &MgText, name: &MgText) -> Result<MgText, All
     Ok(MgText::from_string(format!(in alloc; "{}{}", prefix.as_str(), name.as_str())?))
 }
 
-/// The name at the port of the same tag and index.
+/// Returns the name at that of the given ports which has the tag and index of a port, if one has.
 fn name_at<'a>(given: &'a PortMap, port: &Port) -> Option<&'a MgText>
     ensures { option_copied result ≡ option_map (λ outer. outer.name) (find (is_at port.now.tag port.now.index) given.now) }
 {
@@ -57,7 +58,7 @@ fn name_at<'a>(given: &'a PortMap, port: &Port) -> Option<&'a MgText>
 impl<'a> Joint<'a> {
     ghost use Rattle.mg_subgraph.specs.Code.Joints.{new_name};
 
-    /// The name at the node's port that meets the port at a place.
+    /// Returns the name at the node's port of the same tag and index as the file's port at a place, if the node connects that port.
     fn name_beside(&self, place: usize) -> Option<&'a MgText>
         ensures { (port : Port) → slice_get (self.now.inputs.now ++ self.now.outputs.now) place ≡ Some port
             → option_copied result ≡ option_map (λ outer. outer.name) (find (is_at port.tag port.index) (if nat_lt place (length self.now.inputs.now) then self.now.given_in.now else self.now.given_out.now)) }
@@ -119,7 +120,7 @@ impl<'a> Joint<'a> {
 impl<'a> Use<'a> {
     ghost use Rattle.mg_subgraph.specs.Code.Joints.{IsUse, new_name};
 
-    /// The node with the number n uses a file.
+    /// Returns the new names where the node with the number `n` uses a file.
     pub fn new(
         alloc: Global,
         n: usize,
@@ -191,7 +192,7 @@ impl<'a> Use<'a> {
         })
     }
 
-    /// A node of the file under its new names.
+    /// Returns a node of the file under its new names.
     pub fn renamed(&self, alloc: Global, inner: NodeConfig) -> Result<NodeConfig, AllocError>
         ensures { IfOk result (λ new. (n : ℕ) (node : NodeView) (file : GraphView) → IsUse self.now n node file → node_view new ≡ names.renamed n node file (node_view inner)) }
     {

@@ -1,4 +1,4 @@
-//! The names at the ports of files, and those that stand at two.
+//! The names at the ports of files, and the check that none stands at two ports of a file.
 ghost use Rattle.std.specs.Prelude.{◌≡◌, ◌≢◌, ℕ, ◌+◌, ◌<◌, ◌^◌, ◌++◌, List, None, Some, IfOk, IfErr, OnOk, map, option_map, option_copied, length, slice_get};
 ghost use Rattle.mg_config.specs.Config.{graph_view};
 ghost use Rattle.mg_subgraph.specs.Code.Index.{IsIndex};
@@ -13,8 +13,8 @@ use mg_names::{Port, PortMap};
 use mg_value::MgText;
 use std::alloc::{AllocError, Global};
 
-/// The places of the names at the ports of a file: those of streams, and those of side packets. The ports that come in
-/// stand before those that go out.
+/// The names at the ports of a file with their places: those of streams, and those of side packets. The places of ports
+/// that come in are before those of ports that go out.
 #[derive(Drop)]
 pub struct FileNames<'a> {
     pub streams: NameTable<'a>,
@@ -59,7 +59,7 @@ fn names_in<'a>(alloc: Global, file: &'a GraphConfig) -> Result<FileNames<'a>, A
     Ok(FileNames { streams, sides })
 }
 
-/// The names at the ports of each file.
+/// Returns for each file the names at its ports.
 pub fn names_of<'a>(
     alloc: Global,
     files: &'a [GraphConfig],
@@ -73,7 +73,7 @@ pub fn names_of<'a>(
     Ok(names)
 }
 
-/// The port at a place, where those that come in stand before those that go out.
+/// Returns the port at a place, where the ports that come in stand before those that go out.
 pub fn port_at<'a>(inputs: &'a PortMap, outputs: &'a PortMap, place: usize) -> Option<&'a Port>
     ensures { option_copied result ≡ slice_get (inputs.now ++ outputs.now) place }
 {
@@ -98,7 +98,7 @@ fn shared_port<'a>(file: &'a GraphConfig, names: &FileNames) -> Option<&'a Port>
     }
 }
 
-/// Looks for a name that stands at two ports of a file that is used.
+/// Refuses the first used file in which a name stands at two ports.
 pub fn check_shared(
     alloc: Global,
     files: &[GraphConfig],

@@ -1,4 +1,4 @@
-//! How many nodes there are after expansion. Each file is counted once, and no count goes far past the limit.
+//! How many nodes there are after expansion. The nodes of each file are counted once, and a count stops at one more than the limit.
 ghost use Rattle.std.specs.Prelude.{◌≡◌, ◌≢◌, ◌+◌, ◌≤◌, ◌<◌, [], ◌∷◌, None, Some, IfOk, IfErr, OnOk, map, length, min, vec_len};
 ghost use Rattle.mg_config.specs.Config.{node_view, graph_view};
 ghost use Rattle.mg_subgraph.specs.Expanded.{replaced, expanded};
@@ -15,7 +15,7 @@ use std::alloc::{AllocError, Global};
 /// How many nodes a graph may have after expansion.
 const MAX_NODES: u32 = 4096;
 
-/// The nodes of two parts, as far as they count.
+/// Returns the sum of two counts, or one more than the limit where the sum is above the limit.
 fn sum(first: u32, second: u32) -> u32
     requires first { first ≤ max_nodes + 1 }
     requires second { second ≤ max_nodes + 1 }
@@ -60,7 +60,7 @@ fn node_size(library: &Library, sizes: &mut [Option<u32>], node: &NodeConfig) ->
     }
 }
 
-/// How many nodes there are after expansion.
+/// Returns how many nodes a list of nodes expands to, or one more than the limit where they are more than the limit.
 #[cycle(sizes)]
 fn nodes_size(library: &Library, sizes: &mut [Option<u32>], nodes: &[NodeConfig]) -> u32
     requires room { length sizes.old ≡ length library.now.files.now }
@@ -76,7 +76,7 @@ fn nodes_size(library: &Library, sizes: &mut [Option<u32>], nodes: &[NodeConfig]
     total
 }
 
-/// The number of nodes that each used file comes to, unless the graph comes to too many.
+/// Returns for each file that was counted the number of nodes that it expands to, or refuses a graph that expands to too many.
 pub fn sizes_of(
     alloc: Global,
     main: &GraphConfig,

@@ -23,7 +23,7 @@ fn leads_back(alloc: Global, links: &[Vec<usize>], place: usize) -> Result<bool,
     Ok(flags[place])
 }
 
-/// The first place of a file that is used and uses itself, directly or not.
+/// Returns the first place of a file that is used and uses itself, directly or not, or none where there is no such file.
 fn recursive_place(
     alloc: Global,
     links: &[Vec<usize>],
@@ -44,7 +44,7 @@ fn recursive_place(
     Ok(None)
 }
 
-/// Which files are used, and the first of them that uses itself.
+/// For each file whether it is used, and the place of the first used file that uses itself, if there is one.
 #[derive(Drop)]
 struct Walked {
     used: Vec<bool>,
@@ -63,7 +63,7 @@ fn walk(alloc: Global, links: &[Vec<usize>], start: &[usize]) -> Result<Walked, 
     Ok(Walked { used, cycle })
 }
 
-/// Whether each file of a library is used by a graph, directly or not, unless one of them uses itself.
+/// Returns for each file of a library whether a graph uses it, directly or not, or refuses a used file that uses itself.
 pub fn used_by(
     alloc: Global,
     main: &GraphConfig,

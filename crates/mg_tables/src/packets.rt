@@ -6,7 +6,7 @@ use std::alloc::Global;
 use std::sync::Arc;
 use std::test::Fail;
 
-/// The timestamp with this text, also a special value that no packet carries.
+/// Returns the timestamp with this text, which may be a special value that no packet carries.
 pub fn time_of(alloc: Global, text: &str) -> Result<Timestamp, Fail> {
     if let Some(time) = Timestamp::read_text(text.as_bytes()) {
         return Ok(time);
@@ -19,12 +19,12 @@ pub fn time_of(alloc: Global, text: &str) -> Result<Timestamp, Fail> {
     Err(Fail::from("no timestamp"))
 }
 
-/// The text of a timestamp.
+/// Returns the text of a timestamp.
 pub fn text_of(alloc: Global, time: Timestamp) -> Result<String, Fail> {
     Ok(String::from_utf8(time.print_text(alloc)?)?)
 }
 
-// The packet of a timestamp and a number.
+// Makes a packet from the texts of a timestamp and of a number.
 fn packet_with(alloc: Global, at: &str, number: &str) -> Result<Packet, Fail> {
     Ok(Packet {
         at: time_of(alloc, at)?,
@@ -32,25 +32,25 @@ fn packet_with(alloc: Global, at: &str, number: &str) -> Result<Packet, Fail> {
     })
 }
 
-/// The packet of a timestamp and a number, with a blank between them.
+/// Reads a packet from a timestamp and a number with a blank between them.
 pub fn packet_of(alloc: Global, text: &str) -> Result<Packet, Fail> {
     let (at, number) = text.split_once(' ').ok_or("no packet")?;
     packet_with(alloc, at, number)
 }
 
-/// The packet of a number and a timestamp, with `@` between them.
+/// Reads a packet from a number and a timestamp with `@` between them.
 pub fn packet_at(alloc: Global, text: &str) -> Result<Packet, Fail> {
     let (number, at) = text.split_once('@').ok_or("no packet")?;
     packet_with(alloc, at, number)
 }
 
-/// The number and the timestamp of a packet, as `packet_at` reads them. The number of a payload that is none is the least one.
+/// Writes the number and the timestamp of a packet, as `packet_at` reads them. A payload that is no number is written as -2^63.
 pub fn show_packet_at(alloc: Global, packet: &Packet) -> Result<String, Fail> {
     let at = text_of(alloc, packet.at)?;
     Ok(format!(in alloc; "{}@{}", number_of(packet), at.as_str())?)
 }
 
-// The packet that stands at a port, or `-`.
+// Writes the packet at a port, or `-` where there is none.
 fn show_place(alloc: Global, place: Option<&Packet>) -> Result<String, Fail> {
     match place {
         None => Ok(String::from_str(alloc, "-")?),
@@ -58,7 +58,7 @@ fn show_place(alloc: Global, place: Option<&Packet>) -> Result<String, Fail> {
     }
 }
 
-/// The packets at the ports of a set, as `show_packet_at` writes them, with blanks between them. A port without a packet shows
+/// Writes the packets at the ports of a set as `show_packet_at` does, with blanks between them. A port without a packet is written
 /// as `-`.
 pub fn show_set_at(alloc: Global, set: &InputSet) -> Result<String, Fail> {
     let mut shown = String::new(alloc);

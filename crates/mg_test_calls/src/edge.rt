@@ -1,4 +1,4 @@
-//! Sources, sinks and stores over the system, and a slow sink: what a row of calls answers.
+//! Tests of sources, sinks and stores over the system, and of a slow sink: rows of calls with their answers.
 
 ghost use Rattle.std.specs.Prelude.{IfOk, ◌≤◌};
 
@@ -11,7 +11,7 @@ use std::io::{Cursor, ErrorKind, Read, Write};
 use std::test::Fail;
 use std::{fs, io};
 
-// Answers each call by its number: two that a signal interrupts, one byte, none, and then errors.
+// A reader and a writer that answers each call by its number: a signal interrupts two, then come one byte, no byte, and errors.
 #[derive(Drop)]
 struct Moody {
     calls: u8,
@@ -47,7 +47,7 @@ impl Write for Moody {
     }
 }
 
-// The answer of a read with room for so many bytes, 8 at most.
+// Shows the answer of a read with room for so many bytes, from 1 to 8.
 fn show_read(alloc: Global, source: &mut impl Source, room: usize) -> Result<String, Fail> {
     let mut buf = [0u8; 8];
     if room == 0 || room > 8 {
@@ -60,6 +60,7 @@ fn show_read(alloc: Global, source: &mut impl Source, room: usize) -> Result<Str
     }
 }
 
+// Shows the answer of a write.
 fn show_write(alloc: Global, sink: &mut impl Sink, piece: &str) -> Result<String, Fail> {
     if piece.is_empty() {
         return Err(Fail::from("no piece"));
@@ -70,7 +71,7 @@ fn show_write(alloc: Global, sink: &mut impl Sink, piece: &str) -> Result<String
     }
 }
 
-// Of more than 8 bytes their number.
+// Shows the answer of a load. Of more than 8 bytes it shows how many they are.
 fn show_load(alloc: Global, store: &mut impl Store, name: &str) -> Result<String, Fail> {
     match store.load(alloc, name) {
         Loaded::Bytes(bytes) if bytes.len() > 8 => Ok(format!(in alloc; "{}", bytes.len())?),

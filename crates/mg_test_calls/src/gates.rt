@@ -1,9 +1,9 @@
-//! The gate at which two calls meet: beside each other they do, and one after the other they don't.
+//! Tests of the gate at which two calls meet: beside each other they do, and one after the other they don't.
 use mg_edge::{Gate, MeetGate};
 use std::test::*;
 use std::thread::join;
 
-// A call through a gate.
+// Makes a call through a gate.
 fn call(gate: &MeetGate, node: u32, number: u64) {
     gate.enter(node, number);
     gate.leave(node, number);

@@ -1,4 +1,4 @@
-//! Tables of names: the names by number with the place at which each stands first, and the first that stands again.
+//! Tests of tables of names: the names by number with the place at which each stands first, and the first that stands again.
 
 use mg_index::NameTable;
 use mg_tables::{Calls, assert_rows};
@@ -16,7 +16,7 @@ a b c c b=a 0 b 1 c 2 |1
 aa a aaa a=aa 0 a 1 aaa 2 |1"
 }
 
-// A name that is lent to its table, or the table's own.
+// Returns a name that is lent to its table, or that the table owns.
 fn kept<'a>(alloc: Global, name: &'a str, lent: bool) -> Result<CowStr<'a>, AllocError> {
     if lent {
         return Ok(CowStr::Borrowed(name));
@@ -24,7 +24,7 @@ fn kept<'a>(alloc: Global, name: &'a str, lent: bool) -> Result<CowStr<'a>, Allo
     Ok(CowStr::Owned(String::from_str(alloc, name)?))
 }
 
-// Names in turn are lent and the table's own.
+// Makes the table of the texts of a row. Each name at an even place is lent to it, and the others are its own.
 fn table_of<'a>(alloc: Global, texts: &'a str) -> Result<NameTable<'a>, AllocError> {
     let mut table = NameTable::new(alloc);
     for (place, text) in texts.split(' ').enumerate() {

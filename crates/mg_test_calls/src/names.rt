@@ -1,4 +1,4 @@
-//! Ports: their spellings, the ports of lists of texts, and the texts of ports.
+//! Tests of ports: their spellings, the ports of lists of texts, and the texts of ports.
 
 use mg_names::{Port, PortMap, print_port, read_port};
 use mg_tables::{Calls, assert_rows};
@@ -6,7 +6,7 @@ use mg_value::MgText;
 use std::alloc::{AllocError, Global};
 use std::test::Fail;
 
-// One text a row, and after `=` its tag, its index or `-`, and its name, or the fault.
+// Rows of a text, and after `=` its tag, its index or `-`, and its name, or the fault.
 fn spellings() -> &'static str {
     "a=|-|a
 _=|-|_
@@ -83,7 +83,7 @@ A:64:a a:b=BadIndex
 a:b A:64:a=BadTag"
 }
 
-// A tag, an index, and the text of the port of that tag and index with the name `b`.
+// Rows of a tag and an index, and after `=` the text of the port of that tag and index with the name `b`.
 fn ports() -> &'static str {
     " 7=b
 T 0=T:b
@@ -156,7 +156,7 @@ impl Calls for ManyTexts {
     }
 }
 
-// So many copies of `a`, and then another text.
+// Returns `count` copies of `a`, and then another text, with blanks between.
 fn untagged_and(alloc: Global, count: u32, last: &str) -> Result<String, AllocError> {
     let mut spelled = String::new(alloc);
     for _ in 0..count {

@@ -1,4 +1,4 @@
-//! Payloads: from JSON values and back, and their kinds.
+//! Tests of payloads: from JSON values and back, and their kinds.
 
 use mg_value::{Kind, Payload, from_json, has_kind, to_json};
 use serde_json::Value;
@@ -6,7 +6,7 @@ use std::alloc::{AllocError, Global};
 use std::process::Abort;
 use std::test::Fail;
 
-// The kind of a payload and what is written of it, or the first fault of the value, and after ` <- ` the value.
+// Rows of the kind of a payload and what is written of it, or the first fault of the value, and after ` <- ` the value.
 fn values() -> &'static str {
     r#"Flag true <- true
 Flag false <- false
@@ -66,7 +66,7 @@ fn read(alloc: Global, text: &str) -> Result<Value, Fail> {
     Ok(Value::from_str(alloc, text).map_err(|_| "no JSON")?)
 }
 
-// The kinds of a payload beside Any.
+// Returns the kinds that a payload is of, other than Any.
 fn kinds_of(alloc: Global, payload: &Payload) -> Result<String, AllocError> {
     let mut names = String::new(alloc);
     for kind in [Kind::Flag, Kind::Int, Kind::Text, Kind::Items, Kind::Record] {

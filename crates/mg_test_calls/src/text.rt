@@ -1,4 +1,4 @@
-//! The text form: where a text stops being one, and what is written of it.
+//! Tests of the text form: where a text stops being one, and what is written of it.
 
 use mg_tables::{Calls, assert_rows};
 use mg_text::{TextFault, parse, print};
@@ -6,8 +6,8 @@ use percent_encoding::percent_decode;
 use std::alloc::{AllocError, Global};
 use std::test::Fail;
 
-// Reading, and after `=` the place where each stops being the start of one, or `ok`. A byte that can't stand here is
-// written `%` and its two digits.
+// Rows of a text, and after `=` the place where it stops being the start of a text in the text form, or `ok`. A byte that can't stand
+// here is written `%` and its two digits.
 fn files() -> &'static str {
     r#"=ok
  %09%0d%0a%0b%0c=ok
@@ -152,7 +152,8 @@ a:1 -=4
 a-1=1"#
 }
 
-// Two pieces, of which so many copies of the first and then of the second are the text, and what comes of it.
+// Rows of two pieces and a number: the text is so many copies of the first, or none of `-`, and then of the second. After `=`
+// stands what it is read as.
 fn depths() -> &'static str {
     "a{ - 65=TooDeep@129
 a{ } 64=ok
@@ -163,7 +164,7 @@ a{b:1} - 65=ok
 a{ $ 64=128"
 }
 
-// A text, and after `=` its canonical text.
+// Rows of a text, and after `=` its canonical text.
 fn canonical_texts() -> &'static str {
     r#"a:1 b<c:"x">=a: 1%0ab {%0a  c: "x"%0a}%0a
 =
@@ -201,7 +202,7 @@ q: \"\\177\"
 "
 }
 
-// The bytes that a text of a row stands for.
+// Returns the bytes that a text of a row stands for.
 fn bytes_of(alloc: Global, text: &str) -> Result<Vec<u8>, AllocError> {
     let mut bytes = Vec::new(alloc);
     percent_decode(text.as_bytes()).append_to(&mut bytes)?;
@@ -263,13 +264,13 @@ fn texts_are_read_up_to_their_first_fault(rt: HostRuntime) -> Result<(), Fail> {
     assert_rows(alloc, &mut Nesting, depths())
 }
 
-// What is written of a text, by a copy of its tree.
+// Reads a text, and writes a copy of its tree.
 fn written(alloc: Global, text: &[u8]) -> Result<Vec<u8>, TextFault> {
     let tree = parse(alloc, text)?;
     Ok(print(alloc, &tree.try_clone()?)?)
 }
 
-// A text with `%0a` for each line feed, as a row has it.
+// Returns a text with `%0a` for each line feed, as a row has it.
 fn in_one_line(alloc: Global, text: &str) -> Result<String, AllocError> {
     let mut shown = String::new(alloc);
     for (i, line) in text.split('\n').enumerate() {
@@ -285,7 +286,7 @@ fn in_one_line(alloc: Global, text: &str) -> Result<String, AllocError> {
 struct Writing;
 
 impl Calls for Writing {
-    // What is written is written the same when it has been read.
+    // Writes a text, and fails where that isn't written the same again once it is read.
     fn answer(&mut self, alloc: Global, call: &str) -> Result<String, Fail> {
         let once = written(alloc, bytes_of(alloc, call)?.as_slice())?;
         if written(alloc, once.as_slice())?.as_slice() != once.as_slice() {

@@ -1,11 +1,11 @@
-//! Timestamps: their numbers and texts, what may follow a packet at each, and shifts.
+//! Tests of timestamps: their numbers and texts, what may follow a packet at each, and shifts.
 
 use mg_tables::{Calls, assert_rows, text_of, time_of};
 use mg_time::Timestamp;
 use std::alloc::Global;
 use std::test::Fail;
 
-// The special values, as the framework's page on timestamps has them: the number, the number of what may follow a packet
+// Rows of the special values, as the framework's page on timestamps has them: the number, the number of what may follow a packet
 // there, whether it is in the range, and whether a packet may stand there.
 fn special_values() -> &'static str {
     "Unset=-9223372036854775808 -9223372036854775807 false false
@@ -18,7 +18,7 @@ OneOverPostStream=9223372036854775806 9223372036854775806 false false
 Done=9223372036854775807 9223372036854775806 false false"
 }
 
-// A timestamp, an offset, and the timestamp that the shift gives.
+// Rows of a timestamp and an offset, and after `=` the timestamp that the shift gives.
 fn shifts() -> &'static str {
     "10 -5=5
 -3 3=0
@@ -32,7 +32,7 @@ PostStream -7=PostStream
 Done -7=Done"
 }
 
-// A text, and after `=` the number of the timestamp that it is read as, if there is one.
+// Rows of a text, and after `=` the number of the timestamp that it is read as, if there is one.
 fn texts() -> &'static str {
     "PreStream=-9223372036854775806
 PostStream=9223372036854775805

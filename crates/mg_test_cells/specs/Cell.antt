@@ -23,6 +23,7 @@ held_of node = record (own_told node) { handed = is_some node.box_number }
 abbrev pub KeepsAll : EngineView → Type 0
 KeepsAll engine = All (λ n. n ≡ 0) (map (λ b. b.gone) engine.outputs)
 
+-- the parts of a cell as the tests drive it are lawful for its job, agree, and have given up no packet
 pub record IsCell (plan : Plan) (inputs : Inputs) (engine : EngineView) (intake sink : IntakeView) : Type 0 where
   pub is_job : IsJob (record { plan = plan; inputs = inputs })
   pub lawful_engine : LawfulEngine (job_of plan inputs) (of_node 0) engine

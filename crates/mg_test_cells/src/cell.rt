@@ -1,4 +1,4 @@
-//! The cell of a plan's first node, and how it is made.
+//! The cell of a plan's first node, and making it.
 ghost use Rattle.std.specs.Prelude.{◌≡◌, ◌<◌, ◌≤◌, length, slice_get, Some, None, IfOk, OnOk, [], true, All};
 ghost use Rattle.mg_calc.specs.Shape.{IsOuter, IsServed, ParametersFit, IsShapeOf};
 ghost use Rattle.mg_calc.specs.Plan.{IsValid, InputsFit};
@@ -39,7 +39,7 @@ fn is_outer(law: &Law) -> bool
     }
 }
 
-// A box of the law of a node.
+// Returns a box that works by the law of a node.
 fn box_of(alloc: Global, node: &PlanNode) -> Result<LawBox, Fail>
     requires ranges { ParametersFit node.now.law }
     requires of_law { IsShapeOf node.now.law node.now.shape }
@@ -56,7 +56,7 @@ fn box_of(alloc: Global, node: &PlanNode) -> Result<LawBox, Fail>
     Ok(LawBox::new(alloc, outer, false)?)
 }
 
-// A calculator of a node: a box where one is handed in, which tells no log.
+// Returns a calculator for a node: a box where one is handed in, which keeps no log, and else one by the node's law.
 fn calculator_of(alloc: Global, node: &PlanNode) -> Result<Holder<LawBox>, Fail>
     requires ranges { ParametersFit node.now.law }
     requires of_law { IsShapeOf node.now.law node.now.shape }
@@ -69,7 +69,7 @@ fn calculator_of(alloc: Global, node: &PlanNode) -> Result<Holder<LawBox>, Fail>
     Ok(Holder::own(Builtin::new(alloc, &node.law, &node.shape)?))
 }
 
-// A calculator of a plan's first node.
+// Returns a calculator for a plan's first node.
 fn holder_of(alloc: Global, plan: &Plan) -> Result<Holder<LawBox>, Fail>
     requires { IsValid plan.now }
     ensures told { IfOk result (λ h. (node : PlanNode) → slice_get plan.now.nodes 0 ≡ Some node → h ≡ held_of node) }
@@ -79,7 +79,7 @@ fn holder_of(alloc: Global, plan: &Plan) -> Result<Holder<LawBox>, Fail>
     calculator_of(alloc, node)
 }
 
-// The engine of a plan's first node, which isn't begun. The node has no side packets.
+// Returns the engine of a plan's first node, not begun, or an error where the node has side packets.
 fn unbegun(alloc: Global, plan: &Plan) -> Result<Engine<LawBox>, Fail>
     requires { IsValid plan.now }
     ensures fresh { IfOk result (λ e. (node : PlanNode) → slice_get plan.now.nodes 0 ≡ Some node → (node.sides ≡ []) × (e ≡ fresh_engine node 0 (held_of node))) }
@@ -96,14 +96,14 @@ fn unbegun(alloc: Global, plan: &Plan) -> Result<Engine<LawBox>, Fail>
     }
 }
 
-// No side packets.
+// Returns an empty list of side packets.
 fn no_sides(alloc: Global) -> Result<GivenList, Fail>
     ensures { IfOk result (λ sides. sides ≡ []) }
 {
     Ok(GivenList::from_vec(Vec::new(alloc))?)
 }
 
-// The engine of a plan's first node, which is begun.
+// Returns the engine of a plan's first node, begun.
 fn engine_of(alloc: Global, plan: &Plan, inputs: &Inputs) -> Result<Engine<LawBox>, Fail>
     requires { IsJob (record { plan = plan.now; inputs = inputs.now }) }
     ensures lawful { IfOk result (λ e. LawfulEngine (job_of plan.now inputs.now) (of_node 0) e) }
@@ -121,7 +121,7 @@ fn engine_of(alloc: Global, plan: &Plan, inputs: &Inputs) -> Result<Engine<LawBo
     }
 }
 
-// The intake of a consumer, to which nothing came.
+// Returns the intake of a consumer, to which nothing came.
 fn intake_of(alloc: Global, plan: &Plan, inputs: &Inputs, consumer: u32) -> Result<Intake, Fail>
     requires job { IsJob (record { plan = plan.now; inputs = inputs.now }) }
     requires consumer { consumer ≤ length plan.now.nodes }
@@ -131,7 +131,7 @@ fn intake_of(alloc: Global, plan: &Plan, inputs: &Inputs, consumer: u32) -> Resu
     Ok(Intake::new(alloc, plan, consumer)?)
 }
 
-// What waits at the first node of a plan, and at the collector: nothing.
+// Returns the intakes of a plan's first node and of the collector, to which nothing came.
 fn intakes_of(alloc: Global, plan: &Plan, inputs: &Inputs) -> Result<(Intake, Intake), Fail>
     requires { IsJob (record { plan = plan.now; inputs = inputs.now }) }
     ensures lawful { IfOk result (λ i. LawfulIntake (job_of plan.now inputs.now) 0 i.0) }
@@ -148,7 +148,7 @@ fn intakes_of(alloc: Global, plan: &Plan, inputs: &Inputs) -> Result<(Intake, In
     }
 }
 
-// The parts of a cell.
+// Returns the engine and the intake of a plan's first node, and the intake of the collector.
 fn parts_of(
     alloc: Global,
     plan: &Plan,
@@ -170,7 +170,7 @@ fn parts_of(
     }
 }
 
-// The cell of a plan's first node, which is begun, and to which nothing came.
+// Returns the cell of a plan's first node, which is begun, and to which nothing came.
 fn cell_over(alloc: Global, plan: Plan, inputs: Inputs) -> Result<Cell, Fail>
     requires { IsValid plan }
     ensures { IfOk result (λ c. IsCell c.plan c.inputs c.engine c.intake c.sink) }
@@ -199,7 +199,7 @@ pub(crate) struct Given {
     pub(crate) ended: bool,
 }
 
-/// The cell of a graph's first node.
+/// Returns the cell of a graph's first node, with the calculators that are handed in.
 pub(crate) fn cell_of(alloc: Global, given: Given, outers: &[OuterShape]) -> Result<Cell, Fail>
     requires { All IsOuterShape outers.now }
     ensures { IfOk result (λ c. IsCell c.plan c.inputs c.engine c.intake c.sink) }
@@ -214,7 +214,7 @@ pub(crate) fn cell_of(alloc: Global, given: Given, outers: &[OuterShape]) -> Res
     }
 }
 
-/// The cell of a graph's first node, for which no calculator is handed in.
+/// Returns the cell of a graph's first node, for which no calculator is handed in.
 pub(crate) fn own_cell(alloc: Global, given: Given) -> Result<Cell, Fail>
     ensures { IfOk result (λ c. IsCell c.plan c.inputs c.engine c.intake c.sink) }
 {
@@ -223,7 +223,7 @@ pub(crate) fn own_cell(alloc: Global, given: Given) -> Result<Cell, Fail>
     Ok(cell)
 }
 
-/// Lets a cell go, and tells whether a calculator that was handed in comes back.
+/// Drops a cell, and returns whether a calculator that was handed in came back.
 pub(crate) fn gives_back(cell: Cell) -> bool {
     let Cell {
         plan,

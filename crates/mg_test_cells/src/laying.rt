@@ -5,7 +5,7 @@ use crate::scripted::one_scripted;
 use std::alloc::Global;
 use std::test::Fail;
 
-// A node that emits what a calculator says, over one packet at 5.
+// A graph of one node that emits what a scripted calculator says, over one packet at 5.
 fn scripted_graph() -> Given {
     Given {
         graph: r#"input_stream: "in" output_stream: "out"
@@ -15,7 +15,7 @@ node { calculator: "Scripted" input_stream: "in" output_stream: "out" }"#,
     }
 }
 
-// What a set at 5 emits at an offset of 0, and after `=` why it can't be laid.
+// Rows of what a set at 5 emits at an offset of 0, and after `=` why that can't be laid.
 fn refused() -> &'static str {
     "2@5 3@Done=NotAllowed
 2@5 3@OneOverPostStream=NotAllowed
@@ -26,7 +26,7 @@ fn refused() -> &'static str {
 2@5 3@PostStream=NotAlone"
 }
 
-// The table of a node whose set can't be laid. The calculator comes back at the end.
+// Checks a row of `refused`: the set's emission can't be laid, for this cause. The calculator comes back at the end.
 fn expect_refused(alloc: Global, row: &str) -> Result<(), Fail> {
     let (step, cause) = row.split_once('=').ok_or("no `=`")?;
     let rows = format!(in alloc;

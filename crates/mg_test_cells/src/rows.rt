@@ -31,7 +31,7 @@ fn show_output(alloc: Global, cell: &Cell, output: u32) -> Result<String, Fail> 
     Ok(format!(in alloc; "{count} {}", bound.as_str())?)
 }
 
-// What a call that asks answers.
+// Makes a call that changes nothing (`laid`, `fault`, `output` or `held`), and returns its answer.
 fn asked(alloc: Global, cell: &Cell, name: &str, words: &str) -> Result<String, Fail> {
     match name {
         "laid" => Ok(format!(in alloc; "{}", cell.engine.laid())?),
@@ -42,7 +42,7 @@ fn asked(alloc: Global, cell: &Cell, name: &str, words: &str) -> Result<String, 
     }
 }
 
-// What is delivered.
+// Makes a call of `deliver`, or of `out`, and returns its answer.
 fn delivered(alloc: Global, cell: &mut Cell, out: bool, words: &str) -> Result<String, Fail>
     requires { IsCell cell.old.plan cell.old.inputs cell.old.engine cell.old.intake cell.old.sink }
     ensures { OnOk result (IsCell cell.new.plan cell.new.inputs cell.new.engine cell.new.intake cell.new.sink) }
@@ -58,7 +58,7 @@ fn delivered(alloc: Global, cell: &mut Cell, out: bool, words: &str) -> Result<S
     show_delivered(alloc, delivered)
 }
 
-// What a commit lays.
+// Makes a call of `commit`, and returns its answer.
 fn committed(alloc: Global, cell: &mut Cell, words: &str) -> Result<String, Fail>
     requires { IsCell cell.old.plan cell.old.inputs cell.old.engine cell.old.intake cell.old.sink }
     ensures { OnOk result (IsCell cell.new.plan cell.new.inputs cell.new.engine cell.new.intake cell.new.sink) }
@@ -69,7 +69,7 @@ fn committed(alloc: Global, cell: &mut Cell, words: &str) -> Result<String, Fail
     }
 }
 
-// What the collector's next set is.
+// Makes a call of `take`, and returns its answer.
 fn taken(alloc: Global, cell: &mut Cell) -> Result<String, Fail>
     requires { IsCell cell.old.plan cell.old.inputs cell.old.engine cell.old.intake cell.old.sink }
     ensures { OnOk result (IsCell cell.new.plan cell.new.inputs cell.new.engine cell.new.intake cell.new.sink) }
@@ -80,7 +80,7 @@ fn taken(alloc: Global, cell: &mut Cell) -> Result<String, Fail>
     }
 }
 
-// What a row's call answers.
+// Makes the call of a row, and returns its answer.
 fn answer(alloc: Global, cell: &mut Cell, call: &str) -> Result<String, Fail>
     requires { IsCell cell.old.plan cell.old.inputs cell.old.engine cell.old.intake cell.old.sink }
     ensures { OnOk result (IsCell cell.new.plan cell.new.inputs cell.new.engine cell.new.intake cell.new.sink) }
@@ -114,7 +114,7 @@ fn answered(alloc: Global, cell: &mut Cell, rows: &str) -> Result<(), Fail>
     Ok(())
 }
 
-/// A cell that answers each row's call with what the row wants. It takes no handle, so that any thread may run it.
+/// Makes the call of each row, and returns the cell if each answered what the row wants. It takes no handle, so that any thread may run it.
 pub(crate) fn called(alloc: Global, cell: Cell, rows: &str) -> Result<Cell, Fail>
     requires { IsCell cell.plan cell.inputs cell.engine cell.intake cell.sink }
     ensures { IfOk result (λ c. IsCell c.plan c.inputs c.engine c.intake c.sink) }
@@ -129,7 +129,7 @@ pub(crate) fn called(alloc: Global, cell: Cell, rows: &str) -> Result<Cell, Fail
     }
 }
 
-/// A cell answers so to the end. At last a calculator that was handed in comes back, or none does.
+/// Makes the call of each row, and checks the answers. At last a calculator that was handed in has to come back, or none, by `gives_one`.
 pub(crate) fn expect_rows(
     alloc: Global,
     cell: Cell,

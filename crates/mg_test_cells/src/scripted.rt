@@ -10,7 +10,7 @@ use mg_value::{BlockList, Kind};
 use std::alloc::Global;
 use std::test::Fail;
 
-// Packets as numbers, `@` and timestamps, with blanks between them, or `-`.
+// Reads packets, which are written as numbers, `@` and timestamps with blanks between them, or as `-` where there are none.
 fn packets_of(alloc: Global, text: &str) -> Result<LaidPackets, Fail> {
     let mut packets = Vec::new(alloc);
     if text != "-" {
@@ -21,7 +21,7 @@ fn packets_of(alloc: Global, text: &str) -> Result<LaidPackets, Fail> {
     Ok(LaidPackets::from_vec(packets)?)
 }
 
-// An emission at one output.
+// Reads an emission at one output, which is written as its packets.
 fn emission_of(alloc: Global, text: &str) -> Result<Emission, Fail>
     ensures one { IfOk result (λ e. length e ≡ 1) }
     ensures times { IfOk result (λ e. BoundsAreTimes e) }
@@ -33,7 +33,7 @@ fn emission_of(alloc: Global, text: &str) -> Result<Emission, Fail>
     }))
 }
 
-// One that emits at its one output what is written down: in Open, at its first set, and in Close.
+// Returns a calculator that emits at its one output what is written down: in Open, at its first set, and in Close.
 fn scripted(
     alloc: Global,
     offset: Option<i64>,
@@ -58,7 +58,7 @@ fn scripted(
     Ok(OuterShape { shape, law })
 }
 
-/// The calculators that are handed in: one that emits this at its first set, at the time of the set or behind it, and else nothing.
+/// Returns the calculators that are handed in: one with offset 0 that emits this at its first set, and else nothing.
 pub(crate) fn one_scripted(alloc: Global, step: &str) -> Result<Vec<OuterShape>, Fail>
     ensures { IfOk result (λ outers. All IsOuterShape outers.items) }
 {

@@ -1,11 +1,11 @@
-//! How what a cell answers is written in tables.
+//! How the answers of a cell are written in tables.
 use mg_calc::{NodeFault, Phase};
 use mg_node::Delivered;
 use mg_tables::text_of;
 use std::alloc::Global;
 use std::test::Fail;
 
-/// What a delivery moved.
+/// Writes what a delivery moved: how many packets, and whether the bound rose behind them.
 pub(crate) fn show_delivered(alloc: Global, delivered: Delivered) -> Result<String, Fail> {
     match delivered {
         Delivered::Moved { packets, raised } => Ok(format!(in alloc; "{packets} {raised}")?),
@@ -13,13 +13,13 @@ pub(crate) fn show_delivered(alloc: Global, delivered: Delivered) -> Result<Stri
     }
 }
 
-/// A work's number and phase.
+/// Writes a work's number and phase.
 pub(crate) fn show_work(alloc: Global, number: u64, phase: Phase) -> Result<String, Fail> {
     let phase = show_phase(alloc, phase)?;
     Ok(format!(in alloc; "{number} {}", phase.as_str())?)
 }
 
-/// A phase, with the time of its set.
+/// Writes a phase, with the time of its set.
 fn show_phase(alloc: Global, phase: Phase) -> Result<String, Fail> {
     match phase {
         Phase::Open => Ok(String::from_str(alloc, "open")?),
@@ -32,7 +32,7 @@ fn show_phase(alloc: Global, phase: Phase) -> Result<String, Fail> {
     }
 }
 
-/// A fault, or `-`.
+/// Writes a fault, or `-` where there is none.
 pub(crate) fn show_fault(alloc: Global, fault: Option<NodeFault>) -> Result<String, Fail> {
     let Some(fault) = fault else {
         return Ok(String::from_str(alloc, "-")?);

@@ -7,7 +7,7 @@ use mg_value::InputSet;
 use std::alloc::Global;
 use std::test::Fail;
 
-/// The next set of the collector, if there is one.
+/// Takes the next set of the collector, if there is one.
 pub(crate) fn take_out(alloc: Global, cell: &mut Cell) -> Result<Option<InputSet>, Fail>
     requires { IsCell cell.old.plan cell.old.inputs cell.old.engine cell.old.intake cell.old.sink }
     ensures { OnOk result (IsCell cell.new.plan cell.new.inputs cell.new.engine cell.new.intake cell.new.sink) }

@@ -11,7 +11,7 @@ use mg_route::LawBox;
 use std::alloc::Global;
 use std::test::Fail;
 
-// The engine of a graph input, which lasts for one delivery: it never changes.
+// Returns the engine of a graph input. It lasts for one delivery, which doesn't change it.
 fn feed_of(alloc: Global, plan: &Plan, inputs: &Inputs, input: u32) -> Result<Engine<LawBox>, Fail>
     requires job { IsJob (record { plan = plan.now; inputs = inputs.now }) }
     ensures lawful { IfOk result (λ e. LawfulEngine (job_of plan.now inputs.now) (of_input input) e) }
@@ -26,7 +26,7 @@ fn feed_of(alloc: Global, plan: &Plan, inputs: &Inputs, input: u32) -> Result<En
     Ok(Engine::of_input(alloc, plan, input, prefix)?)
 }
 
-/// Delivers at most so many packets of a graph input to a port of the node.
+/// Delivers at most `most` packets of a graph input to a port of the node.
 pub(crate) fn deliver(
     alloc: Global,
     cell: &mut Cell,
@@ -50,7 +50,7 @@ pub(crate) fn deliver(
     Ok(delivered)
 }
 
-/// Delivers at most so many packets of the node's outputs to a port of the collector.
+/// Delivers at most `most` packets of the node's outputs to a port of the collector.
 pub(crate) fn deliver_out(cell: &mut Cell, port: u32, most: u32) -> Result<Delivered, Fail>
     requires { IsCell cell.old.plan cell.old.inputs cell.old.engine cell.old.intake cell.old.sink }
     ensures { OnOk result (IsCell cell.new.plan cell.new.inputs cell.new.engine cell.new.intake cell.new.sink) }

@@ -9,7 +9,7 @@ use std::alloc::Global;
 use std::test::Fail;
 use std::thread::{Threads, join};
 
-// A graph that adds ten, in a window of four, over three packets.
+// A graph that adds ten to each number, with up to four works at a time, over three packets.
 fn adding() -> Given {
     Given {
         graph: map(),
@@ -41,14 +41,14 @@ fn called_there<R: Threads>(
     cell
 }
 
-// The packets come, and the first set is performed.
+// Rows in which the packets come, and the first set is performed.
 fn begun() -> &'static str {
     "deliver 0 10=3 false
 work=0 at 1
 output 0=0 PreStream"
 }
 
-// The first set is laid, the second is performed, and the third is claimed and stands in the window unrun.
+// Rows that go on: the first set is laid, the second is performed, and the third is claimed and stands in the window unrun.
 fn goes_on() -> &'static str {
     "commit 0=1
 work=1 at 2
@@ -56,7 +56,7 @@ shelve=2 at 3
 output 0=1 2"
 }
 
-// The third set is handed out again, and all are laid in order.
+// Rows for the end: the third set is handed out again, and all are laid in order.
 fn ends() -> &'static str {
     "work=2 at 3
 commit 2=0

@@ -5,7 +5,7 @@ use std::alloc::Global;
 use std::fmt::Write;
 use std::test::Fail;
 
-// The table of the first node of a graph. No calculator was handed in, and none comes back.
+// Checks a table of calls over the first node of a graph. No calculator is handed in, and none comes back.
 fn expect_cell(
     alloc: Global,
     graph: &'static str,
@@ -22,20 +22,20 @@ fn expect_cell(
     expect_rows(alloc, cell, rows, false)
 }
 
-/// Ten more than each number, in a window of four.
+/// A graph that adds ten to each number, with up to four works at a time.
 pub(crate) fn map() -> &'static str {
     r#"input_stream: "in" output_stream: "out"
 node { calculator: "IntMapCalculator" input_stream: "in" output_stream: "out" max_in_flight: 4
   options { [mediapipe.IntMapCalculatorOptions.ext] { op: ADD operand: 10 } } }"#
 }
 
-// A packet for each of two sets.
+// The lines of two sets of one packet each.
 fn five_and_six() -> &'static str {
     r#"{"stream":"in","ts":1,"value":5}
 {"stream":"in","ts":2,"value":6}"#
 }
 
-// The second set is committed before the first.
+// Rows in which the second set is committed before the first.
 fn crossed() -> &'static str {
     "deliver 0 10=2 true
 held=2 0
@@ -60,7 +60,7 @@ fn sets_are_laid_in_order(rt: HostRuntime) -> Result<(), Fail> {
     expect_cell(rt.alloc(), map(), five_and_six(), true, crossed())
 }
 
-// At the end, works that aren't laid hold up Close.
+// Rows in which works that aren't laid hold up Close at the end.
 fn drained() -> &'static str {
     "deliver 0 10=2 true
 work=0 at 1
@@ -82,7 +82,7 @@ fn close_waits_for_the_window(rt: HostRuntime) -> Result<(), Fail> {
     expect_cell(rt.alloc(), map(), five_and_six(), true, drained())
 }
 
-// Works that come back unrun are handed out first.
+// Rows in which works that come back unrun are handed out first.
 fn unrun() -> &'static str {
     "deliver 0 10=3 false
 leave=0 at 1
@@ -117,7 +117,7 @@ fn running() -> &'static str {
 node { calculator: "RunningSumCalculator" input_stream: "in" output_stream: "out" max_in_flight: 4 }"#
 }
 
-// A calculator with a state has one work at a time, which is also handed out again where the window is full.
+// Rows over a calculator with a state: it has one work at a time, which is also handed out again where the window is full.
 fn one_by_one() -> &'static str {
     "deliver 0 10=2 false
 leave=0 at 1
@@ -164,7 +164,7 @@ fn orders() -> &'static str {
 3210=0004"
 }
 
-// The table of one order.
+// Returns the rows of one order, in which four works are committed.
 fn rows_of(alloc: Global, order: &str) -> Result<String, Fail> {
     let (numbers, laid) = order.split_once('=').ok_or("no `=`")?;
     let mut rows = String::from_str(
@@ -204,7 +204,7 @@ node { calculator: "IntMapCalculator" input_stream: "in" output_stream: "out" ma
   options { [mediapipe.IntMapCalculatorOptions.ext] { op: ADD operand: 9223372036854775807 } } }"#
 }
 
-// What was performed behind a set that fails isn't laid any more.
+// Rows in which what was performed behind a set that fails isn't laid any more.
 fn mapped() -> &'static str {
     "deliver 0 10=3 true
 work=0 at 1

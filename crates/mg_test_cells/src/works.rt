@@ -15,7 +15,7 @@ use mg_route::LawBox;
 use std::alloc::Global;
 use std::test::Fail;
 
-// Claims the next work, or tells why there is none.
+// Claims the next work, or returns why there is none.
 fn claim_work(cell: &mut Cell) -> Result<Work<LawBox>, &'static str>
     requires { IsCell cell.old.plan cell.old.inputs cell.old.engine cell.old.intake cell.old.sink }
     ensures cell { IsCell cell.new.plan cell.new.inputs cell.new.engine cell.new.intake cell.new.sink }
@@ -33,7 +33,7 @@ fn claim_work(cell: &mut Cell) -> Result<Work<LawBox>, &'static str>
     }
 }
 
-// Performs a work. It gives nothing where there is no memory.
+// Performs a work, or returns `None` where there is no memory.
 fn performed(alloc: Global, work: Work<LawBox>) -> Option<Outcome<LawBox>>
     requires { SomeJobHas work }
     ensures lawful { IfSome result (λ o. (job : LoggedJob) → LawfulWork job work → LawfulOutcome job o) }
@@ -45,7 +45,7 @@ fn performed(alloc: Global, work: Work<LawBox>) -> Option<Outcome<LawBox>>
     }
 }
 
-// A work, with its number and its phase as a text.
+// Returns a work, with its number and its phase as a text.
 fn told(alloc: Global, work: Work<LawBox>) -> Result<(String, Work<LawBox>), Fail>
     ensures lawful { IfOk result (λ t. (job : LoggedJob) → LawfulWork job work → LawfulWork job t.1) }
     ensures out { IfOk result (λ t. (engine : EngineView) → IsOut engine work → IsOut engine t.1) }
@@ -69,7 +69,7 @@ fn put_back(cell: &mut Cell, outcome: Outcome<LawBox>)
     cell.engine.shelve(outcome);
 }
 
-// Commits a work that is out, and tells how many sets or calls were laid.
+// Commits a work that is out, and returns how many sets or calls were laid.
 fn commit_outcome(cell: &mut Cell, outcome: Outcome<LawBox>) -> Result<u32, Fail>
     requires cell { IsCell cell.old.plan cell.old.inputs cell.old.engine cell.old.intake cell.old.sink }
     requires out { IsOut cell.old.engine outcome.work }
@@ -82,7 +82,7 @@ fn commit_outcome(cell: &mut Cell, outcome: Outcome<LawBox>) -> Result<u32, Fail
     Ok(laid)
 }
 
-// A work that wasn't run.
+// Returns the outcome of a work that wasn't run.
 fn unrun(work: Work<LawBox>) -> Outcome<LawBox>
     ensures lawful { (job : LoggedJob) → LawfulWork job work → LawfulOutcome job result }
     ensures out { (engine : EngineView) → IsOut engine work → IsOut engine result.work }
@@ -90,7 +90,8 @@ fn unrun(work: Work<LawBox>) -> Outcome<LawBox>
     Outcome::unrun(work)
 }
 
-/// Claims the next work, performs it, and puts it back into its window, not committed.
+/// Claims the next work, performs it, and puts it back into its window, not committed. Returns its number and its phase, or why there is
+/// none.
 pub(crate) fn work(alloc: Global, cell: &mut Cell) -> Result<String, Fail>
     requires { IsCell cell.old.plan cell.old.inputs cell.old.engine cell.old.intake cell.old.sink }
     ensures { OnOk result (IsCell cell.new.plan cell.new.inputs cell.new.engine cell.new.intake cell.new.sink) }
@@ -109,7 +110,7 @@ pub(crate) fn work(alloc: Global, cell: &mut Cell) -> Result<String, Fail>
     }
 }
 
-/// Claims the next work, and puts it back into its window, unrun.
+/// Claims the next work, and puts it back into its window, unrun. Returns its number and its phase, or why there is none.
 pub(crate) fn shelve_unrun(alloc: Global, cell: &mut Cell) -> Result<String, Fail>
     requires { IsCell cell.old.plan cell.old.inputs cell.old.engine cell.old.intake cell.old.sink }
     ensures { OnOk result (IsCell cell.new.plan cell.new.inputs cell.new.engine cell.new.intake cell.new.sink) }
@@ -123,7 +124,7 @@ pub(crate) fn shelve_unrun(alloc: Global, cell: &mut Cell) -> Result<String, Fai
     Ok(shown)
 }
 
-/// Claims the next work, and commits it as unrun, by which nothing is laid.
+/// Claims the next work, and commits it as unrun, by which nothing is laid. Returns its number and its phase, or why there is none.
 pub(crate) fn commit_unrun(alloc: Global, cell: &mut Cell) -> Result<String, Fail>
     requires { IsCell cell.old.plan cell.old.inputs cell.old.engine cell.old.intake cell.old.sink }
     ensures { OnOk result (IsCell cell.new.plan cell.new.inputs cell.new.engine cell.new.intake cell.new.sink) }
@@ -139,7 +140,7 @@ pub(crate) fn commit_unrun(alloc: Global, cell: &mut Cell) -> Result<String, Fai
     Ok(shown)
 }
 
-// Takes what was performed, and isn't committed, out of its window.
+// Takes the work of a number, which was performed and isn't committed, out of its window, if there is one.
 fn taken(cell: &mut Cell, number: u64) -> Option<Outcome<LawBox>>
     requires { IsCell cell.old.plan cell.old.inputs cell.old.engine cell.old.intake cell.old.sink }
     ensures cell { IsCell cell.new.plan cell.new.inputs cell.new.engine cell.new.intake cell.new.sink }
@@ -152,7 +153,7 @@ fn taken(cell: &mut Cell, number: u64) -> Option<Outcome<LawBox>>
     }
 }
 
-/// Commits the work of a number, which was performed, and tells how many sets or calls were laid. None where there is no such work.
+/// Commits the work of a number, which was performed, and returns how many sets or calls were laid, or `None` where there is no such work.
 pub(crate) fn commit(cell: &mut Cell, number: u64) -> Result<Option<u32>, Fail>
     requires { IsCell cell.old.plan cell.old.inputs cell.old.engine cell.old.intake cell.old.sink }
     ensures { OnOk result (IsCell cell.new.plan cell.new.inputs cell.new.engine cell.new.intake cell.new.sink) }
@@ -164,7 +165,7 @@ pub(crate) fn commit(cell: &mut Cell, number: u64) -> Result<Option<u32>, Fail>
     Ok(Some(laid))
 }
 
-/// Raises the outputs by what waits.
+/// Raises the outputs as far as what waits tells, and returns whether that moved one of them.
 pub(crate) fn advance(cell: &mut Cell) -> bool
     requires { IsCell cell.old.plan cell.old.inputs cell.old.engine cell.old.intake cell.old.sink }
     ensures { IsCell cell.new.plan cell.new.inputs cell.new.engine cell.new.intake cell.new.sink }

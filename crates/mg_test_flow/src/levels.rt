@@ -10,7 +10,7 @@ use std::alloc::Global;
 use std::sync::Wait;
 use std::test::*;
 
-// The nodes from one on, so many, in this order.
+// Returns `count` nodes in order, from the number `first` on.
 fn nodes_from(alloc: Global, first: u32, count: u32) -> Result<NumberList, Fail> {
     let mut order = Vec::new(alloc);
     for place in 0..count {
@@ -19,7 +19,7 @@ fn nodes_from(alloc: Global, first: u32, count: u32) -> Result<NumberList, Fail>
     Ok(NumberList::from_vec(order).map_err(|_| "too many nodes")?)
 }
 
-// Puts a node in that stands in the order.
+// Puts a node into its level, if the order has it. Returns whether it was put in.
 fn put<R: Wait>(
     rt: &R,
     levels: &Levels,
@@ -38,7 +38,7 @@ fn put<R: Wait>(
     }
 }
 
-// A node that is taken out, or nothing.
+// Returns the number of a node that was taken out, or `-` where none was.
 fn shown(alloc: Global, node: Option<u32>) -> Result<String, Fail> {
     match node {
         None => Ok(String::from_str(alloc, "-")?),
@@ -46,7 +46,7 @@ fn shown(alloc: Global, node: Option<u32>) -> Result<String, Fail> {
     }
 }
 
-// The nodes that were left in.
+// Returns the numbers of the nodes that were left, a space before each.
 fn left_in(alloc: Global, left: &LeftList) -> Result<String, Fail> {
     let mut text = String::new(alloc);
     for node in left.as_slice() {
@@ -55,7 +55,7 @@ fn left_in(alloc: Global, left: &LeftList) -> Result<String, Fail> {
     Ok(text)
 }
 
-// Two nodes are put in; a seat is split off, one node is taken out, and the seat comes back.
+// Puts two nodes in, splits a seat off, takes one node out, and joins the seat again. Returns what the calls answered.
 fn in_and_out<R: Wait>(
     rt: &R,
     alloc: Global,
@@ -78,7 +78,7 @@ fn in_and_out<R: Wait>(
     Ok(format!(in alloc; "{first} {second} {}", taken.as_str())?)
 }
 
-// What came, and the nodes that are left.
+// Closes the levels, and returns `came` with the nodes that were left behind it.
 fn closed<R: Wait>(
     rt: &R,
     alloc: Global,
@@ -96,7 +96,7 @@ fn closed<R: Wait>(
     Ok(format!(in alloc; "{came}{}", shown.as_str())?)
 }
 
-// Of three nodes two are put in, one is taken out, and the other is left.
+// Puts two of three nodes in and takes one out, so that the other is left. Returns what the calls answered.
 fn three<R: Wait>(rt: &R, alloc: Global, order: &NumberList) -> Result<String, Fail> {
     if !is_distinct(order.as_slice()) {
         return Err(Fail::from("a node stands twice"));
@@ -112,7 +112,7 @@ fn three<R: Wait>(rt: &R, alloc: Global, order: &NumberList) -> Result<String, F
     }
 }
 
-// Puts a node in so often, and counts how often there was room.
+// Puts node 7 in `puts` times, and returns how often there was room.
 fn put_often<R: Wait>(
     rt: &R,
     levels: &Levels,
@@ -133,7 +133,7 @@ fn put_often<R: Wait>(
     came
 }
 
-// There is room for four entries of a single node. What is taken out comes from the last level that isn't empty.
+// Puts node 7 in `puts` times and another node once, and takes two nodes out. Returns what the calls answered.
 fn one_and_many<R: Wait>(
     rt: &R,
     alloc: Global,

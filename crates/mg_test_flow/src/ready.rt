@@ -8,8 +8,8 @@ use mg_value::BlockList;
 use std::alloc::Global;
 use std::test::Fail;
 
-// The calls of one set of nodes, a row each, and after `=` the answer: the node that is taken, and `-` where there is
-// none. `all` puts in each node, those at every fifth place first, and `rest` takes until there is none.
+// Rows of a call each, all of one set of nodes, and after `=` the answer: for `take` the node, or `-` where there is none. `all`
+// puts in each node, those at every fifth place first, and `rest` takes until there is none.
 fn three() -> &'static str {
     "put 1=ok
 put 2=ok
@@ -44,7 +44,7 @@ drop 5=ok
 rest=2 0 9"
 }
 
-// One bucket: its last, its first and one between go out.
+// One bucket, of which the last place, the first and one between are dropped.
 fn one_bucket() -> &'static str {
     "all=ok
 drop 31=ok
@@ -58,7 +58,7 @@ rest=31 29 28 27 26 25 24 23 22 21 20 19 18 17 15 14 13 12 11 10 9 8 7 6 5 4 3 2
 take=-"
 }
 
-// A bucket more, of one place.
+// Two buckets, the second with a single place.
 fn two_buckets() -> &'static str {
     "all=ok
 take=32
@@ -72,7 +72,7 @@ put 32=ok
 rest=32 0"
 }
 
-// Many buckets, and two words of bits. `falls` takes until there is none, and answers how many came in falling order.
+// Many buckets, and two words of bits. `falls` takes nodes as long as they come in falling order, and answers how many did.
 fn many() -> &'static str {
     "all=ok
 falls=4096
@@ -96,7 +96,7 @@ struct Nodes {
     ghost same: { ready.order ≡ order.items },
 }
 
-// Whether the number at a place stands before it.
+// Whether the number at a place stands at an earlier place too.
 fn stands_before(order: &[u32], place: usize) -> bool
     requires { place < length order.now }
     ensures { result ≡ false → (i : ℕ) → i < place → slice_index order.now i ≢ slice_index order.now place }
@@ -133,7 +133,7 @@ fn nodes_in(alloc: Global, order: Vec<u32>) -> Result<Nodes, Fail> {
     })
 }
 
-// The nodes 0, 1 and so on, in this order.
+// Returns the nodes 0, 1 and so on, as many as `count`, in this order.
 fn counted(alloc: Global, count: u32) -> Result<Nodes, Fail> {
     let mut order = Vec::new(alloc);
     for node in 0..count {
@@ -193,7 +193,7 @@ impl Nodes {
         }
     }
 
-    // The calls that answer nothing.
+    // Makes a call that has no answer: `put` or `drop` of a node, or `all`.
     fn change(&mut self, name: &str, node: &str) -> Result<(), Fail> {
         if name == "put" {
             self.put(node.parse::<u32>()?);
@@ -224,7 +224,7 @@ impl Calls for Nodes {
     }
 }
 
-// Each row of some nodes is answered.
+// Checks that each row of calls of these nodes is answered as it says.
 fn expect_rows(alloc: Global, nodes: Nodes, rows: &str) -> Result<(), Fail> {
     let mut nodes = nodes;
     let answered = assert_rows(alloc, &mut nodes, rows);
@@ -232,12 +232,12 @@ fn expect_rows(alloc: Global, nodes: Nodes, rows: &str) -> Result<(), Fail> {
     answered
 }
 
-// The nodes of five places.
+// Returns five nodes whose order isn't that of their numbers.
 fn five_places(alloc: Global) -> Result<Nodes, Fail> {
     nodes_in(alloc, vec![in alloc; 5, 9, 0, 2, 4]?)
 }
 
-// A node that isn't 0.
+// Returns one node, whose number isn't 0.
 fn one_place(alloc: Global) -> Result<Nodes, Fail> {
     nodes_in(alloc, vec![in alloc; 7]?)
 }

@@ -10,9 +10,9 @@ use std::process::Abort;
 use std::sync::Arc;
 use std::test::Fail;
 
-// A stream is its packets, each a time and a number, with commas between them, and after `|` its bound.
+// In a row a stream is its packets, each a time and a number, with commas between them, and after `|` its bound.
 
-// Whether a stream keeps the rule.
+// Rows of a stream each, and after `=` whether it keeps the rule of streams.
 fn rule() -> &'static str {
     "|PreStream=yes
 |Unstarted=no
@@ -53,7 +53,7 @@ fn ports_of(alloc: Global, text: &str) -> Result<NumberList, Fail> {
     Ok(NumberList::from_vec(ports).map_err(|_| "too long")?)
 }
 
-/// Asks whether a stream keeps the rule.
+/// Calls that ask whether a stream keeps the rule of streams.
 #[derive(Drop)]
 struct RuleCalls;
 
@@ -69,8 +69,8 @@ fn streams_keep_the_rule(rt: HostRuntime) -> Result<(), Fail> {
     assert_rows(rt.alloc(), &mut RuleCalls, rule())
 }
 
-// How many share the payload of a packet, once it is a stream, once that is copied, and once a node at two of whose ports
-// it comes has its sets.
+// Checks how many share the payload of a packet once it is in a stream, once the stream is copied, and once a node that reads the
+// stream and its copy has its settled sets.
 fn assert_shared(rt: &impl Abort, alloc: Global, packet: Packet) -> Result<(), Fail> {
     let payload = Arc::try_clone(&packet.payload)?;
     let bound = packet.at.next_allowed();
@@ -85,7 +85,7 @@ fn assert_shared(rt: &impl Abort, alloc: Global, packet: Packet) -> Result<(), F
     Ok(())
 }
 
-// The settled sets of a node whose ports have two streams.
+// Returns the settled sets of a node that reads these two streams.
 fn settled_by_default(alloc: Global, streams: &PrefixList) -> Result<TimedSetList, Fail> {
     let ports = ports_of(alloc, "0 1")?;
     if !are_prefixes(streams) || !ports.all_below(streams.len()) {

@@ -9,8 +9,8 @@ use std::alloc::{AllocError, Global};
 use std::fmt::Write;
 use std::test::Fail;
 
-// A graph a row, and after `=` the law, the sets in flight and the policy of node 0, the order, and the edges, each as its
-// stream, `>`, its node, `.` and its port, and `b` where it leads back; or why the graph is refused.
+// Rows of a graph each, and after `=` the law, the limit of sets in flight and the policy of node 0, the order, and the edges, each
+// as its stream, `>`, its node, `.` and its port, and `b` for a back edge; or why the graph is refused.
 fn graphs() -> &'static str {
     r#"input_stream: "in" output_stream: "out" node { calculator: "FlowLimiterCalculator" input_stream: "in" input_stream: "FINISHED:done" output_stream: "out" input_stream_info { tag_index: "FINISHED" back_edge: true } } node { calculator: "IntFilterCalculator" input_stream: "out" output_stream: "done" options { [mediapipe.IntFilterCalculatorOptions.ext] { keep: EVEN } } }=Limiter { most: 1 } 1 Default; order 0 1; edges 0>0.0 2>0.1b 1>1.0 1>2.0
 input_stream: "in" output_stream: "out" node { calculator: "FlowLimiterCalculator" input_stream: "in" input_stream: "FINISHED:done" output_stream: "out" input_stream_info { tag_index: "FINISHED" back_edge: true } } node { calculator: "PassThroughCalculator" input_stream: "out" output_stream: "done" }=Limiter { most: 1 } 1 Default; order 0 1; edges 0>0.0 2>0.1b 1>1.0 1>2.0
@@ -41,12 +41,13 @@ input_stream: "a" output_stream: "b" node { calculator: "PassThroughCalculator" 
 input_stream: "in" output_stream: "prev" node { calculator: "PreviousLoopbackCalculator" input_stream: "MAIN:in" input_stream: "LOOP:in" output_stream: "PREV_LOOP:prev" input_stream_handler { input_stream_handler: "ImmediateInputStreamHandler" } }=Unsupported 0"#
 }
 
-/// The graph of a text.
+/// Reads the graph of a text.
 pub fn graph_of(alloc: Global, text: &str) -> Result<GraphConfig, Fail> {
     let tree = parse(alloc, text.as_bytes())?;
     Ok(read(alloc, &tree)?)
 }
 
+/// Appends edges to a text, each as its stream, `>`, its node, `.` and its port, and `b` for a back edge.
 pub fn show_edges(text: &mut String, edges: &[Edge]) -> Result<(), AllocError> {
     for edge in edges {
         let back = if edge.back { "b" } else { "" };
@@ -55,6 +56,7 @@ pub fn show_edges(text: &mut String, edges: &[Edge]) -> Result<(), AllocError> {
     Ok(())
 }
 
+/// Appends numbers to a text, a space before each.
 pub fn show_numbers(text: &mut String, numbers: &[u32]) -> Result<(), AllocError> {
     for number in numbers {
         write!(text, " {number}")?;

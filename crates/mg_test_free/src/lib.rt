@@ -1,5 +1,5 @@
-//! The tests of free nodes: graphs with free nodes as the check takes or refuses them, their cores, arrivals one by one, and rounds. There is nothing
-//! else here, so that no other crate is proved a second time with its tests.
+//! The tests of free nodes: graphs with free nodes as the check takes or refuses them, their cores, arrivals one by one, and rounds.
+//! They have a crate of their own, so that no other crate is proved a second time with its tests.
 #![tactic(auto)]
 
 #[cfg(test)]

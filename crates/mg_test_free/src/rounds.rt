@@ -14,13 +14,13 @@ use std::alloc::{AllocError, Global};
 use std::fmt::Write;
 use std::test::Fail;
 
-// Streams as they are written, one for each input.
+// The streams of a row, one for each input of the node.
 #[derive(Drop)]
 struct Given {
     streams: PrefixList,
 }
 
-// The packet of a stream, by its number.
+// Returns the packet of a number in a stream, if there is one.
 fn packet_in(streams: &[Prefix], stream: u32, number: u64) -> Option<&Packet>
     ensures { option_copied result ≡ slice_get (stream_of streams.now stream).packets number }
 {
@@ -43,8 +43,8 @@ impl Streams for Given {
     }
 }
 
-// A law with its number, its streams between bars, each with its packets' times and its bound; after `=` the arrivals, each a port, `@` and a
-// time, and what the node hands on.
+// Rows of a law with its number, and its streams, each after a bar as its packets' times and its bound; after `=` the arrivals, each
+// as its port, `@` and its time, and after a bar what the node hands on.
 fn rows() -> &'static str {
     r#"limiter 1|10 20 Done|10 Done=1@10 0@10 0@20 | 10 bound Done
 limiter 1|10 20 30 31|PreStream=0@10 0@20 0@30 | 10 bound 31
@@ -63,7 +63,7 @@ fn law_of(word: &str, number: u32) -> FreeLaw {
     }
 }
 
-// How many inputs a law has.
+// Returns how many inputs a law has.
 fn ports_of(law: FreeLaw) -> u32
     ensures { result ≡ the_ports law }
 {
@@ -73,7 +73,7 @@ fn ports_of(law: FreeLaw) -> u32
     }
 }
 
-// The numbers below a count.
+// Returns the numbers below a count, in order.
 fn numbers_of(alloc: Global, count: u32) -> Result<NumberList, AllocError>
     ensures { IfOk result (λ numbers. numbers ≡ range_with_len 0 count) }
 {
@@ -84,7 +84,7 @@ fn numbers_of(alloc: Global, count: u32) -> Result<NumberList, AllocError>
     Ok(NumberList::from_vec(numbers)?)
 }
 
-// A free node that reads the first streams.
+// Returns one free node, which reads the first streams, as many as its law has inputs.
 fn one_node(alloc: Global, law: FreeLaw) -> Result<FreeNodeList, AllocError>
     ensures { IfOk result (λ frees. IsOneNode law frees) }
 {
@@ -98,7 +98,7 @@ fn one_node(alloc: Global, law: FreeLaw) -> Result<FreeNodeList, AllocError>
     Ok(FreeNodeList::from_vec(vec![in alloc; free]?)?)
 }
 
-// The node of a law that reads these streams, before its first round.
+// Returns the free node of a law that reads these streams, before its first round.
 fn ready(alloc: Global, law: FreeLaw, given: &Given) -> Result<LiveNodes, Fail>
     ensures { IfOk result (λ live. IsReady live.free live.takers.items given.now.streams) }
 {
@@ -109,7 +109,7 @@ fn ready(alloc: Global, law: FreeLaw, given: &Given) -> Result<LiveNodes, Fail>
     Ok(LiveNodes::new(alloc, frees)?)
 }
 
-// Has rounds until one does nothing.
+// Makes rounds until one does nothing, and fails after ten.
 fn run(live: &mut LiveNodes, given: &Given) -> Result<(), Fail>
     requires { IsReady live.old.free live.old.takers.items given.now.streams }
     ensures { OnOk result (IsReady live.new.free live.new.takers.items given.now.streams) }
@@ -122,7 +122,7 @@ fn run(live: &mut LiveNodes, given: &Given) -> Result<(), Fail>
     Err(Fail::from("no end"))
 }
 
-// A stream as it is written: the times of its packets, and its bound.
+// Reads a stream that is written as the times of its packets and its bound.
 fn stream_in(alloc: Global, text: &str) -> Result<Prefix, Fail> {
     let mut packets = Vec::new(alloc);
     let mut bound = Timestamp::PRE_STREAM;
@@ -150,7 +150,7 @@ fn show_handed(text: &mut String, alloc: Global, live: &mut LiveNodes) -> Result
     Ok(())
 }
 
-// A law and its streams as they are written.
+// Reads a law and its streams from the text of a row before `=`.
 fn read_call(alloc: Global, call: &str) -> Result<(FreeLaw, Given), Fail> {
     let mut parts = call.split('|');
     let law = parts.next().ok_or("no law")?;
@@ -168,7 +168,7 @@ fn read_call(alloc: Global, call: &str) -> Result<(FreeLaw, Given), Fail> {
     ))
 }
 
-// The arrivals, and then what the node hands on.
+// Returns the arrivals, and then what the node hands on, as a row has them.
 fn show(alloc: Global, live: &mut LiveNodes) -> Result<String, Fail> {
     let mut text = String::new(alloc);
     for place in 0..live.len() {

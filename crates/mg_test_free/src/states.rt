@@ -9,8 +9,8 @@ use std::fmt::Write;
 use std::sync::Arc;
 use std::test::Fail;
 
-// A law with its number and arrivals a row, each a port, `@` and a time; after `=` whether each is laid (`+`) or not (`-`), and
-// then the times of the output's packets and its bound.
+// Rows of a law with its number, and arrivals, each as its port, `@` and its time; after `=` whether each is laid (`+`) or not (`-`),
+// and then the times of the output's packets and its bound.
 fn arrivals() -> &'static str {
     r#"limiter 1 0@10 0@20=+- 10 bound 21
 limiter 1 0@10 0@20 0@30=+-- 10 bound 31
@@ -52,7 +52,7 @@ fn show_output(text: &mut String, alloc: Global, output: &Prefix) -> Result<(), 
     show_time(text, alloc, output.bound)
 }
 
-// An arrival as it is written: a port, `@` and a time.
+// Lets a packet arrive, as it is written: a port, `@` and a time. Returns whether it is laid.
 fn arrive(alloc: Global, state: &mut FreeState, word: &str) -> Result<bool, Fail> {
     let (port, time) = word.split_once('@').ok_or("no `@`")?;
     let port = port.parse::<u32>()?;

@@ -10,10 +10,11 @@ pub record IsBehind (before piece now : StreamPrefix Plain) : Type 0 where
   pub whole : now ≡ joined before piece
   pub above : All (λ p. before.bound ≤ p.at) piece.packets
 
--- so is one of a number, by the prefixes before it and the pieces
+-- a stream's prefix is the one that the stream of this number had before, with its piece behind it
 abbrev pub IsBehindAt : List (StreamPrefix Plain) → List (StreamPrefix Plain) → ℕ → StreamPrefix Plain → Type 0
 IsBehindAt before pieces input now = (s piece : StreamPrefix Plain) → slice_get before input ≡ Some s → slice_get pieces input ≡ Some piece → IsBehind s piece now
 
+-- inputs with a piece behind them: each stream has its piece behind it, and is a prefix
 pub record HasBehind (before piece now : Inputs) : Type 0 where
   pub sides : now.sides ≡ before.sides
   pub pieces : length piece.streams ≡ length before.streams

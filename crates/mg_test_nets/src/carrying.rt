@@ -38,8 +38,7 @@ fn bring(
     let _ = engine.deliver(edge, intake, u32::MAX);
 }
 
-/// Brings along the edge of a number what its port hasn't got, and nothing where no edge has the number. The parts stay those of one
-/// net.
+/// Brings along the edge of this number what its port hasn't got, if there is such an edge. The parts stay those of one net.
 pub(crate) fn carry(
     plan: &Plan,
     engines: &Vec<Engine<LawBox>>,

@@ -21,8 +21,8 @@ pub(crate) fn extend(alloc: Global, driver: &mut Driver, piece: &Inputs) -> Resu
     Ok(())
 }
 
-/// Takes the net apart, and puts it together again of its parts. Meanwhile what a port hasn't got goes along the edge of a number, if
-/// there is one.
+/// Takes the net apart, and puts it together again of its parts. Meanwhile the edge of this number brings what its port hasn't got, if
+/// there is such an edge.
 pub(crate) fn part_and_join(driver: Driver, edge: u32) -> Driver
     requires { IsDriven driver.plan driver.inputs driver.net }
     ensures { IsDriven result.plan result.inputs result.net }
@@ -34,7 +34,7 @@ pub(crate) fn part_and_join(driver: Driver, edge: u32) -> Driver
     Driver { plan, inputs, net }
 }
 
-/// The packet of a stream, by its number, if it is there.
+/// Shows a stream's packet of this number, or `-` where none is there.
 pub(crate) fn show_packet(
     alloc: Global,
     driver: &Driver,
@@ -49,7 +49,7 @@ pub(crate) fn show_packet(
     }
 }
 
-/// The bound of a stream, if there is one.
+/// Shows the bound of a stream, or `-` where there is no such stream.
 pub(crate) fn show_bound(alloc: Global, driver: &Driver, stream: u32) -> Result<String, Fail>
     requires { IsDriven driver.now.plan driver.now.inputs driver.now.net }
 {

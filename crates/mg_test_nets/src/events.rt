@@ -1,11 +1,11 @@
-//! Events: by their words, and by a number among all events of a plan.
+//! The events of a plan by number.
 use mg_calc::{Event, Plan};
 use std::test::Fail;
 
 // How many works of a node are numbered: no graph here comes to more.
 const WORKS: u32 = 5;
 
-/// How many events are numbered: the deliveries, the events of nodes, and the one that relaxes.
+/// Returns how many events of a plan are numbered: the deliveries, the events of nodes, and the one that relaxes.
 pub(crate) fn event_count(plan: &Plan) -> u32 {
     plan.nodes
         .len()
@@ -14,7 +14,7 @@ pub(crate) fn event_count(plan: &Plan) -> u32 {
         .saturating_add(1)
 }
 
-/// The event of a number.
+/// Returns the event of this number.
 pub(crate) fn event_at(plan: &Plan, number: u32) -> Event {
     let edges = plan.edges.len();
     if number < edges {
@@ -28,7 +28,7 @@ pub(crate) fn event_at(plan: &Plan, number: u32) -> Event {
     event_of_node(behind % nodes, behind / nodes)
 }
 
-// The event of a number at a node.
+// Returns the event of a node by its number among the node's events; a greater number gives the event that relaxes.
 fn event_of_node(node: u32, kind: u32) -> Event {
     if kind < 2 * WORKS {
         return event_of_work(node, u64::from(kind / 2), kind % 2 == 0);

@@ -15,7 +15,7 @@ use mg_nets::{
 use std::alloc::Global;
 use std::test::Fail;
 
-// What a line gives, or the end of the input.
+// Returns the piece of the inputs that a line gives, or the end of the input.
 fn piece_of(feed: &mut Feed, line: &str) -> Result<Inputs, Fail> {
     if line == "end" {
         return Ok(feed.take_inputs(true)?);
@@ -26,7 +26,7 @@ fn piece_of(feed: &mut Feed, line: &str) -> Result<Inputs, Fail> {
     Ok(feed.take_inputs(false)?)
 }
 
-// The sets that a net gives at rest; and then, once all that can be is given up, how many packets are in it.
+// Shows the sets that a net gives at rest; and then, once all packets are given up that can be, how many are in it.
 fn given(alloc: Global, driver: &mut Driver) -> Result<String, Fail>
     requires { IsDriven driver.old.plan driver.old.inputs driver.old.net }
     ensures { IsDriven driver.new.plan driver.new.inputs driver.new.net }
@@ -37,7 +37,7 @@ fn given(alloc: Global, driver: &mut Driver) -> Result<String, Fail>
     Ok(format!(in alloc; "{}| {}", sets.as_str(), held(driver))?)
 }
 
-// What comes of a line, or of the end.
+// Shows what comes of a line, or of the end of the input.
 fn answer(alloc: Global, feed: &mut Feed, driver: &mut Driver, line: &str) -> Result<String, Fail>
     requires { IsDriven driver.old.plan driver.old.inputs driver.old.net }
     ensures { IsDriven driver.new.plan driver.new.inputs driver.new.net }
@@ -47,7 +47,7 @@ fn answer(alloc: Global, feed: &mut Feed, driver: &mut Driver, line: &str) -> Re
     given(alloc, driver)
 }
 
-// A net that goes on with each row's line from nothing on, and rests behind each. What comes of a line is what its row wants.
+// A way that begins with a net to which nothing has come, goes on with each row's line, rests behind each, and expects what the row wants.
 #[derive(Drop)]
 struct Lines<'a> {
     feed: Feed,
@@ -61,7 +61,7 @@ impl<'a> Way for Lines<'a> {
     }
 }
 
-// Goes on with each row's line, and compares what comes of it with what the row wants.
+// Goes on with each row's line, and expects what the row wants to come of it.
 fn expect_lines(alloc: Global, feed: &mut Feed, driver: &mut Driver, rows: &str) -> Result<(), Fail>
     requires { IsDriven driver.old.plan driver.old.inputs driver.old.net }
     ensures { IsDriven driver.new.plan driver.new.inputs driver.new.net }
@@ -76,7 +76,7 @@ fn expect_lines(alloc: Global, feed: &mut Feed, driver: &mut Driver, rows: &str)
     Ok(())
 }
 
-// The lines of rows, and the sets that these want in all.
+// Returns the lines of rows, and the sets that the rows want in all.
 fn whole_of(alloc: Global, rows: &str) -> Result<(String, String), Fail> {
     let mut lines = String::new(alloc);
     let mut sets = String::new(alloc);
@@ -91,7 +91,7 @@ fn whole_of(alloc: Global, rows: &str) -> Result<(String, String), Fail> {
     Ok((lines, sets))
 }
 
-// A net that has all lines of rows from the start gives the same sets, and comes to the same.
+// Expects a net that has all lines of the rows from the start to give the same sets, and to come to the same.
 fn expect_whole(alloc: Global, case: &Case) -> Result<(), Fail> {
     let (lines, sets) = whole_of(alloc, case.lines)?;
     let wanted = format!(in alloc; "{}{}", sets.as_str(), case.wanted)?;
@@ -106,7 +106,7 @@ fn expect_whole(alloc: Global, case: &Case) -> Result<(), Fail> {
     expect(alloc, driver, &mut Settle, &whole)
 }
 
-// A net of a plan to which lines come one by one.
+// Expects what is wanted of a net of a plan to which lines come one by one.
 fn expect_over(alloc: Global, plan: Plan, lines: &mut Lines, case: &Case) -> Result<(), Fail>
     requires valid { IsValid plan }
     requires fit { OutersFit plan two_outers }
@@ -123,7 +123,7 @@ fn expect_over(alloc: Global, plan: Plan, lines: &mut Lines, case: &Case) -> Res
     }
 }
 
-// A net to which the lines of rows come one by one.
+// Expects what is wanted of a net to which the lines of rows come one by one.
 fn expect_each(alloc: Global, case: &Case) -> Result<(), Fail> {
     let plan = plan_of(alloc, case.graph)?;
     match Feed::new(alloc, &plan) {
@@ -141,9 +141,10 @@ fn expect_each(alloc: Global, case: &Case) -> Result<(), Fail> {
     }
 }
 
-// A row is a line, or `end`, and after `=` the sets that the graph's outputs have then, and how many packets are left. At the end
-// nothing more comes out of the net, the same is left in it, it has come so far, and the calculators that were handed in have had these
-// calls. The sets in all are those of a net that had all lines from the start, which comes to the same.
+// Expects this of the rows of a graph. A row is a line, or `end`, and after `=` the sets that the graph's outputs have then, and how many
+// packets are left. At the end nothing more comes out of the net, the same is left in it, it has come as far as is wanted, and the
+// calculators that were handed in have had these calls. The sets in all are those of a net that had all lines from the start, which comes
+// to the same.
 fn expect_rows(
     alloc: Global,
     graph: &str,

@@ -10,7 +10,7 @@ use mg_sched::Deaf;
 use std::alloc::Global;
 use std::test::Fail;
 
-// The first three packets of a stream, and its bound.
+// Shows the first three packets of a stream, and its bound.
 fn show_stream(alloc: Global, driver: &Driver, stream: u32) -> Result<String, Fail>
     requires { IsDriven driver.now.plan driver.now.inputs driver.now.net }
 {
@@ -22,7 +22,7 @@ fn show_stream(alloc: Global, driver: &Driver, stream: u32) -> Result<String, Fa
     Ok(shown)
 }
 
-// A net has this of a stream.
+// Expects a net to have this of a stream.
 fn expect_stream(alloc: Global, driver: &Driver, stream: u32, wanted: &str) -> Result<(), Fail>
     requires { IsDriven driver.now.plan driver.now.inputs driver.now.net }
 {
@@ -33,7 +33,7 @@ fn expect_stream(alloc: Global, driver: &Driver, stream: u32, wanted: &str) -> R
     Err(Fail::new(format_args!("stream {stream}: {shown}")))
 }
 
-// A net of one node has this of its input and its output, and nothing of a stream that isn't there.
+// Expects a net of one node to have this of its input and its output, and nothing of a stream that isn't there.
 fn expect_streams(alloc: Global, driver: &Driver, input: &str, output: &str) -> Result<(), Fail>
     requires { IsDriven driver.now.plan driver.now.inputs driver.now.net }
 {
@@ -42,7 +42,7 @@ fn expect_streams(alloc: Global, driver: &Driver, input: &str, output: &str) -> 
     expect_stream(alloc, driver, 2, "- - - | -")
 }
 
-// Both packets go through the node. The first one also goes to the collector.
+// Returns the steps by which both packets go through the node, and the first one goes on to the collector.
 fn goes_through() -> &'static [Event] {
     &[
         Event::Deliver { edge: 0 },
@@ -56,7 +56,8 @@ fn goes_through() -> &'static [Event] {
     ]
 }
 
-// What was laid is there; and then, what all have got is given up, and the others keep their numbers.
+// A way that expects what was laid to be there; and then what came along all edges to be given up, while the other packets keep their
+// numbers.
 #[derive(Drop)]
 struct Looks;
 

@@ -8,10 +8,10 @@ use std::test::Fail;
 // How many orders of steps are tried of each graph.
 const ORDERS: u64 = 200;
 
-// How many steps are made at random in each.
+// How many steps are made at random in each order.
 const STEPS: u32 = 500;
 
-// The outcome of a graph under its limit is a wanted one in an order of steps.
+// Expects a wanted outcome of a graph under its limit, with steps in the order of a seed.
 fn expect_order(alloc: Global, case: &Case, seed: u64) -> Result<(), Fail> {
     let mut wander = Wander {
         chance: Chance::new(seed),
@@ -22,7 +22,7 @@ fn expect_order(alloc: Global, case: &Case, seed: u64) -> Result<(), Fail> {
     expect(alloc, driver, &mut Settle, case)
 }
 
-// And in many of them.
+// Expects a wanted outcome of a graph under its limit in many orders of steps.
 fn expect_orders(alloc: Global, case: &Case) -> Result<(), Fail> {
     for seed in 0..ORDERS {
         expect_order(alloc, case, seed)?;

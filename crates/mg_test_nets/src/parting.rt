@@ -16,13 +16,14 @@ use std::test::Fail;
 // At how many places of its run each net comes apart.
 const PLACES: u32 = 60;
 
-// How often it does.
+// How often each net comes apart.
 const PARTINGS: u32 = 3;
 
-// The number of no edge.
+// A number that no edge has.
 const NO_EDGE: u32 = u32::MAX;
 
-// Makes steps that each do something. Then the net comes apart, with something that goes along an edge meanwhile.
+// Makes steps, each of which does something. Then the net comes apart, an edge brings what its port hasn't got, and the net is put together
+// again.
 fn parted_behind(
     alloc: Global,
     driver: Driver,
@@ -37,7 +38,7 @@ fn parted_behind(
     Ok(part_and_join(driver, edge))
 }
 
-// Makes steps that do nothing.
+// Makes steps, each of which does nothing.
 fn idle_at(alloc: Global, driver: Driver, events: &'static [Event]) -> Result<Driver, Fail>
     requires { IsDriven driver.plan driver.inputs driver.net }
     ensures { IfOk result (λ d. IsDriven d.plan d.inputs d.net) }
@@ -46,8 +47,8 @@ fn idle_at(alloc: Global, driver: Driver, events: &'static [Event]) -> Result<Dr
     driven(alloc, driver, &mut Steps { events, effect })
 }
 
-// Until the first set of the sum lies on its desk: the packets come to the loopback and to the sum, the loopback answers the first
-// one with nothing, and its bound rises behind that and goes on to the sum.
+// Returns the steps until the first set of the sum lies on its desk: the packets come to the loopback and to the sum, the loopback answers
+// the first one with nothing, and its bound rises behind that and goes on to the sum.
 fn claims_first() -> &'static [Event] {
     &[
         Event::Deliver { edge: 1 },
@@ -59,7 +60,7 @@ fn claims_first() -> &'static [Event] {
     ]
 }
 
-// A work that was on a desk is there no more, and isn't performed.
+// Returns steps that do nothing, since the work that was on a desk is there no more, and isn't performed.
 fn lost_steps() -> &'static [Event] {
     &[
         Event::Perform { node: 1, number: 0 },
@@ -67,7 +68,7 @@ fn lost_steps() -> &'static [Event] {
     ]
 }
 
-// It is handed out again, and performed.
+// Returns the steps by which the work is handed out again, and performed.
 fn performs_first() -> &'static [Event] {
     &[
         Event::Claim { node: 1 },
@@ -75,12 +76,12 @@ fn performs_first() -> &'static [Event] {
     ]
 }
 
-// What was performed is committed.
+// Returns the step by which what was performed is committed.
 fn commits_first() -> &'static [Event] {
     &[Event::Commit { node: 1, number: 0 }]
 }
 
-// The net comes apart with the first set of the sum on its desk, then with what was performed in its window, and once more behind the
+// Takes the net apart with the first set of the sum on its desk, then with what was performed in its window, and once more behind the
 // commit.
 fn parted_thrice(alloc: Global, case: &Case) -> Result<Driver, Fail>
     ensures { IfOk result (λ d. IsDriven d.plan d.inputs d.net) }
@@ -99,7 +100,7 @@ fn a_work_on_a_desk_is_handed_out_again(rt: HostRuntime) -> Result<(), Fail> {
     expect(rt.alloc(), driver, &mut Settle, &case)
 }
 
-// The first packet of the source is laid.
+// Returns the steps by which the first packet of the source is laid.
 fn lays_first() -> &'static [Event] {
     &[
         Event::Claim { node: 0 },
@@ -108,12 +109,12 @@ fn lays_first() -> &'static [Event] {
     ]
 }
 
-// Nothing goes along an edge, and the source isn't called.
+// Returns steps that do nothing: nothing goes along an edge, and the source isn't called.
 fn waits() -> &'static [Event] {
     &[Event::Deliver { edge: 2 }, Event::Claim { node: 0 }]
 }
 
-// The packet goes to the merge while the net is apart, and fills its queue. So it doesn't go there again, and the source is throttled.
+// Brings the packet to the merge while the net is apart, where it fills a queue. So it doesn't go there again, and the source is throttled.
 fn throttled_apart(alloc: Global, case: &Case) -> Result<Driver, Fail>
     ensures { IfOk result (λ d. IsDriven d.plan d.inputs d.net) }
 {
@@ -129,7 +130,7 @@ fn limits_know_what_came_while_a_net_was_apart(rt: HostRuntime) -> Result<(), Fa
     expect(rt.alloc(), driver, &mut Settle, &case)
 }
 
-// A net that comes apart at a place of its run, and again so many steps behind that.
+// Takes a net apart and puts it together, `PARTINGS` times, each time behind `place` further steps.
 fn parted_at(alloc: Global, driver: Driver, place: u32) -> Result<Driver, Fail>
     requires { IsDriven driver.plan driver.inputs driver.net }
     ensures { IfOk result (λ d. IsDriven d.plan d.inputs d.net) }
@@ -147,7 +148,7 @@ fn parted_at(alloc: Global, driver: Driver, place: u32) -> Result<Driver, Fail>
     Ok(driver)
 }
 
-// The outcome of a graph under its limit is a wanted one where its net comes apart at each of many places of its run.
+// Expects a wanted outcome of a graph under its limit where its net comes apart at each of many places of its run.
 fn expect_places(alloc: Global, case: &Case) -> Result<(), Fail> {
     for place in 0..PLACES {
         let driver = driver_under(alloc, case, case.limit)?;

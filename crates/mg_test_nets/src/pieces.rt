@@ -9,7 +9,7 @@ use mg_value::{BlockList, Packet, Prefix, PrefixList, are_prefixes};
 use std::alloc::{AllocError, Global};
 use std::test::Fail;
 
-// The greater of two bounds.
+// Returns the greater of two bounds.
 fn greater(a: Timestamp, b: Timestamp) -> Timestamp
     ensures { result ≡ max a b }
 {
@@ -33,7 +33,7 @@ fn put_behind(packets: &mut Vec<Packet>, more: &[Packet]) -> Result<(), AllocErr
     Ok(())
 }
 
-// A prefix with a piece behind it.
+// Returns a prefix with a piece behind it. A packet of the piece below the prefix's bound is an error.
 fn with_piece(alloc: Global, before: &Prefix, piece: &Prefix) -> Result<Prefix, Fail>
     ensures { IfOk result (λ now. IsBehind before.now piece.now now) }
 {
@@ -49,7 +49,7 @@ fn with_piece(alloc: Global, before: &Prefix, piece: &Prefix) -> Result<Prefix, 
     })
 }
 
-// The same of each stream.
+// Returns the prefix of each stream with its piece behind it.
 fn with_pieces(alloc: Global, before: &PrefixList, pieces: &PrefixList) -> Result<PrefixList, Fail>
     requires { length pieces.now ≡ length before.now }
     ensures count { IfOk result (λ now. length now ≡ length before.now) }
@@ -64,7 +64,7 @@ fn with_pieces(alloc: Global, before: &PrefixList, pieces: &PrefixList) -> Resul
     Ok(BlockList::from_vec(longer)?)
 }
 
-/// Inputs with a further piece behind them. A piece that can't stand there is refused.
+/// Returns inputs with a further piece behind them. A piece that can't stand there is an error.
 pub(crate) fn longer(alloc: Global, before: &Inputs, piece: &Inputs) -> Result<Inputs, Fail>
     ensures { IfOk result (λ now. HasBehind before.now piece.now now) }
 {

@@ -6,7 +6,7 @@ use mg_calc::{Effect, Event};
 use mg_nets::{Chance, Driver, act};
 use std::test::Fail;
 
-/// Makes steps, each of which has the same effect.
+/// Makes steps, and expects each to have the wanted effect.
 pub(crate) fn make_each(driver: &mut Driver, events: &[Event], wanted: Effect) -> Result<(), Fail>
     requires { IsDriven driver.old.plan driver.old.inputs driver.old.net }
     ensures { IsDriven driver.new.plan driver.new.inputs driver.new.net }
@@ -20,7 +20,7 @@ pub(crate) fn make_each(driver: &mut Driver, events: &[Event], wanted: Effect) -
     Ok(())
 }
 
-/// Makes the step of a number, and tells whether it did something.
+/// Makes the step of this number, and tells whether it did something.
 pub(crate) fn step(driver: &mut Driver, number: u32) -> Result<bool, Fail>
     requires { IsDriven driver.old.plan driver.old.inputs driver.old.net }
     ensures { IsDriven driver.new.plan driver.new.inputs driver.new.net }
@@ -33,7 +33,7 @@ pub(crate) fn step(driver: &mut Driver, number: u32) -> Result<bool, Fail>
     }
 }
 
-/// Makes steps at random, so many.
+/// Makes `steps` steps at random.
 pub(crate) fn wander(driver: &mut Driver, chance: &mut Chance, steps: u32) -> Result<(), Fail>
     requires { IsDriven driver.old.plan driver.old.inputs driver.old.net }
     ensures { IsDriven driver.new.plan driver.new.inputs driver.new.net }
@@ -57,7 +57,7 @@ fn pass(driver: &mut Driver, count: u32) -> Result<bool, Fail>
     Ok(did)
 }
 
-/// Makes steps until none does anything.
+/// Makes steps until none does anything. That there is still something to do after 1,000 rounds of all events is an error.
 pub(crate) fn settle(driver: &mut Driver) -> Result<(), Fail>
     requires { IsDriven driver.old.plan driver.old.inputs driver.old.net }
     ensures { IsDriven driver.new.plan driver.new.inputs driver.new.net }

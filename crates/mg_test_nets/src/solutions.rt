@@ -10,7 +10,7 @@ use mg_value::{BlockList, PrefixList};
 use std::alloc::Global;
 use std::test::Fail;
 
-// The solution over inputs.
+// Returns the solution of a plan over inputs. Inputs that don't fit the plan are an error.
 fn solution_over(alloc: Global, plan: &Plan, inputs: &Inputs) -> Result<Streams, Fail>
     requires { IsValid plan.now }
 {
@@ -20,7 +20,7 @@ fn solution_over(alloc: Global, plan: &Plan, inputs: &Inputs) -> Result<Streams,
     Ok(solve(alloc, plan, inputs)?)
 }
 
-// The solution over packet lines.
+// Returns the solution of a plan over packet lines.
 fn solution_of(alloc: Global, plan: &Plan, lines: &str) -> Result<Streams, Fail>
     requires { IsValid plan.now }
 {
@@ -30,7 +30,7 @@ fn solution_of(alloc: Global, plan: &Plan, lines: &str) -> Result<Streams, Fail>
     streams
 }
 
-// How far streams have come.
+// Returns how far streams have come.
 fn ends_of(alloc: Global, prefixes: &PrefixList) -> Result<StreamEndList, Fail> {
     let mut ends = Vec::new(alloc);
     for prefix in prefixes.as_slice() {
@@ -42,7 +42,7 @@ fn ends_of(alloc: Global, prefixes: &PrefixList) -> Result<StreamEndList, Fail> 
     Ok(BlockList::from_vec(ends)?)
 }
 
-// The packets of the graph's first output, a blank behind each.
+// Shows the packets of the graph's first output, a blank behind each.
 fn show_output(alloc: Global, plan: &Plan, prefixes: &PrefixList) -> Result<String, Fail> {
     let stream = plan.outputs.as_slice().first().ok_or("no output")?;
     let prefix = prefixes
@@ -52,7 +52,7 @@ fn show_output(alloc: Global, plan: &Plan, prefixes: &PrefixList) -> Result<Stri
     show_packets(alloc, prefix.packets.as_slice())
 }
 
-// What a net tells that has come to the solution, whose streams end so.
+// Shows what a net tells that has come to the solution, with how far its streams have come.
 fn show_told(alloc: Global, solution: Streams, streams: StreamEndList) -> Result<String, Fail> {
     let Streams {
         prefixes,
@@ -70,7 +70,7 @@ fn show_told(alloc: Global, solution: Streams, streams: StreamEndList) -> Result
     told
 }
 
-// What a net tells that has come to the solution.
+// Shows what a net tells that has come to the solution.
 fn show_solution(alloc: Global, solution: Streams) -> Result<String, Fail> {
     match ends_of(alloc, &solution.prefixes) {
         Ok(ends) => show_told(alloc, solution, ends),
@@ -81,7 +81,7 @@ fn show_solution(alloc: Global, solution: Streams) -> Result<String, Fail> {
     }
 }
 
-// What comes out of a net that has come to the solution.
+// Shows what comes out of a net that has come to the solution.
 fn show_outcome(alloc: Global, plan: &Plan, solution: Streams) -> Result<String, Fail> {
     match show_output(alloc, plan, &solution.prefixes) {
         Ok(sets) => {
@@ -95,7 +95,7 @@ fn show_outcome(alloc: Global, plan: &Plan, solution: Streams) -> Result<String,
     }
 }
 
-// What comes out of a plan over packet lines.
+// Shows what comes out of the net of a plan over packet lines.
 fn solved_over(alloc: Global, plan: &Plan, lines: &str) -> Result<String, Fail>
     requires { IsValid plan.now }
 {
@@ -103,7 +103,7 @@ fn solved_over(alloc: Global, plan: &Plan, lines: &str) -> Result<String, Fail>
     show_outcome(alloc, plan, solution)
 }
 
-/// What comes out of a graph with one output, of which no packet waits in vain.
+/// Shows what comes out of the net of a graph with one output, where no packet waits in vain.
 pub(crate) fn solved(alloc: Global, graph: &str, lines: &str) -> Result<String, Fail> {
     let plan = plan_of(alloc, graph)?;
     let shown = solved_over(alloc, &plan, lines);

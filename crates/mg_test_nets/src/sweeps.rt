@@ -11,7 +11,7 @@ const LIMITS: [i32; 4] = [1, 2, 100, -1];
 // How many graphs at random are tried.
 const SEEDS: u64 = 40;
 
-// What comes out is a wanted one under each limit.
+// Expects a wanted outcome of a case under each limit.
 fn expect_limits(alloc: Global, case: &Case) -> Result<(), Fail> {
     for limit in LIMITS {
         let driver = driver_under(alloc, case, limit)?;
@@ -28,7 +28,7 @@ fn nets_come_to_the_same_under_any_limit(rt: HostRuntime) -> Result<(), Fail> {
     Ok(())
 }
 
-// What comes out of a graph at random is what the plain program computes.
+// Expects of a graph at random what the plain program computes.
 fn expect_drawn(alloc: Global, drawn: &Drawn) -> Result<(), Fail> {
     let wanted = solved(alloc, drawn.graph.as_str(), drawn.lines.as_str())?;
     expect_limits(alloc, &drawn_case(drawn, wanted.as_str()))

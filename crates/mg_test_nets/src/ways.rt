@@ -9,7 +9,7 @@ use mg_sched::Deaf;
 use std::alloc::Global;
 use std::test::Fail;
 
-/// Steps, each of which has the same effect.
+/// Steps, each of which has to have the same effect.
 #[derive(Drop)]
 pub(crate) struct Steps {
     pub(crate) events: &'static [Event],
@@ -22,7 +22,7 @@ impl Way for Steps {
     }
 }
 
-/// So many steps at random.
+/// A number of steps at random.
 #[derive(Drop)]
 pub(crate) struct Wander {
     pub(crate) chance: Chance,

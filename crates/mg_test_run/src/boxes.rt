@@ -1,4 +1,4 @@
-//! The calculators that are handed in have the calls of their nodes, and come back in their places.
+//! Tests that the calculators which are handed in have the calls of their nodes, and come back in their places.
 
 use crate::graphs::{counting, counting_behind, two_packets};
 use crate::outside::{Outside, assert_text, outside_of, put_came};
@@ -15,7 +15,7 @@ use std::thread::Threads;
 /// How many boxes are handed in.
 const BOXES: usize = 4;
 
-// Puts down what came of a call, the logs that the calculators then have, and what the first of them emits for one set more.
+// Writes what came of a call, the logs that the calculators then have, and what the first of them emits for one more set.
 fn tell<C: Calculator>(
     alloc: Global,
     told: &mut String,
@@ -30,13 +30,13 @@ fn tell<C: Calculator>(
     Ok(())
 }
 
-// A box that counts, and tells its calls.
+// Returns a TallyCalculator that keeps a log of its calls.
 fn tally(alloc: Global) -> Result<Box<LawBox>, AllocError> {
     let tally = tally_box(alloc, true)?;
     Ok(Box::new(alloc, tally)?)
 }
 
-// What so many calls over a graph come to with the same four calculators, which tell their calls.
+// Returns what comes of a number of calls over a graph with the same four calculators, which keep logs.
 fn told_of<R: Threads + Wait + Sync>(
     rt: &R,
     alloc: Global,
@@ -49,7 +49,7 @@ fn told_of<R: Threads + Wait + Sync>(
     Ok(told)
 }
 
-// Makes the calls, and puts down what came of each.
+// Makes the calls, and writes what came of each.
 fn tell_calls<R: Threads + Wait + Sync>(
     rt: &R,
     alloc: Global,
@@ -69,7 +69,7 @@ fn tell_calls<R: Threads + Wait + Sync>(
     Ok(())
 }
 
-// Makes a call, and puts down what came of it.
+// Makes a call, and writes what came of it.
 fn tell_call<R: Threads + Wait + Sync>(
     rt: &R,
     alloc: Global,
@@ -83,7 +83,7 @@ fn tell_call<R: Threads + Wait + Sync>(
     tell(alloc, told, status, &outside, boxes)
 }
 
-// The first has the four calls of the one node, and goes on counting from there. A second run begins anew.
+// What two runs come to: the first calculator has the four calls of the one node, and counts on from there. The second run begins anew.
 fn told_by_runs() -> &'static str {
     r#"0
 {"stream":"out","ts":1,"value":1}
@@ -102,14 +102,14 @@ fn boxes_have_their_calls(rt: HostRuntime) -> Result<(), Fail> {
     assert_text(told.as_str(), told_by_runs())
 }
 
-// Workers make the same calls, behind a node that hands the packets on.
+// Workers make the same calls, here behind a node that hands the packets on.
 #[test]
 fn boxes_have_their_calls_by_workers(rt: HostRuntime) -> Result<(), Fail> {
     let told = told_of(&rt, rt.alloc(), "run --workers 2", counting_behind(), 2)?;
     assert_text(told.as_str(), told_by_runs())
 }
 
-// The same over three packets that are made, whose report is in the notes: the input isn't read.
+// What two runs over three packets that are made come to. The report stands in the notes, and the input isn't read.
 fn told_by_generating() -> &'static str {
     r#"0
 out packets=3 first=0 last=20 sum=6
@@ -138,7 +138,7 @@ fn boxes_have_their_calls_of_packets_that_are_made(rt: HostRuntime) -> Result<()
     assert_text(told.as_str(), told_by_generating())
 }
 
-// The same where the run is recorded.
+// What a run that is recorded comes to.
 fn told_by_tracing() -> &'static str {
     r#"0
 {"stream":"in","ts":1,"value":"a"}
@@ -166,7 +166,7 @@ fn boxes_have_their_calls_of_a_recorded_run(rt: HostRuntime) -> Result<(), Fail>
     assert_text(told.as_str(), told_by_tracing())
 }
 
-// None has a call, and the first counts from 1 on.
+// What solving the graph comes to: no calculator has a call, and the first counts from 1 on.
 fn told_by_solve() -> &'static str {
     r#"0
 {"stream":"out","ts":1,"value":1}

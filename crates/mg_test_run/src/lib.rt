@@ -1,5 +1,5 @@
-//! The tests of the top call that no table of rows can make: what is called round each Process call, that workers make two of them side
-//! by side, how early a run writes, and which calls the calculators have that are handed in. There is nothing else here, so that no other
+//! The tests of the top call that no table of rows can make: what is called round each Process call, that workers make two calls side by
+//! side, how early a run writes, and which calls the calculators have that are handed in. There is nothing else here, so that no other
 //! crate is proved a second time with its tests.
 #![tactic(auto)]
 

@@ -13,8 +13,8 @@ use std::thread::Threads;
 /// How many bytes each sink in memory takes.
 const ROOM: usize = 4096;
 
-/// The words of a call, and its devices. Their types are parameters for the time of the proof too: where a function knows
-/// them, each clause of the top call is written out over the objects in memory.
+/// The words of a call, and its devices. The devices' types are parameters for the time of the proof too: where a function knows them, each
+/// clause of the top call is written out over the objects in memory.
 #[derive(Drop)]
 pub(crate) struct Outside<T, S, K, E> {
     pub words: Vec<MgText>,
@@ -25,7 +25,7 @@ pub(crate) struct Outside<T, S, K, E> {
 }
 
 impl<T: Store, S: Source, K: Sink, E: Sink> Outside<T, S, K, E> {
-    /// The top call.
+    /// Makes the top call.
     pub fn run<R: Threads + Wait + Sync, G: Gate + Sync>(
         &mut self,
         rt: &R,
@@ -47,7 +47,7 @@ impl<T: Store, S: Source, K: Sink, E: Sink> Outside<T, S, K, E> {
     }
 }
 
-/// What a call is made with that does this with a graph, over these packet lines, all in memory.
+/// Returns the words and devices of a call that does a command with a graph over these packet lines, all in memory.
 pub(crate) fn outside_of(
     alloc: Global,
     command: &str,
@@ -58,7 +58,7 @@ pub(crate) fn outside_of(
     outside_over(alloc, command, graph, input, sink(alloc)?)
 }
 
-/// The same over any input and output.
+/// Returns the words and devices of a call that does a command with a graph, over any input and output.
 pub(crate) fn outside_over<S: Source + Drop, K: Sink + Drop>(
     alloc: Global,
     command: &str,
@@ -79,7 +79,7 @@ pub(crate) fn outside_over<S: Source + Drop, K: Sink + Drop>(
     Ok(outside)
 }
 
-// The words of a command, with blanks between them, and behind them the name of the graph's file.
+// Appends the words of a command, which has blanks between them, and the name of the graph's file.
 fn put_words(alloc: Global, words: &mut Vec<MgText>, command: &str) -> Result<(), Fail> {
     for word in command.split(' ') {
         put_word(alloc, words, word)?;
@@ -92,12 +92,12 @@ fn put_word(alloc: Global, words: &mut Vec<MgText>, word: &str) -> Result<(), Fa
     Ok(())
 }
 
-// An empty sink.
+// Returns a sink that has taken nothing yet.
 fn sink(alloc: Global) -> Result<MemorySink, Fail> {
     Ok(MemorySink::new(alloc, ROOM, &[])?)
 }
 
-/// The status and the texts that came of a call.
+/// Returns the status and the texts that came of a call, as one text.
 pub(crate) fn show_came(
     alloc: Global,
     status: Status,
@@ -109,7 +109,7 @@ pub(crate) fn show_came(
     Ok(told)
 }
 
-/// Puts these down behind a text.
+/// Appends the status and the texts that came of a call to a text.
 pub(crate) fn put_came(
     told: &mut String,
     status: Status,
@@ -121,7 +121,7 @@ pub(crate) fn put_came(
     put_taken(told, notes)
 }
 
-/// Puts down the text that a sink took.
+/// Appends the text that a sink took to a text.
 pub(crate) fn put_taken(told: &mut String, sink: &MemorySink) -> Result<(), Fail> {
     told.push_str(str::from_utf8(sink.taken())?)?;
     Ok(())

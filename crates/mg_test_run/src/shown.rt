@@ -1,4 +1,4 @@
-//! How what calculators tell is written.
+//! Writes what calculators tell as text.
 
 use mg_calc::{Calculator, Call, CallList, Emission, Laid};
 use mg_tables::{packet_at, show_packet_at, text_of, time_of};
@@ -6,7 +6,7 @@ use mg_value::{InputSet, Packet};
 use std::alloc::Global;
 use std::test::Fail;
 
-// Puts down a call behind a blank: a set by its time.
+// Appends a blank and a call: a set by its time.
 fn put_call(alloc: Global, told: &mut String, call: &Call) -> Result<(), Fail> {
     match call {
         Call::Begun => told.push_str(" begun")?,
@@ -26,7 +26,7 @@ fn put_calls(alloc: Global, told: &mut String, calls: &CallList) -> Result<(), F
     Ok(())
 }
 
-/// Puts down the calls of calculators, `;` behind those of each.
+/// Appends the calls of calculators, with a `;` behind those of each.
 pub(crate) fn put_logs<C: Calculator>(
     alloc: Global,
     told: &mut String,
@@ -39,7 +39,7 @@ pub(crate) fn put_logs<C: Calculator>(
     Ok(())
 }
 
-// Puts down a packet behind a blank.
+// Appends a blank and a packet.
 fn put_packet(alloc: Global, told: &mut String, packet: &Packet) -> Result<(), Fail> {
     let packet = show_packet_at(alloc, packet)?;
     write!(told, " {}", packet.as_str())?;
@@ -53,7 +53,7 @@ fn put_laid(alloc: Global, told: &mut String, laid: &Laid) -> Result<(), Fail> {
     Ok(())
 }
 
-// Puts down the packets that are emitted, each behind a blank.
+// Appends the packets of an emission, a blank before each.
 fn put_emission(alloc: Global, told: &mut String, emission: &Emission) -> Result<(), Fail> {
     for laid in emission.as_slice() {
         put_laid(alloc, told, laid)?;
@@ -61,7 +61,7 @@ fn put_emission(alloc: Global, told: &mut String, emission: &Emission) -> Result
     Ok(())
 }
 
-// A set of one packet, at time 9.
+// Returns a set of one packet, at time 9.
 fn set_at_nine(alloc: Global) -> Result<InputSet, Fail> {
     let packet = packet_at(alloc, "0@9")?;
     let mut set = InputSet::new(alloc, 1)?;
@@ -69,7 +69,7 @@ fn set_at_nine(alloc: Global) -> Result<InputSet, Fail> {
     Ok(set)
 }
 
-// Puts down what a calculator with one input emits for one set more.
+// Appends what a calculator with one input emits for one more set.
 fn put_further<C: Calculator>(
     alloc: Global,
     told: &mut String,
@@ -86,7 +86,7 @@ fn put_further<C: Calculator>(
     }
 }
 
-/// Puts down what the first of some calculators emits for one set more.
+/// Appends what the first of some calculators emits for one more set.
 pub(crate) fn put_first<C: Calculator>(
     alloc: Global,
     told: &mut String,

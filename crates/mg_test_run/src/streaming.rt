@@ -1,4 +1,4 @@
-//! A run writes while its input still comes.
+//! Tests that a run writes while its input still comes.
 ghost use Rattle.std.specs.Prelude.{None};
 
 use crate::graphs::passing;
@@ -14,7 +14,7 @@ use std::thread::Threads;
 // How many bytes a line has, with its line feed.
 const LINE: usize = 37;
 
-// Gives a line at each read. Before line 8,193 something has to have been taken, or it fails there.
+// Gives a line at each read. The read of line 8,193 fails unless the output has taken something by then.
 #[derive(Drop)]
 struct Impatient<'a> {
     lines: MemorySource,
@@ -45,7 +45,7 @@ impl<'a> Source for Impatient<'a> {
     }
 }
 
-// Takes all bytes and counts them, and lets the source know.
+// Takes and counts all bytes, and lets the source know.
 #[derive(Drop)]
 struct Noting<'a> {
     has_taken: &'a AtomicBool,
@@ -62,7 +62,7 @@ impl<'a> Sink for Noting<'a> {
     }
 }
 
-// Ten thousand packets, in lines of equal length.
+// Returns the lines of ten thousand packets, all of the same length.
 fn many_packets(alloc: Global) -> Result<String, Fail> {
     let mut lines = String::new(alloc);
     for at in 10_000u32..20_000 {
@@ -81,7 +81,7 @@ fn source<'a>(alloc: Global, has_taken: &'a AtomicBool) -> Result<Impatient<'a>,
     })
 }
 
-// The status and the notes of a call over many packets, and how many bytes it wrote.
+// Returns the status and the notes of a call over many packets, and how many bytes it wrote.
 fn came_by<R: Threads + Wait + Sync>(rt: &R, alloc: Global, command: &str) -> Result<String, Fail> {
     let has_taken = AtomicBool::new(false);
     let output = Noting {
@@ -94,7 +94,7 @@ fn came_by<R: Threads + Wait + Sync>(rt: &R, alloc: Global, command: &str) -> Re
     show(alloc, status, outside.output.bytes, &outside.notes)
 }
 
-// A status, how many bytes were written, and notes.
+// Returns a status, how many bytes were written, and notes, as one text.
 fn show(alloc: Global, status: Status, bytes: u64, notes: &MemorySink) -> Result<String, Fail> {
     let mut told = String::new(alloc);
     write!(told, "{} {bytes} ", status.number())?;
@@ -114,7 +114,7 @@ fn streams_as_it_goes_with_workers(rt: HostRuntime) -> Result<(), Fail> {
     assert_text(came.as_str(), "0 380000 ")
 }
 
-// It reads all of its input first, so that the source fails.
+// `solve` reads all of its input before it writes, so the source fails.
 #[test]
 fn solve_writes_at_the_end(rt: HostRuntime) -> Result<(), Fail> {
     let came = came_by(&rt, rt.alloc(), "solve")?;

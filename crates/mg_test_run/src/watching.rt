@@ -1,4 +1,4 @@
-//! A gate is called round each Process call.
+//! Tests that a gate is called round each Process call.
 
 use crate::graphs::{five_packets, parted, parting, thinned, thinning, thinning_beside_a_source};
 use crate::outside::{assert_text, outside_of, show_came};
@@ -9,7 +9,8 @@ use std::sync::atomic::{AtomicU64, Ordering};
 use std::test::Fail;
 use std::thread::Threads;
 
-// Counts the calls of node 0, and those of them that don't come in turn: with the numbers from 0 on, in and out again.
+// Counts the calls of node 0, and how many of these don't come in turn: calls have the numbers from 0 on, and each enters and leaves before
+// the next one.
 #[derive(Drop)]
 struct Counts {
     entered: AtomicU64,
@@ -26,7 +27,7 @@ impl Counts {
         }
     }
 
-    // Counts a call for which these two have to be one number, where they aren't.
+    // Counts a call as out of turn where the two numbers aren't the same.
     fn note(&self, number: u64, others: u64) {
         if number != others {
             self.out_of_turn.fetch_add(1, Ordering::SeqCst);
@@ -56,7 +57,7 @@ impl Gate for Counts {
     }
 }
 
-// The status and the texts that a command comes to over a graph and packet lines, through a gate.
+// Returns the status and the texts that a command comes to over a graph and packet lines, through a gate.
 fn came_over<R: Threads + Wait + Sync, G: Gate + Sync>(
     rt: &R,
     alloc: Global,
@@ -70,7 +71,7 @@ fn came_over<R: Threads + Wait + Sync, G: Gate + Sync>(
     show_came(alloc, status, &outside.output, &outside.notes)
 }
 
-// The same over five packets, where the command reads any, through a gate that counts.
+// Returns the status and the texts that a command comes to over a graph, and over five packets if it reads any, through a gate that counts.
 fn came_through<R: Threads + Wait + Sync>(
     rt: &R,
     alloc: Global,
@@ -91,7 +92,7 @@ fn gate_counts(rt: HostRuntime) -> Result<(), Fail> {
     assert_text(gate.show(alloc)?.as_str(), "5 5 0")
 }
 
-// Workers show a node its sets in the same turn, beside a source.
+// Workers show a node its sets in turn as well, here beside a source.
 #[test]
 fn gate_counts_with_workers(rt: HostRuntime) -> Result<(), Fail> {
     let alloc = rt.alloc();
@@ -107,7 +108,7 @@ fn gate_counts_with_workers(rt: HostRuntime) -> Result<(), Fail> {
     assert_text(gate.show(alloc)?.as_str(), "5 5 0")
 }
 
-// Of seven packets that are made each is shown.
+// Seven packets are made, and each is shown.
 #[test]
 fn gate_counts_packets_that_are_made(rt: HostRuntime) -> Result<(), Fail> {
     let alloc = rt.alloc();

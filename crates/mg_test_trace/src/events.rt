@@ -1,4 +1,4 @@
-//! Events: what each line is read as, and what is written of that.
+//! Tests of events: which event each line is read as, and that the line is written of it again.
 
 use mg_calc::Plan;
 use mg_plans::plan_of;
@@ -7,7 +7,7 @@ use mg_trace::{read_event, write_event};
 use std::alloc::Global;
 use std::test::Fail;
 
-// A graph of one node. Its edges are those into the node and into the graph's output.
+// A graph of one node, which has two edges: one into the node, and one into the graph's output.
 fn passing() -> &'static str {
     r#"input_stream: "in" output_stream: "out"
 node { calculator: "PassThroughCalculator" input_stream: "in" output_stream: "out" }"#
@@ -54,14 +54,14 @@ ended=none
 =none"
 }
 
-// A plan for which lines are read.
+// The plan for which lines are read.
 #[derive(Drop)]
 struct Reading {
     plan: Plan,
 }
 
 impl Calls for Reading {
-    // A line is read as an event, whose text has to be the line again.
+    // Reads a line as an event, whose text has to be the line again.
     fn answer(&mut self, alloc: Global, call: &str) -> Result<String, Fail> {
         let text = format!(in alloc; "{call}\n")?;
         let Some(event) = read_event(text.as_bytes(), &self.plan) else {

@@ -1,4 +1,4 @@
-//! Jobs: the canonical lines of what packet lines told.
+//! Tests of jobs: which canonical lines are written of what packet lines gave.
 
 use mg_calc::Plan;
 use mg_plans::{inputs_of, plan_of};
@@ -12,13 +12,13 @@ fn passing() -> &'static str {
 node { calculator: "PassThroughCalculator" input_stream: "in" output_stream: "out" }"#
 }
 
-/// Two streams and two side packets, of which the second comes first in the graph.
+/// A graph of two input streams and two side packets, each pair in the reverse order of their names.
 pub fn two_of_each() -> &'static str {
     r#"input_stream: "b" input_stream: "a" output_stream: "b" output_stream: "a"
 input_side_packet: "z" input_side_packet: "y""#
 }
 
-// Whether the input ended well and the lines that came, and after `=` those that are written.
+// Rows of whether the input ended well and the lines that came, and after `=` the lines that are written.
 fn one_stream() -> &'static str {
     r#"ended {"stream":"in","ts":5,"value":7}={"stream":"in","ts":5,"value":7};ended;
 ended =ended;
@@ -43,7 +43,7 @@ frozen {"side":"y","value":1}={"side":"y","value":1};frozen;
 frozen {"stream":"a","close":true};{"stream":"b","bound":9}={"bound":9,"stream":"b"};{"close":true,"stream":"a"};frozen;"#
 }
 
-/// The parts of a text that aren't empty, each with an end.
+/// Returns the parts of a text that aren't empty, each with `end` behind it.
 pub fn rejoined(alloc: Global, text: &str, between: char, end: &str) -> Result<String, Fail> {
     let mut joined = String::new(alloc);
     for part in text.split(between) {
@@ -55,14 +55,14 @@ pub fn rejoined(alloc: Global, text: &str, between: char, end: &str) -> Result<S
     Ok(joined)
 }
 
-// A plan whose jobs are written.
+// The plan whose jobs are written.
 #[derive(Drop)]
 struct Writing {
     plan: Plan,
 }
 
 impl Calls for Writing {
-    // Semicolons stand between the lines of a call, and behind each line of the answer.
+    // Writes the job of some lines. Semicolons stand between the lines of the call, and behind each line of the answer.
     fn answer(&mut self, alloc: Global, call: &str) -> Result<String, Fail> {
         let (end, lines) = call.split_once(' ').ok_or("no space")?;
         let came = rejoined(alloc, lines, ';', "\n")?;

@@ -1,4 +1,4 @@
-//! Packets that are made piece by piece: the canonical lines of each piece, which are those of the packets of its numbers.
+//! Tests of packets that are made piece by piece: the canonical lines of each piece.
 
 use crate::jobs::{rejoined, two_of_each};
 use mg_calc::Plan;
@@ -9,13 +9,13 @@ use mg_trace::write_job;
 use std::alloc::Global;
 use std::test::Fail;
 
-// Two inputs, of which the first takes anything and the second truths.
+// A graph of two inputs, of which the first takes anything and the second truth values.
 fn gate() -> &'static str {
     r#"input_stream: "n" input_stream: "allow" output_stream: "kept"
 node { calculator: "GateCalculator" input_stream: "n" input_stream: "ALLOW:allow" output_stream: "kept" }"#
 }
 
-// How many packets there are, and how many a piece has at most, and after `=` the lines of each piece.
+// Rows of how many packets there are and how many a piece has at most, and after `=` the lines of each piece.
 fn two_kinds() -> &'static str {
     r#"5 5={"stream":"n","ts":0,"value":0};{"stream":"n","ts":10,"value":2};{"stream":"n","ts":20,"value":4};{"stream":"allow","ts":0,"value":true};{"stream":"allow","ts":10,"value":false};ended;
 5 6={"stream":"n","ts":0,"value":0};{"stream":"n","ts":10,"value":2};{"stream":"n","ts":20,"value":4};{"stream":"allow","ts":0,"value":true};{"stream":"allow","ts":10,"value":false};ended;
@@ -27,20 +27,20 @@ fn two_kinds() -> &'static str {
 0 3=ended;"#
 }
 
-// Each piece has all side packets.
+// Rows of the same form for a graph with side packets, all of which each piece has.
 fn with_sides() -> &'static str {
     r#"3 2={"side":"z","value":1};{"side":"y","value":1};{"stream":"b","ts":0,"value":0};{"stream":"a","ts":0,"value":1};frozen;{"side":"z","value":1};{"side":"y","value":1};{"stream":"b","ts":10,"value":2};ended;
 0 1={"side":"z","value":1};{"side":"y","value":1};ended;"#
 }
 
-// A plan for which packets are made.
+// The plan for which packets are made.
 #[derive(Drop)]
 struct Making {
     plan: Plan,
 }
 
 impl Making {
-    // The lines of all pieces, of which there are no more than so many.
+    // Returns the lines of all pieces, or of the first 16 of them.
     fn pieces(&self, alloc: Global, number: u32, most: u32) -> Result<String, Fail> {
         let mut generator = Generator::new(alloc, &self.plan, number)?;
         let mut lines = String::new(alloc);

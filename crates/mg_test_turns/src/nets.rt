@@ -1,4 +1,4 @@
-//! How the nets of the tests are shared, and what comes out of them at the end.
+//! Sharing the nets of the tests, and taking what comes out of them at the end.
 ghost use Rattle.std.specs.Prelude.{◌≡◌, ◌^◌, [], IfOk};
 ghost use Rattle.mg_calc.specs.Plan.{IsValid, OutersFit};
 ghost use Rattle.mg_sched.specs.StandsFor.{IsRunning};
@@ -19,7 +19,7 @@ use mg_workers::Kept;
 use std::alloc::Global;
 use std::test::Fail;
 
-// The net of a plan with one output over inputs, shared before anything came or was laid.
+// Returns the net of a plan with one output over inputs, shared before anything came or was laid.
 fn shared_over(alloc: Global, plan: &Plan, inputs: &Inputs) -> Result<Shared, Fail>
     requires valid { IsValid plan.now }
     requires none { OutersFit plan.now [] }
@@ -38,7 +38,7 @@ fn shared_over(alloc: Global, plan: &Plan, inputs: &Inputs) -> Result<Shared, Fa
     Ok(shared)
 }
 
-// The same over packet lines.
+// Returns the net of a plan with one output over packet lines, shared before anything came or was laid.
 fn shared_by(alloc: Global, plan: &Plan, lines: &str) -> Result<Shared, Fail>
     requires valid { IsValid plan.now }
     requires none { OutersFit plan.now [] }
@@ -52,7 +52,7 @@ fn shared_by(alloc: Global, plan: &Plan, lines: &str) -> Result<Shared, Fail>
     shared
 }
 
-/// The net of a graph with one output over packet lines, shared before anything came or was laid.
+/// Returns the net of a graph with one output over packet lines, shared before anything came or was laid.
 pub(crate) fn shared_of(alloc: Global, graph: &str, lines: &str) -> Result<Shared, Fail>
     ensures shared { IfOk result (λ r. IsShared r.net r.seat) }
     ensures whole { IfOk result (λ r. (view_of r.seat).portion ≡ 2 ^ 32) }
@@ -65,7 +65,7 @@ pub(crate) fn shared_of(alloc: Global, graph: &str, lines: &str) -> Result<Share
     shared
 }
 
-// Takes all sets that come out of a net, which have to be so many. It shows the last one.
+// Takes all sets that come out of a net, of which there have to be `count`, and returns the last one as a text.
 fn last_taken(alloc: Global, net: &mut Net<LawBox>, count: u32) -> Result<String, Fail>
     requires { HasOutputs 1 net.old }
 {
@@ -81,7 +81,7 @@ fn last_taken(alloc: Global, net: &mut Net<LawBox>, count: u32) -> Result<String
     show_set_at(alloc, &set)
 }
 
-// Sweeps a net, and takes all sets that come out, which have to be so many. It shows the last one.
+// Sweeps a net, takes all sets that come out, of which there have to be `count`, and returns the last one as a text.
 fn last_swept(alloc: Global, net: &mut Net<LawBox>, count: u32) -> Result<String, Fail>
     requires running { IsRunning net.old }
     requires outputs { HasOutputs 1 net.old }
@@ -90,7 +90,7 @@ fn last_swept(alloc: Global, net: &mut Net<LawBox>, count: u32) -> Result<String
     last_taken(alloc, net, count)
 }
 
-/// Sweeps a net, and takes all sets that come out, which have to be so many, and the last one this.
+/// Sweeps a net, and checks that `count` sets come out, and the last one is `wanted`.
 pub(crate) fn expect_last(
     alloc: Global,
     net: Net<LawBox>,
@@ -110,7 +110,7 @@ pub(crate) fn expect_last(
     Err(Fail::new(format_args!("{last} is the last")))
 }
 
-/// Lets a shared net go.
+/// Drops a shared net with its seat.
 pub(crate) fn let_go(net: SharedNet<LawBox>, seat: NetSeat<LawBox>, kept: Kept<LawBox>) {
     drop(net);
     drop(seat);

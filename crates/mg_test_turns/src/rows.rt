@@ -17,13 +17,13 @@ use mg_workers::Kept;
 use std::alloc::Global;
 use std::test::Fail;
 
-// One packet goes through.
+// A graph of one node that passes packets through.
 fn passing() -> &'static str {
     r#"input_stream: "in" output_stream: "out"
 node { calculator: "PassThroughCalculator" input_stream: "in" output_stream: "out" }"#
 }
 
-// The net, with its one node.
+// Returns the shared net of `passing` over one packet at 5. It has one node.
 fn one_node(alloc: Global) -> Result<Shared, Fail>
     ensures shared { IfOk result (λ r. IsShared r.net r.seat) }
     ensures whole { IfOk result (λ r. (view_of r.seat).portion ≡ 2 ^ 32) }
@@ -38,7 +38,7 @@ fn one_node(alloc: Global) -> Result<Shared, Fail>
     Ok(shared)
 }
 
-// The node hands out its one work to a seat.
+// Claims the node's one work for a seat: the set at 5.
 fn work_at_five(net: &SharedNet<LawBox>, seat: &mut NetSeat<LawBox>) -> Result<Work<LawBox>, Fail>
     requires shared { IsShared net.now seat.old }
     requires one { nodes_in (key_of net.now) ≡ 1 }
@@ -58,7 +58,7 @@ fn work_at_five(net: &SharedNet<LawBox>, seat: &mut NetSeat<LawBox>) -> Result<W
     }
 }
 
-// A second seat gets no work meanwhile.
+// Checks that a second seat gets no work meanwhile.
 fn gets_none(net: &SharedNet<LawBox>, seat: &mut NetSeat<LawBox>) -> Result<(), Fail>
     requires shared { IsShared net.now seat.old }
     requires one { nodes_in (key_of net.now) ≡ 1 }
@@ -75,7 +75,7 @@ fn gets_none(net: &SharedNet<LawBox>, seat: &mut NetSeat<LawBox>) -> Result<(), 
     }
 }
 
-// The work is committed, or put back into its window, by the seat that has it.
+// Commits the work, or puts it back into its window, by the seat that has it.
 fn comes_back(
     net: &SharedNet<LawBox>,
     seat: &mut NetSeat<LawBox>,
@@ -100,7 +100,7 @@ fn comes_back(
     }
 }
 
-// A seat has a work, of which a second one gets none. It is performed, and comes back.
+// Checks that a second seat gets no work while the first seat has one, and then performs that and brings it back.
 fn comes_round(
     alloc: Global,
     net: &SharedNet<LawBox>,
@@ -132,7 +132,7 @@ fn comes_round(
     }
 }
 
-// The work goes to one seat and none to another, and comes back. No turn is missed.
+// Brings the packet to the node, and claims its work for one seat while another gets none. Then the work comes back.
 fn goes_round(
     alloc: Global,
     net: &SharedNet<LawBox>,
@@ -162,7 +162,7 @@ fn goes_round(
     }
 }
 
-// Then the packet comes out.
+// Shares the net, lets the work go out and come back, and checks the end.
 fn one_work(alloc: Global, shelves: bool) -> Result<(), Fail> {
     let Shared {
         net,
@@ -178,6 +178,7 @@ fn one_work(alloc: Global, shelves: bool) -> Result<(), Fail> {
     }
 }
 
+// Checks that no turn was missed, and that the packet comes out.
 fn ends(
     alloc: Global,
     net: SharedNet<LawBox>,

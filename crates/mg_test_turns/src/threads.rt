@@ -12,7 +12,7 @@ use std::alloc::Global;
 use std::test::Fail;
 use std::thread::{Threads, join};
 
-/// What a thread comes back with: its seat, how many works it has committed, and how many packets it has brought along edges.
+/// What a thread gives back: its seat, how many works it has committed, and how many packets it has brought along edges.
 #[derive(Drop)]
 struct Worked {
     seat: NetSeat<LawBox>,
@@ -20,7 +20,7 @@ struct Worked {
     brought: u64,
 }
 
-// Works at each node once, at most three works under one pair of turns, and tells how many are committed.
+// Works at each node once, at most three works under one pair of turns, and returns how many are committed.
 fn run_all(alloc: Global, net: &SharedNet<LawBox>, seat: &mut NetSeat<LawBox>) -> u64
     requires { IsShared net.now seat.old }
     ensures { StaysShared net.now seat.old seat.new }
@@ -33,7 +33,7 @@ fn run_all(alloc: Global, net: &SharedNet<LawBox>, seat: &mut NetSeat<LawBox>) -
     done
 }
 
-// Brings packets along each of two edges once, and tells how many.
+// Brings packets along each of the two edges once, and returns how many.
 fn bring_all(net: &SharedNet<LawBox>, seat: &mut NetSeat<LawBox>) -> u64
     requires { IsShared net.now seat.old }
     ensures { StaysShared net.now seat.old seat.new }
@@ -47,7 +47,7 @@ fn bring_all(net: &SharedNet<LawBox>, seat: &mut NetSeat<LawBox>) -> u64
     brought
 }
 
-// Works so many rounds long.
+// Works at all nodes and brings packets along all edges, `rounds` times over.
 fn work(alloc: Global, net: &SharedNet<LawBox>, seat: NetSeat<LawBox>, rounds: u32) -> Worked
     requires { IsShared net.now seat }
     ensures { StaysShared net.now seat result.seat }
@@ -66,7 +66,7 @@ fn work(alloc: Global, net: &SharedNet<LawBox>, seat: NetSeat<LawBox>, rounds: u
     }
 }
 
-// Takes over what another thread comes back with.
+// Joins what two threads give back.
 fn both(net: &SharedNet<LawBox>, one: Worked, other: Worked) -> Worked
     requires shared { IsShared net.now one.seat × IsShared net.now other.seat }
     requires portions { (view_of one.seat).portion + (view_of other.seat).portion ≤ 2 ^ 32 }
@@ -82,7 +82,7 @@ fn both(net: &SharedNet<LawBox>, one: Worked, other: Worked) -> Worked
     }
 }
 
-// So many threads work side by side, and at least one. The seat that comes back has what all had.
+// Lets `threads` threads work side by side, and at least one. The seat that comes back has what all had.
 #[cycle(many)]
 fn many<R: Threads + Sync>(
     rt: &R,
@@ -123,7 +123,7 @@ node { calculator: "CountingSourceCalculator" output_stream: "in"
 node { calculator: "PassThroughCalculator" input_stream: "in" output_stream: "out" }"#
 }
 
-// Some threads work, and then one works off what they left.
+// Lets some threads work, and then one thread work off what they left.
 fn all_work<R: Threads + Sync>(
     rt: &R,
     alloc: Global,
@@ -144,7 +144,7 @@ fn all_work<R: Threads + Sync>(
     }
 }
 
-// What some threads answer adds up: as many works are committed as there are, and as many packets are brought.
+// Checks that what some threads answer adds up: as many works are committed as there are, and as many packets are brought.
 fn add_up<R: Threads + Sync>(rt: &R, alloc: Global, threads: u32) -> Result<(), Fail> {
     let Shared { net, seat, kept } = shared_of(alloc, counting(), "")?;
     let Worked {

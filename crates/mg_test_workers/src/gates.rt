@@ -5,7 +5,7 @@ use mg_nets::Case;
 use std::sync::atomic::{AtomicU64, Ordering};
 use std::test::*;
 
-// Counts its calls.
+// A gate that counts the calls that enter it, and those that leave it.
 #[derive(Drop)]
 struct Counts {
     entered: AtomicU64,
@@ -31,14 +31,14 @@ impl Gate for Counts {
     }
 }
 
-// Packets that come too early are left out.
+// Returns a graph that leaves out packets that come too early.
 fn thinning() -> &'static str {
     r#"input_stream: "in" output_stream: "out"
 node { calculator: "PacketThinnerCalculator" input_stream: "in" output_stream: "out"
   node_options: { [type.googleapis.com/mediapipe.PacketThinnerCalculatorOptions] { period: 10 } } }"#
 }
 
-// Five packets, of which two come too early.
+// Returns the lines of five packets, of which two come too early.
 fn five_packets() -> &'static str {
     r#"{"stream":"in","ts":0,"value":1}
 {"stream":"in","ts":4,"value":2}
@@ -47,7 +47,7 @@ fn five_packets() -> &'static str {
 {"stream":"in","ts":20,"value":5}"#
 }
 
-// The case of it, of which two packets don't come out.
+// Returns the case of these packets, of which two don't come out.
 fn thinned() -> Case<'static> {
     Case {
         graph: thinning(),

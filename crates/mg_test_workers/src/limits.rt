@@ -7,7 +7,7 @@ use std::sync::Wait;
 use std::test::Fail;
 use std::thread::Threads;
 
-// A thousand packets of a source wait for a filter that lets none through.
+// Returns a graph in which a thousand packets of a source wait for a filter that lets none through.
 fn waiting() -> &'static str {
     r#"output_stream: "out"
 node { calculator: "CountingSourceCalculator" output_stream: "n"
@@ -17,7 +17,7 @@ node { calculator: "IntFilterCalculator" input_stream: "n" output_stream: "f"
 node { calculator: "MergeCalculator" input_stream: "f" input_stream: "n" output_stream: "out" }"#
 }
 
-// A case without packet lines.
+// Returns a case without packet lines.
 fn case_of(graph: &'static str, limit: i32, wanted: &'static str) -> Case<'static> {
     Case {
         graph,
@@ -28,14 +28,14 @@ fn case_of(graph: &'static str, limit: i32, wanted: &'static str) -> Case<'stati
     }
 }
 
-// Workers come to the end of it by themselves.
+// Workers come to the end by themselves where full queues have to be relaxed.
 #[test]
 fn full_queues_are_relaxed(rt: HostRuntime) -> Result<(), Fail> {
     let wanted = "..| 0 | 1000 1000 1000 ; 1000@Done 0@Done 1000@Done ;";
     expect_each(&rt, rt.alloc(), &case_of(waiting(), 1, wanted))
 }
 
-// A source, and a node that has several works at once, so that its packets can be brought meanwhile.
+// Returns a graph of a source and a node that has several works at once, so that packets can be brought to it meanwhile.
 fn flying() -> &'static str {
     r#"output_stream: "out"
 node { calculator: "CountingSourceCalculator" output_stream: "n"
@@ -44,7 +44,7 @@ node { calculator: "IntMapCalculator" input_stream: "n" output_stream: "out" max
   options { [mediapipe.IntMapCalculatorOptions.ext] { op: ADD operand: 1 } } }"#
 }
 
-// A source, and a node to which nothing can be brought while it works.
+// Returns a graph of a source and a node to which nothing can be brought while it works.
 fn working() -> &'static str {
     r#"output_stream: "out"
 node { calculator: "CountingSourceCalculator" output_stream: "n"
@@ -52,10 +52,10 @@ node { calculator: "CountingSourceCalculator" output_stream: "n"
 node { calculator: "RunningSumCalculator" input_stream: "n" output_stream: "out" }"#
 }
 
-// All packets of the source go through either of them.
+// What comes out of either graph: all packets of the source go through.
 const GONE_THROUGH: &str = "..| 0 | 300 300 ; 300@Done 300@Done ;";
 
-// While the first work behind a source goes on, the source's call of a number is made by another worker, or it isn't.
+// Expects another worker to make the source's call of this number while the first work of the node behind the source goes on, or not to.
 fn expect_called<R: Threads + Wait + Sync>(
     rt: &R,
     alloc: Global,
@@ -66,7 +66,7 @@ fn expect_called<R: Threads + Wait + Sync>(
     expect_met(rt, alloc, case, (1, 0), (0, call), wanted)
 }
 
-// A source is called 64 times before anybody looks at its queue.
+// A source is called 64 times before a worker looks at the queue behind it.
 #[test]
 fn full_queues_hold_sources_back(rt: HostRuntime) -> Result<(), Fail> {
     let case = case_of(flying(), 100, GONE_THROUGH);
@@ -76,7 +76,7 @@ fn full_queues_hold_sources_back(rt: HostRuntime) -> Result<(), Fail> {
     expect_called(&rt, rt.alloc(), &under(case, -1), 256, true)
 }
 
-// Nor is it called for long where its packets can't be brought.
+// A source isn't called for long where its packets can't be brought.
 #[test]
 fn packets_that_cannot_be_brought_hold_sources_back(rt: HostRuntime) -> Result<(), Fail> {
     let case = case_of(working(), 100, GONE_THROUGH);

@@ -15,7 +15,7 @@ const LONG: u64 = 200_000_000;
 
 const SHORT: u64 = 20_000;
 
-/// Two workers run the net of a case, and two of its Process calls meet, or they don't.
+/// Lets two workers run the net of a case, and expects two of its Process calls to meet, or not to meet.
 pub(crate) fn expect_met<R: Threads + Wait + Sync>(
     rt: &R,
     alloc: Global,
@@ -33,7 +33,7 @@ pub(crate) fn expect_met<R: Threads + Wait + Sync>(
     Err(Fail::new(format_args!("call {}: {}", second.1, case.graph)))
 }
 
-// Two nodes read one stream.
+// Returns a graph of two nodes that read one stream.
 fn side_by_side() -> &'static str {
     r#"input_stream: "in" output_stream: "one" output_stream: "two"
 node { calculator: "IntMapCalculator" input_stream: "in" output_stream: "one"
@@ -42,7 +42,7 @@ node { calculator: "IntMapCalculator" input_stream: "in" output_stream: "two"
   options { [mediapipe.IntMapCalculatorOptions.ext] { op: ADD operand: 10 } } }"#
 }
 
-// The packet goes through both.
+// Returns the case of a packet that goes through both nodes.
 fn both() -> Case<'static> {
     Case {
         graph: side_by_side(),

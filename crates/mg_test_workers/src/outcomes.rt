@@ -12,7 +12,7 @@ const LIMITS: [i32; 4] = [1, 2, 100, -1];
 // How many graphs at random are tried.
 const SEEDS: u64 = 40;
 
-// One of them is a node that adds, whose works are done beside each other.
+// One of the cases is a node that adds, whose works are done at the same time.
 #[test]
 fn workers_come_to_what_is_wanted(rt: HostRuntime) -> Result<(), Fail> {
     for number in 0..CASES {
@@ -21,7 +21,7 @@ fn workers_come_to_what_is_wanted(rt: HostRuntime) -> Result<(), Fail> {
     Ok(())
 }
 
-// What comes out of a graph at random is the same under each limit as on one thread.
+// Expects of a graph at random under each limit what comes out of it on one thread.
 fn expect_drawn<R: Threads + Wait + Sync>(
     rt: &R,
     alloc: Global,

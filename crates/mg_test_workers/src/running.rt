@@ -12,7 +12,7 @@ use std::sync::Wait;
 use std::test::Fail;
 use std::thread::Threads;
 
-// Keeps the first event that it hears.
+// A hearer that keeps the first event that it hears.
 #[derive(Drop)]
 struct First {
     event: Option<Event>,
@@ -28,7 +28,7 @@ impl Hears for First {
     }
 }
 
-// A sweep that finds nothing to do. The net told the same before it.
+// A sweep that has to find nothing to do, and behind which the net tells the same as before.
 #[derive(Drop)]
 struct Rest;
 
@@ -44,7 +44,7 @@ impl Way for Rest {
     }
 }
 
-// A sweep finds nothing to do.
+// Expects a sweep to find nothing to do.
 fn expect_rest(driver: &mut Driver) -> Result<(), Fail>
     requires { IsDriven driver.old.plan driver.old.inputs driver.old.net }
     ensures { IsDriven driver.new.plan driver.new.inputs driver.new.net }
@@ -57,7 +57,7 @@ fn expect_rest(driver: &mut Driver) -> Result<(), Fail>
     }
 }
 
-// Lets so many workers run a net.
+// Lets `workers` workers run a net.
 fn run<R: Threads + Wait + Sync, G: Gate + Sync>(
     rt: &R,
     alloc: Global,
@@ -73,8 +73,8 @@ fn run<R: Threads + Wait + Sync, G: Gate + Sync>(
     Driver { plan, inputs, net }
 }
 
-/// So many workers run the net of a case under its limit, each Process call through a gate. They leave nothing to do, and what comes
-/// out is wanted.
+/// Lets `workers` workers run the net of a case under its limit, each Process call through a gate. Expects them to leave nothing to do, and
+/// a wanted outcome.
 pub(crate) fn expect_run<R: Threads + Wait + Sync, G: Gate + Sync>(
     rt: &R,
     alloc: Global,
@@ -87,10 +87,10 @@ pub(crate) fn expect_run<R: Threads + Wait + Sync, G: Gate + Sync>(
     expect(alloc, driver, &mut Rest, case)
 }
 
-/// How many workers are tried.
+/// The numbers of workers that are tried.
 const WORKERS: [u32; 4] = [1, 2, 4, 8];
 
-/// So it is for each number of workers.
+/// Expects each number of workers to leave nothing to do, and a wanted outcome.
 pub(crate) fn expect_each<R: Threads + Wait + Sync>(
     rt: &R,
     alloc: Global,

@@ -38,7 +38,7 @@ pub record IsTooDeep (file : List ℕ) (place : ℕ) : Type 0 where
   pub some : BeginsText (take (place + 1) file)
   pub all : (rest : List ℕ) (t : Fields) → Gives (take (place + 1) file ++ rest) t → max_depth < depth t
 
--- when a fault is answered; want of memory may be at any time
+-- the cause of each fault; want of memory may come at any time
 abbrev pub IsFault : List ℕ → TextFault → Type 0
 IsFault file (Syntax place) = IsSyntaxFault file place
 IsFault file (TooDeep place) = IsTooDeep file place

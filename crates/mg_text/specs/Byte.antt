@@ -8,7 +8,7 @@ use Rattle.mg_text.specs.declared.parts.Tail.TheVariants.{Whole, OneMore, TwoMor
 abbrev pub is_within : ℕ → ℕ → ℕ → Bool
 is_within low high b = nat_le low b && nat_le b high
 
--- the classes below the digits
+-- the class of a byte below the digits
 unfoldable pub below_digits : ℕ → Class
 below_digits b =
     if b == 10 then LineFeed
@@ -23,7 +23,7 @@ below_digits b =
     else (if b == 47 then Slash
     else Other)))))))))
 
--- the digits, from 48 to 57
+-- the class of a digit, from 48 to 57
 unfoldable pub digit_class : ℕ → Class
 digit_class b =
     if b == 48 then Zero
@@ -31,7 +31,7 @@ digit_class b =
     else (if is_within 50 55 b then OctalDigit
     else Digit))
 
--- from the colon up to the letter a
+-- the class of a byte from the colon up to the letter a, which isn't among them
 unfoldable pub upper_class : ℕ → Class
 upper_class b =
     if b == 58 then Colon
@@ -48,7 +48,7 @@ upper_class b =
     else (if is_within 65 90 b || b == 95 then Letter
     else Other)))))))))))
 
--- from the letter a on
+-- the class of a byte of ASCII from the letter a on
 unfoldable pub lower_class : ℕ → Class
 lower_class b =
     if b == 123 then BraceOpen
@@ -112,17 +112,17 @@ is_hex LetterF = true
 is_hex HexLetter = true
 is_hex _ = false
 
--- a byte of a word after its first
+-- whether a byte of this class may stand in a word after its first byte
 abbrev pub is_word_byte : Class → Bool
 is_word_byte c = is_letter c || is_digit c
 
--- What may not follow a word or a number at once, since it would join it: a letter, a digit or a point.
+-- whether a byte of this class may not follow a word or a number at once, since it would join it: a letter, a digit or a point
 abbrev pub joins : Class → Bool
 joins Dot = true
 joins c = is_word_byte c
 
--- A character past ASCII is UTF-8 (RFC 3629, section 4): a first byte, and the bytes that its row allows.
--- After the first byte, what is awaited: so many bytes from 128 to 191; or a first one of a narrower range.
+-- A character past ASCII is UTF-8 (RFC 3629, section 4): a first byte, and the bytes that its row allows. After the
+-- first byte, what is awaited: so many bytes from 128 to 191; or one of a narrower range, and then so many.
 abbrev pub lead : ℕ → Option Tail
 lead b =
     if is_within 194 223 b then Some OneMore
@@ -134,6 +134,7 @@ lead b =
     else (if b == 244 then Some AfterF4
     else None))))))
 
+-- what is awaited after one more byte, if the byte may come next
 abbrev pub follow : Tail → ℕ → Option Tail
 follow Whole b = None
 follow OneMore b = if is_within 128 191 b then Some Whole else None
@@ -144,7 +145,7 @@ follow AfterED b = if is_within 128 159 b then Some OneMore else None
 follow AfterF0 b = if is_within 144 191 b then Some TwoMore else None
 follow AfterF4 b = if is_within 128 143 b then Some TwoMore else None
 
--- the bytes that end a character
+-- The bytes end a character of which this is awaited.
 pub data IsTail : Tail → List ℕ → Type 0 where
   whole : IsTail Whole []
   byte : {t u : Tail} {b : ℕ} {s : List ℕ} → follow t b ≡ Some u → IsTail u s → IsTail t (b ∷ s)

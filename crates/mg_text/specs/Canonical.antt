@@ -29,40 +29,42 @@ escape_by None b = if nat_lt b 32 || b == 127 then 92 ∷ (48 + b / 64) ∷ (48 
 abbrev pub escape : ℕ → List ℕ
 escape b = escape_by (short_escape b) b
 
--- a string is one piece in double quotes
+-- what a scalar is written as; a quoted text is one piece in double quotes
 abbrev pub spelling : Kind → List ℕ → List ℕ
 spelling word bytes = bytes
 spelling number bytes = bytes
 spelling quoted bytes = 34 ∷ flat_map escape bytes ++ 34 ∷ []
 
--- Each field has a line of its own, indented. A message has the lines of its fields between two of its own.
+-- Each scalar has a line of its own, indented. A message has the lines of its fields between two of its own.
 abbrev pub scalar_line : ℕ → List ℕ → Kind → List ℕ → List ℕ
 scalar_line k name kind bytes = indent k ++ name ++ 58 ∷ 32 ∷ spelling kind bytes ++ 10 ∷ []
 
 abbrev pub message_lines : ℕ → List ℕ → List ℕ → List ℕ
 message_lines k name lines = indent k ++ name ++ 32 ∷ 123 ∷ 10 ∷ lines ++ indent k ++ 125 ∷ 10 ∷ []
 
+-- the lines of fields inside this number of open messages
 abbrev pub lines_of : ℕ → Fields → List ℕ
 lines_of k none = []
 lines_of k (scalar name kind bytes rest) = scalar_line k name kind bytes ++ lines_of k rest
 lines_of k (message name within rest) = message_lines k name (lines_of (suc k) within) ++ lines_of k rest
 
+-- the canonical text of the fields of a file
 abbrev pub canonical : Fields → List ℕ
 canonical t = lines_of 0 t
 
--- the bytes are characters: ASCII, or UTF-8 past it
+-- The bytes are characters: ASCII, or UTF-8 past it.
 pub data AreCharacters : List ℕ → Type 0 where
   no_more : AreCharacters []
   ascii : {b : ℕ} {s : List ℕ} → b < 128 → AreCharacters s → AreCharacters (b ∷ s)
   beyond : {b : ℕ} {t : Tail} {u s : List ℕ} → lead b ≡ Some t → IsTail t u → AreCharacters s → AreCharacters (b ∷ u ++ s)
 
--- a scalar that the grammar spells
+-- The grammar spells a scalar of this kind by these bytes, or a quoted text that has them.
 abbrev pub IsSpelled : Kind → List ℕ → Type 0
 IsSpelled word bytes = IsWord bytes
 IsSpelled number bytes = IsNumber bytes
 IsSpelled quoted bytes = AreCharacters bytes
 
--- names and scalars are spelled by the grammar
+-- The grammar can spell all names and scalars of the fields.
 abbrev pub AreSpelled : Fields → Type 0
 AreSpelled none = Unit {0}
 AreSpelled (scalar name kind bytes rest) = IsName name × IsSpelled kind bytes × AreSpelled rest

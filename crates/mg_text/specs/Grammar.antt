@@ -13,17 +13,17 @@ use Rattle.mg_text.specs.declared.parts.Tail.{Tail}
 use Rattle.mg_text.specs.Byte.{class_of, is_blank, is_letter, is_octal, is_digit, is_hex, is_word_byte, joins, lead, IsTail}
 use Rattle.mg_text.specs.Tree.{word, number, quoted, Fields, none, scalar, message}
 
--- the bytes are all of these classes
+-- The bytes are all of these classes.
 abbrev pub AllOf : (Class → Bool) → List ℕ → Type 0
 AllOf test [] = Unit {0}
 AllOf test (b ∷ bs) = (test (class_of b) ≡ true) × AllOf test bs
 
--- the first byte is of one class, and the others of another
+-- The first byte is of one of these classes, and the others are of one of those.
 abbrev pub Begins : (Class → Bool) → (Class → Bool) → List ℕ → Type 0
 Begins first more [] = ⊥
 Begins first more (b ∷ bs) = (first (class_of b) ≡ true) × AllOf more bs
 
--- at least one byte, all of these classes
+-- There is at least one byte, and all are of these classes.
 abbrev pub Some1 : (Class → Bool) → List ℕ → Type 0
 Some1 test = Begins test test
 
@@ -128,7 +128,7 @@ pub data IsContent (q : Quote) : List ℕ → List ℕ → Type 0 where
   octal_escape : {b i j k : ℕ} {s d : List ℕ} → class_of b ≡ Backslash → is_first_octal (class_of i) ≡ true → is_octal (class_of j) ≡ true
       → is_octal (class_of k) ≡ true → IsContent q s d → IsContent q (b ∷ i ∷ j ∷ k ∷ s) (octal i j k ∷ d)
 
--- nothing that would join the token before
+-- The first byte, if there is one, wouldn't join a word or a number before it.
 abbrev pub Apart : List ℕ → Type 0
 Apart [] = Unit {0}
 Apart (b ∷ bs) = joins (class_of b) ≡ false
@@ -143,17 +143,17 @@ closing Angle = AngleClose
 
 -- The places of a text between its tokens.
 pub data Place : Type 0 where
-  -- where a field may begin, or the message may end; a separator may come before, or not
+  -- where a field may begin, or the message may end; and whether a separator may come before
   start : Bool → Place
   -- after the name of a field
   named : List ℕ → Place
   -- after the colon
   valued : List ℕ → Place
-  -- after the bracket that opens a list, which has a colon before it or hasn't
+  -- after the bracket that opens a list; and whether a colon is before it
   opened : List ℕ → Bool → Place
   -- after the comma of a list of scalars (false) or of messages (true)
   element : List ℕ → Bool → Place
-  -- after an element of such a list
+  -- after an element of a list of scalars (false) or of messages (true)
   behind : List ℕ → Bool → Place
   -- after a piece of a string, with the bytes of the string so far
   joined : List ℕ → Slot → List ℕ → Place
@@ -171,7 +171,7 @@ scalar_slot (opened n true) = Some (n, Scalars)
 scalar_slot (element n false) = Some (n, Scalars)
 scalar_slot _ = None
 
--- where a message may stand
+-- where a message may stand: the field's name, and what it stands in
 abbrev pub message_slot : Place → Option (List ℕ × Slot)
 message_slot (named n) = Some (n, OneValue)
 message_slot (valued n) = Some (n, OneValue)
@@ -179,7 +179,7 @@ message_slot (opened n c) = Some (n, Messages)
 message_slot (element n true) = Some (n, Messages)
 message_slot _ = None
 
--- where a piece of a string may stand, with the bytes of the string so far
+-- where a piece of a string may stand: the field's name, what it stands in, and the bytes of the string so far
 abbrev pub piece_slot : Place → Option (List ℕ × Slot × List ℕ)
 piece_slot (valued n) = Some (n, OneValue, [])
 piece_slot (opened n true) = Some (n, Scalars, [])
@@ -187,13 +187,13 @@ piece_slot (element n false) = Some (n, Scalars, [])
 piece_slot (joined n s sofar) = Some (n, s, sofar)
 piece_slot _ = None
 
--- where a list may stand, and whether a colon is before it
+-- where a list may stand: the field's name, and whether a colon is before it
 abbrev pub list_slot : Place → Option (List ℕ × Bool)
 list_slot (named n) = Some (n, false)
 list_slot (valued n) = Some (n, true)
 list_slot _ = None
 
--- where a list may end: at once, or after an element
+-- whether a list may end at a place: at once, or after an element
 abbrev pub list_ends : Place → Bool
 list_ends (opened n c) = true
 list_ends (behind n m) = true

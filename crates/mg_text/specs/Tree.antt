@@ -14,7 +14,7 @@ pub data Fields : Type 0 where
   scalar : List ℕ → Kind → List ℕ → Fields → Fields
   message : List ℕ → Fields → Fields → Fields
 
--- some fields, and behind them others
+-- some fields, with others behind them
 abbrev pub append : Fields → Fields → Fields
 append none more = more
 append (scalar name kind bytes rest) more = scalar name kind bytes (append rest more)

@@ -8,7 +8,7 @@ use Rattle.mg_text.specs.declared.tree.Tree.{Tree, fold-Tree}
 use Rattle.mg_text.specs.declared.tree.TreeValue.{TreeValue, fold-TreeValue}
 use Rattle.mg_text.specs.declared.tree.TreeValue.TheOpen.{TreeValue-F, Field-F, Tree-F}
 
--- a value without its name
+-- the value of a field, without the field's name
 pub data Value : Type 0 where
   simple : Kind → List ℕ → Value
   inner : Fields → Value
@@ -31,7 +31,7 @@ abbrev pub fields_of : List Entry → Fields
 fields_of [] = none
 fields_of (e ∷ es) = put e.name e.value (fields_of es)
 
--- the value of a tree whose inner fields are already seen as fields
+-- what a value stands for, where what the fields inside it stand for is already known
 abbrev pub value_step : TreeValue-F Value Entry Fields → Value
 value_step (TreeValue-F.Scalar s) = scalar_view s
 value_step (TreeValue-F.Message fields) = inner fields

@@ -24,7 +24,7 @@ impl Class {
         matches!(self, Class::Blank | Class::LineFeed)
     }
 
-    /// Whether it is a byte of a comment by itself.
+    /// Whether a byte of this class is a character of a comment by itself: ASCII, and no line feed.
     pub(crate) fn in_line(self) -> bool
         ensures { result ≡ in_line self }
     {
@@ -87,7 +87,7 @@ impl Class {
         self.is_letter() || self.is_digit()
     }
 
-    /// Whether a byte would join a word or a number before it.
+    /// Whether a byte of this class would belong to a word or a number right before it.
     pub(crate) fn joins(self) -> bool
         ensures { result ≡ joins self }
     {
@@ -98,7 +98,7 @@ impl Class {
     }
 }
 
-/// What a first byte past ASCII awaits.
+/// Returns what is awaited behind the first byte of a character past ASCII, or none where no character begins with the byte.
 pub fn lead(b: u8) -> Option<Tail>
     ensures { result ≡ lead b }
 {
@@ -131,7 +131,7 @@ fn within(low: u8, high: u8, b: u8, next: Tail) -> Option<Tail>
     }
 }
 
-/// What is awaited after one more byte of a character.
+/// Returns what is awaited of a character after one more byte, or none where the byte can't come next.
 pub fn follow(t: Tail, b: u8) -> Option<Tail>
     ensures { result ≡ follow t b }
 {

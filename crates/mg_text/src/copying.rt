@@ -1,5 +1,5 @@
-//! Second copies of trees, and of what is in them. A copy stands for what the first stands for, and is kept by whoever
-//! asked for it, also where the first was only lent. The fields of a message are shared, and never copied.
+//! Copies of trees, and of what is in them. A copy stands for what the first stands for, and belongs to the caller. The
+//! fields of a message aren't copied, but shared.
 ghost use Rattle.std.specs.Prelude.{◌≡◌, IfOk};
 ghost use Rattle.mg_text.specs.View.{view, field_view, value_view, scalar_view};
 
@@ -8,7 +8,7 @@ use std::alloc::{AllocError, Global};
 use std::sync::Arc;
 
 impl Scalar {
-    /// A second copy, for a place that keeps a scalar of its own. An `Err` leaves nothing.
+    /// Returns a copy of the scalar. An error, want of memory, leaves nothing behind.
     pub fn try_clone(&self, alloc: Global) -> Result<Scalar, AllocError>
         ensures { IfOk result (λ copy. scalar_view copy ≡ scalar_view self.now) }
     {
@@ -21,7 +21,7 @@ impl Scalar {
 }
 
 impl TreeValue {
-    /// A second copy, for a field under another name. What is in a message is shared. An `Err` leaves nothing.
+    /// Returns a copy of the value. The fields of a message are shared. An error, want of memory, leaves nothing behind.
     pub fn try_clone(&self, alloc: Global) -> Result<TreeValue, AllocError>
         ensures { IfOk result (λ copy. value_view copy ≡ value_view self.now) }
     {
@@ -33,7 +33,7 @@ impl TreeValue {
 }
 
 impl Field {
-    /// A second copy, for another list of fields. An `Err` leaves nothing.
+    /// Returns a copy of the field. An error, want of memory, leaves nothing behind.
     pub fn try_clone(&self, alloc: Global) -> Result<Field, AllocError>
         ensures { IfOk result (λ copy. field_view copy ≡ field_view self.now) }
     {
@@ -44,8 +44,8 @@ impl Field {
 }
 
 impl Tree {
-    /// A second owner of the same fields, which copies none of them. An `Err` leaves nothing: so many owners as would
-    /// overflow their count are no owners.
+    /// Returns another owner of the same fields, which are shared and not copied. An error, where more owners would
+    /// overflow their count, leaves nothing behind.
     pub fn try_clone(&self) -> Result<Tree, AllocError>
         ensures { IfOk result (λ copy. view copy ≡ view self.now) }
     {

@@ -4,10 +4,10 @@ use thiserror::Error;
 /// Why a file isn't read. A place counts bytes from 0.
 #[derive(Debug, Drop, Error)]
 pub enum TextFault {
-    /// The file is no text of the grammar: the front of it of this length begins some text, and no longer one does.
+    /// The file is no text of the grammar: its first `at` bytes begin some text, and no longer front of it begins one.
     #[error("no text of the grammar goes on as the file does at byte {at}")]
     Syntax { at: u32 },
-    /// The opening mark at this place opens a 65th message at once.
+    /// The mark at byte `at` opens a message inside 64 others, which is one too many.
     #[error("the message that opens at byte {at} is too deep")]
     TooDeep { at: u32 },
     /// The file has more than 4,194,304 bytes.

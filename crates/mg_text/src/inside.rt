@@ -8,7 +8,7 @@ use crate::class::{follow, lead};
 use crate::parts::{Class, Quote, Tail};
 use crate::state::Inside;
 
-/// Whether a byte stands for itself in a piece.
+/// Whether a byte of this class stands for itself in a piece with these quotes.
 pub fn in_piece(q: Quote, c: Class) -> bool
     ensures { result ≡ in_piece q c }
 {
@@ -43,7 +43,7 @@ fn is_first_octal(c: Class) -> bool
     matches!(c, Class::Zero | Class::One)
 }
 
-/// An octal digit after others, in a byte.
+/// Returns the value, as a byte, of the octal digits with value `v` and one digit more.
 fn digit_onto(v: u8, b: u8) -> u8
     ensures { result ≡ digit_onto v b }
 {
@@ -90,7 +90,8 @@ fn escape_next(c: Class, b: u8) -> Option<(Inside, Option<u8>)>
     }
 }
 
-/// What is read next within a piece, and the byte that is spelled, if any, on a byte that doesn't close it.
+/// Returns what is read of a piece after a byte that doesn't close it, and the byte that the string gets, if any; or
+/// none where the byte can't stand there.
 pub fn inside_next(q: Quote, i: Inside, c: Class, b: u8) -> Option<(Inside, Option<u8>)>
     ensures { option_map spelling_of result ≡ inside_next q i c b }
 {

@@ -10,23 +10,23 @@ pub fn one_tree()
     ensures { (text : List ℕ) (t u : Fields) → Gives text t → Gives text u → t ≡ u }
 {}
 
-/// The canonical text of fields that are spelled by the grammar is a text of it, and stands for them.
+/// The canonical text of fields is a text of the grammar that stands for them, where the grammar can spell their names and scalars.
 pub fn canonical_text()
     ensures { (t : Fields) → AreSpelled t → Gives (canonical t) t }
 {}
 
-/// What a text stands for is spelled by the grammar, so it can be printed.
+/// The grammar can spell the names and scalars of what a text stands for, so that can be printed.
 pub fn spelled_text()
     ensures { (text : List ℕ) (t : Fields) → Gives text t → AreSpelled t }
 {}
 
-/// A file has one syntax fault at most, and a text has none.
+/// A file has a syntax fault at one place at most, and a text of the grammar has none.
 pub fn one_syntax_fault()
     ensures one { (file : List ℕ) (p q : ℕ) → IsSyntaxFault file p → IsSyntaxFault file q → p ≡ q }
     ensures no_text { (file : List ℕ) (p : ℕ) (t : Fields) → IsSyntaxFault file p → Gives file t → ⊥ }
 {}
 
-/// A file is too deep at one place at most. Then it has no syntax fault, and is no text that isn't too deep.
+/// A file gets too deep at one place at most. Then it has no syntax fault, and if it is a text, its messages nest too deep.
 pub fn one_too_deep()
     ensures one { (file : List ℕ) (p q : ℕ) → IsTooDeep file p → IsTooDeep file q → p ≡ q }
     ensures no_syntax { (file : List ℕ) (p q : ℕ) → IsTooDeep file p → IsSyntaxFault file q → ⊥ }

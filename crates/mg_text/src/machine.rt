@@ -35,7 +35,7 @@ pub struct Machine {
     pub token: Vec<u8>,
 }
 
-/// The text of bytes that are UTF-8.
+/// Returns a text with a copy of bytes that are UTF-8.
 pub fn text_of(alloc: Global, bytes: &[u8]) -> Result<MgText, AllocError>
     requires { IsUtf8 bytes.now }
     ensures { IfOk result (λ text. text ≡ bytes.now) }
@@ -61,7 +61,7 @@ fn message_of(alloc: Global, fields: Vec<Field>) -> Result<TreeValue, AllocError
 }
 
 impl Machine {
-    /// At the start of a text.
+    /// Returns a machine that has read nothing.
     pub fn new(alloc: Global) -> Machine
         ensures { state_of result ≡ begin }
     {
@@ -83,7 +83,7 @@ impl Machine {
         self.frames.len()
     }
 
-    /// The name of the field, for a value: a list keeps it for its other elements.
+    /// Returns the name of the field for a value in this slot. In a list, the name stays for the other elements too.
     fn take_name(&mut self, alloc: Global, slot: Slot) -> Result<MgText, AllocError>
         ensures name { IfOk result (λ t. t ≡ self.old.name) }
         ensures place { after self.new.name slot ≡ after self.old.name slot }
@@ -113,7 +113,7 @@ impl Machine {
         Ok(place)
     }
 
-    /// Goes on to what is read next, if anything may be.
+    /// Goes on to what is read next, if anything may be, and returns whether anything may be.
     pub fn moves(&mut self, next: Option<Reading>) -> bool
         ensures { Stepped (moves (state_of self.old)
             (option_map (λ r. spot_of r self.old.name self.old.token.items) next)) result (state_of self.new) }
@@ -127,7 +127,7 @@ impl Machine {
         }
     }
 
-    /// Ends a string where no piece follows: the place after it.
+    /// Ends the string at a place, if one stands there, since no further piece follows. Returns the place behind it, or else `p`.
     pub fn settle(&mut self, alloc: Global, p: Between) -> Result<Between, AllocError>
         requires { IsCleanPlace (place_of p self.old.name self.old.token.items) }
         ensures state { OnOk result (state_of self.new
@@ -144,7 +144,7 @@ impl Machine {
         }
     }
 
-    /// Opens a message, where one may stand.
+    /// Opens a message, and returns whether one may stand here.
     pub fn open(&mut self, alloc: Global, p: Between, mark: Mark) -> Result<bool, AllocError>
         ensures { IfOk result (λ taken. Stepped (opens_at (state_of self.old) mark
             (message_slot (place_of p self.old.name self.old.token.items))) taken (state_of self.new)) }
@@ -188,7 +188,7 @@ impl Machine {
         Ok(())
     }
 
-    /// Closes the innermost message, where it may end, by the mark that opened it.
+    /// Closes the innermost message, and returns whether it may end here by this mark.
     pub fn close(&mut self, alloc: Global, p: Between, mark: Mark) -> Result<bool, AllocError>
         ensures { IfOk result (λ taken. Stepped (closes_at (state_of self.old) mark
             (place_of p self.old.name self.old.token.items)) taken (state_of self.new)) }

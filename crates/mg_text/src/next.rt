@@ -10,7 +10,7 @@ fn name_if(holds: bool, next: NamePart) -> Option<NamePart>
     if holds { Some(next) } else { None }
 }
 
-/// The part of a name after one more byte.
+/// Returns how far a name is read after one more byte, or none where the byte doesn't belong to the name.
 pub fn name_next(part: NamePart, c: Class) -> Option<NamePart>
     ensures { result ≡ name_next part c }
 {
@@ -42,7 +42,7 @@ fn scalar_if(holds: bool, next: ScalarPart) -> Option<ScalarPart>
     if holds { Some(next) } else { None }
 }
 
-/// The part of a word or a number after one more byte.
+/// Returns how far a word or a number is read after one more byte, or none where the byte doesn't belong to it.
 pub fn scalar_next(part: ScalarPart, c: Class) -> Option<ScalarPart>
     ensures { result ≡ scalar_next part c }
 {

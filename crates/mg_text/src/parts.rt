@@ -1,5 +1,6 @@
 //! What the grammar of specs/Grammar.antt tells apart: classes of bytes, parts of characters, marks, quotes, and where
-//! a value stands. No call takes or gives one of these; they are here for who reads that page.
+//! a value stands. No function that the crate exports takes or returns one of these; they are public for readers of
+//! that page.
 
 /// The classes of bytes that the grammar tells apart.
 #[derive(Clone, Copy, Debug)]
@@ -39,8 +40,8 @@ pub enum Class {
     Beyond,
 }
 
-/// What is awaited of a character past ASCII: nothing, so many bytes from 128 to 191, or a first one of the
-/// narrower range that its lead byte asks for.
+/// What is awaited of a character past ASCII: nothing, so many bytes from 128 to 191, or one of the narrower range that
+/// its first byte asks for and then as many as are missing.
 #[derive(Clone, Copy, Debug)]
 pub enum Tail {
     Whole,

@@ -1,4 +1,4 @@
-//! Bytes that only lengthen what is being read, taken many at once.
+//! Bytes that only lengthen what is being read are taken many at once.
 ghost use Rattle.std.specs.Prelude.{◌≡◌, ◌≤◌, ◌++◌, take, length, IfOk, OnOk};
 ghost use Rattle.mg_text.specs.Byte.{class_of};
 ghost use Rattle.mg_text.specs.Code.Running.{state_of, Lasts};
@@ -9,7 +9,7 @@ use crate::parts::{Quote, Tail};
 use crate::state::{Inside, NamePart, Reading, Run, ScalarPart};
 use std::alloc::AllocError;
 
-// For each byte the kinds of runs (blanks, a comment, a word, a quoted text) that go on with it, as a letter: 64 and their flags.
+// For each byte the kinds of runs that go on with it, as a character: 64 and the sum of their flags, which `flag_of` gives.
 static RUNS: [u8; 256] = *b"\
     ZZZZZZZZZ[A[[[ZZZZZZZZZZZZZZZZZZ\
     [ZJZZZZRZZZZZZZZ^^^^^^^^^^ZZZZZZ\
@@ -21,8 +21,7 @@ static RUNS: [u8; 256] = *b"\
     @@@@@@@@@@@@@@@@@@@@@@@@@@@@@@@@";
 
 impl Machine {
-    /// Takes the first of some bytes, those that only lengthen what is being read, and answers how many they are. No message
-    /// opens or closes.
+    /// Takes first bytes that only lengthen what is being read, and returns how many were taken. No message opens or closes.
     pub fn take_plain(&mut self, bytes: &[u8]) -> Result<usize, AllocError>
         ensures within { IfOk result (λ count. count ≤ length bytes.now) }
         ensures lasts { IfOk result (λ count. Lasts (state_of self.old) (take count bytes.now) (state_of self.new)) }
@@ -38,7 +37,7 @@ impl Machine {
         }
     }
 
-    // Adds so many bytes to the token.
+    // Adds the first `count` bytes to the token, and returns `count`.
     fn add_all(&mut self, count: usize, bytes: &[u8]) -> Result<usize, AllocError>
         requires { count ≤ length bytes.now }
         ensures count { IfOk result (λ n. n ≡ count) }
@@ -50,7 +49,7 @@ impl Machine {
     }
 }
 
-// What may be lengthened, of what is being read.
+// Returns the run that is being read, or none where further bytes do more than lengthen what is being read.
 fn run_of(reading: Reading) -> Option<Run>
     ensures { result ≡ run_of reading }
 {
@@ -64,7 +63,7 @@ fn run_of(reading: Reading) -> Option<Run>
     }
 }
 
-// How many of the first bytes lengthen it.
+// Returns how many of the first bytes only lengthen the run.
 #[inline(always)]
 fn front(run: Run, bytes: &[u8]) -> usize
     ensures within { result ≤ length bytes.now }
@@ -77,7 +76,7 @@ fn front(run: Run, bytes: &[u8]) -> usize
     count
 }
 
-// Whether a byte lengthens it.
+// Whether a byte only lengthens the run.
 #[inline(always)]
 fn lengthens(run: Run, b: u8) -> bool
     ensures { result ≡ lengthens run (class_of b) }
@@ -85,7 +84,7 @@ fn lengthens(run: Run, b: u8) -> bool
     RUNS[b as usize] & flag_of(run) != 0
 }
 
-// The flag that a run has in the table.
+// Returns the flag of a run in `RUNS`.
 #[inline(always)]
 fn flag_of(run: Run) -> u8
     ensures { result ≡ flag_of run }

@@ -20,7 +20,7 @@ fn put_indent(out: &mut Vec<u8>, k: usize) -> Result<(), AllocError>
     Ok(())
 }
 
-/// The letter or the mark of a byte's short escape.
+/// Returns what stands behind the backslash in the short escape of a byte, or none where the byte has none.
 fn short_escape(b: u8) -> Option<u8>
     ensures { result ≡ short_escape b }
 {
@@ -78,7 +78,7 @@ fn put_scalar(out: &mut Vec<u8>, scalar: &Scalar) -> Result<(), AllocError>
     Ok(())
 }
 
-/// The head of a field's line: its indent and its name.
+/// Writes the front of a field's line: its indent and its name.
 fn put_name(out: &mut Vec<u8>, field: &Field, k: usize) -> Result<(), AllocError>
     requires { k < 2 ^ 32 }
     ensures { OnOk result (out.new.items ≡ out.old.items ++ indent k ++ field.now.name) }
@@ -130,14 +130,14 @@ fn written(alloc: Global, tree: &Tree) -> Result<Vec<u8>, AllocError>
     Ok(out)
 }
 
-/// Writes the canonical text: a line for each field, indented by two spaces per open message. `parse` reads the tree
-/// back from it, where it is at most 4,194,304 bytes long.
+/// Returns the canonical text: a line for each scalar, and a message's lines between two of its own, indented by two
+/// spaces per open message. `parse` reads the tree back from the text, where that is at most 4,194,304 bytes long.
 pub fn print(alloc: Global, tree: &Tree) -> Result<Vec<u8>, AllocError>
     requires spelled { AreSpelled (view tree.now) }
     requires shallow { depth (view tree.now) ≤ max_depth }
 
     ensures text { IfOk result (λ text. text.items ≡ canonical (view tree.now)) }
-    // The grammar gives that text this tree, and no other.
+    // The grammar gives the text this tree, and no other.
     ensures given { IfOk result (λ text. Gives text.items (view tree.now)) }
     ensures only { IfOk result (λ text. (t : Fields) → Gives text.items t → t ≡ view tree.now) }
 {

@@ -19,7 +19,7 @@ const MAX_DEPTH: usize = 64;
 /// The line feed that ends a comment at the end of a file.
 const LINE_FEED: u8 = 10;
 
-/// Ends the file.
+/// Ends a file of `at` bytes, and returns its tree or its fault.
 fn end(alloc: Global, mut machine: Machine, at: u32) -> Result<Tree, TextFault>
     requires { IsClean (spot_of machine.reading machine.name machine.token.items) }
     ensures { FileEnds (state_of machine) at result }
@@ -53,10 +53,10 @@ fn read(alloc: Global, bytes: &[u8]) -> Result<Tree, TextFault>
     end(alloc, machine, bytes.len() as u32)
 }
 
-/// Reads a file in the text form of protocol buffers, in the profile of docs/TEXT_FORMAT.md, after the Protocol
-/// Buffers text format language specification. It takes time in the file's length, and no stack for its depth.
+/// Reads a file in the text form of protocol buffers, in the profile of docs/TEXT_FORMAT.md, after the Protocol Buffers
+/// text format language specification. The time grows with the file's length, and the stack doesn't with its depth.
 pub fn parse(alloc: Global, bytes: &[u8]) -> Result<Tree, TextFault>
-    // What is read is what the grammar gives.
+    // The tree that is returned is the one that the grammar gives.
     ensures ok { IfOk result (λ tree. Gives bytes.now (view tree) × (depth (view tree) ≤ max_depth)) }
     ensures spelled { IfOk result (λ tree. AreSpelled (view tree)) }
     ensures fault { IfErr result (IsFault bytes.now) }

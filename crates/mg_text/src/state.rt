@@ -1,9 +1,9 @@
-//! What the reader of a text is at.
+//! The states that the reader of a text is in between two bytes.
 
 use crate::parts::{Quote, Slot, Tail};
 
-/// A part of a name: in a word; or in brackets, where a word begins or goes on, before the `/` or after it; or
-/// behind the bracket.
+/// How far a name is read: in a word; or in brackets, where a word begins or goes on, before the `/` or behind it; or
+/// behind the closing bracket.
 #[derive(Clone, Copy, Debug)]
 pub enum NamePart {
     Word,
@@ -14,7 +14,9 @@ pub enum NamePart {
     Closed,
 }
 
-/// A part of a word or a number.
+/// How far a word or a number is read. The parts of a number are named by what was read last: `Zero` is a leading zero,
+/// `Point` the point, `Fraction` a digit behind it, `Exponent` the `e`, `Sign` its sign, `Power` a digit of it,
+/// `HexStart` the `x`, `Suffix` the `f`.
 #[derive(Clone, Copy, Debug)]
 pub enum ScalarPart {
     Word,
@@ -31,8 +33,8 @@ pub enum ScalarPart {
     Suffix,
 }
 
-/// A part of a string's piece: between characters or in one, after the backslash, or in an octal escape after its
-/// first or second digit, with their value.
+/// How far a piece of a string is read: between characters or in one, behind a backslash, or in an octal escape behind
+/// its first or second digit, with the value of the digits so far.
 #[derive(Clone, Copy, Debug)]
 pub enum Inside {
     Plain(Tail),
@@ -41,7 +43,7 @@ pub enum Inside {
     Third(u8),
 }
 
-/// A place between tokens.
+/// A place between tokens, like a `Place` of specs/Grammar.antt without the names and bytes, which the `Machine` has.
 #[derive(Clone, Copy, Debug)]
 pub enum Between {
     Start(bool),
@@ -53,7 +55,7 @@ pub enum Between {
     Joined(Slot),
 }
 
-/// What is being read: nothing, a comment, a name, a word or a number, or a piece of a string.
+/// What is being read: nothing, at a place between tokens; a comment there; a name; a word or a number; or a piece of a string.
 #[derive(Clone, Copy, Debug)]
 pub enum Reading {
     At(Between),
@@ -71,7 +73,7 @@ pub enum Kind {
     Quoted,
 }
 
-/// What further bytes lengthen: white space, a comment, a word, or a piece of a string.
+/// What is being read where further bytes may only lengthen it: white space, a comment, a word, or a piece of a string.
 #[derive(Clone, Copy, Debug)]
 pub enum Run {
     Blank,

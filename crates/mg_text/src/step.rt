@@ -18,7 +18,7 @@ use crate::tree::Tree;
 use std::alloc::{AllocError, Global};
 
 impl Machine {
-    /// Begins a token with its first byte.
+    /// Begins a token with its first byte, and sets what is being read.
     fn begin(&mut self, b: u8, reading: Reading) -> Result<(), AllocError>
         ensures token { OnOk result (self.new.token.items ≡ b ∷ []) }
         ensures done { self.new.done ≡ self.old.done }
@@ -32,7 +32,7 @@ impl Machine {
         Ok(())
     }
 
-    /// Adds a byte to the token.
+    /// Adds a byte to the token, and sets what is being read.
     fn add(&mut self, b: u8, reading: Reading) -> Result<(), AllocError>
         ensures token { OnOk result (self.new.token.items ≡ self.old.token.items ++ b ∷ []) }
         ensures done { self.new.done ≡ self.old.done }
@@ -197,7 +197,7 @@ impl Machine {
         }
     }
 
-    /// Takes the name that has been read.
+    /// Keeps the name that has been read, and goes to the place behind it.
     fn end_name(&mut self, alloc: Global) -> Result<(), AllocError>
         requires { IsUtf8 self.old.token.items }
         ensures state { OnOk result (state_of self.new ≡ moved (state_of self.old) (named self.old.token.items)) }
@@ -271,7 +271,7 @@ impl Machine {
         }
     }
 
-    /// Reads one byte more: whether a text may go on so.
+    /// Reads one more byte. Returns whether a text may have it here.
     pub fn step(&mut self, alloc: Global, b: u8) -> Result<bool, AllocError>
         requires { IsClean (spot_of self.old.reading self.old.name self.old.token.items) }
         ensures { IfOk result (λ taken. Stepped (step (state_of self.old) b) taken (state_of self.new)) }
@@ -297,7 +297,7 @@ impl Machine {
         }
     }
 
-    /// The fields of a text that ends here, if one may.
+    /// Returns the fields of the text that ends here, or none where no text may end here.
     pub fn finish(mut self, alloc: Global) -> Result<Option<Tree>, AllocError>
         requires { IsClean (spot_of self.reading self.name self.token.items) }
         ensures { IfOk result (λ tree. option_map view tree ≡ accepts (state_of self)) }
@@ -333,7 +333,7 @@ impl Machine {
 }
 
 impl ScalarPart {
-    /// Whether a word or a number is being read.
+    /// Returns which kind of scalar is being read: a word or a number.
     pub fn kind(self) -> Kind
         ensures { kind_view result ≡ kind_of self }
     {

@@ -2,7 +2,7 @@
 
 use crate::parts::Class;
 
-/// The class of each byte of ASCII, at the place that the byte is.
+/// The class of each byte of ASCII: that of the byte `b` at place `b`.
 pub static CLASSES: [Class; 128] = [
     Class::Other,
     Class::Other,

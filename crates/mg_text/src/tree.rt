@@ -23,7 +23,7 @@ pub struct Field {
     pub value: TreeValue,
 }
 
-/// What a field has.
+/// The value of a field: a scalar, or a message, which has fields.
 #[cycle(tree)]
 #[derive(Debug, Drop)]
 pub enum TreeValue {
@@ -40,7 +40,7 @@ pub enum Scalar {
 }
 
 impl Tree {
-    /// The tree of fields, in a block with no room for more.
+    /// Returns the tree of fields. What room the list has for more is given back.
     pub fn new(alloc: Global, mut fields: Vec<Field>) -> Result<Tree, AllocError>
         ensures { IfOk result (λ tree. view tree ≡ fields_view fields.items) }
     {
@@ -49,7 +49,7 @@ impl Tree {
         Ok(Tree { fields })
     }
 
-    /// The fields.
+    /// Returns the fields, in the order of the text.
     pub fn as_slice(&self) -> &[Field]
         ensures { fields_view result.now ≡ view self.now }
     {

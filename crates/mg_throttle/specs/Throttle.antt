@@ -30,7 +30,7 @@ abbrev pub limit_of : ℤ → Option ℕ
 limit_of (negsuc n) = None
 limit_of (pos n) = Some (if n == 0 then 100 else n)
 
--- some packets are as many as a limit, or more
+-- a number of packets reaches a limit, if there is one
 abbrev pub is_at : Option ℕ → ℕ → Bool
 is_at None packets = false
 is_at (Some limit) packets = nat_le limit packets
@@ -43,7 +43,7 @@ is_full q = q.counts && is_at q.limit q.waiting
 abbrev pub new_queue : ℕ → Option ℕ → Edge → Queue
 new_queue nodes limit e = record { node = e.node; waiting = 0; limit = limit; counts = nat_lt e.node nodes }
 
--- the queues where that of an edge holds so many packets
+-- queues, once that of an edge is noted to hold a number of packets
 abbrev pub noted : List Queue → ℕ → ℕ → List Queue
 noted [] edge packets = []
 noted (q ∷ qs) zero packets = record q { waiting = packets } ∷ qs
@@ -53,7 +53,7 @@ noted (q ∷ qs) (suc edge) packets = q ∷ noted qs edge packets
 abbrev pub relaxed : Queue → Queue
 relaxed q = if is_full q then record q { limit = Some (q.waiting + 1) } else q
 
--- a queue where a node has stopped: that node's queues no longer count
+-- a queue, once a node has stopped: it no longer counts if it is one of that node
 abbrev pub stopped : ℕ → Queue → Queue
 stopped node q = if q.node == node then record q { counts = false } else q
 
@@ -66,7 +66,7 @@ pub record QueueLimits : Type 0 where
   -- how many feeders there are
   pub feeders : ℕ
 
--- the marks of a node
+-- which feeders reach a node
 abbrev pub reached_at : List (List Bool) → ℕ → List Bool
 reached_at rows node = slice_index_or rows node []
 

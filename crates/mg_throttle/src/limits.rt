@@ -16,15 +16,18 @@ use mg_value::{BlockList, NumberList};
 use std::alloc::{AllocError, Global};
 use std::marker::Model;
 
-// The limit where none is given.
+// The limit that 0 stands for.
 const USUAL: u64 = 100;
 
 /// The limits of a plan's queues, and which of its feeders are throttled (MediaPipe, Real-time Streams). Only `new`
 /// takes memory.
 #[derive(Drop)]
 pub struct Limits {
+    // The queues of the edges, in the edges' order.
     queues: Vec<Queue>,
+    // For each node, which feeders reach it.
     rows: Vec<Row>,
+    // For each feeder, how many full queues it reaches.
     counts: Vec<usize>,
     // The queues that became full since limits were relaxed. Some of them may be full no more.
     listed: Ready,
@@ -76,14 +79,14 @@ fn queues_of(
     Ok(queues)
 }
 
-// So many zeros.
+// Returns `len` zeros.
 fn zeros(alloc: Global, len: usize) -> Result<Vec<usize>, AllocError>
     ensures { IfOk result (λ v. v.items ≡ replicate len 0) }
 {
     vec![in alloc; 0; len]
 }
 
-// The first queue whose node isn't below a node.
+// Returns the place of the first queue whose consumer isn't below `node`.
 fn first_queue(queues: &[Queue], node: u32) -> usize
     requires { AreByNode queues.now }
     ensures { IsPartitionPoint (λ q. q.node < node) (λ q. node ≤ q.node) queues.now result }
@@ -91,7 +94,7 @@ fn first_queue(queues: &[Queue], node: u32) -> usize
     queues.partition_point(|queue| queue.node < node)
 }
 
-// Stops the queues of a node, and counts those that were full.
+// Stops the queues of a node, and returns how many of them were full.
 fn stop_queues(queues: &mut [Queue], node: u32) -> usize
     requires by_node { AreByNode queues.old }
     ensures queues { queues.new ≡ map (stopped node) queues.old }
@@ -114,7 +117,7 @@ fn stop_queues(queues: &mut [Queue], node: u32) -> usize
     full
 }
 
-// The numbers below a count.
+// Returns the numbers below a count, in order.
 fn numbers_below(alloc: Global, count: u32) -> Result<NumberList, AllocError>
     ensures { IfOk result (λ l. HasEachOnce count l) }
 {
@@ -125,7 +128,7 @@ fn numbers_below(alloc: Global, count: u32) -> Result<NumberList, AllocError>
     Ok(BlockList::from_vec(numbers)?)
 }
 
-// Relaxes the limits of the full queues, which are among those that are listed, and tells whether there was one. None is listed then.
+// Relaxes the limits of the full queues, all of which are listed, and returns whether there was one. No queue is listed then.
 fn relax_listed(queues: &mut [Queue], listed: &mut Ready) -> bool
     requires lengths { All (λ q. q.waiting + 1 < 2 ^ 64) queues.old }
     requires listed { AreListed queues.old listed.old }
@@ -143,7 +146,7 @@ fn relax_listed(queues: &mut [Queue], listed: &mut Ready) -> bool
 }
 
 impl Limits {
-    /// The limits of a plan whose queues are empty. A limit of 0 is 100, and a negative one is none.
+    /// Returns the limits of a plan, whose queues are empty and all have this limit. A limit of 0 is 100, and a negative one is none.
     pub fn new(alloc: Global, plan: &Plan, limit: i32) -> Result<Limits, AllocError>
         requires { IsValid plan.now }
         ensures of { IfOk result (λ t. IsOf plan.now t) }
@@ -164,15 +167,15 @@ impl Limits {
         })
     }
 
-    /// Tells how many packets wait in the queue of an edge. The feeders that reach it are looked at where it becomes
-    /// full, and where it stops being full.
+    /// Notes how many packets wait in the queue of an edge. The feeders that reach its consumer are looked at only where it becomes full,
+    /// and where it stops being full.
     pub fn note(&mut self, edge: u32, packets: u64)
         requires edge { edge < length self.old.queues }
         requires packets { packets + 1 < 2 ^ 64 }
         ensures noted { self.new ≡ record self.old { queues = noted self.old.queues edge packets } }
         ensures of { (plan : PlanRecord) → IsOf plan self.old → IsOf plan self.new }
 
-        // Whoever is let go reaches the consumer.
+        // A feeder that isn't throttled any more reaches the edge's consumer.
         ensures let_go { (plan : PlanRecord) (f : Feeder) (e : EdgeRecord) → IsOf plan self.old → slice_get plan.edges edge ≡ Some e
             → IsThrottled plan self.old f → ¬ IsThrottled plan self.new f → Reaches plan f e.node }
     {
@@ -191,7 +194,7 @@ impl Limits {
         }
     }
 
-    /// A node has stopped: its queues no longer count.
+    /// Notes that a node has stopped: its queues no longer count.
     pub fn stop(&mut self, node: u32)
         requires { node < length self.old.reached }
         ensures stopped { self.new ≡ record self.old { queues = map (stopped node) self.old.queues } }
@@ -212,9 +215,9 @@ impl Limits {
         self.counts[feeder as usize] == 0
     }
 
-    /// The first feeder from a number on that reaches a node and isn't throttled. Behind a call that let feeders go, since a queue of
-    /// the node is full no more, these are the ones that it let go. It looks at a word for each 64 feeders, and at those of the words in
-    /// which some reach the node.
+    /// Returns the first feeder from number `from` on that reaches a node and isn't throttled. Behind a `note` by which a queue of the node
+    /// stopped being full, these are the feeders that were throttled by that queue alone. It looks at a word for each 64 feeders, and at
+    /// the feeders of those words in which some reach the node.
     pub fn next_feeder(&self, node: u32, from: usize) -> Option<usize>
         requires { node < length self.now.reached }
         ensures place { IfSome result (λ number. (from ≤ number) × (number < self.now.feeders)) }
@@ -228,8 +231,8 @@ impl Limits {
         self.rows[node as usize].uncounted(&self.counts, from)
     }
 
-    /// Relaxes the limits: that of each full queue becomes its length and one more. Tells whether there was one. It looks once at each
-    /// queue that became full, or stopped being so, since limits were relaxed last.
+    /// Relaxes the limits: the limit of each full queue becomes one more than the packets that wait in it. Returns whether there was a full
+    /// queue. It looks once at each queue that became full, or stopped being so, since limits were relaxed last.
     pub fn relax(&mut self) -> bool
         ensures any { result ≡ list_any is_full self.old.queues }
         ensures relaxed { self.new ≡ record self.old { queues = map relaxed self.old.queues } }
@@ -241,7 +244,7 @@ impl Limits {
         any
     }
 
-    /// The limit of the queue of an edge, if it has one.
+    /// Returns the limit of the queue of an edge, if it has one.
     pub fn limit(&self, edge: u32) -> Option<u64>
         requires { edge < length self.now.queues }
         ensures { option_map (λ q. q.limit) (slice_get self.now.queues edge) ≡ Some result }

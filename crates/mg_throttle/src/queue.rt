@@ -1,7 +1,7 @@
 ghost use Rattle.std.specs.Prelude.{◌≡◌, ◌+◌, ◌^◌, ◌<◌};
 ghost use Rattle.mg_throttle.specs.Throttle.{is_full, relaxed};
 
-/// What waits at the end of an edge.
+/// The queue of an edge: how many packets wait at its end, and its limit.
 #[derive(Clone, Copy)]
 pub(crate) struct Queue {
     /// The number of the consumer.
@@ -10,12 +10,12 @@ pub(crate) struct Queue {
     pub(crate) waiting: u64,
     /// How many may wait before the feeders are throttled, if there is a limit.
     pub(crate) limit: Option<u64>,
-    /// Whether it counts: the consumer is a node, and hasn't stopped.
+    /// Whether the queue counts: its consumer is a node, and hasn't stopped.
     pub(crate) counts: bool,
 }
 
 impl Queue {
-    /// Whether its feeders are throttled.
+    /// Whether the queue is full: the feeders that reach its consumer are throttled then.
     pub(crate) fn is_full(&self) -> bool
         ensures { result ≡ is_full self.now }
     {
@@ -25,7 +25,7 @@ impl Queue {
         }
     }
 
-    /// The queue with a limit that it doesn't reach, where it is full.
+    /// Returns the queue; if it is full, with a limit of one packet more than wait in it.
     pub(crate) fn relaxed(self) -> Queue
         requires { self.waiting + 1 < 2 ^ 64 }
         ensures { result ≡ relaxed self }

@@ -10,7 +10,7 @@ use crate::row::Row;
 use mg_calc::{Edge, Plan, PlanNode, Producer};
 use std::alloc::{AllocError, Global};
 
-/// The nodes without inputs, in order.
+/// Returns the numbers of the nodes without inputs, in order.
 pub(crate) fn sources(alloc: Global, nodes: &[PlanNode]) -> Result<Vec<usize>, AllocError>
     ensures { IfOk result (λ v. v.items ≡ sources_among nodes.now) }
 {
@@ -23,7 +23,7 @@ pub(crate) fn sources(alloc: Global, nodes: &[PlanNode]) -> Result<Vec<usize>, A
     Ok(found)
 }
 
-// So many rows without a mark.
+// Returns `nodes` rows of `feeders` places, none of which is marked.
 fn blank_rows(alloc: Global, nodes: usize, feeders: usize) -> Result<Vec<Row>, AllocError>
     requires { feeders < 2 ^ 60 }
     ensures { IfOk result (λ v. AreBlank nodes feeders v.items) }
@@ -47,7 +47,7 @@ fn mark_sources(rows: &mut [Row], sources: &[usize], inputs: usize, feeders: usi
     }
 }
 
-// Puts the marks beside those of a row that come with a stream.
+// Adds to a row the marks that come with a stream: that of the graph input, or those of the node that writes it.
 fn enter(plan: &Plan, rows: &[Row], stream: u32, row: &mut Row)
     requires valid { IsValid plan.now }
     requires rows { HasRows plan.now rows.now }
@@ -64,7 +64,7 @@ fn enter(plan: &Plan, rows: &[Row], stream: u32, row: &mut Row)
     }
 }
 
-// The first edge whose consumer isn't below a node.
+// Returns the place of the first edge whose consumer isn't below `node`.
 fn first_edge(edges: &[Edge], node: u32) -> usize
     requires { IsNonDecreasingBy (λ e. e.node) edges.now }
     ensures { IsPartitionPoint (λ e. e.node < node) (λ e. node ≤ e.node) edges.now result }
@@ -72,7 +72,7 @@ fn first_edge(edges: &[Edge], node: u32) -> usize
     edges.partition_point(|edge| edge.node < node)
 }
 
-// Puts the marks beside those of a row that enter a node.
+// Adds to a row the marks that enter a node by its edges, but for back edges.
 fn gather(plan: &Plan, rows: &[Row], node: u32, row: &mut Row)
     requires valid { IsValid plan.now }
     requires rows { HasRows plan.now rows.now }
@@ -91,7 +91,7 @@ fn gather(plan: &Plan, rows: &[Row], node: u32, row: &mut Row)
     }
 }
 
-// The marks of a node with those that enter it.
+// Returns the marks of a node with those that enter it by its edges.
 fn gathered(alloc: Global, plan: &Plan, rows: &[Row], node: u32) -> Result<Row, AllocError>
     requires valid { IsValid plan.now }
     requires rows { HasRows plan.now rows.now }
@@ -105,7 +105,7 @@ fn gathered(alloc: Global, plan: &Plan, rows: &[Row], node: u32) -> Result<Row, 
     Ok(row)
 }
 
-/// For each node of a plan, the feeders that reach it.
+/// Returns for each node of a plan a row with a mark for each feeder that reaches it.
 pub(crate) fn rows_of(alloc: Global, plan: &Plan, sources: &[usize]) -> Result<Vec<Row>, AllocError>
     requires valid { IsValid plan.now }
     requires sources { sources.now ≡ sources_among plan.now.nodes }
@@ -120,7 +120,7 @@ pub(crate) fn rows_of(alloc: Global, plan: &Plan, sources: &[usize]) -> Result<V
     Ok(rows)
 }
 
-// For each node of a plan, itself where it is a source.
+// Returns for each node of a plan a row whose only mark is that of the node itself, if it is a source.
 fn own_rows(alloc: Global, plan: &Plan, sources: &[usize]) -> Result<Vec<Row>, AllocError>
     requires valid { IsValid plan.now }
     requires sources { sources.now ≡ sources_among plan.now.nodes }

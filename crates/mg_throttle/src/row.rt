@@ -24,14 +24,14 @@ impl Model for Row {
     ghost invariant = { λ r. IsRow r.len r.words.items };
 }
 
-// So many words of no bits.
+// Returns `words` words in which no bit is set.
 fn no_bits(alloc: Global, words: usize) -> Result<Vec<u64>, AllocError>
     ensures { IfOk result (λ v. v.items ≡ replicate words 0) }
 {
     vec![in alloc; 0; words]
 }
 
-// Puts the bits of a word beside those of another.
+// Sets in each word of `into` the bits that are set in the same word of `from`.
 fn join_words(into: &mut [u64], from: &[u64])
     requires { length from.now ≡ length into.old }
     ensures { (k : ℕ) → slice_index into.new k ≡ bit_or (slice_index into.old k) (slice_index from.now k) }
@@ -41,7 +41,8 @@ fn join_words(into: &mut [u64], from: &[u64])
     }
 }
 
-// Adds a number to the counts at the bits of a word, from a place on, and takes another from them.
+// Adds `more` to the counts of the places whose bit is set in a word, and takes `less` from them. The word has the bits of the 64 places
+// from `first` on.
 fn change_word(counts: &mut [usize], word: u64, first: usize, more: usize, less: usize)
     requires first { first < 2 ^ 60 }
     requires small { (k : ℕ) → bit_in word first k ≡ true → slice_index counts.old k + more < 2 ^ 64 }
@@ -55,7 +56,8 @@ fn change_word(counts: &mut [usize], word: u64, first: usize, more: usize, less:
     }
 }
 
-// The first place from a number on whose bit is set in a word, from another place on, and whose count is 0.
+// Returns the first place from `from` on whose bit is set in a word and whose count is 0. The word has the bits of the 64 places from
+// `first` on.
 fn uncounted_in(counts: &[usize], word: u64, first: usize, from: usize) -> Option<usize>
     requires { first < 2 ^ 60 }
     ensures { MatchOption result (NoneFrom (is_uncounted (bit_in word first) counts.now) from (length counts.now))
@@ -72,7 +74,7 @@ fn uncounted_in(counts: &[usize], word: u64, first: usize, from: usize) -> Optio
 }
 
 impl Row {
-    /// So many places, none of which is marked.
+    /// Returns a row of `len` places, none of which is marked.
     pub(crate) fn new(alloc: Global, len: usize) -> Result<Row, AllocError>
         requires { len < 2 ^ 60 }
         ensures { IfOk result (λ r. r ≡ replicate len false) }
@@ -81,7 +83,7 @@ impl Row {
         Ok(Row { words, len })
     }
 
-    /// How many places there are.
+    /// Returns how many places the row has.
     pub(crate) fn len(&self) -> usize
         ensures len { result ≡ length self.now }
         ensures few { result < 2 ^ 60 }
@@ -105,8 +107,8 @@ impl Row {
         join_words(&mut self.words, &other.words);
     }
 
-    /// Adds a number to the counts at the marked places, and takes another from them. It looks at a word for each 64
-    /// places, and at the places of the words that have marks.
+    /// Adds `more` to the counts at the marked places, and takes `less` from them. It looks at a word for each 64 places, and at the places
+    /// of the words that have marks.
     pub(crate) fn change(&self, counts: &mut [usize], more: usize, less: usize)
         requires places { length counts.old ≡ length self.now }
         requires small { (k : ℕ) → slice_index counts.old k + more < 2 ^ 64 }
@@ -120,8 +122,8 @@ impl Row {
             }
         }
     }
-    /// The first marked place from a number on whose count is 0. It looks at a word for each 64 places, and at the places of the words
-    /// that have marks.
+    /// Returns the first marked place from `from` on whose count is 0. It looks at a word for each 64 places, and at the places of the
+    /// words that have marks.
     pub(crate) fn uncounted(&self, counts: &[usize], from: usize) -> Option<usize>
         requires { length counts.now ≡ length self.now }
         ensures { MatchOption result (NoneFrom (is_uncounted (is_marked self.now) counts.now) from (length counts.now))

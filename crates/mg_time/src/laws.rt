@@ -31,7 +31,7 @@ pub fn done_is_greatest(time: Timestamp)
     ensures { time ≤ done }
 {}
 
-/// What may follow a packet stands above it.
+/// The lowest time that may follow a packet is above the packet's.
 pub fn next_is_above()
     ensures { (t : ℕ) → IsAllowed t → t < next t }
 {}
@@ -41,7 +41,7 @@ pub fn shift_keeps_order()
     ensures { (t u : ℕ) (offset : ℤ) → t ≤ u → shift t offset ≤ shift u offset }
 {}
 
-/// What a packet may carry is read back from its text, and a text that is read is the text of what it was read as.
+/// A time that a packet may carry is read back from its text, and a text that is read is the text of the time that it was read as.
 pub fn texts_are_read_back()
     ensures printed { (t : ℕ) → IsAllowed t → Spells (time_text t) t }
     ensures read { (text : List ℕ) (t : ℕ) → Spells text t → IsAllowed t × (text ≡ time_text t) }

@@ -28,29 +28,29 @@ impl Model for Timestamp {
 }
 
 impl Timestamp {
-    /// No timestamp yet: -2^63.
+    /// The value of no timestamp yet: -2^63.
     pub const UNSET: Timestamp = Timestamp { place: 0 };
 
-    /// Before a graph is started.
+    /// The time before a graph is started: -2^63 + 1.
     pub const UNSTARTED: Timestamp = Timestamp { place: 1 };
 
-    /// A packet before all others of its stream, as a header.
+    /// The time of a packet that is a stream's header: -2^63 + 2. No packet may follow it.
     pub const PRE_STREAM: Timestamp = Timestamp { place: 2 };
 
-    /// The least of the range: -9223372036854775805.
+    /// The least timestamp of the range: -9223372036854775805.
     pub const MIN: Timestamp = Timestamp { place: 3 };
 
-    /// The greatest of the range: 9223372036854775804.
+    /// The greatest timestamp of the range: 9223372036854775804.
     pub const MAX: Timestamp = Timestamp {
         place: u64::MAX - 3,
     };
 
-    /// A packet that stands for a whole stream, and is its only one.
+    /// The time of a packet that stands for a whole stream, and is its only one: 2^63 - 3.
     pub const POST_STREAM: Timestamp = Timestamp {
         place: u64::MAX - 2,
     };
 
-    /// The bound of a stream that takes no further packet, and isn't closed.
+    /// The bound of a stream that takes no further packet, and isn't closed: 2^63 - 2.
     pub const ONE_OVER_POST_STREAM: Timestamp = Timestamp {
         place: u64::MAX - 1,
     };
@@ -58,7 +58,7 @@ impl Timestamp {
     /// The bound of a closed stream: 2^63 - 1.
     pub const DONE: Timestamp = Timestamp { place: u64::MAX };
 
-    /// The eight constants, ascending.
+    /// Returns the eight constants, ascending.
     pub fn constants() -> [Timestamp; 8]
         ensures places { result ≡ constant_places }
         ensures numbers { map raw_of result ≡ constant_numbers }
@@ -75,7 +75,7 @@ impl Timestamp {
         ]
     }
 
-    /// The timestamp of the range with this number, or `None` where the range hasn't it.
+    /// Returns the timestamp of the range with this number, or `None` where the number isn't in the range.
     pub fn of_range(value: i64) -> Option<Timestamp>
         ensures some { IsSome result ↔ ((raw_of least ≤ℤ value) × (value ≤ℤ raw_of greatest)) }
         ensures place { IfSome result (λ t. t ≡ place_of value) }
@@ -90,7 +90,7 @@ impl Timestamp {
         if time.is_range() { Some(time) } else { None }
     }
 
-    /// The signed number.
+    /// Returns the signed number.
     pub fn raw(self) -> i64
         ensures number { result ≡ raw_of self }
     {
@@ -101,21 +101,21 @@ impl Timestamp {
         }
     }
 
-    /// Whether it stands in the range, `MIN` to `MAX`.
+    /// Whether the timestamp is in the range, `MIN` to `MAX`.
     pub fn is_range(self) -> bool
         ensures { IsTrue result ↔ IsRange self }
     {
         Timestamp::MIN <= self && self <= Timestamp::MAX
     }
 
-    /// Whether a packet may stand at it (MediaPipe, Packets): `PRE_STREAM`, the range, or `POST_STREAM`.
+    /// Whether a packet may stand at the timestamp (MediaPipe, Packets): `PRE_STREAM`, the range, or `POST_STREAM`.
     pub fn is_allowed(self) -> bool
         ensures { IsTrue result ↔ IsAllowed self }
     {
         Timestamp::PRE_STREAM <= self && self <= Timestamp::POST_STREAM
     }
 
-    /// The lowest timestamp that may follow a packet here (MediaPipe, Synchronization): one more in the
+    /// Returns the lowest timestamp that may follow a packet at this one (MediaPipe, Synchronization): one more in the
     /// range, and `ONE_OVER_POST_STREAM` after `PRE_STREAM`, `MAX` and all above.
     pub fn next_allowed(self) -> Timestamp
         ensures { result ≡ next self }
@@ -129,7 +129,7 @@ impl Timestamp {
         }
     }
 
-    /// A bound moved by a node's offset: a timestamp of the range moves and stays in the range, and every
+    /// Returns a bound moved by a node's offset: a timestamp of the range moves and stays in the range, and every
     /// other stays as it is.
     pub fn shift(self, offset: i64) -> Timestamp
         ensures { result ≡ shift self offset }
@@ -149,8 +149,8 @@ impl Timestamp {
         }
     }
 
-    /// The timestamp that a packet may carry which a text spells, as its number in the range, `PreStream` or
-    /// `PostStream`. A number has no zero before its digits, and 0 no sign.
+    /// Returns the timestamp that a text spells, where a packet may carry it: its number in the range, `PreStream` or
+    /// `PostStream`. A number has no zero before its digits, and a sign only where it is negative.
     pub fn read_text(text: &[u8]) -> Option<Timestamp>
         ensures read { (t : ℕ) → (result ≡ Some t) ↔ Spells text.now t }
         ensures none { IsNone result ↔ ((t : ℕ) → ¬ (Spells text.now t)) }
@@ -164,7 +164,7 @@ impl Timestamp {
         }
     }
 
-    /// The number of a timestamp of the range, and the name of every other.
+    /// Returns the text of the timestamp: the number of one in the range, and the name of every other.
     pub fn print_text(self, alloc: Global) -> Result<Vec<u8>, AllocError>
         ensures { IfOk result (λ text. text.items ≡ time_text self) }
     {
@@ -188,7 +188,7 @@ impl fmt::Debug for Timestamp {
     }
 }
 
-// The number that a text is the decimal text of.
+// Reads a decimal number of 64 signed bits, in its one spelling.
 fn number_of(text: &[u8]) -> Option<i64>
     ensures { (z : ℤ) → (result ≡ Some z) ↔ (FitsSigned w64 z × (text.now ≡ signed_decimal z)) }
 {

@@ -1,10 +1,10 @@
--- What only the code's own functions say to one another. Nothing above rests on it.
+-- Definitions for the contracts of the crate's inner functions. No other definition rests on them.
 use Rattle.std.specs.Prelude.{ℕ, ◌==◌, Bool, List, map}
 use Rattle.serde_json.specs.Data.{Data}
 use Rattle.serde_json.specs.Written.{compact_text}
 use Rattle.mg_feed.specs.Lines.{fed_lines}
 
--- the lines of JSON values
+-- JSON values as lines of compact JSON
 abbrev pub data_text : List Data → List ℕ
 data_text ds = fed_lines (map compact_text ds)
 

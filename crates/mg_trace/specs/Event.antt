@@ -14,6 +14,7 @@ event_line (Perform node number) = codes "perform " ++ (decimal node ++ (codes "
 event_line (Commit node number) = codes "commit " ++ (decimal node ++ (codes " " ++ decimal number))
 event_line Relax = codes "relax"
 
+-- the line of an event, with its line feed
 abbrev pub event_text : Event → List ℕ
 event_text event = event_line event ++ codes "\n"
 

@@ -15,13 +15,15 @@ use Rattle.mg_feed.specs.Graph.{input_streams}
 use Rattle.mg_feed.specs.Lines.{fed_lines}
 use Rattle.mg_feed.specs.Output.{time_data, packet_data}
 
--- a side packet, a bound and a close of a stream, as JSON
+-- a side packet, as JSON
 abbrev pub side_data : List ℕ → Plain → Data
 side_data name value = object (member (codes "side") (string name) (member (codes "value") (json_of value) no_members))
 
+-- a bound of a stream, as JSON
 abbrev pub bound_data : List ℕ → ℕ → Data
 bound_data name time = object (member (codes "bound") (time_data time) (member (codes "stream") (string name) no_members))
 
+-- the close of a stream, as JSON
 abbrev pub close_data : List ℕ → Data
 close_data name = object (member (codes "close") (boolean true) (member (codes "stream") (string name) no_members))
 
@@ -30,10 +32,12 @@ abbrev pub handed_in : List (Option Plain) → PlainSideValue → Option Plain
 handed_in given (given_at place) = unwrap_or (slice_get given place) None
 handed_in given (fixed value) = None
 
+-- what is said of a side packet: its value, where it was handed in
 abbrev pub said : List ℕ → Option Plain → List Data
 said name None = []
 said name (Some value) = side_data name value ∷ []
 
+-- what is said of all side packets, in the plan's order
 abbrev pub side_lines : List (Option Plain) → List PlainSide → List Data
 side_lines given sides = flat_map (λ side. said side.name (handed_in given side.value)) sides
 
@@ -49,23 +53,28 @@ end_lines name s = if s.bound == done then close_data name ∷ [] else (if s.bou
 abbrev pub stream_lines : Bool → List ℕ → StreamPrefix Plain → List Data
 stream_lines ended name s = map (packet_data name) s.packets ++ (if ended then [] else end_lines name s)
 
+-- what is said of all graph inputs, one after the other
 abbrev pub all_stream_lines : Bool → List (List ℕ) → List (StreamPrefix Plain) → List Data
 all_stream_lines ended [] ss = []
 all_stream_lines ended (name ∷ names) [] = []
 all_stream_lines ended (name ∷ names) (s ∷ ss) = stream_lines ended name s ++ all_stream_lines ended names ss
 
+-- the names of the graph inputs
 abbrev pub input_names : Plan → List (List ℕ)
 input_names plan = map (λ s. s.name) (input_streams plan)
 
--- what is said of a job, and the lines that say it
+-- what is said of a job, as JSON
 abbrev pub job_data : Plan → Inputs → List Data
 job_data plan inputs = side_lines inputs.sides plan.sides ++ all_stream_lines inputs.ended (input_names plan) inputs.streams
 
+-- the packet lines of a job
 abbrev pub job_lines : Plan → Inputs → List (List ℕ)
 job_lines plan inputs = map compact_text (job_data plan inputs)
 
+-- the last line of a job: whether its input ended well
 abbrev pub end_word : Bool → List ℕ
 end_word ended = if ended then codes "ended" else codes "frozen"
 
+-- the text of a job: its packet lines and the last line
 unfoldable pub job_text : Plan → Inputs → List ℕ
 job_text plan inputs = fed_lines (job_lines plan inputs ++ end_word inputs.ended ∷ [])

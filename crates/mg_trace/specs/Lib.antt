@@ -4,5 +4,5 @@ pub mod Job
 pub mod Trace
 pub mod Readable
 pub mod Told
--- What only the code's own functions say to one another. Nothing above rests on it.
+-- Definitions for the contracts of the crate's inner functions. No other definition rests on them.
 pub mod Code

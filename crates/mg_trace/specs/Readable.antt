@@ -6,6 +6,7 @@ use Rattle.std.specs.declared.cmp.Ordering.TheVariants.{Less}
 use Rattle.std.specs.Cmp.Lexicographic.{slice_cmp}
 use Rattle.serde_json.specs.Data.{Num, unsigned, negative, float, Data, null, boolean, number, string, array, object, Items, no_items, item, Members, no_members, member}
 
+-- a whole number from -2^63 to 2^64 - 1, held as a signed one where it is negative
 abbrev pub IsReadableNumber : Num → Type 0
 IsReadableNumber (unsigned n) = n < 2 ^ 64
 IsReadableNumber (negative (pos n)) = ⊥
@@ -17,6 +18,7 @@ abbrev pub IsBelow : List ℕ → Members → Type 0
 IsBelow k no_members = ⊤
 IsBelow k (member l d ms) = (slice_cmp nat_cmp k l ≡ Less) × IsBelow k ms
 
+-- a value can be held by a text as it is, with all that lies in it
 abbrev mutual
   pub IsReadable : Data → Type 0
   IsReadable null = ⊤

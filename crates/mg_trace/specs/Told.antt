@@ -17,14 +17,14 @@ use Rattle.mg_feed.specs.Value.{takes}
 use Rattle.mg_feed.specs.Accepted.{longest_line, most_lines}
 use Rattle.mg_trace.specs.Job.{input_names, bound_after, job_lines}
 
--- a payload that is said by a readable JSON value, whose whole numbers have 64 signed bits, and that nests as deep as a packet
+-- a payload that lines can tell: its JSON value is readable, its whole numbers have 64 signed bits, and it nests no deeper than a packet
 -- line's may
 pub record IsTellable (value : Plain) : Type 0 where
   pub readable : IsReadable (json_of value)
   pub numbers : NumbersFit value
   pub shallow : depth value ≤ 16
 
--- a name stands for the side packet that is handed in at a place
+-- the name of a side packet that is handed in leads to its place
 abbrev pub IsFound : Plan → List ℕ → PlainSideValue → Type 0
 IsFound plan name (given_at place) = place_of (inputs_of plan).sides name ≡ Some place
 IsFound plan name (fixed value) = ⊤
@@ -36,25 +36,25 @@ pub record HasNames (plan : Plan) : Type 0 where
   pub sides : All (λ side. IsUtf8 side.name × IsFound plan side.name side.value) plan.sides
   pub places : given_places plan ≡ numbers (length (given_places plan))
 
--- a bound that a line tells, or that the packets before it leave
+-- a bound that lines can tell: that of a closed stream, the one that the packets leave, or one that a line may have
 abbrev pub IsToldBound : StreamPrefix Plain → Type 0
 IsToldBound s = (s.bound ≡ done) ⊎ ((s.bound ≡ bound_after s.packets) ⊎ IsAllowed s.bound)
 
--- what lines tell of a stream: where the input ended well, it is closed
+-- a stream that lines can tell. Where the input ended well, it is closed
 pub record IsToldStream (ended : Bool) (s : StreamPrefix Plain) : Type 0 where
   pub prefix : IsPrefix s
   pub bound : IsToldBound s
   pub closed : ended ≡ true → s.bound ≡ done
   pub values : All (λ p. IsTellable p.value) s.packets
 
--- what lines tell of a job
+-- the inputs of a job that lines can tell
 pub record IsTold (plan : Plan) (inputs : Inputs) : Type 0 where
   pub names : HasNames plan
   pub fit : InputsFit plan inputs
   pub streams : All (IsToldStream inputs.ended) inputs.streams
   pub sides : All (λ side. IfSome side IsTellable) inputs.sides
 
--- what a graph input takes
+-- the kind that a graph input takes
 abbrev pub kind_of : Plan → ℕ → Kind
 kind_of plan input = unwrap_or (slice_get (inputs_of plan).kinds input) Any
 

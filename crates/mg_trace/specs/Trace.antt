@@ -6,8 +6,10 @@ use Rattle.mg_calc.specs.declared.plan.Plan.{Plan}
 use Rattle.mg_trace.specs.Event.{event_text}
 use Rattle.mg_trace.specs.Job.{job_text}
 
+-- the lines of events, in their order
 abbrev pub events_text : List Event → List ℕ
 events_text events = flat_map event_text events
 
+-- the text of a recorded run
 abbrev pub trace_text : Plan → Inputs → List Event → List ℕ
 trace_text plan inputs events = job_text plan inputs ++ (events_text events ++ codes "end\n")

@@ -6,7 +6,7 @@ ghost use Rattle.mg_trace.specs.Event.{IsEventOf, event_line, event_text};
 use itoa::Buffer;
 use mg_calc::{Event, Plan};
 
-/// The event of a plan whose line this is, with its line feed. There is none where the text has none of the six forms, names
+/// Returns the event of a plan whose line this is, with its line feed. None where the text has none of the six forms, names
 /// an edge or a node that isn't there, or has a number past 2^64 - 1.
 pub fn read_event(text: &[u8], plan: &Plan) -> Option<Event>
     ensures read { (event : AnEvent) → (result ≡ Some event) ↔ (IsEventOf plan.now event × (text.now ≡ event_text event)) }
@@ -20,7 +20,7 @@ pub fn read_event(text: &[u8], plan: &Plan) -> Option<Event>
     }
 }
 
-/// The event of a plan whose line this is, without a line feed.
+/// Returns the event of a plan whose line this is, without a line feed.
 pub fn event_of(line: &[u8], plan: &Plan) -> Option<Event>
     ensures { (event : AnEvent) → (result ≡ Some event) ↔ (IsEventOf plan.now event × (line.now ≡ event_line event)) }
 {
@@ -51,7 +51,7 @@ pub fn event_of(line: &[u8], plan: &Plan) -> Option<Event>
     }
 }
 
-// What stands behind a word, where the line begins with it.
+// Returns what stands behind a word, where the line begins with it.
 fn behind<'a>(line: &'a [u8], word: &[u8]) -> Option<&'a [u8]>
     ensures some { IfSome result (λ rest. line.now ≡ word.now ++ rest.now) }
     ensures none { IsNone result → (rest : List ℕ) → line.now ≢ word.now ++ rest }
@@ -63,7 +63,7 @@ fn behind<'a>(line: &'a [u8], word: &[u8]) -> Option<&'a [u8]>
     }
 }
 
-// The number of a text, where it is below another.
+// Reads a decimal number, where it is below `count`.
 fn number_below(text: &[u8], count: u32) -> Option<u32>
     ensures { (n : ℕ) → (result ≡ Some n) ↔ ((n < count) × (text.now ≡ decimal n)) }
 {
@@ -75,7 +75,7 @@ fn number_below(text: &[u8], count: u32) -> Option<u32>
     }
 }
 
-// The numbers of a text of two with a space between, where the first is below another.
+// Reads two decimal numbers with a space between, where the first is below `count`.
 fn pair_below(text: &[u8], count: u32) -> Option<(u32, u64)>
     ensures { (m n : ℕ) → (result ≡ Some (m, n)) ↔ ((m < count) × (n < 2 ^ 64) × (text.now ≡ decimal m ++ 32 ∷ decimal n)) }
 {
@@ -86,14 +86,14 @@ fn pair_below(text: &[u8], count: u32) -> Option<(u32, u64)>
     Some((first, second))
 }
 
-// The place of the first space.
+// Returns the place of the first space.
 fn space_in(text: &[u8]) -> Option<usize>
     ensures { result ≡ position is_space text.now }
 {
     text.iter().position(|byte| *byte == b' ')
 }
 
-// The number that a text is the decimal text of.
+// Reads a decimal number of 64 bits, in its one spelling.
 fn number_of(text: &[u8]) -> Option<u64>
     ensures { (n : ℕ) → (result ≡ Some n) ↔ ((n < 2 ^ 64) × (text.now ≡ decimal n)) }
 {

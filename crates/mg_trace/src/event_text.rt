@@ -6,7 +6,7 @@ use mg_calc::Event;
 use mg_feed::{push_bytes, whole_or_none};
 use std::alloc::{AllocError, Global};
 
-/// The line of an event, with its line feed.
+/// Returns the line of an event, with its line feed.
 pub fn write_event(alloc: Global, event: &Event) -> Result<Vec<u8>, AllocError>
     ensures { IfOk result (λ text. text.items ≡ event_text event.now) }
 {
@@ -73,7 +73,7 @@ fn push_number(text: &mut Vec<u8>, number: u64) -> Result<(), AllocError>
     push_bytes(text, digits.format(number).as_bytes())
 }
 
-// Puts the line of a relaxing at the end of a text.
+// Puts the line of the event that relaxes limits at the end of a text.
 fn push_relax(text: &mut Vec<u8>) -> Result<(), AllocError>
     ensures put { OnOk result (text.new.items ≡ text.old.items ++ event_text Event.Relax) }
     ensures part { OnErr result ((part : List ℕ) × (text.new.items ≡ text.old.items ++ part)) }

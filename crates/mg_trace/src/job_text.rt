@@ -16,7 +16,7 @@ use serde_json::Value;
 use std::alloc::{AllocError, Global};
 use std::sync::Arc;
 
-/// The packet lines of a job in canonical form, and a last line: `ended`, or `frozen` where its input didn't end well.
+/// Returns the packet lines of a job in canonical form, and a last line: `ended`, or `frozen` where its input didn't end well.
 pub fn write_job(alloc: Global, plan: &Plan, inputs: &Inputs) -> Result<Vec<u8>, AllocError>
     ensures { IfOk result (λ text. text.items ≡ job_text plan.now inputs.now) }
 {
@@ -28,7 +28,7 @@ pub fn write_job(alloc: Global, plan: &Plan, inputs: &Inputs) -> Result<Vec<u8>,
     Ok(text)
 }
 
-// The last line.
+// Puts the last line of a job at the end of a text.
 fn push_end(text: &mut Vec<u8>, ended: bool) -> Result<(), AllocError>
     ensures { OnOk result (text.new.items ≡ text.old.items ++ fed_lines (end_word ended ∷ [])) }
 {
@@ -39,7 +39,7 @@ fn push_end(text: &mut Vec<u8>, ended: bool) -> Result<(), AllocError>
     }
 }
 
-// The names of the graph inputs.
+// Returns the names of the graph inputs.
 fn names_of(alloc: Global, plan: &Plan) -> Result<Vec<MgText>, AllocError>
     ensures { IfOk result (λ names. names.items ≡ input_names plan.now) }
 {
@@ -53,7 +53,7 @@ fn names_of(alloc: Global, plan: &Plan) -> Result<Vec<MgText>, AllocError>
     Ok(names)
 }
 
-// The stream of an input, by the input's number.
+// Returns the stream of the graph input of a number, if there is one.
 fn stream_of(plan: &Plan, input: u32) -> Option<&PlanStream>
     ensures { option_copied result ≡ option_and_then (slice_get plan.now.streams) (slice_get plan.now.inputs input) }
 {
@@ -81,7 +81,7 @@ fn push_side(text: &mut Vec<u8>, side: &Side, given: &GivenList) -> Result<(), A
     }
 }
 
-// Puts the line of what is at a place of side packets at the end of a text.
+// Puts the line of a side packet at the end of a text, where one is at its place.
 fn push_given(
     text: &mut Vec<u8>,
     name: &MgText,
@@ -158,7 +158,7 @@ fn push_stream_end(text: &mut Vec<u8>, name: &MgText, stream: &Prefix) -> Result
     push_value(text, &bound_value(alloc, name, stream.bound)?)
 }
 
-// The bound that packets alone leave.
+// Returns the bound that packets alone leave.
 fn bound_left(packets: &[Packet]) -> Timestamp
     ensures { result ≡ bound_after packets.now }
 {

@@ -1,4 +1,4 @@
-//! The JSON values that packet lines say, but for those of packets.
+//! The JSON values of packet lines, except those of packets.
 ghost use Rattle.std.specs.Prelude.{◌≡◌, IfOk, false};
 ghost use Rattle.serde_json.specs.View.{view};
 ghost use Rattle.serde_json.specs.Written.{has_float};
@@ -11,7 +11,7 @@ use mg_value::{MgText, Payload, to_json};
 use serde_json::{Value, json};
 use std::alloc::{AllocError, Global};
 
-/// A side packet.
+/// Returns the JSON value of a side packet's line.
 pub fn side_value(alloc: Global, name: &MgText, payload: &Payload) -> Result<Value, AllocError>
     ensures whole { IfOk result (λ value. has_float (view value) ≡ false) }
     ensures says { IfOk result (λ value. view value ≡ side_data name.now (plain payload.now)) }
@@ -20,7 +20,7 @@ pub fn side_value(alloc: Global, name: &MgText, payload: &Payload) -> Result<Val
     json!(in alloc; {"side": name.as_str(), "value": value})
 }
 
-/// A bound of a stream.
+/// Returns the JSON value of the line of a stream's bound.
 pub fn bound_value(alloc: Global, name: &MgText, bound: Timestamp) -> Result<Value, AllocError>
     ensures whole { IfOk result (λ value. has_float (view value) ≡ false) }
     ensures says { IfOk result (λ value. view value ≡ bound_data name.now bound) }
@@ -29,7 +29,7 @@ pub fn bound_value(alloc: Global, name: &MgText, bound: Timestamp) -> Result<Val
     json!(in alloc; {"bound": time, "stream": name.as_str()})
 }
 
-/// The close of a stream.
+/// Returns the JSON value of the line of a stream's close.
 pub fn close_value(alloc: Global, name: &MgText) -> Result<Value, AllocError>
     ensures whole { IfOk result (λ value. has_float (view value) ≡ false) }
     ensures says { IfOk result (λ value. view value ≡ close_data name.now) }
@@ -37,7 +37,7 @@ pub fn close_value(alloc: Global, name: &MgText) -> Result<Value, AllocError>
     json!(in alloc; {"close": true, "stream": name.as_str()})
 }
 
-// The time of a bound.
+// Returns the JSON value of a bound's time.
 fn time_value(alloc: Global, time: Timestamp) -> Result<Value, AllocError>
     ensures whole { IfOk result (λ value. has_float (view value) ≡ false) }
     ensures says { IfOk result (λ value. view value ≡ time_data time) }

@@ -33,15 +33,15 @@ use Rattle.mg_turns.specs.declared.tried.TriedShelf.TheVariants.{Shelved as Put,
 abbrev pub key_of : {X : Type 0} → SharedNet X → FrameView
 key_of net = net.table.shared.key.value
 
--- what a seat knows
+-- what a seat knows: its view
 abbrev pub view_of : {X : Type 0} {g : Ghosts X} → NetSeat X g → View
 view_of s = s.seat.me.0
 
--- a seat is of a net
+-- a seat belongs to a net
 abbrev pub IsSeatOf : {X : Type 0} {g : Ghosts X} → SharedNet X → NetSeat X g → Type 0
 IsSeatOf net s = (s.seat.table_id ≡ net.table.shared.table_id) × (s.seat.me.0.key ≡ key_of net)
 
--- a claim of the cell that was found: the seat then has the work that it gave
+-- a call has claimed from the cell that it found: the seat then has the work that the claim gave
 pub record HasClaimed {X : Type 0} (result : Claimed X) (node : ℕ) (v w : View) : Type 0 where
   pub engine : EngineView
   pub engine_now : EngineView
@@ -51,16 +51,17 @@ pub record HasClaimed {X : Type 0} (result : Claimed X) (node : ℕ) (v w : View
   pub claims : Claims result engine engine_now intake intake_now
   pub left : w ≡ cell_left v node engine_now intake_now (has_after result v.work)
 
+-- what a call says that tries to claim: it has claimed, or a turn was missed
 abbrev pub TriesClaim : {X : Type 0} → Tried (Claimed X) → ℕ → View → View → Type 0
 TriesClaim (Done result) node v w = HasClaimed result node v w
 TriesClaim (Busy word) node v w = Missed (2 * node + 1) (2 * node) word v w
 
--- a work that is handed out is lawful
+-- a work that such a call hands out is lawful
 abbrev pub IsLawfulTry : {X : Type 0} → LoggedJob → Tried (Claimed X) → Type 0
 IsLawfulTry job (Done result) = IsLawfulWork job result
 IsLawfulTry job (Busy word) = ⊤
 
--- the outputs of the cell that was found are raised as far as what waits tells
+-- a call has raised the outputs of the cell that it found as far as what waits tells
 pub record HasRaised (result : Bool) (node : ℕ) (v w : View) : Type 0 where
   pub engine : EngineView
   pub intake : IntakeView
@@ -68,11 +69,12 @@ pub record HasRaised (result : Bool) (node : ℕ) (v w : View) : Type 0 where
   pub moved : result ≡ is_advanced engine intake.waits
   pub left : w ≡ cell_left v node (advanced engine intake.waits) intake v.work
 
+-- what a call says that tries to raise outputs: it has raised them, or a turn was missed
 abbrev pub TriesRaise : Tried Bool → ℕ → View → View → Type 0
 TriesRaise (Done result) node v w = HasRaised result node v w
 TriesRaise (Busy word) node v w = Missed (2 * node + 1) (2 * node) word v w
 
--- a call made this many rounds on the cell that it found, and, where these are fewer than were asked for, no further work could be done
+-- a call has made `done` rounds on the cell that it found, at most `most`; where these are fewer, no further work could be done
 pub record HasRun (done most node : ℕ) (v w : View) : Type 0 where
   pub engine : EngineView
   pub engine_then : EngineView
@@ -89,11 +91,12 @@ pub record HasRun (done most node : ℕ) (v w : View) : Type 0 where
   pub ends : done < most → RunEnds engine_now intake_now
   pub left : w ≡ cell_left v node engine_now intake_now v.work
 
+-- what a call says that tries to work at a node: it has made rounds, or a turn was missed
 abbrev pub TriesRun : Tried ℕ → ℕ → ℕ → View → View → Type 0
 TriesRun (Done done) most node v w = HasRun done most node v w
 TriesRun (Busy word) most node v w = Missed (2 * node + 1) (2 * node) word v w
 
--- a delivery along an edge, from the engine to the intake that were found
+-- a call has delivered along an edge, from the engine to the intake that it found
 pub record HasBrought (result : Delivered) (source : ℕ) (edge : Edge) (v w : View) : Type 0 where
   pub engine : EngineView
   pub intake : IntakeView
@@ -106,6 +109,7 @@ pub record HasBrought (result : Delivered) (source : ℕ) (edge : Edge) (v w : V
   pub claimed : intake_now.claimed ≡ intake.claimed
   pub left : w ≡ left_two v source (an_engine engine) (2 * edge.node) (an_intake intake_now) v.work
 
+-- what a call says that tries to deliver along an edge: it has delivered, or a turn was missed
 abbrev pub TriesAppend : Tried Delivered → Plan → Edge → View → View → Type 0
 TriesAppend (Done result) plan edge v w = HasBrought result (source_at plan edge) edge v w
 TriesAppend (Busy word) plan edge v w = Missed (source_at plan edge) (2 * edge.node) word v w
@@ -117,6 +121,7 @@ pub record HasCounted (waiting : ℕ) (edge : Edge) (v w : View) : Type 0 where
   pub waits : waiting ≡ length (port_queue intake.waits edge.port).packets
   pub left : w ≡ left_one v (2 * edge.node) (an_intake intake) v.work
 
+-- what a call says that tries to count what waits at an edge: it has counted, or a turn was missed
 abbrev pub TriesWaiting : Tried ℕ → Edge → View → View → Type 0
 TriesWaiting (Done waiting) edge v w = HasCounted waiting edge v w
 TriesWaiting (Busy word) edge v w = MissedOne (2 * edge.node) word v w
@@ -129,7 +134,7 @@ pub record HasOutcome (has : Option WorkView) (work : WorkView) : Type 0 where
   pub number : it.number ≡ work.number
   pub phase : it.phase ≡ work.phase
 
--- the seat's work was out of the engine that was found, and is back in it
+-- a call has committed the seat's work, which was out of the engine that it found; the seat has no work then
 pub record HasCommitted (laid : ℕ) (outcome : OutcomeView) (v w : View) : Type 0 where
   pub engine : EngineView
   pub engine_now : EngineView
@@ -144,17 +149,20 @@ pub record FoundNone (outcome : OutcomeView) (v w : View) : Type 0 where
   pub found : Finds v (2 * outcome.work.node + 1) (an_engine engine)
   pub left : w ≡ left_one v (2 * outcome.work.node + 1) (an_engine engine) v.work
 
+-- what a call says that tries to commit: it has committed, or the turn was missed, or memory was short; in the two last cases the outcome
+-- comes back
 abbrev pub TriesCommit : {X : Type 0} → TriedCommit X → OutcomeView → View → View → Type 0
 TriesCommit (Laid n) outcome v w = HasCommitted n outcome v w
 TriesCommit (CommitBusy word o) outcome v w = MissedOne (2 * outcome.work.node + 1) word v w × (o ≡ outcome)
 TriesCommit (OutOfMemory o) outcome v w = FoundNone outcome v w × (o ≡ outcome)
 
--- the seat's work stands in its window again
+-- a call has put the seat's work back into the window of the engine that it found; the seat has no work then
 pub record HasShelved (outcome : OutcomeView) (v w : View) : Type 0 where
   pub engine : EngineView
   pub found : Finds v (2 * outcome.work.node + 1) (an_engine engine)
   pub left : w ≡ left_one v (2 * outcome.work.node + 1) (an_engine (shelved engine outcome)) None
 
+-- what a call says that tries to shelve: it has shelved, or the turn was missed and the outcome comes back
 abbrev pub TriesShelve : {X : Type 0} → TriedShelf X → OutcomeView → View → View → Type 0
 TriesShelve Put outcome v w = HasShelved outcome v w
 TriesShelve (ShelfBusy word o) outcome v w = MissedOne (2 * outcome.work.node + 1) word v w × (o ≡ outcome)

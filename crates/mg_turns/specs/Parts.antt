@@ -56,31 +56,32 @@ nodes_in key = length key.plan.nodes
 abbrev pub owner_in : FrameView → ℕ → Whose
 owner_in key word = whose (nodes_in key) word
 
--- how many packets came to an intake, on so many ports; those that are gone are counted
+-- how many packets came to an intake on its first n ports; those that are gone are counted
 abbrev pub came_to : Waits → ℕ → ℕ
 came_to waits zero = 0
 came_to waits (suc n) = came_to waits n + count_of (port_queue waits n)
 
--- how many sets, calls or answers an engine laid, or how many packets came to an intake with so many ports
+-- how many sets, calls or answers an engine laid, or how many packets came to an intake on its first `ports` ports
 abbrev pub tally_by : ℕ → Option EngineView → Option IntakeView → ℕ
 tally_by ports (Some e) i = e.laid
 tally_by ports None (Some i) = came_to i.waits ports
 tally_by ports None None = 0
 
--- how many ports the intake of a word has
+-- how many ports the intake of a word has; 0 at the word of an engine
 abbrev pub ports_by : FrameView → Whose → ℕ
 ports_by key (intake_of consumer) = length (ports_of key.plan consumer)
 ports_by key (engine_of owner) = 0
 
+-- how far the part of a word has come, in sets, calls or answers that an engine laid, or packets that came to an intake
 abbrev pub tally_of : FrameView → ℕ → PartView → ℕ
 tally_of key word p = tally_by (ports_by key (owner_in key word)) p.engine p.intake
 
--- the tally of a part: of an intake how many packets came to it, on all ports together, since it was shared; and of an engine how
--- many sets, calls or answers it laid since then
+-- the tally of a part: how many packets came to an intake, on all ports together, since it was shared, or how many sets, calls or answers
+-- an engine laid since then
 abbrev pub tally_since : FrameView → ℕ → PartView → ℕ
 tally_since key word p = tally_of key word p - tally_of key word (at key word)
 
--- either both are there, and the first grew to the second; or neither is there
+-- either both are there, and R holds of them; or neither is there
 abbrev pub Grown : {X : Type 0} → (X → X → Type 0) → Option X → Option X → Type 0
 Grown R None None = Unit {0}
 Grown R (Some x) (Some y) = R x y
@@ -92,7 +93,7 @@ pub record PartGrows (p q : PartView) : Type 0 where
   pub engine : Grown EngineGrows p.engine q.engine
   pub intake : Grown IntakeGrows p.intake q.intake
 
--- a part is lawful for a job, as that of its owner
+-- a part is lawful for a job, as the intake or the engine of its owner
 abbrev pub LawfulPart : LoggedJob → Whose → PartView → Type 0
 LawfulPart job (intake_of consumer) p = (i : IntakeView) → p.intake ≡ Some i → LawfulIntake job consumer i
 LawfulPart job (engine_of owner) p = (e : EngineView) → p.engine ≡ Some e → LawfulEngine job owner e
@@ -107,17 +108,20 @@ pub record FitsSome (key : FrameView) : Type 0 where
   pub job : LoggedJob
   pub fits : Fits job key
 
--- an engine has given up as many packets at each output as another
+-- how many packets an engine has given up at each output
 abbrev pub gone_by : Option EngineView → List ℕ
 gone_by None = []
 gone_by (Some e) = map (λ (b : Backlog Plain). b.gone) e.outputs
 
+-- how many packets a part has given up at each output, where it is an engine
 abbrev pub gone_in : PartView → List ℕ
 gone_in p = gone_by p.engine
 
+-- an engine as a part
 abbrev pub an_engine : EngineView → PartView
 an_engine e = record { engine = Some e; intake = None }
 
+-- an intake as a part
 abbrev pub an_intake : IntakeView → PartView
 an_intake i = record { engine = None; intake = Some i }
 
@@ -126,29 +130,31 @@ abbrev pub IsKind : Whose → PartView → Type 0
 IsKind (intake_of consumer) p = (i : IntakeView) × (p ≡ an_intake i)
 IsKind (engine_of owner) p = (e : EngineView) × (p ≡ an_engine e)
 
--- the number of the first output's stream
+-- the number of the stream at an engine's first output
 abbrev pub first_by : Option EngineView → ℕ
 first_by None = 0
 first_by (Some e) = e.first
 
+-- the number of the stream at a part's first output, where it is an engine
 abbrev pub first_in : PartView → ℕ
 first_in p = first_by p.engine
 
--- how many packets came to a port
+-- how many packets came to a port of an intake
 abbrev pub count_by : Option IntakeView → ℕ → ℕ
 count_by None port = 0
 count_by (Some i) port = count_of (port_queue i.waits port)
 
+-- how many packets came to a port of a part, where it is an intake
 abbrev pub count_in : PartView → ℕ → ℕ
 count_in p port = count_by p.intake port
 
--- how many sets were claimed of an intake
+-- how many sets were claimed of an intake, or packets of MAIN answered
 abbrev pub claimed_by : Option IntakeView → ℕ
 claimed_by None = 0
 claimed_by (Some i) = i.claimed
 
--- a part came of the one that was shared at this word: it is of its kind and lawful for each job for which all that was shared is, its
--- standing grew, and it gave up no packet. Of the collector's intake, whose word is behind those of the nodes, nothing was claimed.
+-- a part is what became of the one that was shared at this word: it is of its kind and lawful for each job for which all that was shared
+-- is, its standing grew, and it gave up no packet. Of the collector's intake, whose word is behind those of the nodes, nothing was claimed.
 pub record Follows (key : FrameView) (word : ℕ) (p : PartView) : Type 0 where
   pub kind : IsKind (owner_in key word) p
   pub lawful : (job : LoggedJob) → Fits job key → LawfulPart job (owner_in key word) p
@@ -157,15 +163,15 @@ pub record Follows (key : FrameView) (word : ℕ) (p : PartView) : Type 0 where
   pub first : first_in p ≡ first_in (at key word)
   pub collector : word ≡ 2 * nodes_in key → claimed_by p.intake ≡ claimed_by (at key word).intake
 
--- an engine and an intake agree
+-- the engine of one part and the intake of the other agree
 abbrev pub AgreeParts : PartView → PartView → Type 0
 AgreeParts p q = (e : EngineView) (i : IntakeView) → p.engine ≡ Some e → q.intake ≡ Some i → Agree e i
 
--- a work is out of an engine
+-- a work is out of the engine of a part
 abbrev pub IsOutIn : PartView → WorkView → Type 0
 IsOutIn p w = (e : EngineView) × (p.engine ≡ Some e) × IsOut e w
 
--- the entry of a number has no outcome
+-- the work of a number is out of an engine: its entry has no outcome
 pub record IsMissingAt (e : EngineView) (number : ℕ) : Type 0 where
   pub place : ℕ
   pub number_is : number ≡ e.laid + place
@@ -173,10 +179,11 @@ pub record IsMissingAt (e : EngineView) (number : ℕ) : Type 0 where
   pub there : slice_get e.window place ≡ Some entry
   pub missing : entry.outcome ≡ None
 
+-- the work of a number is out of the engine of a part
 abbrev pub IsMissingIn : PartView → ℕ → Type 0
 IsMissingIn p number = (e : EngineView) × (p.engine ≡ Some e) × IsMissingAt e number
 
--- whose engine writes a stream
+-- whose engine writes a stream, by the stream's producer
 abbrev pub writer_by : Option Producer → Owner
 writer_by None = of_input 0
 writer_by (Some (Input n)) = of_input n
@@ -186,7 +193,7 @@ writer_by (Some (Node n port)) = of_node n
 abbrev pub source_at : Plan → Edge → ℕ
 source_at plan e = word_at (length plan.nodes) (engine_of (writer_by (option_map (λ s. s.producer) (slice_get plan.streams e.stream))))
 
--- a word is that of an engine of the frame
+-- a word is that of an engine, of a node or a graph input of the frame
 pub record IsSource (key : FrameView) (word : ℕ) : Type 0 where
   pub owner : Owner
   pub is : owner_in key word ≡ engine_of owner

@@ -1,4 +1,4 @@
--- Sets of a node that are worked on one after the other, while both turns of the node are held.
+-- Works of a node that are done one after the other, while both turns of the node are held.
 use Rattle.std.specs.Prelude.{◌≡◌, ℕ, zero, suc, ◌+◌, ◌⊎◌, None}
 use Rattle.mg_node.specs.Views.{IntakeView, WorkView, PerformedView, OutcomeView, EngineView}
 use Rattle.mg_node.specs.declared.claimed.Claimed.TheVariants.{Work, Answered, NotReady, InFlightFull, Draining, Ended, OutOfMemory}
@@ -7,7 +7,7 @@ use Rattle.mg_node.specs.Shelves.{shelved, outcome_of}
 use Rattle.mg_node.specs.Claims.{Claims}
 use Rattle.mg_node.specs.Commits.{Commits}
 
--- a work is claimed, performed and committed, so many sets are laid with it
+-- a work is claimed, performed and committed, by which `laid` sets or calls are laid
 pub record Works (laid : ℕ) (engine now : EngineView) (intake intake_now : IntakeView) : Type 0 where
   pub work : WorkView
   pub claimed : EngineView
@@ -21,17 +21,17 @@ abbrev pub Round : ℕ → EngineView → EngineView → IntakeView → IntakeVi
 Round laid engine now intake intake_now =
     Works laid engine now intake intake_now ⊎ ((laid ≡ 1) × Claims {C = Unit {0}} Answered engine now intake intake_now)
 
--- a number of rounds one after the other, and how many sets these laid together
+-- a number of rounds one after the other, by which `laid` sets, calls or answers are laid together
 abbrev pub Rounds : ℕ → ℕ → EngineView → EngineView → IntakeView → IntakeView → Type 0
 Rounds zero laid engine now intake intake_now = (laid ≡ 0) × (now ≡ engine) × (intake_now ≡ intake)
 Rounds (suc n) laid engine now intake intake_now =
     (before : ℕ) × (more : ℕ) × (e : EngineView) × (i : IntakeView) × (laid ≡ before + more) × Rounds n before engine e intake i × Round more e now i intake_now
 
--- what comes of a work without a commit: it wasn't run, or it was performed
+-- an outcome of a work: the work wasn't run, or it was performed
 abbrev pub IsOutcomeOf : WorkView → OutcomeView → Type 0
 IsOutcomeOf work outcome = (outcome ≡ record { work = work; answer = None }) ⊎ ((p : PerformedView) × IsPerformed work p × (outcome ≡ outcome_of p))
 
--- a work is claimed and finds no memory, so it stands in its window again
+-- a work is claimed, memory is short to perform or commit it, and it stands in its window again
 pub record FindsNone (engine now : EngineView) (intake intake_now : IntakeView) : Type 0 where
   pub work : WorkView
   pub claimed : EngineView
@@ -49,6 +49,6 @@ GivesNone engine now intake intake_now =
     ⊎ (Claims {C = Unit {0}} Ended engine now intake intake_now
     ⊎ Claims {C = Unit {0}} OutOfMemory engine now intake intake_now)))
 
--- why rounds end
+-- why rounds end: a claim gives nothing, or memory was short for a work
 abbrev pub Stops : EngineView → EngineView → IntakeView → IntakeView → Type 0
 Stops engine now intake intake_now = GivesNone engine now intake intake_now ⊎ FindsNone engine now intake intake_now

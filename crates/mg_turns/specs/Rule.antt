@@ -11,6 +11,7 @@ use Rattle.mg_calc.specs.declared.edge.Edge.{Edge}
 use Rattle.mg_turns.specs.Turns.{Turn, Sight}
 use Rattle.mg_turns.specs.declared.view.View.{View}
 
+-- a view by its fields
 abbrev pub view : FrameView → ℕ → ℕ → ℕ → Option ℕ → List Turn → Option WorkView → List Sight → View
 view key portion misses splits missed turns work seen =
     record { key = key; portion = portion; misses = misses; splits = splits; missed = missed; turns = turns; work = work; seen = seen }
@@ -19,41 +20,48 @@ view key portion misses splits missed turns work seen =
 abbrev pub doubled : ℕ → ℕ
 doubled tally = tally * 2 % 18446744073709551616
 
+-- the word of a part while it is free
 abbrev pub word_of : FrameView → ℕ → PartView → ℕ
 word_of key word p = doubled (tally_since key word p)
 
--- the part is in its slot, its tally is in the word, and it came of the one that was shared
+-- the part of a free word is in its slot, the word has its tally, and it is what became of the part that was shared there
 abbrev pub Lies : FrameView → List (maybe.Option (Option PartView)) → ℕ → ℕ → Type 0
 Lies key homes i w = (p : PartView) × (get_elem? homes i ≡ some (some (Some p))) × (w ≡ word_of key i p) × Follows key i p
 
--- a part is no less than what was seen of its word
+-- a part is no less than what each of some sights of its word saw
 abbrev pub Sights : ℕ → PartView → List Sight → Type 0
 Sights i p [] = Unit {0}
 Sights i p (x ∷ xs) = (x.word ≡ i → PartGrows x.part p) × Sights i p xs
 
+-- 1 where a turn is that of a word, and otherwise 0
 abbrev pub is_of : ℕ → Turn → ℕ
 is_of i t = cond (t.word == i) 1 0
 
+-- how many turns of a word a view has
 abbrev pub has_turn : ℕ → View → ℕ
 has_turn i v = total (is_of i) v.turns
 
+-- the view of the seat that has a net when it is shared: it has the whole portion
 abbrev pub first_view : FrameView → View
 first_view key = view key 4294967296 0 0 None [] None []
 
+-- the slots of a table
 abbrev pub Homes : Type 0
 Homes = List (maybe.Option (Option PartView))
 
--- the part i as it stands in its slot, or as the seat that has its turn noted it
+-- the part of a word stands in its slot
 abbrev pub InSlot : Homes → ℕ → PartView → Type 0
 InSlot homes i d = get_elem? homes i ≡ some (some (Some d))
 
+-- a seat that has the turn of a word noted this part of it
 abbrev pub Noted : List View → ℕ → PartView → Type 0
 Noted views i d = (j : ℕ) × (k : ℕ) × (v : View) × (t : Turn) × (get_elem? views j ≡ some v) × (get_elem? v.turns k ≡ some t) × (t.word ≡ i) × (d ≡ t.note)
 
+-- the part of a word as it stands in its slot, or as the seat that has its turn noted it
 abbrev pub Shown : Homes → List View → ℕ → PartView → Type 0
 Shown homes views i d = InSlot homes i d ⊎ Noted views i d
 
--- a view has a work of a node
+-- some view has the work of this number of a node
 abbrev pub HasWork : List View → ℕ → ℕ → Type 0
 HasWork views node number = (j : ℕ) × (v : View) × (w : WorkView) × (get_elem? views j ≡ some v) × (v.work ≡ Some w) × (w.node ≡ node) × (w.number ≡ number)
 
@@ -61,35 +69,36 @@ HasWork views node number = (j : ℕ) × (v : View) × (w : WorkView) × (get_el
 abbrev pub WorksApart : List View → Type 0
 WorksApart views = (j k : ℕ) (v u : View) (w x : WorkView) → j ≢ k → get_elem? views j ≡ some v → get_elem? views k ≡ some u → v.work ≡ Some w → u.work ≡ Some x → w.node ≡ x.node → w.number ≢ x.number
 
--- facts between parts in different places
+-- what holds between the parts and the views of a table
 pub record Linked (key : FrameView) (homes : Homes) (views : List View) : Type 0 where
-  -- (1) the engine and the intake of a node agree
+  -- the engine and the intake of a node agree
   pub matched : (n : ℕ) (p q : PartView) → n < nodes_in key → Shown homes views (2 * n + 1) p → Shown homes views (2 * n) q → AgreeParts p q
-  -- (2) each work of a view is out of its engine, no two views have the same one, and each that is out is in a view
+  -- each work of a view is out of its engine, no two views have the same one, and each work that is out is in a view
   pub within : (j : ℕ) (v : View) (w : WorkView) → get_elem? views j ≡ some v → v.work ≡ Some w → w.node < nodes_in key
   pub out : (j : ℕ) (v : View) (w : WorkView) (p : PartView) → get_elem? views j ≡ some v → v.work ≡ Some w → Shown homes views (2 * w.node + 1) p → IsOutIn p w
   pub apart : WorksApart views
   pub complete : (n number : ℕ) (p : PartView) → n < nodes_in key → Shown homes views (2 * n + 1) p → IsMissingIn p number → HasWork views n number
-  -- (5) no more came to the port of an edge than was laid at its output
+  -- no more came to the port of an edge than was laid at its output
   pub joined : (k : ℕ) (e : Edge) (p q : PartView) → slice_get key.plan.edges k ≡ Some e → Shown homes views (source_at key.plan e) p → Shown homes views (2 * e.node) q → JoinedParts p e q
-  -- (3) and (4) stand in Orderly; a spent view has no work
+  -- a view without a portion has no work
   pub idle : (j : ℕ) (v : View) → get_elem? views j ≡ some v → v.portion ≡ 0 → v.work ≡ None
 
+-- what holds of the words, the slots and the views of a table
 pub record Orderly (key : FrameView) (s : State (Option PartView) View) : Type 0 where
   pub wide : length s.words ≡ length s.homes
   pub long : length s.homes ≡ length key.parts
   pub few : 2 * nodes_in key < length key.parts
   pub edges : EdgesFit key
-  -- each view that is not spent names the key
+  -- each view with a portion names the key
   pub keyed : (j : ℕ) (v : View) → get_elem? s.views j ≡ some v → 0 < v.portion → v.key ≡ key
-  -- the portions add up, and a spent view has no turn
+  -- the portions add up to the whole, and a view without a portion has no turn
   pub whole : total (λ (v : View). v.portion) s.views ≡ 4294967296
   pub spent : (j : ℕ) (v : View) → get_elem? s.views j ≡ some v → v.portion ≡ 0 → length v.turns ≡ 0
   -- no two views have the same turn, and a word is odd exactly where a view has its turn
   pub turns : (i : ℕ) → i < length s.homes → total (has_turn i) s.views ≡ slice_index s.words i % 2
   -- half of a held word is the tally that its holder found
   pub tallies : (j k : ℕ) (v : View) (t : Turn) → get_elem? s.views j ≡ some v → get_elem? v.turns k ≡ some t → slice_index s.words t.word / 2 ≡ t.tally
-  -- a free word is twice the tally of the part in its slot, which came of the one that was shared
+  -- a free word is twice the tally of the part in its slot, which is what became of the one that was shared
   pub free : (i : ℕ) → i < length s.homes → slice_index s.words i % 2 ≡ 0 → Lies key s.homes i (slice_index s.words i)
   -- a slot is empty where its word is held
   pub taken : (i : ℕ) → i < length s.homes → slice_index s.words i % 2 ≡ 1 → get_elem? s.homes i ≡ some none
@@ -98,7 +107,7 @@ pub record Orderly (key : FrameView) (s : State (Option PartView) View) : Type 0
   -- no view saw more of a part than the note of the seat that has its turn
   pub seen_held : (j k : ℕ) (v : View) (t : Turn) → get_elem? s.views j ≡ some v → get_elem? v.turns k ≡ some t → (l : ℕ) (u : View) → get_elem? s.views l ≡ some u → Sights t.word t.note u.seen
 
--- a frame that can be shared: the cells agree, and no work is out
+-- a frame that can be shared: its edges fit, the cells agree, and no work is out
 pub record Ready (key : FrameView) : Type 0 where
   pub few : 2 * nodes_in key < length key.parts
   pub edges : EdgesFit key
@@ -107,11 +116,12 @@ pub record Ready (key : FrameView) : Type 0 where
   pub matched : (n : ℕ) → n < nodes_in key → AgreeParts (at key (2 * n + 1)) (at key (2 * n))
   pub none : (n number : ℕ) → n < nodes_in key → IsMissingIn (at key (2 * n + 1)) number → ⊥
 
+-- the rule of a table that has the words of its parts alone
 abbrev pub Ruled : FrameView → State (Option PartView) View → Type 0
 Ruled key s = Orderly key s × Linked key s.homes s.views
 
--- The words of the parts stand eight apart in the table, so that those of two parts are never in one line of a cache. What stands
--- between them says nothing.
+-- every eighth word, from the first on, a number of them: the words of the parts stand eight apart in the table, so that those of two parts
+-- are never in one line of a cache, and the words between them are not used
 abbrev pub each_eighth : ℕ → List ℕ → List ℕ
 each_eighth zero words = []
 each_eighth (suc n) words = slice_index words 0 ∷ each_eighth n (drop 8 words)
@@ -120,5 +130,6 @@ each_eighth (suc n) words = slice_index words 0 ∷ each_eighth n (drop 8 words)
 abbrev pub parts_alone : FrameView → State (Option PartView) View → State (Option PartView) View
 parts_alone key s = record { words = each_eighth (length key.parts) s.words; homes = s.homes; views = s.views }
 
+-- the rule of a table
 abbrev pub RuledApart : FrameView → State (Option PartView) View → Type 0
 RuledApart key s = (length s.words ≡ 8 * length key.parts) × Ruled key (parts_alone key s)

@@ -9,7 +9,8 @@ use Rattle.mg_turns.specs.Turns.{Sight}
 use Rattle.mg_turns.specs.Rule.{view, Sights}
 use Rattle.mg_turns.specs.declared.view.View.{View}
 
--- a part that a call found at a word: it came of the one that was shared there, and it is no less than any sight that the seat had
+-- a part that a call found at a word: it is what became of the part that was shared there, and no less than any sight that the seat had of
+-- it
 pub record Finds (v : View) (word : ℕ) (p : PartView) : Type 0 where
   pub follows : Follows v.key word p
   pub sights : Sights word p v.seen
@@ -25,11 +26,11 @@ Missed first second word v w =
     (((word ≡ first) ⊎ (word ≡ second)) × (w ≡ view v.key v.portion (v.misses + 1) v.splits (Some word) v.turns v.work v.seen))
     ⊎ ((word ≡ second) × (p : PartView) × Finds v first p × (w ≡ view v.key v.portion (v.misses + 1) v.splits (Some second) v.turns v.work (sight first p ∷ v.seen)))
 
--- the seat left the part of one word, and has this work
+-- the view of a seat after a call that left this part at a word, and this work with the seat
 abbrev pub left_one : View → ℕ → PartView → Option WorkView → View
 left_one v word p work = view v.key v.portion v.misses v.splits v.missed v.turns work (sight word p ∷ v.seen)
 
--- the seat left the parts of two words
+-- the view of a seat after a call that left these parts at two words, and this work with the seat
 abbrev pub left_two : View → ℕ → PartView → ℕ → PartView → Option WorkView → View
 left_two v word p other q work = view v.key v.portion v.misses v.splits v.missed v.turns work (sight word p ∷ sight other q ∷ v.seen)
 
@@ -39,32 +40,32 @@ pub record FindsCell (v : View) (node : ℕ) (engine : EngineView) (intake : Int
   pub intake_found : Finds v (2 * node) (an_intake intake)
   pub agree : Agree engine intake
 
--- the view of a seat whose call left the engine and the intake of a node like this
+-- the view of a seat after a call that left the engine and the intake of a node like this
 abbrev pub cell_left : View → ℕ → EngineView → IntakeView → Option WorkView → View
 cell_left v node engine intake work = left_two v (2 * node + 1) (an_engine engine) (2 * node) (an_intake intake) work
 
--- the turn of one word was missed
+-- The one word that a call uses was found held: the seat counts one more miss, and names the word.
 abbrev pub MissedOne : ℕ → ℕ → View → View → Type 0
 MissedOne only word v w = (word ≡ only) × (w ≡ view v.key v.portion (v.misses + 1) v.splits (Some only) v.turns v.work v.seen)
 
--- the work that a seat has after a claim: the one that it gave, or the one before
+-- the work that a seat has after a claim: the one that the claim gave, or else the one that it had before
 abbrev pub has_after : {X : Type 0} → Claimed X → Option WorkView → Option WorkView
 has_after (Work w) had = Some w
 has_after _ had = had
 
--- the view of a seat that handed over this much of its portion
+-- the view of a seat that handed over n of its portion
 abbrev pub kept_after : ℕ → View → View
 kept_after n v = view v.key (v.portion - n) v.misses (v.splits + 1) v.missed v.turns v.work v.seen
 
--- a new seat, to which it is handed: it knows what the other one knows
+-- the view of a new seat to which n of a portion was handed: it knows what the other seat knows
 abbrev pub handed : ℕ → View → View
 handed n v = view v.key n 0 0 None [] None v.seen
 
--- the work of one of two seats, of which not both have one
+-- the work that one of two seats has; they don't both have one
 abbrev pub either_work : Option WorkView → Option WorkView → Option WorkView
 either_work None b = b
 either_work (Some a) b = Some a
 
--- a seat that takes over what another one has and knows
+-- the view of a seat that takes over what another one has and knows
 abbrev pub joined : View → View → View
 joined v w = view v.key (v.portion + w.portion) v.misses v.splits v.missed v.turns (either_work v.work w.work) (v.seen ++ w.seen)

@@ -8,57 +8,64 @@ use Rattle.mg_turns.specs.Parts.{PartView, count_in}
 use Rattle.mg_turns.specs.Turns.{Sight}
 use Rattle.mg_turns.specs.declared.view.View.{View}
 
--- the bound of a port
+-- the bound of a port of an intake, and 0 without an intake
 abbrev pub bound_by : Option IntakeView → ℕ → ℕ
 bound_by None port = 0
 bound_by (Some i) port = (port_queue i.waits port).bound
 
+-- the bound of a port of a part
 abbrev pub bound_in : PartView → ℕ → ℕ
 bound_in p port = bound_by p.intake port
 
--- how many packets were laid at an output, and its bound
+-- how many packets an engine laid at an output, and 0 without an engine
 abbrev pub laid_by : Option EngineView → ℕ → ℕ
 laid_by None output = 0
 laid_by (Some e) output = count_of (laid_at e output)
 
+-- how many packets a part laid at an output
 abbrev pub laid_in : PartView → ℕ → ℕ
 laid_in p output = laid_by p.engine output
 
+-- the bound of an engine's output, and 0 without an engine
 abbrev pub laid_bound_by : Option EngineView → ℕ → ℕ
 laid_bound_by None output = 0
 laid_bound_by (Some e) output = (laid_at e output).bound
 
+-- the bound of a part's output
 abbrev pub laid_bound_in : PartView → ℕ → ℕ
 laid_bound_in p output = laid_bound_by p.engine output
 
--- how many sets, calls or answers were laid
+-- how many sets, calls or answers an engine laid, and 0 without an engine
 abbrev pub sets_by : Option EngineView → ℕ
 sets_by None = 0
 sets_by (Some e) = e.laid
 
+-- how many sets, calls or answers a part laid
 abbrev pub sets_in : PartView → ℕ
 sets_in p = sets_by p.engine
 
--- the greatest of a number, over the sights of a word, and 0 where there is none
+-- the greatest value of a number over a seat's sights of a word, and 0 where it has none
 abbrev pub most_seen : (PartView → ℕ) → ℕ → List Sight → ℕ
 most_seen number word [] = 0
 most_seen number word (x ∷ xs) = max (cond (x.word == word) (number x.part) 0) (most_seen number word xs)
 
--- what a seat knows of a port: how many packets came there, and the bound
+-- how many packets came to a port, as far as a seat knows
 abbrev pub known_came : View → ℕ → ℕ → ℕ
 known_came v consumer port = most_seen (λ p. count_in p port) (2 * consumer) v.seen
 
+-- the bound of a port, as far as a seat knows
 abbrev pub known_bound : View → ℕ → ℕ → ℕ
 known_bound v consumer port = most_seen (λ p. bound_in p port) (2 * consumer) v.seen
 
--- how many packets were laid at an output of the engine of a word, and the output's bound
+-- how many packets were laid at an output of the engine of a word, as far as a seat knows
 abbrev pub known_laid : View → ℕ → ℕ → ℕ
 known_laid v word output = most_seen (λ p. laid_in p output) word v.seen
 
+-- the bound of an output of the engine of a word, as far as a seat knows
 abbrev pub known_laid_bound : View → ℕ → ℕ → ℕ
 known_laid_bound v word output = most_seen (λ p. laid_bound_in p output) word v.seen
 
--- how many sets, calls or answers of a node were laid
+-- how many sets, calls or answers of a node were laid, as far as a seat knows
 abbrev pub known_sets : View → ℕ → ℕ
 known_sets v node = most_seen sets_in (2 * node + 1) v.seen
 

@@ -1,6 +1,4 @@
--- What each answer of a call says of what the seat knows: before the call, v, and after it, w. In these pages d is the number of sets,
--- calls or answers that an engine has laid, and c that of the works behind which the next one is claimed: those that are laid and
--- those of its window.
+-- What each answer of a call tells of what the seat knows. The seat's view is v before the call, and w after it.
 use Rattle.std.specs.Prelude.{◌≡◌, ◌≢◌, ℕ, ◌+◌, ◌-◌, ◌*◌, ◌<◌, ◌≤◌, ◌⊎◌, ◌∷◌, ⊤, Bool, true, cond, length, List, [], Some, IfSome, is_some, slice_get}
 use Rattle.mg_time.specs.Time.{done}
 use Rattle.mg_value.specs.Payload.{Plain}
@@ -36,7 +34,7 @@ use Rattle.mg_turns.specs.declared.tried.TriedCommit.TheVariants.{Laid, Busy as 
 
 -- Deliveries.
 
--- the output of its engine from which an edge leads
+-- the number of the output from which an edge leads, at its engine
 abbrev pub output_of : FrameView → Edge → ℕ
 output_of key e = e.stream - first_in (at key (source_at key.plan e))
 
@@ -44,17 +42,19 @@ output_of key e = e.stream - first_in (at key (source_at key.plan e))
 abbrev pub HasCome : ℕ → Edge → View → View → Type 0
 HasCome n e v w = known_came v e.node e.port + n ≤ known_came w e.node e.port
 
--- the port has all that was laid
+-- the edge's port has all packets that were laid at the edge's output, as far as the seat knows
 abbrev pub HasAll : FrameView → Edge → View → Type 0
 HasAll key e w = known_laid w (source_at key.plan e) (output_of key e) ≤ known_came w e.node e.port
 
+-- what a delivery that found memory tells: at least n packets came
 pub record TellsMoved (n : ℕ) (key : FrameView) (e : Edge) (v w : View) : Type 0 where
   pub came : HasCome n e v w
-  -- all that was laid is there, or 256 packets more
+  -- all that was laid is there, or 256 packets more came
   pub enough : HasAll key e w ⊎ HasCome 256 e v w
   -- where all packets that were laid are at the port, the bound is there too
   pub bound : HasAll key e w → known_laid_bound w (source_at key.plan e) (output_of key e) ≤ known_bound w e.node e.port
 
+-- what the answer of a delivery tells
 abbrev pub AppendTells : Tried Delivered → FrameView → Edge → View → View → Type 0
 AppendTells (Done (Moved n raised)) key e v w = TellsMoved n key e v w
 AppendTells (Done (NoMemory n)) key e v w = HasCome n e v w
@@ -62,34 +62,35 @@ AppendTells (Busy word) key e v w = ⊤
 
 -- Calls on a node.
 
--- the seat's last sights are those of the node's engine and intake, of which this holds
+-- the seat's two newest sights are those of a node's engine and intake, of which `Says` holds
 pub record LeftCell (node : ℕ) (v w : View) (Says : EngineView → IntakeView → Type 0) : Type 0 where
   pub engine : EngineView
   pub intake : IntakeView
   pub seen : w.seen ≡ sight (2 * node + 1) (an_engine engine) ∷ sight (2 * node) (an_intake intake) ∷ v.seen
   pub says : Says engine intake
 
--- each output's bound is as high as what waits allows
+-- the bound of each output is known to be as high as what waits allows
 abbrev pub IsRaised : ℕ → View → EngineView → IntakeView → Type 0
 IsRaised node w e i = (output : ℕ) → output < length e.outputs → IfSome (advance_bound e i.waits) (λ b. b ≤ known_laid_bound w (2 * node + 1) output)
 
--- the bound of an output rose, by what was known of it
+-- the known bound of some output of a node rose
 pub record SomeRose (node : ℕ) (v w : View) : Type 0 where
   pub output : ℕ
   pub rose : known_laid_bound v (2 * node + 1) output < known_laid_bound w (2 * node + 1) output
 
+-- what the answer of a call that raises outputs tells
 abbrev pub RaiseTells : Tried Bool → ℕ → View → View → Type 0
 RaiseTells (Done moved) node v w = LeftCell node v w (IsRaised node w) × (moved ≡ true → SomeRose node v w)
 RaiseTells (Busy word) node v w = ⊤
 
--- what prefixes of MAIN and LOOP tell, where so many first packets of MAIN are answered: the next answer; or that none comes any
--- more; or neither
+-- what prefixes of MAIN and LOOP tell where the first k packets of MAIN are answered: there is a next answer; or none comes any more; or
+-- there is none so far
 abbrev pub RepliesTell : Readiness → ℕ → StreamPrefix Plain → StreamPrefix Plain → Type 0
 RepliesTell (Ready t) k main loop = k < length (replies main loop)
 RepliesTell AtEnd k main loop = (length main.packets ≡ k) × (main.bound ≡ done)
 RepliesTell NotYet k main loop = (length (replies main loop) ≡ k) × ((length main.packets ≡ k) → main.bound ≢ done)
 
--- what all that came to an intake tells, those packets too that are gone with the first sets or answers, which are claimed
+-- what all that came to an intake tells where the first k sets or answers are claimed, with the packets that are gone with these
 abbrev pub AllTells : Readiness → ℕ → Waits → Type 0
 AllTells readiness k (WaitingSets inbox) = (came : List (StreamPrefix Plain)) → StandAfter inbox.policy k (queues_of inbox.pool) came → TellsOf inbox.policy k came readiness
 AllTells readiness k (WaitingLoop held) = (main loop : StreamPrefix Plain) → StandsAfter k held main loop → RepliesTell readiness k main loop
@@ -104,10 +105,11 @@ abbrev pub MayClose : Role → ℕ → IntakeView → Type 0
 MayClose (Source calls) claimed i = calls ≤ claimed
 MayClose role claimed i = AllTells AtEnd i.claimed i.waits
 
--- the number c of an engine
+-- how many works of an engine are laid or in its window
 abbrev pub claimed_to : EngineView → ℕ
 claimed_to e = e.laid + length e.window
 
+-- what the answer of a claim says of the engine and the intake
 abbrev pub ClaimSays : {X : Type 0} → Claimed X → EngineView → IntakeView → Type 0
 ClaimSays NotReady e i = IsStill e.role i
 ClaimSays InFlightFull e i = claimed_to e ≡ e.laid + e.in_flight
@@ -115,11 +117,12 @@ ClaimSays Draining e i = (e.laid < claimed_to e) × MayClose e.role e.claimed i
 ClaimSays Ended e i = has_ended e ≡ true
 ClaimSays _ e i = ⊤
 
--- an answer of a loopback is laid
+-- where a loopback has answered, more of its answers are known to be laid than before
 abbrev pub AnswerTells : {X : Type 0} → Claimed X → ℕ → View → View → Type 0
 AnswerTells Answered node v w = known_sets v node < known_sets w node
 AnswerTells _ node v w = ⊤
 
+-- what the answer of a call that claims tells
 abbrev pub ClaimTells : {X : Type 0} → Tried (Claimed X) → ℕ → View → View → Type 0
 ClaimTells (Done result) node v w = LeftCell node v w (ClaimSays result) × AnswerTells result node v w
 ClaimTells (Busy word) node v w = ⊤
@@ -133,34 +136,37 @@ count_committed (x ∷ xs) = cond x.committed 1 0 + count_committed xs
 abbrev pub committed_in : EngineView → ℕ
 committed_in e = e.laid + cond e.closed 1 0 + count_committed e.window
 
--- a work that found no memory stands in its window
+-- a work that came back and isn't committed stands in an engine's window
 pub record StandsBack (e : EngineView) : Type 0 where
   pub outcome : OutcomeView
   pub place : ℕ
   pub there : slice_get e.window place ≡ Some (back outcome)
 
--- why no more works were done
+-- why a call did no more works: a claim gives nothing, or a work for which memory was short stands in its window
 abbrev pub RunEnds : EngineView → IntakeView → Type 0
 RunEnds e i = GivesNone e e i i ⊎ StandsBack e
 
--- at least this many works were committed since the seat last saw the engine; where that is fewer than were asked for, the reason holds
+-- at least `done` works were committed since the seat last saw the engine; where these are fewer than `most`, `RunEnds` says why
 pub record RunSays (done most node : ℕ) (v : View) (e : EngineView) (i : IntakeView) : Type 0 where
   pub committed : known_sets v node + done ≤ committed_in e
   pub ends : done < most → RunEnds e i
 
+-- what the answer of a call that works at a node tells
 abbrev pub RunTells : Tried ℕ → ℕ → ℕ → View → View → Type 0
 RunTells (Done done) most node v w = LeftCell node v w (RunSays done most node v)
 RunTells (Busy word) most node v w = ⊤
 
 -- Commits.
 
--- at least this many more sets are laid; and where the work was performed, it isn't the next one to lay any more, unless the node has ended
+-- at least n more sets or calls are known to be laid; and where the work was performed, it isn't the next one to lay, unless the node has
+-- ended
 pub record TellsLaid (n : ℕ) (outcome : OutcomeView) (v w : View) : Type 0 where
   pub engine : EngineView
   pub seen : w.seen ≡ sight (2 * outcome.work.node + 1) (an_engine engine) ∷ v.seen
   pub more : known_sets v outcome.work.node + n ≤ known_sets w outcome.work.node
   pub past : is_some outcome.answer ≡ true → (has_ended engine ≡ true) ⊎ (engine.laid ≢ outcome.work.number)
 
+-- what the answer of a commit tells
 abbrev pub CommitTells : {X : Type 0} → TriedCommit X → OutcomeView → View → View → Type 0
 CommitTells (Laid n) outcome v w = TellsLaid n outcome v w
 CommitTells (CommitBusy word o) outcome v w = ⊤

@@ -1,4 +1,4 @@
--- A turn of a seat: its word, half of what the word was, and a note of the part.
+-- The turns of a seat, and what it saw of parts.
 use Rattle.std.specs.Prelude.{ℕ, List, Option}
 use Rattle.std.specs.Coded.{Coded, code_by, coded×, coded_ℕ, coded_list, coded_option}
 use Rattle.std.specs.Prelude.{refl}
@@ -6,12 +6,13 @@ use Rattle.mg_node.specs.Views.{WorkView}
 use Rattle.mg_node.specs.Codes.{work_code}
 use Rattle.mg_turns.specs.Parts.{PartView, part_code}
 
+-- a turn of a seat: its word, half of what that was when the turn was taken, and the part as the seat noted it
 pub record Turn : Type 0 where
   pub word : ℕ
   pub tally : ℕ
   pub note : PartView
 
--- what a seat saw of a word's part
+-- a sight: a word, and its part as a seat saw it
 pub record Sight : Type 0 where
   pub word : ℕ
   pub part : PartView

@@ -3,18 +3,18 @@
 use Rattle.std.specs.Prelude.{ℕ, ◌+◌, ◌-◌, ◌*◌, ◌/◌, ◌%◌, ◌==◌, nat_lt, if◌then◌else◌}
 use Rattle.mg_node.specs.Lawful.{Owner, of_node, of_input}
 
--- whose part a word is for: the intake of a consumer, or the engine of a node or of a graph input
+-- the owner of a word: the intake of a consumer, or the engine of a node or of a graph input
 pub data Whose : Type 0 where
   intake_of : ℕ → Whose
   engine_of : Owner → Whose
 
--- the word of a part, where there are so many nodes
+-- the word of a part, in a plan of this many nodes
 abbrev pub word_at : ℕ → Whose → ℕ
 word_at nodes (intake_of consumer) = 2 * consumer
 word_at nodes (engine_of (of_node node)) = 2 * node + 1
 word_at nodes (engine_of (of_input input)) = 2 * nodes + 1 + input
 
--- the part to which a word belongs, where there are so many nodes
+-- the owner of a word, in a plan of this many nodes
 abbrev pub whose : ℕ → ℕ → Whose
 whose nodes word =
     if nat_lt (2 * nodes) word then engine_of (of_input (word - (2 * nodes + 1)))

@@ -30,7 +30,7 @@ impl<C: Calculator> Frame<C> {
         Frame { plan, parts }
     }
 
-    /// The plan and the parts again.
+    /// Returns the plan and the parts.
     pub fn into_parts(self) -> (Plan, Vec<Part<C>>)
         ensures { self ≡ record { plan = result.0; parts = result.1.items } }
     {

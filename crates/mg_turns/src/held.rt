@@ -6,28 +6,28 @@ use crate::Part;
 use mg_calc::Calculator;
 use mg_node::{Engine, Intake};
 
-/// A part that is out, and what its word is once it is free again.
+/// A part that is out of its slot, and its word as it is once the part is free again.
 #[derive(Drop)]
 pub(crate) struct Held<C: Calculator> {
     pub part: Part<C>,
     pub word: u64,
 }
 
-/// An engine and an intake that are out.
+/// An engine and an intake that are out of their slots.
 #[derive(Drop)]
 pub(crate) struct Pair<C: Calculator> {
     pub engine: Held<C>,
     pub intake: Held<C>,
 }
 
-/// A word that counts so many more.
+/// Returns a word whose tally is greater by `more`.
 pub(crate) fn counted(word: u64, more: u64) -> u64
     ensures { (tally : ℕ) → word ≡ doubled tally → result ≡ doubled (tally + more) }
 {
     word.wrapping_add(more << 1)
 }
 
-/// The engine and the intake of a node that are out, with what their words were, and how many sets were laid then.
+/// The engine and the intake of a node that are out of their slots, with what their words were, and how many sets were laid then.
 #[derive(Drop)]
 pub(crate) struct HeldCell<C: Calculator> {
     pub engine: Box<Engine<C>>,
@@ -38,7 +38,7 @@ pub(crate) struct HeldCell<C: Calculator> {
 }
 
 impl<C: Calculator> Pair<C> {
-    /// The cell of a node.
+    /// The cell of a pair of which one is an engine and the other an intake.
     pub fn into_cell(self) -> HeldCell<C>
         requires { (is_some self.engine.part.engine ≡ true) × (is_some self.intake.part.intake ≡ true) }
         ensures engine { self.engine.part.engine ≡ Some result.engine.value }

@@ -16,11 +16,11 @@ pub(crate) struct Rooms<C: Calculator> {
     pub words: Vec<u64>,
     pub ways: Vec<Way>,
     pub slots: Vec<Option<Part<C>>>,
-    // For the parts that come back.
+    // Room for the parts when they come back.
     pub room: Room<Part<C>>,
 }
 
-// So many words of 0.
+// Returns `size` words of 0.
 fn free_words(alloc: Global, size: usize) -> Result<Vec<u64>, AllocError>
     ensures { IfOk result (λ w. w.items ≡ replicate size zero) }
 {
@@ -32,7 +32,7 @@ fn free_words(alloc: Global, size: usize) -> Result<Vec<u64>, AllocError>
 }
 
 impl<C: Calculator> Rooms<C> {
-    /// The memory for the parts of a frame.
+    /// Takes the memory for a table of the parts of a frame.
     pub fn new(alloc: Global, frame: &Frame<C>) -> Result<Rooms<C>, AllocError>
         requires ready { Ready frame.now }
         requires few { length frame.now.parts ≤ 2 ^ 32 }
@@ -55,7 +55,7 @@ impl<C: Calculator> Rooms<C> {
     }
 }
 
-/// Moves parts into slots, for which there is room.
+/// Moves the parts into `slots`, which is empty and has room for all.
 pub(crate) fn all_in<C: Calculator>(
     slots: Vec<Option<Part<C>>>,
     parts: Vec<Part<C>>,
@@ -70,7 +70,7 @@ pub(crate) fn all_in<C: Calculator>(
     slots
 }
 
-/// Moves the parts out of slots, for which there is room.
+/// Moves the parts out of the slots that have one, into `parts`, which is empty and has room for all.
 pub(crate) fn all_out<C: Calculator>(
     slots: Vec<Option<Part<C>>>,
     parts: Vec<Part<C>>,

@@ -44,7 +44,7 @@ impl<C: Calculator> Part<C> {
         }
     }
 
-    /// The engine.
+    /// Returns the engine of a part that is one.
     pub fn into_engine(self) -> Box<Engine<C>>
         requires { is_some self.engine ≡ true }
         ensures { self.engine ≡ Some result.value }
@@ -56,7 +56,7 @@ impl<C: Calculator> Part<C> {
         }
     }
 
-    /// The intake.
+    /// Returns the intake of a part that is one.
     pub fn into_intake(self) -> Box<Intake>
         requires { is_some self.intake ≡ true }
         ensures { self.intake ≡ Some result.value }

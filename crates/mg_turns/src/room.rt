@@ -5,6 +5,7 @@ ghost use Rattle.mg_turns.specs.Code.Stored.{Stored};
 use atomic_table::{Refused, Table, TableRule};
 use std::alloc::{AllocError, Global};
 
+/// The rule of the table in which a room lies: its one slot has an empty vector with room for as many elements as the key says.
 pub struct Keeps;
 
 impl<T> TableRule<Vec<T>, (), usize> for Keeps {
@@ -13,6 +14,7 @@ impl<T> TableRule<Vec<T>, (), usize> for Keeps {
     ghost first = { λ _. tt };
 }
 
+/// An empty vector with room for a number of elements, in a table so that threads may share it.
 #[derive(Drop)]
 pub struct Room<T: Drop> {
     table: Table<Vec<T>, (), usize, Keeps, Global>,
@@ -20,6 +22,7 @@ pub struct Room<T: Drop> {
 }
 
 impl<T: Drop> Room<T> {
+    /// A room for `size` elements.
     pub fn new(alloc: Global, size: usize) -> Result<Room<T>, AllocError>
         ensures { IfOk result (λ r. r.table.shared.key ≡ size) }
     {
@@ -45,6 +48,7 @@ impl<T: Drop> Room<T> {
         }
     }
 
+    /// The empty vector, with room for as many elements as were asked for.
     pub fn open(self) -> Vec<T>
         ensures empty { length result.items ≡ 0 }
         ensures room { self.table.shared.key ≤ vec_capacity result }

@@ -11,8 +11,10 @@ use mg_calc::Calculator;
 use std::marker::{Brand, PhantomData};
 use std::snapshot::Snapshot;
 
+/// The key of a table: the frame that was shared.
 pub type Key<C> = Snapshot<Frame<C>>;
 
+/// The rule of a table of parts.
 pub struct Law;
 
 impl<C: Calculator> TableRule<Option<Part<C>>, View, Key<C>> for Law {
@@ -23,12 +25,14 @@ impl<C: Calculator> TableRule<Option<Part<C>>, View, Key<C>> for Law {
     ghost first = { λ key. first_view key.value };
 }
 
+/// The step that tries to take the turn of a word.
 pub struct Try;
 
 impl<C: Calculator> Play<Option<Part<C>>, View> for Try {
     ghost then = { tried };
 }
 
+/// The step that looks at a word.
 pub struct Look;
 
 impl<C: Calculator> Play<Option<Part<C>>, View> for Look {
@@ -46,6 +50,7 @@ impl After for Brand {
     ghost after = { spent_view };
 }
 
+/// The step that gives back a turn, after which the seat has the view `N`.
 pub struct Give<N: After> {
     of: PhantomData<N>,
 }
@@ -63,6 +68,7 @@ impl Amount for Brand {
     ghost amount = { 0 };
 }
 
+/// Hands over a part of a seat's portion.
 pub struct Cut<N: Amount> {
     of: PhantomData<N>,
 }
@@ -73,6 +79,7 @@ impl<N: Amount> Split<View> for Cut<N> {
     ghost right = { handed N.amount };
 }
 
+/// Joins two seats into one.
 pub struct Both;
 
 impl Join<View> for Both {

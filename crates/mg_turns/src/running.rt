@@ -1,4 +1,4 @@
-//! Sets that are worked on while both turns of a node are held.
+//! Works that are done while both turns of a node are held.
 ghost use Rattle.std.specs.Prelude.{◌≡◌, ◌+◌, ◌<◌, MatchBool, cond, is_some};
 ghost use Rattle.mg_node.specs.Job.{LoggedJob};
 ghost use Rattle.mg_node.specs.Lawful.{AreCell, LawfulWork, LawfulOutcome};
@@ -14,7 +14,7 @@ use mg_edge::Gate;
 use mg_node::{Claimed, Engine, Intake, Outcome, Work, perform};
 use std::alloc::Global;
 
-/// Commits a work, or puts it back into its window where there is no memory. It tells whether the work is committed.
+/// Commits a work, or puts it back into its window where there is no memory. Returns whether the work is committed.
 fn take_in<C: Calculator>(engine: &mut Engine<C>, outcome: Outcome<C>) -> bool
     requires out { IsOut engine.old outcome.work }
     requires lawful { SomeJobHasEngine engine.old }
@@ -31,7 +31,7 @@ fn take_in<C: Calculator>(engine: &mut Engine<C>, outcome: Outcome<C>) -> bool
     }
 }
 
-/// Performs a work, and commits it. It tells whether the work is committed.
+/// Performs a work, and commits it. Where there is no memory the work is put back into its window. Returns whether it is committed.
 fn run_work<C: Calculator, G: Gate>(
     alloc: Global,
     engine: &mut Engine<C>,
@@ -54,7 +54,7 @@ fn run_work<C: Calculator, G: Gate>(
     }
 }
 
-/// Works on the next set of a cell, and tells whether there was one that is committed.
+/// Does the next work of a cell, and returns whether there was one and it is committed.
 fn run_set<C: Calculator, G: Gate>(
     alloc: Global,
     engine: &mut Engine<C>,
@@ -77,7 +77,7 @@ fn run_set<C: Calculator, G: Gate>(
     }
 }
 
-/// Works on at most so many sets of a cell, and tells how many.
+/// Does at most `most` works of a cell, one after the other, and returns how many.
 pub(crate) fn run_sets<C: Calculator, G: Gate>(
     alloc: Global,
     engine: &mut Engine<C>,

@@ -12,7 +12,7 @@ use std::marker::Brand;
 
 pub(crate) type Seat<C> = atomic_table::Seat<Option<Part<C>>, View>;
 
-/// What a thread works with. Between two calls it has no turn.
+/// A seat: what a thread calls a shared net with. Between two calls it has no turn.
 #[derive(Drop)]
 pub struct NetSeat<C: Calculator> {
     pub(crate) seat: Seat<C>,
@@ -23,14 +23,14 @@ pub struct NetSeat<C: Calculator> {
     ghost missed: { misses ≡ min seat.me.0.misses (2 ^ 64 - 1) },
 }
 
-/// One more, up to the greatest number.
+/// One more than a count, at most `u64::MAX`.
 pub(crate) fn one_more(count: u64) -> u64
     ensures { (n : ℕ) → count ≡ min n (2 ^ 64 - 1) → result ≡ min (n + 1) (2 ^ 64 - 1) }
 {
     count.saturating_add(1)
 }
 
-// Hands over a part of a seat's portion. How much it is, is picked by the call.
+// Hands over a part of a seat's portion to a new seat. The call picks how much, as `N`.
 fn cut<C: Calculator, N: Amount>(net: &SharedNet<C>, seat: &mut Seat<C>, _portion: u64) -> Seat<C>
     requires { (_portion ≡ N.amount) × (seat.old.table_id ≡ net.now.table.shared.table_id) × (0 < N.amount) × (N.amount < seat.old.me.0.portion) }
     ensures seat { (seat.new.table_id ≡ seat.old.table_id) × (seat.new.me ≡ (kept_after N.amount seat.old.me.0, seat.old.me.1)) }
@@ -42,21 +42,21 @@ fn cut<C: Calculator, N: Amount>(net: &SharedNet<C>, seat: &mut Seat<C>, _portio
 impl<C: Calculator> NetSeat<C> {
     ghost use Rattle.mg_turns.specs.Calls.{IsSeatOf, view_of};
 
-    /// How often this seat found a word held. A number past 64 bits is told as the greatest one.
+    /// How often this seat found a word held, at most `u64::MAX`.
     pub fn misses(&self) -> u64
         ensures { result ≡ min (view_of self.now).misses (2 ^ 64 - 1) }
     {
         self.misses
     }
 
-    /// How much of the whole, 2^32, is this seat's.
+    /// This seat's portion of the whole, which is 2^32.
     pub fn portion(&self) -> u64
         ensures { result ≡ (view_of self.now).portion }
     {
         self.portion
     }
 
-    /// Hands over so much of the portion to a new seat, which knows what this one knows and has no work.
+    /// Hands over `portion` of this seat's portion to a new seat, which knows what this one knows and has no work. Some must stay here.
     pub fn split(&mut self, net: &SharedNet<C>, portion: u64) -> NetSeat<C>
         requires of { IsSeatOf net.now self.old }
         requires portion { (0 < portion) × (portion < (view_of self.old).portion) }
@@ -72,7 +72,7 @@ impl<C: Calculator> NetSeat<C> {
         }
     }
 
-    /// Takes over the other seat's portion, its work, and what it knows.
+    /// Takes over the other seat's portion, its work, and what it knows. No more than one of the two may have a work.
     pub fn join(&mut self, net: &SharedNet<C>, other: NetSeat<C>)
         requires of { IsSeatOf net.now self.old × IsSeatOf net.now other }
         requires portions { (view_of self.old).portion + (view_of other).portion ≤ 2 ^ 32 }

@@ -28,7 +28,7 @@ pub struct SharedNet<C: Calculator> {
     nodes: u32,
     size: usize,
     ways: Vec<Way>,
-    // For the parts that come back.
+    // Room for the parts when they come back.
     room: Room<Part<C>>,
     ghost roomy: { room.table.shared.key ≡ size },
     ghost sized: { (table.shared.table_id.words ≡ 8 * size) × (table.shared.table_id.slots ≡ size) × (size ≤ 2 ^ 32) },
@@ -99,7 +99,7 @@ impl<C: Calculator> SharedNet<C> {
         }
     }
 
-    /// Gives back the parts, each at the place of its word. Every other seat was joined into this one, and it has no work.
+    /// Gives back the parts, each at the place of its word. Every other seat must have been joined into this one, which must have no work.
     pub fn unshare(self, seat: NetSeat<C>) -> Vec<Part<C>>
         requires of { IsSeatOf self seat }
         requires whole { (view_of seat).portion ≡ 2 ^ 32 }

@@ -4,7 +4,9 @@ use mg_node::Outcome;
 /// What a call gives that needs turns: its answer, or the number of the word whose turn another seat has.
 #[derive(Drop)]
 pub enum Tried<T> {
+    /// The answer of the call.
     Done(T),
+    /// Another seat has the turn of this word, and the net is as it was.
     Busy { word: u32 },
 }
 
@@ -12,14 +14,19 @@ pub enum Tried<T> {
 /// memory.
 #[derive(Drop)]
 pub enum TriedCommit<C: Calculator> {
+    /// The work is committed, and this many sets or calls were laid with it.
     Laid(u32),
+    /// Another seat has the turn of this word; the outcome comes back.
     Busy { word: u32, outcome: Outcome<C> },
+    /// There was no memory; the outcome comes back.
     OutOfMemory(Outcome<C>),
 }
 
 /// What shelving gives: the work stands in its window; or the outcome again, where another seat has the turn.
 #[derive(Drop)]
 pub enum TriedShelf<C: Calculator> {
+    /// The work stands in its window.
     Shelved,
+    /// Another seat has the turn of this word; the outcome comes back.
     Busy { word: u32, outcome: Outcome<C> },
 }

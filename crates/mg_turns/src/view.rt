@@ -6,12 +6,15 @@ ghost use Rattle.mg_turns.specs.Turns.{Turn, Sight, turns_code, sights_code, hel
 
 use std::marker::Model;
 
-// What a seat knows. No value of it is made.
+// What a seat knows, in contracts alone. No value of it is made.
 pub struct View {
-    // The parts as they were shared.
+    // The plan and the parts as they were shared.
     pub ghost key: { FrameView } by { frame_code },
+    // The seat's share of the whole, 2^32.
     pub ghost portion: { ℕ },
+    // How often the seat found a word held.
     pub ghost misses: { ℕ },
+    // How often the seat handed over of its portion.
     pub ghost splits: { ℕ },
     // The word that was missed last.
     pub ghost missed: { Option ℕ },
@@ -19,7 +22,7 @@ pub struct View {
     pub ghost turns: { List Turn } by { turns_code },
     // The work that the seat has.
     pub ghost work: { Option WorkView } by { held_code },
-    // What was seen of each word's part, the last first.
+    // What was seen of the parts of words, the newest first.
     pub ghost seen: { List Sight } by { sights_code },
 }
 

@@ -1,4 +1,4 @@
-//! How edges are found at run time.
+//! The edges of a plan, with the words of their engines, as they are found at run time.
 ghost use Rattle.std.specs.Prelude.{◌≡◌, ◌<◌, ◌^◌, ℕ, map, take, IfOk, Some, slice_get};
 ghost use Rattle.mg_calc.specs.declared.edge.Edge.{Edge as EdgeView};
 ghost use Rattle.mg_turns.specs.Words.{word_at, engine_of};
@@ -38,7 +38,7 @@ fn source_of(plan: &Plan, edge: Edge) -> u32
     writer_word(plan.nodes.len(), producer)
 }
 
-/// The edges of a plan, each with the word of its engine.
+/// The edges of a plan, each with the word of the engine from which it leads.
 pub(crate) fn ways_of(alloc: Global, plan: &Plan) -> Result<Vec<Way>, AllocError>
     requires { (k : ℕ) (e : EdgeView) → slice_get plan.now.edges k ≡ Some e → source_at plan.now e < 2 ^ 32 }
     ensures { IfOk result (λ v. v.items ≡ map (way_of plan.now) plan.now.edges) }

@@ -1,4 +1,4 @@
--- How the logic stores plain payloads, and what holds one.
+-- How the logic stores plain payloads, and values that hold one.
 use Rattle.std.proofs.Common.{◌≡◌, ◌≢◌, ℕ, List, Option, refl, ap, arith}
 use Rattle.std.specs.Coded.{Coded, code_by, coded×, coded_ℕ, coded_ℤ, coded_bool, coded_list}
 use base.Stored.{Gv, gnil, gnum, gcons}
@@ -19,6 +19,7 @@ tail (gcons a b) = b
 abbrev coded_text : Coded (List ℕ)
 coded_text = coded_list coded_ℕ
 
+-- how a payload, a list of them and the entries of a record are stored
 abbrev mutual
   pub stored : Plain → Gv
   stored (flag b) = gcons (gnum 0) (coded_bool.code b)
@@ -38,6 +39,7 @@ abbrev mutual
 apart : (m n : ℕ) {a b : Gv} → gcons (gnum m) a ≡ gcons (gnum n) b → m ≢ n → ⊥
 apart m n p other = other (cc)
 
+-- payloads that are stored alike are equal
 mutual
   pub plain_inj : (x y : Plain) → stored x ≡ stored y → x ≡ y
   plain_inj (flag a) (flag b) p = ap flag (coded_bool.inj a b (ap tail p))
@@ -65,7 +67,7 @@ abbrev pub plain_entries_code : Coded (List PlainEntry)
 plain_entries_code =
     coded_list (code_by (List ℕ × Plain) (coded× coded_text plain_code) (λ e. (e.key, e.value)) (λ p. record { key = p.0; value = p.1 }) (λ _. refl))
 
--- what holds a value is stored with its code
+-- a packet and a prefix, stored by the code of their values
 module _ {X : Type 0} (code : Coded X) where
   abbrev pub stamped_code : Coded (Stamped X)
   stamped_code = code_by (ℕ × X) (coded× coded_ℕ code) (λ p. (p.at, p.value)) (λ p. record { at = p.0; value = p.1 }) (λ _. refl)

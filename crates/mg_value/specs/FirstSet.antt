@@ -1,5 +1,5 @@
--- The first settled set of some prefixes, told by what stands first in each: an inbox looks at no more. What goes with it
--- stands first too.
+-- The first settled set of some prefixes, as it is told by what stands first in each: an inbox looks at no more. The packets that
+-- go when it is claimed stand first too.
 use Rattle.std.specs.Prelude.{ℕ, Bool, true, false, List, [], ◌∷◌, length, drop, min, Option, Some, None, option_map, option_and_then, unwrap_or, slice_get, ◌+◌, ◌==◌, ◌||◌, nat_lt, nat_le, if◌then◌else◌}
 use Rattle.std.specs.List.{prefix_len}
 use Rattle.mg_time.specs.Time.{done}

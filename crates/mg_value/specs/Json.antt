@@ -34,7 +34,7 @@ number_faults (json.float x) = Fraction ∷ []
 abbrev pub depth_faults : ℕ → List ValueFault
 depth_faults depth = if nat_lt 16 depth then TooDeep ∷ [] else []
 
--- the faults of a value, in its order, where a list or a record there is the so many-th of those inside one another
+-- the faults of a value, in its order; a list or a record here is the one of number `depth` of those inside one another
 abbrev mutual
   pub faults_at : ℕ → json.Data → List ValueFault
   faults_at depth json.null = Null ∷ []

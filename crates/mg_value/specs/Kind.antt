@@ -12,6 +12,6 @@ kind_of (text s) = Text
 kind_of (items is) = Items
 kind_of (entries es) = Record
 
--- a payload is of its kind, and of any
+-- a payload is of this kind: the kind is Any, or the payload's own
 abbrev pub HasKind : Plain → Kind → Type 0
 HasKind p kind = (kind ≡ Any) ⊎ (kind ≡ kind_of p)

@@ -22,7 +22,7 @@ goes Mux ts t = list_any (λ u. nat_le t u) ts
 abbrev pub without : {X : Type 0} → (ℕ → Bool) → StreamPrefix X → StreamPrefix X
 without test s = record { packets = filter (λ p. not (test p.at)) s.packets; bound = s.bound }
 
--- what is left of some prefixes when their first settled sets are claimed, a number of them
+-- what is left of some prefixes when their first k settled sets are claimed
 abbrev pub after_sets : Policy → ℕ → List (StreamPrefix Plain) → List (StreamPrefix Plain)
 after_sets policy k ss = map (without (goes policy (take k (set_times policy ss)))) ss
 
@@ -40,7 +40,7 @@ abbrev pub leads : Policy → ℕ → ℕ → Bool
 leads Default ports i = true
 leads Mux ports i = i + 1 == ports
 
--- at a port that leads stands a packet at a time
+-- some port that leads has a packet at this time
 pub record HasLeadingPacket (policy : Policy) (ss : List (StreamPrefix Plain)) (t : ℕ) : Type 0 where
   pub port : ℕ
   pub there : port < length ss
@@ -54,7 +54,7 @@ pub record MayBeGone {X : Type 0} (policy : Policy) (lead : Bool) (ts : List ℕ
   pub go : All (λ p. IsTrue (goes policy ts p.at)) (take gone s.packets)
   pub stay : IsTrue lead → All (λ p. goes policy ts p.at ≡ false) (drop gone s.packets)
 
--- the numbers of first packets that are gone of some prefixes once their first settled sets are claimed, a number of them
+-- the numbers of first packets that are gone of some prefixes once their first k settled sets are claimed
 pub record AreGone (policy : Policy) (k : ℕ) (ss : List (StreamPrefix Plain)) (gone : List ℕ) : Type 0 where
   pub ports : length gone ≡ length ss
   pub claimed : k ≤ length (settled_sets policy ss)
@@ -65,7 +65,7 @@ pub record AreGone (policy : Policy) (k : ℕ) (ss : List (StreamPrefix Plain)) 
 abbrev pub gone_of : {X : Type 0} → List (StreamPrefix X) → List (StreamPrefix X) → List ℕ
 gone_of ss rs = map (λ e. length e.0.packets - length e.1.packets) (zip ss rs)
 
--- what is left of some prefixes when their first settled sets are claimed, a number of them, told by how many packets are gone
+-- what is left of some prefixes when their first k settled sets are claimed, told by how many packets are gone
 pub record AreLeft (policy : Policy) (k : ℕ) (ss rs : List (StreamPrefix Plain)) : Type 0 where
   pub gone : List ℕ
   pub are : AreGone policy k ss gone

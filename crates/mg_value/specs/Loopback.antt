@@ -5,11 +5,11 @@ use Rattle.std.specs.List.{take_while, filter_map}
 use Rattle.mg_value.specs.Prefix.{Stamped, StreamPrefix, first_time}
 use Rattle.mg_value.specs.Settled.{packet_at}
 
--- packets of MAIN, each behind the one before it, and the first behind another, or none
+-- packets of MAIN, each with the one before it, and the first with this packet before it, or none
 abbrev pub turns : {X : Type 0} → Option (Stamped X) → List (Stamped X) → List (Option (Stamped X) × Stamped X)
 turns before ps = zip (before ∷ map (λ p. Some p) ps) ps
 
--- the packets of MAIN, each behind the one before it, and the first behind none
+-- the packets of MAIN, each with the one before it, and the first with none
 abbrev pub with_previous : {X : Type 0} → List (Stamped X) → List (Option (Stamped X) × Stamped X)
 with_previous ps = turns None ps
 
@@ -22,10 +22,12 @@ pub record Reply (X : Type 0) : Type 0 where
   pub at : ℕ
   pub value : Option X
 
+-- what LOOP has at the time of this packet of MAIN, if there is one
 abbrev pub found : {X : Type 0} → StreamPrefix X → Option (Stamped X) → Option X
 found loop None = None
 found loop (Some previous) = option_map (λ p. p.value) (packet_at previous.at loop.packets)
 
+-- the answer to a packet of MAIN, by the one before it
 abbrev pub reply : {X : Type 0} → StreamPrefix X → Option (Stamped X) × Stamped X → Reply X
 reply loop turn = record { at = turn.1.at; value = found loop turn.0 }
 
@@ -67,13 +69,13 @@ pub record IsPast {X : Type 0} (before : Option (Stamped X)) (loop : StreamPrefi
   pub within : gone ≤ length loop.packets
   pub past : ArePast before (take gone loop.packets)
 
--- the last of some first packets, a number of them, which stand behind another; that one where there are none
+-- the last of the first n packets, or the packet before them where there are none
 abbrev pub last_of : {X : Type 0} → Option (Stamped X) → ℕ → List (Stamped X) → Option (Stamped X)
 last_of before zero ps = before
 last_of before (suc n) [] = before
 last_of before (suc n) (p ∷ ps) = last_of (Some p) n ps
 
--- a prefix without its first packets, a number of them
+-- a prefix without its first n packets
 abbrev pub behind_first : {X : Type 0} → ℕ → StreamPrefix X → StreamPrefix X
 behind_first n s = record { packets = drop n s.packets; bound = s.bound }
 

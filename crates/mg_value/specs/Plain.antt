@@ -11,10 +11,12 @@ mutual
     items : Items → Plain
     entries : Entries → Plain
 
+  -- the payloads of a list
   pub data Items : Type 0 where
     no_items : Items
     item : Plain → Items → Items
 
+  -- the entries of a record
   pub data Entries : Type 0 where
     no_entries : Entries
     entry : List ℕ → Plain → Entries → Entries
@@ -24,17 +26,17 @@ pub record PlainEntry : Type 0 where
   pub key : List ℕ
   pub value : Plain
 
--- the items of a list
+-- the payloads of a list, as `Items`
 abbrev pub items_of : List Plain → Items
 items_of [] = no_items
 items_of (p ∷ ps) = item p (items_of ps)
 
--- the entries of a list
+-- the entries of a record, as `Entries`
 abbrev pub entries_of : List PlainEntry → Entries
 entries_of [] = no_entries
 entries_of (e ∷ es) = entry e.key e.value (entries_of es)
 
--- how deep lists and records nest
+-- how deep the lists and records of a payload nest
 abbrev mutual
   pub depth : Plain → ℕ
   depth (flag b) = 0
@@ -51,7 +53,7 @@ abbrev mutual
   entries_depth no_entries = 0
   entries_depth (entry k p es) = max (depth p) (entries_depth es)
 
--- its whole numbers have 64 signed bits
+-- all whole numbers of a payload have 64 signed bits
 abbrev mutual
   pub NumbersFit : Plain → Type 0
   NumbersFit (flag b) = Unit {0}

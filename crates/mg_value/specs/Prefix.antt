@@ -19,7 +19,7 @@ abbrev pub first_time : {X : Type 0} → List (Stamped X) → ℕ → ℕ
 first_time [] bound = bound
 first_time (p ∷ _) bound = p.at
 
--- what may follow a packet is at most the time of the packet after it, and after the last packet the bound
+-- the lowest time that may follow a packet is at most the time of the packet behind it, or the bound where it is the last
 abbrev pub Ascends : {X : Type 0} → List (Stamped X) → ℕ → Type 0
 Ascends [] bound = Unit {0}
 Ascends (p ∷ ps) bound = (next p.at ≤ first_time ps bound) × Ascends ps bound

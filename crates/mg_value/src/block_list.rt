@@ -10,7 +10,7 @@ pub struct BlockList<T> {
     entries: Vec<T>,
 }
 
-/// Numbers in order, as those of streams or ports.
+/// A list of numbers, as those of streams or ports.
 pub type NumberList = BlockList<u32>;
 
 impl<T> Model for BlockList<T> {
@@ -24,8 +24,7 @@ impl<T> Model for BlockList<T> {
 }
 
 impl<T> BlockList<T> {
-    /// The list of a vector's entries. There is no memory for a block of 2^32 entries or more: the vector then
-    /// comes back.
+    /// Makes a list of a vector's entries. 2^32 entries or more are refused as want of memory, and the vector comes back.
     pub fn from_vec(entries: Vec<T>) -> Result<BlockList<T>, AllocFailed<Vec<T>>>
         ensures ok { IsOk result ↔ (length entries.items < 2 ^ 32) }
         ensures entries { IfOk result (λ l. l ≡ entries.items) }
@@ -38,7 +37,7 @@ impl<T> BlockList<T> {
         }
     }
 
-    /// The vector back.
+    /// Returns the vector of the entries.
     pub fn into_vec(self) -> Vec<T>
         ensures { result.items ≡ self }
     {
@@ -53,21 +52,21 @@ impl<T> BlockList<T> {
         self.entries.len() as u32
     }
 
-    /// Whether there is none.
+    /// Whether there is no entry.
     pub fn is_empty(&self) -> bool
         ensures { result ≡ (length self.now == 0) }
     {
         self.entries.is_empty()
     }
 
-    /// The entry at a place, from 0 on.
+    /// Returns the entry at a place, from 0 on, or None behind the last.
     pub fn get(&self, i: u32) -> Option<&T>
         ensures { option_copied result ≡ slice_get self.now i }
     {
         self.entries.get(i as usize)
     }
 
-    /// All entries in order.
+    /// Returns all entries in order.
     pub fn as_slice(&self) -> &[T]
         ensures { result.now ≡ self.now }
     {
@@ -76,7 +75,7 @@ impl<T> BlockList<T> {
 }
 
 impl BlockList<u32> {
-    /// Whether each number is below another, as the numbers of so many streams.
+    /// Whether each number is below `count`, as the numbers of so many streams are.
     pub fn all_below(&self, count: u32) -> bool
         ensures { IsTrue result ↔ All (λ i. i < count) self.now }
     {

@@ -27,7 +27,7 @@ impl Model for InputSet {
 }
 
 impl InputSet {
-    /// A set of as many ports, all empty.
+    /// Makes a set of `ports` ports, all empty.
     pub fn new(alloc: Global, ports: u32) -> Result<InputSet, AllocError>
         ensures { IfOk result (λ s. s ≡ replicate ports None) }
     {
@@ -52,7 +52,7 @@ impl InputSet {
         self.places.is_empty()
     }
 
-    /// The packet at a port; none also where there is no such port.
+    /// Returns the packet at a port, or None where there is none or no such port.
     pub fn get(&self, port: u32) -> Option<&Packet>
         ensures { option_copied result ≡ unwrap_or (slice_get self.now port) None }
     {

@@ -15,8 +15,8 @@ use std::sync::Arc;
 /// How many lists and records may lie inside one another, the outermost one counted.
 const MAX_DEPTH: u32 = 16;
 
-/// The payload that a JSON value says (RFC 8259). An object is a record. The fault is the first in the order of the
-/// value, an object's in the byte order of its keys.
+/// Returns the payload that a JSON value says (RFC 8259); an object is a record. The fault that it returns otherwise is the first in
+/// the order of the value, an object's in the byte order of its keys.
 pub fn from_json(alloc: Global, value: &Value) -> Result<Arc<Payload>, ValueFault>
     ensures says { IfOk result (λ p. json_of (plain (arc_value p)) ≡ view value.now) }
     ensures only { IfOk result (λ p. (q : Plain) → json_of q ≡ view value.now → q ≡ plain (arc_value p)) }
@@ -28,7 +28,7 @@ pub fn from_json(alloc: Global, value: &Value) -> Result<Arc<Payload>, ValueFaul
     Ok(Arc::new(alloc, payload)?)
 }
 
-/// The JSON value that says a payload. `from_json` takes it back, unless its lists and records are too deep.
+/// Returns the JSON value that says a payload. `from_json` takes it back, unless its lists and records are more than 16 deep.
 pub fn to_json(alloc: Global, payload: &Payload) -> Result<Value, AllocError>
     ensures says { IfOk result (λ value. view value ≡ json_of (plain payload.now)) }
     ensures whole_numbers { IfOk result (λ value. has_float (view value) ≡ false) }
@@ -38,7 +38,7 @@ pub fn to_json(alloc: Global, payload: &Payload) -> Result<Value, AllocError>
     Ok(write(alloc, payload)?)
 }
 
-// Reads a value; a list or record here is the so many-th of those inside one another.
+// Reads a value. A list or a record here is the one of number `depth` of those inside one another, the outermost being the first.
 #[cycle(reading)]
 fn read(alloc: Global, value: &Value, depth: u32) -> Result<Payload, ValueFault>
     requires { depth ≤ 17 }

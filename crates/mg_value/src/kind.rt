@@ -22,7 +22,7 @@ pub fn has_kind(payload: &Payload, kind: Kind) -> bool
     kind == Kind::Any || kind == kind_of(payload)
 }
 
-// The one kind of a payload beside Any.
+// Returns the kind of a payload, other than Any.
 fn kind_of(payload: &Payload) -> Kind
     ensures { result ≡ its_kind (plain payload.now) }
 {

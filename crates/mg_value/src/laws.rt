@@ -39,7 +39,7 @@ pub fn an_ended_prefix_stays()
     ensures list { (ss tt : List (StreamPrefix Plain)) → All (λ s. s.bound ≡ done) ss → All IsPrefix tt → AreExtendedBy ss tt → ss ≡ tt }
 {}
 
-/// Nothing, packets that may follow, a higher bound and a close each make a prefix.
+/// A stream of which nothing is known is a prefix; and a prefix stays one with packets that may follow it, a higher bound, or closed.
 pub fn steps_make_prefixes()
     ensures empty { IsPrefix (empty_prefix {X = Plain}) }
     ensures appended { (s : StreamPrefix Plain) (p : Stamped Plain) → IsPrefix s → MayFollow s p → IsPrefix (appended s p) }
@@ -48,7 +48,7 @@ pub fn steps_make_prefixes()
     ensures closed { (s : StreamPrefix Plain) → IsPrefix s → IsPrefix (closed s) }
 {}
 
-/// Each of these steps extends the prefix; packets go behind its own, in order.
+/// Packets that may follow, a higher bound and a close each extend a prefix; packets go behind its own, in order.
 pub fn steps_extend()
     ensures appended { (s : StreamPrefix Plain) (p : Stamped Plain) → MayFollow s p → IsExtendedBy s (appended s p) }
     ensures all_appended { (s : StreamPrefix Plain) (ps : List (Stamped Plain)) → MayAllFollow s ps → IsExtendedBy s (all_appended s ps) }
@@ -131,8 +131,8 @@ pub fn what_is_left_has_the_others()
         → reach policy (without_first gone ss) ≡ reach policy ss }
 {}
 
-/// The numbers of packets that are gone: at first each is 0; they stay right where prefixes are extended; and with one more claim those are
-/// right that leave what is left without its first set.
+/// The numbers of packets that are gone: before any claim each is 0; they stay right where prefixes are extended; and after one more
+/// claim those numbers are right with which what is left has lost its first set.
 pub fn what_is_gone_is_kept()
     ensures none { (policy : Policy) (ss : List (StreamPrefix Plain)) → AreGone policy 0 ss (replicate (length ss) 0) }
     ensures extended { (policy : Policy) (k : ℕ) (ss tt : List (StreamPrefix Plain)) (gone : List ℕ) → All IsPrefix ss → AreExtendedBy ss tt
@@ -170,9 +170,9 @@ pub fn settled_sets_show_packets()
         → slice_index_or e.set i None ≡ (if shows policy ss e.at i then packet_at e.at (port_of ss i).packets else None)) (settled_sets policy ss) }
 {}
 
-/// First packets and bounds tell the first settled set: its time, and which ports it shows. What shows at each of these what
-/// the port has at the time is the set. Before its time nothing stands at a port that leads, and its claim leaves what stands
-/// behind it.
+/// First packets and bounds tell the first settled set: its time, and which ports it shows. The set that has, at each of these ports,
+/// what the port has at the time is the first. Before its time nothing stands at a port that leads, and when it is claimed, what
+/// stands behind its time is left.
 pub fn first_packets_tell_the_first_set()
     ensures time { (policy : Policy) (ss : List (StreamPrefix Plain)) → All IsPrefix ss
         → option_map (λ e. e.at) (slice_get (settled_sets policy ss) 0) ≡ first_set_time policy ss }

@@ -21,7 +21,7 @@ pub(crate) fn lesser(a: Timestamp, b: Timestamp) -> Timestamp
     if b < a { b } else { a }
 }
 
-/// Looks once at each port.
+/// Looks once at what is left at each port.
 pub(crate) fn look_at(rests: &[Rest<'_>]) -> Look
     ensures earliest { result.earliest ≡ earliest rests.now }
     ensures low { result.low ≡ low rests.now }

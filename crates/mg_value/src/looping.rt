@@ -12,8 +12,8 @@ use mg_time::Timestamp;
 use std::alloc::{AllocError, Global};
 use std::sync::Arc;
 
-/// The output stream of PreviousLoopbackCalculator: at each packet of MAIN that is answered, what LOOP had at the packet of
-/// MAIN before it. The payloads are those of LOOP, shared. Each packet of both is passed a few times.
+/// Returns the output stream of PreviousLoopbackCalculator: at each packet of MAIN that is answered, what LOOP had at the packet of
+/// MAIN before it. Its payloads are those of LOOP, shared. The time that it takes grows with the packets of both.
 pub fn loopback(alloc: Global, main: &Prefix, back: &Prefix) -> Result<Prefix, AllocError>
     requires main { IsPrefix main.now }
     requires back { IsPrefix back.now }
@@ -25,8 +25,8 @@ pub fn loopback(alloc: Global, main: &Prefix, back: &Prefix) -> Result<Prefix, A
     Ok(Prefix { packets, bound })
 }
 
-/// The answers, but those that are nothing, to what is left of MAIN behind a packet, or behind none. It is read on behind the
-/// packets that are answered, and LOOP behind those that nobody will ask for: what comes later is read from there.
+/// Returns the answers to what is left of MAIN behind a packet at the time `previous`, or behind none, without those that are nothing.
+/// It passes the packets of MAIN that are answered, and those of LOOP that nobody will ask for: what comes later is read from there.
 pub fn take_answers(
     alloc: Global,
     previous: Option<Timestamp>,
@@ -48,7 +48,8 @@ pub fn take_answers(
     Ok(BlockList::from_vec(packets)?)
 }
 
-/// The time of the next packet of MAIN, where it is answered: it is the first of all, or LOOP has settled the one before it.
+/// Returns the time of the next packet of MAIN, where it is answered: it is the first of all, or LOOP has settled the time of the
+/// one before it.
 fn next_turn(previous: Option<Timestamp>, main: &Rest<'_>, back: &Rest<'_>) -> Option<Timestamp>
     ensures { result ≡ next_turn previous main.now back.now }
 {
@@ -58,7 +59,8 @@ fn next_turn(previous: Option<Timestamp>, main: &Rest<'_>, back: &Rest<'_>) -> O
     }
 }
 
-/// The answer at a time, where the packet of MAIN before it has another. Reads on behind that.
+/// Returns the answer to the packet of MAIN at the time `at`: what LOOP has at the time of the packet of MAIN before it. Passes the
+/// packets of LOOP up to that.
 fn answer(
     rest: &mut Rest<'_>,
     previous: Option<Timestamp>,
@@ -81,7 +83,7 @@ fn answer(
     }
 }
 
-/// Puts a packet behind others, if it is one.
+/// Appends a packet to a list, if there is one.
 fn push_some(packets: &mut Vec<Packet>, packet: Option<Packet>) -> Result<(), AllocError>
     ensures { OnOk result (packets.new.items ≡ packets.old.items ++ option_to_list packet) }
 {

@@ -26,11 +26,11 @@ impl Model for Packet {
     ghost view = { λ p. record { at = p.at; value = plain (arc_value p.payload) } };
 }
 
-/// Packets in order.
+/// A list of packets.
 pub type PacketList = BlockList<Packet>;
 
 impl Packet {
-    /// A second packet that shares the payload. The refusal to share counts as want of memory.
+    /// Makes a second packet that shares the payload. Where the payload can't be shared, that counts as want of memory.
     pub fn try_clone(&self) -> Result<Packet, AllocError>
         ensures { IfOk result (λ p. p ≡ self.now) }
     {

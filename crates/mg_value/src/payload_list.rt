@@ -37,7 +37,7 @@ impl Model for PayloadList {
 impl PayloadList {
     ghost use Rattle.mg_value.specs.Payload.{plain};
 
-    /// The list of a vector's payloads. There is no memory for 2^32 or more: the vector then comes back.
+    /// Makes a list of a vector's payloads. 2^32 payloads or more are refused as want of memory, and the vector comes back.
     pub fn from_vec(payloads: Vec<Payload>) -> Result<PayloadList, AllocFailed<Vec<Payload>>>
         ensures ok { IsOk result ↔ (length payloads.items < 2 ^ 32) }
         ensures payloads { IfOk result (λ l. l ≡ map plain payloads.items) }
@@ -57,21 +57,21 @@ impl PayloadList {
         self.payloads.len() as u32
     }
 
-    /// Whether there is none.
+    /// Whether there is no payload.
     pub fn is_empty(&self) -> bool
         ensures { result ≡ (length self.now == 0) }
     {
         self.payloads.is_empty()
     }
 
-    /// The payload at a place, from 0 on.
+    /// Returns the payload at a place, from 0 on, or None behind the last.
     pub fn get(&self, i: u32) -> Option<&Payload>
         ensures { option_map (λ p. plain p.now) result ≡ slice_get self.now i }
     {
         self.payloads.get(i as usize)
     }
 
-    /// All payloads in order.
+    /// Returns all payloads in order.
     pub fn as_slice(&self) -> &[Payload]
         ensures { map plain result.now ≡ self.now }
     {

@@ -28,11 +28,11 @@ impl Model for Prefix {
     ghost view = { λ p. record { packets = p.packets; bound = p.bound } };
 }
 
-/// Prefixes by their numbers, as those of all streams of a graph.
+/// A list of prefixes, as those of all streams of a graph, in the order of their numbers.
 pub type PrefixList = BlockList<Prefix>;
 
 impl Prefix {
-    /// A second prefix, whose packets share their payloads with this one's.
+    /// Makes a second prefix, whose packets share their payloads with this one's.
     pub fn try_clone(&self, alloc: Global) -> Result<Prefix, AllocError>
         ensures { IfOk result (λ p. p ≡ self.now) }
     {
@@ -46,7 +46,7 @@ impl Prefix {
         })
     }
 
-    /// Whether it is a prefix by the rule of streams: its times are allowed and ascend up to its bound, and a packet at
+    /// Whether the prefix keeps the rule of streams: its times are allowed and ascend up to its bound, and a packet at
     /// PostStream is the only one.
     pub fn is_prefix(&self) -> bool
         ensures { IsTrue result ↔ IsPrefix self.now }
@@ -64,14 +64,14 @@ impl Prefix {
     }
 }
 
-/// Whether a packet may stand at a time, no lower than another, among so many of its stream.
+/// Whether a packet may stand at a time in a stream of `count` packets, and isn't below `lowest`.
 fn may_stand(at: Timestamp, lowest: Timestamp, count: usize) -> bool
     ensures { IsTrue result ↔ MayStand count lowest at }
 {
     at.is_allowed() && lowest <= at && (at != Timestamp::POST_STREAM || count == 1)
 }
 
-/// Whether each is a prefix by the rule of streams.
+/// Whether each prefix keeps the rule of streams, as `Prefix::is_prefix` tells.
 pub fn are_prefixes(prefixes: &PrefixList) -> bool
     ensures { IsTrue result ↔ All IsPrefix prefixes.now }
 {

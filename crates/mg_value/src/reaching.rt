@@ -8,8 +8,8 @@ use crate::rest::Rest;
 use crate::{Packet, Payload, Policy};
 use mg_time::Timestamp;
 
-/// How far the settled sets of the prefixes reach that a node has at its ports: each further set stands there or above
-/// (MediaPipe, Synchronization). Where settled sets have been taken, what is left reaches as far. It takes no memory.
+/// Returns how far the settled sets of a node reach that has this left at its ports: each further set stands there or above
+/// (MediaPipe, Synchronization). What is left after settled sets were taken reaches as far as before. It takes no memory.
 pub fn reach(policy: Policy, rests: &[Rest<'_>]) -> Timestamp
     requires { length rests.now < 2 ^ 32 }
     ensures { result ≡ reach policy rests.now }
@@ -20,7 +20,7 @@ pub fn reach(policy: Policy, rests: &[Rest<'_>]) -> Timestamp
     }
 }
 
-/// The time of the first packet of SELECT that isn't settled, or SELECT's bound.
+/// Returns the time of the first packet of SELECT that isn't settled, or SELECT's bound; and Done where there is no port.
 fn mux_reach(rests: &[Rest<'_>]) -> Timestamp
     requires { length rests.now < 2 ^ 32 }
     ensures { result ≡ reach Mux rests.now }
@@ -36,7 +36,7 @@ fn mux_reach(rests: &[Rest<'_>]) -> Timestamp
     select.bound()
 }
 
-/// Whether a packet of SELECT is settled.
+/// Whether a packet of SELECT is settled: it selects no port, or stands below the bound of the port that it selects.
 pub(crate) fn is_settled(rests: &[Rest<'_>], packet: &Packet) -> bool
     requires { length rests.now < 2 ^ 32 }
     ensures { result ≡ is_settled rests.now packet.now }
@@ -47,7 +47,7 @@ pub(crate) fn is_settled(rests: &[Rest<'_>], packet: &Packet) -> bool
     }
 }
 
-/// The port that a payload selects, of so many ports, of which the last is SELECT.
+/// Returns the port that a payload selects, of `ports` ports, the last of which is SELECT.
 pub(crate) fn selected(ports: u32, payload: &Payload) -> Option<u32>
     ensures { result ≡ selected ports (plain payload.now) }
 {

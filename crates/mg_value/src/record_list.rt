@@ -44,8 +44,8 @@ impl Model for RecordList {
 impl RecordList {
     ghost use Rattle.mg_value.specs.Payload.{plain_entry, KeysAscend};
 
-    /// The record of a vector's entries, whose keys ascend. There is no memory for 2^32 or more: the vector then comes
-    /// back.
+    /// Makes a record of a vector's entries, whose keys have to ascend strictly in byte order. 2^32 entries or more are refused as
+    /// want of memory, and the vector comes back.
     pub fn from_vec(entries: Vec<Entry>) -> Result<RecordList, AllocFailed<Vec<Entry>>>
         requires { KeysAscend (map plain_entry entries.items) }
         ensures ok { IsOk result ↔ (length entries.items < 2 ^ 32) }
@@ -66,21 +66,21 @@ impl RecordList {
         self.entries.len() as u32
     }
 
-    /// Whether there is none.
+    /// Whether there is no entry.
     pub fn is_empty(&self) -> bool
         ensures { result ≡ (length self.now == 0) }
     {
         self.entries.is_empty()
     }
 
-    /// The entry at a place, from 0 on, in the order of the keys.
+    /// Returns the entry at a place, from 0 on, in the order of the keys, or None behind the last.
     pub fn get(&self, i: u32) -> Option<&Entry>
         ensures { option_map (λ e. plain_entry e.now) result ≡ slice_get self.now i }
     {
         self.entries.get(i as usize)
     }
 
-    /// All entries, in the order of their keys.
+    /// Returns all entries, in the order of their keys.
     pub fn as_slice(&self) -> &[Entry]
         ensures entries { map plain_entry result.now ≡ self.now }
         ensures ascend { KeysAscend self.now }

@@ -30,7 +30,7 @@ impl<'a> Model for Rest<'a> {
 }
 
 impl<'a> Rest<'a> {
-    /// What is left of packets up to a bound, of which so many first ones have been read.
+    /// Makes what is left of packets up to a bound, of which the first `read` have been read.
     pub fn behind(packets: &'a [Packet], bound: Timestamp, read: usize) -> Rest<'a>
         requires { read ≤ length packets.now }
         ensures packets { result.packets ≡ drop read packets.now }
@@ -43,7 +43,7 @@ impl<'a> Rest<'a> {
         }
     }
 
-    /// All of a prefix.
+    /// Makes what is left of a prefix of which nothing has been read: all of it.
     pub fn of(prefix: &'a Prefix) -> Rest<'a>
         ensures { result ≡ prefix.now }
     {
@@ -60,28 +60,28 @@ impl<'a> Rest<'a> {
         self.packets.len()
     }
 
-    /// The packets that are left.
+    /// Returns the packets that are left.
     pub fn packets(&self) -> &'a [Packet]
         ensures { result.now ≡ self.now.packets }
     {
         self.packets
     }
 
-    /// The first packet that is left.
+    /// Returns the first packet that is left, if there is one.
     pub(crate) fn first(&self) -> Option<&'a Packet>
         ensures { option_copied result ≡ slice_get self.now.packets 0 }
     {
         self.packets.first()
     }
 
-    /// The bound.
+    /// Returns the bound of the prefix.
     pub fn bound(&self) -> Timestamp
         ensures { result ≡ self.now.bound }
     {
         self.bound
     }
 
-    /// The time of the first packet that is left, and `DONE` where none is.
+    /// Returns the time of the first packet that is left, and `DONE` where none is.
     pub(crate) fn first_time(&self) -> Timestamp
         ensures { result ≡ first_time self.now.packets done }
     {
@@ -91,7 +91,7 @@ impl<'a> Rest<'a> {
         }
     }
 
-    /// Up to where all has been read: the time of the first packet that is left, or the bound.
+    /// Returns the time up to which all has been read: that of the first packet that is left, or the bound.
     pub fn read_up_to(&self) -> Timestamp
         ensures { result ≡ first_time self.now.packets self.now.bound }
     {
@@ -101,7 +101,7 @@ impl<'a> Rest<'a> {
         }
     }
 
-    /// Reads the first packet.
+    /// Passes the first packet that is left, if there is one.
     pub(crate) fn read_first(&mut self)
         ensures packets { self.new.packets ≡ drop 1 self.old.packets }
         ensures bound { self.new.bound ≡ self.old.bound }
@@ -111,7 +111,7 @@ impl<'a> Rest<'a> {
         }
     }
 
-    /// Reads on, behind a time: the packet there, or none.
+    /// Passes all packets up to a time, and returns the one that stands at it, if there is one.
     pub(crate) fn read_at(&mut self, at: Timestamp) -> Option<&'a Packet>
         requires { IsPrefix self.old }
         ensures found { option_copied result ≡ packet_at at self.old.packets }
@@ -121,7 +121,7 @@ impl<'a> Rest<'a> {
         self.take_at(at)
     }
 
-    /// Lets go what stands before a time.
+    /// Passes the packets that stand before a time.
     fn pass(&mut self, at: Timestamp)
         ensures { self.new ≡ from at self.old }
     {
@@ -129,7 +129,7 @@ impl<'a> Rest<'a> {
         self.packets = left;
     }
 
-    /// Takes the first packet, where it stands at a time.
+    /// Passes the first packet and returns it, where it stands at a time.
     fn take_at(&mut self, at: Timestamp) -> Option<&'a Packet>
         ensures found { option_copied result ≡ front_at at self.old.packets }
         ensures packets { self.new.packets
@@ -159,7 +159,7 @@ pub(crate) fn count_before(packets: &[Packet], at: Timestamp) -> usize
     packets.len()
 }
 
-/// The prefix at a port of a node whose ports have the streams with these numbers.
+/// Returns the prefix at a port of a node whose ports have the streams with these numbers.
 pub(crate) fn prefix_at<'a>(prefixes: &'a PrefixList, ports: &NumberList, port: usize) -> &'a Prefix
     requires known { All (λ i. i < length prefixes.now) ports.now }
     requires there { port < length ports.now }
@@ -168,7 +168,7 @@ pub(crate) fn prefix_at<'a>(prefixes: &'a PrefixList, ports: &NumberList, port: 
     &prefixes.as_slice()[ports.as_slice()[port] as usize]
 }
 
-/// The prefixes at all ports, to be read.
+/// Returns the prefixes at all ports of a node whose ports have the streams with these numbers, to be read.
 pub fn rests_of<'a>(
     alloc: Global,
     prefixes: &'a PrefixList,

@@ -1,4 +1,4 @@
-//! The settled sets of whole prefixes, and how far they reach, as a plain program.
+//! The settled sets of whole prefixes, as a plain program.
 ghost use Rattle.std.specs.Prelude.{◌≡◌, ◌<◌, ◌^◌, All, length, map, Some, if◌then◌else◌, slice_get, None, IfOk, OnOk};
 ghost use Rattle.mg_value.specs.Prefix.{IsPrefix};
 ghost use Rattle.mg_value.specs.Settled.{packet_at, selected, inputs_of, settled_sets};
@@ -12,9 +12,9 @@ use crate::{BlockList, InputSet, NumberList, Packet, Policy, PrefixList, TimedSe
 use mg_time::Timestamp;
 use std::alloc::{AllocError, Global};
 
-/// The settled sets of a node whose ports have the streams with these numbers, under an input policy (MediaPipe,
-/// Synchronization). Their packets share the payloads of the prefixes'. Each packet is passed once, and each set looks
-/// once at each port.
+/// Returns the settled sets of a node whose ports have the streams with these numbers, under an input policy (MediaPipe,
+/// Synchronization). The packets of the sets share their payloads with those of the prefixes. Each packet is passed once, and each set
+/// looks at each port a fixed number of times.
 pub fn settled_sets(
     alloc: Global,
     policy: Policy,
@@ -29,8 +29,8 @@ pub fn settled_sets(
     take_sets(alloc, policy, rests.as_mut_slice())
 }
 
-/// The settled sets of what is left at each port, which is read on behind them. What comes later at these ports is read from
-/// there.
+/// Returns the settled sets of what is left at each port, and passes the packets that go with them. What comes later at these ports
+/// is read from there.
 pub fn take_sets(
     alloc: Global,
     policy: Policy,
@@ -49,7 +49,7 @@ pub fn take_sets(
     Ok(BlockList::from_vec(sets)?)
 }
 
-/// The time of the first settled set.
+/// Returns the time of the first settled set, if there is one.
 fn first_set_time(policy: Policy, rests: &[Rest<'_>]) -> Option<Timestamp>
     requires { length rests.now < 2 ^ 32 }
     ensures { result ≡ first_set_time policy rests.now }
@@ -73,7 +73,7 @@ fn first_set_time(policy: Policy, rests: &[Rest<'_>]) -> Option<Timestamp>
     }
 }
 
-/// The port that SELECT's first packet selects.
+/// Returns the port that SELECT's first packet selects, under the policy Mux.
 fn chosen_port(policy: Policy, rests: &[Rest<'_>]) -> Option<u32>
     requires { length rests.now < 2 ^ 32 }
     ensures { result ≡ chosen_port policy rests.now }
@@ -87,7 +87,7 @@ fn chosen_port(policy: Policy, rests: &[Rest<'_>]) -> Option<u32>
     }
 }
 
-/// Whether a port is shown.
+/// Whether the first settled set shows a port.
 fn is_shown(policy: Policy, ports: u32, chosen: Option<u32>, port: u32) -> bool
     requires { port < ports }
     ensures { result ≡ is_shown policy ports chosen port }
@@ -98,7 +98,7 @@ fn is_shown(policy: Policy, ports: u32, chosen: Option<u32>, port: u32) -> bool
     }
 }
 
-/// Reads on behind a time: the packet there, where it is shown.
+/// Passes the packets of a port up to a time, and returns the one that stands at it, where the port is shown.
 fn read_port(rest: &mut Rest<'_>, at: Timestamp, shown: bool) -> Result<Option<Packet>, AllocError>
     requires { IsPrefix rest.old }
     ensures packet { IfOk result (λ packet. packet ≡ (if shown then packet_at at rest.old.packets else None)) }
@@ -110,7 +110,7 @@ fn read_port(rest: &mut Rest<'_>, at: Timestamp, shown: bool) -> Result<Option<P
     }
 }
 
-/// The first settled set, and reads on behind its time at each port.
+/// Returns the first settled set, which stands at this time, and passes the packets of each port up to the time.
 fn take_set(
     alloc: Global,
     policy: Policy,

@@ -28,7 +28,7 @@ impl Model for MgText {
     ghost view = { λ t. bytes_of t.kept };
 }
 
-// Written out, so that the proof of whoever lets a text go needn't ask where its bytes are.
+// Written out, so that a proof about code that drops a text needn't ask where its bytes are.
 impl Drop for MgText {
     fn drop(self) {
         let MgText { kept } = self;
@@ -37,7 +37,7 @@ impl Drop for MgText {
 }
 
 impl MgText {
-    /// A copy of a text.
+    /// Makes a `MgText` with a copy of a text.
     pub fn new(alloc: Global, text: &str) -> Result<MgText, AllocError>
         ensures { IfOk result (λ t. t ≡ text.now) }
     {
@@ -48,7 +48,7 @@ impl MgText {
         Ok(MgText { kept })
     }
 
-    /// The text of a string.
+    /// Turns a string into a `MgText`.
     pub fn from_string(text: String) -> MgText
         ensures { result ≡ string_bytes text }
     {
@@ -59,7 +59,7 @@ impl MgText {
         MgText { kept }
     }
 
-    /// The text.
+    /// Returns the text.
     pub fn as_str(&self) -> &str
         ensures { result.now ≡ self.now }
     {
@@ -69,7 +69,7 @@ impl MgText {
         }
     }
 
-    /// The bytes, which are UTF-8.
+    /// Returns the bytes, which are UTF-8.
     pub fn as_bytes(&self) -> &[u8]
         ensures bytes { result.now ≡ self.now }
         ensures utf8 { IsUtf8 result.now }
@@ -77,14 +77,14 @@ impl MgText {
         self.as_str().as_bytes()
     }
 
-    /// Whether these are its bytes.
+    /// Whether the text has just these bytes.
     pub fn is(&self, bytes: &[u8]) -> bool
         ensures { IsTrue result ↔ (self.now ≡ bytes.now) }
     {
         self.as_bytes() == bytes
     }
 
-    /// A second copy.
+    /// Makes a copy of the text.
     pub fn try_clone(&self, alloc: Global) -> Result<MgText, AllocError>
         ensures { IfOk result (λ t. t ≡ self.now) }
     {

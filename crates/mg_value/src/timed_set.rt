@@ -21,5 +21,5 @@ impl Model for TimedSet {
     ghost view = { λ e. record { at = e.at; set = e.set } };
 }
 
-/// Input sets in the order of their times.
+/// A list of input sets in the order of their times.
 pub type TimedSetList = BlockList<TimedSet>;

@@ -1,4 +1,4 @@
--- What a command is.
+-- Commands, and what each does.
 use Rattle.std.specs.Prelude.{ℕ, List, Bool, true, false, Option, None, Some, codes, if◌then◌else◌}
 use Rattle.std.specs.Str.{bytes_eq}
 use Rattle.mg_words.specs.declared.limits.TheConstants.{MOST_FILES}
@@ -7,7 +7,7 @@ use Rattle.mg_words.specs.declared.words.Verb.{Verb}
 use Rattle.mg_words.specs.declared.words.Verb.TheVariants.{Check, Expand, Use}
 use Rattle.mg_words.specs.declared.words.Way.TheVariants.{Run, Solve, Generate, Trace, Replay}
 
--- what is done, and the names of the files: that of the main graph, and then those of its library
+-- a command: what it does and how, and the names of its files, that of the main graph first and then those of its library
 pub record Command : Type 0 where
   pub order : Order
   pub files : List (List ℕ)
@@ -15,7 +15,7 @@ pub record Command : Type 0 where
 abbrev pub command : Order → List (List ℕ) → Command
 command order files = record { order = order; files = files }
 
--- The words that COMMAND may be.
+-- what a word says that is done, where COMMAND may be that word
 abbrev pub verb_of : List ℕ → Option Verb
 verb_of word =
     if bytes_eq word (codes "run") then Some (Use Run)

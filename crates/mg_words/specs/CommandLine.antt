@@ -5,11 +5,11 @@ use Rattle.clap.specs.Words.{App, Rule, Text, new_app, new_rule, with_rule}
 use Rattle.clap.specs.declared.builder.action.ArgAction.TheVariants.{SetTrue, Append}
 use Rattle.clap.specs.declared.builder.value_parser.ValueParser.TheVariants.{Names, Signed}
 
--- a word that has to be there
+-- an argument that is a word which has to be there
 abbrev pub required_word : Text → Rule
 required_word id = record (new_rule id) { required = true }
 
--- any number of further words
+-- an argument that takes any number of further words
 abbrev pub further_words : Text → Rule
 further_words id = record (new_rule id) { action = Some Append }
 
@@ -27,7 +27,7 @@ verbs = codes "run" ∷ codes "solve" ∷ codes "check" ∷ codes "expand" ∷ c
 abbrev pub verb_word : Bor (List (Bor Text)) → Rule
 verb_word names = record (required_word (codes "COMMAND")) { parser = Some (Names names) }
 
--- The command reads all words that it is given, and asks for its help and its version as `clap` has it.
+-- the command line before it has arguments: it reads all words that it is given, and asks for its help and its version as `clap` has it
 abbrev pub plain_app : App
 plain_app = record (new_app (codes "mg")) { top = record (new_app (codes "mg")).top { no_binary_name = true; has_version = true } }
 
@@ -46,10 +46,10 @@ with_flags app = with_rule (with_rule app (flag (codes "no-queue-limit"))) (flag
 abbrev pub command_with : Bor (List (Bor Text)) → App
 command_with names = with_flags (with_numbers (with_words names plain_app))
 
--- Where a text lies in memory is nothing to `clap`: here each lies at nought.
+-- a value in memory at address 0, as `clap` doesn't look at where a text lies
 abbrev pub placed : {X : Type 0} → X → Bor X
 placed x = record { ref_ptr = (0, 0); now = x }
 
--- COMMAND GRAPH SUBGRAPH..., with options and flags anywhere between them
+-- the command line: COMMAND GRAPH SUBGRAPH..., with options and flags anywhere between them
 abbrev pub command : App
 command = command_with (placed (map placed verbs))

@@ -18,19 +18,21 @@ use Rattle.mg_words.specs.declared.words.Verb.{Verb}
 
 -- What words say that `clap` takes --
 
+-- what words say: COMMAND, the names of the files, and the options
 pub record Line : Type 0 where
   pub word : Text
   pub files : List Text
   pub options : Options
 
--- the number that a text is
+-- the number that a text stands for
 abbrev pub number_in : Text → Option ℕ
 number_in text = if accepts false (Unsigned 0 4294967295) text then Some (digits_value 10 (without_leading_plus text)) else None
 
+-- the number that an option was given, where it was used
 abbrev pub number_of : Text → List Row → Option ℕ
 number_of name rows = option_and_then number_in (one_of name rows)
 
--- a flag was used
+-- whether a flag was used
 abbrev pub flag_of : Text → List Row → Bool
 flag_of name rows = option_map_or (λ text. bytes_eq text (codes "true")) (first_of name rows) false
 
@@ -43,11 +45,11 @@ options_of rows = record {
   report = flag_of (codes "report") rows;
 }
 
--- the words at the places of a name
+-- the words that were taken for the argument of a name
 abbrev pub words_at : Text → List Row → List Text
 words_at name rows = unwrap_or (all_of name rows) []
 
--- COMMAND, the files with that of the main graph first, and the options
+-- what words say: COMMAND, the files with that of the main graph first, and the options
 abbrev pub line_of : List Row → Line
 line_of rows = record {
   word = unwrap_or (first_of (codes "COMMAND") rows) [];
@@ -55,50 +57,56 @@ line_of rows = record {
   options = options_of rows;
 }
 
--- What `clap` doesn't judge: how many files there are, and that `generate` has a number.
+-- Words keep the rules that `clap` doesn't judge: there aren't too many files, and `generate` has a number.
 abbrev pub keeps_rules : Line → Bool
 keeps_rules line = nat_le (length line.files) most_files && (is_some line.options.number || not (bytes_eq line.word (codes "generate")))
 
--- The limit of queues that the options ask for, where they do; below 0 it is none. Of two the flag counts.
+-- The limit of queues that the options ask for, where they do; below 0 there is none. Of both options the flag counts.
 abbrev pub limit_in : Options → Option ℤ
 limit_in options = if options.no_queue_limit then Some (negsuc 0) else option_map (λ size. pos (min size MOST_LIMIT)) options.max_queue_size
 
+-- what a command does and how, by its options and its verb
 abbrev pub order_in : Options → Verb → Order
 order_in options verb = record { verb = verb; limit = limit_in options; workers = options.workers; number = unwrap_or options.number 0; report = options.report }
 
+-- the command that words stand for, where they keep the rules and COMMAND is one of its words
 abbrev pub command_in : Line → Option Command
 command_in line = if keeps_rules line then option_map (λ verb. command (order_in line.options verb) line.files) (verb_of line.word) else None
 
 -- What the words ask for --
 
--- The note on how the program is used; a text of the program's own; or what a command does.
+-- What words ask for: the note on how the program is used, a text of the program's own, or a command.
 pub data Asked : Type 0 where
   asks_usage : Asked
   asks_text : List ℕ → Asked
   asks_command : Command → Asked
 
+-- what words ask for that `clap` takes, by the command for which they stand, if any
 abbrev pub asked_by : Option Command → Asked
 asked_by None = asks_usage
 asked_by (Some command) = asks_command command
 
--- `clap` doesn't take the words, for this reason. A call for the help or for the version is no mistake.
+-- What words ask for that `clap` refuses for this reason. A call for the help or for the version is no mistake.
 abbrev pub asked_at : ErrorKind → Asked
 asked_at DisplayHelp = asks_text help_text
 asked_at DisplayVersion = asks_text version_text
 asked_at _ = asks_usage
 
+-- what words ask for, by the reason for which `clap` refuses them, if any, and by what it takes of them
 abbrev pub asked_from : Kinds → List Row → Asked
 asked_from [] rows = asked_by (command_in (line_of rows))
 asked_from (kind ∷ kinds) rows = asked_at kind
 
+-- what the words after the program's name ask for
 unfoldable pub asked_of : List Text → Asked
 asked_of words = asked_from (fault_of lines.command words) (matches_of lines.command words)
 
--- the command that the words are, where they are one
+-- the command for which words ask, where they ask for one
 abbrev pub command_by : Asked → Option Command
 command_by asks_usage = None
 command_by (asks_text text) = None
 command_by (asks_command command) = Some command
 
+-- the command for which words ask, where they ask for one
 abbrev pub command_of : List Text → Option Command
 command_of words = command_by (asked_of words)

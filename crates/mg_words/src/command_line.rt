@@ -1,4 +1,4 @@
-//! The command line as a command of `clap`.
+//! The command line of the program, as a command of `clap`.
 ghost use Rattle.std.specs.Prelude.{◌≡◌, ℕ, List, IfOk, false, map};
 ghost use Rattle.std.specs.Borrow.{Bor};
 ghost use Rattle.clap.specs.Words.{app_of, rule_of};
@@ -13,7 +13,7 @@ static VERBS: [&str; 7] = [
     "run", "solve", "check", "expand", "generate", "trace", "replay",
 ];
 
-/// COMMAND GRAPH SUBGRAPH..., with options and flags anywhere between them.
+/// Returns the command line as a command of `clap`: COMMAND GRAPH SUBGRAPH..., with options and flags anywhere between them.
 pub fn command<'a>(alloc: Global) -> Result<Command<'a>, AllocError>
     ensures { IfOk result (λ command. (names : Bor (List (Bor (List ℕ)))) × (map (λ name. name.now) names.now ≡ lines.verbs) × (app_of command ≡ lines.command_with names)) }
 {
@@ -52,7 +52,7 @@ fn with_flags<'a>(alloc: Global, command: Command<'a>) -> Result<Command<'a>, Al
         .arg(flag(alloc, "report"))
 }
 
-// A word that has to be there.
+// Returns an argument that is a word which has to be there.
 fn required_word<'a>(alloc: Global, id: &'a str) -> Arg<'a>
     ensures rule { rule_of result ≡ lines.required_word id.entry.now }
     ensures local { result.global ≡ false }
@@ -60,7 +60,7 @@ fn required_word<'a>(alloc: Global, id: &'a str) -> Arg<'a>
     Arg::new(alloc, id).required(true)
 }
 
-// Any number of further words.
+// Returns an argument that takes any number of further words.
 fn further_words<'a>(alloc: Global, id: &'a str) -> Arg<'a>
     ensures rule { rule_of result ≡ lines.further_words id.entry.now }
     ensures local { result.global ≡ false }
@@ -68,7 +68,7 @@ fn further_words<'a>(alloc: Global, id: &'a str) -> Arg<'a>
     Arg::new(alloc, id).action(ArgAction::Append)
 }
 
-// An option with one value, a whole number in a range.
+// Returns an option with one value, a whole number from `least` to `most`.
 fn number_option<'a>(alloc: Global, name: &'a str, least: i64, most: i64) -> Arg<'a>
     ensures rule { rule_of result ≡ lines.number_option name.entry.now least most }
     ensures local { result.global ≡ false }

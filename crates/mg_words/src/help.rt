@@ -2,7 +2,7 @@
 ghost use Rattle.std.specs.Prelude.{◌≡◌};
 ghost use Rattle.mg_words.specs.Help as texts;
 
-/// What the program is, its commands, options and statuses, and an example.
+/// Returns the text that `--help` writes: what the program is, its commands, options and statuses, and an example.
 #[tactic(auto, unfolding(crate::specs::Help::help_text))]
 pub fn help_text() -> &'static [u8]
     ensures { result.now ≡ texts.help_text }
@@ -10,7 +10,7 @@ pub fn help_text() -> &'static [u8]
     HELP
 }
 
-/// The program's name and version.
+/// Returns the text that `--version` writes: the program's name and version.
 #[tactic(auto, unfolding(crate::specs::Help::version_text))]
 pub fn version_text() -> &'static [u8]
     ensures { result.now ≡ texts.version_text }
@@ -18,7 +18,7 @@ pub fn version_text() -> &'static [u8]
     VERSION
 }
 
-/// The note on words that are no command.
+/// Returns the note on words that are no command: how the program is used.
 #[tactic(auto, unfolding(crate::specs::Help::usage_note))]
 pub fn usage_text() -> &'static [u8]
     ensures { result.now ≡ texts.usage_note }

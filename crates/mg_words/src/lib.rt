@@ -1,4 +1,4 @@
-//! What the words of the command line ask for: a command with its order and its files, or a text of the program's own.
+//! What the words of a command line ask for: a command with its order and its files, or a text of the program's own.
 //! Answers to `asked_of` of `specs/Words.antt`.
 #![tactic(auto)]
 

@@ -8,23 +8,23 @@ use clap::ArgMatches;
 // The greatest limit of queues that a plan can have.
 const MOST_LIMIT: u32 = 2_147_483_647;
 
-/// What the options of a command line say, of those that were used.
+/// The options of a command line, where `None` and `false` are of those that weren't used.
 #[derive(Clone, Copy, Debug, PartialEq, Eq)]
 pub struct Options {
-    /// How many workers run the graph, 0 to 64.
+    /// How many workers are to run the graph, 0 to 64.
     pub workers: Option<u32>,
     /// The limit of queues, 1 to 1,000,000 packets.
     pub max_queue_size: Option<u32>,
-    /// How many packets are generated, 0 to 1,000,000.
+    /// How many packets are to be made, 0 to 1,000,000.
     pub number: Option<u32>,
     /// Whether queues have no limit.
     pub no_queue_limit: bool,
-    /// Whether the notes tell what was done.
+    /// Whether the notes end with a report.
     pub report: bool,
 }
 
 impl Options {
-    /// What they say where `clap` took the words.
+    /// Returns the options of words that `clap` took.
     pub fn of(matches: &ArgMatches<'_>) -> Options
         ensures { result ≡ asking.options_of (rows_of (found_of matches.now)) }
     {
@@ -37,7 +37,8 @@ impl Options {
         }
     }
 
-    /// The limit of queues that is asked for, as plans have it: below 0 there is none.
+    /// Returns the limit of queues that is asked for, as a plan has it, where one is: below 0 there is no limit. Of both options the flag
+    /// counts.
     pub fn limit(self) -> Option<i32>
         ensures { result ≡ asking.limit_in self }
     {

@@ -13,7 +13,7 @@ use clap::error::ErrorKind;
 use mg_value::MgText;
 use std::alloc::{AllocError, Global};
 
-/// What is done with the plan of a graph.
+/// How the plan of a graph is used.
 #[derive(Clone, Copy, Debug, PartialEq, Eq)]
 pub enum Way {
     /// The graph is run over the input.
@@ -28,7 +28,7 @@ pub enum Way {
     Replay,
 }
 
-/// What is done with a graph.
+/// What a command does with a graph.
 #[derive(Clone, Copy, Debug, PartialEq, Eq)]
 pub enum Verb {
     /// The graph is checked.
@@ -39,34 +39,34 @@ pub enum Verb {
     Use(Way),
 }
 
-/// What is done with a graph, and how.
+/// What a command does with a graph, and how.
 #[derive(Clone, Copy, Debug, PartialEq, Eq)]
 pub struct Order {
     pub verb: Verb,
-    /// The limit of queues where the words say one, in packets; below 0 there is none. It is for runs alone.
+    /// The limit of queues in packets, where the words say one; below 0 there is none. Solving a graph doesn't use it.
     pub limit: Option<i32>,
-    /// How many workers run the graph where the words say so, 0 to 64. It is for runs that aren't recorded.
+    /// How many workers run the graph, 0 to 64, where the words say so. Only `run` and `generate` use it.
     pub workers: Option<u32>,
-    /// How many packets are made, where that is done, 0 to 1,000,000.
+    /// How many packets `generate` makes, 0 to 1,000,000; 0 where the words don't say.
     pub number: u32,
     /// Whether the notes of a run or a solution end with a report.
     pub report: bool,
 }
 
-/// What words ask for.
+/// What the words of a command line ask for.
 #[derive(Debug, Drop)]
 pub enum Asked {
     /// The words are no command.
     Usage,
-    /// The text on the program.
+    /// The text that says what the program is and how it is used.
     Help,
     /// The program's version.
     Version,
-    /// What is to be done, and with the graph of which files, that of the main graph first.
+    /// A command: what it does, and the names of its files, that of the main graph first.
     Command(Order, Vec<MgText>),
 }
 
-/// What the words ask for, by the command line of `clap`.
+/// Returns what the words after the program's name ask for.
 pub fn asked_of(alloc: Global, words: &[MgText]) -> Result<Asked, AllocError>
     ensures { IfOk result (λ asked. asked_view asked ≡ asking.asked_of words.now) }
 {
@@ -87,7 +87,7 @@ fn asked_by<'a>(alloc: Global, words: &'a [&'a str]) -> Result<Asked, AllocError
     }
 }
 
-// What words ask for that `clap` doesn't take, by its reason.
+// Returns what words ask for that `clap` refuses, by its reason.
 fn asked_at(kind: ErrorKind) -> Result<Asked, AllocError>
     ensures some { OnOk result (kind ≢ ErrorKind.OutOfMemory) }
     ensures asked { IfOk result (λ asked. asked_view asked ≡ asking.asked_at kind) }
@@ -100,7 +100,7 @@ fn asked_at(kind: ErrorKind) -> Result<Asked, AllocError>
     }
 }
 
-// What words ask for that `clap` takes.
+// Returns what words ask for that `clap` takes.
 fn asked_from(alloc: Global, matches: &ArgMatches<'_>) -> Result<Asked, AllocError>
     ensures { IfOk result (λ asked. asked_view asked ≡ asking.asked_by (asking.command_in (asking.line_of (rows_of (found_of matches.now))))) }
 {
@@ -118,7 +118,7 @@ fn asked_with(order: Option<Order>, files: Vec<MgText>) -> Asked
     }
 }
 
-// What is done, where the words are a command.
+// Returns what a command does, where COMMAND, the number of files and the options are those of one.
 fn order_in(word: &str, files: usize, options: Options) -> Option<Order>
     ensures { (all : List (List ℕ)) → length all ≡ files → option_map (λ o. commands.command o all) result ≡ asking.command_in (record { word = word.now; files = all; options = options }) }
 {
@@ -144,14 +144,14 @@ fn ordered(verb: Option<Verb>, options: Options) -> Option<Order>
     }
 }
 
-// What `clap` doesn't judge: how many files there are, and that `generate` has a number.
+// Whether words keep the rules that `clap` doesn't judge: there aren't too many files, and `generate` has a number.
 fn keeps_rules(word: &str, files: usize, options: Options) -> bool
     ensures { (all : List (List ℕ)) → length all ≡ files → result ≡ asking.keeps_rules (record { word = word.now; files = all; options = options }) }
 {
     files <= MOST_FILES && (options.number.is_some() || word != "generate")
 }
 
-// What is done by COMMAND.
+// Returns what COMMAND says that is done.
 fn verb_of(word: &str) -> Option<Verb>
     ensures { result ≡ commands.verb_of word.now }
 {
@@ -167,7 +167,7 @@ fn verb_of(word: &str) -> Option<Verb>
     }
 }
 
-// COMMAND.
+// Returns the word that stands for COMMAND.
 fn word_of<'a>(matches: &ArgMatches<'a>) -> &'a str
     ensures { result.now ≡ (asking.line_of (rows_of (found_of matches.now))).word }
 {
@@ -177,7 +177,7 @@ fn word_of<'a>(matches: &ArgMatches<'a>) -> &'a str
     }
 }
 
-// The files, that of the main graph first.
+// Returns the names of the files, that of the main graph first.
 fn files_of(alloc: Global, matches: &ArgMatches<'_>) -> Result<Vec<MgText>, AllocError>
     ensures { IfOk result (λ files. files.items ≡ (asking.line_of (rows_of (found_of matches.now))).files) }
 {
@@ -187,7 +187,7 @@ fn files_of(alloc: Global, matches: &ArgMatches<'_>) -> Result<Vec<MgText>, Allo
     Ok(files)
 }
 
-// Puts the words at the places of a name at the end of a list.
+// Puts the words that `clap` took for the argument of a name at the end of a list.
 fn put_words(
     alloc: Global,
     matches: &ArgMatches<'_>,

@@ -7,7 +7,7 @@ use Rattle.mg_sched.specs.Taking.{taken_out}
 use Rattle.mg_sched.specs.Looks.{HasFrom}
 use Rattle.mg_sched.specs.ComesApart.{PartsView, HasComeApart, IsPutTogether}
 
--- A net is what another one became: it stands for each job for which that one stood. As many sets were taken out of its outputs, its plan and
+-- A net is what another one became: it stands for each job for which that one stood. As many sets were taken of its outputs, its plan and
 -- the calculators that no node uses are the same, and no packet of a stream was given up in between.
 pub record Became (before now : NetView) : Type 0 where
   pub stands : (job : LoggedJob) → StandsFor job before → StandsFor job now
@@ -16,7 +16,7 @@ pub record Became (before now : NetView) : Type 0 where
   pub spare : now.spare ≡ before.spare
   pub whole : (stream number : ℕ) → HasFrom before stream number → HasFrom now stream number
 
--- A net is another one as it was, but that the works that lay on its desks stand in their windows again.
+-- A net is another one as it was, except that the works that lay on its desks stand in their windows again.
 pub record CameBack (before now : NetView) : Type 0 where
   pub parts : PartsView
   pub apart : HasComeApart before parts

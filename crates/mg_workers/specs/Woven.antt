@@ -17,5 +17,6 @@ woven (suc n) (e ∷ es) (i ∷ is) = an_intake i ∷ an_engine e ∷ woven n es
 abbrev pub frame_by : Plan → List EngineView → List IntakeView → FrameView
 frame_by plan es is = record { plan = plan; parts = woven (length plan.nodes) es is }
 
+-- the frame of the parts into which a net came apart
 abbrev pub frame_of : PartsView → FrameView
 frame_of parts = frame_by parts.plan parts.engines parts.intakes

@@ -24,7 +24,7 @@ use std::alloc::{AllocError, Global};
 /// A net that is shared, its first seat, which has the whole portion, and what stays aside.
 pub type Shared<C> = (SharedNet<C>, NetSeat<C>, Kept<C>);
 
-// Room for the parts of a net. There are at most 2^32 words.
+// Returns an empty list with room for the parts of a net. More than 2^32 parts count as want of memory: there are no more words.
 fn make_room<C: Calculator>(
     alloc: Global,
     engines: usize,
@@ -120,14 +120,14 @@ pub fn share<C: Calculator>(alloc: Global, net: Net<C>) -> Result<Shared<C>, Net
     }
 }
 
-/// Puts a shared net together again. Every other seat was joined into this one, and it has no work.
+/// Puts a shared net together again. Every other seat was joined into this one, so that it has the whole portion, and it has no work.
 pub fn unshare<C: Calculator>(net: SharedNet<C>, seat: NetSeat<C>, kept: Kept<C>) -> Net<C>
     requires shared { IsShared net seat }
     requires whole { (view_of seat).portion ≡ 2 ^ 32 }
     requires kept { (before : NetView) × StandsForSome before × IsSharedOf before (key_of net) kept }
     ensures running { IsRunning result }
 
-    // Its parts are those that were shared, each as it became, and no less than what the seat saw.
+    // Its parts are those that were shared, and each has come at least as far as the seat saw.
     ensures parts { Unshared (key_of net) (view_of seat) (frame_of (parts_in result)).parts }
 
     // The net is one that the shared net may have become.

@@ -16,8 +16,8 @@ fn is_intake(nodes: u32, word: usize) -> bool
     word <= 2 * nodes as usize && word % 2 == 0
 }
 
-/// The first parts of a net become engines and intakes again. The others lie in the two lists as they are called, the last ones first, and
-/// in the end all lie there in their own order. There is room for all of them.
+/// Moves parts, which stand in the order of their words, to the lists of engines and of intakes. What these lists still have, the last ones
+/// first, stands behind the moved ones then, in its own order. There is room for all.
 pub(crate) fn unweave<C: Calculator>(
     nodes: u32,
     parts: Vec<Part<C>>,

@@ -26,7 +26,8 @@ fn box_last<T>(alloc: Global, items: &mut Vec<T>) -> Option<Box<T>>
     }
 }
 
-// Weaves the parts of the nodes, of each its intake and its engine. The lists have the last ones first.
+// Moves the parts of the nodes from their lists, which have the last ones first: of each node its intake and its engine. Tells whether
+// there was memory for all.
 fn weave_nodes<C: Calculator>(
     alloc: Global,
     nodes: u32,
@@ -53,7 +54,7 @@ fn weave_nodes<C: Calculator>(
     true
 }
 
-// Weaves the parts of the graph inputs, behind all others.
+// Moves the engines of the graph inputs from their list, behind all other parts. Tells whether there was memory for all.
 fn weave_inputs<C: Calculator>(
     alloc: Global,
     engines: &mut Vec<Engine<C>>,
@@ -72,8 +73,8 @@ fn weave_inputs<C: Calculator>(
     engines.is_empty()
 }
 
-/// The engines and the intakes of a net become parts in the order of their words, and their lists are emptied. Where there is no memory
-/// for one, those before it are parts, and the others lie in their lists, the last ones first.
+/// Moves the engines and the intakes of a net to `parts`, in the order of their words. Tells whether there was memory for all. If there
+/// wasn't for one, those before it are parts, and the others lie in their lists, the last ones first.
 pub(crate) fn weave<C: Calculator>(
     alloc: Global,
     nodes: u32,

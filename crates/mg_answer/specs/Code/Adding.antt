@@ -5,7 +5,7 @@ use Rattle.mg_value.specs.Prefix.{Stamped}
 use Rattle.mg_answer.specs.Summary.{number_in, total_line}
 use Rattle.mg_answer.specs.declared.total.Total.{Total}
 
--- what is told of an output with one packet more, or none
+-- the totals of an output with one more packet, or as they were where there is none
 abbrev pub with_place : Total → Option (Stamped Plain) → Total
 with_place total None = total
 with_place total (Some p) = record {
@@ -15,18 +15,19 @@ with_place total (Some p) = record {
   sum = total.sum +ℤ number_in p.value;
 }
 
--- what is told of some outputs with one set more
+-- the totals of outputs with one more set
 abbrev pub with_set : List Total → List (Option (Stamped Plain)) → List Total
 with_set [] set = []
 with_set (total ∷ totals) [] = total ∷ totals
 with_set (total ∷ totals) (place ∷ places) = with_place total place ∷ with_set totals places
 
--- What is told of an output after so many sets: it has no more packets than these, and its sum is no further from 0 than 2^63 times as much.
+-- The totals of an output after so many sets are in range: it has no more packets than there were sets, and its sum is no further from 0
+-- than 2^63 times their number.
 abbrev pub IsWithin : ℕ → Total → Type 0
 IsWithin sets total =
     (total.packets ≤ sets) × (neg_ℤ (pos (9223372036854775808 * sets)) ≤ℤ total.sum) × (total.sum ≤ℤ pos (9223372036854775808 * sets))
 
--- the lines of what is told of outputs
+-- the lines of the totals of outputs
 abbrev pub total_lines : List (List ℕ) → List Total → List ℕ
 total_lines [] totals = []
 total_lines (name ∷ names) [] = []

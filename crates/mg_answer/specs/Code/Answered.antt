@@ -7,12 +7,12 @@ use Rattle.mg_calc.specs.Equations.{Job, IsSolution}
 use Rattle.mg_answer.specs.Text.{output_of}
 use Rattle.mg_answer.specs.Devices.{Device, Untouched, TookFront}
 
--- a front of the text was written
+-- the output took a front of the text of a job's solution
 pub record WroteFront (job : Job) (output : Device SinkTold) : Type 0 where
   pub streams : List (StreamPrefix Plain)
   pub solution : IsSolution job streams
   pub front : TookFront output (output_of job.plan streams)
 
--- memory ran out before anything was written, or once a front was
+-- memory ran out before anything was written, or once a front of the text was
 abbrev pub WroteSome : Job → Device SinkTold → Type 0
 WroteSome job output = Untouched output ⊎ WroteFront job output

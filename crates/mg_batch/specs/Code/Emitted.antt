@@ -7,7 +7,7 @@ use Rattle.mg_value.specs.Prefix.{Stamped}
 use Rattle.mg_calc.specs.declared.emission.Laid.{Laid}
 use Rattle.mg_calc.specs.Batch.{inner_time, at_inner_times, laid_up_to}
 
--- what is laid at CLONE, where it is there
+-- what is laid at the output CLONE, if the calculator has that output
 abbrev pub clone_laid : Bool → ℕ → List (Stamped Plain) → Option Laid
 clone_laid clone last packets = if clone then Some (laid_up_to last packets) else None
 

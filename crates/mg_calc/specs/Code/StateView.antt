@@ -1,4 +1,4 @@
--- What contracts see of what a state keeps.
+-- What contracts see of a state: a list of plain payloads.
 use Rattle.std.specs.Prelude.{List, [], ◌∷◌, map}
 use Rattle.std.specs.declared.sync.Arc.{Arc}
 use Rattle.std.specs.Arc.{arc_value}
@@ -14,6 +14,7 @@ use Rattle.mg_calc.specs.declared.state.Kept.TheVariants.{Nothing, Number, Place
 abbrev pub shared_plain : {Z : Type 0} → Arc Payload Z → Plain
 shared_plain p = plain (arc_value p)
 
+-- the payloads of a state: a number as itself, and each place as it is stored
 abbrev pub payloads_of : Kept → List Plain
 payloads_of Nothing = []
 payloads_of (Number n) = int n ∷ []

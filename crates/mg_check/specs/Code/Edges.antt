@@ -6,7 +6,7 @@ use Rattle.mg_check.specs.Drafts.{DraftView}
 use Rattle.mg_check.specs.Names.{number_in}
 use Rattle.mg_check.specs.Joining.{is_back_at, edges_into}
 
--- the edge into a port of a consumer
+-- the edge into a port of a consumer, by the port's number and the name that stands there
 abbrev pub edge_at : List (List ℕ) → ℕ → Option ℕ → ℕ × List ℕ → Edge
 edge_at names node back e = record { stream = number_in names e.1; node = node; port = e.0; back = is_back_at back e.0 }
 

@@ -1,4 +1,4 @@
--- The places that are kept of names.
+-- The places that a table of names has.
 use Rattle.std.specs.Prelude.{ℕ, List, [], Option, None, Some, Vec}
 use Rattle.std.specs.Ordering.{nat_cmp}
 use Rattle.std.specs.Cmp.Lexicographic.{slice_cmp}
@@ -10,6 +10,6 @@ abbrev pub places_in : {A : Type 0} → Option (Vec ℕ A) → List ℕ
 places_in None = []
 places_in (Some places) = places.items
 
--- the places kept of a name
+-- the places that the table has of a name
 abbrev pub kept : Groups → List ℕ → List ℕ
 kept groups name = places_in (tree.get_by (λ key. slice_cmp nat_cmp name key.items) groups.places)

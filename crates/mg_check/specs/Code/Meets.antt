@@ -5,22 +5,26 @@ use Rattle.mg_calc.specs.declared.edge.Edge.{Edge}
 use Rattle.mg_check.specs.Meeting.{Reading, is_any, is_kind, met_kind, clashes}
 use Rattle.mg_check.specs.declared.met.Met.{Met}
 
+-- what is known of a stream by the port that writes it
 abbrev pub begun : Kind → Met
 begun kind = record { kind = kind; clash = false }
 
+-- what is known of a stream after one more port, of this kind
 abbrev pub meet : Met → Kind → Met
 meet met kind =
     if is_any met.kind then record { kind = kind; clash = met.clash }
     else record { kind = met.kind; clash = met.clash || not (is_any kind) && not (is_kind kind met.kind) }
 
--- what is known of all streams after one more port, which reads the stream of a number
+-- what is known of all streams after one more port, which reads the stream of a number; the last argument is what was known of that one
 abbrev pub meet_by : List Met → ℕ → Kind → Option Met → List Met
 meet_by mets stream kind None = mets
 meet_by mets stream kind (Some met) = slice_set mets stream (meet met kind)
 
+-- what is known of all streams after one more port, which reads the stream of a number
 abbrev pub meet_at : List Met → ℕ → Kind → List Met
 meet_at mets stream kind = meet_by mets stream kind (slice_get mets stream)
 
+-- what is known of all streams after all these ports
 abbrev pub meet_all : List Met → List Reading → List Met
 meet_all mets [] = mets
 meet_all mets (r ∷ rs) = meet_all (meet_at mets r.stream r.kind) rs
@@ -29,6 +33,6 @@ meet_all mets (r ∷ rs) = meet_all (meet_at mets r.stream r.kind) rs
 abbrev pub readings_of : List Edge → List Kind → List Reading
 readings_of edges kinds = map (λ e. record { stream = e.0.stream; kind = e.1 }) (zip edges kinds)
 
--- of kinds that met
+-- what is known of a stream at which these kinds met
 abbrev pub met_of : List Kind → Met
 met_of kinds = record { kind = met_kind kinds; clash = clashes kinds }

@@ -1,4 +1,4 @@
--- The names of drafts, part by part.
+-- The names of a draft, by the part that they are.
 use Rattle.std.specs.Prelude.{ℕ, List}
 use Rattle.mg_check.specs.Drafts.{DraftView}
 use Rattle.mg_check.specs.declared.part.Part.{Part}

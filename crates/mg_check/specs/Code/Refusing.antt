@@ -27,26 +27,26 @@ wiring_refusal graph ds = option_or (kind_clash graph ds) (option_or (back_edge_
 abbrev pub clash_by : List (List ℕ) → List Met → Option CheckFault
 clash_by names mets = option_map KindClash (option_and_then (λ n. slice_get names n) (position (λ met. met.clash) mets))
 
--- the names of a graph, none of which two give
+-- The names are those of the graph's streams and side packets, of which none has two producers.
 pub record AreJoint (joint : Joint) (graph : GraphView) (ds : List DraftView) : Type 0 where
   pub of_streams : joint.streams ≡ stream_names graph ds
   pub of_sides : joint.sides ≡ side_names graph ds
   pub once : two_producers graph ds ≡ None
 
--- how it is wired
+-- The wiring has the edges of the graph, what meets at its streams, who writes them, and the order of its nodes.
 pub record AreWired (wiring : Wiring) (graph : GraphView) (ds : List DraftView) : Type 0 where
   pub all_edges : wiring.edges.items ≡ edges graph ds
   pub all_mets : wiring.mets.items ≡ map met_of (stream_meetings graph ds)
   pub all_writers : wiring.writers.items ≡ writers graph ds
   pub in_order : wiring.order.items ≡ order graph ds
 
--- too many edges or graph outputs, by their numbers
+-- the refusal of too many edges or graph outputs, by how many there are
 abbrev pub count_refusal : ℕ → ℕ → Option CheckFault
 count_refusal edge_count output_count =
     if nat_lt 16384 edge_count then Some (TooMany Edges)
     else (if nat_lt 256 output_count then Some (TooMany Outputs) else None)
 
--- what of a plan is made of lent drafts
+-- The parts are those of the graph's plan that are made before its nodes.
 pub record AreShown (shown : Shown) (graph : GraphView) (ds : List DraftView) : Type 0 where
   pub as_streams : shown.streams ≡ plan_streams graph ds
   pub as_sides : shown.sides ≡ plan_sides graph ds

@@ -7,25 +7,26 @@ use Rattle.mg_calc.specs.Shape.{ParametersFit, IsShapeOf, IsLimiter}
 use Rattle.mg_calc.specs.Plan.{MayHavePolicy}
 use Rattle.mg_check.specs.Drafts.{DraftView}
 
--- a draft has a name for each port of its shape, and a constant for each side packet that it writes
+-- The draft has a name for each port of its shape, and a constant for each side packet that it writes.
 pub record HasNames (d : DraftView) : Type 0 where
   pub inputs : length d.inputs ≡ length d.shape.inputs
   pub outputs : length d.outputs ≡ length d.shape.outputs
   pub sides : length d.sides ≡ length d.shape.sides
   pub side_outputs : length d.side_outputs ≡ length d.constants
 
--- how many sets of it may be in flight: from 1 to 64, but one where a calculator is handed in or keeps a state
+-- The number of sets that may be in flight is from 1 to 64, but 1 where a calculator is handed in or keeps a state.
 pub record HasFlight (d : DraftView) : Type 0 where
   pub some : 1 ≤ d.in_flight
   pub most : d.in_flight ≤ 64
   pub boxed : IsSome d.box_number → d.in_flight ≡ 1
   pub stateful : d.shape.stateless ≡ false → d.in_flight ≡ 1
 
--- only LOOP of a loopback, its first port, and FINISHED of a limiter, its second, may be back
+-- The port may be a back edge's: it is LOOP of a loopback, its first port, or FINISHED of a limiter, its second.
 abbrev pub IsBackPort : Law → ℕ → Type 0
 IsBackPort rule port = ((port ≡ 0) × (rule ≡ Loopback)) ⊎ ((port ≡ 1) × IsLimiter rule)
 
--- its law has parameters in their ranges, its shape is its law's, and it has a policy that its law may have; what is back may be
+-- The draft's law has parameters in their ranges, its shape is its law's, it has a policy that its law may have, and a
+-- back edge only where one may be.
 pub record IsSound (d : DraftView) : Type 0 where
   pub names : HasNames d
   pub parameters : ParametersFit d.law
@@ -34,12 +35,12 @@ pub record IsSound (d : DraftView) : Type 0 where
   pub policy : MayHavePolicy d.law d.policy
   pub back : IfSome d.back (IsBackPort d.law)
 
--- a calculator that is handed in has its law and shape
+-- The calculator that is handed in has the draft's law and shape.
 pub record FitsDraft (d : DraftView) (outer : OuterShape) : Type 0 where
   pub same_law : outer.law ≡ d.law
   pub same_shape : outer.shape ≡ d.shape
 
--- all drafts are so; no two have the same calculator that is handed in, and each that has one has its law and shape
+-- All drafts are sound; no two have the same calculator that is handed in, and each that has one has its law and shape.
 pub record AreSound (outers : List OuterShape) (ds : List DraftView) : Type 0 where
   pub each : All IsSound ds
   pub once : AllPairs ◌≢◌ (filter_map (λ d. d.box_number) ds)

@@ -1,4 +1,4 @@
--- Who writes streams, and which nodes have no inputs, counted from a node on.
+-- The producers of streams, and the nodes without inputs, where nodes are counted from a number on.
 use Rattle.std.specs.Prelude.{ℕ, List, ◌==◌, length, map, filter, flat_map}
 use Rattle.std.specs.List.{enumerate_from}
 use Rattle.mg_calc.specs.declared.plan_stream.Producer.{Producer}

@@ -1,7 +1,7 @@
--- What contracts see of the edges of a plan, by the places of one of their ends.
+-- Lists of the edges of a plan, as contracts see them.
 use Rattle.std.specs.Prelude.{ℕ}
 
--- how many places there are, and how many edges
+-- how many places the lists are for, and how many edges they have
 pub record LeadsView : Type 0 where
   pub places : ℕ
   pub edges : ℕ

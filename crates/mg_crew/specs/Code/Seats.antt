@@ -15,10 +15,11 @@ use Rattle.mg_crew.specs.declared.putting.Place.{Place}
 use Rattle.mg_crew.specs.declared.shop.Tools.{Tools}
 use Rattle.mg_crew.specs.Code.Places.{IsPlaceAt}
 
--- an outcome is lawful for each job of which the net's parts are, and so is a work
+-- an outcome is lawful for each job for which the net's parts are lawful
 abbrev pub FitsOutcome : FrameView → OutcomeView → Type 0
 FitsOutcome key outcome = (job : LoggedJob) → Fits job key → LawfulOutcome job outcome
 
+-- a work is lawful for each job for which the net's parts are lawful
 abbrev pub FitsWork : FrameView → WorkView → Type 0
 FitsWork key work = (job : LoggedJob) → Fits job key → LawfulWork job work
 
@@ -26,7 +27,7 @@ FitsWork key work = (job : LoggedJob) → Fits job key → LawfulWork job work
 abbrev pub HasSources : Tools → Type 0
 HasSources tools = All (λ node. Contains (order_of tools.levels) node) tools.chart.sources.items
 
--- what workers share is of a net: the levels have each of its nodes once, and the chart has its edges
+-- the tools of workers are those of a net: the levels have each of its nodes once, and the chart has its edges
 pub record AreToolsOf {X : Type 0} (net : SharedNet X) (tools : Tools) : Type 0 where
   pub ordered : HasEachOnce (nodes_in (key_of net)) (order_of tools.levels)
   pub places : nodes_in (key_of net) ≤ tools.chart.from.places
@@ -41,12 +42,12 @@ pub record IsAtWork {X : Type 0} {g : Ghosts X} (net : SharedNet X) (tools : Too
   pub fits : AreToolsOf net tools
   pub placed : IsPlaceAt tools.levels place
 
--- behind a call a worker has as much of the portion as before, and again no work
+-- after a call a worker has as much of the portion as before, and no work
 pub record StaysAtWork {X : Type 0} {g : Ghosts X} (net : SharedNet X) (tools : Tools) (before now : NetSeat X g) (place : Place) : Type 0 where
   pub stays : StaysShared net before now
   pub placed : IsPlaceAt tools.levels place
 
--- a seat has this work and its outcome, which is lawful, and as much of the portion as before
+-- a seat has the work of this outcome, the outcome is lawful, and the seat has as much of the portion as before
 pub record HasWork {X : Type 0} {g : Ghosts X} (net : SharedNet X) (before now : NetSeat X g) (outcome : OutcomeView) : Type 0 where
   pub has : IsSharedWith net now outcome.work
   pub lawful : FitsOutcome (key_of net) outcome

@@ -29,15 +29,15 @@ use Rattle.mg_drive.specs.Leaves.{HadCallsOf}
 pub use Rattle.mg_drive.specs.OneRun.{CameBack, WasNothing}
 use Rattle.mg_drive.specs.Code.Running.{Giving, Reading, Telling, Start, job_with, IsToldSome, FrontIn}
 
--- all of what a job's solution is told by was put, in a form
+-- the whole text by which a job's solution is told in a form was put
 abbrev pub IsWhole : Form → SinkTold → SinkTold → Job → TextView → Type 0
 IsWhole form first sink job text = (streams : List (StreamPrefix Plain)) → IsSolution job streams → HasPut first sink text (output_in form job.plan streams)
 
--- how far a stream of a net has come, as it is told
+-- how far a stream of a net has come, in the form that mg_answer takes
 abbrev pub told_end : nets.StreamEnd → StreamEnd
 told_end s = record { packets = s.packets; bound = s.bound }
 
--- what is told is what a net reports
+-- the outcomes are what a net reports
 pub record TellsNet (net : NetView) (outcomes : Outcomes) : Type 0 where
   pub faults : outcomes.faults ≡ (report_of net).faults
   pub sets : outcomes.sets ≡ (report_of net).sets
@@ -52,14 +52,14 @@ pub record ComesBack (job : LoggedJob) (streams : List (StreamPrefix Plain)) (no
   pub there : slice_get (given_back net) place ≡ Some told
   pub had : HadCalls job streams node told
 
--- and so does each that a node uses, in a solution of a job
+-- each calculator that is handed in and that a node uses comes back with all the calls that its node has in a solution of a job
 pub record HadAllOf (job : LoggedJob) (net : NetView) : Type 0 where
   pub streams : List (StreamPrefix Plain)
   pub solution : IsSolution job.job streams
   pub each : (number place : ℕ) (node : PlanNode) → slice_get job.job.plan.nodes number ≡ Some node → node.box_number ≡ Some place → IsOuter node.law
       → ComesBack job streams node place net
 
--- a net stood for some job with these calculators, or for one that it was wound up for since
+-- a net stood for some job with these calculators, and may have been wound up since
 pub record StoodWith (boxes : List CalculatorTold) (net : NetView) : Type 0 where
   pub job : LoggedJob
   pub stood : StoodFor job net
@@ -67,15 +67,15 @@ pub record StoodWith (boxes : List CalculatorTold) (net : NetView) : Type 0 wher
 
 -- Runs.
 
--- what is written at the end of a run over batches of a kind
+-- the type of `Batches::wrote`: what is written at the end of a run over batches
 abbrev pub Writing : Type 0 → Type 1
 Writing B = B → Form → Bool → Job → FeedEnd → Status → Device SinkTold → Device SinkTold → Type 0
 
--- the devices of a run whose input told this at its beginning
+-- the devices of a run, where the input told `source` at the beginning of the run
 abbrev pub since : SourceTold → RunDevices → RunDevices
 since source devices = record devices { input = device source devices.input.now }
 
--- A net was run: the answer of the job of all that was given was written, and its nodes had their calls.
+-- A net was run: the answer of the job of all that was given was written, and its nodes' calculators had their calls.
 pub record HasEnded {B : Type 0} (gives : Giving B) (writes : Writing B) (form : Form) (report : Bool) (start : Start B) (status : Status) (source : SourceTold) (sink : SinkTold) (notes : Device SinkTold) (net : NetView) : Type 0 where
   pub batches : B
   pub end : FeedEnd
@@ -85,7 +85,7 @@ pub record HasEnded {B : Type 0} (gives : Giving B) (writes : Writing B) (form :
   pub had : HadAllOf (job_with start inputs) net
   pub stood : StoodFor (job_with start inputs) net
 
--- So it is of a run as a whole, by what the devices tell and the calculators that were handed in.
+-- A run is over: the answer of the job of all that was given was written, and the calculators that were handed in had their calls.
 pub record HasRun {B : Type 0} (gives : Giving B) (writes : Writing B) (form : Form) (report : Bool) (began : B) (plan : Plan) (status : Status) (devices : RunDevices) (boxes : Device (List CalculatorTold)) : Type 0 where
   pub batches : B
   pub end : FeedEnd
@@ -94,7 +94,7 @@ pub record HasRun {B : Type 0} (gives : Giving B) (writes : Writing B) (form : F
   pub wrote : writes batches form report (record { plan = plan; inputs = inputs }) end status devices.output devices.notes
   pub had : HadCallsOf (record { plan = plan; inputs = inputs }) boxes
 
--- Memory ran out once there was a net.
+-- Memory ran out in a run once there was a net.
 pub record WasShort {B T : Type 0} (gives : Giving B) (reads_on : Reading B) (has_told : Telling T) (form : Form) (began : B) (plan : Plan) (devices : RunDevices) (boxes : Device (List CalculatorTold)) : Type 0 where
   pub batches : B
   pub end : BatchEnd
@@ -116,10 +116,11 @@ pub record HasGiven {B : Type 0} (gives : Giving B) (began : B) (plan : Plan) (i
   pub inputs : Inputs
   pub given : gives began batches plan input.before input.now end inputs
 
--- Memory ran out before there was a net: nothing was read, or what the first call of batches reads.
+-- What was read where memory ran out before there was a net: nothing, or what the first call of `next` reads, or the first batch.
 abbrev pub ReadFirst : {B : Type 0} → Giving B → Reading B → B → Plan → Device SourceTold → Type 0
 ReadFirst gives reads_on began plan input = (input.now ≡ input.before) ⊎ (reads_on began plan input.before input.before input.now ⊎ HasGiven gives began plan input)
 
+-- a run over batches ended since memory ran out, before there was a net or later
 abbrev pub RanShort : {B T : Type 0} → Giving B → Reading B → Telling T → Form → B → Plan → RunDevices → Device (List CalculatorTold) → Type 0
 RanShort gives reads_on has_told form began plan devices boxes =
     (ReadFirst gives reads_on began plan devices.input × WasNothing devices.output boxes) ⊎ WasShort gives reads_on has_told form began plan devices boxes

@@ -10,30 +10,30 @@ use Rattle.mg_feed.specs.declared.feed_end.FeedEnd.TheVariants.{Ended}
 use Rattle.mg_feed.specs.declared.feed_end.BatchEnd.{BatchEnd}
 use Rattle.mg_feed.specs.declared.feed_end.BatchEnd.TheVariants.{More, End}
 
--- what so many packets come to, where the streams have ended with them or not
+-- what a number of packets that are made give a graph; `ended` says whether the streams have ended with them
 abbrev pub made_inputs : GraphInputs → ℕ → Bool → Inputs
 made_inputs graph number ended = record { streams = ended_streams ended (generated_streams graph.kinds number); sides = generated_sides (length graph.sides); ended = ended }
 
--- there is more behind a piece, or the input has ended with it
+-- how a piece ends: the input has ended with it, or there is more behind it
 abbrev pub end_of : Bool → BatchEnd
 end_of true = End Ended
 end_of false = More
 
--- so many packets are to be made for a plan, and none is yet
+-- a number of packets are to be made for a plan, and none is made yet
 pub record AreToCome (plan : Plan) (number : ℕ) (m : Making) : Type 0 where
   pub handed_on : HasHandedOn (inputs_of plan) number m
   pub none : m.made ≡ 0
   pub few : number < 2 ^ 32
 
--- Of so many packets for a plan some were given, and these are what they come to.
+-- Some of a number of packets were made for a plan, and `inputs` are what they give.
 pub record WereMade (plan : Plan) (number : ℕ) (m : Making) (end : BatchEnd) (inputs : Inputs) : Type 0 where
   pub handed_on : HasHandedOn (inputs_of plan) number m
   pub few : number < 2 ^ 32
   pub end_is : end ≡ end_of (m.made == number)
   pub inputs_are : inputs ≡ made_inputs (inputs_of plan) m.made (m.made == number)
 
--- They came piece by piece, and how many packets a piece has (`most`) hasn't changed since the first: each earlier entry is what some
--- number of packets comes to, and of these numbers nothing is said. Where there are no more packets than a piece has, all came at once.
+-- Packets came piece by piece, and how many packets a piece has (`most`) hasn't changed since the first. Each earlier entry is what some
+-- number of packets give, and nothing is said of these numbers. Where there are no more packets than a piece has, all came at once.
 pub record HaveComeInPieces (plan : Plan) (number most now : ℕ) (m : Making) (end : BatchEnd) (history : List Inputs) : Type 0 where
   pub inputs : Inputs
   pub given : WereMade plan number m end inputs
@@ -42,6 +42,6 @@ pub record HaveComeInPieces (plan : Plan) (number most now : ℕ) (m : Making) (
   pub most_is : now ≡ most
   pub at_once : number ≤ most → (earlier ≡ []) × (m.made ≡ number)
 
--- how many are still to be made
+-- how many packets are still to be made
 abbrev pub packets_left : Making → ℕ
 packets_left m = m.number - m.made

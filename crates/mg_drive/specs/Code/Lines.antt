@@ -22,24 +22,24 @@ use Rattle.mg_answer.specs.Ran.{ReadSome}
 use Rattle.mg_drive.specs.Batches.{IsMore}
 pub use Rattle.mg_drive.specs.InBatches.{inputs_at, batch_size}
 
--- whether the input has ended well with a batch, and whether there is more behind it
+-- whether the input has ended well with a batch
 abbrev pub has_ended : BatchEnd → Bool
 has_ended More = false
 has_ended (End end) = is_ended end
 
--- there was memory for a batch
+-- memory didn't run out while a batch was read
 abbrev pub HadMemory : BatchEnd → Type 0
 HadMemory More = ⊤
 HadMemory (End end) = end ≢ OutOfMemory
 
--- what is known of all reads, by how the last batch ended: none failed, and there may be more; or the input came to its end
+-- what is known of all reads, by how the last batch ended: no read failed, and there may be more; or the input came to its end
 abbrev pub ReadsAs : BatchEnd → Plan → SourceTold → SourceTold → Fed → List ℕ → List (List ℕ) → Type 0
 ReadsAs More plan first source fed past lines = Unfailed first source
 ReadsAs (End end) plan first source fed past lines =
     (end ≢ OutOfMemory) × EndsAs end (inputs_of plan) [] past lines fed.read.ended × FailedBy end first source
 
--- A feed took batches, the last of which ended so: of the bytes that came since a source told `first` it accepted these lines, and
--- it has handed on all that they gave.
+-- A feed read batches, the last of which ended in this way: of the bytes that came since the source told `first` it accepted these lines,
+-- and it has handed on all that they gave.
 pub record IsRead (plan : Plan) (first : SourceTold) (end : BatchEnd) (source : SourceTold) (fed : Fed) (past : List ℕ) (lines : List (List ℕ)) : Type 0 where
   pub graph : fed.view.graph ≡ inputs_of plan
   pub gave : Gave first.left source.left past
@@ -48,7 +48,7 @@ pub record IsRead (plan : Plan) (first : SourceTold) (end : BatchEnd) (source : 
   pub spent : Spends 0 (idle_by end fed.read.ended) first.left source.left first.reads source.reads
   pub so : ReadsAs end plan first source fed past lines
 
--- A feed took a batch behind these lines: more of them came. What it hands on is what it then had and had not handed on before.
+-- A feed read one more batch behind these lines. The batch hands on what the feed then had and had not handed on before.
 pub record HasBatch (plan : Plan) (first : SourceTold) (end : BatchEnd) (inputs : Inputs) (source : SourceTold) (fed : Fed) (past : List ℕ) (lines : List (List ℕ)) : Type 0 where
   pub came : List ℕ
   pub more : List (List ℕ)
@@ -59,21 +59,21 @@ pub record HasBatch (plan : Plan) (first : SourceTold) (end : BatchEnd) (inputs 
   pub streams : inputs.streams ≡ ended_streams (has_ended end) view.given.streams
   pub sides : inputs.sides ≡ view.given.sides
   pub ended : inputs.ended ≡ has_ended end
-  -- where there is more, a line was taken, and one of the lines names a stream
+  -- where more follows the batch, it has a line, and one of the lines so far names a stream
   pub longer : IsMore end → length lines < length (lines ++ more)
   pub named : IsMore end → (given_by (inputs_of plan) (lines ++ more)).named ≡ true
   pub few : length (lines ++ more) ≤ most_lines
   pub filled : Fills end batch_size more
 
--- A call behind these bytes read some more, if any, and all that was read was read once: the source had told `at` before. Where it had
--- ended, nothing more was read.
+-- A call read some more bytes, or none, behind these, and all that was read was read once. The source told `at` before the call. Where the
+-- source had ended, nothing more was read.
 pub record HasReadOn (plan : Plan) (first at now : SourceTold) (ended : Bool) (past : List ℕ) : Type 0 where
   pub read : ReadSome (inputs_of plan) (device first now)
   pub later : List ℕ
   pub split : read.came ≡ past ++ later
   pub none : ended ≡ true → (now ≡ at) × (later ≡ [])
 
--- a call of a feed reads on so, whatever the feed had read before
+-- what a call of a feed reads, whatever the feed had read before
 abbrev pub ReadsOn : Fed → Plan → SourceTold → SourceTold → SourceTold → Type 0
 ReadsOn fed plan first at now = (past : List ℕ) (lines : List (List ℕ)) → IsRead plan first More at fed past lines → HasReadOn plan first at now fed.read.ended past
 
@@ -83,7 +83,7 @@ pub record IsNew (fed : Fed) (plan : Plan) : Type 0 where
   pub stands : Stands [] (nothing_taken (inputs_of plan)) fed.view
   pub unread : fed.read ≡ record { kept = []; ended = false }
 
--- A feed took batches, and what they hand on is all that the lines gave that it accepted.
+-- A feed read batches, and these inputs are all that the lines that it accepted gave.
 pub record LinesGave (fed : Fed) (plan : Plan) (first source : SourceTold) (end : BatchEnd) (inputs : Inputs) : Type 0 where
   pub past : List ℕ
   pub lines : List (List ℕ)
@@ -91,16 +91,17 @@ pub record LinesGave (fed : Fed) (plan : Plan) (first source : SourceTold) (end 
   pub inputs_are : inputs ≡ inputs_at (inputs_of plan) lines (has_ended end)
   pub named : IsMore end → (given_by (inputs_of plan) lines).named ≡ true
 
--- of batches, the newest first: all lines in order, and what had been given after each batch
+-- all lines of batches in order, where the newest batch stands first
 abbrev pub lines_of : List (List (List ℕ)) → List (List ℕ)
 lines_of [] = []
 lines_of (batch ∷ batches) = lines_of batches ++ batch
 
+-- what had been given after each of some batches, where the newest batch stands first
 abbrev pub given_after : GraphInputs → List (List (List ℕ)) → List Inputs
 given_after graph [] = []
 given_after graph (batch ∷ batches) = inputs_at graph (lines_of (batch ∷ batches)) false ∷ given_after graph batches
 
--- A feed took batches, one after the other, and had handed on this by the end of each.
+-- A feed read batches, one after the other, and the history has all that it had handed on by the end of each.
 pub record LinesCame (fed : Fed) (plan : Plan) (first source : SourceTold) (end : BatchEnd) (history : List Inputs) : Type 0 where
   pub past : List ℕ
   pub newest : List (List ℕ)

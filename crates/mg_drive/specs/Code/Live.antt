@@ -32,17 +32,18 @@ use Rattle.mg_drive.specs.Live.{LiveTells}
 
 -- The streams --
 
--- the streams of a net that has come to rest: they solve the job for which it stands
+-- the streams of a net that has come to rest solve the job for which it stands
 pub record AreRested (net : NetView) (streams : List (StreamPrefix Plain)) : Type 0 where
   pub job : LoggedJob
   pub stands : StandsFor job net
   pub has_rested : HasRested job net
   pub solves : Solves job streams
 
--- of each port of the free nodes the stream, and how many of its packets arrived there
+-- for each port of a free node the stream, and how many of its packets have arrived there
 abbrev pub wanted_at : FreeNode × Taker → List Wanted
 wanted_at e = map (λ p. record { stream = p.0; from = p.1 }) (zip e.0.inputs e.1.counts.items)
 
+-- for each port of all free nodes the stream, and how many of its packets have arrived there
 abbrev pub wanted_by : List FreeNode → List Taker → List Wanted
 wanted_by frees takers = flat_map wanted_at (zip frees takers)
 
@@ -53,17 +54,19 @@ abbrev pub ended_of : BatchEnd → Option FeedEnd
 ended_of More = None
 ended_of (End end) = Some end
 
+-- the end of a batch, by how the input ended with it, if it did
 abbrev pub end_by : Option FeedEnd → BatchEnd
 end_by None = More
 end_by (Some end) = End end
 
--- the numbers of a plan's core: in the plan those of the core's nodes, and in the core those of the plan's streams
+-- `nodes` has the plan's number of each node of its core, and `streams` the core's number of each stream of the plan
 pub record AreNumbersOf (whole : Plan) (nodes streams : List ℕ) : Type 0 where
   pub nodes_are : nodes ≡ (split_of whole).numbers
   pub streams_are : streams ≡ (split_of whole).streams
 
--- What is kept of a run of a graph with free nodes: the batches of its plan, the plan that it began with, the plan with the numbers of its
--- core, how the input ended, once it has, whether a round did nothing since the last batch came, and what is kept of the free nodes.
+-- What is kept of a run of a graph with free nodes, as contracts see it: the batches of its plan, the plan that it began with, the plan
+-- with the numbers of its core, how the input ended, once it has, whether a round has done nothing since the last batch came, and what is
+-- kept of the free nodes.
 pub record LiveView (B : Type 0) : Type 0 where
   pub batches : B
   pub plan : Plan
@@ -75,7 +78,7 @@ pub record LiveView (B : Type 0) : Type 0 where
   pub frees : List FreeNode
   pub takers : List Taker
 
--- what is kept is of the plan of this core, and of batches of which the next one is always due
+-- the state of a run with free nodes is of a plan with this core, and whatever its batches gave, the next one is due
 pub record IsLiveOf {B : Type 0} (is_due : Due B) (core : Plan) (live : LiveView B) : Type 0 where
   pub whole_is : live.whole ≡ live.plan
   pub valid : IsValidWithFree live.whole
@@ -84,7 +87,7 @@ pub record IsLiveOf {B : Type 0} (is_due : Due B) (core : Plan) (live : LiveView
   pub frees_are : live.frees ≡ (split_of live.whole).free
   pub due : (batches : B) (plan : Plan) (inputs : Inputs) → is_due batches plan inputs
 
--- nothing has come to a core yet: the batches of its plan are fresh, and the free nodes have taken nothing
+-- nothing has come to a core yet: the batches of its plan are new, and the free nodes have taken nothing
 pub record IsFreshLive {B : Type 0} (is_fresh : B → Plan → Type 0) (is_due : Due B) (core : Plan) (live : LiveView B) : Type 0 where
   pub of : IsLiveOf is_due core live
   pub fresh : is_fresh live.batches live.whole
@@ -92,13 +95,13 @@ pub record IsFreshLive {B : Type 0} (is_fresh : B → Plan → Type 0) (is_due :
   pub none_handed : handed_of live.takers ≡ replicate (length live.frees) 0
   pub unended : live.ended ≡ None
 
--- where no batch is left: the input ended with the last one, and a round over it did nothing
+-- what is known where no batch is left: the input ended with the last one, and a round over it did nothing
 abbrev pub EndsLive : {B : Type 0} → BatchEnd → LiveView B → Type 0
 EndsLive More live = ⊤
 EndsLive (End end) live = (live.ended ≡ Some end) × (live.rested ≡ true)
 
--- What came to a core: what the batches of the plan gave together, now and by the end of each earlier batch, and rounds over these, by which
--- the free nodes have taken what they have.
+-- What came to a core: what the batches of the plan gave together, now and by the end of each earlier batch, and what rounds over these
+-- laid, in which the free nodes have taken what they have.
 pub record LiveGives {B : Type 0} (gives : Giving B) (came : Coming B) (is_due : Due B) (began : B) (live : LiveView B) (core : Plan) (first source : SourceTold) (end : BatchEnd) (inputs : Inputs) : Type 0 where
   pub of : IsLiveOf is_due core live
   pub base : Inputs
@@ -114,14 +117,14 @@ pub record LiveGives {B : Type 0} (gives : Giving B) (came : Coming B) (is_due :
   pub rests : live.rested ≡ true → IsRound (split_of live.whole) base takens takens
   pub ends : EndsLive end live
 
--- The same as a history: its newest entry is all that came to the core. Of the others nothing is said.
+-- What came to a core, as a history: the newest entry is all that came to it, and nothing is said of the others.
 pub record LiveCame {B : Type 0} (gives : Giving B) (came : Coming B) (is_due : Due B) (began : B) (live : LiveView B) (core : Plan) (first source : SourceTold) (end : BatchEnd) (history : List Inputs) : Type 0 where
   pub inputs : Inputs
   pub earlier : List Inputs
   pub history_is : history ≡ inputs ∷ earlier
   pub given : LiveGives gives came is_due began live core first source end inputs
 
--- The next batch is due: there is one, and a round did nothing.
+-- The next batch is due: the input has no end yet, and a round has done nothing since the last batch came.
 abbrev pub IsLiveDue : {B : Type 0} → LiveView B → Type 0
 IsLiveDue live = (live.ended ≡ None) × (live.rested ≡ true)
 
@@ -129,14 +132,15 @@ IsLiveDue live = (live.ended ≡ None) × (live.rested ≡ true)
 abbrev pub rounds_left : List Taker → ℕ
 rounds_left takers = sum_by (λ taker. (2 ^ 64 - length taker.log.items) + (elim taker.closed [ true ↦ 0 | false ↦ 1 ])) takers
 
+-- a bound on the batches that may still come: one more than the bound `left` of the plan's batches, and 0 once the input has ended
 abbrev pub batches_left : Option FeedEnd → ℕ → ℕ
 batches_left None left = left + 1
 batches_left (Some end) left = 0
 
 -- What is written --
 
--- The answer of a solution of the core was written, with the notes by the plan's numbers and the lines of the logs, which are those of all
--- that the free nodes may have taken by what is kept of them.
+-- The answer of a solution of the core was written, with notes by the plan's numbers and the lines of the logs, which are those of whatever
+-- the free nodes may have taken by what is kept of them.
 pub record LiveWrote (whole : Plan) (frees : List FreeNode) (takers : List Taker) (form : Form) (report : Bool) (job : Job) (end : FeedEnd) (status : Status) (output notes : Device SinkTold) : Type 0 where
   pub streams : List (StreamPrefix Plain)
   pub solution : IsSolution job streams

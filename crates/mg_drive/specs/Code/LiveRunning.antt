@@ -23,7 +23,8 @@ use Rattle.mg_drive.specs.Code.Running.{Reading, Telling, IsToldSome, FrontIn}
 use Rattle.mg_drive.specs.Code.Ending.{ReadFirst}
 use Rattle.mg_drive.specs.Code.Live.{end_by}
 
--- All batches were given: `base` is what they gave together, and the earlier ones are what they had given by the end of each earlier batch.
+-- All batches were given and run: `base` is what they gave together, and `earlier` has what they had given by the end of each earlier
+-- batch.
 pub record HasRunLive {B : Type 0} (gives : Giving B) (came : Coming B) (form : Form) (report : Bool) (began : B) (whole : Plan) (status : Status) (devices : RunDevices) (boxes : Device (List CalculatorTold)) : Type 0 where
   pub batches : B
   pub end : FeedEnd
@@ -36,11 +37,11 @@ pub record HasRunLive {B : Type 0} (gives : Giving B) (came : Coming B) (form : 
   pub in_order : reverse (base ∷ earlier) ≡ first ∷ later
   pub run : OneLive form report whole first later end status devices.output devices.notes boxes
 
--- what a further call of batches reads, where it may come
+-- what a further call of batches reads, where one may come
 abbrev pub ReadsWhere : {B : Type 0} → (B → Plan → Type 0) → Due B → Reading B → Reading B
 ReadsWhere is_fresh is_due reads_on batches plan first at now = MayRead is_fresh is_due batches plan → reads_on batches plan first at now
 
--- Memory ran out once there was a net of the core: after a batch of the plan had come by which the input ended, or didn't, or while more
+-- Memory ran out once there was a net of the core: after a batch of the plan had come, with which the input may have ended, or while more
 -- was read behind it.
 pub record CoreShort {B T : Type 0} (came : Coming B) (reads_on : Reading B) (has_told : Telling T) (form : Form) (began : B) (whole : Plan) (devices : RunDevices) (boxes : Device (List CalculatorTold)) : Type 0 where
   pub batches : B
@@ -59,11 +60,12 @@ pub record CoreShort {B T : Type 0} (came : Coming B) (reads_on : Reading B) (ha
       ⊎ FrontIn form devices.output.before devices.output.now (core_job (split_of whole) base takens)
   pub had : AllHad (split_of whole).core (KeepsAFront (core_job (split_of whole) base takens) streams) boxes
 
+-- a run of a core over batches of its plan ended since memory ran out, before there was a net or later
 abbrev pub HasRunLiveShort : {B T : Type 0} → Giving B → Coming B → Reading B → Telling T → Form → B → Plan → RunDevices → Device (List CalculatorTold) → Type 0
 HasRunLiveShort gives came reads_on has_told form began whole devices boxes =
     (ReadFirst gives reads_on began whole devices.input × WasNothing devices.output boxes) ⊎ CoreShort came reads_on has_told form began whole devices boxes
 
--- inputs to which so many streams come of which nothing is known, behind the others
+-- the further inputs are these, with `count` streams of which nothing is known behind their streams
 pub record IsOpened (inputs more : Inputs) (count : ℕ) : Type 0 where
   pub streams : more.streams ≡ inputs.streams ++ replicate count empty_prefix
   pub sides : more.sides ≡ inputs.sides

@@ -23,10 +23,11 @@ pub use Rattle.mg_drive.specs.Nets.{HasRested}
 pub use Rattle.mg_drive.specs.Batches.{Giving, Due}
 use Rattle.mg_drive.specs.Batches.{IsMore, logged, SomeGiven}
 
--- what a further call of batches of a kind reads, and what something of a kind was told
+-- the type of `Batches::reads_on`: what a further call of batches reads
 abbrev pub Reading : Type 0 → Type 1
 Reading B = B → Plan → SourceTold → SourceTold → SourceTold → Type 0
 
+-- the type of `Telling::has_told`: which sets were told
 abbrev pub Telling : Type 0 → Type 1
 Telling T = T → Plan → SinkTold → SinkTold → List (TimedSet Plain) → Type 0
 
@@ -39,41 +40,41 @@ pub record Start (B : Type 0) : Type 0 where
   pub sink : SinkTold
   pub batches : B
 
--- the job of what was given so far
+-- the job of a run over what was given so far
 abbrev pub job_with : {B : Type 0} → Start B → Inputs → LoggedJob
 job_with start inputs = logged start.plan inputs start.boxes
 
--- the first sets of a job's solution were told, a number of them
+-- the first `taken` sets of a job's solution were told
 pub record IsTold {T : Type 0} (has_told : Telling T) (job : Job) (first sink : SinkTold) (taken : ℕ) (telling : T) : Type 0 where
   pub told : (streams : List (StreamPrefix Plain)) → IsSolution job streams → has_told telling job.plan first sink (take taken (settled_outputs job.plan streams))
 
--- a first number of them was told, whatever has become of what tells them
+-- some first sets of a job's solution were told, whatever has become of what tells them
 pub record IsToldSome {T : Type 0} (has_told : Telling T) (job : Job) (first sink : SinkTold) : Type 0 where
   pub telling : T
   pub taken : ℕ
   pub is_told : IsTold has_told job first sink taken telling
 
--- there is a job for which a net stands and of whose sets those were told that were taken out of the net
+-- a net stands for some job, and those sets of the job's solution were told that were taken out of the net
 pub record IsSomeTold {T : Type 0} (has_told : Telling T) (sink : SinkTold) (net : NetView) (telling : T) : Type 0 where
   pub job : LoggedJob
   pub first : SinkTold
   pub stands : StandsFor job net
   pub is_told : IsTold has_told job.job first sink (taken_out net) telling
 
--- A run over batches, the last of which ended so: its net stands for the job of what they gave.
+-- A run over batches is under way: its net stands for the job of what they gave, and the last of them ended in this way.
 pub record IsUnderWay {B T : Type 0} (gives : Giving B) (has_told : Telling T) (start : Start B) (end : BatchEnd) (source : SourceTold) (sink : SinkTold) (batches : B) (telling : T) (net : NetView) : Type 0 where
   pub inputs : Inputs
   pub given : gives start.batches batches start.plan start.source source end inputs
   pub stands : StandsFor (job_with start inputs) net
   pub is_told : IsTold has_told (job_with start inputs).job start.sink sink (taken_out net) telling
 
--- some run of a plan is under way with these
+-- some run of a plan is under way with these batches and this net
 pub record IsSomeRun {B T : Type 0} (gives : Giving B) (has_told : Telling T) (plan : Plan) (end : BatchEnd) (source : SourceTold) (sink : SinkTold) (batches : B) (telling : T) (net : NetView) : Type 0 where
   pub start : Start B
   pub plan_is : start.plan ≡ plan
   pub under_way : IsUnderWay gives has_told start end source sink batches telling net
 
--- some run has this net and these batches, and its next batch is due
+-- in some run with this net and these batches the next batch is due
 pub record IsSomeMore {B : Type 0} (gives : Giving B) (is_due : Due B) (source : SourceTold) (batches : B) (net : NetView) : Type 0 where
   pub start : Start B
   pub inputs : Inputs
@@ -81,7 +82,7 @@ pub record IsSomeMore {B : Type 0} (gives : Giving B) (is_due : Due B) (source :
   pub due : is_due batches start.plan inputs
   pub stands : StandsFor (job_with start inputs) net
 
--- A net went on with a batch more.
+-- A net went on with one more batch.
 pub record WentOn {B : Type 0} (gives : Giving B) (start : Start B) (end : BatchEnd) (source : SourceTold) (batches : B) (inputs : Inputs) (net : NetView) : Type 0 where
   pub all : Inputs
   pub given : gives start.batches batches start.plan start.source source end all
@@ -92,29 +93,29 @@ pub record WentOn {B : Type 0} (gives : Giving B) (start : Start B) (end : Batch
 abbrev pub IsAllTaken : LoggedJob → NetView → Type 0
 IsAllTaken job net = (streams : List (StreamPrefix Plain)) → Solves job streams → taken_out net ≡ length (settled_outputs net.plan streams)
 
--- a net has rested for some job of a plan
+-- a net has come to rest for some job of a plan
 pub record SomeRested (plan : Plan) (net : NetView) : Type 0 where
   pub job : LoggedJob
   pub plan_is : job.job.plan ≡ plan
   pub stands : StandsFor job net
   pub has_rested : HasRested job net
 
--- a net has rested over what batches gave for a plan, with whose last the input ended so
+-- a net has come to rest over what batches gave for a plan, the last of which ended the input in this way
 pub record SomeRestedOf {B : Type 0} (gives : Giving B) (plan : Plan) (end : FeedEnd) (net : NetView) (batches : B) : Type 0 where
   pub given : SomeGiven gives (End end) net batches
   pub plan_is : given.plan ≡ plan
 
--- A run whose input has ended so, and whose net has come to rest with it: all sets were told.
+-- A run is over: its input has ended, its net has come to rest with that, and all sets were told.
 pub record IsOver {B T : Type 0} (gives : Giving B) (has_told : Telling T) (start : Start B) (end : FeedEnd) (source : SourceTold) (sink : SinkTold) (batches : B) (telling : T) (net : NetView) : Type 0 where
   pub under_way : IsUnderWay gives has_told start (End end) source sink batches telling net
   pub has_rested : HasRested (job_with start under_way.inputs) net
   pub all : IsAllTaken (job_with start under_way.inputs) net
 
--- a front of what a job's solution is told by was taken, in a form
+-- a front of the text by which a job's solution is told in a form was taken
 abbrev pub FrontIn : Form → SinkTold → SinkTold → Job → Type 0
 FrontIn form first sink job = (streams : List (StreamPrefix Plain)) → IsSolution job streams → TookFront (device first sink) (output_in form job.plan streams)
 
--- Memory ran out in a run: after the batch that ended so, or while more was read behind it.
+-- Memory ran out in a run: after a batch had come, or while more was read behind it.
 pub record IsShort {B T : Type 0} (gives : Giving B) (reads_on : Reading B) (has_told : Telling T) (form : Form) (start : Start B) (source : SourceTold) (sink : SinkTold) (net : NetView) : Type 0 where
   pub batches : B
   pub end : BatchEnd
@@ -124,5 +125,5 @@ pub record IsShort {B T : Type 0} (gives : Giving B) (reads_on : Reading B) (has
   pub last : (at ≡ source) ⊎ (IsMore end × reads_on batches start.plan start.source at source)
   pub stood : StoodFor (job_with start inputs) net
   pub front : IsToldSome has_told (job_with start inputs).job start.sink sink ⊎ FrontIn form start.sink sink (job_with start inputs).job
-  -- while there was more, sets were told and nothing else was written
+  -- while the input went on, sets were told and nothing else was written
   pub unended : IsMore end → IsToldSome has_told (job_with start inputs).job start.sink sink

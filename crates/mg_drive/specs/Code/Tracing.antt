@@ -25,26 +25,26 @@ use Rattle.mg_drive.specs.Code.Ending.{HadAllOf}
 abbrev pub plan_job : Plan → Inputs → Job
 plan_job plan inputs = record { plan = plan; inputs = inputs }
 
--- there are inputs and calculators for which a net was made
+-- a net was made for some inputs of a plan and some calculators
 pub record IsSomeMade (plan : Plan) (net : NetView) : Type 0 where
   pub inputs : Inputs
   pub boxes : List CalculatorTold
   pub made : IsMade plan inputs boxes net
 
--- The lines of the events of a run from one net to another were put behind a text, and an end behind them; or memory ran out, and of the
--- text and the events of a run from the first net on a front was taken.
+-- The lines of the events of a run from one net to another were put behind a text, and an end behind them.
 pub record HasRecorded (first sink : SinkTold) (blocks : BlockView) (text end : List ℕ) (before now : NetView) : Type 0 where
   pub events : List Event
   pub run : IsRun events before now
   pub put : HasPutIn first sink blocks (text ++ (events_text events ++ end))
 
+-- memory ran out in a run: the sink took a front of a text and of the lines of the events of a run from a net on.
 pub record HasRecordedSome (first sink : SinkTold) (text : List ℕ) (before : NetView) : Type 0 where
   pub there : NetView
   pub events : List Event
   pub run : IsRun events before there
   pub front : TookFront (device first sink) (text ++ events_text events)
 
--- A net that was made was run, and a trace of it was written; its nodes had their calls.
+-- A net that was made was run, and a trace of it was written; its nodes' calculators had their calls.
 pub record NetTraced (report : Bool) (plan : Plan) (inputs : Inputs) (boxes : List CalculatorTold) (end : FeedEnd) (status : Status) (output notes : Device SinkTold) (net : NetView) : Type 0 where
   pub text : List ℕ
   pub trace : IsTrace plan inputs boxes text
@@ -52,18 +52,19 @@ pub record NetTraced (report : Bool) (plan : Plan) (inputs : Inputs) (boxes : Li
   pub had : HadAllOf (job_of plan inputs boxes) net
   pub stood : StoodFor (job_of plan inputs boxes) net
 
--- Memory ran out meanwhile: since the output told `before` nothing was written, or some of a trace was.
+-- Memory ran out while a run was recorded: since the output told `before`, nothing was written, or some of a trace was.
 pub record NetShort (plan : Plan) (inputs : Inputs) (boxes : List CalculatorTold) (before : SinkTold) (output : Device SinkTold) (net : NetView) : Type 0 where
   pub took : (output.now ≡ before) ⊎ TookSomeTrace plan inputs boxes output
   pub stood : StoodFor (job_of plan inputs boxes) net
 
--- So it is of the run as a whole, by the calculators that were handed in.
+-- A job was run and a trace of it written, and the calculators that were handed in had their calls.
 pub record JobTraced (report : Bool) (plan : Plan) (inputs : Inputs) (end : FeedEnd) (status : Status) (output notes : Device SinkTold) (boxes : Device (List CalculatorTold)) : Type 0 where
   pub text : List ℕ
   pub trace : IsTrace plan inputs boxes.before text
   pub wrote : Wrote (by_text text report) (plan_job plan inputs) end status output notes
   pub had : HadCallsOf (plan_job plan inputs) boxes
 
+-- Memory ran out while a job was run and recorded: the output took nothing or some of a trace, and the calculators came back from the net.
 pub record JobShort (plan : Plan) (inputs : Inputs) (output : Device SinkTold) (boxes : Device (List CalculatorTold)) : Type 0 where
   pub took : Untouched output ⊎ TookSomeTrace plan inputs boxes.before output
   pub net : NetView

@@ -10,26 +10,27 @@ use Rattle.mg_feed.specs.declared.feed_stream.FeedStream.{FeedStream}
 use Rattle.mg_feed.specs.declared.due.Due.{Due}
 use Rattle.mg_feed.specs.declared.streams.TheConstants.{MOST_PACKETS}
 
--- so many packets a stream has room for, those that it has among them
+-- how many packets a stream has room for, with those that it has
 abbrev pub packets_room : FeedStream → ℕ
 packets_room s = min (vec_capacity s.packets) MOST_PACKETS
 
--- the stream at a place has room for so many packets
+-- the stream at this place, if there is one, has room for so many further packets
 abbrev pub RoomIn : ℕ → List FeedStream → ℕ → Type 0
 RoomIn n [] place = ⊤
 RoomIn n (s ∷ ss) zero = vec_len s.packets + n ≤ packets_room s
 RoomIn n (s ∷ ss) (suc place) = RoomIn n ss place
 
+-- the stream at this place, if there is a place, has room for so many further packets
 abbrev pub HasRoom : ℕ → List FeedStream → Option ℕ → Type 0
 HasRoom n ss None = ⊤
 HasRoom n ss (Some place) = RoomIn n ss place
 
--- the stream of each packet has room for so many
+-- the stream of each packet has room for so many further packets
 abbrev pub AllRoom : ℕ → List FeedStream → List Due → Type 0
 AllRoom n ss [] = ⊤
 AllRoom n ss (d ∷ ds) = HasRoom n ss d.place × AllRoom n ss ds
 
--- the streams with all of the packets
+-- the streams after each packet was put at the end of its stream
 abbrev pub laid : List Due → List (StreamPrefix Plain) → List (StreamPrefix Plain)
 laid [] ss = ss
 laid (d ∷ ds) ss = laid ds (stepped_at d.place (λ s. appended s d.packet) ss)

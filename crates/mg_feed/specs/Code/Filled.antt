@@ -9,7 +9,7 @@ use Rattle.mg_feed.specs.Fed.{Reading}
 use Rattle.mg_feed.specs.Ran.{EndCame, Unfailed, ReadFailed}
 use Rattle.mg_feed.specs.Once.{longest_block}
 
--- bytes came
+-- The read gave bytes, which stand behind those that were kept.
 pub record GotBytes (old new : Reading) (before now : SourceTold) : Type 0 where
   pub bytes : List ℕ
   pub some : 1 ≤ length bytes
@@ -21,7 +21,7 @@ pub record GotBytes (old new : Reading) (before now : SourceTold) : Type 0 where
   pub counted : CountsOne before.reads now.reads
   pub unfailed : Unfailed before now
 
--- the source has ended
+-- The source has ended, and the line feed that the last line may lack stands behind it.
 pub record GotEnd (old new : Reading) (before now : SourceTold) : Type 0 where
   pub kept : new.kept ≡ with_feed old.kept old.kept
   pub ended : new.ended ≡ true
@@ -30,7 +30,7 @@ pub record GotEnd (old new : Reading) (before now : SourceTold) : Type 0 where
   pub counted : CountsOne before.reads now.reads
   pub unfailed : Unfailed before now
 
--- the read failed
+-- The read failed, and what was read before is as it was.
 pub record GotFault (old new : Reading) (before now : SourceTold) : Type 0 where
   pub same : new ≡ old
   pub gave : Gave before.left now.left []
@@ -38,6 +38,7 @@ pub record GotFault (old new : Reading) (before now : SourceTold) : Type 0 where
   pub counted : CountsOne before.reads now.reads
   pub failed : ReadFailed before now
 
+-- what a read of a block leaves, by its answer
 abbrev pub Filled : Got → Reading → Reading → SourceTold → SourceTold → Type 0
 Filled (Bytes n) old new before now = GotBytes old new before now
 Filled End old new before now = GotEnd old new before now

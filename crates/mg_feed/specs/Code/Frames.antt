@@ -1,4 +1,4 @@
--- What the tokens of a usual packet line say.
+-- The tokens of a packet line of the usual form, and what they say.
 use Rattle.std.specs.Prelude.{◌≡◌, ℕ, List, [], ◌∷◌, Option, None, Some, codes, option_map}
 use Rattle.json.specs.Token.{Token, begin_object, end_object, begin_array, end_array, key, string, number, boolean, null, bad}
 use Rattle.serde_json.specs.Data as json
@@ -22,24 +22,24 @@ scalar_of (boolean b) = Some (json.boolean b)
 scalar_of null = Some json.null
 scalar_of bad = None
 
--- the value that comes first in the line's object, and the tokens behind it
+-- the value that these tokens begin with, as it lies in the line's object, and the tokens behind it
 abbrev pub value_at : List Token → Option (json.Data × List Token)
 value_at ts = converted of_json (value 126 ts)
 
--- the beginning of an object of a stream's name, a number as its timestamp and a value, in this order, and these tokens behind it
+-- the tokens of a packet line of the usual form up to its value: a stream's name and a timestamp, and these tokens behind them
 abbrev pub frame_tokens : List ℕ → List ℕ → List Token → List Token
 frame_tokens name time rest =
     begin_object ∷ key (codes "stream") ∷ string name ∷ key (codes "ts") ∷ number time ∷ key (codes "value") ∷ rest
 
--- whether these tokens are that whole, with this name, this timestamp and this value
+-- the tokens are a whole packet line of the usual form, with this name, this timestamp and this value
 abbrev pub IsFrame : List Token → List ℕ → json.Data → json.Data → Type 0
 IsFrame ts name time v =
     (s : List ℕ) × (rest : List Token) × (ts ≡ frame_tokens name s rest) × (numbered s ≡ Some time) × (value_at rest ≡ Some (v, end_object ∷ []))
 
--- whether of some tokens the first two are a key and a number of this value, and the others are these
+-- the tokens `old` are this key, a number of this value, and the tokens `new`
 abbrev pub NumberAt : List ℕ → List Token → json.Data → List Token → Type 0
 NumberAt name old value new = (s : List ℕ) × (old ≡ key name ∷ number s ∷ new) × (numbered s ≡ Some value)
 
--- whether the first is a key, a value comes behind it, and then these tokens
+-- the tokens `old` are this key, this value, and the tokens `new`
 abbrev pub ValueAt : List ℕ → List Token → json.Data → List Token → Type 0
 ValueAt name old v new = (rest : List Token) × (old ≡ key name ∷ rest) × (value_at rest ≡ Some (v, new))

@@ -20,7 +20,7 @@ LacksLine TooLong read = NoFeed read.kept × (longest_line < length read.kept)
 LacksLine Ended read = (read.ended ≡ true) × NoFeed read.kept
 LacksLine Failed read = (read.ended ≡ false) × NoFeed read.kept
 
--- The search stops, and what was read is as it was.
+-- The search for a line stops, and what was read is as it was.
 pub record SearchStops (next : NextLine) (before now : SourceTold) (old new : Reading) : Type 0 where
   pub same : new ≡ old
   pub gave : Gave before.left now.left []
@@ -28,7 +28,7 @@ pub record SearchStops (next : NextLine) (before now : SourceTold) (old new : Re
   pub reads : EndsReads next before now
   pub lacks : LacksLine next old
 
--- how much was read
+-- a measure of what was read: how many bytes are kept, and one more where the source has ended
 abbrev pub weight_of : Reading → ℕ
 weight_of read = length read.kept + late read.ended
 
@@ -37,13 +37,14 @@ abbrev pub StepsOn : Option NextLine → SourceTold → SourceTold → Reading �
 StepsOn None before now old new = MovesOn before now old new × (weight_of old < weight_of new)
 StepsOn (Some next) before now old new = SearchStops next before now old new
 
--- and all of them: what is left in the block has the line feed, or more was read and then the search stopped
+-- A search that stops: more was read first, and then the search stopped.
 pub record StopsLater (next : NextLine) (before now : SourceTold) (old new : Reading) : Type 0 where
   pub between : SourceTold
   pub read : Reading
   pub moves : MovesOn before between old read
   pub stops : SearchStops next between now read new
 
+-- what a search came to: the line feed is at this place of what is left in the block, or the search stopped
 abbrev pub Finds : Found → List ℕ → SourceTold → SourceTold → Reading → Reading → Type 0
 Finds (At end) left before now old new = MovesOn before now old new × EndsLine left end
 Finds (Stop next) left before now old new = StopsLater next before now old new
@@ -55,7 +56,7 @@ Takes TooLong line old new = (new ≡ old) × ((long : List ℕ) × (rest : List
 Takes Ended line old new = ⊥
 Takes Failed line old new = ⊥
 
--- how many lines are handed out then
+-- how many lines are handed out after this answer: the number of the line, or as many as before
 abbrev pub counted_by : NextLine → ℕ → ℕ → ℕ
 counted_by Line count number = number
 counted_by TooLong count number = count

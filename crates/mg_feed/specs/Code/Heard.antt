@@ -1,17 +1,18 @@
--- What a function does with what a line says.
+-- What a function that takes a line leaves.
 use Rattle.std.specs.Prelude.{◌≡◌, ◌≢◌, Option, None, Some, Result, Ok, Err}
 use Rattle.mg_feed.specs.Accepted.{State}
 use Rattle.mg_feed.specs.View.{View, with_given, with_next}
 use Rattle.mg_feed.specs.declared.line_fault.LineFault.{LineFault}
 use Rattle.mg_feed.specs.declared.line_fault.LineFault.TheVariants.{OutOfMemory}
 
--- Where it is good the view has what is given then. Where it isn't, the answer is the reason, or want of memory, and the
--- view is as it was.
+-- Where what a line says is good, the view has what is given then. Where it isn't, the answer is the reason, or want of memory,
+-- and the view is as it was.
 abbrev pub Heard : {X : Type 0} → View → View → Result X LineFault → Option LineFault → State → Type 0
 Heard old new (Ok x) refusal given = (refusal ≡ None) × (new ≡ with_given old given)
 Heard old new (Err fault) refusal given = (fault ≢ OutOfMemory → refusal ≡ Some fault) × (new ≡ old)
 
--- The same of a whole line, which is counted.
+-- Where a whole line is good, the view has what is given then and counts the line. Where it isn't, the answer is the reason, or want of
+-- memory, and the view is as it was.
 abbrev pub Took : {X : Type 0} → View → View → Result X LineFault → Option LineFault → State → Type 0
 Took old new (Ok x) refusal given = (refusal ≡ None) × (new ≡ with_next old given)
 Took old new (Err fault) refusal given = (fault ≢ OutOfMemory → refusal ≡ Some fault) × (new ≡ old)

@@ -9,6 +9,6 @@ pub record EndsLine (bytes : List ℕ) (i : ℕ) : Type 0 where
   pub none : NoFeed (take i bytes)
   pub cut : bytes ≡ take i bytes ++ 10 ∷ drop (i + 1) bytes
 
--- whether there is one
+-- whether the bytes have a line feed
 abbrev pub has_feed : List ℕ → Bool
 has_feed bytes = list_any (λ b. b == 10) bytes

@@ -7,8 +7,10 @@ use Rattle.mg_value.specs.Json.{json_of}
 use Rattle.mg_value.specs.Prefix.{Stamped}
 use Rattle.mg_feed.specs.Output.{time_data}
 
+-- what all lines of a stream begin with, up to the timestamp
 unfoldable pub line_head : List ℕ → List ℕ
 line_head name = codes "{\"stream\":" ++ (compact_text (string name) ++ codes ",\"ts\":")
 
+-- the rest of a packet's line, from the timestamp on
 unfoldable pub line_tail : Stamped Plain → List ℕ
 line_tail p = compact_text (time_data p.at) ++ (codes ",\"value\":" ++ (compact_text (json_of p.value) ++ codes "}\n"))

@@ -6,7 +6,7 @@ use Rattle.mg_feed.specs.View.{View}
 use Rattle.mg_feed.specs.Stands.{behind_all}
 use Rattle.mg_feed.specs.Generated.{generated_streams}
 
--- with the packets that were handed on the streams are those of so many packets
+-- The packets that were handed on, and behind them those in the streams, are the first `number` packets that are made.
 pub record AreMade (gone : List (List (Stamped Plain))) (number : ℕ) (v : View) : Type 0 where
   pub count : length v.given.streams ≡ length v.graph.kinds
   pub streams : behind_all gone v.given.streams ≡ generated_streams v.graph.kinds number

@@ -21,7 +21,7 @@ use Rattle.mg_feed.specs.declared.feed_end.Step.TheVariants.{Line, Read, Stop}
 
 -- Lines --
 
--- The next of the bytes that are kept is a line.
+-- The kept bytes begin with a good line, which was taken.
 pub record TookLine (named : Bool) (old new : Fed) : Type 0 where
   pub line : List ℕ
   pub cut : old.read.kept ≡ line ++ 10 ∷ new.read.kept
@@ -31,7 +31,7 @@ pub record TookLine (named : Bool) (old new : Fed) : Type 0 where
   pub good : line_refusal (before_seen old.view) line ≡ None
   pub view : new.view ≡ with_next old.view (with_line old.view.graph old.view.given line)
 
--- The next line isn't good.
+-- The kept bytes begin with a line that isn't good, for this reason.
 pub record NextLine (fault : LineFault) (old : Fed) : Type 0 where
   pub line : List ℕ
   pub rest : List ℕ
@@ -61,10 +61,11 @@ pub record Moved (before now : SourceTold) (old new : Fed) (came : List ℕ) (ta
   pub spent : Spends (late old.read.ended) (late new.read.ended) before.left now.left before.reads now.reads
   pub unfailed : Unfailed before now
 
--- a number that rises with each step
+-- a measure that rises with each step
 abbrev pub weight : Fed → ℕ
 weight f = f.view.lines * (longest_line + 2) + length f.read.kept + late f.read.ended
 
+-- the greatest weight that a feed can have
 abbrev pub heaviest : ℕ
 heaviest = most_lines * (longest_line + 2) + longest_line + longest_block + 1
 
@@ -73,7 +74,7 @@ abbrev pub Ends : FeedEnd → Fed → Type 0
 Ends end f = (first : List (List ℕ)) (past : List ℕ) (lines : List (List ℕ)) (gone : List (List (Stamped Plain)))
     → Came first past lines gone f → EndsAs end f.view.graph first past lines f.read.ended
 
--- the reading stops
+-- The reading stops with this end, and the feed is as it was.
 pub record Stopped (end : FeedEnd) (before now : SourceTold) (old new : Fed) : Type 0 where
   pub gave : Gave before.left now.left []
   pub same : new ≡ old
@@ -87,12 +88,13 @@ pub record Stopped (end : FeedEnd) (before now : SourceTold) (old new : Fed) : T
 abbrev pub StopsBy : LineFault → ℕ → FeedEnd → Type 0
 StopsBy fault lines end = ((fault ≡ no_memory) × (end ≡ OutOfMemory)) ⊎ ((fault ≢ no_memory) × (end ≡ Refused (lines + 1) fault))
 
--- what a step over a line came to, and any step
+-- what a step that takes a line came to
 abbrev pub SteppedLine : Step → Fed → Fed → Type 0
 SteppedLine (Line named) old new = TookLine named old new
 SteppedLine Read old new = ⊥
 SteppedLine (Stop end) old new = (source : SourceTold) → Stopped end source source old new
 
+-- what any step of the reading came to
 abbrev pub Stepped : Step → SourceTold → SourceTold → Fed → Fed → Type 0
 Stepped (Line named) before now old new = (now ≡ before) × TookLine named old new
 Stepped Read before now old new = (came : List ℕ) × Moved before now old new came [] × (weight old < weight new)

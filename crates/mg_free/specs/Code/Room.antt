@@ -5,12 +5,12 @@ use Rattle.mg_free.specs.declared.law.FreeLaw.{FreeLaw}
 use Rattle.mg_free.specs.declared.law.FreeLaw.TheVariants.{FirstCome, Limiter}
 use Rattle.mg_free.specs.Free.{Arrival, Flow, ports_of, can_follow}
 
--- one more may be in flight of Limiter
+-- one more packet may be in flight, as Limiter allows
 abbrev pub HasRoom : FreeLaw → ℕ → Type 0
 HasRoom (FirstCome lanes) count = Unit {0}
 HasRoom (Limiter most) count = count < most
 
--- whether the output doesn't stand in the way of an arrival
+-- whether an arrival can still be laid on the output, where it is at the first port of Limiter
 abbrev pub comes_in_time : {X : Type 0} → FreeLaw → Flow X → Arrival X → Bool
 comes_in_time (FirstCome lanes) flow arrival = true
 comes_in_time (Limiter most) flow arrival = not (arrival.port == 0) || can_follow flow.output arrival.packet.at

@@ -5,6 +5,7 @@ use Rattle.mg_levels.specs.declared.share.Share.{Share}
 use Rattle.mg_levels.specs.Hands.{HandView}
 use Rattle.mg_levels.specs.Places.{node_of}
 
+-- what is left at a level by a hand, `room` places at most, stands in the list as nodes, behind what was there
 pub record Drained (room : ℕ) (order : List ℕ) (h : HandView) (old new : List ℕ) : Type 0 where
   pub places : List ℕ
   pub few : length places ≤ room

@@ -6,14 +6,14 @@ use Rattle.mg_levels.specs.Hands.{hand_view, hand_id, queue_id, fresh}
 use Rattle.mg_levels.specs.Places.{room_for}
 use Rattle.mg_levels.specs.declared.making.Made.{Made}
 
--- a level with so many nodes goes behind the others
+-- a level for so many nodes was made behind the others
 pub record MakesLevel (nodes : ℕ) (old new : Made) : Type 0 where
   pub rooms : map ruled_capacity new.queues.items ≡ map ruled_capacity old.queues.items ++ (4 * nodes) ∷ []
   pub hands : map hand_view new.hands.items ≡ map hand_view old.hands.items ++ fresh whole ∷ []
   pub ids : map hand_id old.hands.items ≡ map queue_id old.queues.items → map hand_id new.hands.items ≡ map queue_id new.queues.items
   pub room : new.room ≡ old.room + 4 * nodes
 
--- the first levels of an order of so many nodes, a number of them
+-- the first `count` levels of an order of so many nodes are made
 pub record AreMade (nodes count : ℕ) (m : Made) : Type 0 where
   pub count_is : length m.queues.items ≡ count
   pub rooms : (level : ℕ) → level < count → get_or (map ruled_capacity m.queues.items) level 0 ≡ room_for nodes level

@@ -17,15 +17,16 @@ abbrev pub needed : ℕ → List EntryView → ℕ
 needed output [] = 0
 needed output (entry ∷ entries) = with_ready (ready_of entry) 0 (λ p. packets_by output p.answer + needed output entries)
 
--- the outputs have room for them
+-- each output has room for the packets of the entries that are ready at the front of a window
 abbrev pub HasRoom : List (Waiting Plain) → List EntryView → Type 0
 HasRoom queues entries = (output : ℕ) → output < length queues → needed output entries ≤ room_at output queues
 
--- how many sets or calls a window has
+-- how many sets or calls the entries of a window have
 abbrev pub counted_in : List EntryView → ℕ
 counted_in [] = 0
 counted_in (entry ∷ entries) = counted entry.phase + counted_in entries
 
+-- what laying an entry of a phase comes to
 abbrev pub end_of : ℕ → Phase → Option Cause → FrontEnd
 end_of node phase cause = record { laid = counted phase; closed = is_close phase; fault = option_map (λ c. record { node = node; phase = phase; cause = c }) cause }
 
@@ -44,7 +45,7 @@ pub record IsFirstLaid (offset : Option ℤ) (node : ℕ) (before now : List (Wa
 abbrev pub start_of : List (StreamPrefix Plain) → ℕ → List EntryView → List BenchView → Front
 start_of whole laid window idle = record { outputs = whole; laid = laid; window = window; idle = idle; closed = false; fault = None }
 
--- what a front has come to
+-- the outputs, the counts, the window and the benches after laying are those of a front
 pub record HasCome (front : Front) (node laid : ℕ) (now : List (Waiting Plain)) (window_now : List EntryView) (idle_now : List BenchView) (end : FrontEnd) : Type 0 where
   pub outputs : Stand now front.outputs
   pub laid_is : laid + end.laid ≡ front.laid
@@ -58,12 +59,12 @@ pub record IsFrontLaid (offset : Option ℤ) (node : ℕ) (before now : List (Wa
   pub gone : map (λ q. q.gone) now ≡ map (λ q. q.gone) before
   pub front : (whole : List (StreamPrefix Plain)) (laid : ℕ) → Stand before whole → HasCome (front_laid offset window (start_of whole laid window idle)) node laid now window_now idle_now end
 
--- an engine lays what is ready at the front of its window: so many sets or calls
+-- an engine lays what is ready at the front of its window, `laid` sets or calls in all
 pub record LaysFront (laid : ℕ) (before now : EngineView) : Type 0 where
   pub counted : now.laid ≡ before.laid + laid
   pub front : (whole : List (StreamPrefix Plain)) → StandForAll before.outputs whole → HasFront before now (front_laid before.offset before.window (front_of before before.window whole))
 
--- an engine's outputs stand for some prefixes in whole, and a fault that it has is its node's
+-- an engine's outputs stand for some prefixes in whole, and where it has a fault, that is its own node's
 pub record HasWhole (engine : EngineView) : Type 0 where
   pub whole : List (StreamPrefix Plain)
   pub stand : StandForAll engine.outputs whole

@@ -12,10 +12,11 @@ use Rattle.mg_calc.specs.declared.node_fault.Phase.TheVariants.{Process, Close}
 use Rattle.mg_route.specs.Reasons.{reason_of}
 use Rattle.mg_node.specs.Commits.{laid_by, outputs_by}
 
--- queues stand for these prefixes, in whole; and for some
+-- queues stand for these prefixes, in whole
 abbrev pub Stand : List (Waiting Plain) → List (StreamPrefix Plain) → Type 0
 Stand queues whole = AllZip StandsFor queues whole
 
+-- queues stand for some prefixes, in whole
 pub record StandForSome (queues : List (Waiting Plain)) : Type 0 where
   pub whole : List (StreamPrefix Plain)
   pub stand : Stand queues whole
@@ -24,12 +25,12 @@ pub record StandForSome (queues : List (Waiting Plain)) : Type 0 where
 abbrev pub appended : Waiting Plain → Stamped Plain → Waiting Plain
 appended q p = record { gone = q.gone; packets = q.packets ++ p ∷ []; bound = next p.at; spare = q.spare - 1 }
 
--- and with further ones, one behind the other
+-- a queue with packets behind those that wait, one after the other
 abbrev pub all_appended : Waiting Plain → List (Stamped Plain) → Waiting Plain
 all_appended q [] = q
 all_appended q (p ∷ ps) = all_appended (appended q p) ps
 
--- they may come, and there is room for them
+-- packets may come to a queue one after the other, and there is room for them
 abbrev pub MayAllCome : Waiting Plain → List (Stamped Plain) → Type 0
 MayAllCome q [] = ⊤
 MayAllCome q (p ∷ ps) = MayCome q p.at × (0 < q.spare) × MayAllCome (appended q p) ps
@@ -49,15 +50,16 @@ MayBeLaid queues [] = ⊤
 MayBeLaid [] (laid ∷ emission) = ⊤
 MayBeLaid (q ∷ queues) (laid ∷ emission) = MayAllCome q laid.packets × MayBeLaid queues emission
 
--- the bounds of an emission are times
+-- the bound of what is emitted at an output, if it has one, is a time
 abbrev pub HasTime : Laid → Type 0
 HasTime laid = IfSome laid.bound (λ b. b ≤ done)
 
--- the queues as they are before an answer of a phase is laid
+-- the queues of a node raised to a time moved by its offset, if it has one
 abbrev pub raised_queues : Option ℤ → ℕ → List (Waiting Plain) → List (Waiting Plain)
 raised_queues None at queues = queues
 raised_queues (Some offset) at queues = map (λ q. raised_to q (shift at offset)) queues
 
+-- the queues as they are before an answer of a phase is laid
 abbrev pub queues_before : Option ℤ → Phase → List (Waiting Plain) → List (Waiting Plain)
 queues_before offset (Process at) queues = raised_queues offset at queues
 queues_before offset Close queues = raised_queues offset done queues
@@ -77,10 +79,11 @@ abbrev pub IsTimed : Phase → Type 0
 IsTimed (Process at) = at ≤ done
 IsTimed phase = ⊤
 
--- how many packets an emission, or an answer, has at an output
+-- how many packets an emission has at an output
 abbrev pub packets_in : ℕ → List Laid → ℕ
 packets_in output emission = length (slice_index_or emission output (record { packets = []; bound = None })).packets
 
+-- how many packets an answer has at an output
 abbrev pub packets_by : ℕ → Result (List Laid) Cause → ℕ
 packets_by output (Ok emission) = packets_in output emission
 packets_by output (Err cause) = 0
@@ -93,8 +96,8 @@ room_at output queues = (slice_index_or queues output empty_queue).spare
 abbrev pub HasRoomFor : List (Waiting Plain) → Result (List Laid) Cause → Type 0
 HasRoomFor queues answer = (output : ℕ) → output < length queues → packets_by output answer ≤ room_at output queues
 
--- an answer is laid, after whatever was done to the prefixes before, or there is a cause why it can't be: of all prefixes that the
--- queues stood for it is the same. No packet was given up, and no more room is taken than the answer has packets.
+-- an answer is laid behind queues, once `first` has changed their prefixes, or `cause` is why it can't be; the same for all whole prefixes
+-- that the queues stood for. No packet was given up, and no more room is taken than the answer has packets.
 pub record IsLaid (offset : Option ℤ) (phase : Phase) (first : List (StreamPrefix Plain) → List (StreamPrefix Plain)) (answer : Result (List Laid) Cause) (before now : List (Waiting Plain)) (cause : Option Cause) : Type 0 where
   pub laid : (whole : List (StreamPrefix Plain)) → Stand before whole → (cause ≡ reason_of (laid_by offset phase (first whole) answer)) × Stand now (outputs_by (first whole) (laid_by offset phase (first whole) answer))
   pub gone : map (λ q. q.gone) now ≡ map (λ q. q.gone) before

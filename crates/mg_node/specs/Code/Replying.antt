@@ -13,11 +13,11 @@ use Rattle.mg_node.specs.declared.waits.Waits.TheVariants.{Loop}
 use Rattle.mg_node.specs.Views.{IntakeView}
 use Rattle.mg_node.specs.Claims.{behind}
 
--- the packet of the next answer may come at the output
+-- the packet of a loopback's next answer, if there is one, may come at the output
 abbrev pub MayLay : Waiting Plain → Waits → Type 0
 MayLay output waits = (held : Held Plain) (r : Reply Plain) (p : Stamped Plain) → waits ≡ Loop held → next_reply held ≡ Some r → packet_of r ≡ Some p → MayCome output p.at
 
--- it is laid, and gone from the intake
+-- the next answer is laid at the output, and gone from the intake
 pub record LaysReply (output output_now : Waiting Plain) (intake intake_now : IntakeView) : Type 0 where
   pub held : Held Plain
   pub waits : intake.waits ≡ Loop held
@@ -26,7 +26,7 @@ pub record LaysReply (output output_now : Waiting Plain) (intake intake_now : In
   pub laid : backlog_of output_now ≡ behind (packet_of reply) (backlog_of output)
   pub intake_is : intake_now ≡ record { claimed = intake.claimed + 1; waits = Loop (replied held) }
 
--- it can't be told, and nothing has changed
+-- the next answer can't be told, and nothing has changed
 pub record TellsNone (output output_now : Waiting Plain) (intake intake_now : IntakeView) : Type 0 where
   pub held : Held Plain
   pub waits : intake.waits ≡ Loop held
@@ -34,6 +34,7 @@ pub record TellsNone (output output_now : Waiting Plain) (intake intake_now : In
   pub same : backlog_of output_now ≡ backlog_of output
   pub intake_is : intake_now ≡ intake
 
+-- what became of the next answer, and what that leaves; at want of memory nothing has changed
 abbrev pub Replies : Replied → Waiting Plain → Waiting Plain → IntakeView → IntakeView → Type 0
 Replies Laid output output_now intake intake_now = LaysReply output output_now intake intake_now
 Replies NotYet output output_now intake intake_now = TellsNone output output_now intake intake_now

@@ -1,4 +1,4 @@
--- A set that is shown to a calculator where that lies, and what is laid of its answer.
+-- A set that is shown to a calculator in its bench, while the bench stays idle, and what is laid of the answer.
 use Rattle.std.specs.Prelude.{◌≡◌, ℕ, ◌+◌, List, [], ◌∷◌, ◌++◌, map, Option, option_map, IfSome, IfNone, Result}
 use Rattle.mg_value.specs.Payload.{Plain}
 use Rattle.mg_value.specs.Prefix.{StreamPrefix}
@@ -15,11 +15,12 @@ use Rattle.mg_node.specs.Running.{IsPerformed}
 abbrev pub work_at : ℕ → ℕ → ℕ → BenchView → WorkView
 work_at node number at bench = record { node = node; number = number; phase = Process at; bench = bench }
 
--- a bench's calculator was shown the set that lies there: a work on it is performed by that, whatever its node and its number are
+-- a bench's calculator was shown the bench's set at a time: a work of that set on the bench is thereby performed, whatever its node and
+-- number
 abbrev pub HasShown : ℕ → Result (List Laid) Cause → BenchView → BenchView → Type 0
 HasShown at answer before now = (node number : ℕ) → IsPerformed (work_at node number at before) (record { work = work_at node number at now; answer = answer })
 
--- the last idle bench takes the next set, and its calculator is shown that; at want of memory no more than the set has changed there
+-- the last idle bench takes the next set, and its calculator is shown that; where memory is short, only the bench's set has changed there
 pub record Shows (answer : Option (Result (List Laid) Cause)) (at : ℕ) (engine engine_now : EngineView) (intake intake_now : IntakeView) : Type 0 where
   pub rest : List BenchView
   pub bench : BenchView
@@ -32,7 +33,7 @@ pub record Shows (answer : Option (Result (List Laid) Cause)) (at : ℕ) (engine
   pub shown : IfSome answer (λ a. HasShown at a filled bench_now)
   pub unchanged : IfNone answer (bench_now ≡ filled)
 
--- an answer to the set of a time is laid, whatever whole prefixes the outputs stood for
+-- an answer to the set at a time is laid, whatever whole prefixes the outputs stood for
 pub record LaysAnswer (at : ℕ) (answer : Result (List Laid) Cause) (before now : EngineView) : Type 0 where
   pub now_is : now ≡ record before { outputs = now.outputs; laid = before.laid + 1; claimed = before.claimed + 1; fault = now.fault }
   pub given_up : map (λ b. b.gone) now.outputs ≡ map (λ b. b.gone) before.outputs

@@ -1,4 +1,4 @@
-//! How outputs are raised by what waits.
+//! Raising outputs by what waits.
 ghost use Rattle.std.specs.Prelude.{◌≡◌, ℕ};
 ghost use Rattle.mg_node.specs.Job.{LoggedJob};
 ghost use Rattle.mg_node.specs.Lawful.{LawfulEngine, LawfulIntake, of_node, Agree, AreCell};
@@ -13,11 +13,11 @@ use mg_calc::Calculator;
 use mg_time::Timestamp;
 
 impl<C: Calculator> Engine<C> {
-    /// Raises the bounds of the outputs as far as what waits at the node tells, and answers whether that moved one of them. Each is
-    /// raised to the least of these times, moved by the node's offset: how far the node's input sets reach, that of the first packet
-    /// that waits (under the policy Mux, on SELECT), and that of the first set that is claimed and not laid. Those of a loopback are
-    /// raised as far as its stream is told. An engine that has failed or closed raises nothing, and neither does one whose node has no
-    /// offset and isn't a loopback. (MediaPipe, Synchronization: timestamp bounds.)
+    /// Raises the bounds of the outputs as far as what waits at the node tells, and returns whether that moved one of them. Each is raised
+    /// to the least of these times, moved by the node's offset: how far the node's input sets reach, the time of the first packet that
+    /// waits (under Mux, on SELECT), and the time of the first set that is claimed and not laid. The output of a loopback is raised as far
+    /// as its stream is told. An engine that has failed or closed raises nothing, and neither does one whose node has no offset and isn't a
+    /// loopback. (MediaPipe, Synchronization: timestamp bounds.)
     pub fn advance(&mut self, intake: &Intake) -> bool
         requires cell { AreCell self.old intake.now }
         ensures advanced { self.new ≡ advanced self.old intake.now.waits }
@@ -27,7 +27,7 @@ impl<C: Calculator> Engine<C> {
         ensures out { KeepsOut self.old self.new }
         ensures set_up { KeepsSetUp self.old self.new }
 
-        // Its standing only grows.
+        // The engine's standing only grows.
         ensures grows { EngineGrows self.old self.new }
 
         // Lawful in, lawful out, for every job.
@@ -37,7 +37,7 @@ impl<C: Calculator> Engine<C> {
         self.raise_outputs(intake)
     }
 
-    // Raises the outputs as far as what waits tells, and answers whether that moves one of them.
+    // Raises the outputs as far as what waits tells, and returns whether that moved one of them.
     fn raise_outputs(&mut self, intake: &Intake) -> bool
         ensures advanced { self.new ≡ advanced self.old intake.now.waits }
         ensures moved { result ≡ is_advanced self.old intake.now.waits }
@@ -52,7 +52,7 @@ impl<C: Calculator> Engine<C> {
         }
     }
 
-    // The bound to which the outputs are raised, where they are.
+    // The bound to which the outputs are raised, if they are.
     fn advance_bound(&self, intake: &Intake) -> Option<Timestamp>
         ensures { result ≡ advance_bound self.now intake.now.waits }
     {

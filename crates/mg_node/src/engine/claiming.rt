@@ -1,4 +1,4 @@
-//! How works are claimed.
+//! Claiming works.
 ghost use Rattle.std.specs.Prelude.{◌≡◌, ◌<◌, ◌+◌, ℕ, ◌^◌, length, Some};
 ghost use Rattle.mg_node.specs.Views.{IntakeView};
 ghost use Rattle.mg_node.specs.Job.{LoggedJob};
@@ -19,10 +19,10 @@ use mg_calc::{Calculator, Phase};
 use mg_policy::Readiness;
 
 impl<C: Calculator> Engine<C> {
-    /// Claims the next work. The first of these that holds is answered: `Ended`, where the node has failed or closed; `Work` with
-    /// the first work that came back unrun; `InFlightFull`, where as many works are claimed as may be; `Draining`, where no set
-    /// comes any more and works are still to be laid; `NotReady`, where neither a set nor the end can be told; `Answered`, where
-    /// the loopback has answered; `Work` with the next set, call or Close. Only a loopback's answer takes memory.
+    /// Claims the next work. The first of these that holds is returned: `Ended`, where the node has failed or closed; `Work` with the first
+    /// work that came back unrun; `InFlightFull`, where as many works are claimed as may be; `Draining`, where no set comes any more and
+    /// works are still to be laid; `NotReady`, where neither a set nor the end can be told; `Answered`, where the loopback has answered;
+    /// `Work` with the next set, call or Close. Only a loopback's answer takes memory; `OutOfMemory` where there is none.
     pub fn claim(&mut self, intake: &mut Intake) -> Claimed<C>
         requires cell { AreCell self.old intake.old }
         ensures claims { Claims result self.old self.new intake.old intake.new }
@@ -46,7 +46,7 @@ impl<C: Calculator> Engine<C> {
         self.claim_next(intake)
     }
 
-    // Claims the next work, and tells what that leaves.
+    // Claims the next work, as `claim` does.
     fn claim_next(&mut self, intake: &mut Intake) -> Claimed<C>
         requires cell { AreCell self.old intake.old }
         ensures { Claims result self.old self.new intake.old intake.new }

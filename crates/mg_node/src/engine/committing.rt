@@ -1,4 +1,4 @@
-//! How works are committed: what was performed is laid in the order of the sets, whatever the order in which it comes back.
+//! Committing works: what was performed is laid in the order of the sets, whatever the order in which it comes back.
 ghost use Rattle.std.specs.Prelude.{◌≡◌, ℕ, ◌<◌, ◌≤◌, ◌+◌, ◌-◌, ◌^◌, IfOk, IfErr, OnOk, OnErr, IsSomeAnd, is_some, true, false, None, Some, option_and_then, slice_get, slice_set};
 ghost use Rattle.mg_node.specs.Job.{LoggedJob};
 ghost use Rattle.mg_node.specs.Lawful.{of_node, LawfulEngine, LawfulOutcome};
@@ -16,10 +16,10 @@ use mg_calc::{Calculator, Phase};
 use std::alloc::AllocError;
 
 impl<C: Calculator> Engine<C> {
-    /// Takes back a work that is out. If it was performed it is committed, and what is committed at the front of the window is laid
-    /// at the outputs: entry by entry, up to the first that isn't committed or at which the node fails or closes. It answers how many
-    /// sets or calls were laid; Close isn't counted. A work that wasn't run stands in its window and is claimed again. Want of memory
-    /// hands the work back, and nothing has changed.
+    /// Takes back a work that is out. If it was performed it is committed, and what is committed at the front of the window is laid at the
+    /// outputs: entry by entry, up to the first that isn't committed or at which the node fails or closes. Returns how many sets or calls
+    /// were laid; Close isn't counted. A work that wasn't run stands in its window and is claimed again. Want of memory hands the work
+    /// back, and nothing has changed.
     pub fn commit(&mut self, outcome: Outcome<C>) -> Result<u32, Outcome<C>>
         requires out { IsOut self.old outcome.work }
         requires lawful { SomeJobHasEngine self.old }
@@ -33,7 +33,7 @@ impl<C: Calculator> Engine<C> {
         // The engine stays as it was set up.
         ensures set_up { KeepsSetUp self.old self.new }
 
-        // Its standing only grows.
+        // The engine's standing only grows.
         ensures grows { EngineGrows self.old self.new }
 
         // Lawful in, lawful out, for every job.
@@ -43,7 +43,7 @@ impl<C: Calculator> Engine<C> {
         self.commit_outcome(outcome)
     }
 
-    // Commits a work, and tells what that leaves.
+    // Commits a work, as `commit` does.
     fn commit_outcome(&mut self, outcome: Outcome<C>) -> Result<u32, Outcome<C>>
         requires out { IsOut self.old outcome.work }
         requires lawful { SomeJobHasEngine self.old }
@@ -60,7 +60,7 @@ impl<C: Calculator> Engine<C> {
         }
     }
 
-    // Puts a work that is out into its place, and commits what was performed.
+    // Puts a work that is out into its place, committed if it was performed.
     fn put_committed(&mut self, outcome: Outcome<C>)
         requires { IsOut self.old outcome.work }
         ensures put { self.new ≡ record self.old { window = window_with self.old outcome } }
@@ -70,7 +70,7 @@ impl<C: Calculator> Engine<C> {
         put_committed(&mut self.window, place, outcome);
     }
 
-    // Takes a work out of its place again.
+    // Takes the outcome of a work out of its place again.
     fn take_back(&mut self, number: u64, phase: Phase) -> Outcome<C>
         requires laid { self.old.laid ≤ number }
         requires there { IsSomeAnd (slice_get self.old.window (number - self.old.laid)) (λ e. is_some e.outcome ≡ true) }

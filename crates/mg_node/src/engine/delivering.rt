@@ -1,4 +1,4 @@
-//! What an engine gives of what was laid.
+//! Delivering what was laid, and giving it up.
 ghost use Rattle.std.specs.Prelude.{◌≡◌, ◌<◌, ◌≤◌, length, slice_get, slice_set, Some, false, slice_index_or};
 ghost use Rattle.mg_stream.specs.Pool.{empty_backlog};
 ghost use Rattle.mg_node.specs.Job.{LoggedJob, ports_of};
@@ -17,8 +17,8 @@ use crate::{Delivered, Intake};
 use mg_calc::{Calculator, Edge};
 
 impl<C: Calculator> Engine<C> {
-    /// Brings at most so many packets along an edge to the port that hasn't got them, and the bound once all are there. Nothing
-    /// of the engine changes.
+    /// Brings at most `most` packets along an edge to the port that hasn't got them, and the bound once all are there. Nothing of the
+    /// engine changes.
     pub fn deliver(&self, edge: Edge, intake: &mut Intake, most: u32) -> Delivered
         requires { Leads self.now edge intake.old }
         ensures moved { Delivers result (output_at self.now edge) edge.port most intake.old.waits intake.new.waits }
@@ -38,13 +38,13 @@ impl<C: Calculator> Engine<C> {
         deliver(output, intake, edge.port, most)
     }
 
-    /// Gives up packets of an output that all its edges have got: the first ones, until so many in all are given up.
+    /// Gives up packets of an output that all its edges have got: the first ones, until `got` packets are given up in all.
     pub fn give_up(&mut self, output: u32, got: u64)
         requires output { output < length self.old.outputs }
         requires laid { got ≤ count_at self.old output }
         ensures given_up { self.new ≡ record self.old { outputs = slice_set self.old.outputs output (without_first got (slice_index_or self.old.outputs output empty_backlog)) } }
 
-        // Its standing only grows.
+        // The engine's standing only grows.
         ensures grows { EngineGrows self.old self.new }
 
         // Lawful in, lawful out, for every job.

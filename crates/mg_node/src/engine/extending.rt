@@ -1,4 +1,4 @@
-//! How the engine of a graph input goes on with packets that came later.
+//! Extending the engine of a graph input by packets that came later.
 ghost use Rattle.std.specs.Prelude.{◌≡◌, ◌<◌, ℕ, List, OnOk, OnErr, length, slice_index_or};
 ghost use Rattle.mg_value.specs.Payload.{Plain};
 ghost use Rattle.mg_value.specs.Prefix.{StreamPrefix, empty_prefix};
@@ -22,7 +22,8 @@ impl<C: Calculator> Engine<C> {
         ensures engine { OnOk result (self.new ≡ extended self.old more.now) }
         ensures unchanged { OnErr result (self.new ≡ self.old) }
 
-        // It is lawful for every job whose stream of this input is that of a job for which this one is, with the further packets behind.
+        // The engine is then lawful for every job whose stream of this input is that of a job for which it was lawful, with the further
+        // packets behind.
         ensures lawful { (job later : LoggedJob) (input : ℕ) (streams longer : List (StreamPrefix Plain)) → LawfulEngine job (of_input input) self.old → Solves job streams
             → Solves later longer → input < length later.job.plan.inputs
             → slice_index_or longer input empty_prefix ≡ joined (slice_index_or streams input empty_prefix) more.now
@@ -32,7 +33,8 @@ impl<C: Calculator> Engine<C> {
         Ok(())
     }
 
-    /// Takes back the packets with which it was extended last, and gives its output the bound that it had before: it is as it was.
+    /// Undoes the last `extend`, which was by `more`: takes back its packets, and gives the output `bound`, the bound that it had before.
+    /// The engine is then as it was.
     pub fn shorten(&mut self, more: &Prefix, bound: Timestamp)
         requires { SomeExtended more.now bound self.old }
         ensures { (before : EngineView) → WasExtended more.now bound before self.old → self.new ≡ before }

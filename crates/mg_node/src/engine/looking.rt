@@ -1,4 +1,4 @@
-//! A look at what an engine has laid.
+//! Looking at what an engine keeps of what it has laid.
 ghost use Rattle.std.specs.Prelude.{◌≡◌, ◌-◌, ◌<◌, length, slice_index_or, option_copied};
 ghost use Rattle.mg_stream.specs.Pool.{empty_backlog, backlog_of};
 ghost use Rattle.mg_node.specs.Looking.{kept_packet};
@@ -15,7 +15,7 @@ fn gone(queue: &Queue) -> u64
     queue.count() - queue.waiting()
 }
 
-// The packet of a queue by its number, those that are gone included.
+// The packet of a queue by its number, counted from 0 with those that are gone, if it waits.
 fn packet_at(queue: &Queue, number: u64) -> Option<&Packet>
     ensures { option_copied result ≡ kept_packet (backlog_of queue.now) number }
 {
@@ -27,7 +27,7 @@ fn packet_at(queue: &Queue, number: u64) -> Option<&Packet>
 }
 
 impl<C: Calculator> Engine<C> {
-    /// A packet that was laid at an output, by its number from 0 on; none where it is given up, or wasn't laid yet.
+    /// The packet of this number that was laid at an output, counted from 0. `None` where it is given up, or wasn't laid yet.
     pub fn packet(&self, output: u32, number: u64) -> Option<&Packet>
         requires { output < length self.now.outputs }
         ensures { option_copied result ≡ kept_packet (slice_index_or self.now.outputs output empty_backlog) number }

@@ -1,4 +1,4 @@
-//! How an engine is made.
+//! Making engines.
 ghost use Rattle.std.specs.Prelude.{◌≡◌, ◌<◌, ℕ, true, List, IfErr, length, slice_get, Some, slice_index_or, IfOk};
 ghost use Rattle.mg_route.specs.HolderView.{HolderView, holder_view};
 ghost use Rattle.mg_value.specs.Payload.{Plain};
@@ -23,8 +23,8 @@ use std::alloc::{AllocError, Global};
 use std::collections::VecDeque;
 
 impl<C: Calculator> Engine<C> {
-    /// The engine of the node of a number, whose calculator is handed in. Where several sets may be worked on at once, it makes the
-    /// further calculators itself. Want of memory hands the calculator back.
+    /// The engine of a node of a plan, with the calculator in `holder`, not begun. Where several sets may be worked on at once, it makes
+    /// the further calculators itself. Want of memory hands the calculator back.
     pub fn new(
         alloc: Global,
         plan: &Plan,
@@ -36,7 +36,7 @@ impl<C: Calculator> Engine<C> {
         ensures engine { (planned : PlanNode) → slice_get plan.now.nodes node ≡ Some planned → IfOk result (λ e. e ≡ fresh_engine planned node holder) }
         ensures returned { IfErr result (λ h. h ≡ holder) }
 
-        // It is lawful, as one that isn't begun, for every job that has such a calculator for this node.
+        // The engine is lawful, as one that isn't begun, for every job that has such a calculator for this node.
         ensures lawful { (job : LoggedJob) (planned : PlanNode) → job.job.plan ≡ plan.now → IsHanded job node planned holder
             → IfOk result (λ e. LawfulUnbegun job node e) }
     {
@@ -85,7 +85,7 @@ impl<C: Calculator> Engine<C> {
         self.idle.push_reserved(bench.with(calculator));
     }
 
-    /// The engine of the graph input of a number: its one output is what is known of the input, whose payloads are shared.
+    /// The engine of a graph input: its one output has what is known of the input's stream, whose payloads are shared.
     pub fn of_input(
         alloc: Global,
         plan: &Plan,
@@ -96,7 +96,7 @@ impl<C: Calculator> Engine<C> {
         requires prefix { IsPrefix prefix.now }
         ensures engine { IfOk result (λ e. e ≡ input_engine input (slice_index_or plan.now.inputs input 0) prefix.now) }
 
-        // It is lawful for every job that has this input.
+        // The engine is lawful for every job that has this input.
         ensures lawful { (job : LoggedJob) (streams : List (StreamPrefix Plain)) → job.job.plan ≡ plan.now → Solves job streams → slice_index_or streams input empty_prefix ≡ prefix.now
             → IfOk result (λ e. LawfulEngine job (of_input input) e) }
     {

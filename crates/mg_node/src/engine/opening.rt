@@ -1,4 +1,4 @@
-//! How an engine is begun: its calculator is opened once, and what it emits is laid.
+//! Beginning an engine: its calculator is opened once, and what it emits is laid.
 ghost use Rattle.std.specs.Prelude.{◌≡◌, ◌<◌, ℕ, List, length, slice_get, Some, OnOk, OnErr, []};
 ghost use Rattle.mg_value.specs.Payload.{Plain};
 ghost use Rattle.mg_value.specs.Prefix.{StreamPrefix};
@@ -27,10 +27,10 @@ impl<C: Calculator> Engine<C> {
         ensures unbegun { (node : PlanNode) (number : ℕ) (told : HolderView) → IsUnbegun node number told sides.now self.old
             → OnErr result (IsUnbegun node number told sides.now self.new) }
 
-        // Its standing only grows.
+        // The engine's standing only grows.
         ensures grows { EngineGrows self.old self.new }
 
-        // It is lawful for every job that has its calculator and these side packets, or lawful as one that isn't begun.
+        // The engine is then lawful for every job that has its calculator and these side packets, or still lawful as one that isn't begun.
         ensures lawful { (job : LoggedJob) (number : ℕ) (node : PlanNode) (streams : List (StreamPrefix Plain)) → Solves job streams → slice_get job.job.plan.nodes number ≡ Some node
             → sides.now ≡ sides_of job.job node → LawfulUnbegun job number self.old → OnOk result (LawfulEngine job (of_node number) self.new) }
         ensures lawful_unbegun { (job : LoggedJob) (number : ℕ) (node : PlanNode) → slice_get job.job.plan.nodes number ≡ Some node
@@ -42,7 +42,7 @@ impl<C: Calculator> Engine<C> {
         Ok(())
     }
 
-    // Opens the calculator, where it wasn't opened.
+    // Opens the calculator, unless it was opened already.
     fn open_once(&mut self, sides: &GivenList) -> Result<(), AllocError>
         requires { SomeUnbegun sides.now self.old }
         ensures opened { (node : PlanNode) (number : ℕ) (told : HolderView) → IsUnbegun node number told sides.now self.old

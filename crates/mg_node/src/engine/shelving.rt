@@ -1,4 +1,4 @@
-//! How works come back to their window as they are, and leave it.
+//! Putting works back into their window as they are, and taking them out again.
 ghost use Rattle.std.specs.Prelude.{◌≡◌, ◌<◌, ℕ, None, IfSome, IfNone, IsSome};
 ghost use Rattle.mg_node.specs.Job.{LoggedJob};
 ghost use Rattle.mg_node.specs.Lawful.{of_node, LawfulEngine, LawfulOutcome, LawfulPerformed};
@@ -24,7 +24,7 @@ impl<C: Calculator> Engine<C> {
         // The engine stays as it was set up.
         ensures set_up { KeepsSetUp self.old self.new }
 
-        // Its standing only grows.
+        // The engine's standing only grows.
         ensures grows { EngineGrows self.old self.new }
 
         // Lawful in, lawful out, for every job.
@@ -35,7 +35,7 @@ impl<C: Calculator> Engine<C> {
         put_back(&mut self.window, place, outcome);
     }
 
-    /// Takes the work of a number out of its window, where it stands there as performed and not committed. It is then out.
+    /// Takes the performed work of a number, not committed, out of the window, if it stands there. The work is then out.
     pub fn unshelve(&mut self, number: u64) -> Option<Performed<C>>
         ensures found { result ≡ shelf_at self.old number }
         ensures taken { Unshelves result self.old self.new number }
@@ -44,13 +44,13 @@ impl<C: Calculator> Engine<C> {
         ensures numbered { (job : LoggedJob) (owner : ℕ) → LawfulEngine job (of_node owner) self.old → IfSome result (λ p. p.work.number ≡ number) }
         ensures out { (job : LoggedJob) (owner : ℕ) → LawfulEngine job (of_node owner) self.old → IfSome result (λ p. IsOut self.new p.work) }
 
-        // It is one more that is out, and all others that were out stay so.
+        // The work is one more that is out, and all others that were out stay so.
         ensures goes_out { (job : LoggedJob) (owner : ℕ) → LawfulEngine job (of_node owner) self.old → IfSome result (λ p. GoesOut self.old self.new p.work) }
 
         // The engine stays as it was set up.
         ensures set_up { KeepsSetUp self.old self.new }
 
-        // Its standing only grows.
+        // The engine's standing only grows.
         ensures grows { EngineGrows self.old self.new }
 
         // Lawful in, lawful out, for every job.
@@ -60,7 +60,7 @@ impl<C: Calculator> Engine<C> {
         self.take_shelf(number)
     }
 
-    /// The number of the first work that stands in the window as performed and not committed, if there is one.
+    /// The number of the first performed work in the window that isn't committed, if there is one.
     pub fn shelved(&self) -> Option<u64>
         requires { SomeJobHasEngine self.now }
         ensures some { IfSome result (λ number. IsSome (shelf_at self.now number)) }
@@ -70,7 +70,7 @@ impl<C: Calculator> Engine<C> {
         Some(self.laid + place as u64)
     }
 
-    // Takes it, and tells what that leaves.
+    // Takes a performed work out of the window, as `unshelve` does.
     fn take_shelf(&mut self, number: u64) -> Option<Performed<C>>
         ensures found { result ≡ shelf_at self.old number }
         ensures taken { Unshelves result self.old self.new number }

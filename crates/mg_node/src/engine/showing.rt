@@ -1,4 +1,4 @@
-//! How the next set is shown to a calculator where that lies, and what it answers is laid at once.
+//! Doing the next set at once: it is shown to a calculator in its bench, and the answer is laid.
 ghost use Rattle.std.specs.Prelude.{◌≡◌, ◌<◌, ◌≤◌, ◌+◌, ◌^◌, ℕ, length, true, OnOk, OnErr, IfErr};
 ghost use Rattle.mg_policy.specs.declared.readiness.Readiness as Readiness;
 ghost use Rattle.mg_node.specs.Job.{LoggedJob};
@@ -19,9 +19,9 @@ use mg_policy::Readiness;
 use mg_time::Timestamp;
 
 impl<C: Calculator> Engine<C> {
-    /// Claims the next set, shows it to the node's calculator and lays what that answers, where no work is under way: the calculator is
-    /// worked where it lies, with the gate round its call. Where a claim may answer with something else nothing changes. At want of
-    /// memory the work is handed out as it is claimed, or stands in its window as performed.
+    /// Claims the next set, shows it to the node's calculator and lays the answer, where no work is under way. The calculator stays in its
+    /// bench, and the gate is round its call. Where a claim may answer with something else than a set nothing changes. At want of memory
+    /// the work is handed out as it is claimed, or stands in its window as performed.
     pub fn work_at_once<G: Gate>(&mut self, intake: &mut Intake, gate: &G) -> AtOnce<C>
         requires cell { AreCell self.old intake.old }
         ensures does { DoesAtOnce result self.old self.new intake.old intake.new }
@@ -34,7 +34,7 @@ impl<C: Calculator> Engine<C> {
         self.do_next(intake, gate)
     }
 
-    // Does the next set at once, and tells what that leaves.
+    // Does the next set at once, as `work_at_once` does.
     fn do_next<G: Gate>(&mut self, intake: &mut Intake, gate: &G) -> AtOnce<C>
         requires cell { AreCell self.old intake.old }
         ensures does { DoesAtOnce result self.old self.new intake.old intake.new }
@@ -50,7 +50,7 @@ impl<C: Calculator> Engine<C> {
         }
     }
 
-    // Whether the node goes on and is shown sets, and no work is under way.
+    // Whether the node goes on and is shown sets, no work is under way, and a bench is idle.
     fn may_show(&self) -> bool
         ensures may { result ≡ true → MayShow self.now }
         ensures only { MayShow self.now → result ≡ true }
@@ -64,7 +64,7 @@ impl<C: Calculator> Engine<C> {
         is_empty(&self.window) && !self.idle.is_empty()
     }
 
-    // Shows the next set, and lays what is answered, as far as there is memory.
+    // Shows the next set, and lays the answer, as far as there is memory.
     fn show_next<G: Gate>(&mut self, at: Timestamp, intake: &mut Intake, gate: &G) -> AtOnce<C>
         requires cell { AreCell self.old intake.old }
         requires may { MayShow self.old }
@@ -86,7 +86,7 @@ impl<C: Calculator> Engine<C> {
         }
     }
 
-    // Shows the next set to the calculator of the last idle bench, which tells what that answers, where there was memory.
+    // Shows the next set to the calculator of the last idle bench, and returns its answer, or `None` where there is no memory.
     fn show<G: Gate>(
         &mut self,
         at: Timestamp,
@@ -107,7 +107,7 @@ impl<C: Calculator> Engine<C> {
         answer
     }
 
-    // Lays what is answered to a set that is claimed with it. Want of memory changes nothing.
+    // Lays the answer to a set, and counts the set as claimed and laid. Want of memory changes nothing, and hands the answer back.
     fn lay_answer(
         &mut self,
         at: Timestamp,
@@ -131,7 +131,7 @@ impl<C: Calculator> Engine<C> {
         Ok(())
     }
 
-    // Hands out the work of the set that the last idle bench has.
+    // Hands out the work of the set in the last idle bench.
     fn take_shown(&mut self, at: Timestamp) -> Work<C>
         requires bench { 0 < length self.old.idle }
         requires room { length self.old.window < self.old.in_flight }

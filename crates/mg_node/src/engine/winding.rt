@@ -1,4 +1,4 @@
-//! The last Close of a run that has ended.
+//! Winding up an engine: the last Close once a run has ended.
 ghost use Rattle.std.specs.Prelude.{◌≡◌, ◌<◌, length, OnOk, OnErr};
 ghost use Rattle.mg_node.specs.Standing.{EngineGrows};
 ghost use Rattle.mg_node.specs.WindingUp.{closes_after, closes_despite, lacks_close, FinishesLast, FinishesFront, WindsUp};
@@ -29,15 +29,16 @@ fn closes_despite(fault: Option<NodeFault>) -> bool
 }
 
 impl<C: Calculator> Engine<C> {
-    /// Closes the calculator of a node that was opened and had no Close, once a run has ended, also where the node has failed at a set
-    /// or in a call, or a work of it came back and stands in its window. What it emits or answers is dropped, and nothing else changes;
-    /// the engine isn't used any more. A node that isn't begun, was closed, or failed in Open or in Close stays as it is, and so does one
-    /// whose work is out. Want of memory changes nothing, and this may be called again.
+    /// Closes the calculator of a node that was opened and had no Close, once a run has ended, also where the node has failed at a set or
+    /// in a call. It is the calculator in the last idle bench, or where no bench is idle, that of the first work in the window, if that
+    /// came back and wasn't a performed Close. What it emits or answers is dropped, and nothing else changes; the engine isn't used any
+    /// more. A node that isn't begun, was closed, or failed in Open or in Close stays as it is. Want of memory changes nothing, and this
+    /// may be called again.
     pub fn wind_up(&mut self) -> Result<(), AllocError>
         ensures wound_up { OnOk result (WindsUp self.old self.new) }
         ensures unchanged { OnErr result (self.new ≡ self.old) }
 
-        // Its standing only grows.
+        // The engine's standing only grows.
         ensures grows { EngineGrows self.old self.new }
     {
         if !self.lacks_close() {
@@ -49,14 +50,14 @@ impl<C: Calculator> Engine<C> {
         self.finish_last()
     }
 
-    // Whether its node was opened and had no Close.
+    // Whether the node was opened and had no Close.
     fn lacks_close(&self) -> bool
         ensures { result ≡ lacks_close self.now }
     {
         self.begun && !self.closed && closes_despite(self.fault)
     }
 
-    // Closes the calculator of the first work in the window, where it came back and had no Close.
+    // Closes the calculator of the first work in the window, if that came back and wasn't a performed Close.
     fn finish_front(&mut self) -> Result<(), AllocError>
         ensures finished { OnOk result (FinishesFront self.old self.new) }
         ensures unchanged { OnErr result (self.new ≡ self.old) }

@@ -1,9 +1,9 @@
--- What goes from a queue, and which port SELECT's first packet selects.
+-- Queues without their first packets, as these leave with a set.
 use Rattle.std.specs.Prelude.{ℕ, drop, ◌+◌, nat_lt, nat_le}
 use Rattle.std.specs.List.{prefix_len}
 use Rattle.mg_stream.specs.Queue.{Waiting}
 
--- a queue without so many first packets, which leave room for as many others
+-- a queue without its first n packets, which leave room for as many others
 abbrev pub dropped : {X : Type 0} → ℕ → Waiting X → Waiting X
 dropped n q = record { gone = q.gone + n; packets = drop n q.packets; bound = q.bound; spare = q.spare + n }
 

@@ -6,7 +6,7 @@ use Rattle.std.specs.Int.{bit_at}
 abbrev pub bit_of : List ℕ → ℕ → ℕ
 bit_of words n = bit_at (slice_index words (n / 64)) (n % 64)
 
--- no bit changes but that of a number
+-- no bit changes but that of this number
 pub record ChangesBit (old new : List ℕ) (n : ℕ) : Type 0 where
   pub len : length new ≡ length old
   pub others : (k : ℕ) → k ≢ n → bit_of new k ≡ bit_of old k

@@ -9,7 +9,7 @@ slot_of place = place / 32 * 33 + place % 32 + 1
 abbrev pub place_of : ℕ → ℕ
 place_of slot = slot / 33 * 32 + slot % 33 - 1
 
--- the slot above all of so many places
+-- the slot above all places, where there are `places` of them
 abbrev pub top_of : ℕ → ℕ
 top_of places = (places + 31) / 32 * 33
 
@@ -24,14 +24,14 @@ pub record IsNext (linked : ℕ → Bool) (low high : ℕ) : Type 0 where
   pub high_linked : linked high ≡ true
   pub between : (s : ℕ) → low < s → s < high → linked s ≡ false
 
--- the links of linked slots up to a top: each leads to the next one above and to the next one below
+-- the links of the linked slots up to `top`: each linked slot has links to the next one above and to the next one below
 pub record IsChain (linked : ℕ → Bool) (top : ℕ) (above below : List ℕ) : Type 0 where
   pub above_len : length above ≡ top + 1
   pub below_len : length below ≡ top + 1
   pub up : (s : ℕ) → s < top → linked s ≡ true → IsNext linked s (slice_index above s)
   pub down : (s : ℕ) → 0 < s → s ≤ top → linked s ≡ true → IsNext linked (slice_index below s) s
 
--- the links of some places
+-- the links of a set of places
 pub record IsLinked (places : List Bool) (above below : List ℕ) : Type 0 where
   pub few : length places < 2 ^ 32
   pub chain : IsChain (is_linked places) (top_of (length places)) above below

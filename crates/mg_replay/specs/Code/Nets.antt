@@ -26,23 +26,23 @@ use Rattle.mg_replay.specs.Reading.{HasOpened}
 use Rattle.mg_replay.specs.declared.trace_end.TraceEnd.{TraceEnd}
 use Rattle.mg_replay.specs.declared.trace_end.TraceEnd.TheVariants.{Accepted, Refused, Failed}
 
--- the devices of a call whose input told this at its beginning
+-- the devices of a call, as if its input told this at its beginning
 abbrev pub told_since : SourceTold → RunDevices → RunDevices
 told_since first devices = record devices { input = device first devices.input.now }
 
--- a run is accepted
+-- whether the reading of a run ended so that it is accepted
 abbrev pub accepts : TraceEnd → Bool
 accepts Accepted = true
 accepts (Refused line cause) = false
 accepts (Failed lines) = false
 
--- a net stands for a job of a plan
+-- a net stands for some job of this plan
 pub record StandsForPlan (plan : Plan) (net : NetView) : Type 0 where
   pub job : LoggedJob
   pub plan_is : job.job.plan ≡ plan
   pub stands : StandsFor job net
 
--- each calculator that a node uses comes back closed, in a solution of a job
+-- each calculator that a node uses comes back with first calls of that node in a solution of a job, and closed where it was opened
 pub record ClosedAllOf (job : LoggedJob) (net : NetView) : Type 0 where
   pub streams : List (StreamPrefix Plain)
   pub solution : IsSolution job.job streams
@@ -55,7 +55,7 @@ HadBy Accepted job net = HadAllOf job net
 HadBy (Refused line cause) job net = ClosedAllOf job net
 HadBy (Failed lines) job net = ClosedAllOf job net
 
--- A recorded run was made again on a net that was made, and what is due then was written.
+-- A recorded run was made again on this net, and what is due at its end was written.
 pub record NetReplayed (report : Bool) (plan : Plan) (inputs : Inputs) (boxes : List CalculatorTold) (status : Status) (devices : RunDevices) (net : NetView) : Type 0 where
   pub end : TraceEnd
   pub read : WasRead plan boxes devices.input (Some inputs) end
@@ -69,19 +69,20 @@ TookOf plan inputs boxes devices =
     Untouched devices.output ⊎ (WasRead plan boxes devices.input (Some inputs) Accepted
     × ((streams : List (StreamPrefix Plain)) → IsSolution (job_over plan inputs) streams → TookFront devices.output (output_of plan streams)))
 
--- Memory ran out meanwhile.
+-- Memory ran out while a recorded run was made again on this net.
 pub record NetShort (plan : Plan) (inputs : Inputs) (boxes : List CalculatorTold) (devices : RunDevices) (net : NetView) : Type 0 where
   pub took : TookOf plan inputs boxes devices
   pub opened : HasOpened plan devices.input inputs
   pub stood : StoodFor (job_of plan inputs boxes) net
 
--- The same of the run as a whole, by the calculators that were handed in.
+-- A recorded run of a job was made again, with what is due at its end and with the calls that the calculators had.
 pub record JobReplayed (report : Bool) (plan : Plan) (inputs : Inputs) (status : Status) (devices : RunDevices) (boxes : Device (List CalculatorTold)) : Type 0 where
   pub end : TraceEnd
   pub read : WasRead plan boxes.before devices.input (Some inputs) end
   pub wrote : WroteEnd end report plan (Some inputs) status devices.output devices.notes
   pub had : HadEnd end plan (Some inputs) boxes
 
+-- Memory ran out while a recorded run of a job was made again.
 pub record JobShort (plan : Plan) (inputs : Inputs) (devices : RunDevices) (boxes : Device (List CalculatorTold)) : Type 0 where
   pub took : TookOf plan inputs boxes.before devices
   pub opened : HasOpened plan devices.input inputs

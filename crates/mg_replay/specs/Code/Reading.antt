@@ -34,14 +34,14 @@ use Rattle.mg_replay.specs.declared.opening.Opened.{Opened}
 use Rattle.mg_replay.specs.declared.opening.Opened.TheVariants.{Job, Stopped}
 use Rattle.mg_replay.specs.Reading.{IsReading, IsOpening, Opens, IsMaking}
 
--- Bytes came, and whatever comes behind them, the lines that were handed out before stand in front of all lines.
+-- Bytes came, and whatever comes behind them, the lines that were handed out before are the first of all lines.
 pub record ComesBehind (before now : SourceTold) (old new : Reading) : Type 0 where
   pub came : List ℕ
   pub gave : Gave before.left now.left came
   pub met : MetEnd old.ended new.ended before now
   pub in_front : (past : List ℕ) (lines : List (List ℕ)) → HasHanded past lines old → (more : List ℕ) → (new.ended ≡ true → more ≡ []) → (rest : List (List ℕ)) × (all_lines ((past ++ came) ++ more) ≡ lines ++ rest)
 
--- how the reading stops behind so many lines, where the next one is too long, the lines end or a read fails; else it goes on
+-- how the reading stops behind this number of lines, where the next one is too long, the lines end or a read fails; else it goes on
 abbrev pub StopsBy : NextLine → ℕ → TraceFault → Option TraceEnd → Type 0
 StopsBy Line lines long stop = stop ≡ None
 StopsBy TooLong lines long stop = stop ≡ Some (Refused (lines + 1) long)
@@ -54,8 +54,8 @@ TakesOther None line number old new = Takes None line old new
 TakesOther (Some (Job ended)) line number old new = ⊥
 TakesOther (Some (Stopped end)) line number old new = (cause : TraceFault) × (end ≡ Refused number cause) × Takes (Some cause) line old new
 
--- what a line that was handed out came to: it was taken as a packet line; or it ends the packet lines, and the feed is as it was; or it isn't
--- good, and the reading stops
+-- what a line that was handed out came to: it was taken as a packet line; or it ends the packet lines, and the feed is as it was; or
+-- it isn't good, and the reading stops
 abbrev pub TakesLine : Option Opened → List ℕ → ℕ → View → View → Type 0
 TakesLine None line number old new = (is_end_word line ≡ false) × Takes None line old new
 TakesLine (Some (Job ended)) line number old new = (line ≡ end_word ended) × (new ≡ old)
@@ -97,12 +97,12 @@ EndsRun end before now old new number net net_now =
     (MayGoOn net × (end ≡ Refused number NotAtRest) × (now ≡ before) × (new ≡ old))
     ⊎ (IsAtRest net × (net_now ≡ net) × ((next : NextLine) × (line : List ℕ) × NextComes next line before now old new × StopsBehind next number end))
 
--- what an event that is made comes to
+-- what making an event comes to: it did something; or it did nothing, and its line is refused
 abbrev pub MakesEvent : Option TraceEnd → Event → ℕ → NetView → NetView → Type 0
 MakesEvent None event number before now = Acts event Did before now
 MakesEvent (Some end) event number before now = Acts event Idle before before × (end ≡ Refused number IdleEvent)
 
--- what a line behind a run comes to: it ends the run, or its event is made
+-- what a line behind those of the job comes to: it ends the run; or its event is made, or it is refused
 abbrev pub TakesEvent : Option TraceEnd → Plan → List ℕ → ℕ → SourceTold → SourceTold → Reading → Reading → ℕ → NetView → NetView → Type 0
 TakesEvent stop plan line number before now old new count net net_now =
     ((line ≡ codes "end") × ((end : TraceEnd) × (stop ≡ Some end) × EndsRun end before now old new number net net_now))

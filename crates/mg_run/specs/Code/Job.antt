@@ -14,6 +14,7 @@ use Rattle.mg_run.specs.declared.job.Job.TheVariants.{Refuse, Show, Graph}
 use Rattle.mg_run.specs.declared.job.Use.{Use}
 use Rattle.mg_run.specs.declared.job.Use.TheVariants.{Run, RunLive, Solve, Generate, GenerateLive, Trace, Replay}
 
+-- the job of using a plan in a way of the code, with a report or without
 abbrev pub use_job : Use → Bool → Plan → Job
 use_job Run report plan = run_plan report plan
 use_job RunLive report plan = run_live report plan
@@ -23,12 +24,13 @@ use_job (GenerateLive number) report plan = generate_live report number plan
 use_job Trace report plan = trace report plan
 use_job Replay report plan = replay report plan
 
+-- the job that a `Job` of the code stands for
 abbrev pub job_view : code.Job → Job
 job_view (Refuse note) = refuse note.items
 job_view (Show text) = show text.items
 job_view (Graph used report plan) = use_job used report plan
 
--- it may read the input
+-- the input may be read where this job is done
 abbrev pub MayRead : Job → Type 0
 MayRead (refuse note) = ⊥
 MayRead (show text) = ⊥
@@ -40,7 +42,8 @@ MayRead (generate_live report number plan) = ⊥
 MayRead (trace report plan) = Unit {0}
 MayRead (replay report plan) = Unit {0}
 
--- A plan that is used is valid, with free nodes where these are run, and the calculators that are handed in fit one that is run.
+-- A job can be done: a plan that is used is valid, with free nodes where such are run, and the calculators that are handed in fit a plan
+-- that is run.
 abbrev pub CanBeDone : List OuterShape → Job → Type 0
 CanBeDone outers (refuse note) = Unit {0}
 CanBeDone outers (show text) = Unit {0}
@@ -52,7 +55,7 @@ CanBeDone outers (generate_live report number plan) = IsValidWithFree plan × Ou
 CanBeDone outers (trace report plan) = IsValid plan × OutersFit plan outers
 CanBeDone outers (replay report plan) = IsValid plan × OutersFit plan outers
 
--- All files of a task were loaded, and this is what there is to do with them.
+-- All files of a task were loaded, and this job is what there is to do with them.
 pub record IsDue (task : Task) (store : Device StoreTold) (job : Job) : Type 0 where
   pub contents : List (List ℕ)
   pub loaded : LoadedAll task.files contents store

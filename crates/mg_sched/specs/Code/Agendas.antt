@@ -1,4 +1,4 @@
--- What contracts see of an agenda. And how it is kept.
+-- What contracts see of an agenda, and how it is kept.
 use Rattle.std.specs.Prelude.{◌≡◌, ℕ, ◌+◌, ◌^◌, ◌<◌, ◌≤◌, ◌++◌, List, length, count_by, Option, Some, None, slice_get, slice_index_or}
 use Rattle.std.specs.List.{range_with_len}
 use Rattle.mg_calc.specs.declared.edge.Edge.{Edge}
@@ -8,21 +8,21 @@ use Rattle.mg_ready.specs.Ready.{ReadyNodes}
 use Rattle.mg_sched.specs.Places.{source_of}
 
 pub record AgendaView : Type 0 where
-  -- the places that may have something to do, and the feeders that were found throttled
+  -- the places that are to be visited, and the feeders that were found throttled
   pub ready : ReadyNodes
   pub held : ReadyNodes
   -- the places whose parts may have changed since the net was at rest
   pub touched : ReadyNodes
-  -- the edge along which each place goes on, the first one from each place, and behind each edge the next one from the same place
+  -- for each place the edge from which sending goes on, and the first one from it; and for each edge the next one from the same place
   pub heads : List (Option ℕ)
   pub starts : List (Option ℕ)
   pub links : List (Option ℕ)
 
--- how many places are ready
+-- how many places are to be visited
 abbrev pub waiting_in : AgendaView → ℕ
 waiting_in agenda = count_by (λ b. b) agenda.ready.is_in
 
--- and how many are touched
+-- how many places are touched
 abbrev pub touched_in : AgendaView → ℕ
 touched_in agenda = count_by (λ b. b) agenda.touched.is_in
 
@@ -30,8 +30,7 @@ touched_in agenda = count_by (λ b. b) agenda.touched.is_in
 abbrev pub priorities : Plan → List ℕ
 priorities plan = range_with_len (length plan.nodes) (length plan.inputs) ++ plan.order
 
--- the first edge from each place, and behind each edge the next one from the same place: all of a number on that lead from places are
--- below a count, and their numbers rise
+-- the first edge of each place, and for each edge the next one, which has a greater number: they stand from `low` on and below `count`
 pub record LeadOn (low count : ℕ) (heads links : List (Option ℕ)) : Type 0 where
   pub first : (place edge : ℕ) → slice_index_or heads place None ≡ Some edge → (low ≤ edge) × (edge < count)
   pub next : (edge later : ℕ) → slice_index_or links edge None ≡ Some later → (edge < later) × (later < count)
@@ -40,13 +39,13 @@ pub record LeadOn (low count : ℕ) (heads links : List (Option ℕ)) : Type 0 w
 abbrev pub LeadsFrom : Plan → ℕ → ℕ → Type 0
 LeadsFrom plan place edge = (e : Edge) × (slice_get plan.edges edge ≡ Some e) × (source_of plan e ≡ Some place)
 
--- the first edge of a number on that leads from a place, if there is one
+-- the first edge that leads from a place, of those with numbers from `low` on, if there is one
 abbrev pub IsFirstFrom : Plan → ℕ → ℕ → Option ℕ → Type 0
 IsFirstFrom plan low place None = (edge : ℕ) → low ≤ edge → ¬ LeadsFrom plan place edge
 IsFirstFrom plan low place (Some edge) = (low ≤ edge) × LeadsFrom plan place edge × ((other : ℕ) → low ≤ other → other < edge → ¬ LeadsFrom plan place other)
 
--- the edges of a number on, by the places from which they lead: the first from each place, and behind each edge the next one from the
--- same place
+-- the edges with numbers from `low` on, by the places from which they lead: the first from each place, and for each edge the next one from
+-- the same place
 pub record AreLeads (plan : Plan) (low : ℕ) (heads links : List (Option ℕ)) : Type 0 where
   pub first : (place : ℕ) → place < length heads → IsFirstFrom plan low place (slice_index_or heads place None)
   pub next : (place edge : ℕ) → low ≤ edge → LeadsFrom plan place edge → IsFirstFrom plan (edge + 1) place (slice_index_or links edge None)
@@ -59,7 +58,7 @@ pub record IsAgendaOf (plan : Plan) (agenda : AgendaView) : Type 0 where
   pub leads : AreLeads plan 0 agenda.starts agenda.links
 
 -- the sets of an agenda are of all places, and that of the touched ones has one place more, for the collector where there are no graph
--- inputs; and its edges lead on
+-- inputs; and the edges of a place rise
 pub record IsAgenda (places edges : ℕ) (ready held touched : List ℕ) (heads starts links : List (Option ℕ)) : Type 0 where
   pub few : places + 1 < 2 ^ 32
   pub ready_order : HasEachOnce places ready

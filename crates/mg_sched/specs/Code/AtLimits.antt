@@ -5,15 +5,15 @@ use Rattle.mg_node.specs.Ports.{ports_in, port_queue}
 use Rattle.mg_throttle.specs.declared.queue.Queue.{Queue}
 use Rattle.mg_throttle.specs.Throttle.{is_at}
 
--- in the queue of a number
+-- this many packets are as many as the limit of the queue of this number, or more
 abbrev pub is_at_limit : List Queue → ℕ → ℕ → Bool
 is_at_limit queues number packets = is_at (option_and_then (λ q. q.limit) (slice_get queues number)) packets
 
--- at a port; the queues of the ports are those from a number on
+-- as many packets wait at a port as its queue's limit is, or more; the queues of the ports have the numbers from `first` on
 abbrev pub is_port_at_limit : List Queue → ℕ → Waits → ℕ → Bool
 is_port_at_limit queues first waits port = is_at_limit queues (first + port) (length (port_queue waits port).packets)
 
--- it is so at some port, or at none
+-- as many packets as the limit, or more, wait at some port, or at none
 abbrev pub TellsAtLimit : Bool → List Queue → ℕ → Waits → Type 0
 TellsAtLimit true queues first waits = (port : ℕ) × (port < ports_in waits) × (is_port_at_limit queues first waits port ≡ true)
 TellsAtLimit false queues first waits = (port : ℕ) → port < ports_in waits → is_port_at_limit queues first waits port ≡ false

@@ -19,8 +19,8 @@ use Rattle.mg_sched.specs.Acts.{Acts, with_noted}
 use Rattle.mg_sched.specs.Runs.{IsRun}
 use Rattle.mg_sched.specs.StandsFor.{StandsForSome, IsRunning}
 
--- a node's engine claims of its intake, and the limits hear how many packets wait now at each of its ports; what is handed out lies on
--- no desk
+-- a node's engine claims from its intake, and the limits hear how many packets wait now at each of its ports; what is handed out lies on no
+-- desk
 pub record HandsOut {C : Type 0} (node : ℕ) (claimed : Claimed C) (before now : NetView) : Type 0 where
   pub engine : EngineView
   pub at : slice_get before.engines node ≡ Some engine
@@ -31,7 +31,7 @@ pub record HandsOut {C : Type 0} (node : ℕ) (claimed : Claimed C) (before now 
   pub claims : Claims {C = C} claimed engine engine_now intake intake_now
   pub now_is : now ≡ with_noted (with_intake (with_engine before node engine_now) node intake_now) (first_edge before.plan node) (lengths_of intake_now.waits)
 
--- no set was shown
+-- no set was claimed to be shown
 abbrev pub did_nothing : {C : Type 0} → AtOnce C → Bool
 did_nothing Other = true
 did_nothing NoSet = true
@@ -48,7 +48,7 @@ pub record ShowsTo {C : Type 0} (node : ℕ) (done : AtOnce C) (before now : Net
   pub does : DoesAtOnce {C = C} done engine engine_now intake intake_now
   pub now_is : now ≡ with_noted (with_intake (with_engine before node engine_now) node intake_now) (first_edge before.plan node) (lengths_of intake_now.waits)
 
--- where there is none that can be told yet, that is a claim that hands out nothing
+-- an engine tries to show a node's next set: nothing changes, or a claim finds that none is ready, or the set is claimed and shown
 abbrev pub ShowsAt : {C : Type 0} → ℕ → AtOnce C → NetView → NetView → Type 0
 ShowsAt node Other before now = now ≡ before
 ShowsAt {C} node NoSet before now = HandsOut {C = C} node NotReady before now
@@ -66,7 +66,7 @@ took_none claimed = false
 abbrev pub with_work : NetView → ℕ → DeskView → WorkView → NetView
 with_work net node desk work = with_desk net node (record desk { works = desk.works ++ work ∷ [] })
 
--- with it a net would stand for a job
+-- a work is handed out: if it lay on the desk of its node, the net would stand for some job, and all nodes would be begun
 pub record IsHandedOut (net : NetView) (node : ℕ) (work : WorkView) : Type 0 where
   pub desk : DeskView
   pub on : slice_get net.desks node ≡ Some desk
@@ -74,7 +74,7 @@ pub record IsHandedOut (net : NetView) (node : ℕ) (work : WorkView) : Type 0 w
   pub running : IsRunning (with_work net node desk work)
   pub there : node < length net.plan.nodes
 
--- and it was performed
+-- a work that is handed out was performed
 pub record IsPerformedOut (net : NetView) (node number : ℕ) (performed : PerformedView) : Type 0 where
   pub work : WorkView
   pub out : IsHandedOut net node work
@@ -87,19 +87,19 @@ steps_after node (Performed number) = Perform node number ∷ []
 steps_after node (Committed number) = Perform node number ∷ Commit node number ∷ []
 steps_after node reached = []
 
--- all steps that were made
+-- all steps that were made for a node's next work, as far as it came
 abbrev pub steps_of : ℕ → Reached → List Event
 steps_of node Nothing = []
 steps_of node NotClaimed = []
 steps_of node reached = Claim node ∷ steps_after node reached
 
--- what came of a work that lay on its desk
+-- a net in which a node's next work lies on its desk becomes another one by the steps behind the claim, as far as the work came
 abbrev pub ComesOn : ℕ → Reached → NetView → NetView → Type 0
 ComesOn node Nothing before now = ⊥
 ComesOn node NotClaimed before now = ⊥
 ComesOn node reached before now = IsRun (steps_after node reached) before now
 
--- what came of a node's next work
+-- a net becomes another one by the claim, the performance and the commit of a node's next work, as far as the work came
 abbrev pub Comes : ℕ → Reached → NetView → NetView → Type 0
 Comes node Nothing before now = (now ≡ before) × Acts (Claim node) Idle before before
 Comes node NotClaimed before now = Acts (Claim node) OutOfMemory before now
@@ -114,6 +114,6 @@ did_of OnlyClaimed = None
 did_of (Performed number) = None
 did_of (Committed number) = Some true
 
--- it has heard these events behind those that it had heard
+-- a hearer has heard these events behind those that it had heard before
 abbrev pub HearsMore : {H : Type 0} → (H → H → List Event → Type 0) → H → H → List Event → Type 0
 HearsMore {H} has_heard before now more = (began : H) (events : List Event) → has_heard began before events → has_heard began now (events ++ more)

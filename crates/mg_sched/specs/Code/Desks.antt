@@ -3,7 +3,7 @@ use Rattle.std.specs.Prelude.{◌≡◌, ℕ, List, ◌∷◌, ◌++◌, length}
 use Rattle.mg_node.specs.Views.{WorkView}
 use Rattle.mg_sched.specs.Views.{DeskView}
 
--- the work of a number is taken from among the others
+-- the work of this number is taken from its place among the others
 pub record TakesFrom (number place : ℕ) (work : WorkView) (before now : DeskView) : Type 0 where
   pub front : List WorkView
   pub back : List WorkView

@@ -17,45 +17,47 @@ use Rattle.mg_sched.specs.Views.{DeskView, NetView}
 use Rattle.mg_sched.specs.Acts.{Acts}
 use Rattle.mg_sched.specs.AtRest.{MayGoOn}
 
--- of a work that came back: it has to be claimed again, performed and committed, or only to be committed
+-- the steps that are left of a work that is back in its window: it has to be claimed again, performed and committed, or, once it is
+-- performed, only to be committed
 abbrev pub outcome_left : OutcomeView → ℕ
 outcome_left o = if is_some o.answer then 1 else 3
 
--- of an entry of a window: what is claimed has to be performed and committed
+-- the steps that are left of a work that is claimed: while it is out, it has to be performed and committed
 abbrev pub came_left : Option OutcomeView → ℕ
 came_left None = 2
 came_left (Some o) = outcome_left o
 
+-- the steps that are left of an entry of a window
 abbrev pub entry_left : EntryView → ℕ
 entry_left entry = if entry.committed then 0 else came_left entry.outcome
 
--- Close may still be claimed
+-- what is left of Close: 4, until it is claimed or the node has ended
 abbrev pub close_left : EngineView → ℕ
 close_left e = if has_ended e || list_any (λ entry. is_close entry.phase) e.window then 0 else 4
 
--- of an engine: the works that may still be claimed, those in its window, and how far its outputs may be raised
+-- what is left of an engine: the works that may still be claimed, those in its window, and how far its outputs may be raised
 abbrev pub engine_left : EngineView → ℕ
 engine_left e = 4 * (2 ^ 65 - e.claimed) + sum_by entry_left e.window + close_left e + sum_by (λ b. done - b.bound) e.outputs
 
--- of an intake: the packets that may still come to its ports, and how far these may be raised
+-- what is left of an intake: the packets that may still come to its ports, and how far these may be raised
 abbrev pub intake_left : IntakeView → ℕ
 intake_left i = sum_by (λ port. (2 ^ 65 - count_of (port_queue i.waits port)) + (done - (port_queue i.waits port).bound)) (numbers (ports_in i.waits))
 
--- of a queue: how far its limit may be relaxed
+-- what is left of a queue: how far its limit may be relaxed
 abbrev pub limit_left : Option ℕ → ℕ
 limit_left None = 0
 limit_left (Some limit) = 2 ^ 65 - limit
 
--- and of all parts
+-- what is left of all parts of a net
 abbrev pub left_in : NetView → ℕ
 left_in net = sum_by engine_left net.engines + sum_by intake_left net.intakes + sum_by (λ q. limit_left q.limit) net.limits.queues
 
--- some steps did something, or left the net as it was
+-- some steps did something, so that less is left, or they left the net as it was
 abbrev pub Goes : Bool → NetView → NetView → Type 0
 Goes true before now = left_in now < left_in before
 Goes false before now = now ≡ before
 
--- a step did something, or there is nothing to do
+-- a step did something, so that less is left, or its event has nothing to do
 abbrev pub Steps : Bool → Event → NetView → NetView → Type 0
 Steps true event before now = left_in now < left_in before
 Steps false event before now = (now ≡ before) × Acts event Idle before before
@@ -66,15 +68,15 @@ Steps false event before now = (now ≡ before) × Acts event Idle before before
 abbrev pub HasNoWork : NetView → ℕ → Type 0
 HasNoWork net node = (desk : DeskView) → slice_get net.desks node ≡ Some desk → desk.works ≡ []
 
--- the first of them has a number
+-- a node has works that are claimed and not performed, and the first has this number
 abbrev pub HasWork : NetView → ℕ → ℕ → Type 0
 HasWork net node number = (desk : DeskView) → slice_get net.desks node ≡ Some desk → IsSomeAnd (slice_get desk.works 0) (λ w. w.number ≡ number)
 
--- none is performed and not committed
+-- no work of a node is performed and not committed
 abbrev pub HasNoShelf : NetView → ℕ → Type 0
 HasNoShelf net node = (engine : EngineView) (number : ℕ) → slice_get net.engines node ≡ Some engine → shelf_at engine number ≡ None
 
--- that of a number is
+-- a node's work of this number is performed and not committed
 abbrev pub HasShelf : NetView → ℕ → ℕ → Type 0
 HasShelf net node number = (engine : EngineView) → slice_get net.engines node ≡ Some engine → IsSome (shelf_at engine number)
 
@@ -84,28 +86,29 @@ pub record WorksRest (net : NetView) (node : ℕ) : Type 0 where
   pub works : HasNoWork net node
   pub shelf : HasNoShelf net node
 
--- a node has nothing to do: no such work, and no output to raise
+-- a node has nothing to do: no work to claim, to perform or to commit, and no output to raise
 pub record RestsAt (net : NetView) (node : ℕ) : Type 0 where
   pub claims : Acts (Claim node) Idle net net
   pub works : HasNoWork net node
   pub shelf : HasNoShelf net node
   pub advances : Acts (Advance node) Idle net net
 
--- so it is with each of the first nodes, so many, and nothing goes along each of the first edges
+-- the first `count` nodes have nothing to do
 abbrev pub NodesRest : NetView → ℕ → Type 0
 NodesRest net count = (node : ℕ) → node < count → RestsAt net node
 
+-- nothing goes along the first `count` edges
 abbrev pub EdgesRest : NetView → ℕ → Type 0
 EdgesRest net count = (edge : ℕ) → edge < count → Acts (Deliver edge) Idle net net
 
 -- Looks.
 
--- what a step did, where it had memory
+-- the effect of a step that has memory, by whether it did something
 abbrev pub effect_if : Bool → Effect
 effect_if true = Did
 effect_if false = Idle
 
--- an event was found that would do something; or none of these would, and the net is as it was
+-- an event was found that would do something; or none was, `rest` says which events would do nothing, and the net is as it was
 abbrev pub Finds : Bool → Type 0 → NetView → NetView → Type 0
 Finds true rest before now = MayGoOn before
 Finds false rest before now = (now ≡ before) × rest

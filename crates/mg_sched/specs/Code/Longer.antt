@@ -10,25 +10,25 @@ use Rattle.mg_node.specs.Extending.{extended, MayExtend}
 abbrev pub MayEach : ℕ → List (StreamPrefix Plain) → List EngineView → Type 0
 MayEach from pieces engines = (input : ℕ) (engine : EngineView) (piece : StreamPrefix Plain) → slice_get engines (from + input) ≡ Some engine → slice_get pieces input ≡ Some piece → MayExtend engine piece
 
--- the first of them are extended, a number of them, and nothing else has changed
+-- the first `count` engines from a place on are extended, each by its piece, and nothing else has changed
 pub record AreLonger (from : ℕ) (pieces : List (StreamPrefix Plain)) (count : ℕ) (before now : List EngineView) : Type 0 where
   pub places : length now ≡ length before
   pub longer : (input : ℕ) (engine : EngineView) (piece : StreamPrefix Plain) → input < count → slice_get before (from + input) ≡ Some engine → slice_get pieces input ≡ Some piece
       → slice_get now (from + input) ≡ Some (extended engine piece)
   pub others : (place : ℕ) → (place < from) ⊎ (from + count ≤ place) → slice_get now place ≡ slice_get before place
 
--- the bound that the output of an engine has, the engine of a number from a place on
+-- the engine at the place `from` + `input` has this bound at its output
 abbrev pub IsBound : ℕ → List EngineView → ℕ → ℕ → Type 0
 IsBound from engines input bound = (engine : EngineView) → slice_get engines (from + input) ≡ Some engine → (laid_at engine 0).bound ≡ bound
 
--- the first of them were extended, a number of them, each as it might be, and their bounds were noted
+-- the first `count` engines from a place on were extended, each by a piece by which it may be, and their bounds from before are noted
 pub record WereLonger (from : ℕ) (pieces : List (StreamPrefix Plain)) (bounds : List ℕ) (count : ℕ) (before now : List EngineView) : Type 0 where
   pub are : AreLonger from pieces count before now
   pub may : MayEach from pieces before
   pub bounds_were : (input bound : ℕ) → slice_get bounds input ≡ Some bound → IsBound from before input bound
   pub within : from + count ≤ length before
 
--- there are engines that were
+-- these engines came of others, of which the first `count` from a place on were extended
 pub record SomeLonger (from : ℕ) (pieces : List (StreamPrefix Plain)) (bounds : List ℕ) (count : ℕ) (now : List EngineView) : Type 0 where
   pub before : List EngineView
   pub were : WereLonger from pieces bounds count before now

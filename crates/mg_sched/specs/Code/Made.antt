@@ -27,11 +27,11 @@ AtPlaces {X} P xs = (place : ℕ) (x : X) → slice_get xs place ≡ Some x → 
 abbrev pub first_holder : List (Option CalculatorTold) → PlanNode → HolderView
 first_holder given node = unwrap_or (option_map (holder_view true) (option_and_then (λ number. unwrap_or (slice_get given number) None) node.box_number)) (own_told node)
 
--- and the one of a place, while the first nodes alone, a number of them, have what was handed in
+-- the calculator of the node at a place, while the first `count` nodes alone have what was handed in
 abbrev pub holder_before : List (Option CalculatorTold) → ℕ → ℕ → PlanNode → HolderView
 holder_before given count place node = if nat_lt place count then first_holder given node else own_told node
 
--- one of the first nodes, a number of them, has the calculator of a number
+-- one of the first `count` nodes has the calculator of this number
 pub record HasTaken (nodes : List PlanNode) (count number : ℕ) : Type 0 where
   pub place : ℕ
   pub node : PlanNode
@@ -39,14 +39,14 @@ pub record HasTaken (nodes : List PlanNode) (count number : ℕ) : Type 0 where
   pub there : slice_get nodes place ≡ Some node
   pub takes : node.box_number ≡ Some number
 
--- the places of what was handed in, once the first nodes, a number of them, have taken theirs: these places are empty, and all others
--- have what they had
+-- the places of what was handed in, once the first `count` nodes have taken theirs: these places are empty, and all others have what they
+-- had
 pub record IsLeft (nodes : List PlanNode) (given : List (Option CalculatorTold)) (count : ℕ) (now : List (Option CalculatorTold)) : Type 0 where
   pub places : length now ≡ length given
   pub taken : (number : ℕ) → slice_get now number ≡ Some None → HasTaken nodes count number
   pub others : (number : ℕ) (told : CalculatorTold) → slice_get now number ≡ Some (Some told) → (slice_get given number ≡ Some (Some told)) × ¬ HasTaken nodes count number
 
--- each node that has a number finds a calculator there
+-- each node that has a box number finds a calculator in the place of that number
 abbrev pub FindEach : List PlanNode → List (Option CalculatorTold) → Type 0
 FindEach nodes given = All (λ node. IfSome node.box_number (λ number. IsSomeAnd (slice_get given number) (λ told. IsSome told))) nodes
 

@@ -37,27 +37,27 @@ pub record LeadToPorts (count : ℕ) (edges : List Edge) (intakes : List IntakeV
   pub node : (number : ℕ) (e : Edge) → slice_get edges number ≡ Some e → e.node < length intakes
   pub port : (number : ℕ) (e : Edge) (intake : IntakeView) → slice_get edges number ≡ Some e → slice_get intakes e.node ≡ Some intake → e.port < ports_in intake.waits
 
--- numbers by stream: of the first streams, so many, each is what is laid at its output
+-- for the first `upto` streams, the number of each is how many packets are laid at its output
 abbrev pub AreLaid : List EngineView → ℕ → List ℕ → Type 0
 AreLaid engines upto got = (place port : ℕ) (engine : EngineView) → slice_get engines place ≡ Some engine → port < length engine.outputs → engine.first + port < upto
     → slice_index_or got (engine.first + port) 0 ≡ count_at engine port
 
--- each is at most what is laid
+-- the number of each stream is at most how many packets are laid at its output
 abbrev pub AreWithin : List EngineView → List ℕ → Type 0
 AreWithin engines got = (place port : ℕ) (engine : EngineView) → slice_get engines place ≡ Some engine → port < length engine.outputs → slice_index_or got (engine.first + port) 0 ≤ count_at engine port
 
--- an output, where the first streams, so many, have given up by their numbers
+-- an output, once the first `upto` streams have given up as many first packets as their numbers are
 abbrev pub given_below : List ℕ → ℕ → ℕ → Backlog Plain → Backlog Plain
 given_below got upto stream output = if nat_lt stream upto then without_first (slice_index_or got stream 0) output else output
 
--- an engine whose outputs of the first streams, so many, have given up
+-- an engine, once the first `upto` streams have given up packets at their outputs
 pub record GivenBelow (got : List ℕ) (upto : ℕ) (engine engine_now : EngineView) : Type 0 where
   pub rest : engine_now ≡ record engine { outputs = engine_now.outputs }
   pub count : length engine_now.outputs ≡ length engine.outputs
   pub outputs : (port : ℕ) (output output_now : Backlog Plain) → slice_get engine.outputs port ≡ Some output → slice_get engine_now.outputs port ≡ Some output_now → output_now ≡ given_below got upto (engine.first + port) output
   pub lawful : (job : LoggedJob) (owner : Owner) → LawfulEngine job owner engine → LawfulEngine job owner engine_now
 
--- and all engines
+-- all engines, once the first `upto` streams have given up packets at their outputs
 pub record AllGiven (got : List ℕ) (upto : ℕ) (before now : List EngineView) : Type 0 where
   pub count : length now ≡ length before
   pub engines : (place : ℕ) (engine engine_now : EngineView) → slice_get before place ≡ Some engine → slice_get now place ≡ Some engine_now → GivenBelow got upto engine engine_now

@@ -1,4 +1,4 @@
--- Parts of a net that have nothing to do, told by these parts alone: so they stay, whatever becomes of the others.
+-- Parts of a net that have nothing to do, told by these parts alone: that stays so, whatever becomes of the others.
 use Rattle.std.specs.Prelude.{◌≡◌, ◌≢◌, ℕ, ◌+◌, ◌<◌, ◌≤◌, ◌⊎◌, false, List, [], length, Option, Some, None, slice_get, ⊤}
 use Rattle.mg_calc.specs.declared.edge.Edge.{Edge}
 use Rattle.mg_calc.specs.declared.plan.Plan.{Plan}
@@ -37,7 +37,7 @@ pub record OnlyAt (place : ℕ) (before now : NetView) : Type 0 where
   pub intakes : (other : ℕ) → other ≢ place → slice_get now.intakes other ≡ slice_get before.intakes other
   pub desks : (other : ℕ) → other ≢ place → slice_get now.desks other ≡ slice_get before.desks other
 
--- an agenda has kept the places whose parts are no longer as they were
+-- an agenda has noted the places whose parts are no longer as they were
 pub record Notes (before : NetView) (agenda : AgendaView) (now : NetView) (agenda_now : AgendaView) : Type 0 where
   pub grows : (place : ℕ) → IsIn agenda.touched place → IsIn agenda_now.touched place
   pub engines : (place : ℕ) → ¬ IsIn agenda_now.touched place → slice_get now.engines place ≡ slice_get before.engines place
@@ -60,29 +60,30 @@ pub record IsDone (engine : EngineView) (intake : IntakeView) (desk : DeskView) 
   pub shelf : (number : ℕ) → shelf_at engine number ≡ None
   pub raises : is_advanced engine intake.waits ≡ false
 
--- so it is with each node that isn't touched, and with each edge between two places that aren't
+-- each node that isn't touched has nothing to do, and along each edge between two places that aren't touched all has come
 pub record RestBut (plan : Plan) (engines : List EngineView) (intakes : List IntakeView) (desks : List DeskView) (touched : ReadyNodes) : Type 0 where
   pub edges : (number place : ℕ) (e : Edge) (engine : EngineView) (intake : IntakeView) → slice_get plan.edges number ≡ Some e → e.node ≤ length plan.nodes → source_of plan e ≡ Some place
       → ¬ IsIn touched place → ¬ IsIn touched e.node → slice_get engines place ≡ Some engine → slice_get intakes e.node ≡ Some intake → HasBrought engine e intake
   pub nodes : (node : ℕ) (engine : EngineView) (intake : IntakeView) (desk : DeskView) → node < length plan.nodes → ¬ IsIn touched node
       → slice_get engines node ≡ Some engine → slice_get intakes node ≡ Some intake → slice_get desks node ≡ Some desk → IsDone engine intake desk
 
--- all of a net but what an agenda has kept
+-- nothing of a net has anything to do but at the places that an agenda has noted
 abbrev pub RestsBut : NetView → AgendaView → Type 0
 RestsBut net agenda = RestBut net.plan net.engines net.intakes net.desks agenda.touched
 
--- of an agenda that is kept from sweep to sweep, if one is
+-- an agenda that is kept from sweep to sweep, if there is one, is for the nets of a plan
 abbrev pub IsKeptBy : Plan → Option AgendaView → Type 0
 IsKeptBy plan None = ⊤
 IsKeptBy plan (Some agenda) = IsAgendaOf plan agenda
 
+-- an agenda is kept, and nothing has anything to do but at the places that it has noted
 abbrev pub RestsButKept : Plan → List EngineView → List IntakeView → List DeskView → Option AgendaView → Type 0
 RestsButKept plan engines intakes desks None = ⊥
 RestsButKept plan engines intakes desks (Some agenda) = RestBut plan engines intakes desks agenda.touched
 
 -- What is touched from outside between two sweeps.
 
--- the last places are put in, so many
+-- the last `count` places are touched
 pub record WakesLast (count : ℕ) (before now : AgendaView) : Type 0 where
   pub heads : length now.heads ≡ length before.heads
   pub starts : now.starts ≡ before.starts
@@ -98,7 +99,7 @@ pub record Touches (place : ℕ) (before now : AgendaView) : Type 0 where
   pub touched : IsIn now.touched place
   pub only : ChangesOnly before.touched now.touched place
 
--- so it is of an agenda that is kept, if one is
+-- an agenda that is kept changes like this, and where none is kept, none is kept afterwards
 abbrev pub OfKept : (AgendaView → AgendaView → Type 0) → Option AgendaView → Option AgendaView → Type 0
 OfKept P None now = now ≡ None
 OfKept P (Some before) None = ⊥
@@ -106,18 +107,19 @@ OfKept P (Some before) (Some now) = P before now
 
 -- Places with nothing to do.
 
--- of the edges from a place those rest that stand from one on, each behind the one before
+-- nothing goes along an edge and along the later ones from the same place
 abbrev pub EdgesRestFrom : Plan → Option ℕ → NetView → Type 0
 EdgesRestFrom plan first net = (place low number : ℕ) → IsFirstFrom plan low place first → low ≤ number → LeadsFrom plan place number → Acts (Deliver number) Idle net net
 
--- all of them rest, and all into a place
+-- nothing goes along the edges from a place
 abbrev pub EdgesRestBehind : NetView → ℕ → Type 0
 EdgesRestBehind net place = (number : ℕ) → LeadsFrom net.plan place number → Acts (Deliver number) Idle net net
 
+-- nothing goes along the edges into a place
 abbrev pub EdgesRestInto : NetView → ℕ → Type 0
 EdgesRestInto net place = (number : ℕ) (e : Edge) → slice_get net.plan.edges number ≡ Some e → e.node ≡ place → Acts (Deliver number) Idle net net
 
--- and the node of a place, if it is one, has nothing to do either
+-- nothing goes along the edges into a place and from it, and the node there, if there is one, has nothing to do
 pub record RestsHere (net : NetView) (place : ℕ) : Type 0 where
   pub into : EdgesRestInto net place
   pub behind : EdgesRestBehind net place

@@ -23,13 +23,13 @@ impl<C: Calculator> Net<C> {
         ensures running { IsRunning self.new }
         ensures idle { result ≡ Effect.Idle → self.new ≡ self.old }
 
-        // What stands for a job stands for it after each step, whatever the steps are.
+        // The net still stands for each job for which it stood.
         ensures stands { (job : LoggedJob) → StandsFor job self.old → StandsFor job self.new }
     {
         self.make(event, gate)
     }
 
-    // Makes a step, and tells what that changes.
+    // Makes a step, and returns its effect.
     fn make<G: Gate>(&mut self, event: Event, gate: &G) -> Effect
         requires event { IsEventOf self.old event }
         requires running { IsRunning self.old }

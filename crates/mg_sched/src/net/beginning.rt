@@ -10,7 +10,7 @@ use super::Net;
 use mg_calc::{Calculator, GivenList, Plan, node_sides};
 use std::alloc::{AllocError, Global};
 
-// The side packets of a node of a number.
+// Returns the side packets of a node, by its number.
 fn sides_at(
     alloc: Global,
     plan: &Plan,

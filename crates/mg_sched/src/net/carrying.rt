@@ -11,7 +11,7 @@ use crate::sources::{producer_of, source_of};
 use mg_calc::{Calculator, Edge, Effect, Producer};
 use mg_node::Delivered;
 
-// What a delivery did.
+// Returns the effect of a delivery.
 fn effect_of(delivered: Delivered) -> Effect
     ensures { result ≡ effect_of delivered }
 {
@@ -25,7 +25,7 @@ fn effect_of(delivered: Delivered) -> Effect
     }
 }
 
-// Whether a step did something.
+// Returns the effect of a step that has memory, by whether it did something.
 fn done_if(done: bool) -> Effect
     ensures { result ≡ (if done then Effect.Did else Effect.Idle) }
 {

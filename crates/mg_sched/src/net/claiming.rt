@@ -15,7 +15,7 @@ use mg_calc::{Calculator, Effect};
 use mg_node::{Claimed, Intake, Work};
 use mg_throttle::Limits;
 
-// Tells limits how many packets wait at each port of an intake, from the edge of a number on.
+// Tells limits how many packets wait at each port of an intake. The edges into its ports have the numbers from `first` on.
 fn note_all(limits: &mut Limits, first: u32, intake: &Intake)
     requires queues { first + ports_in intake.now.waits ≤ length limits.old.queues }
     requires short { length limits.old.queues < 2 ^ 32 }

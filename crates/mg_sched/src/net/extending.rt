@@ -16,7 +16,7 @@ use mg_time::Timestamp;
 use mg_value::{Prefix, PrefixList};
 use std::alloc::{AllocError, Global};
 
-// The bounds of graph inputs, whose engines stand from a place on, one for each piece.
+// Returns the bounds of graph inputs, one for each piece. Their engines stand at the places from `from` on.
 fn bounds_of<C: Calculator>(
     alloc: Global,
     engines: &[Engine<C>],
@@ -50,7 +50,7 @@ fn extend_at<C: Calculator>(
     Ok(())
 }
 
-// Extends engines from a place on, each by its piece, as far as there is memory, and tells how many are extended.
+// Extends the engines from `from` on, each by its piece, as far as there is memory, and returns how many are extended.
 fn extend_each<C: Calculator>(engines: &mut [Engine<C>], from: usize, pieces: &PrefixList) -> u32
     requires within { from + length pieces.now ≤ length engines.old }
     requires may { MayEach from pieces.now engines.old }
@@ -80,7 +80,7 @@ fn shorten_at<C: Calculator>(
     engines[place].shorten(piece, bound);
 }
 
-// Takes the pieces back from the first of some engines, so many.
+// Takes the pieces back from the first `count` engines from `from` on.
 fn shorten_each<C: Calculator>(
     engines: &mut [Engine<C>],
     from: usize,
@@ -101,8 +101,8 @@ fn shorten_each<C: Calculator>(
     }
 }
 
-// Extends the last engines, each by its piece. Where one can't be, the pieces that were laid before are taken back: only while they are
-// laid does it show whether there is memory for all.
+// Extends the last engines, each by its piece. Where one can't be, the pieces that were laid before are taken back: whether there is memory
+// for all shows only while they are laid.
 fn extend_last<C: Calculator>(
     alloc: Global,
     engines: &mut [Engine<C>],

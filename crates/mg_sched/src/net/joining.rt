@@ -11,7 +11,7 @@ use super::{IndexedPlan, Net, NetRest};
 use crate::net_parts::NetParts;
 use mg_calc::Calculator;
 
-// The net that has these parts. Its limits know what they knew.
+// Returns the net that has these parts. Its limits aren't told anew what waits.
 fn joined<C: Calculator>(parts: NetParts<C>) -> Net<C>
     ensures { result ≡ net_of (record { plan = parts.plan; engines = parts.engines.items; intakes = parts.intakes.items; rest = parts.rest }) }
 {
@@ -59,8 +59,8 @@ fn joined<C: Calculator>(parts: NetParts<C>) -> Net<C>
 }
 
 impl<C: Calculator> Net<C> {
-    /// The net of the parts into which one came apart, whatever became of them since: it stands for each job of which they are the
-    /// parts. Its limits are told anew what waits. Nothing is copied, and no memory is taken.
+    /// Puts a net together of the parts into which one came apart, whatever became of them since: it stands for each job of which they are
+    /// the parts. Its limits are told anew what waits. Nothing is copied, and no memory is taken.
     pub fn put_together(parts: NetParts<C>) -> Net<C>
         requires { AreParts (record { plan = parts.plan; engines = parts.engines.items; intakes = parts.intakes.items; rest = parts.rest }) }
         ensures together { IsPutTogether (record { plan = parts.plan; engines = parts.engines.items; intakes = parts.intakes.items; rest = parts.rest }) result }

@@ -7,7 +7,7 @@ ghost use Rattle.mg_sched.specs.Trims.{Keeps};
 use super::Net;
 use mg_calc::Calculator;
 
-// Sets a place of some marks.
+// Sets the mark at a place.
 fn mark(marks: &mut [bool], place: usize)
     requires { place < length marks.old }
     ensures { marks.new ≡ slice_set marks.old place true }
@@ -16,13 +16,13 @@ fn mark(marks: &mut [bool], place: usize)
 }
 
 impl<C: Calculator> Net<C> {
-    /// Keeps all that is laid of a stream from now on: `trim` gives up nothing of it any more. What was given up before stays so.
+    /// Keeps all that is laid of a stream from now on: `trim` gives up no more packets of it. What was given up before stays given up.
     pub fn keep(&mut self, stream: u32)
         requires stream { stream < length self.old.plan.streams }
         requires stands { StandsForSome self.old }
         ensures keeps { Keeps stream self.old self.new }
 
-        // What stands for a job still stands for it.
+        // The net still stands for each job for which it stood.
         ensures stands { (job : LoggedJob) → StandsFor job self.old → StandsFor job self.new }
     {
         mark(&mut self.kept, stream as usize);

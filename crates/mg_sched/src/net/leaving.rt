@@ -13,7 +13,7 @@ use crate::desk::Desk;
 use mg_calc::{Calculator, Plan};
 use mg_node::Engine;
 
-// The calculator of a cell that was handed in.
+// Returns the calculator of a cell, if it was handed in.
 fn calculator_of<C: Calculator>(engine: Engine<C>, desk: Desk<C>) -> Option<C>
     ensures { option_map C.told result ≡ cell_told engine desk }
 {
@@ -54,7 +54,7 @@ fn put_back<C: Calculator>(
     }
 }
 
-// All that lies in places, in order, behind what is in a list with room for it.
+// Appends the calculators that lie in places, in order, to a list with room for them.
 fn all_in<C: Calculator>(places: Vec<Option<C>>, boxes: Vec<C>) -> Vec<C>
     requires room { vec_len boxes + length places.items ≤ vec_capacity boxes }
     ensures { map C.told result.items ≡ map C.told boxes.items ++ filter_map (λ (p : Option CalculatorTold). p) (map (option_map C.told) places.items) }
@@ -68,12 +68,12 @@ fn all_in<C: Calculator>(places: Vec<Option<C>>, boxes: Vec<C>) -> Vec<C>
 }
 
 impl<C: Calculator> Net<C> {
-    /// All calculators that were handed in, in their order: those of nodes, and those that no node uses.
+    /// Returns all calculators that were handed in, in the order in which they came: those of nodes, and those that no node uses.
     pub fn give_back(self) -> Vec<C>
         ensures told { map C.told result.items ≡ given_back self }
 
-        // A net that stands for a job, begun or not, or was wound up since, gives back as many as were handed in. That of a node stands
-        // at the place of its number, and one that no node uses is as it lay.
+        // A net that stands for a job, begun or not, or was wound up since, gives back as many calculators as were handed in. The
+        // calculator of a node stands at the place of its box number, and one that no node uses is as it lay.
         ensures count { (job : LoggedJob) → StoodFor job self → length result.items ≡ length job.boxes }
         ensures own { (job : LoggedJob) (number place : ℕ) (node : PlanNode) (engine : EngineView) (desk : DeskView) → StoodFor job self
             → slice_get self.plan.nodes number ≡ Some node → node.box_number ≡ Some place → slice_get self.engines number ≡ Some engine → slice_get self.desks number ≡ Some desk

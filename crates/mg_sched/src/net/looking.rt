@@ -14,7 +14,7 @@ use mg_node::Engine;
 use mg_time::Timestamp;
 use mg_value::Packet;
 
-// The packet of a stream, by its number.
+// Returns a stream's packet of this number, if it is laid and not given up.
 fn packet_of<'a, C: Calculator>(
     plan: &Plan,
     engines: &'a [Engine<C>],
@@ -40,7 +40,7 @@ fn bound_of<C: Calculator>(plan: &Plan, engines: &[Engine<C>], stream: u32) -> T
 }
 
 impl<C: Calculator> Net<C> {
-    /// A packet of a stream, by its number from 0 on: there exactly where it was laid and isn't given up.
+    /// Returns a stream's packet of this number, from 0 on, if it is laid and not given up. A stream that isn't there has no packets.
     pub fn packet(&self, stream: u32, number: u64) -> Option<&Packet>
         requires { StandsForSome self.now }
         ensures packet { (output : Backlog Plain) → IsOutputOf self.now stream output → option_copied result ≡ kept_packet output number }
@@ -53,7 +53,7 @@ impl<C: Calculator> Net<C> {
         }
     }
 
-    /// The bound of a stream.
+    /// Returns the bound of a stream: the lowest timestamp that a further packet of it may have.
     pub fn bound(&self, stream: u32) -> Timestamp
         requires stream { stream < length self.now.plan.streams }
         requires stands { StandsForSome self.now }

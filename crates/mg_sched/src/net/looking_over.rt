@@ -47,7 +47,8 @@ impl<C: Calculator> Net<C> {
         Ok(did)
     }
 
-    // So it is where no queue is full.
+    // Looks over the places whose parts may have changed, one after the other, up to the first at which something is done. No queue is
+    // full. Tells whether something was done.
     fn look_at_touched<G: Gate, H: Hears>(
         &mut self,
         agenda: &mut Agenda,
@@ -131,7 +132,7 @@ impl<C: Calculator> Net<C> {
         Ok(did)
     }
 
-    // So it is where a consumer stands there.
+    // Brings along each edge into a consumer what its port hasn't got. Tells whether something was brought.
     fn receive<G: Gate, H: Hears>(
         &mut self,
         consumer: u32,
@@ -200,7 +201,7 @@ impl<C: Calculator> Net<C> {
         Ok(false)
     }
 
-    // Lets the node of a place work, if it is one. Tells whether something was done.
+    // Lets the node at a place work, if there is one. Tells whether something was done.
     fn look_on<G: Gate, H: Hears>(
         &mut self,
         place: u32,
@@ -228,7 +229,7 @@ impl<C: Calculator> Net<C> {
         Ok(false)
     }
 
-    // Lets a node work, and puts it in where it did something. Tells whether something was done.
+    // Lets a node work, and adds it to the agenda if it did something. Tells whether something was done.
     fn work_here<G: Gate, H: Hears>(
         &mut self,
         node: u32,
@@ -270,7 +271,7 @@ impl<C: Calculator> Net<C> {
         self.plan.edges.len()
     }
 
-    // Makes a step, and tells what hears it. Tells whether it did something.
+    // Makes a step, and lets the hearer hear it if it did something. Tells whether it did something.
     pub(super) fn step<G: Gate, H: Hears>(
         &mut self,
         event: Event,

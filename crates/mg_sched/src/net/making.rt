@@ -22,7 +22,7 @@ struct Parts<C: Calculator> {
     rules: Rules,
 }
 
-// The parts of a net, with room for so many calculators that are handed in.
+// Returns the parts of a net, with room for `count` calculators that are handed in.
 fn parts_of<C: Calculator>(
     alloc: Global,
     plan: &Plan,
@@ -54,7 +54,7 @@ fn parts_of<C: Calculator>(
     Ok(Parts { kept, cells, rules })
 }
 
-// The net of its parts, once the calculators that were handed in are with their nodes. It takes no memory.
+// Returns the net of these parts, with the calculators that were handed in at their nodes. No memory is taken.
 fn joined<C: Calculator>(alloc: Global, plan: &Plan, parts: Parts<C>, boxes: Vec<C>) -> Net<C>
     requires valid { IsValid plan.now }
     requires boxes { BoxesFit plan.now (map C.told boxes.items) }
@@ -120,7 +120,7 @@ fn joined<C: Calculator>(alloc: Global, plan: &Plan, parts: Parts<C>, boxes: Vec
 }
 
 impl<C: Calculator> Net<C> {
-    /// The net of a plan over inputs, with the calculators that are handed in: the node of a box number gets the one of that number.
+    /// Makes the net of a plan over inputs, with the calculators that are handed in: a node with a box number gets the one of that number.
     /// No node is begun. Want of memory hands the calculators back.
     pub fn new(alloc: Global, plan: &Plan, inputs: &Inputs, boxes: Vec<C>) -> Result<Net<C>, Vec<C>>
         requires job { IsJob (record { plan = plan.now; inputs = inputs.now }) }

@@ -26,7 +26,8 @@ fn put_back<C: Calculator>(engine: &mut Engine<C>, desk: &mut Desk<C>)
 
 impl<C: Calculator> Net<C> {
     /// Takes a net apart: the works that lie on desks stand in their windows again, as they are, and each part comes out. Nothing is
-    /// copied, and no memory is taken. What the net stood for the parts are of, and the net is put together of them again.
+    /// copied, and no memory is taken. The parts are those of each job for which the net stood, and `put_together` makes a net of them
+    /// again.
     pub fn apart(self) -> NetParts<C>
         requires running { IsRunning self }
         requires stands { StandsForSome self }
@@ -75,8 +76,8 @@ impl<C: Calculator> Net<C> {
         }
     }
 
-    /// Puts all works that lie on desks back into their windows, as they are: what is claimed isn't performed. What the net stands for it
-    /// stands for still.
+    /// Puts all works that lie on desks back into their windows, as they are: what is claimed isn't performed. The net still stands for
+    /// each job for which it stood.
     pub fn put_back_all(&mut self)
         requires running { IsRunning self.old }
         requires stands { StandsForSome self.old }

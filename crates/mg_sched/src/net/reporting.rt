@@ -35,7 +35,7 @@ fn waiting_at(intakes: &[Intake]) -> u64
     held
 }
 
-// How many sets engines have laid.
+// Returns for each engine how many sets it has laid.
 fn sets_of<C: Calculator>(alloc: Global, engines: &[Engine<C>]) -> Result<CountList, AllocError>
     ensures { IfOk result (λ l. l ≡ map (λ e. e.laid) engines.now) }
 {
@@ -73,7 +73,7 @@ fn end_at<C: Calculator>(engine: &Engine<C>, output: u32) -> StreamEnd
     }
 }
 
-// Tells behind the others how far the streams of an engine have come.
+// Appends how far the streams of an engine have come.
 fn tell_ends<C: Calculator>(ends: &mut Vec<StreamEnd>, engine: &Engine<C>) -> Result<(), AllocError>
     ensures { OnOk result (ends.new.items ≡ ends.old.items ++ ends_of engine.now) }
 {
@@ -83,7 +83,7 @@ fn tell_ends<C: Calculator>(ends: &mut Vec<StreamEnd>, engine: &Engine<C>) -> Re
     Ok(())
 }
 
-// The same for several engines.
+// Appends how far the streams of each engine have come.
 fn tell_all<C: Calculator>(
     ends: &mut Vec<StreamEnd>,
     engines: &[Engine<C>],
@@ -111,7 +111,7 @@ fn streams_of<C: Calculator>(
 }
 
 impl<C: Calculator> Net<C> {
-    /// How many packets are in the net, in its engines and its intakes. A number past 64 bits is told as the greatest one.
+    /// Returns how many packets are in the net, in its engines and its intakes. A number past 64 bits is returned as `u64::MAX`.
     pub fn held(&self) -> u64
         ensures { result ≡ min (held_in self.now) (2 ^ 64 - 1) }
     {

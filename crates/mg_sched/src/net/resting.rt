@@ -9,7 +9,7 @@ use super::Net;
 use mg_calc::{Calculator, Effect};
 use std::alloc::AllocError;
 
-// Whether a step did something.
+// Whether a step did something. Want of memory is an error.
 fn did(effect: Effect) -> Result<bool, AllocError>
     ensures { IfOk result (λ did. effect ≡ effect_if did) }
 {
@@ -21,9 +21,9 @@ fn did(effect: Effect) -> Result<bool, AllocError>
 }
 
 impl<C: Calculator> Net<C> {
-    /// Whether the net is at rest: no event would do anything. It looks at each event once at most, and no further than the first that
-    /// would do something. That one is made, unless it performs a work: no calculator is called. So a look costs what the graph has of
-    /// nodes, ports and edges, and one step. Want of memory keeps what that step has moved.
+    /// Whether the net is at rest: no event would do anything. Each event is looked at once at most, up to the first that would do
+    /// something. That event is made, unless it performs a work: no calculator is called. So a look costs what the graph has of nodes,
+    /// ports and edges, and one step. At want of memory what a delivery has moved stays moved.
     pub fn rests(&mut self) -> Result<bool, AllocError>
         requires running { IsRunning self.old }
         requires stands { StandsForSome self.old }
@@ -42,7 +42,7 @@ impl<C: Calculator> Net<C> {
         Ok(!relaxed)
     }
 
-    // Whether something goes along an edge. The first that does is brought.
+    // Whether something goes along some edge. What goes along the first such edge is brought.
     fn goes_along_edges(&mut self) -> Result<bool, AllocError>
         requires running { IsRunning self.old }
         requires stands { StandsForSome self.old }
@@ -58,7 +58,7 @@ impl<C: Calculator> Net<C> {
         Ok(false)
     }
 
-    // Whether a node would do something.
+    // Whether some node has something to do. What the first such node has to do is done, unless it is to perform a work.
     fn goes_on_at_nodes(&mut self) -> Result<bool, AllocError>
         requires running { IsRunning self.old }
         requires stands { StandsForSome self.old }
@@ -74,7 +74,7 @@ impl<C: Calculator> Net<C> {
         Ok(false)
     }
 
-    // Whether a node would do something. A work isn't performed.
+    // Whether a node has something to do, which is done, unless it is to perform a work.
     fn goes_on_at(&mut self, node: u32) -> Result<bool, AllocError>
         requires running { IsRunning self.old }
         requires stands { StandsForSome self.old }
@@ -91,7 +91,7 @@ impl<C: Calculator> Net<C> {
         }
     }
 
-    // So it is where no work is claimed and not performed.
+    // Whether a node has a work to commit or to claim, or an output to raise, which is done. No work lies on its desk.
     fn lays_at(&mut self, node: u32) -> Result<bool, AllocError>
         requires running { IsRunning self.old }
         requires stands { StandsForSome self.old }
@@ -112,7 +112,8 @@ impl<C: Calculator> Net<C> {
         }
     }
 
-    // So it is where none is performed and not committed either.
+    // Whether a node has a work to claim or an output to raise, which is done. No work lies on its desk, and none in its window is
+    // performed and not committed.
     fn takes_at(&mut self, node: u32) -> Result<bool, AllocError>
         requires running { IsRunning self.old }
         requires stands { StandsForSome self.old }

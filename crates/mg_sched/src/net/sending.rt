@@ -20,7 +20,7 @@ use mg_calc::{Calculator, Edge, Event};
 use mg_edge::Gate;
 use std::alloc::AllocError;
 
-// Keeps the place of a consumer in mind, and puts it in where it is one of the nodes. The collector is none.
+// Notes that the parts of a consumer have changed, and adds it to the agenda if it is a node and not the collector.
 fn put_next(agenda: &mut Agenda, consumer: u32, nodes: u32)
     requires place { consumer ≤ length agenda.old.heads }
     requires nodes { nodes ≤ length agenda.old.heads }
@@ -34,7 +34,7 @@ fn put_next(agenda: &mut Agenda, consumer: u32, nodes: u32)
     }
 }
 
-// Keeps a graph input that is throttled, which goes on with an edge then.
+// Holds back a graph input that is throttled. Sending from it goes on from this edge.
 fn hold_at(agenda: &mut Agenda, place: u32, edge: u32)
     requires place { place < length agenda.old.heads }
     requires edge { edge < length agenda.old.links }
@@ -50,8 +50,9 @@ fn hold_at(agenda: &mut Agenda, place: u32, edge: u32)
 }
 
 impl<C: Calculator> Net<C> {
-    // Brings what came at a graph input along its edges until it is throttled. It is kept then, and goes on with that edge: along those
-    // before it all has gone, since no more comes at a graph input while a net is swept. Tells whether something was brought.
+    // Brings what came at a graph input along its edges until the input is throttled. The input is held back then, and sending goes on from
+    // the edge whose turn it was: along those before it all has gone, since nothing comes at a graph input while a net is swept. Tells
+    // whether something was brought.
     pub(super) fn send_until_held<G: Gate, H: Hears>(
         &mut self,
         place: u32,
@@ -85,7 +86,7 @@ impl<C: Calculator> Net<C> {
         Ok(did)
     }
 
-    // Whether the edge of a number leads from a graph input that is throttled.
+    // Whether the edge of this number leads from a graph input that is throttled.
     fn is_held_at(&self, edge: u32) -> bool
         requires there { edge < length self.now.plan.edges }
         requires stands { StandsForSome self.now }
@@ -95,8 +96,8 @@ impl<C: Calculator> Net<C> {
         self.is_held(self.plan.edges.as_slice()[edge as usize])
     }
 
-    // Brings along the edges that lead from a place what their ports haven't got, and puts in the nodes to which something came. Tells
-    // whether something did.
+    // Brings along the edges that lead from a place what their ports haven't got, and adds the nodes to which something came to the agenda.
+    // Tells whether something came.
     pub(super) fn send<G: Gate, H: Hears>(
         &mut self,
         place: u32,
@@ -120,7 +121,8 @@ impl<C: Calculator> Net<C> {
         Ok(did)
     }
 
-    // The same along an edge and those behind it that lead from the same place.
+    // Brings along an edge, and along the later ones from the same place, what their ports haven't got, and adds the nodes to which
+    // something came to the agenda. Tells whether something came.
     pub(super) fn send_from<G: Gate, H: Hears>(
         &mut self,
         first: Option<u32>,
@@ -150,7 +152,7 @@ impl<C: Calculator> Net<C> {
         Ok(did)
     }
 
-    // Brings along an edge what its port hasn't got, and puts in the node to which something came. Tells whether something did.
+    // Brings along an edge what its port hasn't got, and adds the node to the agenda if something came to it. Tells whether something came.
     pub(super) fn send_along<G: Gate, H: Hears>(
         &mut self,
         edge: u32,
@@ -178,7 +180,7 @@ impl<C: Calculator> Net<C> {
         Ok(true)
     }
 
-    // Puts in the node into which an edge leads, and keeps its place in mind.
+    // Notes that the parts of an edge's consumer have changed, and adds it to the agenda if it is a node.
     fn put_consumer(&self, edge: u32, agenda: &mut Agenda)
         requires there { edge < length self.now.plan.edges }
         requires stands { StandsForSome self.now }
@@ -191,7 +193,7 @@ impl<C: Calculator> Net<C> {
         put_next(agenda, edge.node, nodes);
     }
 
-    // The edge of a number.
+    // Returns the edge of this number.
     fn edge_at(&self, number: u32) -> Edge
         requires { number < length self.now.plan.edges }
         ensures { slice_get self.now.plan.edges number ≡ Some result }

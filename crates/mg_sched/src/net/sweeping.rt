@@ -28,7 +28,7 @@ use mg_node::Intake;
 use mg_throttle::Limits;
 use std::alloc::AllocError;
 
-// Whether so many packets are as many as the limit of a queue is, or more.
+// Whether `packets` packets reach the limit of a queue, if it has one.
 fn is_queue_at_limit(limits: &Limits, number: u32, packets: u64) -> bool
     requires { number < length limits.now.queues }
     ensures { result ≡ is_at_limit limits.now.queues number packets }
@@ -39,7 +39,8 @@ fn is_queue_at_limit(limits: &Limits, number: u32, packets: u64) -> bool
     }
 }
 
-// Whether as many packets wait at a port of an intake as its queue's limit is, or more. The queues are those from a number on.
+// Whether as many packets wait at some port of an intake as its queue's limit is, or more. The queues of the ports have the numbers from
+// `first` on.
 fn is_at_limit(limits: &Limits, first: u32, intake: &Intake) -> bool
     requires queues { first + ports_in intake.now.waits ≤ length limits.now.queues }
     requires short { length limits.now.queues < 2 ^ 32 }
@@ -53,7 +54,7 @@ fn is_at_limit(limits: &Limits, first: u32, intake: &Intake) -> bool
     false
 }
 
-// Puts a node in, where it may have more to do.
+// Adds a node to the agenda if it may have more to do.
 fn put_again(agenda: &mut Agenda, node: u32, again: bool)
     requires { node < length agenda.old.heads }
     ensures { agenda.new ≡ record agenda.old { ready = agenda.new.ready } }
@@ -63,8 +64,8 @@ fn put_again(agenda: &mut Agenda, node: u32, again: bool)
     }
 }
 
-// Keeps in mind that a node has worked, and puts it in where it may have more to do. Where one of its queues was full, the feeders that
-// were kept are put in too.
+// Notes that a node has worked, and adds it to the agenda if it may have more to do. If one of its queues was full, the feeders that were
+// held back are added too.
 pub(super) fn go_on_with(agenda: &mut Agenda, node: u32, again: bool, was_full: bool)
     requires { node < length agenda.old.heads }
     ensures touched { IsIn agenda.new.touched node }
@@ -78,7 +79,7 @@ pub(super) fn go_on_with(agenda: &mut Agenda, node: u32, again: bool, was_full: 
     }
 }
 
-// An agenda in which all places are, unless the one before was known to have those that matter.
+// Returns the agenda as it is if it is known to have noted all that changed, and otherwise with all places woken.
 fn woken_unless(known: bool, agenda: Agenda) -> Agenda
     ensures heads { length result.heads ≡ length agenda.heads }
     ensures leads { (result.starts ≡ agenda.starts) × (result.links ≡ agenda.links) }
@@ -98,13 +99,13 @@ impl<C: Calculator> Net<C> {
     /// throttled waits until a queue falls below its limit, and where nothing else can be done limits are relaxed (MediaPipe, Real-time
     /// Streams). No set is taken from the collector. At want of memory the steps made so far stand, and this may be called again.
     ///
-    /// Each event that does something is told, once it has done it: what hears them hears a run of the net. That run leads to where the
-    /// net is now; at want of memory it may end before a step that wasn't made whole.
+    /// Each event that does something is told to the hearer, once it has done it: what the hearer hears is a run of the net. That run leads
+    /// to where the net is now; at want of memory it may end before a step that was made only in part.
     ///
     /// A packet costs what the steps on its way cost. At its end a sweep looks over the whole net, unless nothing but `extend`,
-    /// `extend_last` and `take_out` has changed it since the last sweep, which came to rest. Then it begins with the graph inputs that
-    /// were extended, and looks over these, the collector and the places of its own steps alone. The first sweep takes memory for what
-    /// is kept, and so does the first one behind workers.
+    /// `extend_last`, `keep` and `take_out` has changed it since the last sweep, which came to rest. Then it begins with the graph inputs
+    /// that were extended, and looks over these, the collector and the places of its own steps alone. The first sweep takes memory for the
+    /// agenda that is kept, and so does the first one after the net was put together of its parts.
     pub fn sweep<G: Gate, H: Hears>(&mut self, gate: &G, hearer: &mut H) -> Result<(), AllocError>
         requires running { IsRunning self.old }
         requires stands { StandsForSome self.old }
@@ -116,7 +117,7 @@ impl<C: Calculator> Net<C> {
         ensures stands { (job : LoggedJob) → StandsFor job self.old → StandsFor job self.new }
         ensures taken { taken_out self.new ≡ taken_out self.old }
 
-        // What the nodes have claimed is within the weight of the job.
+        // The nodes have claimed at most as many sets, calls and answers, all together, as the weight of the job is.
         ensures weight { (job : LoggedJob) (solution : List (StreamPrefix Plain)) → StandsFor job self.old → Solves job solution → claimed_in self.new ≤ weight job.job solution }
     {
         self.come_to_rest(gate, hearer)
@@ -148,7 +149,7 @@ impl<C: Calculator> Net<C> {
         }
     }
 
-    // The agenda that the last sweep left, or a new one. Where nothing is known of the net all places are in.
+    // Takes the agenda that the last sweep left, or makes a new one. All places are in it where it isn't known which have changed.
     fn take_agenda(&mut self) -> Result<Agenda, AllocError>
         requires { StandsForSome self.old }
         ensures same { self.new ≡ self.old }
@@ -164,7 +165,7 @@ impl<C: Calculator> Net<C> {
         Ok(woken_unless(known, agenda))
     }
 
-    // A new agenda, in which all places are.
+    // Returns a new agenda with all places in it.
     fn made_agenda(&self) -> Result<Agenda, AllocError>
         requires { StandsForSome self.now }
         ensures agenda { IfOk result (λ a. IsAgendaOf self.now.plan a) }
@@ -184,7 +185,7 @@ impl<C: Calculator> Net<C> {
         self.known = known;
     }
 
-    // Makes the steps that are known of, and looks over the places whose parts have changed, until nothing is done.
+    // Visits the places of the agenda, and looks over the places whose parts have changed, until nothing is done.
     fn rest_by<G: Gate, H: Hears>(
         &mut self,
         agenda: &mut Agenda,
@@ -210,7 +211,7 @@ impl<C: Calculator> Net<C> {
         }
     }
 
-    // Makes the steps that are known of, and those that they bring about.
+    // Visits the places of the agenda, and those that are added on the way, and relaxes limits, until nothing is done.
     fn work_off<G: Gate, H: Hears>(
         &mut self,
         agenda: &mut Agenda,
@@ -230,7 +231,7 @@ impl<C: Calculator> Net<C> {
         Ok(())
     }
 
-    // Visits places until something is done, and where there is nothing to do relaxes limits. Tells whether something was done.
+    // Visits the places of the agenda until something is done, and relaxes limits if nothing was. Tells whether something was done.
     fn go_on<G: Gate, H: Hears>(
         &mut self,
         agenda: &mut Agenda,
@@ -257,7 +258,7 @@ impl<C: Calculator> Net<C> {
         Ok(relaxed)
     }
 
-    // Lets the part at a place do what it can. Tells whether something was done.
+    // Lets the node or the graph input at a place do what it can. Tells whether something was done.
     fn visit<G: Gate, H: Hears>(
         &mut self,
         place: u32,
@@ -285,7 +286,8 @@ impl<C: Calculator> Net<C> {
     }
 
     // Lets a node work, unless it is a source that is throttled, and sends on what it laid. A source may have more to do then, and any
-    // other node only once something comes to it. Where it took packets from a full queue, the feeders that were held may feed again.
+    // other node only once something comes to it. Where the node took packets from a full queue, the feeders that were held back may feed
+    // again. Tells whether something was done.
     fn visit_node<G: Gate, H: Hears>(
         &mut self,
         node: u32,

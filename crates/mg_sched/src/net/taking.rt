@@ -1,4 +1,4 @@
-//! What leaves a net: the sets of the graph's outputs, and packets that are given up.
+//! How the sets of the graph's outputs leave a net.
 ghost use Rattle.std.specs.Prelude.{◌≡◌, List, length};
 ghost use Rattle.std.specs.Bool.{OnTrue};
 ghost use Rattle.mg_value.specs.Payload.{Plain};
@@ -14,15 +14,15 @@ use mg_calc::Calculator;
 use mg_value::InputSet;
 
 impl<C: Calculator> Net<C> {
-    /// Takes the next settled set of the graph's outputs, where there is one: it is then in `into`, which has a place for each output.
-    /// Otherwise nothing changes.
+    /// Takes the next settled set of the graph's outputs, and returns whether there was one: it is then in `into`, which has a place for
+    /// each output. Otherwise nothing changes.
     pub fn take_out(&mut self, into: &mut InputSet) -> bool
         requires places { length into.old ≡ length self.old.plan.outputs }
         requires stands { StandsForSome self.old }
         ensures taken { TakesOut result into.old into.new self.old self.new }
         ensures stands { (job : LoggedJob) → StandsFor job self.old → StandsFor job self.new }
 
-        // The set is that of its number in the solution.
+        // The set is the one that the solution has under the same number.
         ensures in_solution { (job : LoggedJob) (streams : List (StreamPrefix Plain)) → Solves job streams → StandsFor job self.old
             → OnTrue result (HasSet job streams (length self.old.plan.nodes) (taken_out self.old) into.new) }
     {

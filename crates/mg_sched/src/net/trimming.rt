@@ -44,7 +44,7 @@ fn set_laid<C: Calculator>(got: &mut [u64], plan: &Plan, engines: &[Engine<C>])
     }
 }
 
-// Lowers the number of each stream to what came along its edges.
+// Lowers the number of each stream to the fewest packets that came along one of its edges.
 fn lower(got: &mut [u64], edges: &[Edge], intakes: &[Intake])
     requires { LeadToPorts (length got.old) edges.now intakes.now }
     ensures lowered { (stream : ℕ) → slice_index_or got.new stream 0 ≡ fold min (slice_index_or got.old stream 0) (came_of intakes.now edges.now stream) }
@@ -57,14 +57,14 @@ fn lower(got: &mut [u64], edges: &[Edge], intakes: &[Intake])
     }
 }
 
-// A number, or none where a stream is kept.
+// Returns the number of a stream, or 0 if the stream is kept.
 fn spared(number: u64, kept: bool) -> u64
     ensures { result ≡ (if kept then 0 else number) }
 {
     if kept { 0 } else { number }
 }
 
-// Sets the number of each stream that is kept to none.
+// Sets the number of each stream that is kept to 0.
 fn spare(got: &mut [u64], kept: &[bool])
     requires { length got.old ≡ length kept.now }
     ensures spared { (stream : ℕ) → slice_index_or got.new stream 0 ≡ (if slice_index_or kept.now stream false then 0 else slice_index_or got.old stream 0) }
@@ -75,7 +75,7 @@ fn spare(got: &mut [u64], kept: &[bool])
     }
 }
 
-// Gives up of each stream the first packets, by its number.
+// Gives up the first packets of each stream, as many in all as its number is.
 fn give_up<C: Calculator>(engines: &mut [Engine<C>], plan: &Plan, got: &[u64])
     requires streams { length got.now ≡ length plan.now.streams }
     requires outputs { HaveOutputs plan.now engines.old }
@@ -89,13 +89,13 @@ fn give_up<C: Calculator>(engines: &mut [Engine<C>], plan: &Plan, got: &[u64])
 }
 
 impl<C: Calculator> Net<C> {
-    /// Gives up the packets that all edges of their streams have got, and those of streams without edges; but none of a stream that is
-    /// kept. It looks at each stream and each edge once, and the next sweep looks over the whole net.
+    /// Gives up the packets that have come along all edges of their streams, and all that are laid of streams without edges; but none of a
+    /// stream that is kept. Each stream and each edge is looked at once, and the next sweep looks over the whole net.
     pub fn trim(&mut self)
         requires stands { StandsForSome self.old }
         ensures trims { Trims self.old self.new }
 
-        // What stands for a job still stands for it.
+        // The net still stands for each job for which it stood.
         ensures stands { (job : LoggedJob) → StandsFor job self.old → StandsFor job self.new }
     {
         self.known = false;

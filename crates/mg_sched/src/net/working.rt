@@ -11,8 +11,8 @@ use mg_edge::Gate;
 use mg_node::{Outcome, perform};
 
 impl<C: Calculator> Net<C> {
-    /// Performs the work of a number of a node, if it is claimed and not performed. What was performed stands in its window then, not
-    /// committed.
+    /// Performs a node's work of this number, if it lies on the node's desk. The work stands in the node's window then, as performed and
+    /// not committed.
     pub(super) fn perform<G: Gate>(&mut self, node: u32, number: u64, gate: &G) -> Effect
         requires there { node < length self.old.plan.nodes }
         requires stands { StandsForSome self.old }
@@ -36,7 +36,7 @@ impl<C: Calculator> Net<C> {
         }
     }
 
-    /// Commits what was performed of the work of a number of a node, if it stands in its window.
+    /// Commits a node's work of this number, if it stands in the node's window as performed and not committed.
     pub(super) fn commit(&mut self, node: u32, number: u64) -> Effect
         requires there { node < length self.old.plan.nodes }
         requires stands { StandsForSome self.old }
@@ -60,7 +60,7 @@ impl<C: Calculator> Net<C> {
         }
     }
 
-    // The queues of a node that has ended no longer count.
+    // Tells the limits that the queues of a node no longer count, if it has ended.
     pub(super) fn stop_ended(&mut self, node: u32)
         requires engine { node < length self.old.engines }
         requires reached { node < length self.old.limits.reached }

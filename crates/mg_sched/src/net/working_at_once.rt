@@ -1,4 +1,4 @@
-//! How a node's next work is claimed, performed and committed at once, and lies nowhere between.
+//! How a node's next work is claimed, performed and committed at once, and lies on no desk and in no window in between.
 ghost use Rattle.std.specs.Prelude.{◌≡◌, ◌<◌, length, slice_get, Some, None, IfOk, OnOk, OnErr};
 ghost use Rattle.mg_calc.specs.declared.event.Event.TheVariants.{Claim as ToClaim};
 ghost use Rattle.mg_node.specs.Views.{WorkView};
@@ -20,7 +20,7 @@ use mg_edge::Gate;
 use mg_node::{AtOnce, Claimed, Outcome, Performed, Work, perform};
 use std::alloc::AllocError;
 
-// Hears the steps that were made.
+// Tells a hearer the steps that were made for a node's next work.
 fn hear<H: Hears>(hearer: &mut H, node: u32, reached: &Reached)
     ensures { HearsMore H.has_heard hearer.old hearer.new (steps_of node reached.now) }
 {
@@ -43,7 +43,7 @@ fn hear<H: Hears>(hearer: &mut H, node: u32, reached: &Reached)
     }
 }
 
-// Whether something was done, where there was memory for the next step.
+// Whether something was done. There is an error where there was no memory for the next step.
 fn did(reached: &Reached) -> Result<bool, AllocError>
     ensures some { IfOk result (λ did. did_of reached.now ≡ Some did) }
     ensures none { OnErr result (did_of reached.now ≡ None) }
@@ -58,7 +58,7 @@ fn did(reached: &Reached) -> Result<bool, AllocError>
     }
 }
 
-// Whether no set was shown.
+// Whether no set was claimed to be shown.
 fn did_nothing<C: Calculator>(done: &AtOnce<C>) -> bool
     ensures { result ≡ did_nothing done.now }
 {
@@ -72,8 +72,8 @@ fn did_nothing<C: Calculator>(done: &AtOnce<C>) -> bool
 }
 
 impl<C: Calculator> Net<C> {
-    /// Claims a node's next work, and performs and commits it at once: it lies on the node's desk or in its window only where there is
-    /// no memory for the next step. Tells whether something was done.
+    /// Claims a node's next work, and performs and commits it at once: the work lies on the node's desk or in its window only where there
+    /// is no memory for the next step. Tells whether something was done.
     pub(super) fn work_at_once<G: Gate, H: Hears>(
         &mut self,
         node: u32,

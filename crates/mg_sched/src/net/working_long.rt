@@ -1,4 +1,4 @@
-//! How a node works, and how long before what it laid goes on.
+//! How a node works, and how long it does before what it laid goes on.
 ghost use Rattle.std.specs.Prelude.{◌≡◌, ◌<◌, ◌==◌, length, slice_get, Some, IfSome, IfNone, IfOk, OnOk, OnErr, false};
 ghost use Rattle.mg_calc.specs.declared.plan_node.PlanNode.{PlanNode};
 ghost use Rattle.mg_calc.specs.declared.event.Effect.TheVariants.{Idle};

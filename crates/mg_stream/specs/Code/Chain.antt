@@ -17,18 +17,20 @@ abbrev pub linked : List (Option Entry) → ℕ → ℕ → List (ℕ × Stamped
 linked slots zero key = []
 linked slots (suc n) key = unwrap_or (option_map (λ e. (key, e.packet) ∷ linked slots n e.next) (entry_at slots key)) []
 
+-- the keys of some entries
 abbrev pub keys_of : List (ℕ × Stamped Plain) → List ℕ
 keys_of es = map (λ e. e.0) es
 
+-- the packets of some entries
 abbrev pub packets_of : List (ℕ × Stamped Plain) → List (Stamped Plain)
 packets_of es = map (λ e. e.1) es
 
--- the last key, or another where there is none
+-- the key of the last entry, or another key where there is no entry
 abbrev pub last_key : ℕ → List (ℕ × Stamped Plain) → ℕ
 last_key key [] = key
 last_key key (e ∷ es) = last_key e.0 es
 
--- a key stands among some keys
+-- a key is one of some keys
 abbrev pub IsKey : ℕ → List ℕ → Type 0
 IsKey key [] = ⊥
 IsKey key (k ∷ ks) = (k ≡ key) ⊎ IsKey key ks
@@ -45,16 +47,17 @@ backlog_in slots c = record { gone = c.gone; packets = packets_of (entries_of sl
 abbrev pub empty_chain : Chain
 empty_chain = record { first = 0; last = 0; waiting = 0; gone = 0; bound = pre_stream }
 
+-- the chain of a port
 abbrev pub chain_at : List Chain → ℕ → Chain
 chain_at chains port = slice_index_or chains port empty_chain
 
--- a chain is whole: each of its entries is there, the last is the one that it names, and what it holds is a queue
+-- a chain is whole: as many entries are there as it counts, the last of them is the one that it names, and what it holds is a queue
 pub record IsWhole (slots : List (Option Entry)) (c : Chain) : Type 0 where
   pub full : length (entries_of slots c) ≡ c.waiting
   pub last : last_key c.last (entries_of slots c) ≡ c.last
   pub queue : IsQueue (queue_of 0 (backlog_in slots c))
 
--- each chain is whole, and no entry stands in two
+-- each chain is whole, and no entry stands in two chains
 pub record AreLaid (slots : List (Option Entry)) (chains : List Chain) : Type 0 where
   pub each : (port : ℕ) → IsWhole slots (chain_at chains port)
   pub apart : (port other key : ℕ) → port ≢ other → IsKey key (keys_of (entries_of slots (chain_at chains port)))

@@ -18,21 +18,21 @@ flagged [] files = []
 flagged (flag ∷ flags) [] = []
 flagged (flag ∷ flags) (file ∷ files) = if flag then file ∷ flagged flags files else flagged flags files
 
--- the names at the ports of a file
+-- The tables have the names at the ports of the file.
 pub record AreNames (names : FileNames) (file : GraphView) : Type 0 where
   pub streams : IsIndex names.streams (port_names file.inputs ++ port_names file.outputs)
   pub sides : IsIndex names.sides (port_names file.input_sides ++ port_names file.output_sides)
 
--- those of each file
+-- Each entry has the names at the ports of the file at its place.
 pub record AreFileNames (files : List GraphView) (names : List FileNames) : Type 0 where
   pub same : length names ≡ length files
   pub named : (place : ℕ) (file : GraphView) (entry : FileNames) → slice_get files place ≡ Some file → slice_get names place ≡ Some entry → AreNames entry file
 
--- in no file that nodes use, directly or not, a name stands at two ports
+-- In no file that nodes use, directly or not, a name stands at two ports.
 abbrev pub AreUnshared : List GraphView → List NodeView → Type 0
 AreUnshared library nodes = (place : ℕ) (file : GraphView) → slice_get library place ≡ Some file → uses_file library nodes file ≡ true → shared_name file ≡ None
 
--- the refusal that a check looks for
+-- the refusal of a subgraph node that breaks a rule
 abbrev pub judge_of : Check → List ℕ → ℕ → NodeView → GraphView → Option ExpandFault
 judge_of Fields = bad_field_at
 judge_of Ports = no_such_port_at
@@ -43,9 +43,10 @@ reserved_at inputs outputs input_sides output_sides =
     option_or (find is_reserved (port_names inputs)) (option_or (find is_reserved (port_names outputs))
     (option_or (find is_reserved (port_names input_sides)) (find is_reserved (port_names output_sides))))
 
--- that of a node, and that of a graph
+-- the first reserved name of a node: its own, or else at its ports
 abbrev pub reserved_in_node : NodeView → Option (List ℕ)
 reserved_in_node node = find is_reserved (node_names node)
 
+-- the first reserved name of a graph: at its own ports, or else of a node
 abbrev pub reserved_in_graph : GraphView → Option (List ℕ)
 reserved_in_graph graph = find is_reserved (graph_names graph)

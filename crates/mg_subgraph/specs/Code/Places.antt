@@ -18,27 +18,29 @@ abbrev pub set_count : List Bool → ℕ
 set_count [] = 0
 set_count (flag ∷ flags) = (if flag then 1 else 0) + set_count flags
 
--- whether nodes use the file at a place, and whether they do, directly or not
+-- whether nodes use the file at a place directly
 abbrev pub uses_at : List GraphView → List NodeView → ℕ → Bool
 uses_at library nodes place = option_map_or (uses nodes) (slice_get library place) false
 
+-- whether nodes use the file at a place, directly or not
 abbrev pub reaches_at : List GraphView → List NodeView → ℕ → Bool
 reaches_at library nodes place = option_map_or (uses_file library nodes) (slice_get library place) false
 
--- for each file the places of the files that it uses
+-- The links are for each file the places of the files that it uses directly.
 pub record AreLinks (library : List GraphView) (links : List (List ℕ)) : Type 0 where
   pub same : length links ≡ length library
   pub linked : (place : ℕ) (file : GraphView) (list : List ℕ) → slice_get library place ≡ Some file → slice_get links place ≡ Some list
       → (other : ℕ) → listed other list ≡ uses_at library file.nodes other
 
--- places that are links have links
+-- Each listed place is that of a file, which has a list of links.
 abbrev pub AreWithin : List (List ℕ) → List ℕ → Type 0
 AreWithin links list = (place : ℕ) → listed place list ≡ true → place < length links
 
+-- Each link leads to the place of a file, which has a list of links too.
 abbrev pub AreClosed : List (List ℕ) → Type 0
 AreClosed links = (place : ℕ) (list : List ℕ) → slice_get links place ≡ Some list → AreWithin links list
 
--- The flags of the least set of places that has these and goes along links.
+-- The flags are those of the least set of places that has the listed ones, and with each place those that its links lead to.
 pub record IsReach (links : List (List ℕ)) (start : List ℕ) (flags : List Bool) : Type 0 where
   pub started : (place : ℕ) → listed place start ≡ true → flag_at flags place ≡ true
   pub closed : (place : ℕ) (list : List ℕ) (other : ℕ) → flag_at flags place ≡ true → slice_get links place ≡ Some list → listed other list ≡ true → flag_at flags other ≡ true
@@ -46,11 +48,11 @@ pub record IsReach (links : List (List ℕ)) (start : List ℕ) (flags : List Bo
       → ((place : ℕ) (list : List ℕ) (other : ℕ) → test place ≡ true → slice_get links place ≡ Some list → listed other list ≡ true → test other ≡ true)
       → (place : ℕ) → flag_at flags place ≡ true → test place ≡ true
 
--- whether a place is in each set that has the places linked from it and goes along links
+-- The answer tells whether links lead from the place back to it: whether its own links reach it.
 abbrev pub IsCyclic : List (List ℕ) → ℕ → Bool → Type 0
 IsCyclic links place cyclic = (list : List ℕ) → slice_get links place ≡ Some list → (flags : List Bool) × IsReach links list flags × (flag_at flags place ≡ cyclic)
 
--- the first place with its flag set from which links lead back to it
+-- The answer is the first place with its flag set from which links lead back to it, or none where there is no such place.
 abbrev pub IsFirstCycle : List (List ℕ) → List Bool → Option ℕ → Type 0
 IsFirstCycle links flags None = (place : ℕ) → flag_at flags place ≡ true → IsCyclic links place false
 IsFirstCycle links flags (Some found) =

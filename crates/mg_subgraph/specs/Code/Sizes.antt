@@ -1,4 +1,4 @@
--- How many nodes files come to.
+-- How many nodes files expand to.
 use Rattle.std.specs.Prelude.{ℕ, ◌+◌, ◌≡◌, List, true, false, Option, Some, length, min, slice_get, []}
 use Rattle.std.specs.Option.{option_map_or}
 use Rattle.mg_config.specs.Config.{NodeView, GraphView}
@@ -6,11 +6,11 @@ use Rattle.mg_subgraph.specs.Library.{uses_file, is_recursive}
 use Rattle.mg_subgraph.specs.Expanded.{expanded}
 use Rattle.mg_subgraph.specs.Refusals.{max_nodes}
 
--- the number of nodes, as far as it counts: one more than there may be stands for all numbers above
+-- the number of nodes, or one more than there may be where it is above that
 abbrev pub counted : List NodeView → ℕ
 counted nodes = min (length nodes) (max_nodes + 1)
 
--- none of the files that nodes use, directly or not, uses itself
+-- None of the files that nodes use, directly or not, uses itself.
 abbrev pub AreGrounded : List GraphView → List NodeView → Type 0
 AreGrounded library nodes = (place : ℕ) (file : GraphView) → slice_get library place ≡ Some file → uses_file library nodes file ≡ true → is_recursive library file ≡ false
 
@@ -18,6 +18,6 @@ AreGrounded library nodes = (place : ℕ) (file : GraphView) → slice_get libra
 abbrev pub nodes_at : List GraphView → ℕ → List NodeView
 nodes_at library place = option_map_or (λ file. file.nodes) (slice_get library place) []
 
--- each size that is kept is that of its file
+-- Each size that is kept is that of its file's expanded nodes.
 abbrev pub AreSizes : List GraphView → List (Option ℕ) → Type 0
 AreSizes library sizes = (place size : ℕ) → slice_get sizes place ≡ Some (Some size) → size ≡ counted (expanded library (nodes_at library place))

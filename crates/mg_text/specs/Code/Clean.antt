@@ -1,4 +1,4 @@
--- That the bytes of a token so far are characters. The parser's own functions ask for it.
+-- The bytes of a token so far are characters, which the parser's own functions require.
 use Rattle.std.specs.Prelude.{◌≡◌, ℕ, ◌<◌, ◌≤◌, List, [], ◌∷◌, ◌++◌, Some}
 use Rattle.mg_text.specs.Byte.{lead, follow}
 use Rattle.mg_text.specs.Grammar.{Place, joined}
@@ -8,14 +8,14 @@ use Rattle.mg_text.specs.declared.state.Inside.TheVariants.{Plain, Escape, Secon
 use Rattle.mg_text.specs.declared.parts.Tail.{Tail}
 use Rattle.mg_text.specs.declared.parts.Tail.TheVariants.{Whole}
 
--- the bytes are characters, of which the last awaits this
+-- The bytes are characters, of which this is still awaited of the last.
 pub data CharsTo : Tail → List ℕ → Type 0 where
   no_byte : CharsTo Whole []
   ascii : (b : ℕ) {s : List ℕ} → b < 128 → CharsTo Whole s → CharsTo Whole (s ++ b ∷ [])
   first : (b : ℕ) {t : Tail} {s : List ℕ} → lead b ≡ Some t → CharsTo Whole s → CharsTo t (s ++ b ∷ [])
   more : (b : ℕ) {t u : Tail} {s : List ℕ} → follow t b ≡ Some u → CharsTo t s → CharsTo u (s ++ b ∷ [])
 
--- within a piece; the value of the octal digits so far is small
+-- The bytes of a piece so far are characters, and the octal digits so far have a value that leaves the escape at most \177.
 abbrev pub IsCleanInside : Inside → List ℕ → Type 0
 IsCleanInside (Plain t) bytes = CharsTo t bytes
 IsCleanInside Escape bytes = CharsTo Whole bytes

@@ -111,11 +111,11 @@ moves s (Some spot) = Some (record { done = s.done; frames = s.frames; spot = sp
 abbrev pub moved : State → Place → State
 moved s p = record { done = s.done; frames = s.frames; spot = at p }
 
--- with one more scalar, at the place after it
+-- the state with one more scalar, at the place after it
 abbrev pub with_scalar : State → List ℕ → Slot → Kind → List ℕ → State
 with_scalar s n slot kind bytes = record { done = append s.done (scalar n kind bytes none); frames = s.frames; spot = at (after n slot) }
 
--- A string is whole where no piece follows.
+-- the state at a place where no further piece of a string follows, so that a string there is whole
 abbrev pub settled : State → Place → State
 settled s (joined n slot bytes) = with_scalar s n slot quoted bytes
 settled s p = moved s p
@@ -234,7 +234,7 @@ step_token s n slot part bytes c b (Some next) = moves s (Some (token n slot nex
 step_token s n slot part bytes c b None =
     if is_whole_scalar part && not (joins c) then step_at (with_scalar s n slot (kind_of part) bytes) (after n slot) c b else None
 
--- within a piece, on a byte that doesn't close it: what is read next, and the byte that is spelled, if any
+-- what is read of a piece after a byte that doesn't close it, and the byte that the string gets, if any
 abbrev pub plain_next : Quote → Class → ℕ → Option (Inside × List ℕ)
 plain_next q Backslash b = Some (Escape, [])
 plain_next q Beyond b = option_map (λ t. (Plain t, b ∷ [])) (lead b)
@@ -278,7 +278,7 @@ step_spot s (piece n slot bytes q i) c b = moves s (piece_spot n slot bytes q i 
 abbrev pub step : State → ℕ → Option State
 step s b = step_spot s s.spot (class_of b) b
 
--- the fields, where the text may end
+-- the fields of a text that ends at this place, if one may
 abbrev pub final : Fields → List Frame → Place → Option Fields
 final fields [] (start separator) = Some fields
 final fields _ _ = None
@@ -297,7 +297,7 @@ abbrev pub run : State → List ℕ → Option State
 run s [] = Some s
 run s (b ∷ bs) = option_and_then (λ next. run next bs) (step s b)
 
--- the fields that the bytes make whole
+-- the fields of the text that ends after these bytes, if each is taken and a text may end there
 abbrev pub outcome : State → List ℕ → Option Fields
 outcome s [] = accepts s
 outcome s (b ∷ bs) = option_and_then (λ next. outcome next bs) (step s b)

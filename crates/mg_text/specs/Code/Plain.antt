@@ -14,18 +14,18 @@ use Rattle.mg_text.specs.declared.state.Run.TheVariants.{Blank, Comment, Word, P
 use Rattle.mg_text.specs.Byte.{class_of, is_blank, is_word_byte}
 use Rattle.mg_text.specs.Grammar.{in_line, in_piece}
 
--- whether a byte of this class only lengthens it
+-- whether a byte of this class only lengthens a run
 abbrev pub lengthens : Run → Class → Bool
 lengthens Blank c = is_blank c
 lengthens Comment c = in_line c
 lengthens Word c = is_word_byte c
 lengthens (Piece q) c = in_piece q c
 
--- whether each of some bytes does
+-- Each of the bytes only lengthens the run.
 abbrev pub AllLengthen : Run → List ℕ → Type 0
 AllLengthen run bytes = All (λ b. lengthens run (class_of b) ≡ true) bytes
 
--- what may be lengthened, of what is being read
+-- the run that is being read, where further bytes may only lengthen it
 abbrev pub run_of : Reading → Option Run
 run_of (reading.At p) = Some Blank
 run_of (reading.Comment p Whole) = Some Comment

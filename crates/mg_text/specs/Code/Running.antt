@@ -46,12 +46,12 @@ abbrev pub named_list : List ℕ → Option Bool → Option (List ℕ × Bool)
 named_list name None = None
 named_list name (Some colon) = Some (name, colon)
 
--- what is read next within a piece, and the byte that is spelled, if any
+-- the bytes that a string gets where it gets one or none
 abbrev pub spelled : Option ℕ → List ℕ
 spelled None = []
 spelled (Some b) = b ∷ []
 
--- what is read next within a piece, and what is spelled
+-- what is read next of a piece, and the bytes that the string gets
 abbrev pub spelling_of : Inside × Option ℕ → Inside × List ℕ
 spelling_of next = (next.0, spelled next.1)
 
@@ -70,19 +70,19 @@ frames_of fs = map frame_of (reverse fs)
 abbrev pub state_of : Machine → State
 state_of m = record { done = fields_view m.done.items; frames = frames_of m.frames.items; spot = spot_of m.reading m.name m.token.items }
 
--- whether a step was taken, and to which state
+-- The flag tells whether there is a state after the step, and the state is that one.
 abbrev pub Stepped : Option State → Bool → State → Type 0
 Stepped o true s = o ≡ Some s
 Stepped o false s = o ≡ None
 
--- what the end of a file at this place leads to
+-- The answer is due where a file ends in this state, at this place.
 abbrev pub FileEnds : State → ℕ → Result Tree TextFault → Type 0
 FileEnds s place (Ok tree) = model.outcome s (10 ∷ []) ≡ Some (view tree)
 FileEnds s place (Err (Syntax where_is)) = (where_is ≡ place) × (model.outcome s (10 ∷ []) ≡ None)
 FileEnds s place (Err OutOfMemory) = Unit {0}
 FileEnds s place (Err fault) = ⊥
 
--- the answer for a file that isn't too long
+-- The answer is due for a file that isn't too long.
 abbrev pub IsAnswered : List ℕ → Result Tree TextFault → Type 0
 IsAnswered file (Ok tree) = Gives file (view tree) × (depth (view tree) ≤ max_depth)
 IsAnswered file (Err TooLong) = ⊥

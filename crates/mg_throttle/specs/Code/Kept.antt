@@ -11,25 +11,26 @@ use Rattle.mg_throttle.specs.Throttle.{is_full, is_reached, stopped, relaxed}
 abbrev pub presses : List (List Bool) → ℕ → Queue → Bool
 presses rows feeder q = is_full q && is_reached rows feeder q.node
 
--- the counts are those of the queues that press on the feeders
+-- the count of each feeder is how many queues press on it
 abbrev pub AreCounted : List Queue → List (List Bool) → List ℕ → Type 0
 AreCounted queues rows counts = (f : ℕ) → f < length counts → slice_index counts f ≡ count_by (presses rows f) queues
 
--- a full queue of a node
+-- a queue is one of a node, and full
 abbrev pub is_full_at : ℕ → Queue → Bool
 is_full_at node q = is_full q && (q.node == node)
 
--- the consumers of some queues rise
+-- queues stand in the order of their consumers
 abbrev pub AreByNode : List Queue → Type 0
 AreByNode queues = IsNonDecreasingBy (λ q. q.node) queues
 
--- the queues of a node among the first ones have stopped, and so many of them were full
+-- of the first `k` queues those of a node have stopped, and `full` of them were full
 pub record StopsTo (node k : ℕ) (old now : List Queue) (full : ℕ) : Type 0 where
   pub len : length now ≡ length old
   pub done : (j : ℕ) (d : Queue) → j < k → j < length old → slice_index_or now j d ≡ stopped node (slice_index_or old j d)
   pub rest : (j : ℕ) (d : Queue) → k ≤ j → slice_index_or now j d ≡ slice_index_or old j d
   pub counted : full ≡ count_by (is_full_at node) (take k old)
 
+-- queues, the feeders that reach their nodes, and the counts of the feeders fit together
 pub record IsKept (queues : List Queue) (rows : List (List Bool)) (counts : List ℕ) : Type 0 where
   pub few : length queues < 2 ^ 32
   pub by_node : AreByNode queues
@@ -43,7 +44,7 @@ pub record AreListed (queues : List Queue) (listed : ReadyNodes) : Type 0 where
   pub numbers : HasEachOnce (length queues) listed.order
   pub full : (k : ℕ) (d : Queue) → k < length queues → is_full (slice_index_or queues k d) ≡ true → IsIn listed k
 
--- the queues that aren't listed any more are relaxed, and the others as they were; and whether one of those was full
+-- the queues that aren't listed any more are relaxed, and the others are as they were; `any` says whether one of the relaxed ones was full
 pub record RelaxesTo (old now : List Queue) (first listed : ReadyNodes) (any : Bool) : Type 0 where
   pub len : length now ≡ length old
   pub order : listed.order ≡ first.order

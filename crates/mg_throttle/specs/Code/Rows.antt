@@ -7,7 +7,7 @@ use Rattle.std.specs.Int.{bit_at}
 abbrev pub bit_of : List ℕ → ℕ → ℕ
 bit_of words n = bit_at (slice_index words (n / 64)) (n % 64)
 
--- so many marks, from the bits of words
+-- the marks of `len` places, from the bits of words
 abbrev pub marks_of : ℕ → List ℕ → List Bool
 marks_of len words = map (λ n. bit_of words n == 1) (range_with_len 0 len)
 
@@ -16,11 +16,11 @@ pub record IsRow (len : ℕ) (words : List ℕ) : Type 0 where
   pub words_len : length words ≡ (len + 63) / 64
   pub few : len < 2 ^ 60
 
--- a mark at a place, which counts past the end as none
+-- a place is marked; past the end none is
 abbrev pub is_marked : List Bool → ℕ → Bool
 is_marked row place = slice_index_or row place false
 
--- a row has the marks of two
+-- a row has the marks of two others
 pub record Joins (one two both : List Bool) : Type 0 where
   pub len : length both ≡ length one
   pub marks : (k : ℕ) → k < length one → is_marked both k ≡ (is_marked one k || is_marked two k)
@@ -38,7 +38,7 @@ pub record Changes (test : ℕ → Bool) (more less : ℕ) (old new : List ℕ) 
   pub len : length new ≡ length old
   pub counts : (k : ℕ) → k < length old → slice_index new k + part (test k) less ≡ slice_index old k + part (test k) more
 
--- the same for the places below one, and the others as they were
+-- a number is added to the counts below a place where a test holds, and another taken from them; the other counts are as they were
 pub record ChangesBelow (test : ℕ → Bool) (more less place : ℕ) (old new : List ℕ) : Type 0 where
   pub len : length new ≡ length old
   pub changed : (k : ℕ) → k < place → k < length old → slice_index new k + part (test k) less ≡ slice_index old k + part (test k) more

@@ -6,7 +6,7 @@ use Rattle.mg_turns.specs.Rule.{word_of}
 use Rattle.mg_turns.specs.Sights.{FindsCell}
 use Rattle.mg_turns.specs.Code.Plays.{Sat, turn, turning}
 
--- a seat without turns took those of a node's engine and intake, with their parts
+-- a seat took the turns of a node's engine and intake, and their parts out of their slots
 pub record TakesCell (key : FrameView) (m : Sat) (node : ℕ) (e : EngineView) (engine_word laid : ℕ) (i : IntakeView) (intake_word : ℕ) (n : Sat) : Type 0 where
   pub found : FindsCell m.0 node e i
   pub within : node < nodes_in key

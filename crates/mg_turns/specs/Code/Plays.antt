@@ -1,4 +1,4 @@
--- What each step tells: of the step, the seat before, the number found and the seat after.
+-- What each step on the table tells: of the step, the seat before it, the number that it found, and the seat after it.
 use Rattle.std.specs.Prelude.{◌≡◌, ◌≢◌, ◌⊎◌, ℕ, [], ◌+◌, ◌-◌, ◌*◌, length, None, ◌/◌, ◌%◌, ◌<◌, ◌≤◌, ◌∷◌, List, Option, Some, slice_get}
 use mathlib.Core.Option.{some}
 use lib.ListN.{get_elem?}
@@ -11,15 +11,19 @@ use Rattle.mg_turns.specs.Rule.{view, doubled, word_of, Sights}
 use Rattle.mg_turns.specs.Sights.{Missed}
 use Rattle.mg_turns.specs.declared.view.View.{View}
 
+-- a seat: its view, and the slots that it took, each with what stands in it, the last one first
 abbrev pub Sat : Type 0
 Sat = Me (Option PartView) View
 
+-- what a step tells
 abbrev pub Play : Type 1
 Play = Step (Option PartView) → Sat → ℕ → Sat → Type 0
 
+-- a view with other turns
 abbrev pub turning : View → List Turn → View
 turning v turns = view v.key v.portion v.misses v.splits v.missed turns v.work v.seen
 
+-- the turns without the one that was taken last
 abbrev pub left : List Turn → List Turn
 left [] = []
 left (t ∷ ts) = ts
@@ -28,11 +32,12 @@ left (t ∷ ts) = ts
 abbrev pub missing : View → ℕ → View
 missing v word = view v.key v.portion (v.misses + 1) v.splits (Some word) v.turns v.work v.seen
 
+-- the turn of a word, of which the seat notes this part
 abbrev pub turn : FrameView → ℕ → PartView → Turn
 turn key word p = record { word = word; tally = word_of key word p / 2; note = p }
 
--- what is known of a part p, whose turn is taken: it came of the one that was shared, it is no less than what the seat saw, it agrees
--- with the engine whose turn the seat has, and the seat's work is out of it
+-- what is known of a part whose turn is taken: it is what became of the one that was shared, and no less than what the seat saw; it agrees
+-- with the engine whose turn the seat has, the seat's work is out of it, and no more came to it along an edge than is laid there
 pub record Found (word : ℕ) (p : PartView) (v : View) : Type 0 where
   pub follows : Follows v.key word p
   pub sights : Sights word p v.seen
@@ -40,22 +45,23 @@ pub record Found (word : ℕ) (p : PartView) (v : View) : Type 0 where
   pub out : (w : WorkView) → v.work ≡ Some w → 2 * w.node + 1 ≡ word → IsOutIn p w
   pub joined : (k j : ℕ) (e : Edge) (t : Turn) → slice_get v.key.plan.edges k ≡ Some e → word ≡ 2 * e.node → get_elem? v.turns j ≡ some t → t.word ≡ source_at v.key.plan e → JoinedParts t.note e p
 
--- the seat has the turn of the word, and its part
+-- a seat took the turn of a free word, and its slot with the part
 abbrev pub Took : Sat → ℕ → ℕ → Sat → Type 0
 Took m word r n = (p : PartView) × (n ≡ (turning m.0 (turn m.0.key word p ∷ m.0.turns), (word, Some p) ∷ m.1)) × Found word p m.0 × (r ≡ word_of m.0.key word p)
 
--- the turn of a free word is taken, and a held one is missed
+-- a step on a word: the turn of a free word is taken, and a held word is missed
 abbrev pub tried_at : ℕ → Sat → ℕ → Sat → Type 0
 tried_at word m r n = (r % 2 ≡ 0 → Took m word r n) × (r % 2 ≡ 1 → n ≡ (missing m.0 word, m.1))
 
--- the words stand eight apart
+-- a step that tries to take the turn of the word at its place; the words stand eight apart
 abbrev pub tried : Play
 tried st = tried_at (st.word / 8)
 
--- a word is looked at: a held one is missed
+-- a look at a word: nothing changes at a free word, and a held word is missed
 abbrev pub looked_at : ℕ → Sat → ℕ → Sat → Type 0
 looked_at word m r n = (r % 2 ≡ 0 → n ≡ m) × (r % 2 ≡ 1 → n ≡ (missing m.0 word, m.1))
 
+-- a step that looks at the word at its place
 abbrev pub looked : Play
 looked st = looked_at (st.word / 8)
 
@@ -65,25 +71,25 @@ Alike [] [] = Unit {0}
 Alike (t ∷ ts) (u ∷ us) = (t.word ≡ u.word) × (t.tally ≡ u.tally) × PartGrows u.note t.note × Alike ts us
 Alike _ _ = ⊥
 
--- between parts nothing was claimed or laid: what agreed with one agrees with the other, and the same works are out
+-- between two parts nothing was claimed or laid: what agreed with the first agrees with the second, and the same works are out
 pub record Like (q p : PartView) : Type 0 where
   pub agree : (r : PartView) → AgreeParts q r → AgreeParts p r
   pub agree_there : (r : PartView) → AgreeParts r q → AgreeParts r p
   pub out : (x : WorkView) → IsOutIn q x → IsOutIn p x
   pub only : (k : ℕ) → IsMissingIn p k → IsMissingIn q k
 
--- what was joined to one part is joined to the other
+-- what was joined to the first of two parts is joined to the second
 pub record Joins (q p : PartView) : Type 0 where
   pub from : (e : Edge) (r : PartView) → JoinedParts q e r → JoinedParts p e r
   pub to : (e : Edge) (r : PartView) → JoinedParts r e q → JoinedParts r e p
 
--- a work came back: all others stay out
+-- between two parts a work came back: all others that were out stay out
 pub record Back (q p : PartView) (w : WorkView) : Type 0 where
   pub agree : (r : PartView) → AgreeParts q r → AgreeParts p r
   pub out : (x : WorkView) → IsOutIn q x → x.number ≢ w.number → IsOutIn p x
   pub only : (k : ℕ) → IsMissingIn p k → IsMissingIn q k × (k ≢ w.number)
 
--- a work goes out: it is apart from all others, and they stay out
+-- between two parts a work went out: it is apart from all that were out before, and these stay out
 pub record Goes (q p : PartView) (w : WorkView) : Type 0 where
   pub it : IsOutIn p w
   pub apart : (x : WorkView) → IsOutIn q x → x.number ≢ w.number
@@ -95,15 +101,16 @@ abbrev pub Returns : View → ℕ → PartView → View → Type 0
 Returns v word p w =
     Alike w.turns (left v.turns) × (w.key ≡ v.key) × (w.portion ≡ v.portion) × (w.seen ≡ record { word = word; part = p } ∷ v.seen)
 
+-- the note of the turn that was taken last, or another part where there is no turn
 abbrev pub note_or : PartView → List Turn → PartView
 note_or d [] = d
 note_or d (t ∷ ts) = t.note
 
--- nothing was claimed or laid
+-- the turn is given back with a part of which nothing was claimed or laid
 abbrev pub Plainly : View → ℕ → PartView → View → Type 0
 Plainly v word p w = (w.turns ≡ left v.turns) × (w.work ≡ v.work) × Like (note_or p v.turns) p × Joins (note_or p v.turns) p
 
--- the work that the seat had came back to its engine, which was the seat's only turn
+-- the turn is given back with an engine to which the seat's work came back; it was the seat's only turn
 pub record Lays (v : View) (word : ℕ) (p : PartView) (w : View) : Type 0 where
   pub it : WorkView
   pub node : word ≡ 2 * it.node + 1
@@ -119,7 +126,7 @@ abbrev pub Outs : ℕ → PartView → PartView → Option WorkView → Option W
 Outs n q p had has = ((has ≡ had) × ((x : WorkView) → IsOutIn q x → IsOutIn p x) × ((k : ℕ) → IsMissingIn p k → IsMissingIn q k))
     ⊎ ((x : WorkView) × (had ≡ None) × (has ≡ Some x) × (x.node ≡ n) × Goes q p x)
 
--- the intake of a node comes back, and the note of the engine, whose turn the seat has, is then what became of it
+-- the turn of a node's intake is given back, and the seat, which has the turn of the node's engine, notes what became of that
 pub record Claims (v : View) (word : ℕ) (p : PartView) (w : View) : Type 0 where
   pub n : ℕ
   pub within : n < nodes_in v.key
@@ -135,8 +142,8 @@ pub record Claims (v : View) (word : ℕ) (p : PartView) (w : View) : Type 0 whe
   pub joins : Joins u.note t.note
   pub joins_there : Joins (note_or p v.turns) p
 
--- the intake to which an edge leads comes back, and more came along the edge: no more than was laid at the engine, whose turn the
--- seat has; the other ports have what they had
+-- the turn of the intake to which an edge leads is given back, and more came along the edge, but no more than was laid at the engine, whose
+-- turn the seat has; the other ports have what they had
 pub record Brings (v : View) (word : ℕ) (p : PartView) (w : View) : Type 0 where
   pub k : ℕ
   pub e : Edge
@@ -151,10 +158,12 @@ pub record Brings (v : View) (word : ℕ) (p : PartView) (w : View) : Type 0 whe
   pub joined : JoinedParts u.note e p
   pub others : (l : ℕ) (x : Edge) (r : PartView) → l ≢ k → slice_get v.key.plan.edges l ≡ Some x → x.node ≡ e.node → JoinedParts r x (note_or p v.turns) → JoinedParts r x p
 
--- how a turn is given back: with the part as it was, with what was laid, with what was claimed, or with what an edge brought
+-- how a turn is given back: with a part of which nothing was claimed or laid, with an engine to which a work came back, with an intake of
+-- whose node something was claimed, or with an intake to which an edge brought more
 abbrev pub Kind : View → ℕ → PartView → View → Type 0
 Kind v word p w = Plainly v word p w ⊎ (Lays v word p w ⊎ (Claims v word p w ⊎ Brings v word p w))
 
+-- the sights of a view with one more, of a word's part
 abbrev pub saw : View → ℕ → PartView → List Sight
 saw v word p = record { word = word; part = p } ∷ v.seen
 
@@ -170,6 +179,7 @@ Holds m word P = (p : PartView) × (m.1 ≡ (word, Some p) ∷ rest m.1) × P p
 abbrev pub HasTurn : View → ℕ → PartView → Type 0
 HasTurn v word p = (t : Turn) × (ts : List Turn) × (v.turns ≡ t ∷ ts) × (t.word ≡ word) × PartGrows t.note p
 
+-- the view of a seat that was joined to another one
 abbrev pub spent_view : View
 spent_view = view blank_frame 0 0 0 None [] None []
 
@@ -189,11 +199,11 @@ pub record Gives (m : Sat) (word : ℕ) (p : PartView) (t : Turn) (ts : List Tur
   pub grows : PartGrows t.note p
   pub follows : Follows m.0.key word p
 
--- where nothing was claimed or laid
+-- a seat may give back a part of which nothing was claimed or laid
 abbrev pub GivesPlainly : Sat → ℕ → PartView → Type 0
 GivesPlainly m word p = (t : Turn) × (ts : List Turn) × Gives m word p t ts × Like t.note p × Joins t.note p
 
--- where the intake of the node n comes back, and its engine became f; the seat has then this work
+-- a seat may give back the intake of node n, whose engine became f; the seat has this work then
 pub record GivesClaim (m : Sat) (n : ℕ) (p f : PartView) (has : Option WorkView) : Type 0 where
   pub t : Turn
   pub u : Turn
@@ -206,7 +216,7 @@ pub record GivesClaim (m : Sat) (n : ℕ) (p f : PartView) (has : Option WorkVie
   pub joins : Joins u.note f
   pub joins_there : Joins t.note p
 
--- where more came along an edge to the intake
+-- a seat may give back an intake to which more came along an edge
 pub record GivesBrought (m : Sat) (word : ℕ) (p : PartView) : Type 0 where
   pub k : ℕ
   pub e : Edge
@@ -220,7 +230,7 @@ pub record GivesBrought (m : Sat) (word : ℕ) (p : PartView) : Type 0 where
   pub joined : JoinedParts u.note e p
   pub others : (l : ℕ) (x : Edge) (r : PartView) → l ≢ k → slice_get m.0.key.plan.edges l ≡ Some x → x.node ≡ e.node → JoinedParts r x t.note → JoinedParts r x p
 
--- where the seat's work came back to the engine, whose word this is
+-- a seat may give back an engine to which the seat's work came back
 pub record GivesLaid (m : Sat) (word : ℕ) (p : PartView) : Type 0 where
   pub w : WorkView
   pub node : word ≡ 2 * w.node + 1
@@ -231,26 +241,28 @@ pub record GivesLaid (m : Sat) (word : ℕ) (p : PartView) : Type 0 where
   pub back : Back t.note p w
   pub joins : Joins t.note p
 
--- the first turn, with another note
+-- some turns with another note in the first one
 abbrev pub noted : PartView → List Turn → List Turn
 noted f [] = []
 noted f (t ∷ ts) = record { word = t.word; tally = t.tally; note = f } ∷ ts
 
+-- the view of a seat that gave back a node's intake p after a claim, and noted what became of the engine
 abbrev pub claimed_view : View → ℕ → PartView → PartView → Option WorkView → View
 claimed_view v n p f has = view v.key v.portion v.misses v.splits v.missed (noted f (left v.turns)) has (saw v (2 * n) p)
 
+-- the view of a seat that gave back an engine with its work
 abbrev pub laid_view : View → ℕ → PartView → View
 laid_view v word p = view v.key v.portion v.misses v.splits v.missed (left v.turns) None (saw v word p)
 
--- the seat took two turns, and what their words were
+-- a seat took two turns, whose words were r and s
 abbrev pub TakenPair : Sat → ℕ → PartView → ℕ → ℕ → PartView → ℕ → Sat → Type 0
 TakenPair m first p r second q s n = (o : Sat) × Taken m first p o × Taken o second q n × (r ≡ word_of m.0.key first p) × (s ≡ word_of m.0.key second q)
 
--- or it missed one of them, and has no turn
+-- a seat missed one of two turns, and keeps neither
 abbrev pub MissedPair : Sat → ℕ → ℕ → ℕ → Sat → Type 0
 MissedPair m first second word n = Missed first second word m.0 n.0 × (n.1 ≡ m.1)
 
--- what is known of the words of a cell that is out: the engine's had this tally when so many sets were laid
+-- what is known of the words of a cell that is out: the engine's word had this tally when `laid` sets were laid
 pub record CellWords (key : FrameView) (node : ℕ) (e : EngineView) (engine_word laid : ℕ) (i : IntakeView) (intake_word : ℕ) : Type 0 where
   pub tally : ℕ
   pub found : engine_word ≡ doubled tally
@@ -258,6 +270,6 @@ pub record CellWords (key : FrameView) (node : ℕ) (e : EngineView) (engine_wor
   pub now : tally + (e.laid - laid) ≡ tally_since key (2 * node + 1) (an_engine e)
   pub intake : intake_word ≡ word_of key (2 * node) (an_intake i)
 
--- the intake of a node and then its engine are given back
+-- the view of a seat that gave back the intake of a node and then its engine
 abbrev pub cell_given : View → ℕ → PartView → PartView → Option WorkView → View
 cell_given v n f k has = gave (claimed_view v n k f has) (2 * n + 1) f

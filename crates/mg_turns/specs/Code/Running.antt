@@ -1,5 +1,5 @@
--- Sets that are worked on while the turns of both parts of a node are held: as if they were claimed, performed and committed one after
--- the other.
+-- Works that are done while the turns of both parts of a node are held, as if they were claimed, performed and committed one after the
+-- other.
 use Rattle.std.specs.Prelude.{◌≡◌, ◌≢◌, ◌<◌, ◌≤◌, ◌⊎◌, ℕ, map}
 use Rattle.mg_value.specs.Payload.{Plain}
 use Rattle.mg_stream.specs.Pool.{Backlog}
@@ -16,7 +16,8 @@ use Rattle.mg_turns.specs.Rounds.{Round, Rounds, IsOutcomeOf, Stops}
 use Rattle.mg_turns.specs.Parts.{IsMissingAt}
 use Rattle.mg_turns.specs.Told.{committed_in, StandsBack}
 
--- a work of a number came back to its engine, laid or as it is; what it was lawful by
+-- a work of a number came back to its engine, committed or as it is; the engine stays lawful for each job for which it was and of which
+-- `Good` holds
 pub record Returned (e f : EngineView) (number : ℕ) (Good : LoggedJob → Type 0) : Type 0 where
   pub out : (x : WorkView) → IsOut e x → x.number ≢ number → IsOut f x
   pub only : (n : ℕ) → IsMissingAt f n → IsMissingAt e n × (n ≢ number)
@@ -33,7 +34,7 @@ pub record IsCellOf (job : LoggedJob) (owner : ℕ) (e : EngineView) (i : Intake
   pub intake : LawfulIntake job owner i
   pub agree : Agree e i
 
--- what some sets leave of a cell: the works that were out are out, and no other
+-- what some works leave of a cell: the works that were out are out, and no others
 pub record CellSteps (e f : EngineView) (i k : IntakeView) : Type 0 where
   pub out : (x : WorkView) → IsOut e x → IsOut f x
   pub only : (n : ℕ) → IsMissingAt f n → IsMissingAt e n
@@ -48,22 +49,23 @@ pub record CellSteps (e f : EngineView) (i k : IntakeView) : Type 0 where
 abbrev pub IsDone : WorkView → EngineView → EngineView → Type 0
 IsDone work e f = (p : PerformedView) × (n : ℕ) × IsPerformed work p × Commits (outcome_of p) n e f
 
--- or it found no memory, and stands in its window
+-- memory was short for a work, which stands in its window again
 abbrev pub IsPutBack : WorkView → EngineView → EngineView → Type 0
 IsPutBack work e f = (o : OutcomeView) × IsOutcomeOf work o × (f ≡ shelved e o)
 
+-- a round was made, by which some sets or calls were laid
 abbrev pub SomeRound : EngineView → EngineView → IntakeView → IntakeView → Type 0
 SomeRound e f i k = (laid : ℕ) × Round laid e f i k
 
--- This many rounds were made, at most as many as were asked for. Where they are fewer, no further one could be made, for one of the reasons of
--- `Stops`.
+-- `done` rounds were made, at most `most`. Where these are fewer, no further one could be made, for one of the reasons of `Stops`.
 abbrev pub Ran : ℕ → ℕ → EngineView → EngineView → IntakeView → IntakeView → Type 0
 Ran done most e f i k = (m : EngineView) × (l : IntakeView) × (laid : ℕ) × Rounds done laid e m i l × (done ≤ most)
     × (((done ≡ most) × (f ≡ m) × (k ≡ l)) ⊎ ((done < most) × Stops m f l k))
 
+-- an outcome was committed
 abbrev pub IsCommitted : OutcomeView → EngineView → EngineView → Type 0
 IsCommitted outcome e f = (n : ℕ) × Commits outcome n e f
 
--- a work found no memory: as many are committed as before, and it stands in its window
+-- memory was short for a work: as many works are committed as before, and it stands in its window
 abbrev pub NoneCommitted : EngineView → EngineView → Type 0
 NoneCommitted e f = (committed_in f ≡ committed_in e) × StandsBack f

@@ -1,4 +1,4 @@
-//! How packets are brought along an edge.
+//! Bringing packets along an edge.
 ghost use Rattle.std.specs.Prelude.{◌≡◌, ◌<◌, length, Some, slice_get, option_copied};
 ghost use Rattle.mg_turns.specs.Parts.{EdgesFit, FitsSome, source_at};
 ghost use Rattle.mg_turns.specs.Code.Counts.{packets_in};
@@ -16,7 +16,7 @@ use crate::way::Way;
 use mg_calc::{Calculator, Edge};
 use mg_node::Delivered;
 
-// How many packets came.
+// How many packets a delivery brought.
 fn packets_of(delivered: Delivered) -> u32
     ensures { result ≡ packets_in delivered }
 {
@@ -26,7 +26,7 @@ fn packets_of(delivered: Delivered) -> u32
     }
 }
 
-// The way at a place.
+// The edge at a place with the word of its engine, if there is one.
 fn way_at(ways: &[Way], place: u32) -> Option<&Way>
     ensures { option_copied result ≡ slice_get ways.now place }
 {
@@ -34,7 +34,7 @@ fn way_at(ways: &[Way], place: u32) -> Option<&Way>
 }
 
 impl<C: Calculator> SharedNet<C> {
-    /// Brings at most 256 packets along the edge of a number, and its bound once all packets are there.
+    /// Brings at most 256 packets along the edge of a number, and the bound once all packets are at the port.
     pub fn try_append(&self, seat: &mut NetSeat<C>, number: u32) -> Tried<Delivered>
         requires of { IsSeatOf self.now seat.old }
         requires some { FitsSome (key_of self.now) }
@@ -45,7 +45,7 @@ impl<C: Calculator> SharedNet<C> {
         ensures keeps { Keeps (view_of seat.old) (view_of seat.new) }
         ensures work { (view_of seat.new).work ≡ (view_of seat.old).work }
 
-        // What the answer says by all that the seat knows.
+        // What the answer tells, by all that the seat knows.
         ensures tells { (e : EdgeView) → slice_get (key_of self.now).plan.edges number ≡ Some e → AppendTells result (key_of self.now) e (view_of seat.old) (view_of seat.new) }
     {
         let way = self.way(number);

@@ -1,4 +1,4 @@
-//! The calls that need both turns of a node.
+//! Calls that need both turns of a node.
 ghost use Rattle.std.specs.Prelude.{◌≡◌, ◌<◌, ◌+◌, ◌*◌, None, length, MatchResult};
 ghost use Rattle.mg_node.specs.Job.{LoggedJob};
 ghost use Rattle.mg_turns.specs.Parts.{nodes_in, Fits, FitsSome};
@@ -42,7 +42,7 @@ impl<C: Calculator> SharedNet<C> {
         ensures tried { TriesClaim result node (view_of seat.old) (view_of seat.new) }
         ensures keeps { Keeps (view_of seat.old) (view_of seat.new) }
 
-        // What the answer says by all that the seat knows.
+        // What the answer tells, by all that the seat knows.
         ensures tells { ClaimTells result node (view_of seat.old) (view_of seat.new) }
 
         // A work that is handed out is lawful, for every job.
@@ -52,7 +52,7 @@ impl<C: Calculator> SharedNet<C> {
         tried
     }
 
-    /// Raises the bounds of a node's outputs as far as what waits tells, and answers whether that moved one of them.
+    /// Raises the bounds of a node's outputs as far as what waits tells, and returns whether that moved one of them.
     pub fn try_raise(&self, seat: &mut NetSeat<C>, node: u32) -> Tried<bool>
         requires of { IsSeatOf self.now seat.old }
         requires node { node < nodes_in (key_of self.now) }
@@ -62,16 +62,16 @@ impl<C: Calculator> SharedNet<C> {
         ensures keeps { Keeps (view_of seat.old) (view_of seat.new) }
         ensures work { (view_of seat.new).work ≡ (view_of seat.old).work }
 
-        // What the answer says by all that the seat knows.
+        // What the answer tells, by all that the seat knows.
         ensures tells { RaiseTells result node (view_of seat.old) (view_of seat.new) }
     {
         let tried = self.raise_cell(seat, node);
         tried
     }
 
-    /// Claims, performs and commits at most so many works of a node, one after the other, while it holds both of the node's turns, and
-    /// answers how many. An answer of a loopback counts as one, and so does Close. What is committed behind a work that another seat
-    /// has is laid once that one is back. A work that finds no memory is put back into its window, and the call ends there.
+    /// Claims, performs and commits at most `most` works of a node, one after the other, while it holds both of the node's turns, and
+    /// returns how many. An answer of a loopback counts as one, and so does Close. What is committed behind a work that another seat has is
+    /// laid once that one is back. A work that finds no memory is put back into its window, and the call ends there.
     pub fn try_run<G: Gate>(
         &self,
         alloc: Global,
@@ -89,14 +89,14 @@ impl<C: Calculator> SharedNet<C> {
         ensures keeps { Keeps (view_of seat.old) (view_of seat.new) }
         ensures work { (view_of seat.new).work ≡ (view_of seat.old).work }
 
-        // What the answer says by all that the seat knows.
+        // What the answer tells, by all that the seat knows.
         ensures tells { RunTells result most node (view_of seat.old) (view_of seat.new) }
     {
         let tried = self.run_cell(alloc, seat, node, most, gate);
         tried
     }
 
-    // Claims with both turns of the node.
+    // Claims the next work of a node, with both of its turns.
     fn claim_cell(&self, seat: &mut NetSeat<C>, node: u32) -> Tried<Claimed<C>>
         requires of { IsSeatOf self.now seat.old }
         requires node { node < nodes_in (key_of self.now) }
@@ -118,7 +118,7 @@ impl<C: Calculator> SharedNet<C> {
         Tried::Done(claimed)
     }
 
-    // Raises with both turns of the node.
+    // Raises the outputs of a node, with both of its turns.
     fn raise_cell(&self, seat: &mut NetSeat<C>, node: u32) -> Tried<bool>
         requires of { IsSeatOf self.now seat.old }
         requires node { node < nodes_in (key_of self.now) }
@@ -138,7 +138,7 @@ impl<C: Calculator> SharedNet<C> {
         Tried::Done(moved)
     }
 
-    // Works with both turns of the node.
+    // Does works of a node, with both of its turns.
     fn run_cell<G: Gate>(
         &self,
         alloc: Global,

@@ -1,4 +1,4 @@
-//! How a work comes back to its engine.
+//! Bringing a work back to its engine.
 ghost use Rattle.std.specs.Prelude.{◌≡◌, ◌<◌};
 ghost use Rattle.mg_node.specs.Job.{LoggedJob};
 ghost use Rattle.mg_node.specs.Lawful.{LawfulOutcome};
@@ -16,7 +16,7 @@ use mg_calc::Calculator;
 use mg_node::Outcome;
 
 impl<C: Calculator> SharedNet<C> {
-    /// Commits the work that the seat has. What is ready at the front of its window is laid.
+    /// Commits the work that the seat has. What is ready at the front of the window is laid.
     pub fn try_commit(&self, seat: &mut NetSeat<C>, outcome: Outcome<C>) -> TriedCommit<C>
         requires of { IsSeatOf self.now seat.old }
         requires some { FitsSome (key_of self.now) }
@@ -27,7 +27,7 @@ impl<C: Calculator> SharedNet<C> {
         ensures tried { TriesCommit result outcome (view_of seat.old) (view_of seat.new) }
         ensures keeps { Keeps (view_of seat.old) (view_of seat.new) }
 
-        // What the answer says by all that the seat knows.
+        // What the answer tells, by all that the seat knows.
         ensures tells { CommitTells result outcome (view_of seat.old) (view_of seat.new) }
     {
         let tried = self.commit_at(seat, outcome);
@@ -48,7 +48,7 @@ impl<C: Calculator> SharedNet<C> {
         tried
     }
 
-    // Commits with the turn of the engine.
+    // Commits a work, with the turn of its engine.
     fn commit_at(&self, seat: &mut NetSeat<C>, outcome: Outcome<C>) -> TriedCommit<C>
         requires of { IsSeatOf self.now seat.old }
         requires some { FitsSome (key_of self.now) }
@@ -84,7 +84,7 @@ impl<C: Calculator> SharedNet<C> {
         }
     }
 
-    // Shelves with the turn of the engine.
+    // Puts a work back into its window, with the turn of its engine.
     fn shelve_at(&self, seat: &mut NetSeat<C>, outcome: Outcome<C>) -> TriedShelf<C>
         requires of { IsSeatOf self.now seat.old }
         requires has { HasOutcome (view_of seat.old).work outcome.work }

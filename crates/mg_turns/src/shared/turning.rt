@@ -1,4 +1,4 @@
-//! How turns are taken, and how they are given back with their parts.
+//! Taking turns, and giving them back with their parts.
 ghost use Rattle.std.specs.Prelude.{◌≡◌, ◌≢◌, ◌<◌, ◌≤◌, ◌+◌, ◌*◌, ◌-◌, ◌%◌, ◌∷◌, MatchBool, MatchOption, MatchResult, IfSome, None, Some, length};
 ghost use Rattle.atomic_table.specs.Table.{rest};
 ghost use Rattle.mg_turns.specs.Parts.{Follows, an_engine, an_intake};
@@ -23,7 +23,7 @@ fn place(word: u32) -> usize
 }
 
 impl<C: Calculator> SharedNet<C> {
-    // Looks whether another seat has the turn of a word, and counts a miss if so.
+    // Whether another seat has the turn of a word. Counts a miss if so.
     fn is_held(&self, seat: &mut Seat<C>, word: u32) -> bool
         requires { (seat.old.table_id ≡ self.now.table.shared.table_id) × (word < self.now.size) × (0 < seat.old.me.0.portion) }
         ensures id { seat.new.table_id ≡ seat.old.table_id }
@@ -33,7 +33,7 @@ impl<C: Calculator> SharedNet<C> {
         found % 2 == 1
     }
 
-    // Takes the turn of a word, or counts a miss. It tells what the word was.
+    // Takes the turn of a word, or counts a miss where another seat has it. Returns what the word was: odd where the turn was missed.
     fn try_turn(&self, seat: &mut Seat<C>, word: u32) -> u64
         requires { (seat.old.table_id ≡ self.now.table.shared.table_id) × (word < self.now.size) × (0 < seat.old.me.0.portion) × (has_turn word seat.old.me.0 ≡ 0) }
         ensures id { seat.new.table_id ≡ seat.old.table_id }
@@ -44,7 +44,7 @@ impl<C: Calculator> SharedNet<C> {
         found
     }
 
-    // Takes the part out of the slot of the turn that was taken last.
+    // Takes the part out of the slot of the word whose turn was taken last.
     fn part_out(&self, seat: &mut Seat<C>, word: u32) -> Part<C>
         requires id { seat.old.table_id ≡ self.now.table.shared.table_id }
         requires held { Holds seat.old.me word (λ _. Unit {0}) }
@@ -58,7 +58,7 @@ impl<C: Calculator> SharedNet<C> {
         }
     }
 
-    // Takes the turn of a word and its part, or counts a miss.
+    // Takes the turn of a word and its part, or counts a miss and returns `None` where another seat has the turn.
     pub(super) fn take(&self, seat: &mut Seat<C>, word: u32) -> Option<Held<C>>
         requires { (seat.old.table_id ≡ self.now.table.shared.table_id) × (word < self.now.size) × (0 < seat.old.me.0.portion) × (has_turn word seat.old.me.0 ≡ 0) }
         ensures id { seat.new.table_id ≡ seat.old.table_id }
@@ -76,7 +76,8 @@ impl<C: Calculator> SharedNet<C> {
         }
     }
 
-    // Takes the turns of an engine and an intake, in this order, with their parts. Where the second is missed, the first is given back.
+    // Takes the turns of an engine and an intake, in this order, with their parts. Where the second is missed, the first is given back. The
+    // error is the word that was missed.
     fn take_both(&self, seat: &mut Seat<C>, engine: u32, intake: u32) -> Result<Pair<C>, u32>
         requires id { (seat.old.table_id ≡ self.now.table.shared.table_id) × (engine < self.now.size) × (intake < self.now.size) × (engine ≢ intake) }
         requires idle { (0 < seat.old.me.0.portion) × (length seat.old.me.0.turns ≡ 0) }
@@ -116,7 +117,7 @@ impl<C: Calculator> SharedNet<C> {
         Ok(pair)
     }
 
-    // Gives back the turn that was taken last, and the part. The view is then the one that the call picks.
+    // Gives back the turn that was taken last, with its part. The call picks the seat's view afterwards, as `N`.
     fn give_back<N: After>(&self, seat: &mut Seat<C>, word: u32, held: Held<C>)
         requires id { (seat.old.table_id ≡ self.now.table.shared.table_id) × (word < self.now.size) }
         requires out { seat.old.me.1 ≡ (word, None) ∷ rest seat.old.me.1 }
@@ -132,7 +133,7 @@ impl<C: Calculator> SharedNet<C> {
         self.table.shared.store::<Give<N>>(seat, place(word), new)
     }
 
-    // Gives a part back of which nothing was claimed or laid.
+    // Gives back a part of which nothing was claimed or laid.
     pub(super) fn give_plain(&self, seat: &mut Seat<C>, word: u32, held: Held<C>)
         requires id { (seat.old.table_id ≡ self.now.table.shared.table_id) × (word < self.now.size) }
         requires word { held.word ≡ word_of seat.old.me.0.key word held.part }
@@ -143,7 +144,7 @@ impl<C: Calculator> SharedNet<C> {
         self.give_back::<Brand>(seat, word, held);
     }
 
-    // Gives an engine back to which the seat's work came back.
+    // Gives back an engine to which the seat's work came back.
     pub(super) fn give_laid(&self, seat: &mut Seat<C>, word: u32, held: Held<C>)
         requires id { (seat.old.table_id ≡ self.now.table.shared.table_id) × (word < self.now.size) }
         requires word { held.word ≡ word_of seat.old.me.0.key word held.part }
@@ -154,7 +155,7 @@ impl<C: Calculator> SharedNet<C> {
         self.give_back::<Brand>(seat, word, held);
     }
 
-    // Gives an intake back to which more came.
+    // Gives back an intake to which more came along an edge.
     pub(super) fn give_brought(&self, seat: &mut Seat<C>, word: u32, held: Held<C>)
         requires id { (seat.old.table_id ≡ self.now.table.shared.table_id) × (word < self.now.size) }
         requires word { held.word ≡ word_of seat.old.me.0.key word held.part }
@@ -165,7 +166,7 @@ impl<C: Calculator> SharedNet<C> {
         self.give_back::<Brand>(seat, word, held);
     }
 
-    // Gives an intake back; the seat's note of the engine is then what became of it.
+    // Gives back a node's intake; the seat then notes what became of the node's engine.
     fn give_noting<N: After>(
         &self,
         seat: &mut Seat<C>,
@@ -204,7 +205,7 @@ impl<C: Calculator> SharedNet<C> {
         self.give_noting::<Brand>(seat, 2 * node, held, node, engine, claimed);
     }
 
-    // Gives the intake and then the engine of a node back. The seat has then the work that was claimed, if there is one.
+    // Gives back the intake and then the engine of a node. The seat then has the work that was claimed, if there is one.
     pub(super) fn give_cell(
         &self,
         seat: &mut Seat<C>,

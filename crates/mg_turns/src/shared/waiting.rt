@@ -1,4 +1,4 @@
-//! How many packets wait at the end of an edge.
+//! Counting the packets that wait at the end of an edge.
 ghost use Rattle.std.specs.Prelude.{◌≡◌, ◌<◌, length, Some, slice_get};
 ghost use Rattle.mg_turns.specs.Parts.{EdgesFit, FitsSome};
 ghost use Rattle.mg_turns.specs.Calls.{key_of, view_of, IsSeatOf, TriesWaiting};
@@ -29,7 +29,7 @@ impl<C: Calculator> SharedNet<C> {
         tried
     }
 
-    // How many packets wait at the port of an edge, which comes with its number.
+    // How many packets wait at the port of an edge.
     fn waiting_at(&self, seat: &mut NetSeat<C>, _number: u32, edge: Edge) -> Tried<u64>
         requires of { IsSeatOf self.now seat.old }
         requires some { FitsSome (key_of self.now) }

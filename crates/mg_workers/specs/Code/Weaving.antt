@@ -5,9 +5,11 @@ use Rattle.mg_node.specs.Views.{IntakeView, EngineView}
 use Rattle.mg_turns.specs.Words.{whose}
 use Rattle.mg_turns.specs.Parts.{PartView, blank_part, IsKind}
 
+-- the engines among parts, in their order
 abbrev pub engines_in : List PartView → List EngineView
 engines_in parts = filter_map (λ (p : PartView). p.engine) parts
 
+-- the intakes among parts, in their order
 abbrev pub intakes_in : List PartView → List IntakeView
 intakes_in parts = filter_map (λ (p : PartView). p.intake) parts
 
@@ -15,8 +17,7 @@ intakes_in parts = filter_map (λ (p : PartView). p.intake) parts
 abbrev pub AreKinds : ℕ → List PartView → Type 0
 AreKinds nodes parts = (word : ℕ) → word < length parts → IsKind (whose nodes word) (slice_index_or parts word blank_part)
 
--- the first of some engines and intakes are woven into parts, in the order of their words, and the others still lie in two lists, the last
--- ones first
+-- the first of some engines and intakes are parts, in the order of their words, and the others still lie in two lists, the last ones first
 pub record IsOf (nodes : ℕ) (es : List EngineView) (is : List IntakeView) (parts : List PartView) (engines : List EngineView) (intakes : List IntakeView) : Type 0 where
   pub engines_are : engines_in parts ++ reverse engines ≡ es
   pub intakes_are : intakes_in parts ++ reverse intakes ≡ is
