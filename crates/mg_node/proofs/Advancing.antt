@@ -1,5 +1,5 @@
 -- How outputs are raised, one after the other.
-use Rattle.std.proofs.Common.{◌≡◌, ℕ, ℤ, ◌+◌, ◌<◌, ◌≤◌, Bool, true, false, nat_lt, List, [], ◌∷◌, ◌++◌, length, take, drop, get_or, map, Option, Some, None, refl, ap, sym, ◌∙◌, arith, if◌then◌else◌}
+use Rattle.std.proofs.Common.{◌≡◌, ℕ, ℤ, ◌+◌, ◌<◌, ◌≤◌, Bool, true, false, nat_lt, List, [], ◌∷◌, ◌++◌, length, take, drop, get_or, set, map, Option, Some, None, refl, ap, sym, ◌∙◌, arith, if◌then◌else◌}
 use Rattle.std.proofs.Math.Seq.{take-append_seam}
 use Rattle.std.proofs.lemmas.List.{drop_more, drop_all}
 use Rattle.mg_value.specs.Payload.{Plain}
@@ -28,6 +28,12 @@ moved_next qs i bound q there is below =
 
 pub moved_none : (qs : List (Waiting Plain)) (i bound : ℕ) → length qs ≤ i → any_moved bound (map backlog_of (drop i qs)) ≡ false
 moved_none qs i bound end = ap (λ (l : List (Waiting Plain)). any_moved bound (map backlog_of l)) (drop_all i qs end)
+
+-- a list of one element, mapped in its place
+pub only_mapped : {X : Type 0} (f : X → X) (xs : List X) (x : X) → length xs ≡ 1 → set xs 0 (f (get_or xs 0 x)) ≡ map f xs
+only_mapped f [] x one = absurd (omega (arith, one))
+only_mapped f (y ∷ []) x one = refl
+only_mapped f (y ∷ z ∷ ys) x one = absurd (omega (arith, one))
 
 -- the first entry of a window
 pub until_first : (entries : List EntryView) (x : EntryView) (t : ℕ) → 0 < length entries → x ≡ get_or entries 0 x → until_claimed entries t ≡ until_phase x.phase t

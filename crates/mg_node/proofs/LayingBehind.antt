@@ -133,6 +133,25 @@ pub fault_none : (offset : Option ℤ) (phase : Phase) (qs : List (Waiting Plain
 fault_none offset phase qs whole es i stand over so_far =
     sym (so_far ∙ ap (λ (w : List (StreamPrefix Plain)). reason_of (laid_behind offset phase w (drop i es))) (at_end whole i (omega (arith, over, zip_long StandsFor qs whole stand))) ∙ no_outputs offset phase (drop i es))
 
+-- of an emission of one part that part's reason decides
+one_reason : (answer : Result (StreamPrefix Plain) Cause) (bound : Option ℕ) (whole : List (StreamPrefix Plain))
+    → reason_of (after (after answer (λ longer. Ok (laying.raised_to bound longer))) (λ longer. Ok (longer ∷ whole))) ≡ reason_of answer
+one_reason (Ok value) bound whole = refl
+one_reason (Err cause) bound whole = refl
+
+pub part_reason : (offset : Option ℤ) (phase : Phase) (qs : List (Waiting Plain)) (whole : List (StreamPrefix Plain)) (q : Waiting Plain) (e : Laid) (fault : Option Cause) → Stand qs whole → 0 < length qs → q ≡ get_or qs 0 q
+    → ((s : StreamPrefix Plain) → StandsFor q s → fault ≡ reason_of (with_packets offset phase s e.packets)) → fault ≡ reason_of (laid_behind offset phase whole (e ∷ []))
+part_reason offset phase [] whole q e fault stand le is found = absurd (omega (arith, le))
+part_reason offset phase (p ∷ qs) [] q e fault stand le is found = absurd stand
+part_reason offset phase (p ∷ qs) (s ∷ whole) q e fault stand le is found =
+    found s (subst (λ (x : Waiting Plain). StandsFor x s) (sym is) stand.0) ∙ sym (one_reason (with_packets offset phase s e.packets) e.bound whole)
+
+-- a list of one element is that element
+pub only_one : {X : Type 0} (xs : List X) (x : X) → length xs ≡ 1 → x ≡ get_or xs 0 x → x ∷ [] ≡ xs
+only_one [] x one is = absurd (omega (arith, one))
+only_one {X} (y ∷ []) x one is = ap (λ (z : X). z ∷ []) is
+only_one (y ∷ z ∷ xs) x one is = absurd (omega (arith, one))
+
 -- how many packets an emission has at an output
 pub packets_none : (output : ℕ) (es : List Laid) → None ≡ slice_get es output → 0 ≡ packets_in output es
 packets_none output [] none = refl

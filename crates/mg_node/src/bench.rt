@@ -93,6 +93,7 @@ impl<C: Calculator> Bench<C> {
     }
 
     /// Runs the calculator in a phase: it is shown the set, called by a number, or closed. Want of memory changes nothing.
+    #[inline(always)]
     pub(crate) fn run(&mut self, alloc: Global, phase: Phase) -> Result<Emission, CalcFault>
         requires { MayRun phase self.old }
         ensures { HasRun result phase self.old self.new }
@@ -106,6 +107,7 @@ impl<C: Calculator> Bench<C> {
     }
 
     /// Shows the calculator the bench's set, and returns its answer, or `None` where there is no memory. Want of memory changes nothing.
+    #[inline(always)]
     pub(crate) fn show(&mut self, alloc: Global, at: Timestamp) -> Option<Result<Emission, Cause>>
         requires { MayRun (Process at) self.old }
         ensures shown { IfSome result (λ answer. HasShown at answer self.old self.new) }
@@ -131,6 +133,7 @@ impl<C: Calculator> Bench<C> {
     }
 
     /// Takes the next input set of an intake, which must stand at `at`, into the bench's set.
+    #[inline(always)]
     pub(crate) fn fill(&mut self, at: Timestamp, intake: &mut Intake)
         requires places { length self.old.set ≡ ports_in intake.old.waits }
         requires lawful { SomeJobHasIntake intake.old }

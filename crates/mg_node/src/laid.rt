@@ -83,6 +83,7 @@ pub(crate) fn give_up(queue: &mut Queue, got: u64)
 }
 
 /// Puts a packet that may come behind those of an output. There must be room for it.
+#[inline(always)]
 pub(crate) fn append(output: &mut Queue, packet: Packet)
     requires may_come { MayCome output.old packet.at }
     requires room { 0 < output.old.spare }

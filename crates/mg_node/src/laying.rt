@@ -1,6 +1,6 @@
 //! Putting what a call emits behind the queues of a node's outputs (MediaPipe, Calculators and Synchronization). The packets are moved
 //! there, into room that was made before, so that laying takes no memory.
-ghost use Rattle.std.specs.Prelude.{◌≡◌, ◌<◌, ◌≤◌, List, length, map, Ok, slice_index_or, slice_set};
+ghost use Rattle.std.specs.Prelude.{◌≡◌, ◌<◌, ◌≤◌, List, [], ◌∷◌, length, map, Ok, slice_index_or, slice_set};
 ghost use Rattle.mg_time.specs.Time.{done};
 ghost use Rattle.mg_value.specs.Payload.{Plain};
 ghost use Rattle.mg_value.specs.Prefix.{StreamPrefix};
@@ -20,6 +20,7 @@ use mg_time::laws::done_is_greatest;
 use mg_value::Packet;
 
 /// Raises outputs as the phase asks for, and lays an answer behind them, or returns the cause why it can't be laid. There must be room.
+#[inline(always)]
 pub(crate) fn lay(
     offset: Option<i64>,
     phase: &Phase,
@@ -48,6 +49,7 @@ pub(crate) fn packets_in(emission: &Emission, output: u32) -> u32
 }
 
 // Raises outputs before an answer of a phase is laid.
+#[inline(always)]
 fn raise_before(offset: Option<i64>, phase: &Phase, outputs: &mut [Queue])
     ensures queues { outputs.new ≡ queues_before offset phase.now outputs.old }
     ensures timed { IsTimed phase.now }
@@ -61,6 +63,7 @@ fn raise_before(offset: Option<i64>, phase: &Phase, outputs: &mut [Queue])
 }
 
 // Raises the outputs of a node with an offset to a time moved by it.
+#[inline(always)]
 fn raise_by(offset: Option<i64>, at: Timestamp, outputs: &mut [Queue])
     ensures queues { outputs.new ≡ raised_queues offset at outputs.old }
     ensures timed { at ≤ done }
@@ -72,6 +75,7 @@ fn raise_by(offset: Option<i64>, at: Timestamp, outputs: &mut [Queue])
 }
 
 // Lays an emission behind outputs, all of it or nothing.
+#[inline(always)]
 fn lay_emission(
     offset: Option<i64>,
     phase: &Phase,
@@ -91,6 +95,7 @@ fn lay_emission(
 }
 
 // Why packets can't be put behind an output, one after the other, or `None` if they can.
+#[inline(always)]
 fn output_fault(
     offset: Option<i64>,
     phase: &Phase,
@@ -103,7 +108,36 @@ fn output_fault(
 }
 
 // Why an emission can't be put behind outputs, or `None` if it can.
+#[inline(always)]
 fn emission_fault(
+    offset: Option<i64>,
+    phase: &Phase,
+    outputs: &[Queue],
+    emission: &Emission,
+) -> Option<Cause>
+    ensures { (whole : List (StreamPrefix Plain)) → Stand outputs.now whole → result ≡ reason_of (laid_behind offset phase.now whole emission.now) }
+{
+    let parts = emission.as_slice();
+    if parts.len() == 1 {
+        return part_fault(offset, phase, outputs, &parts[0]);
+    }
+    parts_fault(offset, phase, outputs, emission)
+}
+
+// Why an emission of this part alone can't be put behind outputs, if there is a reason.
+#[inline(always)]
+fn part_fault(offset: Option<i64>, phase: &Phase, outputs: &[Queue], laid: &Laid) -> Option<Cause>
+    ensures { (whole : List (StreamPrefix Plain)) → Stand outputs.now whole → result ≡ reason_of (laid_behind offset phase.now whole (laid.now ∷ [])) }
+{
+    if outputs.len() == 0 {
+        return None;
+    }
+    output_fault(offset, phase, &outputs[0], &laid.packets)
+}
+
+// Why an emission can't be put behind outputs, part by part.
+#[inline(never)]
+fn parts_fault(
     offset: Option<i64>,
     phase: &Phase,
     outputs: &[Queue],
@@ -124,6 +158,7 @@ fn emission_fault(
 }
 
 // Puts packets behind those of an output. There must be room for them.
+#[inline(always)]
 fn append_all(output: &mut Queue, packets: LaidPackets)
     requires { MayAllCome output.old packets }
     ensures { output.new ≡ all_appended output.old packets }
@@ -145,6 +180,7 @@ fn append_each(output: &mut Queue, packets: Vec<Packet>)
 }
 
 // Puts what is emitted at an output behind it, and raises the output to the bound, if there is one.
+#[inline(always)]
 fn lay_part(output: &mut Queue, laid: Laid)
     requires { MayAllCome output.old laid.packets }
     ensures laid { output.new ≡ with_part output.old laid }
@@ -159,6 +195,7 @@ fn lay_part(output: &mut Queue, laid: Laid)
 }
 
 // Puts what is emitted at an output behind the output at a place, if there is one.
+#[inline(always)]
 fn lay_at(outputs: &mut [Queue], place: usize, laid: Laid)
     requires { place < length outputs.old → MayAllCome (slice_index_or outputs.old place empty_queue) laid.packets }
     ensures laid { outputs.new ≡ slice_set outputs.old place (with_part (slice_index_or outputs.old place empty_queue) laid) }
@@ -170,6 +207,7 @@ fn lay_at(outputs: &mut [Queue], place: usize, laid: Laid)
 }
 
 // Puts an emission behind outputs, each part behind its own output.
+#[inline(always)]
 fn lay_all(outputs: &mut [Queue], emission: Emission)
     requires { MayBeLaid outputs.old emission }
     ensures laid { outputs.new ≡ laid_each with_part outputs.old emission }
@@ -194,6 +232,7 @@ fn lay_parts(outputs: &mut [Queue], parts: Vec<Laid>)
 }
 
 // Closes the outputs where the phase is Close.
+#[inline(always)]
 fn close_behind(phase: &Phase, outputs: &mut [Queue])
     ensures { outputs.new ≡ queues_after phase.now outputs.old }
 {

@@ -1,7 +1,7 @@
 //! Raising outputs by what waits.
-ghost use Rattle.std.specs.Prelude.{◌≡◌, nat_lt, min, map};
+ghost use Rattle.std.specs.Prelude.{◌≡◌, ◌<◌, length, slice_set, slice_index_or, nat_lt, min, map};
 ghost use Rattle.mg_stream.specs.Pool.{backlog_of};
-ghost use Rattle.mg_stream.specs.Queue.{raised_to};
+ghost use Rattle.mg_stream.specs.Queue.{empty_queue, raised_to};
 ghost use Rattle.mg_node.specs.Advances.{any_moved, until_phase, until_claimed as until_claimed_in, raised_by as raised_by_role, never_raised};
 
 use crate::Role;
@@ -32,7 +32,29 @@ pub(crate) fn moves_one(outputs: &[Queue], bound: Timestamp) -> bool
 }
 
 /// Raises all outputs to a bound.
+#[inline(always)]
 pub(crate) fn raise_all(outputs: &mut [Queue], bound: Timestamp)
+    ensures { outputs.new ≡ map (λ q. raised_to q bound) outputs.old }
+{
+    if outputs.len() == 1 {
+        raise_first(outputs, bound);
+        return;
+    }
+    raise_each(outputs, bound);
+}
+
+// Raises the first output. Most nodes have a single one.
+#[inline(always)]
+fn raise_first(outputs: &mut [Queue], bound: Timestamp)
+    requires { 0 < length outputs.old }
+    ensures { outputs.new ≡ slice_set outputs.old 0 (raised_to (slice_index_or outputs.old 0 empty_queue) bound) }
+{
+    outputs[0].raise(bound);
+}
+
+// Raises outputs one after the other.
+#[inline(never)]
+fn raise_each(outputs: &mut [Queue], bound: Timestamp)
     ensures { outputs.new ≡ map (λ q. raised_to q bound) outputs.old }
 {
     for output in outputs.iter_mut() {

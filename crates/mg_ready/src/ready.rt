@@ -39,6 +39,7 @@ impl Ready {
     }
 
     /// Puts a node of the order into the set. A node that is in stays in.
+    #[inline(never)]
     pub fn put(&mut self, node: u32)
         requires { Contains self.old.order node }
         ensures put { IsIn self.new node }

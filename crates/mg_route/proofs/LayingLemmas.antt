@@ -28,6 +28,17 @@ pub record ArePassed (offset : Option ℤ) (phase : Phase) (output : StreamPrefi
   pub bound_is : longer.bound ≡ bound
   pub some_is : nat_lt 0 (length longer.packets) ≡ has_packets
 
+-- Of a single packet its own cause decides.
+only_reason : (fault : Option Cause) (output : StreamPrefix Plain) → fault ≡ reason_of (unless fault (Ok output))
+only_reason None output = refl
+only_reason (Some cause) output = refl
+
+pub packet_reason : (offset : Option ℤ) (phase : Phase) (output : StreamPrefix Plain) (packets : List (Stamped Plain)) (packet : Stamped Plain) → length packets ≡ 1 → packet ≡ get_or packets 0 packet
+    → laying_fault offset phase output packet ≡ reason_of (with_packets offset phase output packets)
+packet_reason offset phase output [] packet one is = absurd (omega (arith, one))
+packet_reason offset phase output (p ∷ []) packet one is = ap (laying_fault offset phase output) is ∙ only_reason (laying_fault offset phase output p) (appended output p)
+packet_reason offset phase output (p ∷ q ∷ packets) packet one is = absurd (omega (arith, one))
+
 -- An emission, one part further.
 reason_after : {A B : Type 0} (answer : Result A Cause) (make : A → Result B Cause) → is_some (reason_of answer) ≡ true → reason_of (after answer make) ≡ reason_of answer
 reason_after (Ok value) make some = absurd cc

@@ -80,6 +80,7 @@ impl Builtin {
     }
 
     // Shows the calculator the set at a time, and returns what it emits. On an error the state stays.
+    #[inline(always)]
     pub(crate) fn process(
         &mut self,
         alloc: Global,

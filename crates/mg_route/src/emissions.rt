@@ -117,6 +117,7 @@ pub fn front(alloc: Global, set: &InputSet, lanes: u32) -> Result<Emission, Allo
 }
 
 /// Returns the emission of a packet, if there is one, by a calculator with one output.
+#[inline(always)]
 pub fn handed_on(alloc: Global, packet: Option<&Packet>) -> Result<Emission, AllocError>
     ensures { IfOk result (λ emission. emission ≡ emission_of (option_copied packet.entry ∷ [])) }
 {

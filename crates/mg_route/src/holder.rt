@@ -97,6 +97,7 @@ impl<C: Calculator> Holder<C> {
     }
 
     /// Shows the calculator the set at a time, which has a place for each of its inputs.
+    #[inline(always)]
     pub fn process(
         &mut self,
         alloc: Global,

@@ -30,6 +30,7 @@ pub fn begin_in(
 
 /// Returns what a calculator emits at the set at a time, and puts its new state in the place of the old one. The cost of an EndLoop
 /// grows with the set and with what is emitted, and not with the list that is kept.
+#[inline(always)]
 pub fn outer_step_in(
     alloc: Global,
     law: &Law,
@@ -64,6 +65,7 @@ pub fn outer_step_in(
 }
 
 // Returns what Pass emits at a set: each packet at the output of its port.
+#[inline(always)]
 fn passed(alloc: Global, set: &InputSet) -> Result<Emission, AllocError>
     ensures emission { IfOk result (λ emission. (state : List Plain) (at : ℕ) → step Pass state at set.now ≡ Ok (state, emission)) }
 {

@@ -7,6 +7,7 @@ ghost use Rattle.mg_route.specs.Reasons.{reason_of};
 
 use mg_calc::{Cause, LaidPackets, Phase};
 use mg_time::Timestamp;
+use mg_value::Packet;
 
 // Whether a packet at a time stands below the time that the node's offset promises.
 fn is_below(offset: Option<i64>, phase: &Phase, at: Timestamp) -> bool
@@ -29,6 +30,7 @@ fn is_silent(offset: Option<i64>, phase: &Phase) -> bool
 }
 
 // Returns the first cause why a packet at a time can't be put behind an output with this bound, if there is one.
+#[inline(always)]
 fn laying_fault(
     offset: Option<i64>,
     phase: &Phase,
@@ -56,7 +58,42 @@ fn laying_fault(
 
 /// Returns the first cause why packets can't be put behind an output one after the other, if there is one. It depends on the output's
 /// bound and on whether the output has packets, and on nothing else of it (MediaPipe, Calculators and Synchronization).
+#[inline(always)]
 pub fn packets_fault(
+    offset: Option<i64>,
+    phase: &Phase,
+    bound: Timestamp,
+    has_packets: bool,
+    packets: &LaidPackets,
+) -> Option<Cause>
+    ensures { (output : StreamPrefix Plain) → output.bound ≡ bound → nat_lt 0 (length output.packets) ≡ has_packets
+        → result ≡ reason_of (with_packets offset phase.now output packets.now) }
+{
+    let all = packets.as_slice();
+    if all.len() == 1 {
+        return packet_fault(offset, phase, bound, has_packets, &all[0]);
+    }
+    each_fault(offset, phase, bound, has_packets, packets)
+}
+
+// Returns the first cause why a packet can't be put behind an output, if there is one.
+#[inline(always)]
+fn packet_fault(
+    offset: Option<i64>,
+    phase: &Phase,
+    bound: Timestamp,
+    has_packets: bool,
+    packet: &Packet,
+) -> Option<Cause>
+    ensures { (output : StreamPrefix Plain) → output.bound ≡ bound → nat_lt 0 (length output.packets) ≡ has_packets
+        → result ≡ the_laying_fault offset phase.now output packet.now }
+{
+    laying_fault(offset, phase, bound, has_packets, packet.at)
+}
+
+// Returns the first cause against one of some packets, which it goes through.
+#[inline(never)]
+fn each_fault(
     offset: Option<i64>,
     phase: &Phase,
     bound: Timestamp,

@@ -106,6 +106,7 @@ impl Queue {
     }
 
     /// Puts a packet that may come behind those that wait, and moves the bound to what may follow it. There must be room for the packet.
+    #[inline(always)]
     pub fn put(&mut self, packet: Packet)
         requires may_come { MayCome self.old packet.at }
         requires room { 0 < self.old.spare }

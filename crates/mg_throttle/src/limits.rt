@@ -169,6 +169,7 @@ impl Limits {
 
     /// Notes how many packets wait in the queue of an edge. The feeders that reach its consumer are looked at only where it becomes full,
     /// and where it stops being full.
+    #[inline(always)]
     pub fn note(&mut self, edge: u32, packets: u64)
         requires edge { edge < length self.old.queues }
         requires packets { packets + 1 < 2 ^ 64 }

@@ -109,6 +109,7 @@ impl Row {
 
     /// Adds `more` to the counts at the marked places, and takes `less` from them. It looks at a word for each 64 places, and at the places
     /// of the words that have marks.
+    #[inline(never)]
     pub(crate) fn change(&self, counts: &mut [usize], more: usize, less: usize)
         requires places { length counts.old ≡ length self.now }
         requires small { (k : ℕ) → slice_index counts.old k + more < 2 ^ 64 }

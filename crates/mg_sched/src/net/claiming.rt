@@ -16,6 +16,7 @@ use mg_node::{Claimed, Intake, Work};
 use mg_throttle::Limits;
 
 // Tells limits how many packets wait at each port of an intake. The edges into its ports have the numbers from `first` on.
+#[inline(always)]
 fn note_all(limits: &mut Limits, first: u32, intake: &Intake)
     requires queues { first + ports_in intake.now.waits ≤ length limits.old.queues }
     requires short { length limits.old.queues < 2 ^ 32 }
@@ -134,6 +135,7 @@ impl<C: Calculator> Net<C> {
     }
 
     // Tells the limits how many packets wait at each port of a consumer.
+    #[inline(always)]
     pub(super) fn note_ports(&mut self, place: u32)
         requires there { place < length self.old.intakes }
         requires table { place ≤ length self.old.plan.nodes }

@@ -61,6 +61,7 @@ impl<C: Calculator> Net<C> {
     }
 
     // Tells the limits that the queues of a node no longer count, if it has ended.
+    #[inline(always)]
     pub(super) fn stop_ended(&mut self, node: u32)
         requires engine { node < length self.old.engines }
         requires reached { node < length self.old.limits.reached }

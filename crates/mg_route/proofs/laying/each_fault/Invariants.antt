@@ -3,7 +3,7 @@ use Rattle.std.proofs.Common.{◌≡◌, nat_lt, length, drop}
 use Rattle.mg_value.specs.Payload.{Plain}
 use Rattle.mg_value.specs.Prefix.{StreamPrefix}
 use Rattle.mg_route.proofs.LayingLemmas.{ArePassed}
-use Rattle.mg_route.proofs.laying.packets_fault.Given as goal
+use Rattle.mg_route.proofs.laying.each_fault.Given as goal
 
 abbrev pub invariant-loop-packet : goal.invariant-loop-packet
 invariant-loop-packet l =

@@ -5,7 +5,7 @@ use Rattle.mg_value.specs.Prefix.{StreamPrefix}
 use Rattle.mg_calc.specs.Laying.{laid_behind}
 use Rattle.mg_route.specs.Reasons.{reason_of}
 use Rattle.mg_node.specs.Code.QueueLaying.{Stand}
-use Rattle.mg_node.proofs.laying.emission_fault.Given as goal
+use Rattle.mg_node.proofs.laying.parts_fault.Given as goal
 
 abbrev pub invariant-loop-i : goal.invariant-loop-i
 invariant-loop-i l =
