@@ -31,6 +31,14 @@ pub enum Wrong {
     Policy,
 }
 
+/// What a node is that fits its calculator: who does its work, its ports, what its options set, and its input policy.
+struct Fitted {
+    kind: NodeKind,
+    ports: Ports,
+    settings: Settings,
+    policy: Policy,
+}
+
 fn label_of(alloc: Global, node: &NodeConfig) -> Result<MgText, AllocError>
     ensures { IfOk result (λ label. label ≡ rules.label_of (node_view node.now)) }
 {
@@ -123,13 +131,16 @@ fn drafted<'a>(
     alloc: Global,
     outers: &[OuterShape],
     node: &'a NodeConfig,
-    kind: NodeKind,
-    ports: Ports,
-    settings: Settings,
-    policy: Policy,
+    fitted: Fitted,
 ) -> Result<Option<Draft<'a>>, AllocError>
-    ensures { IfOk result (λ draft. option_map draft_view draft ≡ option_map (rules.draft_with (node_view node.now) kind ports (settings_view settings) policy) (its_shape outers.now (node_view node.now) kind ports settings.law)) }
+    ensures { IfOk result (λ draft. option_map draft_view draft ≡ option_map (rules.draft_with (node_view node.now) fitted.kind fitted.ports (settings_view fitted.settings) fitted.policy) (its_shape outers.now (node_view node.now) fitted.kind fitted.ports fitted.settings.law)) }
 {
+    let Fitted {
+        kind,
+        ports,
+        settings,
+        policy,
+    } = fitted;
     let texts = port_texts(alloc, node, &ports)?;
     let label = label_of(alloc, node)?;
     let Some(shape) = node_shape(alloc, outers, node, kind, ports, &settings.law)? else {
@@ -174,7 +185,13 @@ pub fn judged<'a>(
     let Some(policy) = policy_of(&settings.law, node.handler.as_bytes()) else {
         return Ok(Err(Wrong::Policy));
     };
-    match drafted(alloc, outers, node, kind, ports, settings, policy)? {
+    let fitted = Fitted {
+        kind,
+        ports,
+        settings,
+        policy,
+    };
+    match drafted(alloc, outers, node, fitted)? {
         Some(draft) => Ok(Ok(draft)),
         None => unreachable!(),
     }

@@ -1,5 +1,5 @@
 -- Ports put in order by a tree of their tags and indexes.
-use Rattle.std.proofs.Common.{ℕ, zero, suc, ◌+◌, ◌<◌, ◌≡◌, ◌∙◌, List, [], ◌∷◌, Some, map, refl, sym, ap, Bor, take, length, get_or}
+use Rattle.std.proofs.Common.{ℕ, zero, suc, ◌+◌, ◌<◌, ◌≤◌, ◌≡◌, ◌∙◌, List, [], ◌∷◌, None, Some, arith, map, refl, sym, ap, Bor, take, length, get_or}
 use Rattle.std.specs.Prelude.{slice_get}
 use Rattle.std.proofs.lemmas.List.Sums.{fold_more}
 use Rattle.mg_names.specs.declared.port.Port.{Port}
@@ -46,3 +46,13 @@ put_port es new ps i p k v inside at same put known =
     ∙ (ap (λ l. put_in_order l (entry_port (k, v))) known
     ∙ (ap (put_in_order (in_order (take i ps))) (same ∙ ap any_port (got_at ps i p at))
     ∙ sym (fold_more (λ done q. put_in_order done (any_port q)) [] ps i p inside))))
+
+-- one port at most
+pub none_alone : (ps : List Port) → slice_get ps 0 ≡ None → [] ≡ in_order ps
+none_alone [] none = refl
+none_alone (p ∷ ps) none = cc
+
+pub one_alone : (ps : List Port) (p : Port) → length ps ≤ 1 → slice_get ps 0 ≡ Some p → any_port p ∷ [] ≡ in_order ps
+one_alone [] p few here = cc
+one_alone (q ∷ []) p few here = let same : p ≡ q = cc in ap (λ x. any_port x ∷ []) same
+one_alone (q ∷ r ∷ ps) p few here = absurd (omega arith)

@@ -57,9 +57,24 @@ fn append<'a>(out: &mut Vec<&'a Field>, fields: &'a [Field]) -> Result<(), Alloc
     Ok(())
 }
 
-/// Returns the options that stand in the fields, or none where a field isn't an options message of the calculator.
-#[tactic(auto, using(crate::proofs::OwnFields::options_step, crate::proofs::OwnFields::options_other, crate::proofs::OwnFields::options_end))]
+/// Returns the options that stand in the fields, or none where a field isn't an options message of the calculator. Most nodes have no
+/// such field, and then no name of a message is made.
 pub fn options_in<'a>(
+    alloc: Global,
+    calculator: &str,
+    fields: &'a [Field],
+) -> Result<Option<Vec<&'a Field>>, AllocError>
+    ensures { IfOk result (λ found. option_map (λ list. fields_of list.items) found ≡ rules.options_in calculator.now (map field_view fields.now)) }
+{
+    match fields {
+        [] => Ok(Some(Vec::new(alloc))),
+        _ => own_options(alloc, calculator, fields),
+    }
+}
+
+// Returns the options of fields, of which there may be some.
+#[tactic(auto, using(crate::proofs::OwnFields::options_step, crate::proofs::OwnFields::options_other, crate::proofs::OwnFields::options_end))]
+fn own_options<'a>(
     alloc: Global,
     calculator: &str,
     fields: &'a [Field],

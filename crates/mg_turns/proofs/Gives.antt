@@ -1,11 +1,11 @@
 -- A turn is given back in one of three ways.
-use Rattle.std.proofs.Common.{◌≡◌, ◌*◌, ℕ, refl, [], ◌∷◌, List, length, ap, ◌∙◌, sym, subst, inl, inr, arith, Option, Some, None}
+use Rattle.std.proofs.Common.{◌≡◌, ◌*◌, ℕ, refl, [], ◌∷◌, List, length, ap, ◌∙◌, sym, subst, inl, inr, Option, Some, None}
 use Rattle.atomic_table.specs.Table.{rest}
 use Rattle.mg_node.specs.Views.{WorkView}
-use Rattle.mg_turns.specs.Parts.{PartView, Follows, JoinedParts}
+use Rattle.mg_turns.specs.Parts.{PartView, JoinedParts}
 use Rattle.mg_turns.specs.Turns.{Turn}
 use Rattle.mg_turns.specs.Rule.{word_of}
-use Rattle.mg_turns.specs.Code.Plays.{Sat, turn, left, Like, Joins, Back, Alike, HasTurn, Returns, Kind, note_or, noted, gave, claimed_view, laid_view, Gives, GivesPlainly, GivesClaim, GivesLaid, GivesBrought, Took, Taken}
+use Rattle.mg_turns.specs.Code.Plays.{Sat, left, Like, Joins, Back, Alike, HasTurn, Returns, Kind, note_or, noted, gave, claimed_view, laid_view, Gives, GivesPlainly, GivesClaim, GivesLaid, GivesBrought, Took, Taken}
 use Rattle.mg_turns.specs.declared.view.View.{View}
 use Rattle.mg_turns.proofs.Keeps.{alike_same}
 use Rattle.mg_turns.proofs.Links.{part_or}
@@ -101,17 +101,3 @@ taken_of m n o i r p t out e = let same = took_is m n i r p t out in
 -- the word that the step found is that of the part that came out
 pub word_found : (m n : Sat) (i r : ℕ) (p : PartView) → Took m i r n → n.1 ≡ (i, Some p) ∷ rest n.1 → r ≡ word_of m.0.key i p
 word_found m n i r p t out = t.3 ∙ ap (word_of m.0.key i) (took_is m n i r p t out)
-
--- what is given back of a claim, at the word that the call computes
-module _ (m : Sat) (n : ℕ) (p f : PartView) (has : Option WorkView) (word : ℕ) (is : word ≡ 2 * n) (g : GivesClaim m n p f has) where
-  pub claim_turn : HasTurn m.0 word p
-  claim_turn = subst (λ (w : ℕ). HasTurn m.0 w p) (sym is) (has_turn_of m (2 * n) p g.t (g.u ∷ []) g.gives)
-
-  pub claim_slot : m.1 ≡ (word, None) ∷ rest m.1
-  claim_slot = subst (λ (w : ℕ). m.1 ≡ (w, None) ∷ rest m.1) (sym is) g.gives.slot
-
-  pub claim_follows : Follows m.0.key word p
-  claim_follows = subst (λ (w : ℕ). Follows m.0.key w p) (sym is) g.gives.follows
-
-  pub claim_all : Ok m word p (claimed_view m.0 n p f has)
-  claim_all = subst (λ (w : ℕ). Ok m w p (claimed_view m.0 n p f has)) (sym is) (claim_ok m n p f has g)

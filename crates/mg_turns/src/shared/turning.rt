@@ -170,22 +170,21 @@ impl<C: Calculator> SharedNet<C> {
     fn give_noting<N: After>(
         &self,
         seat: &mut Seat<C>,
-        word: u32,
+        node: u32,
         held: Held<C>,
-        _node: u32,
         _engine: &Part<C>,
         _claimed: &Claimed<C>,
     )
-        requires id { (seat.old.table_id ≡ self.now.table.shared.table_id) × (word < self.now.size) }
-        requires out { seat.old.me.1 ≡ (word, None) ∷ rest seat.old.me.1 }
-        requires word { held.word ≡ word_of seat.old.me.0.key word held.part }
-        requires turn { HasTurn seat.old.me.0 word held.part }
-        requires part { Follows seat.old.me.0.key word held.part }
-        requires after { Returns seat.old.me.0 word held.part N.after × Kind seat.old.me.0 word held.part N.after }
+        requires id { (seat.old.table_id ≡ self.now.table.shared.table_id) × (node < self.now.nodes) }
+        requires out { seat.old.me.1 ≡ (2 * node, None) ∷ rest seat.old.me.1 }
+        requires word { held.word ≡ word_of seat.old.me.0.key (2 * node) held.part }
+        requires turn { HasTurn seat.old.me.0 (2 * node) held.part }
+        requires part { Follows seat.old.me.0.key (2 * node) held.part }
+        requires after { Returns seat.old.me.0 (2 * node) held.part N.after × Kind seat.old.me.0 (2 * node) held.part N.after }
         ensures id { seat.new.table_id ≡ seat.old.table_id }
         ensures after { seat.new.me ≡ (N.after, rest seat.old.me.1) }
     {
-        self.give_back::<N>(seat, word, held);
+        self.give_back::<N>(seat, 2 * node, held);
     }
 
     fn give_claim(
@@ -202,7 +201,7 @@ impl<C: Calculator> SharedNet<C> {
         ensures id { seat.new.table_id ≡ seat.old.table_id }
         ensures gave { seat.new.me ≡ (claimed_view seat.old.me.0 node held.part engine.now (has_after claimed.now seat.old.me.0.work), rest seat.old.me.1) }
     {
-        self.give_noting::<Brand>(seat, 2 * node, held, node, engine, claimed);
+        self.give_noting::<Brand>(seat, node, held, engine, claimed);
     }
 
     // Gives back the intake and then the engine of a node. The seat then has the work that was claimed, if there is one.

@@ -2,7 +2,7 @@ use Rattle.std.proofs.Common.{sym, ap, arith, ◌<◌, length}
 use Rattle.mg_value.specs.declared.kind.Kind.TheVariants.{Any}
 use Rattle.mg_kinds.specs.Ports.{port}
 use Rattle.mg_kinds.proofs.Sorted.{put_port}
-use Rattle.mg_kinds.proofs.port_order.in_order.Goals as goal
+use Rattle.mg_kinds.proofs.port_order.by_tree.Goals as goal
 
 pub loop-i-preserved : goal.loop-i-preserved
 loop-i-preserved c =

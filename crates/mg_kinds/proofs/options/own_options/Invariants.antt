@@ -3,7 +3,7 @@ use Rattle.std.specs.Prelude.{option_map}
 use Rattle.mg_text.specs.View.{field_view}
 use Rattle.mg_kinds.specs.Options.{options_in}
 use Rattle.mg_kinds.specs.Views.{fields_of}
-use Rattle.mg_kinds.proofs.options.options_in.Given as goal
+use Rattle.mg_kinds.proofs.options.own_options.Given as goal
 
 abbrev pub invariant-loop-field : goal.invariant-loop-field
 invariant-loop-field l =
