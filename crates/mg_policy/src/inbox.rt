@@ -110,6 +110,7 @@ impl Inbox {
             ≡ with_queue self.old.pool port (record (with_packet (queue_at self.old.pool port) packet) { spare = self.new.pool.spare })) }
         ensures policy { self.new.policy ≡ self.old.policy }
         ensures unchanged { OnErr result (self.new ≡ self.old) }
+        ensures no_memory { OnErr result (self.old.pool.spare ≡ 0) }
     {
         self.pool.bring(port, packet)
     }

@@ -130,6 +130,7 @@ impl Pool {
         requires may_come { MayCome (queue_at self.old port) packet.at }
         ensures ok { OnOk result (self.new ≡ with_queue self.old port (record (with_packet (queue_at self.old port) packet) { spare = self.new.spare })) }
         ensures unchanged { OnErr result (self.new ≡ self.old) }
+        ensures no_memory { OnErr result (self.old.spare ≡ 0) }
     {
         self.reserve(1)?;
         self.put(port, packet);
