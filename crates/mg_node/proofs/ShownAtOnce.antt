@@ -77,6 +77,9 @@ shown_whole e e1 i rest bench cell is =
     let here : HasWhole (with_bench e rest bench) = record { whole = has.whole; stand = has.stand; own = has.own } in
     subst HasWhole (sym is) here
 
+pub shown_goes : (e e1 : EngineView) (rest : List BenchView) (bench : BenchView) → MayShow e → e1 ≡ with_bench e rest bench → e1.fault ≡ None
+shown_goes e e1 rest bench may is = ap (λ (v : EngineView). v.fault) is ∙ (not_ended e.closed e.fault may.goes).1
+
 pub shown_laid : (e e1 : EngineView) (i : IntakeView) (rest : List BenchView) (bench : BenchView) → AreCell e i → MayShow e → e1 ≡ with_bench e rest bench → e1.laid ≤ e1.claimed
 shown_laid e e1 i rest bench cell may is =
     let all = all_laid cell.job cell.number e cell.lawful_engine may.none in

@@ -1,5 +1,5 @@
 //! Laying what is committed at the front of a window.
-ghost use Rattle.std.specs.Prelude.{◌≡◌, ◌<◌, ◌≤◌, ◌+◌, ◌^◌, ◌||◌, true, map, length, IfOk, OnOk, is_some, vec_len, vec_capacity};
+ghost use Rattle.std.specs.Prelude.{◌≡◌, ◌<◌, ◌≤◌, ◌+◌, ◌^◌, ◌||◌, None, true, map, length, IfOk, OnOk, is_some, vec_len, vec_capacity};
 ghost use Rattle.std.specs.VecDeque.{deque_len, deque_capacity};
 ghost use Rattle.mg_stream.specs.Pool.{backlog_of};
 ghost use Rattle.mg_node.specs.Lawful.{is_close as is_close_phase};
@@ -184,6 +184,22 @@ pub(crate) fn fault_of(node: u32, phase: &Phase, cause: Option<Cause>) -> Option
             cause,
         }),
         None => None,
+    }
+}
+
+/// Writes the fault of a node that had none, where `cause` is why an entry of a phase couldn't be laid.
+#[inline(always)]
+pub(crate) fn note_fault(
+    fault: &mut Option<NodeFault>,
+    node: u32,
+    phase: &Phase,
+    cause: Option<Cause>,
+)
+    requires { fault.old ≡ None }
+    ensures { fault.new ≡ (end_of node phase.now cause).fault }
+{
+    if cause.is_some() {
+        *fault = fault_of(node, phase, cause);
     }
 }
 

@@ -1,6 +1,6 @@
 //! Putting what a call emits behind the queues of a node's outputs (MediaPipe, Calculators and Synchronization). The packets are moved
 //! there, into room that was made before, so that laying takes no memory.
-ghost use Rattle.std.specs.Prelude.{◌≡◌, ◌<◌, ◌≤◌, List, [], ◌∷◌, length, map, Ok, slice_index_or, slice_set};
+ghost use Rattle.std.specs.Prelude.{◌≡◌, ◌<◌, ◌≤◌, ◌^◌, List, [], ◌∷◌, length, map, Ok, slice_index_or, slice_set};
 ghost use Rattle.mg_time.specs.Time.{done};
 ghost use Rattle.mg_value.specs.Payload.{Plain};
 ghost use Rattle.mg_value.specs.Prefix.{StreamPrefix};
@@ -8,11 +8,11 @@ ghost use Rattle.mg_stream.specs.Queue.{StandsFor, empty_queue};
 ghost use Rattle.mg_calc.specs.Laying.{with_packets, laid_behind};
 ghost use Rattle.mg_route.specs.Reasons.{reason_of, laid_each, all_laid_on};
 ghost use Rattle.mg_node.specs.Commits.{raised_before};
-ghost use Rattle.mg_node.specs.Code.QueueLaying.{Stand, StandForSome, all_appended, MayAllCome, with_part, MayBeLaid, HasTime, raised_queues, queues_before, closed_queue, queues_after, IsTimed, HasRoomFor, packets_in as packets_in_part, IsLaid};
+ghost use Rattle.mg_node.specs.Code.QueueLaying.{Stand, StandForSome, all_appended, MayAllCome, with_part, MayBeLaid, HasTime, raised_queues, queues_before, closed_queue, queues_after, IsTimed, HasRoomFor, part_of, packets_in as packets_in_part, IsLaid};
 
 use crate::laid::append;
 use crate::raising::raise_all;
-use mg_calc::{Cause, Emission, Laid, LaidPackets, Phase};
+use mg_calc::{Cause, Emission, Laid, LaidPackets, Phase, one_output};
 use mg_route::packets_fault;
 use mg_stream::Queue;
 use mg_time::Timestamp;
@@ -74,9 +74,86 @@ fn raise_by(offset: Option<i64>, at: Timestamp, outputs: &mut [Queue])
     }
 }
 
-// Lays an emission behind outputs, all of it or nothing.
+// Lays an emission behind outputs, all of it or nothing. Most calls emit one part of one packet: that goes its own way, on which the
+// compiler knows how long both lists are, and makes neither in memory.
 #[inline(always)]
 fn lay_emission(
+    offset: Option<i64>,
+    phase: &Phase,
+    outputs: &mut [Queue],
+    emission: Emission,
+) -> Option<Cause>
+    requires stands { StandForSome outputs.old }
+    requires room { HasRoomFor outputs.old (Ok emission) }
+    ensures { IsLaid offset phase.now (λ whole. whole) (Ok emission) outputs.old outputs.new result }
+{
+    let _ = emission.len();
+    match emission.into_one() {
+        Ok(laid) => lay_one(offset, phase, outputs, laid),
+        Err(parts) => lay_many(offset, phase, outputs, parts),
+    }
+}
+
+// Lays an emission of one part behind outputs, all of it or nothing.
+#[inline(always)]
+fn lay_one(offset: Option<i64>, phase: &Phase, outputs: &mut [Queue], laid: Laid) -> Option<Cause>
+    requires stands { StandForSome outputs.old }
+    requires room { HasRoomFor outputs.old (Ok (laid ∷ [])) }
+    ensures { IsLaid offset phase.now (λ whole. whole) (Ok (laid ∷ [])) outputs.old outputs.new result }
+{
+    let Laid { packets, bound } = laid;
+    let _ = packets.len();
+    match packets.into_one() {
+        Ok(packet) => {
+            let packets = LaidPackets::one(packet);
+            lay_whole(offset, phase, outputs, one_output(Laid { packets, bound }))
+        }
+        Err(packets) => lay_several(offset, phase, outputs, packets, bound),
+    }
+}
+
+// Lays an emission of one part with any number of packets behind outputs, all of it or nothing.
+#[inline(never)]
+fn lay_several(
+    offset: Option<i64>,
+    phase: &Phase,
+    outputs: &mut [Queue],
+    packets: Vec<Packet>,
+    bound: Option<Timestamp>,
+) -> Option<Cause>
+    requires stands { StandForSome outputs.old }
+    requires room { HasRoomFor outputs.old (Ok (part_of packets.items bound ∷ [])) }
+    requires few { length packets.items < 2 ^ 32 }
+    ensures { IsLaid offset phase.now (λ whole. whole) (Ok (part_of packets.items bound ∷ [])) outputs.old outputs.new result }
+{
+    let Ok(packets) = LaidPackets::from_vec(packets) else {
+        unreachable!()
+    };
+    lay_whole(offset, phase, outputs, one_output(Laid { packets, bound }))
+}
+
+// Lays an emission of any number of parts behind outputs, all of it or nothing.
+#[inline(never)]
+fn lay_many(
+    offset: Option<i64>,
+    phase: &Phase,
+    outputs: &mut [Queue],
+    parts: Vec<Laid>,
+) -> Option<Cause>
+    requires stands { StandForSome outputs.old }
+    requires room { HasRoomFor outputs.old (Ok parts.items) }
+    requires few { length parts.items < 2 ^ 32 }
+    ensures { IsLaid offset phase.now (λ whole. whole) (Ok parts.items) outputs.old outputs.new result }
+{
+    let Ok(emission) = Emission::from_vec(parts) else {
+        unreachable!()
+    };
+    lay_whole(offset, phase, outputs, emission)
+}
+
+// Lays a whole emission behind outputs, or nothing of it.
+#[inline(always)]
+fn lay_whole(
     offset: Option<i64>,
     phase: &Phase,
     outputs: &mut [Queue],

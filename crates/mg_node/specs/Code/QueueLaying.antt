@@ -50,6 +50,10 @@ MayBeLaid queues [] = ⊤
 MayBeLaid [] (laid ∷ emission) = ⊤
 MayBeLaid (q ∷ queues) (laid ∷ emission) = MayAllCome q laid.packets × MayBeLaid queues emission
 
+-- what is emitted at an output, of its packets and its bound
+abbrev pub part_of : List (Stamped Plain) → Option ℕ → Laid
+part_of packets bound = record { packets = packets; bound = bound }
+
 -- the bound of what is emitted at an output, if it has one, is a time
 abbrev pub HasTime : Laid → Type 0
 HasTime laid = IfSome laid.bound (λ b. b ≤ done)

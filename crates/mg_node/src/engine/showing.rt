@@ -1,5 +1,5 @@
 //! Doing the next set at once: it is shown to a calculator in its bench, and the answer is laid.
-ghost use Rattle.std.specs.Prelude.{◌≡◌, ◌<◌, ◌≤◌, ◌+◌, ◌^◌, ℕ, length, true, OnOk, OnErr, IfErr};
+ghost use Rattle.std.specs.Prelude.{◌≡◌, ◌<◌, ◌≤◌, ◌+◌, ◌^◌, ℕ, length, None, true, OnOk, OnErr, IfErr};
 ghost use Rattle.mg_policy.specs.declared.readiness.Readiness as Readiness;
 ghost use Rattle.mg_node.specs.Job.{LoggedJob};
 ghost use Rattle.mg_node.specs.Lawful.{of_node, LawfulEngine, LawfulIntake, Agree, AreCell};
@@ -9,7 +9,7 @@ ghost use Rattle.mg_node.specs.Code.FrontLaying.{HasWhole};
 ghost use Rattle.mg_node.specs.Code.Showing.{Shows, LaysAnswer, HandsShown};
 
 use super::Engine;
-use crate::fronts::{fault_of, reserve_for};
+use crate::fronts::{note_fault, reserve_for};
 use crate::laying::lay;
 use crate::window::is_empty;
 use crate::{AtOnce, Intake, Outcome, Performed, Role, Work};
@@ -114,6 +114,7 @@ impl<C: Calculator> Engine<C> {
         answer: Result<Emission, Cause>,
     ) -> Result<(), Result<Emission, Cause>>
         requires whole { HasWhole self.old }
+        requires goes { self.old.fault ≡ None }
         requires laid { self.old.laid ≤ self.old.claimed }
         requires few { self.old.claimed + 1 < 2 ^ 64 }
         ensures laid { OnOk result (LaysAnswer at answer self.old self.new) }
@@ -127,7 +128,7 @@ impl<C: Calculator> Engine<C> {
         let cause = lay(self.offset, &phase, &mut self.outputs, answer);
         self.laid += 1;
         self.claimed += 1;
-        self.fault = fault_of(self.node, &phase, cause);
+        note_fault(&mut self.fault, self.node, &phase, cause);
         Ok(())
     }
 

@@ -37,7 +37,7 @@ pub returns-clause-laid : goal.returns-clause-laid
 returns-clause-laid g c =
     let before : c.deref_mut-2.result.now ≡ c.reserve_for.new.outputs = c.deref_mut-2.ensures.value ∙ with_items_is c.self.inside.outputs c.reserve_for.new.outputs (omega (arith, c.reserve_for.auto.outputs, c.deref_mut.ensures.len)) in
     let now = c.lay-cause.new.outputs in
-    let fault = c.fault_of-self-inside.result in
+    let fault = c.note_fault.new.fault in
     let items : (with_items (with_items c.self.inside.outputs c.reserve_for.new.outputs) now).items ≡ now =
     with_items_is (with_items c.self.inside.outputs c.reserve_for.new.outputs) now (omega (arith, c.lay-cause.auto.outputs, c.deref_mut-2.ensures.len)) in
     subst (λ (v : EngineView). LaysAnswer c.args.at c.args.answer c.args.self.now v)
@@ -46,4 +46,4 @@ returns-clause-laid g c =
     (lays_answer c.args.self.now c.deref_mut-2.result.now now c.args.at c.args.answer c.lay-cause.result fault
     (ap (map backlog_of) before ∙ c.reserve_for.ensures.same ∙ ap (map backlog_of) c.deref_mut.ensures.value ∙ ap (λ (v : EngineView). v.outputs) c.self.view_is)
     (subst (λ (v : EngineView). IsLaid v.offset (Process c.args.at) (raised_before v.offset (Process c.args.at)) c.args.answer c.deref_mut-2.result.now now c.lay-cause.result) c.self.view_is c.lay-cause.ensures)
-    (c.fault_of-self-inside.ensures ∙ ap (λ (v : EngineView). (end_of v.node (Process c.args.at) c.lay-cause.result).fault) c.self.view_is))
+    (c.note_fault.ensures ∙ ap (λ (v : EngineView). (end_of v.node (Process c.args.at) c.lay-cause.result).fault) c.self.view_is))

@@ -1,7 +1,7 @@
 use Rattle.std.proofs.Common.{ℕ, ap, ◌∙◌}
 use Rattle.mg_node.specs.Views.{OutcomeView, EngineView}
 use Rattle.mg_node.specs.Shelves.{outcome_of}
-use Rattle.mg_node.proofs.ShownAtOnce.{shown_whole, shown_laid, shown_few, shown_bench, shown_room, handed_claims, handed_out_at, left_performed, left_committed, answered_by}
+use Rattle.mg_node.proofs.ShownAtOnce.{shown_whole, shown_goes, shown_laid, shown_few, shown_bench, shown_room, handed_claims, handed_out_at, left_performed, left_committed, answered_by}
 use Rattle.mg_node.proofs.engine.Engine.show_next.Goals as goal
 
 pub take_shown-requires-clause-bench : goal.take_shown-requires-clause-bench
@@ -20,6 +20,9 @@ returns-in_default-clause-does g c =
 
 pub lay_answer-requires-clause-whole : goal.lay_answer-requires-clause-whole
 lay_answer-requires-clause-whole g c = (let s = c.in-Some.ensures in shown_whole c.args.self.now c.show.new.self c.args.intake.now s.rest s.bench_now c.requires.cell s.now_is)
+
+pub lay_answer-requires-clause-goes : goal.lay_answer-requires-clause-goes
+lay_answer-requires-clause-goes g c = (let s = c.in-Some.ensures in shown_goes c.args.self.now c.show.new.self s.rest s.bench_now c.requires.may s.now_is)
 
 pub lay_answer-requires-clause-laid : goal.lay_answer-requires-clause-laid
 lay_answer-requires-clause-laid g c = (let s = c.in-Some.ensures in shown_laid c.args.self.now c.show.new.self c.args.intake.now s.rest s.bench_now c.requires.cell c.requires.may s.now_is)
