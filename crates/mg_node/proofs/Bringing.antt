@@ -1,11 +1,11 @@
 -- The steps of a delivery.
-use Rattle.std.proofs.Common.{◌≡◌, ℕ, zero, suc, ◌+◌, ◌<◌, ◌≤◌, ◌==◌, min, nat_lt, Bool, false, List, [], ◌∷◌, ◌++◌, length, length-drop, take, drop, drop-drop, get_or, Option, Some, None, slice_get, ne_eqb, inl, inr, ap, sym, refl, subst, ◌∙◌, arith}
+use Rattle.std.proofs.Common.{◌≡◌, ℕ, zero, suc, ◌+◌, ◌-◌, ◌<◌, ◌≤◌, ◌==◌, min, nat_lt, Bool, false, List, [], ◌∷◌, ◌++◌, length, length-drop, take, drop, drop-drop, get_or, Option, Some, None, slice_get, ne_eqb, inl, inr, ap, sym, refl, subst, ◌∙◌, arith}
 use Rattle.std.proofs.Math.Seq.{drop-length}
 use Rattle.std.proofs.lemmas.Bool.Decides.{eqb_tells}
 use Rattle.std.proofs.lemmas.List.{take_more, take_all}
 use Rattle.mg_value.specs.Payload.{Plain}
 use Rattle.mg_value.specs.Prefix.{Stamped}
-use Rattle.mg_stream.specs.Queue.{Waiting, with_packet, raised_to}
+use Rattle.mg_stream.specs.Queue.{Waiting, with_packet, raised_to, count_of}
 use Rattle.mg_node.specs.declared.waits.Waits.{Waits}
 use Rattle.mg_node.specs.declared.delivered.Delivered.TheVariants.{Moved}
 use Rattle.mg_node.specs.Ports.{ports_in, port_queue, with_port, with_room}
@@ -23,6 +23,23 @@ at_place [] zero x h = absurd cc
 at_place [] (suc n) x h = absurd cc
 at_place (y ∷ xs) zero x h = (omega arith, cc)
 at_place (y ∷ xs) (suc n) x h = (let later = at_place xs n x h in (omega (arith, later.0), later.1))
+
+-- the first of what is left stands behind as many of the output's packets as have come
+pub first_at : {X : Type 0} (xs : List X) (n : ℕ) → slice_get (drop n xs) 0 ≡ slice_get xs n
+first_at [] zero = refl
+first_at [] (suc n) = refl
+first_at (x ∷ xs) zero = refl
+first_at (x ∷ xs) (suc n) = first_at xs n
+
+pub next_missing : (o : Waiting Plain) (port n m first : ℕ) (before now : Waits) (next : Option (Stamped Plain)) → Brought o port n before now → first ≡ count_of (port_queue before port) - o.gone → m ≡ n
+    → next ≡ slice_get o.packets (first + m) → slice_get (missing o (port_queue now port)) 0 ≡ next
+next_missing o port n m first before now next b is same found =
+    ap (λ (ps : List (Stamped Plain)). slice_get ps 0) b.left
+    ∙ ap (λ (k : ℕ). slice_get (drop n (drop k o.packets)) 0) (sym is)
+    ∙ ap (λ (ps : List (Stamped Plain)). slice_get ps 0) (drop-drop n first o.packets)
+    ∙ first_at o.packets (first + n)
+    ∙ ap (λ (k : ℕ). slice_get o.packets (first + k)) (sym same)
+    ∙ sym found
 
 -- one more has come
 pub brought_more : (o : Waiting Plain) (port n : ℕ) (before now next : Waits) (p : Stamped Plain) (spare : ℕ) → Brought o port n before now

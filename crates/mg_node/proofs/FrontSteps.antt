@@ -1,7 +1,7 @@
 -- Laying the front of a window, one entry further.
 use Rattle.std.proofs.Common.{◌≡◌, ℕ, ℤ, zero, suc, ◌+◌, ◌<◌, ◌≤◌, ◌||◌, Bool, true, false, List, [], ◌∷◌, length, drop, get_or, set, map, inl, inr, Option, Some, None, option_map, Result, Ok, Err, refl, ap, sym, subst, ◌∙◌, arith, is_some, if◌then◌else◌}
 use Rattle.std.proofs.Math.Nat.{eq-or-lt_of_le}
-use Rattle.std.proofs.lemmas.List.{drop_more, drop_all, length-map}
+use Rattle.std.proofs.lemmas.List.{drop_more, drop_all, length-map, length-set}
 use Rattle.mg_value.specs.Payload.{Plain}
 use Rattle.mg_value.specs.Prefix.{StreamPrefix}
 use Rattle.mg_stream.specs.Queue.{Waiting, IsLike}
@@ -101,6 +101,11 @@ answer_room qs i r answer more there is room so_far k le = elim (eq-or-lt_of_le 
       (subst (λ (j : ℕ). packets_by j answer ≤ room_at j (set qs i r)) (sym same) (let here = room_set qs i r there in omega (arith, is, room, here)))
   | inr less ↦ (let before = so_far k less in let same = room_other qs i k r less in omega (arith, before, same))
 ]
+
+-- the single output has room
+pub single_room : (qs : List (Waiting Plain)) (r : Waiting Plain) (answer : Result (List Laid) Cause) (more : ℕ) → length qs ≡ 1 → more ≡ packets_by 0 answer → more ≤ r.spare → HasRoomFor (set qs 0 r) answer
+single_room qs r answer more one is room = λ output le.
+    answer_room qs 0 r answer more (omega (arith, one)) is room (λ k less. absurd (omega (arith, less))) output (let long = length-set qs 0 r in omega (arith, le, one, long))
 
 -- The first entry is laid.
 

@@ -1,6 +1,6 @@
 //! Bringing the packets of an output to a port.
-ghost use Rattle.std.specs.Prelude.{◌≡◌, ◌<◌, IfOk, false, nat_lt, slice_get, option_copied, is_ok, if◌then◌else◌};
-ghost use Rattle.mg_stream.specs.Queue.{with_packet, MayCome};
+ghost use Rattle.std.specs.Prelude.{◌≡◌, ◌<◌, ◌+◌, ◌-◌, ◌^◌, IfOk, false, length, nat_lt, is_ok, if◌then◌else◌};
+ghost use Rattle.mg_stream.specs.Queue.{with_packet, count_of, MayCome};
 ghost use Rattle.mg_node.specs.Ports.{ports_in, port_queue, with_port, with_room};
 ghost use Rattle.mg_node.specs.Delivery.{missing, delivered, Delivers, AreOfOne};
 ghost use Rattle.mg_node.specs.Code.Bringing.{BroughtAll};
@@ -36,9 +36,10 @@ fn bring_all(output: &Queue, intake: &mut Intake, port: u32, most: u32) -> Resul
     ensures claimed { intake.new.claimed ≡ intake.old.claimed }
     ensures still { IfOk result (λ n. n ≡ 0 → intake.new ≡ intake.old) }
 {
+    let first = first_missing(output, intake, port);
     let mut packets = 0;
     while packets < most {
-        let Some(packet) = next_packet(output, intake, port) else {
+        let Some(packet) = output.get(first + u64::from(packets)) else {
             return Ok(packets);
         };
         let Ok(()) = bring(packet, intake, port) else {
@@ -49,14 +50,15 @@ fn bring_all(output: &Queue, intake: &mut Intake, port: u32, most: u32) -> Resul
     Ok(packets)
 }
 
-/// The first packet of an output that a port hasn't got, if there is one.
-fn next_packet<'a>(output: &'a Queue, intake: &Intake, port: u32) -> Option<&'a Packet>
+/// The place, among the packets that wait at an output, of the first that a port hasn't got.
+fn first_missing(output: &Queue, intake: &Intake, port: u32) -> u64
     requires port { port < ports_in intake.now.waits }
     requires of_one { AreOfOne output.now (port_queue intake.now.waits port) }
-    ensures { option_copied result ≡ slice_get (missing output.now (port_queue intake.now.waits port)) 0 }
+    ensures first { result ≡ count_of (port_queue intake.now.waits port) - output.now.gone }
+    ensures few { result + length (missing output.now (port_queue intake.now.waits port)) < 2 ^ 64 }
 {
     let gone = output.count() - output.waiting();
-    output.get(intake.count(port) - gone)
+    intake.count(port) - gone
 }
 
 /// Puts a packet behind those that came to a port. The payload is shared.

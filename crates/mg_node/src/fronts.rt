@@ -51,10 +51,36 @@ pub(crate) fn reserve<C: Calculator>(
 }
 
 /// Makes room at each output for all that an answer emits there.
+#[inline(always)]
 pub(crate) fn reserve_for(
     outputs: &mut [Queue],
     answer: &Result<Emission, Cause>,
 ) -> Result<(), AllocError>
+    requires { length outputs.old < 2 ^ 32 }
+    ensures same { map backlog_of outputs.new ≡ map backlog_of outputs.old }
+    ensures room { OnOk result (HasRoomFor outputs.new answer.now) }
+{
+    if outputs.len() == 1 {
+        return reserve_first(outputs, answer);
+    }
+    reserve_each(outputs, answer)
+}
+
+// Makes room at the single output for all that an answer emits there. Most nodes have one output.
+#[inline(always)]
+fn reserve_first(outputs: &mut [Queue], answer: &Result<Emission, Cause>) -> Result<(), AllocError>
+    requires { length outputs.old ≡ 1 }
+    ensures same { map backlog_of outputs.new ≡ map backlog_of outputs.old }
+    ensures room { OnOk result (HasRoomFor outputs.new answer.now) }
+{
+    let more = packets_by(answer, 0);
+    outputs[0].reserve(more)?;
+    Ok(())
+}
+
+// Makes room at one output after the other for all that an answer emits there.
+#[inline(never)]
+fn reserve_each(outputs: &mut [Queue], answer: &Result<Emission, Cause>) -> Result<(), AllocError>
     requires { length outputs.old < 2 ^ 32 }
     ensures same { map backlog_of outputs.new ≡ map backlog_of outputs.old }
     ensures room { OnOk result (HasRoomFor outputs.new answer.now) }

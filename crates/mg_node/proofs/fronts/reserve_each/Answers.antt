@@ -1,6 +1,6 @@
 use Rattle.std.proofs.Common.{arith}
 use Rattle.mg_node.proofs.FrontSteps.{reserved_same, answer_room}
-use Rattle.mg_node.proofs.fronts.reserve_for.Goals as goal
+use Rattle.mg_node.proofs.fronts.reserve_each.Goals as goal
 
 pub returns-in_err-reserve-clause-same : goal.returns-in_err-reserve-clause-same
 returns-in_err-reserve-clause-same c = reserved_same c.loop-i.outputs c.args.outputs.now c.loop-i.i c.index-outputs-i.result c.reserve.new.self c.in_err-reserve.ensures.unchanged c.loop-i.invariant.same

@@ -2,7 +2,7 @@
 use Rattle.std.proofs.Common.{◌≡◌, ◌≤◌, ◌<◌, ℕ, map}
 use Rattle.mg_stream.specs.Pool.{backlog_of}
 use Rattle.mg_node.specs.Code.QueueLaying.{packets_by, room_at}
-use Rattle.mg_node.proofs.fronts.reserve_for.Given as goal
+use Rattle.mg_node.proofs.fronts.reserve_each.Given as goal
 
 abbrev pub invariant-loop-i : goal.invariant-loop-i
 invariant-loop-i l = record {
