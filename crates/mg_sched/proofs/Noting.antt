@@ -59,3 +59,13 @@ pub noted_end : (now start : QueueLimits) (waits : Waits) (first port : ℕ) →
     → now ≡ record start { queues = all_noted start.queues first (lengths_of waits) }
 noted_end now start waits first port end so_far =
     ap (λ (ns : List ℕ). record now { queues = all_noted now.queues (first + port) ns }) (sym (ap (λ (k : ℕ). drop k (lengths_of waits)) end ∙ none_left waits)) ∙ so_far
+
+-- an intake with a single port
+pub noted_only : (now start : QueueLimits) (waits : Waits) (first n : ℕ) → ports_in waits ≡ 1 → n ≡ length (port_queue waits 0).packets → now ≡ record start { queues = noted start.queues first n }
+    → now ≡ record start { queues = all_noted start.queues first (lengths_of waits) }
+noted_only now start waits first n one long is =
+    let none : drop 1 (lengths_of waits) ≡ [] = ap (λ (k : ℕ). drop k (lengths_of waits)) (sym one) ∙ none_left waits in
+    let whole : lengths_of waits ≡ length_at waits 0 ∷ [] = lengths_left waits 0 (omega (arith, one)) ∙ ap (λ (ns : List ℕ). length_at waits 0 ∷ ns) none in
+    is
+    ∙ ap (λ (k : ℕ). record start { queues = noted start.queues first k }) long
+    ∙ ap (λ (ns : List ℕ). record start { queues = all_noted start.queues first ns }) (sym whole)

@@ -15,9 +15,25 @@ use mg_calc::{Calculator, Effect};
 use mg_node::{Claimed, Intake, Work};
 use mg_throttle::Limits;
 
-// Tells limits how many packets wait at each port of an intake. The edges into its ports have the numbers from `first` on.
+// Tells limits how many packets wait at each port of an intake. The edges into its ports have the numbers from `first` on. Most intakes have
+// a single port.
 #[inline(always)]
 fn note_all(limits: &mut Limits, first: u32, intake: &Intake)
+    requires queues { first + ports_in intake.now.waits ≤ length limits.old.queues }
+    requires short { length limits.old.queues < 2 ^ 32 }
+    requires few { (port : ℕ) → length (port_queue intake.now.waits port).packets + 1 < 2 ^ 64 }
+    ensures { limits.new ≡ record limits.old { queues = all_noted limits.old.queues first (lengths_of intake.now.waits) } }
+{
+    if intake.ports() == 1 {
+        limits.note(first, intake.waiting(0));
+        return;
+    }
+    note_each(limits, first, intake);
+}
+
+// Tells limits how many packets wait at each port of an intake, one port after the other. The edges into its ports have the numbers from
+// `first` on.
+fn note_each(limits: &mut Limits, first: u32, intake: &Intake)
     requires queues { first + ports_in intake.now.waits ≤ length limits.old.queues }
     requires short { length limits.old.queues < 2 ^ 32 }
     requires few { (port : ℕ) → length (port_queue intake.now.waits port).packets + 1 < 2 ^ 64 }

@@ -2,7 +2,7 @@
 use Rattle.std.proofs.Common.{◌≡◌, ◌+◌, length, drop}
 use Rattle.mg_sched.specs.Places.{lengths_of}
 use Rattle.mg_sched.specs.Acts.{all_noted}
-use Rattle.mg_sched.proofs.net.claiming.note_all.Given as goal
+use Rattle.mg_sched.proofs.net.claiming.note_each.Given as goal
 
 abbrev pub invariant-loop-port : goal.invariant-loop-port
 invariant-loop-port l =
