@@ -3,3 +3,4 @@ pub mod LayingLemmas
 mod Passing
 pub mod PlaceLemmas
 pub mod Sent
+mod TakenKinds

@@ -1,5 +1,5 @@
-ghost use Rattle.std.specs.Prelude.{◌≡◌, IfOk, map};
-ghost use Rattle.mg_calc.specs.Answer.{Gives};
+ghost use Rattle.std.specs.Prelude.{◌≡◌, IfOk, OnErr, map};
+ghost use Rattle.mg_calc.specs.Answer.{GivesEmission};
 ghost use Rattle.mg_calc.specs.Given.{given};
 ghost use Rattle.mg_calc.specs.Routing.{cloner as the_cloner, renewed as the_renewed};
 ghost use Rattle.mg_calc.specs.State.{kept_at};
@@ -42,22 +42,24 @@ fn all_renewed(
     Ok(places)
 }
 
-/// Returns what a cloner gives at a set: its new state and its emission.
+/// Returns what a cloner emits at a set, and puts what it keeps then in the place of its state.
 pub fn cloner(
     alloc: Global,
     lanes: u32,
-    state: &State,
+    state: &mut State,
     at: Timestamp,
     set: &InputSet,
-) -> Result<(State, Emission), CalcFault>
-    ensures { Gives result (the_cloner lanes state.now at set.now) }
+) -> Result<Emission, CalcFault>
+    ensures answer { GivesEmission result state.new (the_cloner lanes state.old at set.now) }
+    ensures kept { OnErr result (state.new ≡ state.old) }
 {
     let count = lanes.min(set.len());
-    let state = State::of_places(all_renewed(alloc, count, state, set)?);
+    let renewed = State::of_places(all_renewed(alloc, count, state, set)?);
     let emission = if set.is_full(lanes) {
-        placed(alloc, &state, at, count)?
+        placed(alloc, &renewed, at, count)?
     } else {
         no_emission(alloc)?
     };
-    Ok((state, emission))
+    *state = renewed;
+    Ok(emission)
 }

@@ -109,7 +109,19 @@ fn entry<P: Places>(alloc: Global, from: &P, at: Timestamp, i: u32) -> Result<La
 }
 
 /// Returns the emission of the packets at the first ports of a set, each at the output of its number.
+#[inline(always)]
 pub fn front(alloc: Global, set: &InputSet, lanes: u32) -> Result<Emission, AllocError>
+    ensures { IfOk result (λ emission. emission ≡ emission_of (take lanes set.now)) }
+{
+    if lanes == 1 {
+        let only = handed_on(alloc, set.get(0))?;
+        return Ok(only);
+    }
+    let emission = several(alloc, set, lanes)?;
+    Ok(emission)
+}
+
+fn several(alloc: Global, set: &InputSet, lanes: u32) -> Result<Emission, AllocError>
     ensures { IfOk result (λ emission. emission ≡ emission_of (take lanes set.now)) }
 {
     // Packets of a set have their own times, whatever time is asked for.

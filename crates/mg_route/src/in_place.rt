@@ -1,18 +1,16 @@
 //! Open and Process of a calculator by its law, with its state changed in place. On an error the state stays.
-ghost use Rattle.std.specs.Prelude.{◌≡◌, ℕ, List, IfOk, OnErr, Ok};
-ghost use Rattle.mg_value.specs.Payload.{Plain};
-ghost use Rattle.mg_calc.specs.declared.law.Law.TheVariants.{Pass};
+ghost use Rattle.std.specs.Prelude.{◌≡◌, OnErr};
 ghost use Rattle.mg_calc.specs.Answer.{Answer, Gives, GivesEmission};
 ghost use Rattle.mg_calc.specs.Law.{opening, step};
 ghost use Rattle.mg_calc.specs.Shape.{IsOuter, IsServed};
 
-use crate::emissions::{front, handed_on};
-use crate::route::route_step;
+use crate::emissions::front;
+use crate::route::route_step_in;
 use mg_batch::batch_step_in;
 use mg_calc::{CalcFault, Emission, GivenList, Law, State, own_begin, own_step};
 use mg_time::Timestamp;
 use mg_value::InputSet;
-use std::alloc::{AllocError, Global};
+use std::alloc::Global;
 
 /// Returns what a calculator emits when it is opened with its side packets, and puts its first state in the place of `state`.
 pub fn begin_in(
@@ -46,36 +44,19 @@ pub fn outer_step_in(
     match law {
         Law::BeginLoop { .. } | Law::EndLoop => batch_step_in(alloc, law, state, at, set),
         Law::Pass => {
-            let emission = passed(alloc, set)?;
+            let emission = front(alloc, set, set.len())?;
             Ok(emission)
         }
         Law::Gate { .. }
         | Law::Mux { .. }
         | Law::Cloner { .. }
         | Law::Merge { .. }
-        | Law::Thin { .. } => {
-            let answer = route_step(alloc, law, state, at, set);
-            keep_of(state, answer)
-        }
+        | Law::Thin { .. } => route_step_in(alloc, law, state, at, set),
         _ => {
             let answer = own_step(alloc, law, state, at, set);
             keep_of(state, answer)
         }
     }
-}
-
-// Returns what Pass emits at a set: each packet at the output of its port.
-#[inline(always)]
-fn passed(alloc: Global, set: &InputSet) -> Result<Emission, AllocError>
-    ensures emission { IfOk result (λ emission. (state : List Plain) (at : ℕ) → step Pass state at set.now ≡ Ok (state, emission)) }
-{
-    let count = set.len();
-    if count == 1 {
-        let only = handed_on(alloc, set.get(0))?;
-        return Ok(only);
-    }
-    let emission = front(alloc, set, count)?;
-    Ok(emission)
 }
 
 // Puts the state of an answer in the place of `state`, and returns the emission. On an error the state stays.

@@ -1,6 +1,8 @@
-ghost use Rattle.std.specs.Prelude.{◌≡◌, ◌+◌, option_copied};
+ghost use Rattle.std.specs.Prelude.{◌≡◌, ◌+◌, List, option_copied, OnErr};
+ghost use Rattle.mg_value.specs.Payload.{Plain};
 ghost use Rattle.mg_value.specs.Settled.{selected as the_selected};
-ghost use Rattle.mg_calc.specs.Answer.{Gives};
+ghost use Rattle.mg_calc.specs.Answer.{GivesEmission};
+ghost use Rattle.mg_calc.specs.Kinds.{is_wrong as is_it_wrong, has_wrong_kind};
 ghost use Rattle.mg_calc.specs.Law.{step};
 ghost use Rattle.mg_calc.specs.Shape.{IsRouting};
 ghost use Rattle.mg_calc.specs.Routing.{pass as the_pass, gate as the_gate, mux as the_mux, merge as the_merge, truth_of as the_truth_of, is_open as is_it_open, first_packet as the_first_packet};
@@ -8,47 +10,70 @@ ghost use Rattle.mg_calc.specs.Routing.{pass as the_pass, gate as the_gate, mux 
 use crate::cloner::cloner;
 use crate::emissions::{front, handed_on};
 use crate::thin::thin;
-use mg_calc::{CalcFault, Cause, Emission, Law, State, has_wrong_kind, stays};
+use mg_calc::{CalcFault, Cause, Emission, Law, State, no_emission};
 use mg_time::Timestamp;
-use mg_value::{InputSet, Packet, Payload};
+use mg_value::{InputSet, Kind, Packet, Payload, has_kind};
 use std::alloc::Global;
 
-/// Returns what a calculator that hands packets on gives at a set: its new state and its emission, or its cause.
+/// Returns what a calculator that hands packets on emits at a set, or its cause, and changes its state in place.
 ///
 /// Packets that go on share their payloads.
-pub fn route_step(
+pub fn route_step_in(
     alloc: Global,
     law: &Law,
-    state: &State,
+    state: &mut State,
     at: Timestamp,
     set: &InputSet,
-) -> Result<(State, Emission), CalcFault>
+) -> Result<Emission, CalcFault>
     requires { IsRouting law.now }
-    ensures { Gives result (step law.now state.now at set.now) }
+    ensures answer { GivesEmission result state.new (step law.now state.old at set.now) }
+    ensures kept { OnErr result (state.new ≡ state.old) }
 {
-    if has_wrong_kind(law, set) {
+    if is_refused(law, set) {
         return Err(CalcFault::Fault(Cause::WrongKind));
     }
     match law {
-        Law::Pass => pass(alloc, state, set),
+        Law::Pass => pass(alloc, set),
         Law::Gate {
             lanes,
             disallow,
             empty_as_allow,
-        } => gate(alloc, *lanes, *disallow, *empty_as_allow, state, set),
-        Law::Mux { lanes } => mux(alloc, *lanes, state, set),
+        } => gate(alloc, *lanes, *disallow, *empty_as_allow, set),
+        Law::Mux { lanes } => mux(alloc, *lanes, set),
         Law::Cloner { lanes } => cloner(alloc, *lanes, state, at, set),
-        Law::Merge { .. } => merge(alloc, state, set),
+        Law::Merge { .. } => merge(alloc, set),
         Law::Thin { period } => thin(alloc, *period, state, at, set),
         _ => unreachable!(),
     }
 }
 
-fn pass(alloc: Global, state: &State, set: &InputSet) -> Result<(State, Emission), CalcFault>
-    ensures { Gives result (the_pass state.now set.now) }
+// Whether a packet, if there is one, isn't of a kind.
+fn is_wrong(kind: Kind, packet: Option<&Packet>) -> bool
+    ensures { result ≡ is_it_wrong kind (option_copied packet.entry) }
+{
+    match packet {
+        Some(packet) => !has_kind(&packet.payload, kind),
+        None => false,
+    }
+}
+
+// Whether a packet of a set isn't of its port's kind. Of these laws only Gate and Mux have a port of a kind of its own: the last.
+fn is_refused(law: &Law, set: &InputSet) -> bool
+    requires { IsRouting law.now }
+    ensures { result ≡ has_wrong_kind law.now set.now }
+{
+    match law {
+        Law::Gate { lanes, .. } => is_wrong(Kind::Flag, set.get(*lanes)),
+        Law::Mux { lanes } => is_wrong(Kind::Int, set.get(*lanes)),
+        _ => false,
+    }
+}
+
+fn pass(alloc: Global, set: &InputSet) -> Result<Emission, CalcFault>
+    ensures { (state : List Plain) → GivesEmission result state (the_pass state set.now) }
 {
     let emission = front(alloc, set, set.len())?;
-    Ok((state.try_clone(alloc)?, emission))
+    Ok(emission)
 }
 
 // Returns the truth value of a packet, or false where its payload is of another kind.
@@ -81,16 +106,16 @@ fn gate(
     lanes: u32,
     disallow: bool,
     empty_as_allow: bool,
-    state: &State,
     set: &InputSet,
-) -> Result<(State, Emission), CalcFault>
-    ensures { Gives result (the_gate lanes disallow empty_as_allow state.now set.now) }
+) -> Result<Emission, CalcFault>
+    ensures { (state : List Plain) → GivesEmission result state (the_gate lanes disallow empty_as_allow state set.now) }
 {
-    if !is_open(disallow, empty_as_allow, set.get(lanes)) {
-        return stays(alloc, state);
-    }
-    let emission = front(alloc, set, lanes)?;
-    Ok((state.try_clone(alloc)?, emission))
+    let emission = if is_open(disallow, empty_as_allow, set.get(lanes)) {
+        front(alloc, set, lanes)?
+    } else {
+        no_emission(alloc)?
+    };
+    Ok(emission)
 }
 
 // Returns the port whose number a packet has, if there is a data port of that number.
@@ -103,22 +128,17 @@ fn selected(lanes: u32, packet: &Packet) -> Option<u32>
     }
 }
 
-fn mux(
-    alloc: Global,
-    lanes: u32,
-    state: &State,
-    set: &InputSet,
-) -> Result<(State, Emission), CalcFault>
-    ensures { Gives result (the_mux lanes state.now set.now) }
+fn mux(alloc: Global, lanes: u32, set: &InputSet) -> Result<Emission, CalcFault>
+    ensures { (state : List Plain) → GivesEmission result state (the_mux lanes state set.now) }
 {
     let Some(select) = set.get(lanes) else {
-        return stays(alloc, state);
+        return Ok(no_emission(alloc)?);
     };
     let Some(port) = selected(lanes, select) else {
         return Err(CalcFault::Fault(Cause::BadSelect));
     };
     let emission = handed_on(alloc, set.get(port))?;
-    Ok((state.try_clone(alloc)?, emission))
+    Ok(emission)
 }
 
 // Returns the packet of the first port that has one.
@@ -133,9 +153,9 @@ fn first_packet(set: &InputSet) -> Option<&Packet>
     None
 }
 
-fn merge(alloc: Global, state: &State, set: &InputSet) -> Result<(State, Emission), CalcFault>
-    ensures { Gives result (the_merge state.now set.now) }
+fn merge(alloc: Global, set: &InputSet) -> Result<Emission, CalcFault>
+    ensures { (state : List Plain) → GivesEmission result state (the_merge state set.now) }
 {
     let emission = handed_on(alloc, first_packet(set))?;
-    Ok((state.try_clone(alloc)?, emission))
+    Ok(emission)
 }

@@ -1,9 +1,9 @@
-ghost use Rattle.std.specs.Prelude.{◌≡◌, unwrap_or};
+ghost use Rattle.std.specs.Prelude.{◌≡◌, unwrap_or, OnErr};
 ghost use Rattle.mg_time.specs.Time.{one_over_post_stream};
-ghost use Rattle.mg_calc.specs.Answer.{Gives};
+ghost use Rattle.mg_calc.specs.Answer.{GivesEmission};
 ghost use Rattle.mg_calc.specs.Routing.{thin as the_thin, thinned as the_thinned, valid_after as is_valid_after};
 
-use mg_calc::{CalcFault, Emission, Laid, State, one_output, stays};
+use mg_calc::{CalcFault, Emission, Laid, State, no_emission, one_output};
 use mg_time::Timestamp;
 use mg_value::{InputSet, Packet};
 use std::alloc::Global;
@@ -29,39 +29,42 @@ fn valid_after(period: i64, at: Timestamp) -> Timestamp
     }
 }
 
+// Returns what a thinner emits at a packet, and keeps the next valid timestamp where the packet passes.
 fn thinned(
     alloc: Global,
     period: i64,
-    state: &State,
+    state: &mut State,
     at: Timestamp,
     packet: &Packet,
-) -> Result<(State, Emission), CalcFault>
-    ensures { Gives result (the_thinned period state.now at packet.now) }
+) -> Result<Emission, CalcFault>
+    ensures answer { GivesEmission result state.new (the_thinned period state.old at packet.now) }
+    ensures kept { OnErr result (state.new ≡ state.old) }
 {
     let valid = state.next_valid();
     if valid <= at {
         let valid = valid_after(period, at);
         let laid = Laid::new(alloc, Some(packet.try_clone()?), Some(valid))?;
-        Ok((State::of_number(valid.raw()), one_output(laid)))
+        *state = State::of_number(valid.raw());
+        Ok(one_output(laid))
     } else {
-        let kept = state.try_clone(alloc)?;
         let laid = Laid::new(alloc, None, Some(valid))?;
-        Ok((kept, one_output(laid)))
+        Ok(one_output(laid))
     }
 }
 
-/// Returns what a thinner gives at a set: its new state and its emission.
+/// Returns what a thinner emits at a set, and changes its state in place.
 pub fn thin(
     alloc: Global,
     period: i64,
-    state: &State,
+    state: &mut State,
     at: Timestamp,
     set: &InputSet,
-) -> Result<(State, Emission), CalcFault>
-    ensures { Gives result (the_thin period state.now at set.now) }
+) -> Result<Emission, CalcFault>
+    ensures answer { GivesEmission result state.new (the_thin period state.old at set.now) }
+    ensures kept { OnErr result (state.new ≡ state.old) }
 {
     let Some(packet) = set.get(0) else {
-        return stays(alloc, state);
+        return Ok(no_emission(alloc)?);
     };
     thinned(alloc, period, state, at, packet)
 }
