@@ -7,16 +7,15 @@ ghost use Rattle.mg_config.specs.Faults as faults;
 
 use crate::fault::ConfigFault;
 use crate::path::{below, numbered};
-use crate::value::{fields_of_value, has_name, text_named};
+use crate::value::{fields_of_value, has_name, lent_text_named};
 use mg_text::Field;
 use mg_value::MgText;
 use std::alloc::{AllocError, Global};
 
-fn lacks_calculator(alloc: Global, node: &[Field]) -> Result<bool, AllocError>
-    ensures { IfOk result (λ lacks. lacks ≡ bytes_eq (text_in (codes "calculator") (map field_view node.now)) []) }
+fn lacks_calculator(node: &[Field]) -> bool
+    ensures { result ≡ bytes_eq (text_in (codes "calculator") (map field_view node.now)) [] }
 {
-    let calculator = text_named(alloc, node, b"calculator")?;
-    Ok(calculator.as_bytes().is_empty())
+    lent_text_named(node, b"calculator").as_bytes().is_empty()
 }
 
 fn calculator_path(alloc: Global, k: usize) -> Result<MgText, AllocError>
@@ -37,7 +36,7 @@ pub fn check_calculators(alloc: Global, fields: &[Field]) -> Result<(), ConfigFa
         if !has_name(field, b"node") {
             continue;
         }
-        if lacks_calculator(alloc, fields_of_value(&field.value))? {
+        if lacks_calculator(fields_of_value(&field.value)) {
             return Err(ConfigFault::WrongShape {
                 path: calculator_path(alloc, k)?,
             });

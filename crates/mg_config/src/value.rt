@@ -54,13 +54,20 @@ pub fn truth_in_value(value: &TreeValue) -> Option<bool>
 }
 
 /// Returns the text of a value, or the empty text where the value is no quoted text.
+fn lent_text(value: &TreeValue) -> &str
+    ensures { result.now ≡ values.text_of_value (value_view value.now) }
+{
+    match value {
+        TreeValue::Scalar(Scalar::Quoted(text)) => text.as_str(),
+        _ => "",
+    }
+}
+
+/// Returns a copy of the text of a value, or the empty text where the value is no quoted text.
 pub fn text_of_value(alloc: Global, value: &TreeValue) -> Result<MgText, AllocError>
     ensures { IfOk result (λ text. text ≡ values.text_of_value (value_view value.now)) }
 {
-    match value {
-        TreeValue::Scalar(Scalar::Quoted(text)) => text.try_clone(alloc),
-        _ => MgText::new(alloc, ""),
-    }
+    MgText::new(alloc, lent_text(value))
 }
 
 /// Returns the fields of a value that is a message, and no fields of one that isn't.
@@ -94,13 +101,20 @@ pub fn first_of<'a>(fields: &'a [Field], name: &[u8]) -> Option<&'a TreeValue>
 }
 
 /// Returns the text of the first field of a name, or the empty text where there is none.
+pub fn lent_text_named<'a>(fields: &'a [Field], name: &[u8]) -> &'a str
+    ensures { result.now ≡ values.text_in name.now (map field_view fields.now) }
+{
+    match first_of(fields, name) {
+        Some(value) => lent_text(value),
+        None => "",
+    }
+}
+
+/// Returns a copy of the text of the first field of a name, or the empty text where there is none.
 pub fn text_named(alloc: Global, fields: &[Field], name: &[u8]) -> Result<MgText, AllocError>
     ensures { IfOk result (λ text. text ≡ values.text_in name.now (map field_view fields.now)) }
 {
-    match first_of(fields, name) {
-        Some(value) => text_of_value(alloc, value),
-        None => MgText::new(alloc, ""),
-    }
+    MgText::new(alloc, lent_text_named(fields, name))
 }
 
 /// Returns the number of the first field of a name, or 0 where there is none.
