@@ -18,7 +18,7 @@ use mg_check::check;
 use mg_config::GraphConfig;
 use mg_files::{Fault, check_note, check_text, expand_note, graph_text, graphs_of};
 use mg_free::first_free;
-use mg_subgraph::expand;
+use mg_subgraph::expand_own;
 use mg_value::MgText;
 use mg_words::{Order, Verb, Way};
 use std::alloc::{AllocError, Global};
@@ -70,7 +70,7 @@ pub fn job_of(
     match graphs_of(alloc, names, &contents) {
         Ok(graphs) => {
             drop(contents);
-            graphs_job(alloc, order, outers, &graphs)
+            graphs_job(alloc, order, outers, graphs)
         }
         Err(fault) => refused(fault),
     }
@@ -92,36 +92,38 @@ fn graphs_job(
     alloc: Global,
     order: Order,
     outers: &[OuterShape],
-    graphs: &[GraphConfig],
+    graphs: Vec<GraphConfig>,
 ) -> Result<Job, AllocError>
-    requires sound { All (λ graph. IsSound (graph_view graph)) graphs.now }
-    requires printable { All (λ graph. IsPrintable (graph_view graph)) graphs.now }
+    requires sound { All (λ graph. IsSound (graph_view graph)) graphs.items }
+    requires printable { All (λ graph. IsPrintable (graph_view graph)) graphs.items }
     requires outers { All IsOuterShape outers.now }
-    ensures due { IfOk result (λ job. job_view job ≡ answers.graphs_job order outers.now (map graph_view graphs.now)) }
+    ensures due { IfOk result (λ job. job_view job ≡ answers.graphs_job order outers.now (map graph_view graphs.items)) }
     ensures valid { IfOk result (λ job. CanBeDone outers.now (job_view job)) }
 {
-    let [main, library @ ..] = graphs else {
+    if graphs.is_empty() {
         return Ok(Job::Refuse(Vec::new(alloc)));
-    };
-    main_job(alloc, order, outers, main, library)
+    }
+    let mut library = graphs;
+    let main = library.remove(0);
+    main_job(alloc, order, outers, main, library.as_slice())
 }
 
 fn main_job(
     alloc: Global,
     order: Order,
     outers: &[OuterShape],
-    main: &GraphConfig,
+    main: GraphConfig,
     library: &[GraphConfig],
 ) -> Result<Job, AllocError>
-    requires sound { IsSound (graph_view main.now) }
-    requires printable { IsPrintable (graph_view main.now) }
+    requires sound { IsSound (graph_view main) }
+    requires printable { IsPrintable (graph_view main) }
     requires sound_files { All (λ graph. IsSound (graph_view graph)) library.now }
     requires printable_files { All (λ graph. IsPrintable (graph_view graph)) library.now }
     requires outers { All IsOuterShape outers.now }
     ensures valid { IfOk result (λ job. CanBeDone outers.now (job_view job)) }
-    ensures due { IfOk result (λ job. job_view job ≡ answers.expanded_job order outers.now (expansion_of (graph_view main.now) (map graph_view library.now))) }
+    ensures due { IfOk result (λ job. job_view job ≡ answers.expanded_job order outers.now (expansion_of (graph_view main) (map graph_view library.now))) }
 {
-    match expand(alloc, main, library) {
+    match expand_own(alloc, main, library) {
         Ok(graph) => graph_job(alloc, order, outers, graph),
         Err(fault) => Ok(Job::Refuse(expand_note(alloc, &fault)?)),
     }

@@ -1,10 +1,11 @@
 -- What was expanded, expanded again.
-use Rattle.std.proofs.Common.{ℕ, suc, zero, ◌≡◌, ⊎_elim, List, [], ◌∷◌, Option, None, Some, Bool, true, false, ◌||◌, Result, Ok, refl, sym, ap, ◌∙◌, length, subst, filter, is_some, if◌then◌else◌, nat_lt, codes}
+use Rattle.std.proofs.Common.{ℕ, suc, zero, ◌≡◌, ⊎_elim, List, [], ◌∷◌, Option, None, Some, Bool, true, false, ◌||◌, Result, Ok, Err, refl, sym, ap, ◌∙◌, length, map, subst, filter, is_some, if◌then◌else◌, nat_lt, codes}
 use Rattle.std.specs.Prelude.{slice_get, find, option_map}
 use Rattle.std.specs.Option.{option_or, option_and_then}
 use Rattle.std.specs.List.{list_any}
 use Rattle.std.proofs.lemmas.Bool.{cases_Bool, false≢true}
-use Rattle.mg_config.specs.Config.{NodeView, GraphView}
+use Rattle.mg_config.specs.Config.{NodeView, GraphView, node_view}
+use Rattle.mg_config.specs.declared.node.NodeConfig.{NodeConfig}
 use Rattle.mg_subgraph.specs.Library.{is_of, file_of, is_subgraph, uses, uses_file, used_files, is_recursive}
 use Rattle.mg_subgraph.specs.Expanded.{expanded_to, expanded}
 use Rattle.mg_subgraph.specs.Expansion.{expansion_of, expansion_by, refusal}
@@ -14,7 +15,7 @@ use Rattle.mg_subgraph.specs.declared.fault.ExpandFault.TheVariants.{Recursive, 
 use Rattle.mg_subgraph.proofs.Grounded.{none_replaced, none_left as all_expanded}
 use Rattle.mg_subgraph.proofs.Kept.{expansion_is}
 use Rattle.mg_subgraph.proofs.Linked.{find_none_at, filter_drops}
-use Rattle.mg_subgraph.proofs.Looked.{reserved_none}
+use Rattle.mg_subgraph.proofs.Looked.{any_mapped, reserved_none}
 use Rattle.mg_subgraph.proofs.Reaching.{least_used}
 use Rattle.mg_subgraph.proofs.Sized.{grounded_main}
 use Rattle.mg_subgraph.proofs.Joins.{neither_left, neither_right, none_left, none_right}
@@ -91,20 +92,48 @@ answered graph = Ok graph
 abbrev with_nodes : GraphView → List NodeView → GraphView
 with_nodes graph nodes = record graph { nodes = nodes }
 
-pub again_same : (main : GraphView) (library : List GraphView) → refusal main library ≡ None
-    → expansion_of (record main { nodes = expanded library main.nodes }) library ≡ Ok (record main { nodes = expanded library main.nodes })
+abbrev counted : Bool → Option ExpandFault
+counted many = if many then Some TooManyNodes else None
+
+not_many : (many : Bool) → counted many ≡ None → many ≡ false
+not_many true none = cc
+not_many false none = refl
+
+-- A graph without subgraph nodes is its own expansion, and is refused for nothing but too many nodes.
+pub flat_expansion : (main : GraphView) (library : List GraphView) → type_twice library ≡ None → list_any (is_subgraph library) main.nodes ≡ false → nat_lt max_nodes (length main.nodes) ≡ false
+    → expansion_of main library ≡ Ok main
+flat_expansion main library once flat few =
+    let unused : used_files main library ≡ [] = filter_none (uses_file library main.nodes) library (flat_used library main.nodes flat) in
+    let same : expanded library main.nodes ≡ main.nodes = flat_same library main.nodes flat (length library) in
+    let many : too_many_nodes main library ≡ None = ap (λ (l : List NodeView). counted (nat_lt max_nodes (length l))) same ∙ ap counted few in
+    let refused : refusal main library ≡ None =
+    none_refused main library once (ap (λ files. option_map (λ file. Recursive file.type_name) (find (is_recursive library) files)) unused) many (reserved_none main library flat)
+    (ap (first_some port_shared_in) unused) (flat_owned bad_field_at main library flat unused) (flat_owned no_such_port_at main library flat unused) in
+    ap (λ o. expansion_by o (with_nodes main (expanded library main.nodes))) refused ∙ ap (λ l. answered (with_nodes main l)) same
+
+pub flat_too_many : (main : GraphView) (library : List GraphView) → type_twice library ≡ None → list_any (is_subgraph library) main.nodes ≡ false → nat_lt max_nodes (length main.nodes) ≡ true
+    → expansion_of main library ≡ Err TooManyNodes
+flat_too_many main library once flat past =
+    let unused : used_files main library ≡ [] = filter_none (uses_file library main.nodes) library (flat_used library main.nodes flat) in
+    let same : expanded library main.nodes ≡ main.nodes = flat_same library main.nodes flat (length library) in
+    let many : too_many_nodes main library ≡ Some TooManyNodes = ap (λ (l : List NodeView). counted (nat_lt max_nodes (length l))) same ∙ ap counted past in
+    let none : recursive main library ≡ None = ap (λ files. option_map (λ file. Recursive file.type_name) (find (is_recursive library) files)) unused in
+    let names = option_or (reserved_name main library) (option_or (port_shared main library) (option_or (bad_field main library) (no_such_port main library))) in
+    ap (λ o. expansion_by o (with_nodes main (expanded library main.nodes)))
+    (ap (λ o. option_or o (option_or (recursive main library) (option_or (too_many_nodes main library) names))) once
+    ∙ (ap (λ o. option_or o (option_or (too_many_nodes main library) names)) none ∙ ap (λ o. option_or o names) many))
+
+-- that no node is a subgraph node, of the nodes as they are kept
+pub flat_nodes : (library : List GraphView) (nodes slice : List NodeConfig) (some : Bool) → slice ≡ nodes → some ≡ list_any (λ node. is_subgraph library (node_view node)) slice → some ≡ false
+    → list_any (is_subgraph library) (map node_view nodes) ≡ false
+flat_nodes library nodes slice some same is none =
+    sym (any_mapped (is_subgraph library) node_view nodes) ∙ (ap (list_any (λ node. is_subgraph library (node_view node))) (sym same) ∙ (sym is ∙ none))
+
+again_same : (main : GraphView) (library : List GraphView) → refusal main library ≡ None → expansion_of (with_nodes main (expanded library main.nodes)) library ≡ Ok (with_nodes main (expanded library main.nodes))
 again_same main library none =
     let parts = refusals_none main library none in
-    let nodes = expanded library main.nodes in
-    let graph : GraphView = record main { nodes = nodes } in
-    let flat = all_expanded library main.nodes (grounded_main main library parts.1) in
-    let unused : used_files graph library ≡ [] = filter_none (uses_file library nodes) library (flat_used library nodes flat) in
-    let same : expanded library nodes ≡ nodes = flat_same library nodes flat (length library) in
-    let many : too_many_nodes graph library ≡ None = ap (λ l. if nat_lt max_nodes (length l) then Some TooManyNodes else None) same ∙ parts.2 in
-    let refused : refusal graph library ≡ None =
-    none_refused graph library parts.0 (ap (λ files. option_map (λ file. Recursive file.type_name) (find (is_recursive library) files)) unused) many (reserved_none graph library flat)
-    (ap (first_some port_shared_in) unused) (flat_owned bad_field_at graph library flat unused) (flat_owned no_such_port_at graph library flat unused) in
-    ap (λ o. expansion_by o (record graph { nodes = expanded library nodes })) refused ∙ ap (λ l. answered (with_nodes main l)) same
+    flat_expansion (with_nodes main (expanded library main.nodes)) library parts.0 (all_expanded library main.nodes (grounded_main main library parts.1))
+    (not_many (nat_lt max_nodes (length (expanded library main.nodes))) parts.2)
 
 pub again : (main graph : GraphView) (library : List GraphView) → expansion_of main library ≡ Ok graph → expansion_of graph library ≡ Ok graph
 again main graph library made =

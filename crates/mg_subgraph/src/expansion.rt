@@ -15,9 +15,9 @@ use crate::expanding::{Judged, expanded};
 use crate::fault::ExpandFault;
 use crate::library::Library;
 use crate::nodes::{Check, check_subgraphs};
-use crate::reserved::check_reserved;
+use crate::reserved::{check_reserved, has_subgraph};
 use crate::shared::{FileNames, check_shared, names_of};
-use crate::size::sizes_of;
+use crate::size::{is_large, sizes_of};
 use crate::used::used_by;
 use mg_config::GraphConfig;
 use mg_value::BlockList;
@@ -148,4 +148,39 @@ pub fn expand(
 {
     let library = Library::new(alloc, library)?;
     expand_in(alloc, main, &library)
+}
+
+// Returns the expansion of a graph that is handed over. A graph without subgraph nodes is handed back.
+fn expand_own_in(
+    alloc: Global,
+    main: GraphConfig,
+    library: &Library,
+) -> Result<GraphConfig, ExpandFault>
+    ensures ok { IfOk result (λ graph. expansion_of (graph_view main) (files_of library.now) ≡ Ok (graph_view graph)) }
+    ensures err { IfErr result (λ fault. fault ≢ ExpandFault.OutOfMemory → expansion_of (graph_view main) (files_of library.now) ≡ Err fault) }
+{
+    if has_subgraph(library, main.nodes.as_slice()) {
+        return expand_in(alloc, &main, library);
+    }
+    if is_large(&main.nodes) {
+        return Err(ExpandFault::TooManyNodes);
+    }
+    Ok(main)
+}
+
+/// Returns what `expand` returns, of a graph that is handed over. A graph without subgraph nodes is handed back, and nothing of it is copied.
+pub fn expand_own(
+    alloc: Global,
+    main: GraphConfig,
+    library: &[GraphConfig],
+) -> Result<GraphConfig, ExpandFault>
+    ensures ok { IfOk result (λ graph. expansion_of (graph_view main) (map graph_view library.now) ≡ Ok (graph_view graph)) }
+    ensures err { IfErr result (λ fault. fault ≢ ExpandFault.OutOfMemory → expansion_of (graph_view main) (map graph_view library.now) ≡ Err fault) }
+
+    // Where the graph and all files can be written and read back, so can the expanded graph, and it can be printed where all of them can.
+    ensures sound { IfOk result (λ graph. IsSound (graph_view main) → All (λ file. IsSound (graph_view file)) library.now → IsSound (graph_view graph)) }
+    ensures printable { IfOk result (λ graph. IsPrintable (graph_view main) → All (λ file. IsPrintable (graph_view file)) library.now → IsPrintable (graph_view graph)) }
+{
+    let library = Library::new(alloc, library)?;
+    expand_own_in(alloc, main, &library)
 }

@@ -1,5 +1,5 @@
 //! Expansion of subgraphs: a node whose calculator is the type of a library file is replaced by the nodes of that file.
-//! `expand` returns the expanded graph or its first refusal, `expansion_of` of specs/.
+//! `expand` and `expand_own` return the expanded graph or its first refusal, `expansion_of` of specs/.
 #![tactic(auto)]
 
 mod copying;
@@ -17,5 +17,5 @@ mod shared;
 mod size;
 mod used;
 
-pub use expansion::expand;
+pub use expansion::{expand, expand_own};
 pub use fault::ExpandFault;

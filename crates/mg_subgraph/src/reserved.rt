@@ -133,7 +133,8 @@ fn is_subgraph(library: &Library, node: &NodeConfig) -> bool
     library.find(node.calculator.as_str()).is_some()
 }
 
-fn has_subgraph(library: &Library, nodes: &[NodeConfig]) -> bool
+/// Returns whether one of the nodes uses a file of the library.
+pub(crate) fn has_subgraph(library: &Library, nodes: &[NodeConfig]) -> bool
     ensures { result ≡ list_any (λ node. uses.is_subgraph (files_of library.now) (node_view node)) nodes.now }
 {
     nodes.iter().any(|node| is_subgraph(library, node))

@@ -1,5 +1,5 @@
 //! How many nodes there are after expansion. The nodes of each file are counted once, and a count stops at one more than the limit.
-ghost use Rattle.std.specs.Prelude.{◌≡◌, ◌≢◌, ◌+◌, ◌≤◌, ◌<◌, [], ◌∷◌, None, Some, IfOk, IfErr, OnOk, map, length, min, vec_len};
+ghost use Rattle.std.specs.Prelude.{◌≡◌, ◌≢◌, ◌+◌, ◌≤◌, ◌<◌, [], ◌∷◌, None, Some, IfOk, IfErr, OnOk, map, length, min, nat_lt, vec_len};
 ghost use Rattle.mg_config.specs.Config.{node_view, graph_view};
 ghost use Rattle.mg_subgraph.specs.Expanded.{replaced, expanded};
 ghost use Rattle.mg_subgraph.specs.Library.{file_of};
@@ -9,11 +9,18 @@ ghost use Rattle.mg_subgraph.specs.Code.Views.{files_of};
 
 use crate::fault::ExpandFault;
 use crate::library::Library;
-use mg_config::{GraphConfig, NodeConfig};
+use mg_config::{GraphConfig, NodeConfig, NodeList};
 use std::alloc::{AllocError, Global};
 
 /// How many nodes a graph may have after expansion.
 const MAX_NODES: u32 = 4096;
+
+/// Returns whether there are more nodes than a graph may have.
+pub(crate) fn is_large(nodes: &NodeList) -> bool
+    ensures { result ≡ nat_lt max_nodes (length nodes.now) }
+{
+    nodes.len() > MAX_NODES
+}
 
 /// Returns the sum of two counts, or one more than the limit where the sum is above the limit.
 fn sum(first: u32, second: u32) -> u32

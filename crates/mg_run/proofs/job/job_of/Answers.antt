@@ -1,35 +1,27 @@
-use Rattle.std.proofs.Common.{◌∙◌, List, ℕ, map, ap, sym, subst}
-use Rattle.std.specs.List.{All}
+use Rattle.std.proofs.Common.{List, ℕ, map, subst}
 use Rattle.std.specs.Global.{Vec}
 use Rattle.std.proofs.lemmas.Result.{IfOk-weaker}
 use Rattle.mg_config.specs.Config.{graph_view}
 use Rattle.mg_config.specs.Sound.{IsSound, IsPrintable}
-use Rattle.mg_config.specs.declared.graph.GraphConfig.{GraphConfig}
 use Rattle.mg_files.specs.Files.{graphs, AreGraphs}
 use Rattle.mg_words.specs.Command.{command}
 use Rattle.mg_run.specs.Task.{task}
-use Rattle.mg_run.specs.Answer as answers
 use Rattle.mg_files.specs.Reads.{contents_of, AreNotedOf}
 use Rattle.mg_files.proofs.Together.{all-graphs}
 use Rattle.mg_files.proofs.Texts.{sound_graph, printable_graph}
 use Rattle.mg_run.proofs.job.job_of.Goals as goal
 
 pub graphs_job-requires-clause-sound : goal.graphs_job-requires-clause-sound
-graphs_job-requires-clause-sound c =
-    subst (All {X = GraphConfig} (λ g. IsSound (graph_view g))) (sym c.deref-in-Ok.ensures.value)
-    (all-graphs IsSound sound_graph (contents_of c.deref.result.now) c.in-Ok.graphs.items c.in-Ok.ensures.graphs)
+graphs_job-requires-clause-sound c = all-graphs IsSound sound_graph (contents_of c.deref.result.now) c.in-Ok.graphs.items c.in-Ok.ensures.graphs
 
 pub graphs_job-requires-clause-printable : goal.graphs_job-requires-clause-printable
-graphs_job-requires-clause-printable c =
-    subst (All {X = GraphConfig} (λ g. IsPrintable (graph_view g))) (sym c.deref-in-Ok.ensures.value)
-    (all-graphs IsPrintable printable_graph (contents_of c.deref.result.now) c.in-Ok.graphs.items c.in-Ok.ensures.graphs)
+graphs_job-requires-clause-printable c = all-graphs IsPrintable printable_graph (contents_of c.deref.result.now) c.in-Ok.graphs.items c.in-Ok.ensures.graphs
 
 pub returns-in-Ok-clause-due : goal.returns-in-Ok-clause-due
 returns-in-Ok-clause-due c =
     let gs = map graph_view c.in-Ok.graphs.items in
     let are = subst (λ (contents : List (Vec ℕ)). AreGraphs (contents_of contents) gs) c.deref.ensures.value c.in-Ok.ensures.graphs in
-    IfOk-weaker c.graphs_job.result _ _
-    (λ job same. (graphs gs, are, same ∙ ap (λ (configs : List GraphConfig). answers.graphs_job c.args.order c.args.outers.now (map graph_view configs)) c.deref-in-Ok.ensures.value)) c.graphs_job.ensures.due
+    IfOk-weaker c.graphs_job.result _ _ (λ job same. (graphs gs, are, same)) c.graphs_job.ensures.due
 
 pub returns-in-Err-clause-due : goal.returns-in-Err-clause-due
 returns-in-Err-clause-due c =

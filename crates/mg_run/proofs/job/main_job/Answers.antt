@@ -4,4 +4,4 @@ use Rattle.mg_run.proofs.Fewer.{few-nodes}
 use Rattle.mg_run.proofs.job.main_job.Goals as goal
 
 pub graph_job-requires-clause-few : goal.graph_job-requires-clause-few
-graph_job-requires-clause-few c = few-nodes (graph_view c.args.main.now) (map graph_view c.args.library.now) c.in-Ok.graph c.in-Ok.ensures.ok
+graph_job-requires-clause-few c = few-nodes (graph_view c.args.main) (map graph_view c.args.library.now) c.in-Ok.graph c.in-Ok.ensures.ok
