@@ -1,5 +1,6 @@
 pub mod Changing
 pub mod ComeSteps
+pub mod GrowSteps
 pub mod NodeSteps
 pub mod OutcomeSteps
 pub mod PortSteps

@@ -1,15 +1,15 @@
 //! Rounds: the outputs of the nodes give the streams of the next round, and with these the nodes go on.
-ghost use Rattle.std.specs.Prelude.{◌≡◌, ℕ, ◌<◌, ◌++◌, All, Some, length, slice_get, IfOk, OnOk};
+ghost use Rattle.std.specs.Prelude.{◌≡◌, ℕ, ◌<◌, ◌++◌, ◌∷◌, [], All, Some, length, slice_get, slice_set, IfOk, OnOk};
 ghost use Rattle.std.specs.List.{flat_map};
 ghost use Rattle.mg_value.specs.Prefix.{IsPrefix};
-ghost use Rattle.mg_value.specs.Extension.{AreExtendedBy};
+ghost use Rattle.mg_value.specs.Extension.{AreExtendedBy, IsExtendedBy};
 ghost use Rattle.mg_value.specs.Settled.{inputs_of as inputs_at};
 ghost use Rattle.mg_calc.specs.declared.plan_node.PlanNode.{PlanNode as Node};
-ghost use Rattle.mg_calc.specs.Equations.{IsJob};
+ghost use Rattle.mg_calc.specs.Equations.{IsJob, stream_of};
 ghost use Rattle.mg_calc.specs.Plan.{IsValid, HasNumbers};
 ghost use Rattle.mg_calc.specs.Shape.{IsServed, IsShapeOf};
 ghost use Rattle.mg_equations.specs.declared.progress.Progress.{Progress as Kept};
-ghost use Rattle.mg_equations.specs.Changes.{changes};
+ghost use Rattle.mg_equations.specs.Changes.{changes, is_changed};
 ghost use Rattle.mg_equations.specs.Progress.{HasCome, HaveCome, CanGoOn, GoesOnIf, AllGoOn, outcomes, reads_change};
 
 use crate::node::begun;
@@ -58,55 +58,43 @@ fn first(
     Ok(progress)
 }
 
-/// Returns the streams of the next round, so that they can be read: the graph inputs, and then the outputs of each node.
-pub fn next_streams<'a>(
-    alloc: Global,
-    inputs: &'a PrefixList,
-    nodes: &'a [Progress],
-) -> Result<Vec<Rest<'a>>, AllocError>
-    ensures { IfOk result (λ next. next.items ≡ inputs.now ++ flat_map (λ outcome. outcome.outputs) (outcomes nodes.now)) }
+// Makes the next stream one that extends it, by copying only what is new, and notes whether it has changed.
+fn grow_next(
+    later: &Rest<'_>,
+    streams: &mut Vec<Output>,
+    changed: &mut Vec<bool>,
+) -> Result<(), AllocError>
+    requires below { length changed.old.items < length streams.old.items }
+    requires extends { IsExtendedBy (stream_of streams.old.items (length changed.old.items)) later.now }
+    ensures streams { OnOk result (streams.new.items ≡ slice_set streams.old.items (length changed.old.items) later.now) }
+    ensures changed { OnOk result (changed.new.items ≡ changed.old.items ++ is_changed (stream_of streams.old.items (length changed.old.items)) later.now ∷ []) }
 {
-    let mut next = whole(alloc, inputs)?;
-    for node in nodes {
-        push_outputs(&mut next, node.outcome.outputs.as_slice())?;
-    }
-    Ok(next)
-}
-
-// Returns prefixes so that they can be read from the first packet on.
-fn whole<'a>(alloc: Global, prefixes: &'a PrefixList) -> Result<Vec<Rest<'a>>, AllocError>
-    ensures { IfOk result (λ rests. rests.items ≡ prefixes.now) }
-{
-    let mut rests = Vec::with_capacity(alloc, prefixes.len() as usize)?;
-    for prefix in prefixes.as_slice() {
-        rests.push(Rest::of(prefix))?;
-    }
-    Ok(rests)
-}
-
-// Appends outputs to a list of streams.
-fn push_outputs<'a>(next: &mut Vec<Rest<'a>>, outputs: &'a [Output]) -> Result<(), AllocError>
-    ensures { OnOk result (next.new.items ≡ next.old.items ++ outputs.now) }
-{
-    for output in outputs {
-        next.push(output.rest(0))?;
-    }
+    let number = changed.len();
+    let change = streams[number].grow(later)?;
+    changed.push(change)?;
     Ok(())
 }
 
-/// Makes the streams those of the next round, by copying only what is new. Returns for each stream whether it has changed.
-pub fn grow_all(
+/// Makes the streams those of the next round, which are the graph inputs and then the outputs of each node, by copying only what is
+/// new. Returns for each stream whether it has changed.
+pub fn grown(
     alloc: Global,
+    inputs: &PrefixList,
+    nodes: &[Progress],
     streams: &mut Vec<Output>,
-    next: &[Rest<'_>],
 ) -> Result<Vec<bool>, AllocError>
-    requires { AreExtendedBy streams.old.items next.now }
-    ensures streams { OnOk result (streams.new.items ≡ next.now) }
-    ensures changed { IfOk result (λ changed. changed.items ≡ changes streams.old.items next.now) }
+    requires { AreExtendedBy streams.old.items (inputs.now ++ flat_map (λ outcome. outcome.outputs) (outcomes nodes.now)) }
+    ensures streams { OnOk result (streams.new.items ≡ inputs.now ++ flat_map (λ outcome. outcome.outputs) (outcomes nodes.now)) }
+    ensures changed { IfOk result (λ changed. changed.items ≡ changes streams.old.items (inputs.now ++ flat_map (λ outcome. outcome.outputs) (outcomes nodes.now))) }
 {
-    let mut changed = Vec::with_capacity(alloc, next.len())?;
-    for (i, later) in next.iter().enumerate() {
-        changed.push(streams[i].grow(later)?)?;
+    let mut changed = Vec::with_capacity(alloc, streams.len())?;
+    for prefix in inputs.as_slice() {
+        grow_next(&Rest::of(prefix), streams, &mut changed)?;
+    }
+    for node in nodes {
+        for output in node.outcome.outputs.as_slice() {
+            grow_next(&output.rest(0), streams, &mut changed)?;
+        }
     }
     Ok(changed)
 }

@@ -1,18 +1,16 @@
 //! The solution of a job: rounds from nothing on, up to the first that changes nothing.
-ghost use Rattle.std.specs.Prelude.{◌≡◌, ◌<◌, ◌^◌, ◌++◌, length, map, replicate, IfOk, OnOk};
-ghost use Rattle.std.specs.List.{list_any, filter_map, flat_map, enumerate_from};
+ghost use Rattle.std.specs.Prelude.{◌≡◌, ◌<◌, ◌^◌, length, map, replicate, IfOk};
+ghost use Rattle.std.specs.List.{list_any, filter_map, enumerate_from};
 ghost use Rattle.mg_value.specs.Prefix.{empty_prefix};
-ghost use Rattle.mg_value.specs.Extension.{AreExtendedBy};
 ghost use Rattle.mg_calc.specs.Equations.{IsSolution};
 ghost use Rattle.mg_calc.specs.Meaning.{counts, faults};
 ghost use Rattle.mg_calc.specs.Plan.{IsValid, InputsFit};
-ghost use Rattle.mg_equations.specs.Changes.{changes};
 ghost use Rattle.mg_equations.specs.Progress.{outcomes};
 ghost use Rattle.mg_equations.specs.Rounds.{numbered_fault};
 
 use crate::output::Output;
 use crate::progress::Progress;
-use crate::round::{first_nodes, go_on_all, grow_all, next_streams};
+use crate::round::{first_nodes, go_on_all, grown};
 use mg_calc::{Inputs, NodeFault, NodeFaultList, Plan};
 use mg_value::{BlockList, PrefixList};
 use std::alloc::{AllocError, Global};
@@ -64,21 +62,6 @@ fn nothing_known(alloc: Global, count: u32) -> Result<Vec<Output>, AllocError>
         streams.push(Output::new(alloc))?;
     }
     Ok(streams)
-}
-
-// Makes the streams those of the next round. Returns for each stream whether it has changed.
-fn grown(
-    alloc: Global,
-    inputs: &PrefixList,
-    nodes: &[Progress],
-    streams: &mut Vec<Output>,
-) -> Result<Vec<bool>, AllocError>
-    requires { AreExtendedBy streams.old.items (inputs.now ++ flat_map (λ outcome. outcome.outputs) (outcomes nodes.now)) }
-    ensures streams { OnOk result (streams.new.items ≡ inputs.now ++ flat_map (λ outcome. outcome.outputs) (outcomes nodes.now)) }
-    ensures changed { IfOk result (λ changed. changed.items ≡ changes streams.old.items (inputs.now ++ flat_map (λ outcome. outcome.outputs) (outcomes nodes.now))) }
-{
-    let next = next_streams(alloc, inputs, nodes)?;
-    grow_all(alloc, streams, next.as_slice())
 }
 
 // Whether any stream has changed.
