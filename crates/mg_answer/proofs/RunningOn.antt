@@ -1,5 +1,5 @@
 -- What a run that writes as it goes came to, by its status, and what follows of it.
-use Rattle.std.proofs.Common.{◌≡◌, ◌≢◌, ◌⊎◌, inl, inr, ℕ, Bool, List, [], ◌∷◌, refl, sym, ◌∙◌}
+use Rattle.std.proofs.Common.{◌≡◌, ◌≢◌, ◌⊎◌, inl, inr, Bool, [], ◌∷◌, refl, sym, ◌∙◌}
 use Rattle.mg_calc.specs.declared.plan.Plan.{Plan}
 use Rattle.mg_calc.specs.Meaning.{faults, stalled}
 use Rattle.mg_feed.specs.Graph.{inputs_of}

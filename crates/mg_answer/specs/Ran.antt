@@ -1,5 +1,5 @@
 -- What a run came to, by its status.
-use Rattle.std.specs.Prelude.{◌≡◌, ◌≤◌, ℕ, ◌⊎◌, ◌++◌, List, [], ◌∷◌, length, Bool, true, false, IfSome}
+use Rattle.std.specs.Prelude.{◌≡◌, ◌≤◌, ℕ, ◌⊎◌, ◌++◌, List, [], length, Bool, true, false, IfSome}
 use Rattle.mg_edge.specs.Edge.{SourceTold, SinkTold}
 use Rattle.mg_edge.specs.Runs.{Gave}
 use Rattle.mg_calc.specs.declared.plan.Plan.{Plan}

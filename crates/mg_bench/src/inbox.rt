@@ -1,6 +1,6 @@
 //! Input sets go through the inbox of a node, each with a packet at each port, while other packets wait at the first port.
 
-ghost use Rattle.std.specs.Prelude.{◌≡◌, ◌<◌, length, OnOk};
+ghost use Rattle.std.specs.Prelude.{◌≡◌, ◌<◌, length};
 
 use crate::words::number;
 use mg_policy::Inbox;

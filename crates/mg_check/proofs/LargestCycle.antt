@@ -1,8 +1,8 @@
 -- The nodes that the order leaves out are the largest set of nodes of which each reads what another writes.
-use Rattle.std.proofs.Common.{◌≡◌, ◌≢◌, ℕ, ◌+◌, ◌<◌, ◌≤◌, zero, suc, Bool, true, false, not, ◌||◌, ◌&&◌, cond, eqb, List, [], ◌∷◌, ◌++◌, length, filter, get_or, find, All, AllPairs, Contains, Option, Some, None, inl, inr, ◌⊎◌, ◌∙◌, sym, ap, subst, refl, arith}
-use Rattle.std.specs.List.{list_any, list_all, range_with_len, IsDistinct}
+use Rattle.std.proofs.Common.{◌≡◌, ◌≢◌, ℕ, ◌+◌, ◌<◌, ◌≤◌, zero, suc, Bool, true, false, not, ◌||◌, ◌&&◌, cond, eqb, List, [], ◌∷◌, ◌++◌, length, filter, get_or, find, All, AllPairs, Contains, Some, None, inl, inr, ◌⊎◌, ◌∙◌, sym, ap, subst, refl, arith}
+use Rattle.std.specs.List.{list_all, range_with_len}
 use Rattle.std.specs.List.Sorted.{IsStrictlyIncreasing}
-use Rattle.std.proofs.lemmas.Bool.{cases_Bool, cases_lt, cases_eq, false≢true, eqb-true, eq-eqb, and_parts, not-true}
+use Rattle.std.proofs.lemmas.Bool.{cases_Bool, cases_eq, false≢true, eqb-true, eq-eqb, and_parts, not-true}
 use Rattle.std.proofs.lemmas.List.{length-append}
 use Rattle.std.proofs.lemmas.List.Elements.{All-push, All-cons, All-contains}
 use Rattle.std.proofs.lemmas.List.Sums.{AllPass-from_list_all}
@@ -18,7 +18,7 @@ use Rattle.mg_calc.specs.Plan.{numbers}
 use Rattle.mg_check.specs.declared.ordering.Link.{Link}
 use Rattle.mg_check.specs.Order.{is_among, is_next, with_next, taken_on, order_of, left_out, IsBetween}
 use Rattle.mg_check.specs.Cycle.{IsFedBy, FeedsItself, IsLargestCycle}
-use Rattle.mg_check.proofs.OrderFacts.{among-Contains, Contains-among, among-push, find-first, cases_Option, order_keeps, order_below, order_once}
+use Rattle.mg_check.proofs.OrderFacts.{among-Contains, Contains-among, among-push, find-first, cases_Option, order_keeps}
 
 -- ---- what a filter of numbers in a row holds
 

@@ -1,8 +1,8 @@
 -- Each draft is sound, and a draft of a calculator that is handed in has its law and shape.
-use Rattle.std.proofs.Common.{◌≡◌, ℕ, ℤ, pos, negsuc, ◌≤◌, List, [], ◌∷◌, length, Bool, true, false, ◌&&◌, ◌==◌, nat_lt, Option, None, Some, if◌then◌else◌, slice_get, All, IfSome, IsSome, IsSomeAnd, filter_map, bytes_eq, codes, refl, sym, ap, subst, ◌∙◌, arith, inl, inr}
+use Rattle.std.proofs.Common.{◌≡◌, ℕ, ℤ, pos, negsuc, ◌≤◌, List, [], ◌∷◌, length, Bool, true, false, ◌==◌, nat_lt, Option, None, Some, if◌then◌else◌, slice_get, All, IfSome, IsSome, IsSomeAnd, filter_map, bytes_eq, codes, refl, sym, ap, subst, ◌∙◌, arith, inl, inr}
 use Rattle.std.specs.Prelude.{option_and_then, option_map}
 use Rattle.std.specs.List.{list_any, cons_option}
-use Rattle.std.proofs.lemmas.Bool.{and_parts, or_cases, true≢false, eqb-false, ltb-false}
+use Rattle.std.proofs.lemmas.Bool.{or_cases, true≢false, eqb-false, ltb-false}
 use Rattle.std.proofs.lemmas.List.{length-map}
 use Rattle.std.proofs.lemmas.List.Elements.{All-nil, All-cons}
 use Rattle.std.proofs.lemmas.Option.{none-some, same_Some}
@@ -15,9 +15,7 @@ use Rattle.mg_calc.specs.declared.shape.Shape.{Shape}
 use Rattle.mg_calc.specs.declared.shape.OuterShape.{OuterShape}
 use Rattle.mg_calc.specs.Plan.{MayHavePolicy}
 use Rattle.mg_kinds.specs.PortOrder.{in_order}
-use Rattle.mg_kinds.specs.Tags.{tag_text}
 use Rattle.mg_kinds.specs.Kinds.{SettingsView}
-use Rattle.mg_kinds.specs.declared.tag.Tag.TheVariants.{Loop}
 use Rattle.mg_kinds.specs.declared.ports.Ports.{Ports}
 use Rattle.mg_kinds.proofs.Made.{made_by, mapped}
 use Rattle.mg_check.specs.Check.{IsOuterShape}

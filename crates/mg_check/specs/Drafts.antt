@@ -1,5 +1,5 @@
 -- What a node is before its streams and side packets have numbers, and what it is refused for by itself.
-use Rattle.std.specs.Prelude.{ℕ, ℤ, pos, negsuc, List, [], Bool, true, false, not, ◌&&◌, ◌==◌, nat_lt, Option, None, Some, option_map, is_none, unwrap_or, if◌then◌else◌, codes, map, position, find, filter_map}
+use Rattle.std.specs.Prelude.{ℕ, ℤ, pos, negsuc, List, [], Bool, false, not, ◌&&◌, ◌==◌, nat_lt, Option, None, Some, option_map, is_none, unwrap_or, if◌then◌else◌, codes, map, position, find, filter_map}
 use Rattle.std.specs.List.{list_any}
 use Rattle.std.specs.Option.{option_and_then, option_or}
 use Rattle.std.specs.Str.{bytes_eq}

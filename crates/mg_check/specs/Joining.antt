@@ -1,5 +1,5 @@
 -- How nodes are joined by the names of their streams and side packets, and what is refused there.
-use Rattle.std.specs.Prelude.{ℕ, List, [], ◌∷◌, ◌++◌, Bool, false, ◌&&◌, ◌==◌, nat_lt, Option, None, Some, option_map, if◌then◌else◌, length, map, zip, filter, filter_map, flat_map, position, slice_get}
+use Rattle.std.specs.Prelude.{ℕ, List, [], ◌∷◌, ◌++◌, Bool, false, ◌==◌, nat_lt, Option, None, Some, option_map, if◌then◌else◌, length, map, zip, filter, filter_map, flat_map, position, slice_get}
 use Rattle.std.specs.List.{enumerate_from}
 use Rattle.std.specs.Option.{option_and_then, option_or}
 use Rattle.mg_value.specs.declared.kind.Kind.{Kind}

@@ -1,6 +1,4 @@
 ghost use Rattle.std.specs.Prelude.{◌≡◌, ◌<◌, ◌^◌, ◌++◌, None, IfOk, OnOk, length};
-ghost use Rattle.std.specs.List.{flat_map, enumerate_from};
-ghost use Rattle.mg_config.specs.Config.{graph_view};
 ghost use Rattle.mg_kinds.specs.Kinds.{names_of};
 ghost use Rattle.mg_subgraph.specs.Refusals.{port_names};
 ghost use Rattle.mg_check.specs.DraftView.{drafts_view};

@@ -4,7 +4,7 @@ ghost use Rattle.mg_config.specs.Config.{graph_view};
 ghost use Rattle.mg_calc.specs.Plan.{numbers};
 ghost use Rattle.mg_check.specs.DraftView.{drafts_view};
 ghost use Rattle.mg_check.specs.Joining as joining;
-ghost use Rattle.mg_check.specs.Code.Writers.{node_writers, sources_from};
+ghost use Rattle.mg_check.specs.Code.Writers.{sources_from};
 
 use crate::counting::count_of;
 use crate::draft::Draft;

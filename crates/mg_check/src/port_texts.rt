@@ -2,7 +2,6 @@
 ghost use Rattle.std.specs.Prelude.{◌≡◌, IfOk};
 ghost use Rattle.mg_config.specs.Config.{node_view};
 ghost use Rattle.mg_kinds.specs.Kinds.{names_of};
-ghost use Rattle.mg_kinds.specs.declared.ports.Ports.{Ports as KindPorts};
 ghost use Rattle.mg_check.specs.Drafts.{name_at, names_at};
 ghost use Rattle.mg_check.specs.Code.Judged.{AreTexts};
 

@@ -1,6 +1,6 @@
 //! How many links each node waits for while the topological order is made: those from nodes that aren't taken.
 
-ghost use Rattle.std.specs.Prelude.{◌≡◌, ◌≤◌, ◌+◌, ◌-◌, ◌==◌, ◌<◌, ◌&&◌, ◌||◌, ℕ, All, IfOk, OnOk, count_by, length, replicate, slice_index, slice_set, if◌then◌else◌};
+ghost use Rattle.std.specs.Prelude.{◌≡◌, ◌≤◌, ◌-◌, ◌==◌, ◌<◌, ◌&&◌, ◌||◌, ℕ, All, IfOk, OnOk, count_by, length, replicate, slice_index, slice_set, if◌then◌else◌};
 ghost use Rattle.std.specs.BTreeSet.{contains};
 ghost use Rattle.std.specs.Ordering.{nat_cmp};
 ghost use Rattle.mg_check.specs.Order.{IsBetween};

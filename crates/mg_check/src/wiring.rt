@@ -3,7 +3,6 @@ ghost use Rattle.mg_config.specs.Config.{graph_view};
 ghost use Rattle.mg_check.specs.DraftView.{drafts_view};
 ghost use Rattle.mg_check.specs.Joining as joining;
 ghost use Rattle.mg_check.specs.Code.Refusing.{AreWired};
-ghost use Rattle.mg_check.specs.Code.Edges.{node_edges as of_nodes};
 
 use crate::draft::Draft;
 use crate::edges::{add_collector, node_edges};

@@ -1,5 +1,5 @@
 //! Workers that run a net side by side.
-ghost use Rattle.std.specs.Prelude.{◌≡◌, ◌≤◌, ◌^◌};
+ghost use Rattle.std.specs.Prelude.{◌≤◌, ◌^◌};
 ghost use Rattle.std.specs.Thread.{IsSync, IsSend};
 ghost use Rattle.mg_turns.specs.Calls.{view_of};
 ghost use Rattle.mg_workers.specs.Shared.{StaysShared};

@@ -1,7 +1,7 @@
 //! The levels, as workers use them: a node is in them at most once, and a worker for whose seat there was no memory does without them.
 
 ghost use Rattle.std.specs.Prelude.{◌≡◌, ◌+◌, ℕ, Contains, IfSome, Some, None};
-ghost use Rattle.mg_levels.specs.Levels.{order_of, portion_of, IsSeatOf};
+ghost use Rattle.mg_levels.specs.Levels.{order_of, IsSeatOf};
 ghost use Rattle.mg_crew.specs.Code.Places.{IsPlaceAt, IsAnyOf, IsLeft, HasPortion};
 
 use crate::shop::Tools;

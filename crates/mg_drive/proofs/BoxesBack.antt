@@ -1,5 +1,5 @@
 -- What a run leaves of the calculators that were handed in.
-use Rattle.std.proofs.Common.{◌≡◌, ◌<◌, inl, inr, ℕ, Bool, List, ◌++◌, length, map, All, Option, Some, None, IfSome, IsSomeAnd, Result, Ok, Err, IfOk, OnErr, slice_get, option_map, option_and_then, refl, sym, ap, ◌∙◌, subst, arith}
+use Rattle.std.proofs.Common.{◌≡◌, ◌<◌, inl, inr, ℕ, Bool, List, ◌++◌, length, All, Option, Some, None, IfSome, IsSomeAnd, Result, Ok, Err, IfOk, OnErr, slice_get, option_map, option_and_then, refl, sym, ap, ◌∙◌, subst, arith}
 use Rattle.std.proofs.lemmas.Option.{slice_get_cases}
 use Rattle.mg_edge.specs.Edge.{SourceTold}
 use Rattle.mg_calc.specs.declared.call.Call.{Call}

@@ -1,5 +1,5 @@
 -- Batches that come to a core with free nodes beside it.
-use Rattle.std.proofs.Common.{◌≡◌, ◌<◌, ◌+◌, ℕ, zero, suc, slice_index_or, false, List, [], ◌∷◌, ◌++◌, length, map, zip, replicate, All, Option, Some, None, refl, sym, ap, ◌∙◌, subst, arith}
+use Rattle.std.proofs.Common.{◌≡◌, ◌<◌, ◌+◌, ℕ, zero, suc, slice_index_or, false, List, [], ◌∷◌, ◌++◌, length, map, zip, replicate, Option, Some, None, refl, sym, ap, ◌∙◌, subst, arith}
 use Rattle.std.specs.List.{AllByRecursion, AllZip}
 use Rattle.std.proofs.lemmas.List.Elements.{recursion_from_All, length_all_zip}
 use Rattle.mg_edge.specs.Edge.{SourceTold}

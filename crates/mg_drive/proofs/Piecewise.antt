@@ -1,5 +1,5 @@
 -- Inputs, pieces that come behind them, and what they are then, place by place.
-use Rattle.std.proofs.Common.{◌≡◌, ◌<◌, ◌+◌, ℕ, zero, suc, List, [], ◌∷◌, ◌++◌, length, max, map, replicate, slice_index_or, refl, sym, ap, arith, append-nil}
+use Rattle.std.proofs.Common.{◌≡◌, ◌<◌, ℕ, zero, suc, List, [], ◌∷◌, ◌++◌, length, max, map, replicate, slice_index_or, refl, sym, ap, arith, append-nil}
 use Rattle.std.specs.List.{AllZip}
 use Rattle.mg_value.specs.Payload.{Plain}
 use Rattle.mg_value.specs.Prefix.{StreamPrefix, IsPrefix, empty_prefix}

@@ -1,5 +1,5 @@
 //! The loop of a run: a batch comes, the net is brought to rest, and the sets of its outputs are told.
-ghost use Rattle.std.specs.Prelude.{◌≡◌, ◌<◌, ℕ, List, length, false, IfOk, OnOk, OnErr};
+ghost use Rattle.std.specs.Prelude.{◌≡◌, ◌<◌, List, length, false, IfOk, OnOk, OnErr};
 ghost use Rattle.mg_edge.specs.Edge.{SourceTold, SinkTold};
 ghost use Rattle.mg_calc.specs.declared.inputs.Inputs.{Inputs as Given};
 ghost use Rattle.mg_calc.specs.declared.plan.Plan.{Plan};

@@ -1,9 +1,8 @@
 //! A run of a graph over batches: its net is made of the first batch and driven, and its calculators come back.
-ghost use Rattle.std.specs.Prelude.{◌≡◌, [], false, map, length, List, IfOk, OnErr};
+ghost use Rattle.std.specs.Prelude.{◌≡◌, [], false, map, length, IfOk, OnErr};
 ghost use Rattle.mg_edge.specs.Edge.{SourceTold, SinkTold};
 ghost use Rattle.mg_calc.specs.Plan.{IsValid};
 ghost use Rattle.mg_calc.specs.Equations.{IsJob};
-ghost use Rattle.mg_calc.specs.Told.{CalculatorTold};
 ghost use Rattle.mg_answer.specs.Devices.{device};
 ghost use Rattle.mg_answer.specs.Held.{told_by, SameDevices};
 ghost use Rattle.mg_sched.specs.Made.{BoxesFit};

@@ -1,5 +1,5 @@
 //! Runs that are recorded: the lines of the job are written, and then a line for each event as the net makes it.
-ghost use Rattle.std.specs.Prelude.{◌≡◌, ◌⊎◌, false, List, ℕ, map, IfOk, OnOk, OnErr};
+ghost use Rattle.std.specs.Prelude.{◌≡◌, ◌⊎◌, false, List, map, IfOk, OnOk, OnErr};
 ghost use Rattle.mg_edge.specs.Edge.{SinkTold};
 ghost use Rattle.mg_calc.specs.declared.inputs.Inputs.{Inputs as Given};
 ghost use Rattle.mg_calc.specs.Plan.{IsValid};

@@ -1,9 +1,9 @@
 -- Whether a round changes its streams, and that the rounds come to an end.
-use Rattle.std.proofs.Common.{◌≡◌, ℕ, zero, suc, ◌+◌, ◌-◌, ◌^◌, ◌<◌, ◌≤◌, ◌==◌, ◌&&◌, ◌||◌, Bool, true, false, not, List, [], ◌∷◌, ◌++◌, append-nil, All, map, Option, Some, None, option_map, length, length-append, Result, Ok, Err, IfOk, refl, sym, ap, ap₂, subst, ◌∙◌, arith, inl, inr, ◌⊎◌}
-use Rattle.std.specs.List.{AllByRecursion, list_any, filter_map, cons_option, enumerate_from}
+use Rattle.std.proofs.Common.{◌≡◌, ℕ, zero, suc, ◌+◌, ◌-◌, ◌^◌, ◌<◌, ◌≤◌, ◌==◌, ◌&&◌, ◌||◌, Bool, true, false, not, List, [], ◌∷◌, ◌++◌, append-nil, All, length, length-append, Result, Ok, Err, IfOk, refl, sym, ap, ap₂, subst, ◌∙◌, arith, inl, inr, ◌⊎◌}
+use Rattle.std.specs.List.{AllByRecursion, list_any}
 use Rattle.std.proofs.lemmas.Bool.{cases_lt}
 use Rattle.std.proofs.lemmas.Bool.Decides.{nat_tests, eqb_tells}
-use Rattle.std.proofs.lemmas.List.{nil_from_length, length-replicate, length-map}
+use Rattle.std.proofs.lemmas.List.{nil_from_length, length-replicate}
 use Rattle.std.proofs.lemmas.List.Elements.{All-from_recursion, recursion_from_All}
 use Rattle.mg_time.specs.Time.{next, IsAllowed}
 use Rattle.mg_value.specs.Payload.{Plain}
@@ -11,7 +11,7 @@ use Rattle.mg_value.specs.Prefix.{Stamped, StreamPrefix, IsPrefix, Ascends, firs
 use Rattle.mg_value.specs.Extension.{IsExtendedBy, AreExtendedBy}
 use Rattle.mg_value.proofs.Extending.{same_prefix}
 use Rattle.mg_value.proofs.PrefixSteps.{next_above}
-use Rattle.mg_calc.specs.Equations.{Job, IsJob, outcome_of, next_round, round, MeetsEquations, IsSolution}
+use Rattle.mg_calc.specs.Equations.{Job, IsJob, next_round, round, MeetsEquations, IsSolution}
 use Rattle.mg_calc.proofs.Jobs.{any_state, job_known}
 use Rattle.mg_calc.proofs.Rounds.{equations_are_as_many}
 use Rattle.mg_calc.proofs.Solutions.{round_keeps, rounds_ascend}

@@ -1,16 +1,15 @@
 -- Nodes go on, by their laws.
-use Rattle.std.proofs.Common.{◌≡◌, ℕ, zero, suc, ◌+◌, ◌-◌, ◌<◌, ◌≤◌, ◌^◌, ◌==◌, Bool, true, false, replicate, List, [], ◌∷◌, map, drop, get_or, length, length-drop, All, None, Some, slice_get, refl, sym, ap, ap₂, subst, ◌∙◌, arith, inl, inr}
-use Rattle.std.specs.List.{AllByRecursion, list_any}
+use Rattle.std.proofs.Common.{◌≡◌, ℕ, zero, suc, ◌<◌, ◌≤◌, ◌==◌, Bool, replicate, List, [], ◌∷◌, get_or, length, length-drop, All, None, Some, slice_get, refl, sym, ap, ap₂, subst, ◌∙◌, arith, inl, inr}
 use Rattle.std.proofs.lemmas.Bool.{cases_Bool}
 use Rattle.std.proofs.lemmas.Option.{slice_get_within, slice_get-get_or, get_or_from_slice_get}
-use Rattle.std.proofs.lemmas.List.{length-replicate, get_or-replicate, get_or_default}
+use Rattle.std.proofs.lemmas.List.{length-replicate, get_or_default}
 use Rattle.std.proofs.lemmas.List.Elements.{All-weaker, length_all_zip, recursion_from_All}
 use Rattle.mg_time.specs.Time.{pre_stream, done, IsAllowed}
 use Rattle.mg_value.specs.Payload.{Plain}
 use Rattle.mg_value.specs.Prefix.{Stamped, StreamPrefix, IsPrefix, empty_prefix, closed}
 use Rattle.mg_value.specs.Extension.{IsExtendedBy, AreExtendedBy}
-use Rattle.mg_value.specs.Settled.{settled_sets, reach, port_of, inputs_of as inputs_at}
-use Rattle.mg_value.specs.Left.{without_first, AreGone}
+use Rattle.mg_value.specs.Settled.{settled_sets, port_of, inputs_of as inputs_at}
+use Rattle.mg_value.specs.Left.{AreGone}
 use Rattle.mg_value.specs.Loopback.{IsPast}
 use Rattle.mg_value.proofs.Lemmas.{all_inputs, inputs-extended, port-prefix, port-extended, sets-gone, gone-extended, none-gone}
 use Rattle.mg_calc.specs.declared.law.Law.{Law}
@@ -20,7 +19,7 @@ use Rattle.mg_calc.specs.declared.port_kind.PortKind.{PortKind}
 use Rattle.mg_calc.specs.Shape.{IsOuter, IsShapeOf, HasInputs}
 use Rattle.mg_calc.specs.Plan.{HasNumbers}
 use Rattle.mg_calc.specs.Outcome.{Outcome, opened, node_outcome, loopback_outcome}
-use Rattle.mg_calc.specs.Equations.{Job, IsJob, sides_of, stream_of, inputs_of, outcome_by, outcome_of}
+use Rattle.mg_calc.specs.Equations.{Job, IsJob, sides_of, inputs_of, outcome_by, outcome_of}
 use Rattle.mg_equations.specs.declared.outcome.Outcome.{Outcome as CodeOutcome}
 use Rattle.mg_equations.specs.declared.progress.Progress.{Progress}
 use Rattle.mg_equations.specs.Begun.{begun_by}

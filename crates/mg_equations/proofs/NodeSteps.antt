@@ -1,12 +1,11 @@
 -- A node that is shown its further sets comes to what it comes to from all of them.
-use Rattle.std.proofs.Common.{◌≡◌, ℕ, ℤ, zero, suc, ◌+◌, ◌<◌, ◌≤◌, ◌^◌, ◌==◌, max, Bool, true, false, replicate, List, [], ◌∷◌, ◌++◌, map, drop, length, length-append, All, Option, Some, None, Result, Ok, Err, refl, sym, ap, ap₂, subst, ◌∙◌, take-append-drop, arith, inl, inr, ◌⊎◌, if◌then◌else◌}
+use Rattle.std.proofs.Common.{◌≡◌, ℕ, ℤ, ◌+◌, ◌<◌, ◌≤◌, ◌^◌, ◌==◌, max, Bool, true, false, List, [], ◌∷◌, ◌++◌, map, drop, length, All, Option, Some, None, Result, Ok, Err, refl, sym, ap, ap₂, ◌∙◌, take-append-drop, arith, inl, inr, ◌⊎◌, if◌then◌else◌}
 use Rattle.std.specs.List.{AllByRecursion, fold}
-use Rattle.std.proofs.lemmas.List.{length-map}
 use Rattle.std.proofs.lemmas.List.Sums.{fold-append}
 use Rattle.std.proofs.lemmas.List.Elements.{recursion_from_All}
 use Rattle.mg_time.specs.Time.{done, shift}
 use Rattle.mg_value.specs.Payload.{Plain}
-use Rattle.mg_value.specs.Prefix.{StreamPrefix, IsPrefix, raised, closed}
+use Rattle.mg_value.specs.Prefix.{StreamPrefix, IsPrefix, raised}
 use Rattle.mg_value.specs.Extension.{AreExtendedBy}
 use Rattle.mg_value.specs.Settled.{TimedSet, settled_sets, reach}
 use Rattle.mg_value.specs.declared.policy.Policy.{Policy}
@@ -18,7 +17,7 @@ use Rattle.mg_calc.specs.Law.{opening, step, finish}
 use Rattle.mg_calc.specs.Laying.{after, laid_behind, all_raised}
 use Rattle.mg_calc.specs.Outcome.{Failure, Outcome, after_call, unopened, opened, unless_failed, shown, shown_all, after_close, finished, with_reach, ended, node_outcome}
 use Rattle.mg_calc.proofs.LaidBehind.{shift_order}
-use Rattle.mg_calc.proofs.Outcomes.{goes_on, stays, failed_stays}
+use Rattle.mg_calc.proofs.Outcomes.{goes_on, stays}
 use Rattle.mg_equations.proofs.OutcomeSteps.{call_counts, shown_counts}
 
 -- raised twice is raised to the higher bound

@@ -1,31 +1,23 @@
 -- A node goes on from what becomes of it from some streams to what becomes of it from later ones.
-use Rattle.std.proofs.Common.{◌≡◌, ℕ, zero, suc, ◌+◌, ◌-◌, ◌<◌, ◌≤◌, ◌^◌, ◌==◌, Bool, true, false, replicate, List, [], ◌∷◌, ◌++◌, map, drop, get_or, length, length-append, length-drop, All, Option, None, refl, sym, ap, ap₂, subst, ◌∙◌, arith, inl, inr, eqb-true}
+use Rattle.std.proofs.Common.{◌≡◌, ℕ, ◌+◌, ◌-◌, ◌==◌, Bool, false, replicate, List, [], ◌∷◌, drop, get_or, length, length-append, length-drop, All, Option, None, sym, ap, ap₂, subst, ◌∙◌, arith, inl, inr, eqb-true}
 use Rattle.std.specs.List.{fold}
-use Rattle.std.proofs.lemmas.Bool.{cases_Bool, cases_lt}
-use Rattle.std.proofs.lemmas.List.{length-map, length-replicate, get_or-replicate, get_or_default}
-use Rattle.std.proofs.lemmas.List.Elements.{All-from_recursion, recursion_from_All, length_all_zip}
+use Rattle.std.proofs.lemmas.Bool.{cases_Bool}
+use Rattle.std.proofs.lemmas.List.Elements.{length_all_zip}
 use Rattle.mg_time.specs.Time.{done, pre_stream}
 use Rattle.mg_value.specs.Payload.{Plain}
-use Rattle.mg_value.specs.Prefix.{Stamped, StreamPrefix, IsPrefix, empty_prefix, closed, first_time}
+use Rattle.mg_value.specs.Prefix.{StreamPrefix, IsPrefix, first_time}
 use Rattle.mg_value.specs.Extension.{IsExtendedBy, AreExtendedBy}
-use Rattle.mg_value.specs.Settled.{settled_sets, reach, port_of, inputs_of as inputs_at}
+use Rattle.mg_value.specs.Settled.{settled_sets, reach, port_of}
 use Rattle.mg_value.specs.Left.{without_first, AreGone}
-use Rattle.mg_value.specs.Loopback.{loopback, replies, StandsBehind, IsPast, last_of, behind_first, AreAnswers}
+use Rattle.mg_value.specs.Loopback.{replies, StandsBehind, IsPast, last_of, behind_first, AreAnswers}
 use Rattle.mg_value.specs.declared.policy.Policy.{Policy}
-use Rattle.mg_value.proofs.Lemmas.{all_inputs, inputs-extended, port-prefix, port-extended, sets-gone, reach-gone, none-gone, gone-extended, gone-further, sets-end, sets-stay, loopback-behind, loopback-further}
-use Rattle.mg_calc.specs.declared.law.Law.{Law}
-use Rattle.mg_calc.specs.declared.law.Law.TheVariants.{Count, SideOnce, Constants, Loopback}
+use Rattle.mg_value.proofs.Lemmas.{port-extended, sets-gone, reach-gone, none-gone, gone-extended, gone-further, sets-end, loopback-behind, loopback-further}
 use Rattle.mg_calc.specs.declared.plan_node.PlanNode.{PlanNode}
-use Rattle.mg_calc.specs.Shape.{IsOuter, IsShapeOf, HasInputs}
-use Rattle.mg_calc.specs.Plan.{HasNumbers}
-use Rattle.mg_calc.specs.Outcome.{Outcome, shown, ended, opened, unopened, node_outcome, loopback_outcome}
-use Rattle.mg_calc.specs.Equations.{Job, sides_of, stream_of, inputs_of, outcome_by, outcome_of}
+use Rattle.mg_calc.specs.Outcome.{Outcome, shown, ended, opened, node_outcome, loopback_outcome}
 use Rattle.mg_equations.specs.declared.progress.Progress.{Progress}
-use Rattle.mg_equations.specs.Begun.{begun_by}
 use Rattle.mg_equations.specs.Seen.{seen, with_answers}
-use Rattle.mg_equations.specs.Progress.{AreWithin, HasRead, HasAnswered, HasCome, CanGoOn, IsShownMore, ShowsMore, AnswersMore, GoesOn}
-use Rattle.mg_equations.proofs.NodeSteps.{node_resumed, node_over, reach_same, few_sets, node_counts, opened_counts}
-use Rattle.mg_equations.proofs.OutcomeSteps.{outer_outcome, inputs_are}
+use Rattle.mg_equations.specs.Progress.{AreWithin, HasRead, HasAnswered, IsShownMore, ShowsMore, AnswersMore}
+use Rattle.mg_equations.proofs.NodeSteps.{node_resumed, node_over, reach_same}
 
 -- Sets.
 

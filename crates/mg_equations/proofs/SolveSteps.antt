@@ -1,5 +1,5 @@
 -- A turn of the rounds: streams that have become those of the next round, by nodes that had come to them.
-use Rattle.std.proofs.Common.{◌≡◌, ℕ, ◌++◌, ◌<◌, Bool, true, false, List, map, All, length, Option, Some, slice_get, Result, Ok, Err, IfOk, sym, ap, subst, ◌∙◌}
+use Rattle.std.proofs.Common.{◌≡◌, ℕ, ◌++◌, ◌<◌, Bool, true, false, List, map, All, length, Some, slice_get, Result, Ok, Err, IfOk, sym, ap, subst, ◌∙◌}
 use Rattle.std.specs.List.{flat_map, list_any, filter_map, enumerate_from}
 use Rattle.mg_value.specs.Payload.{Plain}
 use Rattle.mg_value.specs.Prefix.{StreamPrefix, IsPrefix}

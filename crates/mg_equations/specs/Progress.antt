@@ -1,10 +1,10 @@
 -- How a node goes on once its input streams have grown, from what has become of it and from how many packets it has read. The
 -- streams are those at its ports.
-use Rattle.std.specs.Prelude.{◌≡◌, ℕ, ◌+◌, ◌-◌, ◌^◌, ◌<◌, ◌≤◌, ◌==◌, Bool, true, false, List, [], ◌∷◌, ◌++◌, map, drop, length, Option, Some, None, slice_get, slice_index_or}
+use Rattle.std.specs.Prelude.{◌≡◌, ℕ, ◌+◌, ◌-◌, ◌^◌, ◌<◌, ◌≤◌, ◌==◌, Bool, true, false, List, [], ◌∷◌, map, drop, length, Some, None, slice_get, slice_index_or}
 use Rattle.std.specs.List.{fold, list_any}
 use Rattle.mg_time.specs.Time.{done}
 use Rattle.mg_value.specs.Payload.{Plain}
-use Rattle.mg_value.specs.Prefix.{Stamped, StreamPrefix, first_time, empty_prefix}
+use Rattle.mg_value.specs.Prefix.{Stamped, StreamPrefix, first_time}
 use Rattle.mg_value.specs.Settled.{settled_sets, reach, port_of, inputs_of}
 use Rattle.mg_value.specs.Left.{without_first, gone_of, AreGone, AreLeft}
 use Rattle.mg_value.specs.Loopback.{replies, StandsBehind, IsPast, last_of, behind_first, AreAnswers}

@@ -1,7 +1,7 @@
 //! What becomes of a node: it is opened, shown its settled sets one after the other, and closed, and stops at its first
 //! fault (MediaPipe, Calculators).
-ghost use Rattle.std.specs.Prelude.{◌≡◌, ◌<◌, ◌^◌, ◌+◌, replicate, map, length, None, OnOk, IfOk};
-ghost use Rattle.mg_value.specs.Prefix.{empty_prefix, closed};
+ghost use Rattle.std.specs.Prelude.{◌≡◌, ◌<◌, ◌^◌, ◌+◌, replicate, length, None, OnOk, IfOk};
+ghost use Rattle.mg_value.specs.Prefix.{empty_prefix};
 ghost use Rattle.mg_calc.specs.Shape.{IsServed, IsOuter, IsSource, calls_of};
 ghost use Rattle.mg_calc.specs.Laying.{laid_behind, all_raised};
 ghost use Rattle.mg_calc.specs.Outcome.{unopened, opened as the_opened, after_laying, shown, called, finished, ended, with_last_call};

@@ -40,7 +40,7 @@ pub struct Collected {
 }
 
 impl Collected {
-    ghost use Rattle.std.specs.Prelude.{◌≡◌, ◌≢◌, [], ◌∷◌, OnOk, OnErr, IfOk, IfErr, None, Some, map, unwrap_or, is_some, slice_get, length, vec_len, option_and_then};
+    ghost use Rattle.std.specs.Prelude.{◌≡◌, ◌≢◌, [], ◌∷◌, OnOk, OnErr, IfOk, IfErr, None, Some, unwrap_or, is_some, slice_get, length, vec_len, option_and_then};
     ghost use Rattle.std.specs.List.{list_all};
     ghost use Rattle.std.specs.Arc.{arc_value};
     ghost use Rattle.serde_json.specs.View.{view, members_view};
@@ -48,7 +48,7 @@ impl Collected {
     ghost use Rattle.mg_value.specs.Prefix.{appended, raised, closed};
     ghost use Rattle.mg_value.specs.declared.kind.Kind.TheVariants.{Any};
     ghost use Rattle.mg_calc.specs.Given.{given};
-    ghost use Rattle.mg_feed.specs.Form.{packets, bound, close, side, listed, time_of, is_blank, form_of, json_value};
+    ghost use Rattle.mg_feed.specs.Form.{packets, bound, close, side, listed, time_of, form_of, json_value};
     ghost use Rattle.mg_feed.specs.Accepted.{stepped, no_stream, placed, is_stream, several_refusals, with_form, with_said, with_line, form_names, names_stream, words_refusal, first_refusal, form_refusals, shape_refusal, json_refusal, line_refusal};
     ghost use Rattle.mg_feed.specs.Code.Forms.{form_view};
     ghost use Rattle.mg_feed.specs.View.{before_seen, with_streams, with_side};

@@ -1,4 +1,4 @@
-ghost use Rattle.std.specs.Prelude.{◌≡◌, ◌≤◌, ◌+◌, ℕ, Option, OnOk, map, vec_len, vec_capacity, length};
+ghost use Rattle.std.specs.Prelude.{◌≡◌, ◌≤◌, ◌+◌, ℕ, Option, OnOk, map, vec_len, length};
 ghost use Rattle.mg_value.specs.Prefix.{appended};
 ghost use Rattle.mg_feed.specs.Accepted.{stepped_at};
 ghost use Rattle.mg_feed.specs.Code.Streams.{waiting, was_taken};

@@ -1,5 +1,4 @@
-ghost use Rattle.std.specs.Prelude.{◌≡◌, ◌<◌, ◌^◌, ◌+◌, ◌*◌, Some, IfOk, map, replicate, pos, decimal, codes, vec_len, length, true};
-ghost use Rattle.std.specs.Arc.{arc_value};
+ghost use Rattle.std.specs.Prelude.{◌≡◌, ◌<◌, ◌^◌, ◌+◌, ◌*◌, Some, IfOk, map, replicate, pos, decimal, codes, vec_len, length};
 ghost use Rattle.mg_value.specs.Payload.{plain, int, text, items, entries};
 ghost use Rattle.mg_value.specs.Plain.{item, no_items, entry, no_entries};
 ghost use Rattle.mg_calc.specs.Given.{given};

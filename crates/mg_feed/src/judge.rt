@@ -1,4 +1,4 @@
-ghost use Rattle.std.specs.Prelude.{◌≡◌, ◌≢◌, IfOk, IfErr, IfSome, Some, None, option_map, unwrap_or};
+ghost use Rattle.std.specs.Prelude.{◌≡◌, ◌≢◌, IfOk, IfErr, Some, None, option_map, unwrap_or};
 ghost use Rattle.std.specs.Arc.{arc_value};
 ghost use Rattle.serde_json.specs.View.{view};
 ghost use Rattle.mg_value.specs.Payload.{plain};

@@ -1,5 +1,5 @@
 //! Laws of what packet lines mean: each function does nothing, and its contract is the law.
-ghost use Rattle.std.specs.Prelude.{◌≡◌, ◌<◌, ◌++◌, max, ℕ, Bool, true, false, Option, List, [], ◌∷◌, length, slice_index_or};
+ghost use Rattle.std.specs.Prelude.{◌≡◌, ◌<◌, ◌++◌, max, ℕ, Bool, true, Option, List, [], ◌∷◌, length, slice_index_or};
 ghost use Rattle.mg_value.specs.Payload.{Plain};
 ghost use Rattle.mg_value.specs.Prefix.{Stamped, empty_prefix};
 ghost use Rattle.mg_value.specs.Extension.{AreExtendedBy};

@@ -49,7 +49,6 @@ fn too_long(fault: LineFault) -> Result<NextLine, AllocError>
 impl Lines {
     ghost use Rattle.std.specs.Prelude.{◌≡◌, ◌+◌, ◌<◌, ◌^◌, [], false, IfOk, OnErr};
     ghost use Rattle.mg_feed.specs.Lines.{NoFeed};
-    ghost use Rattle.mg_feed.specs.Fed.{Reading};
     ghost use Rattle.mg_feed.specs.Handed.{NextComes, counted_with, MovesOn};
     ghost use Rattle.mg_feed.specs.LinesSeen.{line_of, number_of, reading};
     ghost use Rattle.mg_feed.specs.Code.LineEnd.{EndsLine};

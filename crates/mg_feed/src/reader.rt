@@ -31,7 +31,7 @@ pub struct Reader {
 }
 
 impl Reader {
-    ghost use Rattle.std.specs.Prelude.{◌≡◌, ◌≢◌, ◌<◌, ◌≤◌, ◌+◌, ◌++◌, ◌∷◌, [], true, false, ℕ, List, IfOk, IfErr, OnOk, OnErr, MatchOption, IsTrue, ◌↔◌, length, take, drop};
+    ghost use Rattle.std.specs.Prelude.{◌≡◌, ◌≢◌, ◌<◌, ◌≤◌, ◌+◌, ◌++◌, [], true, false, IfOk, IfErr, OnOk, MatchOption, length, take, drop};
     ghost use Rattle.mg_feed.specs.Lines.{NoFeed, with_feed};
     ghost use Rattle.mg_feed.specs.Accepted.{longest_line};
     ghost use Rattle.mg_feed.specs.Code.LineEnd.{EndsLine};

@@ -1,6 +1,5 @@
 //! Side packets that stand in the graph.
 ghost use Rattle.std.specs.Prelude.{◌≡◌, IfOk, option_map, map};
-ghost use Rattle.std.specs.Arc.{arc_value};
 ghost use Rattle.mg_text.specs.View.{field_view, value_view};
 ghost use Rattle.mg_value.specs.Payload.{plain, text as text_of};
 ghost use Rattle.mg_kinds.specs.Values as values;

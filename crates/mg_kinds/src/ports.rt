@@ -1,4 +1,4 @@
-ghost use Rattle.std.specs.Prelude.{◌≡◌, ◌==◌, length, IfOk};
+ghost use Rattle.std.specs.Prelude.{◌≡◌, ◌==◌, IfOk};
 ghost use Rattle.mg_config.specs.Config.{node_view};
 ghost use Rattle.mg_kinds.specs.Ports as table;
 ghost use Rattle.mg_kinds.specs.Kinds as kinds;

@@ -1,5 +1,5 @@
 //! What the values of options say.
-ghost use Rattle.std.specs.Prelude.{◌≡◌, ℤ, int_le, pos};
+ghost use Rattle.std.specs.Prelude.{◌≡◌};
 ghost use Rattle.mg_text.specs.View.{value_view};
 ghost use Rattle.mg_kinds.specs.Values as values;
 

@@ -1,5 +1,5 @@
 -- What each step of an engine keeps: which works are out, and how it is set up.
-use Rattle.std.proofs.Common.{◌≡◌, ℕ, ◌-◌, List, [], ◌∷◌, length, map, set, Option, Some, None, Result, Ok, Err, IfOk, slice_get, IfSome, inl, inr, ap, refl, sym, subst, ◌∙◌, arith}
+use Rattle.std.proofs.Common.{◌≡◌, ℕ, ◌-◌, List, [], ◌∷◌, length, map, Option, Some, None, Result, Ok, Err, IfOk, slice_get, IfSome, inl, inr, ap, refl, sym, subst, ◌∙◌, arith}
 use Rattle.std.specs.Result.{OnOk, OnErr}
 use Rattle.std.proofs.lemmas.Option.{none-some}
 use Rattle.mg_value.specs.Payload.{Plain}
@@ -16,10 +16,10 @@ use Rattle.mg_node.specs.Job.{LoggedJob}
 use Rattle.mg_node.specs.Lawful.{of_node, LawfulEngine, AreCell}
 use Rattle.mg_node.specs.IntakeStanding.{Stays}
 use Rattle.mg_node.specs.Ports.{port_queue}
-use Rattle.mg_node.specs.Shelves.{IsOut, shelf_at, shelved, Unshelves}
-use Rattle.mg_node.specs.Out.{IsMissing, GoesOut, ComesBack, KeepsOut, PutsOut, KeepsSetUp}
+use Rattle.mg_node.specs.Shelves.{IsOut, shelf_at, Unshelves}
+use Rattle.mg_node.specs.Out.{GoesOut, ComesBack, KeepsOut, PutsOut, KeepsSetUp}
 use Rattle.mg_node.specs.Advances.{raised_output, advance_bound, advanced}
-use Rattle.mg_node.specs.Claims.{with_answer, Claims, GivesOut, Hands}
+use Rattle.mg_node.specs.Claims.{with_answer, Claims, Hands}
 use Rattle.mg_node.specs.Commits.{SomeJobHasEngine, Commits}
 use Rattle.mg_node.proofs.Answering.{loop_cell_by}
 use Rattle.mg_node.proofs.Cells.{claim_lawful}

@@ -1,4 +1,4 @@
-ghost use Rattle.std.specs.Prelude.{◌≡◌, ◌<◌, ◌≤◌, ◌+◌, ◌-◌, ℕ, List, ◌^◌, min, true, false, length, replicate, slice_get, option_map, is_ok, is_some, IfOk, IfSome, IsSomeAnd, IsTrue, IsSome, if◌then◌else◌, ◌↔◌};
+ghost use Rattle.std.specs.Prelude.{◌≡◌, ◌<◌, ◌≤◌, ◌+◌, ◌-◌, ℕ, List, ◌^◌, min, true, false, length, replicate, slice_get, option_map, is_ok, IfOk, IfSome, IsSomeAnd, IsTrue, IsSome, if◌then◌else◌, ◌↔◌};
 ghost use Rattle.std.specs.Bool.{OnTrue, OnFalse};
 ghost use Rattle.mg_value.specs.Payload.{Plain};
 ghost use Rattle.mg_value.specs.Prefix.{StreamPrefix};

@@ -1,6 +1,5 @@
 //! What the engine of a node is made of.
-ghost use Rattle.std.specs.Prelude.{◌≡◌, ◌<◌, ◌≤◌, map, length, replicate, [], IfOk, slice_index_or, vec_len, vec_capacity};
-ghost use Rattle.std.specs.VecDeque.{deque_len, deque_capacity};
+ghost use Rattle.std.specs.Prelude.{◌≡◌, ◌<◌, map, replicate, IfOk, slice_index_or, vec_len, vec_capacity};
 ghost use Rattle.mg_stream.specs.Pool.{backlog_of, empty_backlog};
 ghost use Rattle.mg_calc.specs.Shape.{ParametersFit, IsShapeOf, IsServed};
 ghost use Rattle.mg_node.specs.Job.{role_of as role_by};

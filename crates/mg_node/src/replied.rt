@@ -1,5 +1,5 @@
 //! Answers of loopbacks, which go from the intake to the one output.
-ghost use Rattle.std.specs.Prelude.{◌≡◌, ◌<◌, ◌+◌, ◌^◌};
+ghost use Rattle.std.specs.Prelude.{◌<◌, ◌+◌, ◌^◌};
 ghost use Rattle.mg_node.specs.Intakes.{HasLoop};
 ghost use Rattle.mg_node.specs.Code.Replying.{MayLay, Replies};
 

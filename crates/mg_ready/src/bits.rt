@@ -1,6 +1,6 @@
 //! A set of numbers as words of 64 bits.
 
-ghost use Rattle.std.specs.Prelude.{◌≡◌, ◌≢◌, ℕ, ◌+◌, ◌*◌, ◌/◌, ◌^◌, ◌<◌, length, slice_index, MatchOption};
+ghost use Rattle.std.specs.Prelude.{◌≡◌, ℕ, ◌+◌, ◌*◌, ◌/◌, ◌^◌, ◌<◌, length, MatchOption};
 ghost use Rattle.mg_ready.specs.Code.Bits.{bit_of, ChangesBit, IsGreatest};
 
 /// Puts a number into the set.

@@ -1,7 +1,7 @@
 //! Places in buckets of 32, and of each bucket those that are in as a doubly linked list by index, in falling order.
 
 ghost use Rattle.std.specs.Prelude.{◌≡◌, ℕ, ◌+◌, ◌/◌, ◌^◌, ◌<◌, ◌≤◌, false, true, length, replicate, slice_set, slice_index, slice_index_or, vec_len, IfOk, MatchOption, max};
-ghost use Rattle.mg_ready.specs.Code.Links.{top_of, slot_of, place_of, IsRoofOver, IsEmptyIn, IsGreatestIn};
+ghost use Rattle.mg_ready.specs.Code.Links.{top_of, slot_of, IsRoofOver, IsEmptyIn, IsGreatestIn};
 
 use std::alloc::{AllocError, Global};
 use std::marker::Model;

@@ -1,15 +1,15 @@
 -- A run that is accepted: all sets of its job's outputs are told, and its answer is written.
-use Rattle.std.proofs.Common.{◌≡◌, ◌⊎◌, inl, inr, ℕ, true, false, Bool, List, [], ◌++◌, length, take, replicate, Option, None, refl, sym, ap, ◌∙◌, subst}
+use Rattle.std.proofs.Common.{◌≡◌, inl, ℕ, List, [], length, take, refl, sym, ap, ◌∙◌, subst}
 use Rattle.mg_edge.specs.Edge.{SinkTold}
 use Rattle.mg_edge.proofs.Runs.{TookAll-start}
 use Rattle.mg_value.specs.Payload.{Plain}
 use Rattle.mg_value.specs.Prefix.{StreamPrefix}
 use Rattle.mg_calc.specs.declared.plan.Plan.{Plan}
-use Rattle.mg_calc.specs.Equations.{Job, IsSolution}
-use Rattle.mg_answer.specs.Answer.{Form, packet_lines, by_lines}
+use Rattle.mg_calc.specs.Equations.{IsSolution}
+use Rattle.mg_answer.specs.Answer.{packet_lines}
 use Rattle.mg_answer.specs.Text.{output_names, output_of}
 use Rattle.mg_answer.specs.Put.{TextView, nothing_put}
-use Rattle.mg_answer.specs.Devices.{Device, device, TookFront}
+use Rattle.mg_answer.specs.Devices.{device, TookFront}
 use Rattle.mg_node.specs.Job.{LoggedJob, Solves}
 use Rattle.mg_sched.specs.Views.{NetView}
 use Rattle.mg_sched.specs.StandsFor.{StandsFor, IsRunning}
@@ -23,7 +23,6 @@ use Rattle.mg_drive.proofs.Jobs.{valid_plan}
 use Rattle.mg_drive.proofs.LinesRan.{none_told, front_lines}
 use Rattle.mg_drive.proofs.RunsEnd.{whole_told}
 use Rattle.mg_replay.specs.Code.Nets.{StandsForPlan}
-use Rattle.mg_replay.proofs.Ended.{plan_is_of}
 
 -- nothing was told yet
 told_none : (job : LoggedJob) (sink : SinkTold) (net : NetView) (text : TextView) → text ≡ nothing_put (output_names job.job.plan) → taken_out net ≡ 0 → IsTold HasLines job.job sink sink (taken_out net) text

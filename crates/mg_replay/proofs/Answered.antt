@@ -16,7 +16,7 @@ use Rattle.mg_answer.specs.Answer.{Answer, by_lines, answer_of, failed_notes}
 use Rattle.mg_answer.specs.Frozen.{frozen_answer}
 use Rattle.mg_answer.specs.Devices.{Device, RunDevices, Untouched, TookText, HasRisen, Unrisen, NoneFailed}
 use Rattle.mg_answer.specs.Told.{ended_status}
-use Rattle.mg_answer.specs.Wrote.{Meets, MetShort, WroteBy}
+use Rattle.mg_answer.specs.Wrote.{Meets, WroteBy}
 use Rattle.mg_answer.specs.Status.{IsOneOf}
 use Rattle.mg_answer.specs.declared.status.Status.{Status}
 use Rattle.mg_answer.specs.declared.status.Status.TheVariants.{Good, StoreFault, Usage, GraphRefused, LineRefused, NodeFault, Stalled, ReadFault, WriteFault, OutOfMemory}

@@ -18,7 +18,7 @@ use Rattle.mg_sched.specs.Views.{DeskView, NetView}
 use Rattle.mg_sched.specs.StandsFor.{StandsFor, IsRunning}
 use Rattle.mg_sched.specs.ComesApart.{NoneOnDesks}
 use Rattle.mg_sched.specs.WindsUp.{WindsUpNet}
-use Rattle.mg_sched.specs.Made.{BoxesFit, IsMade, job_of}
+use Rattle.mg_sched.specs.Made.{BoxesFit, job_of}
 use Rattle.mg_sched.specs.GivesBack.{given_back, StoodFor}
 use Rattle.mg_sched.proofs.ClosedBack.{closed_back}
 use Rattle.mg_sched.proofs.Solved.{solved}

@@ -1,5 +1,5 @@
 -- How the logic stores what contracts see of a holder.
-use Rattle.std.specs.Prelude.{Bool, List, Option, refl}
+use Rattle.std.specs.Prelude.{Bool, refl}
 use Rattle.std.specs.Coded.{Coded, code_by, coded×, coded_bool}
 use Rattle.mg_calc.specs.Told.{CalculatorTold}
 use Rattle.mg_calc.specs.ToldCodes.{told_code}

@@ -1,6 +1,6 @@
 //! What is wanted of a call, and how what came of it differs.
 
-ghost use Rattle.std.specs.Prelude.{◌≡◌, ◌≢◌, ◌↔◌, IsTrue, IfOk};
+ghost use Rattle.std.specs.Prelude.{◌≢◌, ◌↔◌, IsTrue, IfOk};
 ghost use Rattle.mg_rows.specs.Wanted.{IsEnough};
 
 use crate::call::{COUNTS, Outcome};

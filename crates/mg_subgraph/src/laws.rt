@@ -1,5 +1,5 @@
 //! Laws of the definitions: each function does nothing, and its contract is the law.
-ghost use Rattle.std.specs.Prelude.{◌≡◌, ◌≢◌, ℕ, List, [], ◌∷◌, true, false, Some, None, Ok, slice_get, All};
+ghost use Rattle.std.specs.Prelude.{◌≡◌, ◌≢◌, ℕ, List, [], ◌∷◌, true, Some, None, Ok, slice_get, All};
 ghost use Rattle.std.specs.List.{list_any};
 ghost use Rattle.mg_config.specs.Config.{NodeView, GraphView};
 ghost use Rattle.mg_subgraph.specs.Apart.{IsFree, StayApart, IsNew, AreNew};

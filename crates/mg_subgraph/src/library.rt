@@ -1,8 +1,8 @@
-ghost use Rattle.std.specs.Prelude.{◌≡◌, ◌≢◌, ◌<◌, None, Some, IfOk, IfErr, OnOk, map, position, length};
+ghost use Rattle.std.specs.Prelude.{◌≡◌, ◌≢◌, None, Some, IfOk, IfErr, map, position};
 ghost use Rattle.mg_config.specs.Config.{graph_view};
 ghost use Rattle.mg_subgraph.specs.Code.Index.{IsIndex};
 ghost use Rattle.mg_subgraph.specs.Library.{is_of};
-ghost use Rattle.mg_subgraph.specs.Refusals.{types_of, type_twice, first_twice};
+ghost use Rattle.mg_subgraph.specs.Refusals.{types_of, type_twice};
 
 use crate::fault::ExpandFault;
 use crate::index::add_text;

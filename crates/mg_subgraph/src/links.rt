@@ -1,6 +1,6 @@
 //! Which files of a library use which.
 ghost use Rattle.std.specs.Prelude.{◌≡◌, ℕ, ◌<◌, ◌||◌, ◌==◌, false, true, IfOk, OnOk, map, length, ◌++◌, ◌∷◌, [], if◌then◌else◌, ◌≤◌, take};
-ghost use Rattle.mg_config.specs.Config.{node_view, graph_view};
+ghost use Rattle.mg_config.specs.Config.{node_view};
 ghost use Rattle.mg_subgraph.specs.Code.Places.{listed, flag_at, set_count, uses_at, AreLinks, AreWithin, AreClosed, IsReach};
 ghost use Rattle.mg_subgraph.specs.Code.Views.{files_of};
 

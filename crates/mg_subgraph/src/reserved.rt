@@ -1,5 +1,5 @@
 //! The check that names don't have the form of those that expansion makes.
-ghost use Rattle.std.specs.Prelude.{◌≡◌, ◌≢◌, ℕ, ◌∷◌, None, Some, IfErr, OnOk, map, find, not, position, option_copied, length};
+ghost use Rattle.std.specs.Prelude.{◌≡◌, ◌≢◌, None, Some, IfErr, OnOk, map, find, not, position, option_copied, length};
 ghost use Rattle.std.specs.List.{list_any, prefix_len};
 ghost use Rattle.mg_names.specs.Grammar as grammar;
 ghost use Rattle.mg_config.specs.Config.{node_view, graph_view};

@@ -1,5 +1,5 @@
 -- How a cell is made: its job has a solution, its engine is lawful once it is begun, and it agrees with its intake.
-use Rattle.std.proofs.Common.{◌≡◌, ℕ, zero, suc, ◌<◌, List, [], ◌∷◌, ◌++◌, length, map, Option, Some, None, slice_get, get_or, unwrap_or, inl, sym, refl, subst, ap, ◌∙◌, arith}
+use Rattle.std.proofs.Common.{◌≡◌, ℕ, zero, suc, ◌<◌, List, [], ◌∷◌, ◌++◌, length, map, Option, Some, None, slice_get, get_or, inl, sym, refl, subst, ap, ◌∙◌, arith}
 use Rattle.std.proofs.lemmas.Option.{get_or_from_slice_get}
 use Rattle.std.specs.Option.{option_and_then}
 use Rattle.mg_value.specs.Payload.{Plain}
@@ -9,7 +9,7 @@ use Rattle.mg_calc.specs.declared.plan.Plan.{Plan}
 use Rattle.mg_calc.specs.declared.plan_node.PlanNode.{PlanNode}
 use Rattle.mg_calc.specs.declared.inputs.Inputs.{Inputs}
 use Rattle.mg_calc.specs.Told.{CalculatorTold}
-use Rattle.mg_calc.specs.Plan.{IsValid, side_packet}
+use Rattle.mg_calc.specs.Plan.{side_packet}
 use Rattle.mg_calc.specs.Equations.{IsJob, Job, sides_of}
 use Rattle.mg_route.specs.HolderView.{HolderView}
 use Rattle.mg_calc.proofs.FirstRound.{a_solution}
@@ -19,7 +19,6 @@ use Rattle.mg_node.specs.Job.{Solves}
 use Rattle.mg_node.specs.Begun.{IsHanded, IsNew, IsUnbegun, HasBegun, LawfulUnbegun, SomeUnbegun}
 use Rattle.mg_node.specs.Fresh.{fresh_engine}
 use Rattle.mg_node.proofs.Making.{fresh_unbegun}
-use Rattle.mg_node.proofs.Leads.{row_at}
 use Rattle.mg_test_cells.specs.Cell.{job_of, held_of, KeepsAll}
 use Rattle.mg_test_cells.proofs.Keeping.{whole_keeps}
 

@@ -1,7 +1,7 @@
 //! The cell of a plan's first node, and making it.
 ghost use Rattle.std.specs.Prelude.{◌≡◌, ◌<◌, ◌≤◌, length, slice_get, Some, None, IfOk, OnOk, [], true, All};
 ghost use Rattle.mg_calc.specs.Shape.{IsOuter, IsServed, ParametersFit, IsShapeOf};
-ghost use Rattle.mg_calc.specs.Plan.{IsValid, InputsFit};
+ghost use Rattle.mg_calc.specs.Plan.{IsValid};
 ghost use Rattle.mg_calc.specs.Equations.{IsJob};
 ghost use Rattle.mg_calc.specs.declared.plan_node.PlanNode.{PlanNode};
 ghost use Rattle.mg_check.specs.Check.{IsOuterShape};

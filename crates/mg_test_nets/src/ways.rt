@@ -1,5 +1,4 @@
 //! The ways in which a net is driven: step by step, at random, to rest, or by a sweep.
-ghost use Rattle.mg_nets.specs.Driven.{IsDriven};
 
 use crate::rest::{is_at_rest, make_each, settle, wander};
 use mg_calc::{Effect, Event};

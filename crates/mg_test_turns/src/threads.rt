@@ -1,5 +1,5 @@
 //! Threads on one net, whose answers add up.
-ghost use Rattle.std.specs.Prelude.{◌≡◌, ◌<◌, ◌≤◌, ◌+◌, ◌*◌, ◌^◌};
+ghost use Rattle.std.specs.Prelude.{◌≡◌, ◌≤◌, ◌+◌, ◌^◌};
 ghost use Rattle.std.specs.Thread.{IsSync};
 ghost use Rattle.mg_turns.specs.Calls.{view_of};
 ghost use Rattle.mg_workers.specs.Shared.{IsShared, StaysShared};

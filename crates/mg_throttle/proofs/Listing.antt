@@ -1,12 +1,11 @@
 -- The queues that are listed, and those among them that are relaxed.
-use Rattle.std.proofs.Common.{◌≡◌, ◌≢◌, ℕ, zero, suc, ◌+◌, ◌-◌, ◌<◌, ◌≤◌, Bool, true, false, ◌||◌, cond, eqb, List, [], ◌∷◌, ◌++◌, length, map, get_or, slice_set, All, AllPairs, Contains, ◌∙◌, sym, ap, subst, inl, inr, refl, arith, length-set, get_or-set_same, get_or-set_other}
-use Rattle.std.specs.List.{list_any, range_with_len}
+use Rattle.std.proofs.Common.{◌≡◌, ◌≢◌, ℕ, ◌<◌, Bool, true, false, ◌||◌, cond, eqb, List, length, map, get_or, slice_set, All, ◌∙◌, sym, ap, subst, inl, inr, refl, arith, length-set, get_or-set_same, get_or-set_other}
+use Rattle.std.specs.List.{list_any}
 use Rattle.std.proofs.lemmas.Bool.{cases_eq, cases_Bool, false≢true}
 use Rattle.std.proofs.lemmas.List.{length-map, get_or-map, get_or_default, same_lists}
 use Rattle.std.proofs.lemmas.List.Folds.{list_any_none, list_any_at}
-use Rattle.std.proofs.lemmas.List.Elements.{Contains-get_or}
 use Rattle.mg_calc.specs.Plan.{HasEachOnce}
-use Rattle.mg_ready.specs.Ready.{ReadyNodes, IsIn, IsEmpty, IsHighest, ChangesOnly, none_ready}
+use Rattle.mg_ready.specs.Ready.{ReadyNodes, IsIn, IsEmpty, IsHighest, ChangesOnly}
 use Rattle.mg_throttle.specs.declared.queue.Queue.{Queue}
 use Rattle.mg_throttle.specs.Throttle.{is_full, relaxed, stopped}
 use Rattle.mg_throttle.specs.Code.Kept.{AreListed, RelaxesTo}

@@ -1,6 +1,6 @@
 //! Marks in a row, as words of 64 bits.
 
-ghost use Rattle.std.specs.Prelude.{◌≡◌, ℕ, ◌+◌, ◌*◌, ◌^◌, ◌<◌, ◌≤◌, false, true, length, replicate, slice_set, slice_index, slice_index_or, bit_or, IfOk, MatchOption};
+ghost use Rattle.std.specs.Prelude.{◌≡◌, ℕ, ◌+◌, ◌*◌, ◌^◌, ◌<◌, ◌≤◌, false, true, length, replicate, slice_set, slice_index, bit_or, IfOk, MatchOption};
 ghost use Rattle.mg_throttle.specs.Code.Rows.{Joins, Changes, bit_in, is_marked, is_uncounted, NoneFrom, IsFirstFrom};
 
 use std::alloc::{AllocError, Global};

@@ -1,4 +1,4 @@
-ghost use Rattle.std.specs.Prelude.{◌≡◌, ◌≢◌, ◌<◌, ◌^◌, ◌↔◌, ◌∷◌, ◌++◌, ℕ, List, Some, IfSome, IsNone, decimal, length, position};
+ghost use Rattle.std.specs.Prelude.{◌≡◌, ◌≢◌, ◌<◌, ◌^◌, ◌↔◌, ◌∷◌, ◌++◌, ℕ, List, Some, IfSome, IsNone, decimal, position};
 ghost use Rattle.mg_calc.specs.declared.event.Event.{Event as AnEvent};
 ghost use Rattle.mg_trace.specs.Code.{is_space};
 ghost use Rattle.mg_trace.specs.Event.{IsEventOf, event_line, event_text};

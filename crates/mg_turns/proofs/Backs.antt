@@ -1,5 +1,5 @@
 -- What a work that comes back leaves of its engine, and what the seat may give back then.
-use Rattle.std.proofs.Common.{◌≡◌, ◌<◌, ◌≤◌, ◌+◌, ◌-◌, ◌*◌, ℕ, refl, [], ◌∷◌, List, length, ap, ◌∙◌, sym, subst, arith, Some, None, slice_get}
+use Rattle.std.proofs.Common.{◌≡◌, ◌<◌, ◌≤◌, ◌+◌, ◌-◌, ◌*◌, ℕ, refl, ◌∷◌, List, length, ap, ◌∙◌, sym, subst, Some, None, slice_get}
 use Rattle.atomic_table.specs.Table.{rest}
 use Rattle.mg_node.specs.declared.role.Role.{Role}
 use Rattle.mg_node.specs.Views.{IntakeView, WorkView, OutcomeView, EngineView}

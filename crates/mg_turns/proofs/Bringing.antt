@@ -1,5 +1,5 @@
 -- The engine and the intake at the two ends of an edge are taken, and given back.
-use Rattle.std.proofs.Common.{◌≡◌, ◌<◌, ◌+◌, ◌*◌, ℕ, refl, [], ◌∷◌, List, length, ap, ◌∙◌, sym, subst, arith, Some, slice_get, is_some, true}
+use Rattle.std.proofs.Common.{◌≡◌, ◌<◌, ◌+◌, ◌*◌, ℕ, refl, ◌∷◌, List, length, ap, ◌∙◌, sym, subst, arith, Some, slice_get, is_some, true}
 use Rattle.atomic_table.specs.Table.{rest}
 use Rattle.mg_calc.specs.declared.edge.Edge.{Edge}
 use Rattle.mg_node.specs.declared.delivered.Delivered.{Delivered}

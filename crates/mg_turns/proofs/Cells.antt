@@ -1,6 +1,5 @@
 -- The engine and the intake of a node are taken, and given back.
 use Rattle.std.proofs.Common.{◌≡◌, ◌≢◌, ◌<◌, ◌+◌, ◌*◌, ℕ, refl, [], ◌∷◌, List, length, ap, ◌∙◌, sym, subst, inl, inr, arith, Option, Some, None}
-use mathlib.Core.Option.{some}
 use lib.ListN.{get_elem?}
 use Rattle.atomic_table.specs.Table.{rest}
 use Rattle.mg_node.specs.Views.{IntakeView, WorkView, EngineView}

@@ -1,8 +1,6 @@
 -- What a claim leaves of the parts of a cell, and what the seat may give back then.
 use Rattle.std.proofs.Common.{◌≡◌, ◌<◌, ◌≤◌, ◌+◌, ◌-◌, ◌*◌, ℕ, refl, [], ◌∷◌, List, length, map, ap, ◌∙◌, sym, subst, inl, inr, arith, Option, Some, None, slice_get, is_some, true}
 use Rattle.std.proofs.lemmas.Option.{none-some}
-use mathlib.Core.Option.{some}
-use lib.ListN.{get_elem?}
 use Rattle.mg_value.specs.Payload.{Plain}
 use Rattle.mg_value.specs.Prefix.{Stamped}
 use Rattle.mg_value.specs.Loopback.{packet_of}

@@ -1,9 +1,8 @@
 -- Seats are split and joined, and the seat of the whole portion sees the last state.
-use Rattle.std.proofs.Common.{◌≡◌, ℕ, zero, suc, ◌+◌, ◌-◌, ◌<◌, ◌≢◌, List, [], ◌∷◌, ◌++◌, length, get_or, set, slice_get, sym, refl, ap, ◌∙◌, subst, inl, inr, ◌⊎◌, ⊎_elim, IfSome, ◌*◌, arith, Option, Some, None}
+use Rattle.std.proofs.Common.{◌≡◌, ℕ, zero, suc, ◌+◌, ◌<◌, ◌≢◌, List, [], ◌∷◌, ◌++◌, length, get_or, set, slice_get, sym, refl, ap, ◌∙◌, subst, inl, inr, ◌⊎◌, ⊎_elim, IfSome, ◌*◌, arith, Option, Some, None}
 use Rattle.std.proofs.lemmas.Option.{none-some}
 use Rattle.std.proofs.lemmas.List.{get_or_push, get_or_append_left}
 use mathlib.Core.Logic.{dite}
-use mathlib.Core.Option as maybe
 use mathlib.Core.Option.{none, some, some-injective, some-ne-none}
 use native.Mathlib.Decide.{ℕ_discrete}
 use lib.ListN.{get_elem?}
@@ -13,7 +12,7 @@ use Rattle.mg_node.specs.Views.{WorkView}
 use Rattle.mg_turns.specs.Parts.{PartView, FrameView, blank_part, at, nodes_in, Follows, AgreeParts, IsMissingIn, source_at, JoinedParts, EdgesFit}
 use Rattle.mg_calc.specs.declared.edge.Edge.{Edge}
 use Rattle.mg_turns.specs.Turns.{Turn}
-use Rattle.mg_turns.specs.Rule.{total, view, Sights, is_of, has_turn, InSlot, Noted, Shown, WorksApart, Orderly, Linked, Ruled}
+use Rattle.mg_turns.specs.Rule.{total, Sights, is_of, has_turn, InSlot, Noted, Shown, WorksApart, Orderly, Linked, Ruled}
 use Rattle.mg_turns.specs.Ends.{with_parts, Unshared}
 use Rattle.mg_turns.proofs.Links.{SameWorks, same_part, linked_by, set_at, set_past}
 use Rattle.mg_turns.proofs.Grows.{like_self, joins_self, sights_both}

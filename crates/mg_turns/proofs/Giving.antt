@@ -1,5 +1,5 @@
 -- What the calls on a cell give back.
-use Rattle.std.proofs.Common.{◌≡◌, ◌+◌, ◌*◌, ℕ, refl, [], ◌∷◌, List, length, map, ap, sym, subst, inl, arith, Option, Some, None}
+use Rattle.std.proofs.Common.{◌≡◌, ◌+◌, ◌*◌, ℕ, refl, [], ◌∷◌, List, length, map, ap, sym, subst, inl, Option, Some, None}
 use Rattle.mg_value.specs.Payload.{Plain}
 use Rattle.mg_stream.specs.Pool.{Backlog}
 use Rattle.mg_node.specs.Views.{IntakeView, WorkView, EngineView}

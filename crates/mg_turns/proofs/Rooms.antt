@@ -1,5 +1,4 @@
 use Rattle.std.proofs.Common.{◌≡◌, List, [], ◌∷◌, ◌++◌, ap, ◌∙◌, subst, sym, refl}
-use mathlib.Core.Option.{some}
 use Rattle.atomic_table.specs.Table.{opening}
 use Rattle.mg_turns.specs.Code.Stored.{Stored}
 

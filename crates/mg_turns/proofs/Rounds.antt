@@ -1,5 +1,5 @@
 -- What some sets leave of a cell.
-use Rattle.std.proofs.Common.{◌≡◌, ◌+◌, ◌-◌, Bool, true, false, MatchBool, suc, ℕ, refl, [], ap, ◌∙◌, sym, subst, inl, inr, arith, Option, None}
+use Rattle.std.proofs.Common.{◌≡◌, ◌+◌, Bool, true, false, MatchBool, suc, ℕ, refl, ap, ◌∙◌, sym, subst, inl, inr, arith, Option, None}
 use Rattle.mg_node.specs.declared.role.Role.{Role}
 use Rattle.mg_node.specs.declared.claimed.Claimed.{Claimed}
 use Rattle.mg_node.specs.declared.claimed.Claimed.TheVariants.{Work}

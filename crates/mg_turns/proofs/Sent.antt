@@ -17,7 +17,6 @@ use Rattle.mg_turns.proofs.room.Room.TheSendSync as Room
 use Rattle.mg_turns.proofs.way.Way.TheSendSync.{the_sync as way, the_field_sync as way_field}
 use Rattle.mg_calc.specs.declared.calculator.Calculator.{Ghosts}
 use Rattle.mg_node.specs.contracts.engine.Engine as Engine
-use Rattle.mg_node.specs.contracts.intake.Intake as Intake
 use Rattle.mg_node.proofs.Sent.{engine_field, intake_field, maybe}
 use Rattle.mg_turns.specs.contracts.part.Part as Part
 use Rattle.mg_turns.specs.contracts.part.Part.TheInside as PartInside

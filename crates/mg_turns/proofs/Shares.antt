@@ -1,5 +1,5 @@
 -- For the loops of `share`.
-use Rattle.std.proofs.Common.{◌≡◌, ℕ, zero, take, take_all, ◌+◌, ◌<◌, ◌≤◌, List, [], ◌∷◌, ◌++◌, map, length, sym, refl, ap, ◌∙◌, arith, Option, Some, append_assoc, append-nil, replicate, slice_get}
+use Rattle.std.proofs.Common.{◌≡◌, ℕ, zero, take, take_all, ◌<◌, ◌≤◌, List, [], ◌∷◌, ◌++◌, map, length, sym, refl, ap, ◌∙◌, arith, Option, Some, append_assoc, append-nil, replicate, slice_get}
 use Rattle.mg_calc.specs.declared.edge.Edge.{Edge}
 use Rattle.mg_calc.specs.declared.plan.Plan.{Plan}
 use Rattle.mg_turns.specs.Parts.{PartView, FrameView, source_at, EdgesFit}

@@ -1,5 +1,5 @@
 -- What the answers of the calls on a node say of what the seat knows.
-use Rattle.std.proofs.Common.{◌≡◌, ◌≢◌, ℕ, zero, suc, ◌+◌, ◌*◌, ◌<◌, ◌≤◌, Bool, true, List, [], ◌∷◌, length, length-drop, drop, map, All, Option, Some, None, option_map, IfSome, slice_get, slice_index_or, inl, inr, refl, ap, sym, subst, ◌∙◌, arith, if◌then◌else◌, nat_lt}
+use Rattle.std.proofs.Common.{◌≡◌, ℕ, zero, suc, ◌+◌, ◌*◌, ◌<◌, ◌≤◌, Bool, true, List, [], ◌∷◌, length, length-drop, drop, map, All, Option, Some, None, option_map, IfSome, slice_get, slice_index_or, inl, inr, refl, ap, sym, subst, ◌∙◌, arith, if◌then◌else◌, nat_lt}
 use Rattle.std.proofs.lemmas.Bool.{ltb-true, cases_Bool, false≢true}
 use Rattle.std.proofs.lemmas.List.{nil_from_length}
 use Rattle.std.proofs.Math.Nat.{le-max_right}

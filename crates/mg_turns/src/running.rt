@@ -1,6 +1,5 @@
 //! Works that are done while both turns of a node are held.
 ghost use Rattle.std.specs.Prelude.{◌≡◌, ◌+◌, ◌<◌, MatchBool, cond, is_some};
-ghost use Rattle.mg_node.specs.Job.{LoggedJob};
 ghost use Rattle.mg_node.specs.Lawful.{AreCell, LawfulWork, LawfulOutcome};
 ghost use Rattle.mg_node.specs.Running.{SomeJobHas};
 ghost use Rattle.mg_node.specs.Shelves.{IsOut, shelved};

@@ -1,5 +1,5 @@
 //! The edges of a plan, with the words of their engines, as they are found at run time.
-ghost use Rattle.std.specs.Prelude.{◌≡◌, ◌<◌, ◌^◌, ℕ, map, take, IfOk, Some, slice_get};
+ghost use Rattle.std.specs.Prelude.{◌≡◌, ◌<◌, ◌^◌, ℕ, map, IfOk, Some, slice_get};
 ghost use Rattle.mg_calc.specs.declared.edge.Edge.{Edge as EdgeView};
 ghost use Rattle.mg_turns.specs.Words.{word_at, engine_of};
 ghost use Rattle.mg_turns.specs.Parts.{writer_by, source_at};

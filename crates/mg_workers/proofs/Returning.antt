@@ -22,7 +22,7 @@ use Rattle.mg_sched.specs.Taking.{taken_out}
 use Rattle.mg_sched.specs.ComesApart.{PartsView, all_shelved, HasComeApart, ArePartsOf, AreParts, IsPutTogether}
 use Rattle.mg_sched.proofs.EdgesInPlace.{in_place}
 use Rattle.mg_sched.proofs.Finding.{found}
-use Rattle.mg_sched.proofs.NothingGone.{gones, HadGone, SameGone, has_from}
+use Rattle.mg_sched.proofs.NothingGone.{gones, HadGone, has_from}
 use Rattle.mg_sched.proofs.WoundNets.{order_of}
 use Rattle.mg_turns.specs.Words.{Whose, intake_of, engine_of}
 use Rattle.mg_turns.specs.Parts.{PartView, FrameView, blank_part, at, nodes_in, owner_in, an_engine, an_intake, LawfulPart, Grown, gone_in, first_in, count_by, claimed_by, source_at}

@@ -1,7 +1,6 @@
 //! How the engines and the intakes of a net become parts in the order of their words, each in a box of its own.
 ghost use Rattle.std.specs.Prelude.{◌≡◌, ◌+◌, ◌*◌, ◌<◌, ◌≤◌, ◌++◌, ◌∷◌, ℕ, true, false, List, [], IfSome, IfNone, length, reverse, vec_len, vec_capacity};
 ghost use Rattle.mg_node.specs.Views.{IntakeView, EngineView};
-ghost use Rattle.mg_turns.specs.Parts.{an_engine, an_intake};
 ghost use Rattle.mg_workers.specs.Woven.{woven};
 ghost use Rattle.mg_workers.specs.Code.Weaving.{IsOf};
 

@@ -1,5 +1,5 @@
 //! What a net tells of how far it has come.
-ghost use Rattle.std.specs.Prelude.{◌≡◌, ◌<◌, ◌+◌, ◌-◌, ◌^◌, ◌++◌, length, map, min, sum_by, slice_index_or, IfOk, OnOk};
+ghost use Rattle.std.specs.Prelude.{◌≡◌, ◌<◌, ◌-◌, ◌^◌, ◌++◌, length, map, min, sum_by, slice_index_or, IfOk, OnOk};
 ghost use Rattle.std.specs.List.{flat_map, filter_map};
 ghost use Rattle.mg_stream.specs.Pool.{empty_backlog};
 ghost use Rattle.mg_node.specs.Outputs.{kept_in};

@@ -1,5 +1,5 @@
 //! Bringing a work back to its engine.
-ghost use Rattle.std.specs.Prelude.{◌≡◌, ◌<◌};
+ghost use Rattle.std.specs.Prelude.{◌<◌};
 ghost use Rattle.mg_node.specs.Job.{LoggedJob};
 ghost use Rattle.mg_node.specs.Lawful.{LawfulOutcome};
 ghost use Rattle.mg_turns.specs.Parts.{nodes_in, Fits, FitsSome};

@@ -1,5 +1,5 @@
 //! Taking turns, and giving them back with their parts.
-ghost use Rattle.std.specs.Prelude.{◌≡◌, ◌≢◌, ◌<◌, ◌≤◌, ◌+◌, ◌*◌, ◌-◌, ◌%◌, ◌∷◌, MatchBool, MatchOption, MatchResult, IfSome, None, Some, length};
+ghost use Rattle.std.specs.Prelude.{◌≡◌, ◌≢◌, ◌<◌, ◌+◌, ◌*◌, ◌-◌, ◌%◌, ◌∷◌, MatchBool, MatchOption, MatchResult, IfSome, None, Some, length};
 ghost use Rattle.atomic_table.specs.Table.{rest};
 ghost use Rattle.mg_turns.specs.Parts.{Follows, an_engine, an_intake};
 ghost use Rattle.mg_turns.specs.Rule.{word_of, has_turn};

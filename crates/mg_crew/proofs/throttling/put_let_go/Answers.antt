@@ -1,5 +1,5 @@
 use Rattle.std.proofs.Common.{◌<◌, ℕ, Option, IfSome, sym, subst}
-use Rattle.mg_sched.proofs.Sweeping.{edges_left, fewer_edges, second_of}
+use Rattle.mg_sched.proofs.Sweeping.{edges_left, fewer_edges}
 use Rattle.mg_crew.proofs.Noting.{later_feeder, first_feeder}
 use Rattle.mg_crew.proofs.throttling.put_let_go.Goals as goal
 

@@ -1,4 +1,4 @@
-use Rattle.std.proofs.Common.{◌≡◌, ◌∙◌, ◌-◌, ℕ, List, length, get_or, ap, ap₂, sym, arith}
+use Rattle.std.proofs.Common.{◌∙◌, ◌-◌, ℕ, List, get_or, ap, ap₂, arith}
 use Rattle.mg_equations.proofs.PortSteps.{read_more, read_whole}
 use Rattle.mg_equations.proofs.progress.read_at.Goals as goal
 

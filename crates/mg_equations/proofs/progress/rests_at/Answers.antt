@@ -1,4 +1,4 @@
-use Rattle.std.proofs.Common.{◌≡◌, ◌∙◌, ℕ, List, length, get_or, ap, sym, refl, arith}
+use Rattle.std.proofs.Common.{ℕ, List, get_or, ap, refl, arith}
 use Rattle.mg_equations.proofs.PortSteps.{rests_more, rests_whole}
 use Rattle.mg_equations.proofs.progress.rests_at.Goals as goal
 

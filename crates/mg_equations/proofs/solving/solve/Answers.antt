@@ -1,6 +1,4 @@
-use Rattle.std.proofs.Common.{◌≡◌, ◌<◌, Bool, true, false, List}
-use Rattle.std.specs.List.{list_any}
-use Rattle.mg_calc.specs.Equations.{Job, IsJob}
+use Rattle.std.proofs.Common.{◌<◌, true, false}
 use Rattle.mg_equations.proofs.Changing.{room}
 use Rattle.mg_equations.proofs.SolveSteps.{may_grow, turn_is, told_change, turn_solution, turn_counts, turn_faults, turn_prefixes, turn_many, turn_changes, turn_can, turn_come, turn_further, turn_less}
 use Rattle.mg_equations.proofs.solving.solve.Goals as goal

@@ -1,6 +1,5 @@
 use Rattle.std.proofs.Common.{refl, sym, ◌∙◌}
 use Rattle.std.proofs.lemmas.Result.{err_from_is_err_and}
-use Rattle.mg_answer.specs.Devices.{device}
 use Rattle.mg_sched.specs.Made.{job_of}
 use Rattle.mg_drive.proofs.Looping.{keeps_on, begins_keep, stands_still}
 use Rattle.mg_sched.proofs.Becoming.{becomes_runs, becomes_stands}

@@ -1,4 +1,4 @@
-use Rattle.std.proofs.Common.{◌≡◌, ap, sym}
+use Rattle.std.proofs.Common.{ap, sym}
 use Rattle.mg_value.specs.Payload.{Plain}
 use Rattle.mg_value.specs.Prefix.{Stamped}
 use Rattle.mg_route.proofs.laying.packet_fault.Goals as goal

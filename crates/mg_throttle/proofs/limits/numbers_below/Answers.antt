@@ -1,4 +1,4 @@
-use Rattle.std.proofs.Common.{ℕ, List, suc, ◌≡◌, ◌+◌, ◌∙◌, ◌++◌, ◌∷◌, [], ap, sym, subst, arith}
+use Rattle.std.proofs.Common.{suc, ◌≡◌, ◌+◌, ◌∙◌, ◌++◌, ◌∷◌, [], ap, sym, subst, arith}
 use Rattle.std.specs.List.{range_with_len}
 use Rattle.mg_calc.specs.Plan.{HasEachOnce}
 use Rattle.mg_throttle.proofs.Ranges.{range_more, each_below}

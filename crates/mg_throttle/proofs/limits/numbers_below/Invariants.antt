@@ -1,5 +1,5 @@
 -- The numbers so far are the first ones.
-use Rattle.std.proofs.Common.{◌≡◌, vec_len}
+use Rattle.std.proofs.Common.{◌≡◌}
 use Rattle.std.specs.List.{range_with_len}
 use Rattle.mg_throttle.proofs.limits.numbers_below.Given as goal
 

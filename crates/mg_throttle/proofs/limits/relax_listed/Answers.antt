@@ -1,4 +1,4 @@
-use Rattle.mg_throttle.proofs.Listing.{relaxes_none, relaxes_on, relaxes_within, relaxes_all}
+use Rattle.mg_throttle.proofs.Listing.{relaxes_none, relaxes_on, relaxes_all}
 use Rattle.mg_throttle.proofs.limits.relax_listed.Goals as goal
 
 pub loop-number-init : goal.loop-number-init

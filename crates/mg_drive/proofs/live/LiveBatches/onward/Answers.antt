@@ -1,4 +1,4 @@
-use Rattle.std.proofs.Common.{length, ◌≡◌, Bool, true, false, not, None, Some, refl, sym, ap, ◌∙◌, subst, arith}
+use Rattle.std.proofs.Common.{length, ◌≡◌, Bool, true, false, not, refl, sym, ap, ◌∙◌, subst, arith}
 use Rattle.mg_feed.specs.declared.feed_end.BatchEnd.{BatchEnd}
 use Rattle.mg_feed.specs.declared.feed_end.BatchEnd.TheVariants.{More, End}
 use Rattle.mg_live.specs.Takes.{Did, turns_of}

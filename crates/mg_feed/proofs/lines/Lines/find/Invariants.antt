@@ -1,5 +1,5 @@
 -- More was read, and no line of it is whole.
-use Rattle.std.proofs.Common.{◌≡◌, ◌-◌, ◌≤◌}
+use Rattle.std.proofs.Common.{◌≡◌, ◌-◌}
 use Rattle.mg_feed.specs.Handed.{MovesOn}
 use Rattle.mg_feed.specs.Code.Readers.{reading_of}
 use Rattle.mg_feed.specs.Code.Handing.{weight_of}

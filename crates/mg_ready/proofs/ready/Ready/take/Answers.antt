@@ -1,4 +1,4 @@
-use Rattle.std.proofs.Common.{arith, subst, ◌<◌, count_by}
+use Rattle.std.proofs.Common.{subst, ◌<◌, count_by}
 use Rattle.mg_ready.specs.Ready.{ReadyNodes}
 use Rattle.mg_ready.proofs.Slots.{in_within}
 use Rattle.mg_ready.proofs.Kept.{IsIn-out, count_by-out}

@@ -1,4 +1,4 @@
-use Rattle.std.proofs.Common.{rules, arith, ap}
+use Rattle.std.proofs.Common.{rules, ap}
 use Rattle.mg_turns.specs.Code.Plays.{Sat}
 use Rattle.mg_turns.proofs.Apart.{joins_apart}
 use Rattle.mg_turns.proofs.Ends.{nil}

@@ -1,4 +1,4 @@
-use Rattle.std.proofs.Common.{arith, refl, ◌*◌}
+use Rattle.std.proofs.Common.{arith, ◌*◌}
 use Rattle.mg_turns.specs.Calls.{key_of}
 use Rattle.mg_turns.specs.Parts.{tally_since}
 use Rattle.mg_turns.proofs.Bringing.{source_there, ends_apart, from_engine, to_intake, edge_leads, back_engine, back_intake, brought_counted, has_brought}

@@ -1,4 +1,4 @@
-use Rattle.std.proofs.Common.{rules, arith, ap, ◌∙◌, ℕ, ◌<◌, ◌≡◌, List, length, refl, false, true, Bool, set, get_or, get_or-set_same, get_or-set_other}
+use Rattle.std.proofs.Common.{rules, arith, ap, ◌∙◌, ℕ, ◌<◌, ◌≡◌, List, length, false, true, Bool, set, get_or, get_or-set_same, get_or-set_other}
 use Rattle.std.specs.Mem.Slots.{slots_counts, slots_filled}
 use mathlib.Core.Logic.{dite}
 use native.Mathlib.Decide.{ℕ_discrete}
