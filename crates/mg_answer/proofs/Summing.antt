@@ -1,6 +1,6 @@
 -- What some sets tell of the outputs, set by set, and the lines of it.
 use Rattle.std.proofs.Common.{◌≡◌, ◌+◌, ◌+ℤ◌, ℕ, zero, suc, List, [], ◌∷◌, ◌++◌, length, map, replicate, drop, false, Option, None, Some, slice_index_or, unwrap_or, refl, sym, ap, ◌∙◌, arith, append_assoc, append-nil, length-append}
-use Rattle.std.specs.List.{flat_map, enumerate_from, AllByRecursion as Each}
+use Rattle.std.specs.List.{flat_map, enumerate_from}
 use Rattle.std.proofs.lemmas.Int.{ints}
 use Rattle.std.proofs.lemmas.List.{reverse-append}
 use Rattle.mg_edge.specs.Edge.{SinkTold}
@@ -10,7 +10,7 @@ use Rattle.mg_value.specs.Prefix.{Stamped}
 use Rattle.mg_value.specs.Settled.{TimedSet}
 use Rattle.mg_answer.specs.Put.{TextView, HasPut}
 use Rattle.mg_answer.specs.Summary.{number_in, sum_of, first_time_of, last_time_of, total_of, packets_at, total_line, summary_text, SummaryView, totals_of, HasSummed}
-use Rattle.mg_answer.specs.Code.Adding.{with_place, with_set, IsWithin, total_lines}
+use Rattle.mg_answer.specs.Code.Adding.{with_place, with_set, total_lines}
 use Rattle.mg_answer.specs.declared.total.Total.{Total}
 use Rattle.mg_answer.proofs.AddingSets.{set-none}
 
@@ -81,10 +81,6 @@ summed-more view now places names totals more sets timed is has = record {
 }
 
 -- Nothing yet --
-
-pub within-none : (n : ℕ) → Each (IsWithin 0) (replicate n (total_of []))
-within-none zero = tt
-within-none (suc n) = ((omega arith, omega (arith, ints), omega (arith, ints)), within-none n)
 
 totals-none : (k : ℕ) (names : List (List ℕ)) → replicate (length names) (total_of []) ≡ totals_from k names []
 totals-none k [] = refl

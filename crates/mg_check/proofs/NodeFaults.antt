@@ -70,10 +70,6 @@ third_by false true c n rest rest' later later' none none' known = cc
 third_by false false true n rest rest' later later' none none' known = refl
 third_by false false false n rest rest' later later' none none' known = known none none'
 
-rest_none : (a : Bool) (n : ℕ) (rest : Option ℕ) → cond a (Some n) rest ≡ None → rest ≡ None
-rest_none true n rest none = cc
-rest_none false n rest none = none
-
 first_at : (outers : List OuterShape) (n : ℕ) (cs : List Chosen) → position_from (is_wrong wrong.Ports) n (map (wrong_of outers) cs) ≡ position_from (has_bad_ports outers) n cs
 first_at outers n [] = refl
 first_at outers n (c ∷ cs) = first_by (has_bad_ports outers c) (has_bad_options outers c) (is_unsupported outers c) n _ _ (first_at outers (n + 1) cs)

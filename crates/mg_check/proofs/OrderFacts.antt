@@ -8,7 +8,7 @@ use Rattle.std.proofs.lemmas.List.Folds.{list_any-append, list_any_at}
 use Rattle.std.proofs.lemmas.List.Sums.{AllPass-from_list_all}
 use Rattle.std.proofs.lemmas.Option.{none-some, same_Some, slice_get_within, get_or_from_slice_get}
 use Rattle.std.specs.List.{list_all, find, range_with_len}
-use Rattle.mg_calc.specs.Plan.{numbers, HasEachOnce, StandsBefore}
+use Rattle.mg_calc.specs.Plan.{numbers, StandsBefore}
 use Rattle.mg_check.specs.declared.ordering.Link.{Link}
 use Rattle.mg_check.specs.Order.{is_among, is_next, with_next, taken_on, order_of, left_out}
 
@@ -139,15 +139,6 @@ left_out_none count order none n within = among-Contains order n (kept 0 count n
       where
         cons-nil : (x : ℕ) (xs : List ℕ) → x ∷ xs ≡ [] → ⊥
         cons-nil x xs same = (let e = ap length same in omega arith)
-
--- where none is left out, the order has each once
-pub order_each : (count : ℕ) (sources : List ℕ) (links : List Link) → All (λ n. n < count) sources → AllPairs ◌≢◌ sources → left_out count (order_of count sources links) ≡ []
-    → HasEachOnce count (order_of count sources links)
-order_each count sources links below once none = record {
-  there = left_out_none count (order_of count sources links) none;
-  below = order_below count sources links below;
-  once = order_once count sources links once;
-}
 
 -- ---- links lead forward
 -- the node that reads is there only behind the one that writes

@@ -1,25 +1,25 @@
 -- The plan of drafts that aren't refused is valid.
-use Rattle.std.proofs.Common.{◌≤◌, ◌≡◌, List, [], ◌∷◌, All, Option, None, Some, Ok, length, refl, ◌∙◌, subst, arith}
+use Rattle.std.proofs.Common.{◌≤◌, ◌≡◌, List, [], ◌∷◌, All, Option, None, Some, Ok, length, refl, subst, arith}
 use Rattle.std.specs.Prelude.{⊤}
 use Rattle.std.specs.List.{AllByRecursion}
 use Rattle.std.proofs.lemmas.List.Elements.{All-from_recursion, recursion_from_All}
 use Rattle.mg_config.specs.Config.{GraphView}
-use Rattle.mg_subgraph.proofs.Joins.{none_left, none_right}
+use Rattle.mg_subgraph.proofs.Joins.{none_right}
 use Rattle.mg_calc.specs.declared.shape.OuterShape.{OuterShape}
 use Rattle.mg_calc.specs.declared.plan.Plan.{Plan}
 use Rattle.mg_calc.specs.declared.plan_node.PlanNode.{PlanNode}
 use Rattle.mg_calc.specs.Plan.{IsValidWithFree, OutersFit}
 use Rattle.mg_check.specs.Drafts.{DraftView, drafts, node_refusal}
-use Rattle.mg_check.specs.Joining.{stream_names, side_names, join_refusal}
+use Rattle.mg_check.specs.Joining.{join_refusal}
 use Rattle.mg_check.specs.Planning.{plan_of}
 use Rattle.mg_check.specs.Check.{refusal, check_by, check_of, IsOuterShape}
 use Rattle.mg_check.specs.declared.fault.CheckFault.{CheckFault}
 use Rattle.mg_check.specs.Code.Sound.{HasNames, IsSound, AreSound}
-use Rattle.mg_check.proofs.DraftCounts.{drafts-most, drafts-count}
+use Rattle.mg_check.proofs.DraftCounts.{drafts-most}
 use Rattle.mg_check.proofs.SoundNodes.{drafts-are-sound}
 use Rattle.mg_check.proofs.ValidLists.{all_so}
 use Rattle.mg_check.proofs.ValidStreams.{valid_streams, valid_inputs, valid_producers}
-use Rattle.mg_check.proofs.ValidEdges.{nodes_long, valid_edges, valid_back}
+use Rattle.mg_check.proofs.ValidEdges.{valid_edges, valid_back}
 use Rattle.mg_check.proofs.ValidNodes.{HasOuter, valid_ports, valid_parameters, valid_shapes, valid_flights, valid_policies, valid_boxes, outers_fit}
 use Rattle.mg_check.proofs.ValidRanges.{are_joined, valid_ranges}
 use Rattle.mg_check.proofs.ValidOrder.{valid_order, valid_forward}
@@ -74,9 +74,3 @@ checked_is_valid outers graph plan shaped few given = by (refusal outers graph) 
         let same : plan_of graph (drafts outers graph.nodes) ≡ plan = cc in
         subst (λ p. IsValidWithFree p × OutersFit p outers) same (plan_is_valid outers graph shaped few none)
     by (Some fault) none given = cc
-
--- with a node for each node
-pub plan_is_whole : (outers : List OuterShape) (graph : GraphView) → refusal outers graph ≡ None → length (plan_of graph (drafts outers graph.nodes)).nodes ≡ length graph.nodes
-plan_is_whole outers graph none =
-    let ds = drafts outers graph.nodes in
-    nodes_long (stream_names graph ds) (side_names graph ds) (length graph.inputs) ds ∙ drafts-count outers graph.nodes (none_left (node_refusal outers graph.nodes) (join_refusal graph ds) none)

@@ -52,9 +52,6 @@ levels = search (order, Slotted.the_sync, Slotted.the_field_sync, heap.send, hea
 hand : IsSend (Hand.the_field).row
 hand = search (Seat.the_send, sendable, crosses) depth 40 fits 50000
 
-level_seat : IsSend (LevelSeat.the_field).row
-level_seat = search (hand, sendable, crosses) depth 40 fits 20000
-
 level_row : IsSend LevelSeat.the_row
 level_row = search (hand, sendable, crosses) depth 40 fits 20000
 

@@ -1,11 +1,9 @@
 -- A round is made stream by stream, and node by node.
-use Rattle.std.proofs.Common.{◌≡◌, ℕ, zero, suc, ◌+◌, ◌<◌, ◌≤◌, Bool, false, List, [], ◌∷◌, ◌++◌, append_assoc, append-nil, Option, map, All, take, drop, set, get_or, length, length-set, length-append, Some, slice_get, refl, sym, ap, ap₂, subst, ◌∙◌, arith, inl, inr, ◌⊎◌, add-one}
+use Rattle.std.proofs.Common.{◌≡◌, ℕ, zero, suc, ◌+◌, ◌<◌, ◌≤◌, Bool, false, List, [], ◌∷◌, ◌++◌, append_assoc, Option, map, All, take, drop, set, get_or, length, length-append, Some, slice_get, refl, sym, ap, ap₂, subst, ◌∙◌, arith, inl, inr, ◌⊎◌, add-one}
 use Rattle.std.specs.List.{AllByRecursion, flat_map, list_any, filter_map, cons_option, enumerate_from}
-use Rattle.std.proofs.lemmas.Option.{slice_get_read, slice_get_within}
-use Rattle.std.proofs.lemmas.Bool.{cases_lt}
+use Rattle.std.proofs.lemmas.Option.{slice_get_read}
 use Rattle.std.proofs.lemmas.List.Concat.{flat_map-cons}
-use Rattle.std.proofs.lemmas.List.Elements.{recursion_from_All, AllZip-get_or, length_all_zip}
-use Rattle.std.proofs.lemmas.List.{take_all}
+use Rattle.std.proofs.lemmas.List.Elements.{recursion_from_All, AllZip-get_or}
 use Rattle.mg_value.specs.Payload.{Plain}
 use Rattle.mg_value.specs.Prefix.{StreamPrefix}
 use Rattle.mg_value.specs.Extension.{IsExtendedBy, AreExtendedBy}
@@ -15,14 +13,14 @@ use Rattle.mg_calc.specs.Plan.{HasNumbers}
 use Rattle.mg_calc.specs.Shape.{IsShapeOf}
 use Rattle.mg_calc.specs.Equations.{Job, IsJob, stream_of, outcome_of, next_round}
 use Rattle.mg_calc.proofs.Earlier.{at_place, some_same}
-use Rattle.mg_route.proofs.LayingLemmas.{from_here, at_end}
+use Rattle.mg_route.proofs.LayingLemmas.{from_here}
 use Rattle.mg_equations.specs.declared.progress.Progress.{Progress}
 use Rattle.mg_calc.specs.declared.node_fault.NodeFault.{NodeFault}
 use Rattle.mg_calc.specs.Meaning.{fault_of, faults, counts}
 use Rattle.mg_equations.specs.Rounds.{numbered_fault}
 use Rattle.mg_equations.specs.Changes.{is_changed, changes}
 use Rattle.mg_equations.specs.Seen.{seen}
-use Rattle.mg_equations.specs.Progress.{HasCome, HaveCome, GoesOnIf, AllGoOn, outcomes, reads_change}
+use Rattle.mg_equations.specs.Progress.{HasCome, HaveCome, GoesOnIf, outcomes, reads_change}
 use Rattle.mg_equations.proofs.Changing.{unchanged_one, or_none}
 
 -- what a node of a job has
@@ -85,9 +83,6 @@ extended_at : (xs ys : List (StreamPrefix Plain)) (i : ℕ) (x y : StreamPrefix 
 extended_at xs ys i x y e below x_is y_is =
     subst (λ (s : StreamPrefix Plain). IsExtendedBy s y) (sym x_is) (subst (IsExtendedBy (get_or xs i x)) (sym y_is) (AllZip-get_or IsExtendedBy xs ys i x y e below))
 
-pub grown_none : (before next : List (StreamPrefix Plain)) → AreExtendedBy before next → AreGrown before next before [] 0
-grown_none before next e = record { streams = refl; changes_are = refl; many = length_all_zip IsExtendedBy before next e }
-
 pub grown_extended : (before next now : List (StreamPrefix Plain)) (changed : List Bool) (i : ℕ) (x later : StreamPrefix Plain) → AreExtendedBy before next → AreGrown before next now changed i → i < length next → x ≡ get_or now i x → later ≡ get_or next i later
     → IsExtendedBy x later
 grown_extended before next now changed i x later e h below x_is later_is =
@@ -108,14 +103,6 @@ grown_more before next now changed i x later x_now change h below x_is later_is 
           ∙ h.changes_are;
       many = many;
     }
-
-pub grown_all : (before next now : List (StreamPrefix Plain)) (changed : List Bool) (i : ℕ) → length next ≤ i → AreGrown before next now changed i → (now ≡ next) × (changed ≡ changes before next)
-grown_all before next now changed i over h =
-    let many = h.many in
-    let none : drop i before ≡ [] = at_end before i (omega (arith, many, over)) in (
-      h.streams ∙ ap₂ (λ (ss ts : List (StreamPrefix Plain)). ss ++ ts) (take_all i next over) none ∙ append-nil next,
-      sym (append-nil changed) ∙ ap₂ (λ (ss ts : List (StreamPrefix Plain)). changed ++ changes ss ts) (sym none) (sym (at_end next i over)) ∙ h.changes_are,
-    )
 
 -- Nodes begin one after the other.
 pub record HaveBegun (job : Job) (streams : List (StreamPrefix Plain)) (nodes : List Progress) (i : ℕ) : Type 0 where
@@ -172,34 +159,6 @@ set_here : {X : Type 0} (xs : List X) (i : ℕ) (x : X) → i < length xs → sl
 set_here [] i x below = absurd (omega (arith, below))
 set_here (y ∷ xs) zero x below = refl
 set_here (y ∷ xs) (suc i) x below = set_here xs i x (omega (arith, below))
-
-pub went_none : (nodes : List PlanNode) (streams : List (StreamPrefix Plain)) (changed : List Bool) (first : List Progress) → AllGoOnUpTo nodes streams changed first first 0
-went_none nodes streams changed first = record { many = refl; went = λ k node before then lt at b t. absurd (omega (arith, lt)); rest = λ k le. refl }
-
-pub went_more : (nodes : List PlanNode) (streams : List (StreamPrefix Plain)) (changed : List Bool) (first now : List Progress) (i : ℕ) (node : PlanNode) (before then : Progress) → AllGoOnUpTo nodes streams changed first now i
-    → i < length now → slice_get nodes i ≡ Some node → before ≡ get_or now i before → GoesOnIf (reads_change changed node) node streams before then → AllGoOnUpTo nodes streams changed first (set now i then) (i + 1)
-went_more nodes streams changed first now i node before then h below at is goes = record {
-  many = length-set now i then ∙ h.many;
-  went = λ k other earlier later lt there was here. elim (cases_lt k i) [
-    | inl less ↦ h.went k other earlier later less there was (sym (set_other now i then k (λ e. omega (arith, e, less))) ∙ here)
-    | inr not ↦
-        (let k_is : k ≡ i = omega (arith, lt, not) in
-        let node_same : node ≡ other = some_same node other (sym at ∙ ap (slice_get nodes) (sym k_is) ∙ there) in
-        let then_same : then ≡ later = some_same then later (sym (set_here now i then below) ∙ ap (slice_get (set now i then)) (sym k_is) ∙ here) in
-        let now_before : slice_get now i ≡ Some before = slice_get_read now (length now) i before refl below is in
-        let before_same : before ≡ earlier = some_same before earlier (sym now_before ∙ h.rest i (omega arith) ∙ ap (slice_get first) (sym k_is) ∙ was) in
-        subst (λ (p : Progress). GoesOnIf (reads_change changed other) other streams earlier p) then_same
-        (subst (λ (p : Progress). GoesOnIf (reads_change changed other) other streams p then) before_same
-        (subst (λ (n : PlanNode). GoesOnIf (reads_change changed n) n streams before then) node_same goes)))
-  ];
-  rest = λ k le. set_other now i then k (λ e. omega (arith, e, le)) ∙ h.rest k (omega (arith, le));
-}
-
-pub went_all : (nodes : List PlanNode) (streams : List (StreamPrefix Plain)) (changed : List Bool) (first now : List Progress) (i : ℕ) → length nodes ≤ i → AllGoOnUpTo nodes streams changed first now i → AllGoOn nodes streams changed first now
-went_all nodes streams changed first now i over h = record {
-  many = h.many;
-  each = λ k node before then at was here. h.went k node before then (let within = slice_get_within nodes k node at in omega (arith, within, over)) at was here;
-}
 
 -- What has become of all nodes.
 outcomes_by : (job : Job) (streams : List (StreamPrefix Plain)) (nodes : List PlanNode) (progresses : List Progress) → length progresses ≡ length nodes

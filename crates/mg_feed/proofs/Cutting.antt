@@ -111,9 +111,6 @@ cut-end bytes lines rest cut none = record {
   is = ap (λ r. with_feed r bytes) (cut-rest bytes lines rest cut none) ∙ ap (with_feed rest) cut.is ∙ with_feed-put rest (fed_lines lines);
 }
 
-with_first-append : (b : ℕ) (p : List ℕ) (ps qs : List (List ℕ)) → with_first b ((p ∷ ps) ++ qs) ≡ with_first b (p ∷ ps) ++ qs
-with_first-append b p ps qs = refl
-
 feed_parts : (b : ℕ) (t : Bool) (p : List ℕ) (ps : List (List ℕ))
     → (if t then [] ∷ ((p ∷ ps) ++ [] ∷ []) else with_first b ((p ∷ ps) ++ [] ∷ [])) ≡ (if t then [] ∷ p ∷ ps else with_first b (p ∷ ps)) ++ [] ∷ []
 feed_parts b true p ps = refl

@@ -1,5 +1,5 @@
 -- What objects say, from what `serde_json` answers.
-use Rattle.std.proofs.Common.{◌≡◌, List, [], ◌∷◌, length, Some, None, refl, ap, arith, String}
+use Rattle.std.proofs.Common.{◌≡◌, List, [], ◌∷◌, length, Some, refl, ap, arith, String}
 use Rattle.std.specs.declared.alloc.Global.{Global}
 use Rattle.serde_json.specs.Data.{Data, null, boolean, number, string, array, object, Members}
 use Rattle.serde_json.specs.Find.{as_object}
@@ -25,8 +25,3 @@ pub packets_form-some : (d : Data) (entries : List (String Global × Value)) →
     → packets_form (Some d) (Some (members_view entries)) ≡ Some (packets d (listed (members_view entries)))
 packets_form-some d [] some = absurd (some refl)
 packets_form-some d (e ∷ es) some = refl
-
-pub packets_form-none : (d : Data) (entries : List (String Global × Value)) → length entries ≡ 0
-    → packets_form (Some d) (Some (members_view entries)) ≡ None
-packets_form-none d [] none = refl
-packets_form-none d (e ∷ es) none = absurd (omega (arith, none))

@@ -11,13 +11,13 @@ use Rattle.mg_feed.specs.Came.{arrived}
 use Rattle.mg_feed.specs.Ran.{MetEnd, Unfailed}
 use Rattle.mg_feed.specs.Handed.{HasHanded, MovesOn, EndsReads, ComesAs, NextComes}
 use Rattle.mg_feed.specs.Code.LineEnd.{EndsLine, has_feed}
-use Rattle.mg_feed.specs.Code.Filled.{GotBytes, GotEnd, GotFault}
+use Rattle.mg_feed.specs.Code.Filled.{GotEnd, GotFault}
 use Rattle.mg_feed.specs.Ran.{late}
 use Rattle.mg_feed.specs.Code.Handing.{LacksLine, SearchStops, StopsLater, Takes, weight_of}
 use Rattle.mg_feed.specs.Once.{longest_block}
 use Rattle.mg_feed.specs.declared.lines.NextLine.{NextLine}
 use Rattle.mg_feed.specs.declared.lines.NextLine.TheVariants.{Line, TooLong, Ended, Failed}
-use Rattle.mg_feed.proofs.Cutting.{cut-more, cut-line, cut-whole, cut-end, cut-ended, all_lines-line, all_lines-begin}
+use Rattle.mg_feed.proofs.Cutting.{cut-line, cut-whole, cut-end, cut-ended, all_lines-line, all_lines-begin}
 use Rattle.mg_feed.proofs.Blocks.{drop-twice}
 use Rattle.mg_feed.proofs.Coming.{lines-by}
 use Rattle.mg_feed.proofs.Moving.{met-same, met-then, gave-then, unfailed-same, unfailed-then, failed-stop, with_feed-grows}
@@ -42,29 +42,6 @@ moves-then first before now a b c one two = record {
   unfailed = unfailed-then first before now one.unfailed two.unfailed;
   grows = λ past lines has. subst (λ (l : List ℕ). HasHanded l lines c) (append_assoc past one.came two.came) (two.grows (past ++ one.came) lines (one.grows past lines has));
 }
-
--- what was read is the same, however it lies
-pub moves-kept : (told now : SourceTold) (r s : Reading) → s ≡ r → now ≡ told → MovesOn told now r s
-moves-kept told now r s same still = subst (λ (t : SourceTold). MovesOn told t r s) (sym still) (subst (MovesOn told told r) (sym same) (moves-same told r))
-
-pub moves-bytes : (old new : Reading) (before now : SourceTold) → old.ended ≡ false → GotBytes old new before now → MovesOn before now old new × (weight_of old < weight_of new)
-moves-bytes old new before now was got =
-    let some = got.some in
-    let long : length new.kept ≡ length old.kept + length got.bytes = ap length got.kept ∙ length-append old.kept got.bytes in
-    let late_old : late old.ended ≡ 0 = ap late was in
-    let late_new : late new.ended ≡ 0 = ap late got.ended in (
-      record {
-        came = got.bytes;
-        gave = got.gave;
-        met = met-open old.ended new.ended before now was got.ended got.ends;
-        unfailed = got.unfailed;
-        grows = λ past lines has.
-            subst (λ (b : Bool). IsCut (arrived b (past ++ got.bytes)) lines new.kept) (sym got.ended)
-            (subst (λ (k : List ℕ). IsCut (past ++ got.bytes) lines k) (sym got.kept)
-            (cut-more past lines old.kept got.bytes (subst (λ (b : Bool). IsCut (arrived b past) lines old.kept) was has)));
-      },
-      omega (arith, some, long, late_old, late_new),
-    )
 
 pub moves-end : (old new : Reading) (before now : SourceTold) → old.ended ≡ false → NoFeed old.kept → GotEnd old new before now → MovesOn before now old new × (weight_of old < weight_of new)
 moves-end old new before now was none got =
@@ -114,9 +91,6 @@ stops-long told r s next is same none long = subst (λ (n : NextLine). SearchSto
   reads = unfailed-same told;
   lacks = (none, long);
 })
-
-pub stops-later : (next : NextLine) (first before now : SourceTold) (a b c : Reading) → MovesOn first before a b → SearchStops next before now b c → StopsLater next first now a c
-stops-later next first before now a b c moves stops = record { between = before; read = b; moves = moves; stops = stops }
 
 -- What comes --
 
@@ -225,13 +199,3 @@ took-long cut left old new next i line next_is same is none ends long = subst (�
 -- so much is read at most while no line is whole
 abbrev pub heaviest_of : ℕ
 heaviest_of = longest_line + longest_block + 1
-
-late-few : (b : Bool) → late b ≤ 1
-late-few true = omega arith
-late-few false = omega arith
-
-pub weight-light : (r : Reading) (cut left : List ℕ) → r.kept ≡ cut ++ left → length cut ≤ longest_line → length left ≤ longest_block → weight_of r ≤ heaviest_of
-weight-light r cut left is short small =
-    let long : length r.kept ≡ length cut + length left = ap length is ∙ length-append cut left in
-    let few = late-few r.ended in
-    omega (arith, long, short, small, few)

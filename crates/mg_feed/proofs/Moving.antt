@@ -1,6 +1,5 @@
 -- Steps of a call that reads lines, one after the other.
-use Rattle.std.proofs.Common.{◌≡◌, ◌⊎◌, inr, ℕ, suc, ◌+◌, ◌<◌, ◌≤◌, List, [], ◌∷◌, ◌++◌, length, count_by, Bool, true, false, Option, None, Some, IfSome, option_map, if◌then◌else◌, refl, sym, ap, ◌∙◌, subst, arith, append_assoc, append-nil, length-append}
-use Rattle.std.proofs.lemmas.Bool.{ltb-false}
+use Rattle.std.proofs.Common.{◌≡◌, ◌⊎◌, inr, ℕ, ◌+◌, ◌<◌, ◌≤◌, List, [], ◌∷◌, ◌++◌, length, count_by, Bool, true, false, Option, None, Some, IfSome, option_map, refl, sym, ap, ◌∙◌, subst, arith, append_assoc, append-nil, length-append}
 use Rattle.std.proofs.lemmas.List.Sums.{sum_by-append, count_by-le-length}
 use mir.Val.{bool_byte}
 use Rattle.mg_edge.specs.Edge.{SourceTold, CountsOne, one_more}
@@ -8,15 +7,11 @@ use Rattle.mg_edge.specs.Runs.{Gave}
 use Rattle.mg_edge.proofs.Runs.{Gave-start}
 use Rattle.mg_feed.specs.Graph.{GraphInputs}
 use Rattle.mg_feed.specs.Lines.{with_feed, but_last}
-use Rattle.mg_feed.specs.Accepted.{Before, names_stream, line_refusal, longest_line, most_lines}
-use Rattle.mg_feed.specs.View.{before_seen}
+use Rattle.mg_feed.specs.Accepted.{names_stream}
 use Rattle.mg_feed.specs.Fed.{Fed}
 use Rattle.mg_feed.specs.Ran.{EndCame, MetEnd, late, Spends, Unfailed, ReadFailed, FailedBy}
-use Rattle.mg_feed.specs.Once.{longest_block}
-use Rattle.mg_feed.specs.Batch.{EndsAs, HasRead, HasReadBatch, naming}
-use Rattle.mg_feed.specs.Code.Moves.{Grows, TookLine, Moved, Stopped, weight, heaviest}
-use Rattle.mg_feed.specs.declared.line_fault.LineFault.{LineFault}
-use Rattle.mg_feed.specs.declared.line_fault.LineFault.TheVariants.{TooLong}
+use Rattle.mg_feed.specs.Batch.{EndsAs, HasReadBatch, naming}
+use Rattle.mg_feed.specs.Code.Moves.{Grows, TookLine, Moved, Stopped, weight}
 use Rattle.mg_feed.specs.declared.feed_end.FeedEnd.{FeedEnd}
 use Rattle.mg_feed.specs.declared.feed_end.FeedEnd.TheVariants.{Ended, Failed, Refused, OutOfMemory}
 use Rattle.mg_feed.specs.declared.feed_end.BatchEnd.TheVariants.{More, End}
@@ -140,22 +135,6 @@ moved-line named told a b t = record {
 
 -- Each step is heavier --
 
-long-first : (test : Bool) (later : Option LineFault) → (if test then Some TooLong else later) ≡ None → test ≡ false
-long-first true later is = cc
-long-first false later is = refl
-
--- a good line isn't too long
-pub good-short : (b : Before) (line : List ℕ) → line_refusal b line ≡ None → length line ≤ longest_line
-good-short b line good = ltb-false longest_line (length line) (long-first _ _ good)
-
-pub heavier-line : (named : Bool) (a b : Fed) → TookLine named a b → weight a < weight b
-heavier-line named a b t =
-    let short = good-short (before_seen a.view) t.line t.good in
-    let lines : b.view.lines ≡ a.view.lines + 1 = ap (λ v. v.lines) t.view in
-    let kept : length a.read.kept ≡ length t.line + suc (length b.read.kept) = ap length t.cut ∙ length-append t.line (10 ∷ b.read.kept) in
-    let same : late b.read.ended ≡ late a.read.ended = ap late t.ended in
-    omega (arith, short, lines, kept, same)
-
 pub heavier-bytes : (a b : Fed) (came : List ℕ) → b.view ≡ a.view → a.read.ended ≡ false → b.read.ended ≡ false → b.read.kept ≡ a.read.kept ++ came → 1 ≤ length came → weight a < weight b
 heavier-bytes a b came view before ended kept some =
     let lines : b.view.lines ≡ a.view.lines = ap (λ v. v.lines) view in
@@ -177,17 +156,6 @@ heavier-end a b view before ended kept =
     let late_b : late b.read.ended ≡ 1 = ap late ended in
     omega (arith, lines, more, grows, late_a, late_b)
 
-late-one : (b : Bool) → late b ≤ 1
-late-one true = omega arith
-late-one false = omega arith
-
--- so heavy is a feed at most
-pub weight-most : (f : Fed) (cut left : List ℕ) → f.view.lines ≤ most_lines → f.read.kept ≡ cut ++ left → length cut ≤ longest_line → length left ≤ longest_block → weight f ≤ heaviest
-weight-most f cut left lines is short small =
-    let kept : length f.read.kept ≡ length cut + length left = ap length is ∙ length-append cut left in
-    let one = late-one f.read.ended in
-    omega (arith, lines, kept, short, small, one)
-
 -- Batches --
 
 -- one more line
@@ -198,10 +166,6 @@ pub reads-stop : (end : FeedEnd) (first before now : SourceTold) (a b c : Fed) (
     → Spends (late a.read.ended) 1 first.left now.left first.reads now.reads
 reads-stop end first before now a b c came taken m s =
     spends-then (late a.read.ended) (late b.read.ended) 1 first.left before.left now.left first.reads before.reads now.reads m.spent s.spent
-
-pub met-stop : (end : FeedEnd) (first before now : SourceTold) (a b c : Fed) (came : List ℕ) (taken : List (List ℕ)) → Moved first before a b came taken → Stopped end before now b c
-    → MetEnd a.read.ended c.read.ended first now
-met-stop end first before now a b c came taken m s = met-then a.read.ended b.read.ended c.read.ended first before now came m.gave m.met s.met
 
 -- a read that fails after others that didn't
 left-told : (first before now : Option (List ℕ)) (came : List ℕ) (first_last before_last now_last : Option (Option (List ℕ))) → Gave first before came → before_last ≡ first_last
@@ -260,9 +224,6 @@ batch-stop most end first before now a b c came taken m s few =
           let now_it = grows start past lines gone it in
           (now_it, subst (λ (g : GraphInputs). EndsAs end g start (past ++ came) (lines ++ taken) c.read.ended) graph (s.ends start (past ++ came) (lines ++ taken) gone now_it));
     }
-
-pub read-all : (most : ℕ) (end : FeedEnd) (before now : SourceTold) (a b : Fed) → HasReadBatch most (End end) before now a b → HasRead end before now a b
-read-all most end before now a b r = record { came = r.came; taken = r.taken; gave = r.gave; number = r.number; accepted = r.accepted }
 
 -- a batch takes no more lines that name a stream than it takes lines
 pub naming-few : (taken : List (List ℕ)) → naming taken ≤ length taken

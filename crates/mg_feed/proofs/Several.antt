@@ -1,8 +1,7 @@
 -- The packets of one line, one name after the other.
-use Rattle.std.proofs.Common.{◌≡◌, ℕ, List, [], ◌∷◌, ◌++◌, Bool, false, Option, Some, None, unwrap_or, refl, sym, ap, ◌∙◌, subst, String}
+use Rattle.std.proofs.Common.{◌≡◌, ℕ, List, [], ◌∷◌, ◌++◌, Option, Some, None, unwrap_or, refl, sym, ap, ◌∙◌, subst, String}
 use Rattle.std.specs.declared.alloc.Global.{Global}
 use Rattle.std.specs.String.{string_bytes}
-use Rattle.std.specs.List.{list_all}
 use Rattle.serde_json.specs.View.{view, members_view}
 use Rattle.serde_json.specs.declared.value.Value.{Value}
 use Rattle.serde_json.specs.Data.{Data}
@@ -17,7 +16,7 @@ use Rattle.mg_feed.specs.Code.Due.{AreDue}
 use Rattle.mg_feed.specs.declared.due.Due.{Due}
 use Rattle.mg_feed.proofs.Room.{due-push}
 use Rattle.mg_feed.specs.Form.{Named, listed, time_of}
-use Rattle.mg_feed.specs.Accepted.{Before, placed, no_stream, first_refusal, several_refusals, packet_refusals, kind_at, standing_at, is_stream}
+use Rattle.mg_feed.specs.Accepted.{Before, placed, no_stream, first_refusal, several_refusals, packet_refusals, kind_at, standing_at}
 use Rattle.mg_feed.specs.declared.line_fault.LineFault.{LineFault}
 
 abbrev pub Member : Type 0
@@ -40,12 +39,6 @@ first-some (Some f ∷ xs) ys fault is = is
 pub listed-push : (done : List Member) (m : Member) → listed (members_view (done ++ m ∷ [])) ≡ listed (members_view done) ++ member_named m ∷ []
 listed-push [] m = refl
 listed-push (d ∷ done) m = ap (λ l. member_named d ∷ l) (listed-push done m)
-
--- all names are streams, by the first and the rest
-pub knows-first : (b : Before) (all left : List Member) (m : Member) (r : Bool)
-    → r ≡ list_all (λ v. is_stream b v.name) (listed (members_view all)) → all ≡ m ∷ left → is_stream b (string_bytes m.0) ≡ false → r ≡ false
-knows-first b all left m r is cut none =
-    is ∙ ap (λ ms. list_all (λ v. is_stream b v.name) (listed (members_view ms))) cut ∙ rw none refl
 
 -- one more is good, or is the first that isn't
 pub several-next : (b : Before) (time : Option ℕ) (whole all left : List Member) (m : Member)

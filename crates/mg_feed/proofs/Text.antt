@@ -1,24 +1,14 @@
 -- The output's lines, byte for byte.
-use Rattle.std.proofs.Common.{◌≡◌, ℕ, ℤ, pos, negsuc, List, ◌++◌, codes, refl, ap, ◌∙◌, append_assoc}
-use Rattle.std.specs.Fmt.{signed_decimal}
+use Rattle.std.proofs.Common.{◌≡◌, ℕ, List, ◌++◌, codes, refl, ap, ◌∙◌, append_assoc}
 use Rattle.serde_json.specs.Data.{string}
-use Rattle.serde_json.specs.Find.{of_integer}
-use Rattle.serde_json.specs.Written.{number_text, compact_text}
+use Rattle.serde_json.specs.Written.{compact_text}
 use Rattle.serde_json.proofs.OnLiterals.{serde_json_on_literals}
 use Rattle.mg_time.specs.Time.{pre_stream, post_stream}
-use Rattle.mg_value.specs.Payload.{Plain, int}
+use Rattle.mg_value.specs.Payload.{Plain}
 use Rattle.mg_value.specs.Prefix.{Stamped}
 use Rattle.mg_value.specs.Json.{json_of}
 use Rattle.mg_feed.specs.Output.{line_text, time_data}
 use Rattle.mg_feed.specs.Code.LineHead.{line_head, line_tail}
-
-pub number_text-of_integer : (z : ℤ) → number_text (of_integer z) ≡ signed_decimal z
-number_text-of_integer (pos n) = refl
-number_text-of_integer (negsuc n) = refl
-
--- the text of a whole number
-pub compact_text-int : (z : ℤ) → compact_text (json_of (int z)) ≡ signed_decimal z
-compact_text-int z = number_text-of_integer z
 
 pub text-pre_stream : compact_text (string (codes "PreStream")) ≡ codes "\"PreStream\""
 unfolding serde_json_on_literals

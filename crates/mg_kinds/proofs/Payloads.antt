@@ -3,13 +3,8 @@ use Rattle.std.proofs.Common.{ℕ, ◌+◌, ◌<◌, ◌≤◌, ◌≡◌, ◌�
 use Rattle.std.specs.Prelude.{option_map, option_and_then}
 use Rattle.std.specs.Borrow.{Bor}
 use Rattle.mg_text.specs.declared.tree.Field.{Field}
-use Rattle.mg_text.specs.declared.tree.Tree.{Tree}
-use Rattle.mg_text.specs.declared.tree.TreeValue.{TreeValue}
-use Rattle.mg_text.specs.declared.tree.TreeValue.TheVariants.{Message}
-use Rattle.mg_text.specs.View.{Value, field_view, value_view, view, fields_view}
-use Rattle.mg_text.proofs.Views.{field-record, value-message}
-use Rattle.mg_config.proofs.Loops.{entries_view}
-use Rattle.mg_config.specs.Values.{entries}
+use Rattle.mg_text.specs.View.{Value, field_view, value_view}
+use Rattle.mg_text.proofs.Views.{field-record}
 use Rattle.mg_value.specs.Plain.{Plain}
 use Rattle.mg_kinds.specs.Values.{payload_of, payload_by, payload_in, payloads_in}
 use Rattle.mg_kinds.specs.Views.{fields_of}
@@ -25,10 +20,6 @@ pub not_one : (fs : List Field) → length fs ≢ 1 → None ≡ payload_by (map
 not_one [] other = refl
 not_one (f ∷ []) other = absurd (other refl)
 not_one (f ∷ g ∷ fs) other = refl
-
-pub of_message : (v : TreeValue) (tree : Tree) (slice : List Field) → v ≡ Message tree → fields_view slice ≡ view tree → payload_by (map field_view slice) ≡ payload_in (value_view v)
-of_message v tree slice is same =
-    ap payload_by (sym (entries_view slice)) ∙ (ap (λ fs. payload_by (entries fs)) same ∙ (sym (ap payload_in (value-message tree)) ∙ sym (ap (λ x. payload_in (value_view x)) is)))
 
 abbrev pub values_left : List (Bor Field) → ℕ → List Value
 values_left options i = map (λ field. field.value) (fields_of (drop i options))

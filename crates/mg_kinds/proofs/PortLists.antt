@@ -1,8 +1,6 @@
 -- Ports, one after another.
-use Rattle.std.proofs.Common.{ℕ, ◌+◌, ◌<◌, ◌≡◌, List, [], ◌∷◌, ◌++◌, false, Option, length, get_or, sym, ap, ◌∙◌, arith, is_some, append_assoc}
-use Rattle.std.specs.List.{list_all}
+use Rattle.std.proofs.Common.{ℕ, ◌+◌, ◌≡◌, List, [], ◌∷◌, ◌++◌, Option, sym, ap, ◌∙◌, arith, is_some, append_assoc}
 use Rattle.std.proofs.lemmas.List.FromFn.{map-range_with_len_more}
-use Rattle.std.proofs.lemmas.List.Folds.{list_all_at}
 use Rattle.mg_names.specs.Ports.{has_port, place_of, is_at}
 use Rattle.mg_names.specs.declared.port.Port.{Port}
 use Rattle.mg_names.proofs.Standing.{any_has_place}
@@ -22,7 +20,3 @@ one_more_port before out new tag kind i put known =
     put ∙ (ap (λ l. l ++ port tag kind i ∷ []) known
     ∙ (append_assoc before (ports tag i kind) (port tag kind i ∷ [])
     ∙ sym (ap (λ l. before ++ l) (map-range_with_len_more (port tag kind) 0 i i (omega arith)))))
-
-pub lacks_one : (given : List Port) (wanted : List PortKind) (i : ℕ) (d : PortKind) → i < length wanted → d ≡ get_or wanted i d → has_port d.tag d.index given ≡ false
-    → list_all (λ p. has_port p.tag p.index given) wanted ≡ false
-lacks_one given wanted i d inside same lacks = list_all_at (λ p. has_port p.tag p.index given) wanted i d inside (ap (λ p. has_port p.tag p.index given) (sym same) ∙ lacks)

@@ -6,7 +6,7 @@ use Rattle.std.proofs.lemmas.List.Elements.{All-replicate, Contains-get_or}
 use Rattle.std.proofs.lemmas.Option.{slice_get_within, get_or_from_slice_get}
 use Rattle.std.proofs.Math.Nat.{mod-eq_of_lt, mod-lt}
 use Rattle.std.proofs.Math.Seq.{map-set_same}
-use Rattle.mg_levels.specs.Balance.{total, whole}
+use Rattle.mg_levels.specs.Balance.{total}
 use Rattle.mg_levels.specs.Hands.{HandView, hand_view, hand_id, put_to, took_from, kept_hand, joined, fresh, FoundFull, FoundEmpty}
 use Rattle.mg_levels.specs.Places.{node_of, once, times_of, sums, FoundEmptyFrom, TookLast}
 use Rattle.mg_levels.specs.Code.Rows.{views_in, portions_in, joined_all, total_put, total_taken}
@@ -92,9 +92,6 @@ empty_same k from old now keeps found = map_ext k now old found.count
 total-map : {X Y : Type 0} (f : Y → ℕ) (k : X → Y) (xs : List X) → total (λ x. f (k x)) xs ≡ total f (map k xs)
 total-map f k [] = refl
 total-map f k (x ∷ xs) = ap (λ n. f (k x) + n) (total-map f k xs)
-
-pub put_of : HandView → List ℕ
-put_of h = h.put
 
 pub taken_of : HandView → List ℕ
 taken_of h = h.taken
@@ -228,9 +225,6 @@ even_cut (x ∷ xs) (n ∷ ns) p amount is even =
 -- a portion that all have is more than another
 pub all_more : (hands : List Hand) (p amount : ℕ) → amount < p → portions_in hands ≡ replicate (length hands) p → All (λ q. amount < q) (portions_in hands)
 all_more hands p amount less even = subst (λ l. All (λ q. amount < q) l) (sym even) (All-replicate (λ q. amount < q) (length hands) p less)
-
-pub all_whole : (hands : List Hand) (p : ℕ) → p ≡ whole → portions_in hands ≡ replicate (length hands) p → All (λ q. q ≡ whole) (portions_in hands)
-all_whole hands p is even = subst (λ l. All (λ q. q ≡ whole) l) (sym even) (All-replicate (λ q. q ≡ whole) (length hands) p is)
 
 -- what two have done together
 pub adds_put : (order : List ℕ) (n : ℕ) (h other : HandView) → times_of order n (joined h other).put ≡ times_of order n h.put + times_of order n other.put

@@ -29,7 +29,7 @@ use Rattle.mg_calc.proofs.Rounds.{streams_are_prefixes}
 use Rattle.mg_calc.proofs.Solutions.{solution_keeps, empties_extend}
 use Rattle.mg_node.specs.declared.waits.Waits.{Waits}
 use Rattle.mg_node.specs.declared.waits.Waits.TheVariants.{Sets, Loop}
-use Rattle.mg_node.specs.Intakes.{HoldsNone, NoneWaits}
+use Rattle.mg_node.specs.Intakes.{HoldsNone}
 use Rattle.mg_node.specs.Job.{LoggedJob, Solves, ports_of, policy_of, law_of, streams_at}
 use Rattle.mg_node.specs.Lawful.{HoldsSets, HoldsLoop, HoldsWaits, LawfulIntake}
 use Rattle.mg_node.proofs.Performing.{of_node}
@@ -64,20 +64,6 @@ two_ports plan consumer (Some node) valid there law =
   where
     some_law : (l : Law) → Some l ≡ Some Loopback → l ≡ Loopback
     some_law l e = cc
-
--- what waits at a consumer to which nothing came
-none_by : (plan : Plan) (consumer : ℕ) (o : Option PlanNode) (node : PlanNode) (w : Waits) → slice_get plan.nodes consumer ≡ o → o ≡ Some node → NoneWaits node w → HoldsNone plan consumer w
-none_by plan consumer o node (Sets inbox) there is h =
-    let there_is = there ∙ is in
-    rw there_is ((λ e. h.0 (cc)), h.1)
-none_by plan consumer o node (Loop held) there is h = (let there_is = there ∙ is in rw there_is (ap Some h.0, h.1))
-
-pub none_of_node : (plan : Plan) (consumer : ℕ) (node : PlanNode) (w : Waits) → slice_get plan.nodes consumer ≡ Some node → NoneWaits node w → HoldsNone plan consumer w
-none_of_node plan consumer node w there h = none_by plan consumer (Some node) node w there refl h
-
-pub none_of_collector : (plan : Plan) (consumer : ℕ) (inbox : Gathered) → slice_get plan.nodes consumer ≡ None
-    → inbox ≡ record { policy = Default; pool = record { ports = replicate (length plan.outputs) empty_backlog; spare = 0 } } → HoldsNone plan consumer (Sets inbox)
-none_of_collector plan consumer inbox there is = rw there ((λ e. absurd cc), is)
 
 -- queues to which nothing came
 none_came : (n : ℕ) → AllByRecursion (λ q. IsLike q empty_queue) (map (queue_of {X = Plain} 0) (replicate n empty_backlog))

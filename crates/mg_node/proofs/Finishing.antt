@@ -1,20 +1,14 @@
 -- The last Close of a run.
-use Rattle.std.proofs.Common.{◌≡◌, ℕ, zero, suc, ◌<◌, ◌==◌, Bool, true, false, List, [], ◌∷◌, ◌++◌, length, Option, Ok, Err, refl, sym, subst, ◌∙◌, ap, arith}
+use Rattle.std.proofs.Common.{◌≡◌, ℕ, zero, suc, ◌==◌, Bool, true, false, List, [], ◌∷◌, length, Option, Ok, Err, refl, sym, subst, ◌∙◌, ap, arith}
 use Rattle.std.proofs.lemmas.Bool.Decides.{nat_tests}
 use Rattle.mg_value.specs.Payload.{Plain}
 use Rattle.mg_calc.specs.declared.law.Law.{Law}
 use Rattle.mg_calc.specs.declared.law.Law.TheVariants.{Scripted}
 use Rattle.mg_calc.specs.declared.emission.Laid.{Laid}
-use Rattle.mg_calc.specs.declared.cause.Cause.{Cause}
-use Rattle.mg_calc.specs.declared.cause.CalcFault.TheVariants.{Fault}
-use Rattle.mg_calc.specs.declared.node_fault.Phase.TheVariants.{Close}
 use Rattle.mg_calc.specs.Answer.{Answer}
 use Rattle.mg_calc.specs.Law.{finish}
-use Rattle.mg_node.specs.Views.{BenchView, OutcomeView, EntryView, EngineView}
-use Rattle.mg_node.specs.Running.{HasRun}
-use Rattle.mg_node.specs.Standing.{EngineGrows}
-use Rattle.mg_node.specs.WindingUp.{lacks_close, IsFinished, FinishesLast, FinishesBack, FinishesEntry, FinishesFront, WindsUp}
-use Rattle.mg_node.proofs.Growing.{window_grows}
+use Rattle.mg_node.specs.Views.{OutcomeView, EntryView, EngineView}
+use Rattle.mg_node.specs.WindingUp.{lacks_close, FinishesBack, FinishesEntry, FinishesFront, WindsUp}
 
 -- the state stays
 abbrev state_in : List Plain → Answer → List Plain
@@ -24,26 +18,6 @@ state_in state (Err cause) = state
 finish_keeps : (law : Law) (state now : List Plain) (emission : List Laid) → finish law state ≡ Ok (now, emission) → now ≡ state
 finish_keeps (Scripted offset first steps last) state now emission e = ap (state_in state) (sym e)
 finish_keeps law state now emission e = ap (state_in state) (sym e)
-
-pub finished_well : (before now : BenchView) (emission : List Laid) → HasRun (Ok emission) Close before now → IsFinished before now
-finished_well before now emission h = record { log = h.log; state = finish_keeps before.told.law before.told.state now.told.state emission h.answer; law = h.law; shape = h.shape; same_handed = h.same_handed; set = h.set }
-
-pub finished_badly : (before now : BenchView) (cause : Cause) → HasRun (Err (Fault cause)) Close before now → IsFinished before now
-finished_badly before now cause h = record { log = h.log; state = h.kept; law = h.law; shape = h.shape; same_handed = h.same_handed; set = h.set }
-
--- engines
-abbrev pub with_idle : EngineView → List BenchView → EngineView
-with_idle engine idle = record engine { idle = idle }
-
-pub finishes_last : (before now : EngineView) (others items : List BenchView) (bench finished : BenchView) → before.idle ≡ others ++ bench ∷ [] → IsFinished bench finished → items ≡ others ++ finished ∷ [] → now ≡ with_idle before items → FinishesLast before now
-finishes_last before now others items bench finished idle is items_are now_is = record { others = others; bench = bench; idle = idle; finished = finished; is_finished = is; is = now_is ∙ ap (with_idle before) items_are }
-
-pub winds_last : (before now : EngineView) → lacks_close before ≡ true → 0 < length before.idle → FinishesLast before now → WindsUp before now
-winds_last before now lacks some f = record {
-  finishes = (λ l s. f);
-  had_close = (λ had. absurd (let e = sym lacks ∙ had in cc));
-  none_idle = (λ l none. absurd (let e = ap length none in omega (arith, some, e)));
-}
 
 pub winds_first : (before now : EngineView) → lacks_close before ≡ true → before.idle ≡ [] → FinishesFront before now → WindsUp before now
 winds_first before now lacks none f = record {
@@ -64,9 +38,6 @@ pub none_there : {X : Type 0} (items : List X) (n : ℕ) (b : Bool) → n ≡ le
 none_there [] n b long test is = refl
 none_there (x ∷ items) zero b long test is = absurd (omega (arith, long))
 none_there (x ∷ items) (suc n) b long test is = absurd (let e : (suc n == 0) ≡ true = sym test ∙ is in let none : suc n ≡ 0 = grind (arith, nat_tests, e) in omega (arith, none))
-
-pub finishing_grows : (before now : EngineView) → FinishesLast before now → EngineGrows before now
-finishing_grows before now f = subst (λ (v : EngineView). EngineGrows before v) (sym f.is) (window_grows before before.window (f.others ++ f.finished ∷ []))
 
 -- an entry whose work is finished
 pub finishes_entry : (shown before : EntryView) (outcome : Option OutcomeView) → shown ≡ before → FinishesBack shown.outcome outcome

@@ -14,10 +14,10 @@ use Rattle.mg_calc.specs.Outcome.{Failure}
 use Rattle.mg_route.specs.Reasons.{reason_of}
 use Rattle.mg_node.specs.declared.fronts.FrontEnd.{FrontEnd}
 use Rattle.mg_node.specs.Views.{BenchView, PerformedView, EntryView}
-use Rattle.mg_node.specs.Commits.{raised_before, laid_by, outputs_by, failure_by, Front, answer_laid, has_stopped, with_ready, front_laid, fault_at}
+use Rattle.mg_node.specs.Commits.{raised_before, laid_by, failure_by, Front, answer_laid, has_stopped, with_ready, front_laid, fault_at}
 use Rattle.mg_node.specs.Windows.{ready_of, starts_ready}
-use Rattle.mg_node.specs.Code.QueueLaying.{Stand, StandForSome, packets_by, room_at, HasRoomFor}
-use Rattle.mg_node.specs.Code.FrontLaying.{needed, HasRoom, counted_in, end_of, IsFirstLaid, start_of, HasCome, IsFrontLaid}
+use Rattle.mg_node.specs.Code.QueueLaying.{Stand, packets_by, room_at}
+use Rattle.mg_node.specs.Code.FrontLaying.{needed, counted_in, end_of, IsFirstLaid, start_of, HasCome, IsFrontLaid}
 use Rattle.mg_node.proofs.Replying.{same_backlog}
 use Rattle.mg_node.proofs.Zips.{map-set}
 
@@ -109,27 +109,6 @@ single_room qs r answer more one is room = λ output le.
 
 -- The first entry is laid.
 
--- what is needed has room, and so has what is needed of the others then
-pub first_room : (qs : List (Waiting Plain)) (entry : EntryView) (entries : List EntryView) (p : PerformedView) → ready_of entry ≡ Some p → HasRoom qs (entry ∷ entries) → HasRoomFor qs p.answer
-first_room qs entry entries p ready room = λ output le. (let all = room output le in let step = needed_by output entry entries p ready in omega (arith, all, step))
-
-long_gone : (qs now : List (Waiting Plain)) → map (λ q. q.gone) now ≡ map (λ q. q.gone) qs → length now ≡ length qs
-long_gone qs now same = sym (length-map now (λ q. q.gone)) ∙ ap length same ∙ length-map qs (λ q. q.gone)
-
-pub others_room : (offset : Option ℤ) (node : ℕ) (before now : List (Waiting Plain)) (window window_now : List EntryView) (idle idle_now : List BenchView) (end : FrontEnd) → IsFirstLaid offset node before now window window_now idle idle_now end
-    → HasRoom before window → HasRoom now window_now
-others_room offset node before now window window_now idle idle_now end h room = λ output le.
-    let there : output < length before = (let same = long_gone before now h.laid.gone in omega (arith, le, same)) in
-    let all : needed output (h.entry ∷ window_now) ≤ room_at output before = subst (λ (w : List EntryView). needed output w ≤ room_at output before) h.first (room output there) in
-    let step = needed_by output h.entry window_now h.performed h.ready in
-    let left = h.laid.room output there in
-    omega (arith, all, step, left)
-
-pub others_stand : (offset : Option ℤ) (node : ℕ) (before now : List (Waiting Plain)) (window window_now : List EntryView) (idle idle_now : List BenchView) (end : FrontEnd) → IsFirstLaid offset node before now window window_now idle idle_now end
-    → StandForSome before → StandForSome now
-others_stand offset node before now window window_now idle idle_now end h some =
-    record { whole = outputs_by (raised_before offset h.entry.phase some.whole) (laid_by offset h.entry.phase (raised_before offset h.entry.phase some.whole) h.performed.answer); stand = (h.laid.laid some.whole some.stand).1 }
-
 pub first_count : (offset : Option ℤ) (node : ℕ) (before now : List (Waiting Plain)) (window window_now : List EntryView) (idle idle_now : List BenchView) (end : FrontEnd) → IsFirstLaid offset node before now window window_now idle idle_now end
     → counted_in window ≡ end.laid + counted_in window_now
 first_count offset node before now window window_now idle idle_now end h = ap counted_in h.first ∙ ap (λ (n : ℕ). n + counted_in window_now) (sym (ap (λ (e : FrontEnd). e.laid) h.end_is))
@@ -165,17 +144,6 @@ front_stays offset [] front stopped = refl
 front_stays offset (entry ∷ entries) front stopped =
     ap (λ (b : Bool). if b then front else with_ready (ready_of entry) front (λ q. front_laid offset entries (laid_once offset entry.phase q entries front))) stopped
 
-front_waits : (offset : Option ℤ) (entries : List EntryView) (front : Front) → has_stopped front ≡ false → starts_ready entries ≡ false → front_laid offset entries front ≡ front
-front_waits offset [] front goes ready = refl
-front_waits offset (entry ∷ entries) front goes ready =
-    ap (λ (b : Bool). if b then front else with_ready (ready_of entry) front (λ q. front_laid offset entries (laid_once offset entry.phase q entries front))) goes
-    ∙ ap (λ (o : Option PerformedView). with_ready o front (λ q. front_laid offset entries (laid_once offset entry.phase q entries front))) (none_is (ready_of entry) ready)
-
--- the failure of a cause
-failure_is : (phase : Phase) (given : Result (List (StreamPrefix Plain)) Cause) (cause : Option Cause) → cause ≡ reason_of given → option_map (λ c. (let f : Failure = record { phase = phase; cause = c } in f)) cause ≡ failure_by phase given
-failure_is phase (Ok outputs) cause is = ap (option_map (λ c. (let f : Failure = record { phase = phase; cause = c } in f))) is
-failure_is phase (Err c) cause is = ap (option_map (λ d. (let f : Failure = record { phase = phase; cause = d } in f))) is
-
 pub fault_is : (node : ℕ) (phase : Phase) (given : Result (List (StreamPrefix Plain)) Cause) (cause : Option Cause) → cause ≡ reason_of given → (end_of node phase cause).fault ≡ option_map (fault_at node) (failure_by phase given)
 fault_is node phase (Ok outputs) cause is = ap (λ (o : Option Cause). (end_of node phase o).fault) is
 fault_is node phase (Err c) cause is = ap (λ (o : Option Cause). (end_of node phase o).fault) is
@@ -183,10 +151,6 @@ fault_is node phase (Err c) cause is = ap (λ (o : Option Cause). (end_of node p
 neither : (a b : Bool) → (a || b) ≡ false → (a ≡ false) × (b ≡ false)
 neither true b e = absurd cc
 neither false b e = (refl, e)
-
-cause_none : (node : ℕ) (phase : Phase) (cause : Option Cause) → is_some (end_of node phase cause).fault ≡ false → cause ≡ None
-cause_none node phase None e = refl
-cause_none node phase (Some c) e = absurd cc
 
 -- the front once the first entry is laid
 pub record LaidFirst (offset : Option ℤ) (node : ℕ) (now : List (Waiting Plain)) (window_now : List EntryView) (idle_now : List BenchView) (end : FrontEnd) (laid : ℕ) (wanted : Front) : Type 0 where
@@ -220,37 +184,6 @@ laid_first offset node mid now window window_now idle idle_now end laid wanted h
 none_mapped : (node : ℕ) (o : Option NodeFault) (f : Option Failure) → o ≡ option_map (fault_at node) f → is_some f ≡ is_some o
 none_mapped node o None is = sym (ap is_some is)
 none_mapped node o (Some f) is = sym (ap is_some is)
-
-same_front : (a b : Front) → a.outputs ≡ b.outputs → a.laid ≡ b.laid → a.window ≡ b.window → a.idle ≡ b.idle → a.closed ≡ b.closed → a.fault ≡ b.fault → a ≡ b
-same_front a b outputs laid window idle closed fault = λ i. record { outputs = outputs i; laid = laid i; window = window i; idle = idle i; closed = closed i; fault = fault i }
-
-pub way_further : (offset : Option ℤ) (node : ℕ) (before mid now : List (Waiting Plain)) (window window_mid window_now : List EntryView) (idle idle_mid idle_now : List BenchView) (end : FrontEnd) (count more : ℕ)
-    → IsUnderWay offset before mid window window_mid idle idle_mid count → IsFirstLaid offset node mid now window_mid window_now idle_mid idle_now end → (end.closed || is_some end.fault) ≡ false → more ≡ count + end.laid
-    → IsUnderWay offset before now window window_now idle idle_now more
-way_further offset node before mid now window window_mid window_now idle idle_mid idle_now end count more way h goes is = record {
-  gone = h.laid.gone ∙ way.gone;
-  reaches = λ whole laid stand.
-      let it = laid_first offset node mid now window_mid window_now idle_mid idle_now end (laid + count) _ h (way.reaches whole laid stand) in
-      let open_still = neither end.closed (is_some end.fault) goes in
-      let laid_is = it.laid_is in
-      record {
-        whole = it.front.outputs;
-        stand = it.stand;
-        same = ap (front_laid offset window_now) (same_front (start_of it.front.outputs (laid + more) window_now idle_now) it.front refl (omega (arith, laid_is, is)) (sym it.window) (sym it.idle) (sym (it.closed ∙ open_still.0)) (sym (none_is it.front.fault (none_mapped node end.fault it.front.fault it.fault ∙ open_still.1))))
-            ∙ it.same;
-      };
-}
-
-pub way_waits : (offset : Option ℤ) (node : ℕ) (before now : List (Waiting Plain)) (window window_now : List EntryView) (idle idle_now : List BenchView) (count : ℕ)
-    → IsUnderWay offset before now window window_now idle idle_now count → starts_ready window_now ≡ false → IsFrontLaid offset node before now window window_now idle idle_now (record { laid = count; closed = false; fault = None })
-way_waits offset node before now window window_now idle idle_now count way ready = record {
-  gone = way.gone;
-  front = λ whole laid stand.
-      let r = way.reaches whole laid stand in
-      let start : Front = start_of r.whole (laid + count) window_now idle_now in
-      subst (λ (f : Front). HasCome f node laid now window_now idle_now (record { laid = count; closed = false; fault = None })) (sym (front_waits offset window_now start refl ready) ∙ r.same)
-      (record { outputs = r.stand; laid_is = refl; window = refl; idle = refl; closed = refl; fault = refl });
-}
 
 pub way_stops : (offset : Option ℤ) (node : ℕ) (before mid now : List (Waiting Plain)) (window window_mid window_now : List EntryView) (idle idle_mid idle_now : List BenchView) (end last : FrontEnd) (count : ℕ)
     → IsUnderWay offset before mid window window_mid idle idle_mid count → IsFirstLaid offset node mid now window_mid window_now idle_mid idle_now end → (end.closed || is_some end.fault) ≡ true

@@ -128,9 +128,6 @@ of_one job engine e intake laid come held stream is =
       held = held;
     }
 
-pub leads_output : (engine : EngineView) (e : Edge) (intake : IntakeView) → Leads engine e intake → e.stream - engine.first < length engine.outputs
-leads_output engine e intake h = output_there engine e h.leaves
-
 pub leads_port : (engine : EngineView) (e : Edge) (intake : IntakeView) → Leads engine e intake → e.port < ports_in intake.waits
 leads_port engine e intake h = (has_come h.job engine e intake h.lawful_intake h.stream).there
 

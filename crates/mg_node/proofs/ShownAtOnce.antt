@@ -210,9 +210,6 @@ module _ (C : Type 0) (answer : Result (List Laid) Cause) (e e1 : EngineView) (i
   abbrev start : List (StreamPrefix Plain) → Bool → Option Failure → Front
   start whole closed fault = record { outputs = whole; laid = e.laid; window = ready ∷ []; idle = s.rest; closed = closed; fault = fault }
 
-  failure_of : Option NodeFault → Option Failure
-  failure_of = option_map (λ f. (let g : Failure = record { phase = f.phase; cause = f.cause } in g))
-
   goes_on : (e.closed ≡ false) × (e.fault ≡ None)
   goes_on = not_ended e.closed e.fault may.goes
 

@@ -31,13 +31,6 @@ module _ {X Y : Type 0} (R : X → Y → Type 0) where
   zip_long (x ∷ xs) [] z = absurd z
   zip_long (x ∷ xs) (y ∷ ys) z = ap suc (zip_long xs ys z.1)
 
--- where one fact follows from the other
-pub zip_weaker : {X Y Z : Type 0} (R : X → Y → Type 0) (S : Z → Y → Type 0) (f : X → Z) (xs : List X) (ys : List Y) → ((x : X) (y : Y) → R x y → S (f x) y) → AllZip R xs ys → AllZip S (map f xs) ys
-zip_weaker R S f [] [] w z = z
-zip_weaker R S f [] (y ∷ ys) w z = absurd z
-zip_weaker R S f (x ∷ xs) [] w z = absurd z
-zip_weaker R S f (x ∷ xs) (y ∷ ys) w z = (w x y z.0, zip_weaker R S f xs ys w z.1)
-
 -- a map of a list with another entry
 pub map-set : {X Y : Type 0} (f : X → Y) (xs : List X) (i : ℕ) (x : X) → map f (set xs i x) ≡ set (map f xs) i (f x)
 map-set f [] i x = refl

@@ -1,5 +1,5 @@
 -- The steps of a sweep, one after the other, and what is left once none does anything.
-use Rattle.std.proofs.Common.{◌≡◌, ◌≢◌, ℕ, ◌<◌, ◌≤◌, ◌-◌, ◌||◌, Bool, true, false, List, [], ◌∷◌, length, All, Option, Some, None, IfSome, IfNone, IfOk, Result, Ok, Err, IsSome, IsSomeAnd, slice_get, slice_set, ◌⊎◌, inl, inr, refl, sym, ap, subst, ◌∙◌, length-set, arith}
+use Rattle.std.proofs.Common.{◌≡◌, ◌≢◌, ℕ, ◌<◌, ◌≤◌, ◌-◌, ◌||◌, Bool, true, false, List, [], ◌∷◌, length, All, Option, Some, None, IfSome, IfNone, IsSome, IsSomeAnd, slice_get, slice_set, ◌⊎◌, inl, inr, refl, sym, ap, subst, ◌∙◌, length-set, arith}
 use Rattle.std.proofs.lemmas.Bool.{false≢true}
 use Rattle.std.proofs.lemmas.List.Elements.{All-nil, recursion_from_All}
 use Rattle.std.proofs.lemmas.Option.{same_Some}
@@ -212,10 +212,6 @@ same_places plan a b of now = now.places ∙ sym of.places
 
 pub node_place : (plan : Plan) (agenda : AgendaView) (node : ℕ) → IsAgendaOf plan agenda → node < length plan.nodes → node < length agenda.heads
 node_place plan agenda node of there = (let places = of.places in omega (arith, there, places))
-
-pub in_ok : {E : Type 0} (P Q : Bool → Type 0) (r : Result Bool E) → ((b : Bool) → P b → Q b) → IfOk r P → IfOk r Q
-in_ok P Q (Ok b) all h = all b h
-in_ok P Q (Err e) all h = tt
 
 pub later_less : (a b c : NetView) → left_in b ≤ left_in a → left_in c < left_in b → left_in c < left_in a
 later_less a b c no_more less = omega (arith, no_more, less)

@@ -7,10 +7,7 @@ use Rattle.mg_node.specs.Job.{LoggedJob}
 use Rattle.mg_sched.specs.Views.{NetView}
 use Rattle.mg_sched.specs.StandsFor.{StandsFor, StandsForSome}
 use Rattle.mg_sched.specs.Made.{job_of, IsMade}
-use Rattle.mg_turns.specs.Parts.{FrameView}
-use Rattle.mg_workers.specs.Shared.{KeptView}
-use Rattle.mg_workers.specs.Became.{Became}
-use Rattle.mg_seats.specs.Held.{HasOutputs, CameOf}
+use Rattle.mg_seats.specs.Held.{HasOutputs}
 
 -- two nets that stand for one job are of one plan
 of_one_plan : (job : LoggedJob) (before now : NetView) → StandsFor job before → StandsFor job now → now.plan ≡ before.plan
@@ -35,7 +32,3 @@ made_outputs plan inputs boxes net m = record {
   stands = record { job = job_of plan inputs boxes; stands = m.stands };
   outputs = ap (λ (p : Plan). length p.outputs) (made_plan plan inputs boxes net m);
 }
-
--- what a net became that came apart into what is shared and what is kept
-pub together_outputs : (count : ℕ) (key : FrameView) (kept : KeptView) (now : NetView) (c : CameOf count key kept) → Became c.before now → HasOutputs count now
-together_outputs count key kept now c b = outputs_stay count c.before now b.stands c.has

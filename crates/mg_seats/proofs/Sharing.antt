@@ -1,19 +1,17 @@
 -- What the calls on a shared net leave of a seat: it is still one of the net, and has a work or none.
-use Rattle.std.proofs.Common.{◌≡◌, ℕ, ◌<◌, ◌∙◌, Option, None, IfSome, length, ap, sym, refl, subst, inl, inr}
+use Rattle.std.proofs.Common.{◌≡◌, ℕ, ◌<◌, ◌∙◌, Option, None, length, ap, sym, refl, subst, inl, inr}
 use Rattle.std.proofs.lemmas.Option.{slice_get_within}
 use Rattle.mg_calc.specs.declared.calculator.Calculator.{Ghosts}
 use Rattle.mg_calc.specs.declared.plan.Plan.{Plan}
-use Rattle.mg_node.specs.Views.{WorkView, PerformedView, OutcomeView}
+use Rattle.mg_node.specs.Views.{WorkView}
 use Rattle.mg_node.specs.Job.{LoggedJob}
 use Rattle.mg_node.specs.Lawful.{LawfulWork}
-use Rattle.mg_node.specs.Running.{SomeJobHas, IsPerformed}
-use Rattle.mg_node.specs.Shelves.{outcome_of}
 use Rattle.mg_node.specs.declared.claimed.Claimed.{Claimed}
 use Rattle.mg_node.specs.declared.claimed.Claimed.TheVariants.{Work}
 use Rattle.mg_node.specs.Claims.{IsLawfulWork}
 use Rattle.mg_turns.specs.Parts.{FrameView, nodes_in, Fits, FitsSome, EdgesFit}
-use Rattle.mg_turns.specs.Sights.{Missed, has_after, kept_after, handed, either_work, joined}
-use Rattle.mg_turns.specs.Calls.{key_of, view_of, IsSeatOf, HasClaimed, HasCommitted, HasShelved}
+use Rattle.mg_turns.specs.Sights.{Missed, has_after, handed, either_work, joined}
+use Rattle.mg_turns.specs.Calls.{key_of, view_of, IsSeatOf, HasClaimed}
 use Rattle.mg_turns.specs.Standings.{Keeps}
 use Rattle.mg_turns.specs.declared.view.View.{View}
 use Rattle.mg_turns.specs.declared.shared.SharedNet.{SharedNet}
@@ -43,9 +41,6 @@ node_there job work lawful = slice_get_within job.job.plan.nodes work.node lawfu
 
 node_within : (key : FrameView) (work : WorkView) → FitsSome key → ((job : LoggedJob) → Fits job key → LawfulWork job work) → work.node < nodes_in key
 node_within key work some lawful = subst (λ (p : Plan). work.node < length p.nodes) some.fits.plan (node_there some.job work (lawful some.job some.fits))
-
-pub some_has : (key : FrameView) (work : WorkView) → FitsSome key → ((job : LoggedJob) → Fits job key → LawfulWork job work) → SomeJobHas work
-some_has key work some lawful = record { job = some.job; lawful = lawful some.job some.fits }
 
 pub is_lawful : {X : Type 0} (key : FrameView) (answer : Claimed X) (work : WorkView) → answer ≡ Work work → ((job : LoggedJob) → Fits job key → IsLawfulWork job answer)
     → (job : LoggedJob) → Fits job key → LawfulWork job work
@@ -77,29 +72,12 @@ missed_work : (first second word : ℕ) (v w : View) → Missed first second wor
 missed_work first second word v w (inl m) = ap (λ (x : View). x.work) m.1
 missed_work first second word v w (inr m) = ap (λ (x : View). x.work) m.3
 
-pub has_missed : {X : Type 0} {g : Ghosts X} (net : SharedNet X) (before now : NetSeat X g) (first second word : ℕ) → IsShared net before → IsSeatOf net now
-    → Missed first second word (view_of before) (view_of now) → IsShared net now
-has_missed net before now first second word h of missed = stays_free net before now h of (missed_work first second word (view_of before) (view_of now) missed)
-
 -- a seat whose work came back
 
 freed : {X : Type 0} {g : Ghosts X} (net : SharedNet X) (before now : NetSeat X g) (work : WorkView) → IsSharedWith net before work → IsSeatOf net now → (view_of now).work ≡ None → IsShared net now
 freed net before now work h of free = record { of = of; some = h.some; edges = h.edges; free = free }
 
-pub has_committed : {X : Type 0} {g : Ghosts X} (net : SharedNet X) (before now : NetSeat X g) (laid : ℕ) (outcome : OutcomeView) → IsSharedWith net before outcome.work → IsSeatOf net now
-    → HasCommitted laid outcome (view_of before) (view_of now) → IsShared net now
-has_committed net before now laid outcome h of tried = freed net before now outcome.work h of (ap (λ (v : View). v.work) tried.left)
-
-pub has_shelved : {X : Type 0} {g : Ghosts X} (net : SharedNet X) (before now : NetSeat X g) (outcome : OutcomeView) → IsSharedWith net before outcome.work → IsSeatOf net now
-    → HasShelved outcome (view_of before) (view_of now) → IsShared net now
-has_shelved net before now outcome h of tried = freed net before now outcome.work h of (ap (λ (v : View). v.work) tried.left)
-
 -- the work of a seat, whatever its calculator has done
-
-pub performed_same : (work : WorkView) (done : PerformedView) (outcome : OutcomeView) → IsPerformed work done → outcome ≡ outcome_of done → IsSameWork work outcome.work
-performed_same work done outcome performed is =
-    let same : outcome.work ≡ record work { bench = done.work.bench } = ap (λ (x : OutcomeView). x.work) is ∙ performed.same in
-    record { node = ap (λ (x : WorkView). x.node) same; number = ap (λ (x : WorkView). x.number) same; phase = ap (λ (x : WorkView). x.phase) same }
 
 pub same_work : {X : Type 0} {g : Ghosts X} (net : SharedNet X) (seat : NetSeat X g) (work now : WorkView) → IsSameWork work now → IsSharedWith net seat work → IsSharedWith net seat now
 same_work net seat work now same h = record {
@@ -112,26 +90,9 @@ same_work net seat work now same h = record {
 
 -- seats that are split and joined
 
-pub split_with : {X : Type 0} {g : Ghosts X} (net : SharedNet X) (before now : NetSeat X g) (work : WorkView) (portion : ℕ) → IsSharedWith net before work → IsSeatOf net now
-    → view_of now ≡ kept_after portion (view_of before) → IsSharedWith net now work
-split_with net before now work portion h of is = record {
-  of = of;
-  some = h.some;
-  edges = h.edges;
-  has = record { it = h.has.it; there = ap (λ (v : View). v.work) is ∙ h.has.there; node = h.has.node; number = h.has.number; phase = h.has.phase };
-  node = h.node;
-}
-
-pub split_free : {X : Type 0} {g : Ghosts X} (net : SharedNet X) (before now : NetSeat X g) (portion : ℕ) → IsShared net before → IsSeatOf net now
-    → view_of now ≡ kept_after portion (view_of before) → IsShared net now
-split_free net before now portion h of is = stays_free net before now h of (ap (λ (v : View). v.work) is)
-
 pub split_off : {X : Type 0} {g : Ghosts X} (net : SharedNet X) (before new : NetSeat X g) (portion : ℕ) → FitsSome (key_of net) → EdgesFit (key_of net) → IsSeatOf net new
     → view_of new ≡ handed portion (view_of before) → IsShared net new
 split_off net before new portion some edges of is = record { of = of; some = some; edges = edges; free = ap (λ (v : View). v.work) is }
-
-pub no_work : (P : WorkView → Type 0) (work : Option WorkView) → work ≡ None → IfSome work P
-no_work P work none = subst (λ (w : Option WorkView). IfSome w P) (sym none) tt
 
 pub joined_free : {X : Type 0} {g : Ghosts X} (net : SharedNet X) (one other now : NetSeat X g) → IsShared net one → IsShared net other → IsSeatOf net now
     → view_of now ≡ joined (view_of one) (view_of other) → IsShared net now

@@ -20,7 +20,7 @@ use Rattle.mg_names.proofs.Standing.{any_has_place}
 use Rattle.mg_config.specs.Config.{NodeView, GraphView}
 use Rattle.mg_subgraph.specs.Library.{is_of, is_subgraph, used_files}
 use Rattle.mg_subgraph.specs.declared.shared.FileNames.{FileNames}
-use Rattle.mg_subgraph.specs.Code.Judged.{AreNames, flagged, reserved_at, reserved_in_node, reserved_in_graph}
+use Rattle.mg_subgraph.specs.Code.Judged.{AreNames, reserved_at, reserved_in_node, reserved_in_graph}
 use Rattle.mg_subgraph.specs.Refusals.{has_fields, node_fault, first_some, port_names, list_names, node_names, graph_names, reserved_name, shared_name, first_twice}
 use Rattle.mg_subgraph.specs.declared.fault.ExpandFault.TheVariants.{ReservedName}
 use Rattle.mg_subgraph.specs.declared.fault.ExpandFault.{ExpandFault}
@@ -85,25 +85,6 @@ or_some first second x known = ap (λ o. option_or o second) known
 
 pub or_none : {X : Type 0} (first second : Option X) → first ≡ None → option_or first second ≡ second
 or_none first second known = ap (λ o. option_or o second) known
-
--- a file whose flag is set, and one whose isn't
-pub flagged_here : (flags : List Bool) (files : List GraphView) (flag : Bool) (file : GraphView) → flag ≡ true → flagged (flag ∷ flags) (file ∷ files) ≡ file ∷ flagged flags files
-flagged_here flags files flag file set = ap (λ b. if b then file ∷ flagged flags files else flagged flags files) set
-
-pub flagged_past : (flags : List Bool) (files : List GraphView) (flag : Bool) (file : GraphView) → flag ≡ false → flagged (flag ∷ flags) (file ∷ files) ≡ flagged flags files
-flagged_past flags files flag file unset = ap (λ b. if b then file ∷ flagged flags files else flagged flags files) unset
-
-pub flags_past : {Y : Type 0} (view : Y → GraphView) (flags : List Bool) (files : List Y) (i : ℕ) (flag : Bool) (file : Y) → slice_get flags i ≡ Some flag → slice_get files i ≡ Some file → flag ≡ false
-    → flagged (drop i flags) (map view (drop i files)) ≡ flagged (drop (i + 1) flags) (map view (drop (i + 1) files))
-flags_past view flags files i flag file at_flag at_file unset =
-    ap (λ l. flagged l (map view (drop i files))) (drop_next flags i flag at_flag)
-    ∙ (ap (λ l. flagged (flag ∷ drop (i + 1) flags) (map view l)) (drop_next files i file at_file) ∙ flagged_past (drop (i + 1) flags) (map view (drop (i + 1) files)) flag (view file) unset)
-
-pub flags_here : {Y : Type 0} (view : Y → GraphView) (flags : List Bool) (files : List Y) (i : ℕ) (flag : Bool) (file : Y) → slice_get flags i ≡ Some flag → slice_get files i ≡ Some file → flag ≡ true
-    → flagged (drop i flags) (map view (drop i files)) ≡ view file ∷ flagged (drop (i + 1) flags) (map view (drop (i + 1) files))
-flags_here view flags files i flag file at_flag at_file set =
-    ap (λ l. flagged l (map view (drop i files))) (drop_next flags i flag at_flag)
-    ∙ (ap (λ l. flagged (flag ∷ drop (i + 1) flags) (map view l)) (drop_next files i file at_file) ∙ flagged_here (drop (i + 1) flags) (map view (drop (i + 1) files)) flag (view file) set)
 
 -- the digits in front of a text
 pub digits_in_front : (bytes : List ℕ) → unwrap_or (position (λ byte. not (is_digit byte)) bytes) (length bytes) ≡ prefix_len is_digit bytes

@@ -3,8 +3,7 @@ use Rattle.std.proofs.Common.{ℕ, suc, zero, ◌+◌, ◌<◌, ◌≤◌, ◌�
 use Rattle.std.specs.Prelude.{slice_get}
 use Rattle.std.proofs.lemmas.Bool.{false≢true}
 use Rattle.std.proofs.lemmas.Bool.Decides.{nat_tests}
-use Rattle.std.proofs.lemmas.List.{take_all}
-use Rattle.mg_subgraph.specs.Code.Places.{listed, flag_at, IsReach}
+use Rattle.mg_subgraph.specs.Code.Places.{listed, flag_at}
 use Rattle.mg_subgraph.proofs.Flags.{listed-push}
 use Rattle.mg_subgraph.proofs.Joins.{or_left, or_right, or_cases, or_false}
 
@@ -58,13 +57,4 @@ walk_turns links start old new before after next place list inside here linked s
       (λ earlier. walk.least test started closed p earlier)
       (or_cases (listed p list) (flag_at old p) (sym (added p) ∙ known));
   within = omega arith;
-}
-
--- the walk ends where no place is left
-pub walk_ends : (links : List (List ℕ)) (start : List ℕ) (flags : List Bool) (places : List ℕ) (next : ℕ) → length places ≤ next → ((place : ℕ) → listed place places ≡ flag_at flags place)
-    → IsWalk links start flags places next → IsReach links start flags
-walk_ends links start flags places next past same walk = record {
-  started = walk.started;
-  closed = λ place list other set at known. walk.turned place list other (ap (listed place) (take_all next places past) ∙ (same place ∙ set)) at known;
-  least = walk.least;
 }

@@ -32,11 +32,6 @@ got_map f [] i x here = cc
 got_map f (y ∷ xs) zero x here = let same : y ≡ x = cc in ap (λ z. Some (f z)) same
 got_map f (y ∷ xs) (suc i) x here = got_map f xs i x here
 
-pub map_got : {X Y : Type 0} (f : X → Y) (xs : List X) (i : ℕ) (y : Y) → slice_get (map f xs) i ≡ Some y → (x : X) × (slice_get xs i ≡ Some x) × (f x ≡ y)
-map_got f [] i y here = cc
-map_got f (x ∷ xs) zero y here = (x, refl, let same : f x ≡ y = cc in same)
-map_got f (x ∷ xs) (suc i) y here = map_got f xs i y here
-
 pub got_within : {X : Type 0} (xs : List X) (i : ℕ) (x : X) → slice_get xs i ≡ Some x → i < length xs
 got_within [] i x here = cc
 got_within (y ∷ xs) zero x here = omega arith
@@ -62,7 +57,3 @@ flag_read (f ∷ flags) (suc place) flag inside here = flag_read flags place fla
 pub nothing_more : {X : Type 0} (xs : List X) → xs ++ [] ≡ xs
 nothing_more [] = refl
 nothing_more (x ∷ xs) = ap (λ l. x ∷ l) (nothing_more xs)
-
-pub nothing_left : {X : Type 0} (xs : List X) → drop (length xs) xs ≡ []
-nothing_left [] = refl
-nothing_left (x ∷ xs) = nothing_left xs

@@ -1,9 +1,9 @@
 -- The marks that enter a node, edge by edge.
-use Rattle.std.proofs.Common.{◌≡◌, ◌≢◌, ℕ, ◌+◌, ◌<◌, ◌≤◌, Bool, true, false, not, ◌&&◌, ◌||◌, eqb, List, length, take, drop, get_or, slice_get, ◌∙◌, sym, ap, subst, refl, arith, length-drop, eq-eqb}
+use Rattle.std.proofs.Common.{◌≡◌, ◌≢◌, ℕ, ◌+◌, ◌<◌, ◌≤◌, Bool, true, false, not, ◌&&◌, ◌||◌, eqb, List, length, take, drop, get_or, slice_get, ◌∙◌, sym, ap, subst, refl, arith, length-drop}
 use Rattle.std.proofs.Math.Seq.{take-length}
-use Rattle.std.proofs.lemmas.Bool.{and_left, and_right, ne_eqb, not_from_true}
+use Rattle.std.proofs.lemmas.Bool.{and_left, ne_eqb}
 use Rattle.std.proofs.lemmas.List.{take-append-drop, get_or-take, get_or-drop, length-take, get_or_default}
-use Rattle.std.proofs.lemmas.List.Folds.{list_any_none, list_any_more, list_any-append}
+use Rattle.std.proofs.lemmas.List.Folds.{list_any_none, list_any-append}
 use Rattle.std.specs.List.{list_any}
 use Rattle.std.specs.List.Sorted.{IsNonDecreasingBy, IsPartitionPoint}
 use Rattle.mg_calc.specs.declared.plan.Plan.{Plan}
@@ -31,38 +31,6 @@ GathersTo-start plan rows node first row below = record {
       (λ k d small. let both = length-take first plan.edges in
       rw (get_or-take first plan.edges k d (omega arith)) (other_enters plan rows node f (get_or plan.edges k d) (λ e. let b = below k d (omega arith) (omega arith) in omega arith))))
       ∙ or_none (is_marked row f));
-}
-
--- a back edge brings nothing
-pub GathersTo-back : (plan : Plan) (rows : List (List Bool)) (node k : ℕ) (e : Edge) (old row : List Bool) → k < length plan.edges → e ≡ get_or plan.edges k e → e.back ≡ true
-    → GathersTo plan rows node k old row → GathersTo plan rows node (k + 1) old row
-GathersTo-back plan rows node k e old row within read back so_far = record {
-  len = so_far.len;
-  marks = λ f small.
-      let none : enters plan rows node f (get_or plan.edges k e) ≡ false = subst (λ x. enters plan rows node f x ≡ false) read
-      (and_right (eqb e.node node) (not e.back && stream_brings rows f (slice_get plan.streams e.stream))
-      (and_left (not e.back) (stream_brings rows f (slice_get plan.streams e.stream)) (not_from_true e.back back))) in
-      so_far.marks f small ∙ ap (λ b. is_marked old f || b) (sym (list_any_more (enters plan rows node f) plan.edges k e within
-      ∙ ap (λ b. list_any (enters plan rows node f) (take k plan.edges) || b) none ∙ or_none (list_any (enters plan rows node f) (take k plan.edges))));
-}
-
--- another edge of the node brings the marks of its stream
-pub GathersTo-more : (plan : Plan) (rows : List (List Bool)) (node k : ℕ) (e : Edge) (old row next : List Bool) → k < length plan.edges → e ≡ get_or plan.edges k e → e.back ≡ false
-    → e.node ≡ node → length next ≡ length row
-    → ((f : ℕ) → f < length row → is_marked next f ≡ (is_marked row f || stream_brings rows f (slice_get plan.streams e.stream)))
-    → GathersTo plan rows node k old row → GathersTo plan rows node (k + 1) old next
-GathersTo-more plan rows node k e old row next within read forward here len brings so_far = record {
-  len = len ∙ so_far.len;
-  marks = λ f small.
-      let passes : list_any (enters plan rows node f) (take k plan.edges) || enters plan rows node f (get_or plan.edges k e)
-      ≡ list_any (enters plan rows node f) (take k plan.edges) || stream_brings rows f (slice_get plan.streams e.stream) =
-      subst (λ x. list_any (enters plan rows node f) (take k plan.edges) || enters plan rows node f x
-      ≡ list_any (enters plan rows node f) (take k plan.edges) || stream_brings rows f (slice_get plan.streams e.stream)) read
-      (rw (eq-eqb e.node node here, forward) refl) in
-      brings f (omega (arith, so_far.len))
-      ∙ ap (λ b. b || stream_brings rows f (slice_get plan.streams e.stream)) (so_far.marks f small)
-      ∙ or_assoc (is_marked old f) (list_any (enters plan rows node f) (take k plan.edges)) (stream_brings rows f (slice_get plan.streams e.stream))
-      ∙ ap (λ b. is_marked old f || b) (sym passes ∙ sym (list_any_more (enters plan rows node f) plan.edges k e within));
 }
 
 -- past the edges of the node nothing enters

@@ -89,10 +89,6 @@ relaxes_on old now first listed listed_now any full number d more h numbers high
     (subst (λ (b : Bool). RelaxesTo old (slice_set now number (relaxed q)) first listed_now (any || b)) (sym full_is)
     (relaxes_more old now first listed listed_now any number q h high out only within (get_or_default now number d q within)))
 
-pub relaxes_within : (old now : List Queue) (first listed : ReadyNodes) (any : Bool) (number : ℕ) → RelaxesTo old now first listed any → HasEachOnce (length old) first.order → IsHighest listed number → number < length now
-relaxes_within old now first listed any number h numbers high =
-    (let len = h.len in let below = highest_below old listed number (subst (HasEachOnce (length old)) (sym h.order) numbers) high in omega (arith, below, len))
-
 pub relaxes_all : (old now : List Queue) (first listed : ReadyNodes) (any : Bool) → RelaxesTo old now first listed any → IsEmpty listed → (now ≡ map relaxed old) × (any ≡ list_any is_full old)
 relaxes_all old now first listed any h empty =
     let len = h.len in (

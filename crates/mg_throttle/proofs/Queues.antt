@@ -1,9 +1,9 @@
 -- Queues that stop, and that are relaxed, and how many of them are full.
-use Rattle.std.proofs.Common.{◌≡◌, ◌≢◌, ℕ, ◌+◌, ◌<◌, ◌≤◌, suc, Bool, true, false, cond, eqb, List, [], ◌∷◌, ◌++◌, length, map, filter, take, drop, get_or, slice_set, All, ◌∙◌, sym, ap, subst, inl, inr, refl, arith, length-set, length-drop, get_or-set_same, get_or-set_other, eq-eqb}
-use Rattle.std.proofs.lemmas.Bool.{cases_eq, cases_Bool, cases_lt, ne_eqb, and_left, and_right, and_from}
+use Rattle.std.proofs.Common.{◌≡◌, ◌≢◌, ℕ, ◌+◌, ◌<◌, ◌≤◌, suc, Bool, true, false, cond, eqb, List, [], ◌∷◌, ◌++◌, length, map, filter, take, drop, get_or, All, ◌∙◌, sym, ap, subst, inl, inr, refl, arith, length-drop}
+use Rattle.std.proofs.lemmas.Bool.{cases_lt, ne_eqb, and_right}
 use Rattle.std.proofs.lemmas.List.{take-append-drop, get_or-take, get_or-drop, length-take, length-map, length-append, get_or-map, get_or_default, same_lists}
 use Rattle.std.proofs.lemmas.List.Elements.{filter-append}
-use Rattle.std.proofs.lemmas.List.Sums.{length-filter, count_by_more_yes, count_by_more_no}
+use Rattle.std.proofs.lemmas.List.Sums.{length-filter}
 use Rattle.std.specs.Prelude.{count_by}
 use Rattle.std.specs.List.Sorted.{IsPartitionPoint}
 use Rattle.mg_throttle.specs.declared.queue.Queue.{Queue}
@@ -45,32 +45,6 @@ StopsTo-start node first queues point = record {
       rw (get_or-take first queues k d (omega arith)) (and_right (is_full (get_or queues k d)) (eqb (get_or queues k d).node node)
       (ne_eqb (get_or queues k d).node node (λ e. let b = point.0 k d (omega arith) (omega arith) in omega arith)))));
 }
-
-pub StopsTo-more : (node k : ℕ) (old now : List Queue) (full more : ℕ) (d : Queue) → k < length now → (get_or now k d).node ≡ node
-    → more ≡ full + cond (is_full (get_or now k d)) 1 0 → StopsTo node k old now full
-    → StopsTo node (k + 1) old (slice_set now k (record (get_or now k d) { counts = false })) more
-StopsTo-more node k old now full more d within here is_more so_far =
-    let q : Queue = get_or now k d in
-    let same : q ≡ get_or old k d = so_far.rest k d (omega arith) in
-    let at_k : (e : Queue) → stopped node (get_or old k e) ≡ record q { counts = false } = λ e.
-    ap (stopped node) (get_or_default old k e d (omega (arith, so_far.len)) ∙ sym same) ∙ rw (eq-eqb q.node node here) refl in
-    record {
-      len = length-set now k (record q { counts = false }) ∙ so_far.len;
-      done = λ j e low inside. elim (cases_eq j k) [
-        | inl last ↦ rw (last, get_or-set_same now k (record q { counts = false }) e within) (sym (at_k e))
-        | inr other ↦ get_or-set_other now k j (record q { counts = false }) e other ∙ so_far.done j e (omega arith) inside
-      ];
-      rest = λ j e high. get_or-set_other now k j (record q { counts = false }) e (λ s. omega arith) ∙ so_far.rest j e (omega arith);
-      counted = elim (cases_Bool (is_full q)) [
-        | inl yes_full ↦
-            let passes : is_full_at node (get_or old k d) ≡ true = subst (λ x. is_full_at node x ≡ true) same (and_from (is_full q) (eqb q.node node) yes_full (eq-eqb q.node node here)) in
-            is_more ∙ ap (λ b. full + cond b 1 0) yes_full ∙ ap (λ n. n + 1) so_far.counted ∙ sym (count_by_more_yes (is_full_at node) old k d (omega (arith, so_far.len)) passes)
-        | inr not_full ↦
-            let fails : is_full_at node (get_or old k d) ≡ false = subst (λ x. is_full_at node x ≡ false) same (and_left (is_full q) (eqb q.node node) not_full) in
-            is_more ∙ ap (λ b. full + cond b 1 0) not_full ∙ (let z : full + 0 ≡ full = omega arith in z) ∙ so_far.counted
-            ∙ sym (count_by_more_no (is_full_at node) old k d (omega (arith, so_far.len)) fails)
-      ];
-    }
 
 pub StopsTo-all : (node k : ℕ) (old now : List Queue) (full : ℕ) → StopsTo node k old now full
     → ((j : ℕ) (d : Queue) → k ≤ j → j < length old → (get_or old j d).node ≢ node) → (now ≡ map (stopped node) old) × (full ≡ count_by (is_full_at node) old)

@@ -110,15 +110,6 @@ bit_in-zero first k = elim (cases_lt k first) [
   ]
 ]
 
--- ---- counts
--- nothing is changed below a place where nothing passes
-pub ChangesBelow-start : (test : ℕ → Bool) (more less first : ℕ) (old : List ℕ) → ((k : ℕ) → k < first → test k ≡ false) → ChangesBelow test more less first old old
-ChangesBelow-start test more less first old none = record {
-  len = refl;
-  changed = λ k low within. rw (none k low) refl;
-  kept = λ k high. refl;
-}
-
 -- one place more, which passes
 pub ChangesBelow-yes : (test : ℕ → Bool) (more less place : ℕ) (old now : List ℕ) (x : ℕ) → ChangesBelow test more less place old now → place < length now
     → test place ≡ true → x + less ≡ get_or old place 0 + more → ChangesBelow test more less (place + 1) old (slice_set now place x)

@@ -1,8 +1,8 @@
 -- The nodes without inputs, found one by one.
-use Rattle.std.proofs.Common.{◌≡◌, ◌≢◌, ℕ, ◌+◌, ◌<◌, ◌≤◌, Bool, true, false, not, cond, eqb, List, [], ◌∷◌, ◌++◌, length, map, filter, take, get_or, slice_set, replicate, All, Some, inl, inr, ◌∙◌, sym, ap, subst, refl, arith, add-zero, append-nil, length-set, get_or-set_same, get_or-set_other}
-use Rattle.std.proofs.lemmas.Bool.{cases_eq, cases_lt, false≢true}
-use Rattle.std.proofs.lemmas.List.{take_more, map-append, length-take, length-map, get_or_default, get_or_past, get_or-replicate, length-replicate}
-use Rattle.std.proofs.lemmas.List.Elements.{filter-append, All-map, All-filter, All-set, All-weaker}
+use Rattle.std.proofs.Common.{◌≡◌, ◌≢◌, ℕ, ◌+◌, ◌<◌, ◌≤◌, Bool, true, false, not, cond, eqb, List, [], ◌∷◌, ◌++◌, length, map, filter, take, get_or, slice_set, All, Some, inl, inr, ◌∙◌, sym, ap, subst, refl, arith, add-zero, append-nil, length-set, get_or-set_same, get_or-set_other}
+use Rattle.std.proofs.lemmas.Bool.{cases_eq}
+use Rattle.std.proofs.lemmas.List.{take_more, map-append, length-take, length-map, get_or_default}
+use Rattle.std.proofs.lemmas.List.Elements.{filter-append, All-map, All-filter, All-set}
 use Rattle.std.proofs.lemmas.List.Filters.{length-filter_both}
 use Rattle.std.proofs.lemmas.Option.{slice_get-get_or, get_or_from_slice_get}
 use Rattle.std.proofs.lemmas.List.FromFn.{get_or-enumerate_from, length-enumerate_from}
@@ -10,7 +10,7 @@ use Rattle.std.specs.List.{enumerate_from}
 use Rattle.mg_calc.specs.declared.plan_node.PlanNode.{PlanNode}
 use Rattle.mg_throttle.specs.Throttle.{reached_at, is_reached}
 use Rattle.mg_throttle.specs.Code.Rows.{is_marked}
-use Rattle.mg_throttle.specs.Code.Reach.{sources_among, AreBlank, IsMarkOf, MarksSources}
+use Rattle.mg_throttle.specs.Code.Reach.{sources_among, IsMarkOf, MarksSources}
 
 enumerate-append : (n : ℕ) (xs ys : List PlanNode) → enumerate_from n (xs ++ ys) ≡ enumerate_from n xs ++ enumerate_from (n + length xs) ys
 enumerate-append n [] ys = ap (λ m. enumerate_from m ys) (sym (add-zero n))
@@ -114,25 +114,3 @@ MarksSources-more numbers inputs feeder_count nodes place rows row new old below
   where
     wider : (f node : ℕ) → IsMarkOf numbers inputs place f node → IsMarkOf numbers inputs (place + 1) f node
     wider f node mark = record { place = mark.place; among = let a = mark.among in omega arith; at = mark.at; source = mark.source }
-
--- no row has a mark at first
-pub MarksSources-none : (numbers : List ℕ) (inputs feeder_count nodes : ℕ) (rows : List (List Bool)) → AreBlank nodes feeder_count rows
-    → MarksSources numbers inputs feeder_count nodes 0 rows
-MarksSources-none numbers inputs feeder_count nodes rows blank = record {
-  len = blank.len;
-  rows_len = All-weaker (λ r. r ≡ replicate feeder_count false) (λ r. length r ≡ feeder_count) (λ r e. ap length e ∙ length-replicate feeder_count false) rows blank.blank;
-  own = λ f node mark. absurd (let a = mark.among in omega arith);
-  only = λ f node marked. absurd (false≢true (sym (none f node) ∙ marked));
-}
-  where
-    out_of : (n i : ℕ) → get_or (replicate n false) i false ≡ false
-    out_of n i = elim (cases_lt i n) [
-      | inl within ↦ get_or-replicate n i false false within
-      | inr past ↦ get_or_past (replicate n false) i false (let e = length-replicate n false in omega arith)
-    ]
-
-    none : (f node : ℕ) → is_reached rows f node ≡ false
-    none f node = elim (cases_lt node (length rows)) [
-      | inl within ↦ ap (λ r. is_marked r f) (blank.blank node [] within) ∙ out_of feeder_count f
-      | inr past ↦ ap (λ r. is_marked r f) (get_or_past rows node [] past)
-    ]

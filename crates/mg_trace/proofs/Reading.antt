@@ -1,5 +1,5 @@
 -- Which event a line is: what stands behind its word is read as the numbers of that event, and of no other.
-use Rattle.std.proofs.Common.{◌≡◌, ◌≢◌, ◌<◌, ◌≤◌, ◌^◌, ◌↔◌, ℕ, List, [], ◌∷◌, ◌++◌, length, drop, get_or, codes, decimal, Option, Some, None, IsNone, option_map, refl, sym, ap, subst, ◌∙◌, arith}
+use Rattle.std.proofs.Common.{◌≡◌, ◌<◌, ◌≤◌, ◌^◌, ◌↔◌, ℕ, List, [], ◌∷◌, ◌++◌, length, drop, get_or, codes, decimal, Option, Some, None, IsNone, option_map, refl, sym, ap, subst, ◌∙◌, arith}
 use Rattle.std.proofs.lemmas.Fmt.{decimal_injective}
 use Rattle.std.proofs.lemmas.List.{append_cancel_right, length-append}
 use Rattle.mg_calc.specs.declared.event.Event.{Event}
@@ -104,22 +104,6 @@ read-relax plan line is event = (λ e. (let same : Relax ≡ event = cc in subst
     found (Perform n m) e = absurd (omega (arith, at 0 _ _ (sym is ∙ e)))
     found (Commit n m) e = absurd (omega (arith, at 0 _ _ (sym is ∙ e)))
 
--- no word stands before the line
-abbrev pub Lacks : List ℕ → List ℕ → Type 0
-Lacks word line = (rest : List ℕ) → line ≢ word ++ rest
-
-pub read-nothing : (plan : Plan) (line : List ℕ) → Lacks (codes "deliver ") line → Lacks (codes "advance ") line → Lacks (codes "claim ") line → Lacks (codes "perform ") line
-    → Lacks (codes "commit ") line → line ≢ codes "relax" → IsRead plan line None
-read-nothing plan line d a c p m r event = (λ e. absurd (cc), λ q. absurd (none event q.1))
-  where
-    none : (event : Event) → line ≢ event_line event
-    none (Deliver n) e = d _ e
-    none (Advance n) e = a _ e
-    none (Claim n) e = c _ e
-    none (Perform n k) e = p _ e
-    none (Commit n k) e = m _ e
-    none Relax e = r e
-
 -- With its line feed --
 
 pub read-fed : (plan : Plan) (line text : List ℕ) (r : Option Event) → text ≡ line ++ 10 ∷ [] → IsRead plan line r → IsTextRead plan text r
@@ -137,12 +121,6 @@ last_is xs ys a b e =
     let long = ap length e in
     let same : length xs ≡ length ys = omega (arith, long, length-append xs (a ∷ []), length-append ys (b ∷ [])) in
     sym (last_of xs a) ∙ ap (λ l. get_or l (length xs) 0) e ∙ ap (λ k. get_or (ys ++ b ∷ []) k 0) same ∙ last_of ys b
-
-pub read-unfed : (plan : Plan) (line text : List ℕ) (last : ℕ) → text ≡ line ++ last ∷ [] → last ≢ 10 → IsTextRead plan text None
-read-unfed plan line text last is other event = (λ e. absurd (cc), λ p. absurd (other (last_is line (event_line event) last 10 (sym is ∙ p.1))))
-
-pub read-empty : (plan : Plan) (text : List ℕ) → length text ≡ 0 → IsTextRead plan text None
-read-empty plan text none event = (λ e. absurd (cc), λ p. absurd (omega (arith, none, ap length p.1, length-append (event_line event) (10 ∷ []))))
 
 -- nothing is read exactly where the text is that of no event
 pub none_is : (plan : Plan) (text : List ℕ) (r : Option Event) → IsTextRead plan text r → IsNone r ↔ ((event : Event) → ¬ (IsEventOf plan event × (text ≡ event_text event)))

@@ -1,5 +1,5 @@
 -- The engine and the intake of a node are taken, and given back.
-use Rattle.std.proofs.Common.{◌≡◌, ◌≢◌, ◌<◌, ◌+◌, ◌*◌, ℕ, refl, [], ◌∷◌, List, length, ap, ◌∙◌, sym, subst, inl, inr, arith, Option, Some, None}
+use Rattle.std.proofs.Common.{◌≡◌, ◌≢◌, ◌<◌, ◌+◌, ◌*◌, ℕ, refl, [], ◌∷◌, List, length, ap, ◌∙◌, sym, subst, inr, arith, Option, Some, None}
 use lib.ListN.{get_elem?}
 use Rattle.atomic_table.specs.Table.{rest}
 use Rattle.mg_node.specs.Views.{IntakeView, WorkView, EngineView}
@@ -27,9 +27,6 @@ finds m n word p t = record { follows = t.1.follows; sights = t.1.sights }
 
 -- the first of two turns is taken
 module _ (m n₁ : Sat) (first : ℕ) (p : PartView) (one : Taken m first p n₁) where
-  pub alive_then : 0 < m.0.portion → 0 < n₁.0.portion
-  alive_then alive = subst (λ (s : Sat). 0 < s.0.portion) (sym one.0) alive
-
   pub none_then : (second : ℕ) → first ≢ second → length m.0.turns ≡ 0 → has_turn second n₁.0 ≡ 0
   none_then second apart idle = subst (λ (s : Sat). has_turn second s.0 ≡ 0) (sym one.0)
       (omega (arith, is_of_no second (turn m.0.key first p) apart, has_none second m.0 idle))
@@ -49,13 +46,6 @@ module _ (m n₁ : Sat) (first : ℕ) (p : PartView) (one : Taken m first p n₁
     gave_after_miss n₃ back =
         let is : n₃ ≡ (gave (missing (turning m.0 (turn m.0.key first p ∷ m.0.turns)) second) first p, m.1) = back ∙ ap (λ (s : Sat). (gave s.0 first p, rest s.1)) missed_then in
         (inr (refl, p, finds m n₁ first p one, ap (λ (s : Sat). s.0) is), ap (λ (s : Sat). s.1) is)
-
-pub missed_first : (m n : Sat) (first second : ℕ) → n ≡ (missing m.0 first, m.1) → MissedPair m first second first n
-missed_first m n first second miss = (inl (inl refl, ap (λ (s : Sat). s.0) miss), ap (λ (s : Sat). s.1) miss)
-
--- the second was held before the first was taken
-pub held_second : (m n : Sat) (first second : ℕ) → n ≡ (missing m.0 second, m.1) → MissedPair m first second second n
-held_second m n first second miss = (inl (inr refl, ap (λ (s : Sat). s.0) miss), ap (λ (s : Sat). s.1) miss)
 
 -- the intake is back, and the engine is given back with its new note
 pub engine_again : (n n₃ : Sat) (node : ℕ) (k f : PartView) (has : Option WorkView) → GivesClaim n node k f has → rest n.1 ≡ (2 * node + 1, None) ∷ rest (rest n.1) → Follows n.0.key (2 * node + 1) f
@@ -113,9 +103,6 @@ module _ (key : FrameView) (m : Sat) (node : ℕ) (e : EngineView) (engine_word 
   -- the seat, and what it may give back
   abbrev Then : Sat
   Then = (turning m.0 (turn m.0.key (2 * node) (an_intake i) ∷ turn m.0.key (2 * node + 1) (an_engine e) ∷ m.0.turns), (2 * node, None) ∷ (2 * node + 1, None) ∷ m.1)
-
-  pub cell_slots : rest n.1 ≡ (2 * node + 1, None) ∷ rest (rest n.1)
-  cell_slots = subst (λ (s : Sat). rest s.1 ≡ (2 * node + 1, None) ∷ rest (rest s.1)) (sym t.then) refl
 
   module _ {X : Type 0} (r : Claimed X) (f : EngineView) (k : IntakeView) (facts : ClaimFacts key node (an_engine e) (an_intake i) (an_engine f) (an_intake k) m.0.work (has_after r m.0.work)) where
     pub cell_follows : Follows n.0.key (2 * node + 1) (an_engine f)

@@ -4,7 +4,6 @@ use Rattle.atomic_table.specs.Table.{rest}
 use Rattle.mg_node.specs.Views.{WorkView}
 use Rattle.mg_turns.specs.Parts.{PartView, JoinedParts}
 use Rattle.mg_turns.specs.Turns.{Turn}
-use Rattle.mg_turns.specs.Rule.{word_of}
 use Rattle.mg_turns.specs.Code.Plays.{Sat, left, Like, Joins, Back, Alike, HasTurn, Returns, Kind, note_or, noted, gave, claimed_view, laid_view, Gives, GivesPlainly, GivesClaim, GivesLaid, GivesBrought, Took, Taken}
 use Rattle.mg_turns.specs.declared.view.View.{View}
 use Rattle.mg_turns.proofs.Keeps.{alike_same}
@@ -97,7 +96,3 @@ took_is m n i r p t out = ap (head_or t.0) (sym (ap (λ (s : Sat). s.1) t.1) ∙
 pub taken_of : (m n o : Sat) (i r : ℕ) (p : PartView) → Took m i r n → n.1 ≡ (i, Some p) ∷ rest n.1 → o ≡ (n.0, (i, None) ∷ rest n.1) → Taken m i p o
 taken_of m n o i r p t out e = let same = took_is m n i r p t out in
     subst (λ (q : PartView). Taken m i q o) same (e ∙ ap (λ (s : Sat). (s.0, (i, None) ∷ rest s.1)) t.1, t.2)
-
--- the word that the step found is that of the part that came out
-pub word_found : (m n : Sat) (i r : ℕ) (p : PartView) → Took m i r n → n.1 ≡ (i, Some p) ∷ rest n.1 → r ≡ word_of m.0.key i p
-word_found m n i r p t out = t.3 ∙ ap (word_of m.0.key i) (took_is m n i r p t out)

@@ -20,7 +20,7 @@ use Rattle.mg_turns.specs.Code.Running.{Returned, CellSteps, IsDone, IsPutBack, 
 use Rattle.mg_turns.specs.Rounds.{Rounds, Stops}
 use Rattle.mg_turns.specs.Sights.{has_after}
 use Rattle.std.proofs.lemmas.Option.{none-some}
-use Rattle.mg_turns.proofs.Grows.{intake_further, intake_same}
+use Rattle.mg_turns.proofs.Grows.{intake_further}
 use Rattle.mg_turns.proofs.Backs.{named_out}
 use Rattle.mg_turns.proofs.Claims.{gones, engine_of_part, missing_by, ap_first, claim_stays, claim_gone, claim_outs, work_goes, CellParts, ClaimFacts, facts_by}
 
@@ -59,9 +59,6 @@ returns_by e f number number' Good Good' same implies r = subst (λ (n : ℕ). R
   grows = r.grows;
   lawful = λ job owner h good. r.lawful job owner h (implies job good);
 })
-
-pub steps_self : (e : EngineView) (i : IntakeView) → EngineGrows e e → CellSteps e e i i
-steps_self e i grows = record { out = λ x o. o; only = λ n m. m; first = refl; gone = refl; grows = grows; intake_grows = intake_same i; ports = λ port. record { count = refl; bound = refl }; lawful = λ job owner h. h }
 
 pub steps_further : (e f g : EngineView) (i j k : IntakeView) → CellSteps e f i j → CellSteps f g j k → CellSteps e g i k
 steps_further e f g i j k a b = record {

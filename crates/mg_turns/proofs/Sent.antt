@@ -37,9 +37,6 @@ module _ (C : RattleType) (g : Ghosts C.Denot) (s : IsSend C) where
   pub part : IsSend (Part.the_row C g)
   part = search (part_inside, sendable) depth 40 fits 20000
 
-  pub part_field : IsSend (Part.the_field C g).row
-  part_field = search (part_inside, sendable) depth 40 fits 20000
-
   slot : IsSend (Maybe.the_row (Part.the_row C g))
   slot = maybe (Part.the_row C g) part
 

@@ -9,7 +9,7 @@ use Rattle.mg_turns.specs.Parts.{PartView, Grown, PartGrows, count_in, count_by}
 use Rattle.mg_turns.specs.Turns.{Sight}
 use Rattle.mg_turns.specs.Rule.{Sights}
 use Rattle.mg_turns.specs.Sights.{sight}
-use Rattle.mg_turns.specs.Standings.{bound_by, bound_in, laid_by, laid_in, laid_bound_by, laid_bound_in, sets_by, sets_in, most_seen}
+use Rattle.mg_turns.specs.Standings.{bound_by, laid_by, laid_in, laid_bound_by, laid_bound_in, sets_by, sets_in, most_seen}
 
 -- a number that only grows
 abbrev pub Rises : (PartView → ℕ) → Type 0
@@ -79,9 +79,6 @@ bounds_by None None port g = omega arith
 bounds_by None (Some y) port g = absurd g
 bounds_by (Some x) None port g = absurd g
 bounds_by (Some x) (Some y) port g = (g.ports port).bound
-
-pub bound_rises : (port : ℕ) → Rises (λ p. bound_in p port)
-bound_rises port p q g = bounds_by p.intake q.intake port g.intake
 
 laids_by : (a b : Option EngineView) (output : ℕ) → Grown EngineGrows a b → laid_by a output ≤ laid_by b output
 laids_by None None output g = omega arith

@@ -56,12 +56,6 @@ cell_words key n e f i k engine_word laid intake_word follows word laid-is intak
       intake = intake ∙ ap (λ (c : ℕ). doubled (c - tally_of key (2 * n) (at key (2 * n)))) (sym (came_same i.waits k.waits (ports_by key (owner_in key (2 * n))) (λ port. (stays port).count)));
     }
 
--- the word of an engine that laid so many more
-pub laid_word : (key : FrameView) (word : ℕ) (e f : EngineView) (laid : ℕ) → Follows key word (an_engine e) → f.laid ≡ e.laid + laid → tally_since key word (an_engine e) + laid ≡ tally_since key word (an_engine f)
-laid_word key word e f laid follows more =
-    let base = engine_base (ports_by key (owner_in key word)) (at key word).engine (at key word).intake e follows.grows.engine in
-    omega (arith, more, base)
-
 intake_base : (ports : ℕ) (a : Option EngineView) (b : Option IntakeView) (i : IntakeView) → Grown EngineGrows a None → Grown IntakeGrows b (Some i) → tally_by ports a b ≤ came_to i.waits ports
 intake_base ports (Some x) b i g h = absurd g
 intake_base ports None None i g h = absurd h

@@ -1,5 +1,5 @@
 -- The edges of a plan as they are found at run time.
-use Rattle.std.proofs.Common.{◌≡◌, ℕ, zero, suc, ◌<◌, List, [], ◌∷◌, map, length, Some, None, slice_get, refl, ap, sym, ◌∙◌, arith}
+use Rattle.std.proofs.Common.{◌≡◌, ℕ, zero, suc, List, [], ◌∷◌, map, Some, slice_get, refl, ap, sym, ◌∙◌}
 use Rattle.mg_node.proofs.Making.{some_same}
 use Rattle.mg_calc.specs.declared.edge.Edge.{Edge}
 use Rattle.mg_calc.specs.declared.plan.Plan.{Plan}
@@ -17,11 +17,3 @@ way_at plan (e ∷ es) (suc k) w at = way_at plan es k w at
 
 pub way_there : (plan : Plan) (edges : List Edge) (ways : List Way) (k : ℕ) (w : Way) → ways ≡ map (way_of plan) edges → slice_get ways k ≡ Some w → (slice_get edges k ≡ Some w.edge) × (w.source ≡ source_at plan w.edge)
 way_there plan edges ways k w is at = way_at plan edges k w (ap (λ (l : List Way). slice_get l k) (sym is) ∙ at)
-
-none_beyond : (plan : Plan) (edges : List Edge) (k : ℕ) → slice_get (map (way_of plan) edges) k ≡ None → k < length edges → ⊥
-none_beyond plan [] k none within = absurd (omega (arith, within))
-none_beyond plan (e ∷ es) zero none within = absurd cc
-none_beyond plan (e ∷ es) (suc k) none within = none_beyond plan es k none (omega (arith, within))
-
-pub way_missing : (plan : Plan) (edges : List Edge) (ways : List Way) (k : ℕ) → ways ≡ map (way_of plan) edges → slice_get ways k ≡ None → k < length edges → ⊥
-way_missing plan edges ways k is none within = none_beyond plan edges k (ap (λ (l : List Way). slice_get l k) (sym is) ∙ none) within

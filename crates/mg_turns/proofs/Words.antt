@@ -1,8 +1,8 @@
 -- The numbers of the words, and the parts at them.
-use Rattle.std.proofs.Common.{◌≡◌, ℕ, ◌+◌, ◌-◌, ◌*◌, ◌/◌, ◌%◌, ◌<◌, ◌≤◌, ◌==◌, Bool, true, false, nat_lt, refl, ap, sym, ◌∙◌, subst, arith, eq-eqb, ne_eqb, if◌then◌else◌}
-use Rattle.std.proofs.lemmas.Bool.{lt-ltb, le-ltb, ltb-true, eqb-true, eqb-false}
+use Rattle.std.proofs.Common.{◌≡◌, ℕ, ◌+◌, ◌-◌, ◌*◌, ◌/◌, ◌%◌, ◌<◌, ◌≤◌, ◌==◌, Bool, ap, sym, ◌∙◌, subst, arith, eq-eqb, ne_eqb, if◌then◌else◌}
+use Rattle.std.proofs.lemmas.Bool.{lt-ltb, le-ltb}
 use Rattle.mg_node.specs.Lawful.{of_node, of_input}
-use Rattle.mg_turns.specs.Words.{Whose, intake_of, engine_of, word_at, whose}
+use Rattle.mg_turns.specs.Words.{Whose, intake_of, engine_of, whose}
 use Rattle.mg_turns.specs.Parts.{FrameView, nodes_in, owner_in, IsSource}
 
 abbrev by_parity : ℕ → Bool → Whose
@@ -25,18 +25,6 @@ pub input_at : (nodes input : ℕ) → whose nodes (2 * nodes + 1 + input) ≡ e
 input_at nodes input =
     ap (by_side nodes (2 * nodes + 1 + input)) (lt-ltb (2 * nodes) (2 * nodes + 1 + input) (omega arith))
     ∙ ap (λ (x : ℕ). engine_of (of_input x)) (omega arith)
-
--- the word of the part to which a word belongs is that word
-back_parity : (nodes word : ℕ) (even : Bool) → (word % 2 == 0) ≡ even → word_at nodes (by_parity word even) ≡ word
-back_parity nodes word true e = omega (arith, eqb-true (word % 2) 0 e)
-back_parity nodes word false e = (let ne = eqb-false (word % 2) 0 e in omega (arith, ne))
-
-back_side : (nodes word : ℕ) (past : Bool) → nat_lt (2 * nodes) word ≡ past → word_at nodes (by_side nodes word past) ≡ word
-back_side nodes word true e = omega (arith, ltb-true (2 * nodes) word e)
-back_side nodes word false e = back_parity nodes word (word % 2 == 0) refl
-
-pub word_again : (nodes word : ℕ) → word_at nodes (whose nodes word) ≡ word
-word_again nodes word = back_side nodes word (nat_lt (2 * nodes) word) refl
 
 abbrev pub is_engine : Whose → Type 0
 is_engine (intake_of n) = ⊥

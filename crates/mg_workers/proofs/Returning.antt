@@ -95,9 +95,6 @@ module _ (job : LoggedJob) (ps : PartsView) (h : ArePartsOf job ps) (v : View) (
   input_is : (j : ℕ) (e : EngineView) → slice_get es (n + j) ≡ Some e → slice_index_or parts (2 * n + 1 + j) blank_part ≡ an_engine e
   input_is j e there = subst (λ (xs : List PartView). slice_index_or xs (2 * n + 1 + j) blank_part ≡ an_engine e) (sym woven_back.woven_is) (input_slot n j es is e enough woven_back.intakes there)
 
-  within_at : (word : ℕ) → word < length parts → word < length key.parts
-  within_at word within = (let c = u.count in omega (arith, within, c))
-
   lawful_of : (word : ℕ) (w : Whose) → word < length key.parts → owner_in key word ≡ w → LawfulPart job w (slice_index_or parts word blank_part)
   lawful_of word w within same = subst (λ (x : Whose). LawfulPart job x (slice_index_or parts word blank_part)) same ((u.follows word within).lawful job (fits job ps h))
 

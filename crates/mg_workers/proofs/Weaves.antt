@@ -211,14 +211,6 @@ few_intakes n es is parts engines intakes h =
     let all = ap (λ (xs : List IntakeView). length xs) h.intakes_are in
     omega (arith, all, length-append (intakes_in parts) (reverse intakes), length-reverse intakes)
 
--- before anything is woven
-pub none_woven : (n : ℕ) (parts : List PartView) (es : List EngineView) (is : List IntakeView) → parts ≡ [] → IsOf n (reverse es) (reverse is) parts es is
-none_woven n parts es is none = subst (λ (xs : List PartView). IsOf n (reverse es) (reverse is) xs es is) (sym none) (record {
-  engines_are = refl;
-  intakes_are = refl;
-  kinds = λ word within. absurd (omega (arith, within));
-})
-
 -- with nothing left in the lists the parts are all
 pub all_woven : (n : ℕ) (es : List EngineView) (is : List IntakeView) (parts : List PartView) (engines : List EngineView) (intakes : List IntakeView) → 2 * n < length parts → engines ≡ [] → intakes ≡ [] → IsOf n es is parts engines intakes → parts ≡ woven n es is
 all_woven n es is parts engines intakes long no_engines no_intakes h =
