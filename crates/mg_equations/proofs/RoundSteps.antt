@@ -1,9 +1,10 @@
 -- A round is made stream by stream, and node by node.
-use Rattle.std.proofs.Common.{◌≡◌, ℕ, zero, suc, ◌+◌, ◌<◌, ◌≤◌, Bool, false, List, [], ◌∷◌, ◌++◌, append_assoc, Option, map, All, take, drop, set, get_or, length, length-append, Some, slice_get, refl, sym, ap, ap₂, subst, ◌∙◌, arith, inl, inr, ◌⊎◌, add-one}
+use Rattle.std.proofs.Common.{◌≡◌, ℕ, zero, suc, ◌+◌, ◌<◌, ◌≤◌, Bool, false, List, [], ◌∷◌, ◌++◌, append_assoc, append-nil, Option, map, All, take, drop, set, get_or, length, length-append, Some, slice_get, refl, sym, ap, ap₂, subst, ◌∙◌, arith, inl, inr, ◌⊎◌, add-one}
 use Rattle.std.specs.List.{AllByRecursion, flat_map, list_any, filter_map, cons_option, enumerate_from}
 use Rattle.std.proofs.lemmas.Option.{slice_get_read}
 use Rattle.std.proofs.lemmas.List.Concat.{flat_map-cons}
-use Rattle.std.proofs.lemmas.List.Elements.{recursion_from_All, AllZip-get_or}
+use Rattle.std.proofs.lemmas.List.Elements.{recursion_from_All, AllZip-get_or, length_all_zip}
+use Rattle.std.proofs.lemmas.List.{take_all}
 use Rattle.mg_value.specs.Payload.{Plain}
 use Rattle.mg_value.specs.Prefix.{StreamPrefix}
 use Rattle.mg_value.specs.Extension.{IsExtendedBy, AreExtendedBy}
@@ -13,7 +14,7 @@ use Rattle.mg_calc.specs.Plan.{HasNumbers}
 use Rattle.mg_calc.specs.Shape.{IsShapeOf}
 use Rattle.mg_calc.specs.Equations.{Job, IsJob, stream_of, outcome_of, next_round}
 use Rattle.mg_calc.proofs.Earlier.{at_place, some_same}
-use Rattle.mg_route.proofs.LayingLemmas.{from_here}
+use Rattle.mg_route.proofs.LayingLemmas.{from_here, at_end}
 use Rattle.mg_equations.specs.declared.progress.Progress.{Progress}
 use Rattle.mg_calc.specs.declared.node_fault.NodeFault.{NodeFault}
 use Rattle.mg_calc.specs.Meaning.{fault_of, faults, counts}
@@ -83,6 +84,9 @@ extended_at : (xs ys : List (StreamPrefix Plain)) (i : ℕ) (x y : StreamPrefix 
 extended_at xs ys i x y e below x_is y_is =
     subst (λ (s : StreamPrefix Plain). IsExtendedBy s y) (sym x_is) (subst (IsExtendedBy (get_or xs i x)) (sym y_is) (AllZip-get_or IsExtendedBy xs ys i x y e below))
 
+pub grown_none : (before next : List (StreamPrefix Plain)) → AreExtendedBy before next → AreGrown before next before [] 0
+grown_none before next e = record { streams = refl; changes_are = refl; many = length_all_zip IsExtendedBy before next e }
+
 pub grown_extended : (before next now : List (StreamPrefix Plain)) (changed : List Bool) (i : ℕ) (x later : StreamPrefix Plain) → AreExtendedBy before next → AreGrown before next now changed i → i < length next → x ≡ get_or now i x → later ≡ get_or next i later
     → IsExtendedBy x later
 grown_extended before next now changed i x later e h below x_is later_is =
@@ -103,6 +107,14 @@ grown_more before next now changed i x later x_now change h below x_is later_is 
           ∙ h.changes_are;
       many = many;
     }
+
+pub grown_all : (before next now : List (StreamPrefix Plain)) (changed : List Bool) (i : ℕ) → length next ≤ i → AreGrown before next now changed i → (now ≡ next) × (changed ≡ changes before next)
+grown_all before next now changed i over h =
+    let many = h.many in
+    let none : drop i before ≡ [] = at_end before i (omega (arith, many, over)) in (
+      h.streams ∙ ap₂ (λ (ss ts : List (StreamPrefix Plain)). ss ++ ts) (take_all i next over) none ∙ append-nil next,
+      sym (append-nil changed) ∙ ap₂ (λ (ss ts : List (StreamPrefix Plain)). changed ++ changes ss ts) (sym none) (sym (at_end next i over)) ∙ h.changes_are,
+    )
 
 -- Nodes begin one after the other.
 pub record HaveBegun (job : Job) (streams : List (StreamPrefix Plain)) (nodes : List Progress) (i : ℕ) : Type 0 where

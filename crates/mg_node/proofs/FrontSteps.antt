@@ -1,7 +1,7 @@
 -- Laying the front of a window, one entry further.
 use Rattle.std.proofs.Common.{◌≡◌, ℕ, ℤ, zero, suc, ◌+◌, ◌<◌, ◌≤◌, ◌||◌, Bool, true, false, List, [], ◌∷◌, length, drop, get_or, set, map, inl, inr, Option, Some, None, option_map, Result, Ok, Err, refl, ap, sym, subst, ◌∙◌, arith, is_some, if◌then◌else◌}
 use Rattle.std.proofs.Math.Nat.{eq-or-lt_of_le}
-use Rattle.std.proofs.lemmas.List.{drop_more, drop_all, length-map, length-set}
+use Rattle.std.proofs.lemmas.List.{drop_more, drop_all, length-set}
 use Rattle.mg_value.specs.Payload.{Plain}
 use Rattle.mg_value.specs.Prefix.{StreamPrefix}
 use Rattle.mg_stream.specs.Queue.{Waiting, IsLike}
